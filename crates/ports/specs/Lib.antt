@@ -1,0 +1,5 @@
+pub mod Causes
+pub mod Given
+pub mod Memory
+pub mod Readings
+pub mod Counting

@@ -1,0 +1,63 @@
+//! What reaches the outside: a source of bytes, a sink of bytes and a clock, with their forms in memory and their adapters.
+#![tactic(auto)]
+
+ghost use Rattle.std.specs.Prelude.{◌≡◌, ◌+◌, ◌≤◌, ℕ, List, Option};
+ghost use Rattle.ports.specs.Causes.{HasCause};
+ghost use Rattle.ports.specs.Given.{Reads, Writes, IsWithin};
+ghost use Rattle.ports.specs.Readings.{IsTold, MovedBy};
+
+mod adapters;
+mod faults;
+mod memory;
+#[cfg(test)]
+mod tests;
+
+pub use adapters::{StdSink, StdSource, SystemClock};
+pub use faults::{Failed, NoMemory};
+pub use memory::{CountingClock, ListClock, MemSink, MemSource};
+
+/// Gives bytes, in order, each once.
+pub trait Source {
+    /// The bytes that are still to come, where the source tells them.
+    ghost left: { Self → Option (List ℕ) };
+
+    /// How often it has failed.
+    ghost faults: { Self → ℕ };
+
+    /// The next bytes, at most as many as the buffer holds. `Ok(0)` on a buffer with room is the end of input. After
+    /// an `Err` the same bytes are still to come.
+    fn read(&mut self, buf: &mut [u8]) -> Result<usize, Failed>
+        ensures within { IsWithin result buf.new }
+        ensures bytes { Reads (left self.old) (left self.new) result buf.new }
+        ensures cause { HasCause (faults self.old) (faults self.new) result };
+}
+
+/// Takes bytes, in order.
+pub trait Sink {
+    /// The bytes that were taken so far, where the sink tells them.
+    ghost taken: { Self → Option (List ℕ) };
+
+    /// How often it has failed.
+    ghost faults: { Self → ℕ };
+
+    /// Takes the first bytes, and says how many: at least one where there is one. After an `Err` none was taken.
+    fn write(&mut self, bytes: &[u8]) -> Result<usize, Failed>
+        ensures within { IsWithin result bytes.now }
+        ensures bytes { Writes (taken self.old) (taken self.new) result bytes.now }
+        ensures cause { HasCause (faults self.old) (faults self.new) result };
+}
+
+/// Tells the time of day, which may go back.
+pub trait Clock {
+    /// The last answer.
+    ghost last: { Self → ℕ };
+
+    /// The coming answer of each number from 0, where the clock tells them.
+    ghost coming: { Self → ℕ → Option ℕ };
+
+    /// Seconds since 1970-01-01T00:00:00Z.
+    fn now(&mut self) -> u64
+        ensures last { result ≡ last self.new }
+        ensures told { IsTold (coming self.old 0) result }
+        ensures moved { MovedBy 1 (coming self.old) (coming self.new) };
+}
