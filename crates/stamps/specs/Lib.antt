@@ -1,0 +1,4 @@
+pub mod Civil
+pub mod Text
+pub mod Clock
+pub mod Moment

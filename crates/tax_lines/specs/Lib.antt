@@ -1,0 +1,4 @@
+pub mod Classes
+pub mod Totals
+pub mod Breakdown
+pub mod Kept

@@ -1,0 +1,15 @@
+//! The lines of an invoice: their classes, their taxes and their totals.
+#![tactic(auto)]
+
+mod breakdown;
+mod classes;
+mod faults;
+mod lines;
+#[cfg(test)]
+mod tests;
+mod totals;
+
+pub use breakdown::Breakdown;
+pub use classes::LineKey;
+pub use faults::LinesFault;
+pub use lines::TaxLine;
