@@ -1,0 +1,5 @@
+mod Fed
+mod Capitals
+mod Splitting
+mod Values
+mod Determined

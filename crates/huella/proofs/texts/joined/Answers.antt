@@ -1,0 +1,22 @@
+use Rattle.std.proofs.Common.{◌≡◌, ◌∙◌, refl}
+use Rattle.std.specs.Prelude.{option_copied}
+use Rattle.huella.specs.FieldText.{previous_digits}
+use Rattle.huella.proofs.Fed.{fed_joined}
+use Rattle.huella.proofs.texts.joined.Goals as goal
+
+pub returns : goal.returns
+returns c =
+    let a = c.args in
+    rw (
+      c.of.ensures,
+      c.in_ok-add-7.ensures,
+      c.in_ok-add_previous.ensures,
+      c.in_ok-add-6.ensures,
+      c.in_ok-add-5.ensures,
+      c.in_ok-add-4.ensures,
+      c.in_ok-add-3.ensures,
+      c.in_ok-add-2.ensures,
+      c.in_ok-add.ensures,
+      c.new-text.ensures.items,
+    )
+    (fed_joined a.issuer.now a.num.now a.date.now a.kind.now a.cuota.now a.total.now (previous_digits (option_copied a.previous)) a.moment.now)

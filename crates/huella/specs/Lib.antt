@@ -1,0 +1,3 @@
+pub mod FieldText
+pub mod Linked
+pub mod Stated

@@ -1,0 +1,6 @@
+//! Entries of a history.
+#![tactic(auto)]
+
+mod entries;
+
+pub use entries::Entry;

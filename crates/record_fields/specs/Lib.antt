@@ -1,0 +1,4 @@
+pub mod Picks
+pub mod Records
+pub mod Checks
+pub mod Valid

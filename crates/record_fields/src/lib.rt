@@ -1,0 +1,16 @@
+//! What an invoicing record says: drafts, references, records and their seals, and the lists that public types use.
+#![tactic(auto)]
+
+mod checks;
+mod drafts;
+mod lines;
+mod lists;
+mod records;
+#[cfg(test)]
+mod tests;
+
+pub use checks::{DraftFault, check_draft};
+pub use drafts::{Draft, Refs};
+pub use lines::{Cause, Line, Lines};
+pub use lists::{Bytes, SealedList, Text};
+pub use records::{Alta, Anulacion, Link, Previo, Record, Sealed};
