@@ -1,0 +1,11 @@
+mod Histories
+mod Legality
+mod Remade
+mod Chain
+mod Linking
+mod Counts
+mod Lasts
+mod Grows
+mod Planning
+mod Taking
+mod Judged

@@ -1,0 +1,12 @@
+pub mod Asked
+pub mod History
+pub mod Standing
+pub mod Making
+pub mod Answer
+pub mod Legal
+pub mod Rising
+pub mod Runs
+pub mod Kept
+pub mod Found
+pub mod Breaks
+pub mod Same

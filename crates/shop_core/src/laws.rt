@@ -1,0 +1,13 @@
+// What holds of every legal history.
+ghost use Rattle.std.specs.Prelude.{ℕ, List};
+ghost use Rattle.huella.specs.Linked.{Linked};
+ghost use Rattle.record_codec.specs.declared.entries.Entry.{Entry as AnyEntry};
+ghost use Rattle.shop_core.specs.History as history;
+ghost use Rattle.shop_core.specs.Legal.{Legal};
+ghost use Rattle.shop_core.specs.Rising.{SerialsRise};
+
+/// A legal history is a chain of its issuer, and the serials of each till rise.
+pub fn legal_is_chained()
+    ensures linked { (issuer : List ℕ) (entries : List AnyEntry) → Legal issuer entries → Linked issuer (history.recs entries) }
+    ensures rising { (issuer : List ℕ) (entries : List AnyEntry) (till : ℕ) → Legal issuer entries → SerialsRise entries till }
+{}

@@ -1,0 +1,27 @@
+//! A shop's history: what tills ask, what they are answered, and the legal histories that this makes.
+#![tactic(auto)]
+
+mod answers;
+mod breaks;
+mod laws;
+mod lookups;
+mod making;
+mod plans;
+mod receipts;
+mod replies;
+mod requests;
+mod standing;
+mod state;
+#[cfg(test)]
+mod tests;
+mod words;
+
+pub use answers::{Planned, Refusal, Reply};
+pub use breaks::{Break, next_fault};
+pub use laws::legal_is_chained;
+pub use plans::plan;
+pub use receipts::Receipt;
+pub use replies::reply_to;
+pub use requests::{Ask, Request};
+pub use state::State;
+pub use words::Word;
