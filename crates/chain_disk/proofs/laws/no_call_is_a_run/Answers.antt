@@ -1,0 +1,5 @@
+use Rattle.chain_disk.proofs.RunLaws as law
+use Rattle.chain_disk.proofs.laws.no_call_is_a_run.Goals as goal
+
+pub returns : goal.returns
+returns c = law.no_call_is_a_run

@@ -1,0 +1,10 @@
+pub mod Told
+pub mod Runs
+pub mod Laws
+pub mod Memory
+pub mod MemoryReads
+pub mod MemDisk
+pub mod Fill
+pub mod Props
+pub mod Image
+pub mod File

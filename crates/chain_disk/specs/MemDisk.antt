@@ -1,0 +1,50 @@
+-- What contracts see of a disk in memory.
+use Rattle.std.specs.Prelude.{◌≡◌, ◌≤◌, ℕ, List, [], take, Contains}
+use Rattle.chain_disk.specs.Told.{Told, IsLeft, moment}
+use Rattle.chain_disk.specs.Memory.{told_by, next_call, fresh}
+use Rattle.chain_disk.specs.Fill.{IsFilled}
+use Rattle.chain_disk.specs.declared.image.Fill.{Fill}
+use Rattle.chain_disk.specs.declared.memory.MemDisk.{MemDisk}
+
+-- what it tells
+abbrev pub told_of : MemDisk → Told
+told_of disk = told_by disk.first.items disk.events.items
+
+-- what it told at this moment
+abbrev pub told_at : MemDisk → ℕ → Told
+told_at disk m = told_by disk.first.items (take m disk.events.items)
+
+-- the numbers of the calls that fail
+abbrev pub failing_of : MemDisk → List ℕ
+failing_of disk = disk.failing.items
+
+-- how many calls were made
+abbrev pub calls_of : MemDisk → ℕ
+calls_of disk = disk.calls
+
+-- the coming call is one of those that fail
+abbrev pub FailsNext : MemDisk → Type 0
+FailsNext disk = Contains (failing_of disk) (next_call (calls_of disk))
+
+-- one call more was made
+pub record IsCounted (old new : MemDisk) : Type 0 where
+  pub calls : calls_of new ≡ next_call (calls_of old)
+  pub failing : failing_of new ≡ failing_of old
+
+-- how often it has failed
+abbrev pub faults_of : MemDisk → ℕ
+faults_of disk = disk.faults
+
+-- the moment of now
+abbrev pub latest : MemDisk → ℕ
+latest disk = moment (told_of disk)
+
+-- A disk that holds the image of a moment, so filled, with nothing pending. It is one that a crash then may leave.
+pub record IsImageAt (disk : MemDisk) (m : ℕ) (fill : Fill) (image : MemDisk) : Type 0 where
+  pub already : m ≤ latest disk
+  pub told : told_of image ≡ fresh (told_of image).content
+  pub filled : IsFilled fill (told_at disk m).content (told_at disk m).now (told_of image).content
+  pub left : IsLeft (told_of disk) m (told_of image).content
+  pub failing : failing_of image ≡ []
+  pub calls : calls_of image ≡ 0
+  pub faults : faults_of image ≡ 0

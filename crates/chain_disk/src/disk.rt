@@ -1,0 +1,61 @@
+// The trait of a disk.
+ghost use Rattle.std.specs.Prelude.{◌≡◌, ◌≤◌, ℕ, Bool, IsTrue, length, IfOk, OnOk, OnErr};
+ghost use Rattle.ports.specs.Causes.{HasCause};
+ghost use Rattle.chain_disk.specs.Told.{Told, written, synced, IsWriteFailed, IsSyncFailed, IsRead, IsImage};
+
+use ports::Failed;
+
+/// A file that is read and written at places counted in bytes from 0. Each call may fail, and each
+/// failure is counted.
+///
+/// The crash model: the disk has a clock of moments. Between two syncs each written range, and
+/// everything past the synced length, may hold any bytes after a crash, and the length is between the
+/// synced one and the furthest written end. All other bytes stay. After a sync a crash leaves what a
+/// read gives.
+pub trait Disk {
+    /// Whether disks of this type tell what they hold and what a crash may leave. A real file doesn't.
+    ghost tells: { Bool };
+
+    /// What it tells, where it does.
+    ghost told: { Self → Told };
+
+    /// The count of faults, which never falls.
+    ghost faults: { Self → ℕ };
+
+    /// How many bytes it holds.
+    fn len(&mut self) -> Result<u64, Failed>
+        ensures same { told self.new ≡ told self.old }
+        ensures length { IfOk result (λ n. IsTrue tells → n ≡ length (told self.old).content) }
+        ensures cause { HasCause (faults self.old) (faults self.new) result };
+
+    /// Fills the buffer with as much as the content has from this place on, and answers how many bytes
+    /// that is.
+    fn read_at(&mut self, at: u64, buf: &mut [u8]) -> Result<usize, Failed>
+        ensures same { told self.new ≡ told self.old }
+        ensures fits { IfOk result (λ n. n ≤ length buf.old) }
+        ensures bytes { IfOk result (λ n. IsTrue tells →
+            IsRead (told self.old).content at n buf.old buf.new) }
+        ensures cause { HasCause (faults self.old) (faults self.new) result };
+
+    /// Writes over what is there, and past the end. Until a sync, a crash may leave any bytes in the
+    /// range. After a failure the range may hold any bytes.
+    fn write_at(&mut self, at: u64, bytes: &[u8]) -> Result<(), Failed>
+        requires { IsTrue tells → at ≤ length (told self.old).content }
+        ensures ok { OnOk result (IsTrue tells → told self.new ≡ written at bytes.now (told self.old)) }
+        ensures err { OnErr result (IsTrue tells →
+            IsWriteFailed at (length bytes.now) (told self.old) (told self.new)) }
+        ensures cause { HasCause (faults self.old) (faults self.new) result };
+
+    /// After it a crash leaves what a read gives. After a failure all that was pending stays pending.
+    fn sync(&mut self) -> Result<(), Failed>
+        ensures ok { OnOk result (IsTrue tells → told self.new ≡ synced (told self.old)) }
+        ensures err { OnErr result (IsTrue tells → IsSyncFailed (told self.old) (told self.new)) }
+        ensures cause { HasCause (faults self.old) (faults self.new) result };
+
+    /// How often it has failed. At the greatest u64 the count stays.
+    fn faults(&self) -> u64
+        ensures { result ≡ faults self.now };
+
+    /// The disk as it reads is one of its images of now.
+    ghost reads_an_image: { (disk : Self) → IsTrue tells → IsImage (told disk).now (told disk).content };
+}

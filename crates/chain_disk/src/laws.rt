@@ -1,0 +1,22 @@
+// Laws of what a disk tells: what a crash may leave while calls follow one another.
+ghost use Rattle.chain_disk.specs.Laws.{SettledLeaves, NoCallIsARun, CallIsARun, RunsFollow};
+
+/// Where nothing is pending, a crash leaves the content and nothing else.
+pub fn a_settled_disk_leaves_its_content()
+    ensures { SettledLeaves }
+{}
+
+/// Where no call is made, a crash leaves an image of now.
+pub fn no_call_is_a_run()
+    ensures { NoCallIsARun }
+{}
+
+/// A call that takes one moment leaves an image from before it or one of what is pending after it.
+pub fn a_call_is_a_run()
+    ensures { CallIsARun }
+{}
+
+/// Two runs are one, and a crash in it is a crash in one of the two.
+pub fn runs_follow()
+    ensures { RunsFollow }
+{}

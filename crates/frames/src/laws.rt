@@ -1,0 +1,17 @@
+// What holds of the frames' definitions alone.
+ghost use Rattle.frames.specs.Laws.{ReadsAsWritten, IsFiveLonger, OneFrame};
+
+/// Behind a gate that is 1 a frame reads as it was written.
+pub fn a_frame_reads_as_written()
+    ensures { ReadsAsWritten }
+{}
+
+/// A frame is five bytes longer than its body: four of the length and the next gate.
+pub fn a_frame_is_five_longer()
+    ensures { IsFiveLonger }
+{}
+
+/// The bytes from a gate on begin with one frame and no other.
+pub fn bytes_begin_with_one_frame()
+    ensures { OneFrame }
+{}

@@ -1,0 +1,10 @@
+pub mod Images
+pub mod Commits
+pub mod Files
+pub mod Creations
+pub mod Windows
+pub mod Headers
+pub mod Unique
+pub mod Nifs
+pub mod Walks
+pub mod OneHeader

@@ -1,0 +1,54 @@
+-- What a file stands for, at the level of its frames.
+use Rattle.std.specs.Prelude.{◌≡◌, ◌⊎◌, ◌≤◌, ◌+◌, ℕ, List, [], ◌∷◌, ◌++◌, length, codes}
+use Rattle.chain_disk.specs.Told.{Told, IsSettled}
+use Rattle.frames.specs.Frames.{length_bytes, IsBody}
+use Rattle.parties.specs.Nif.{IsNif}
+
+-- the bytes 1 to 18: a mark, the version and the issuer's NIF
+abbrev pub header : List ℕ → List ℕ
+header issuer = codes "VFCHAIN1" ++ (1 ∷ issuer)
+
+-- counted frames of these bodies
+abbrev pub framed : List (List ℕ) → List ℕ
+framed [] = []
+framed (body ∷ bodies) = 1 ∷ (length_bytes (length body) ++ (body ++ framed bodies))
+
+abbrev pub AreBodies : List (List ℕ) → Type 0
+AreBodies [] = Unit {0}
+AreBodies (body ∷ bodies) = IsBody body × AreBodies bodies
+
+-- a begun file of this issuer: its header, counted frames of these bodies, and a closed gate with anything behind it
+pub record IsFile (issuer : List ℕ) (bodies : List (List ℕ)) (file : List ℕ) : Type 0 where
+  pub gate : ℕ
+  pub rest : List ℕ
+  pub nif : IsNif issuer
+  pub sizes : AreBodies bodies
+  pub shut : gate ≡ 1 → ⊥
+  pub parts : file ≡ (1 ∷ header issuer) ++ (framed bodies ++ (gate ∷ rest))
+
+-- a file that isn't begun
+abbrev pub IsNotBegun : List ℕ → Type 0
+IsNotBegun [] = Unit {0}
+IsNotBegun (first ∷ rest) = (length rest ≡ 0) ⊎ ((first ≡ 1 → ⊥) × (length rest ≤ 19))
+
+-- the file as before the append, or with this body
+abbrev pub IsBeforeOrAfter : List ℕ → List (List ℕ) → List ℕ → List ℕ → Type 0
+IsBeforeOrAfter issuer bodies body file = IsFile issuer bodies file ⊎ IsFile issuer (bodies ++ body ∷ []) file
+
+-- not begun, or begun and empty
+abbrev pub IsNotBegunOrEmpty : List ℕ → List ℕ → Type 0
+IsNotBegunOrEmpty issuer file = IsNotBegun file ⊎ IsFile issuer [] file
+
+-- the place of the closing gate
+abbrev pub closing_gate : List (List ℕ) → ℕ
+closing_gate bodies = 19 + length (framed bodies)
+
+-- the disk reads as such a file, nothing is pending, and the closing gate is at this place
+pub record IsAt (issuer : List ℕ) (bodies : List (List ℕ)) (gate : ℕ) (t : Told) : Type 0 where
+  pub file : IsFile issuer bodies t.content
+  pub place : gate ≡ closing_gate bodies
+  pub nothing_pending : IsSettled t
+
+-- the file of some issuer and some bodies, and its closing gate is at this place
+abbrev pub IsAtSome : ℕ → Told → Type 0
+IsAtSome gate t = ∥ ((issuer : List ℕ) × (bodies : List (List ℕ)) × IsAt issuer bodies gate t) ∥₁

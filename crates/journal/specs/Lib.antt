@@ -1,0 +1,9 @@
+pub mod Commit
+pub mod File
+pub mod Step
+pub mod Header
+pub mod Walk
+pub mod Framed
+pub mod Laws
+pub mod Journal
+pub mod StoreFault

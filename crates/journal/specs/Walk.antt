@@ -1,0 +1,10 @@
+-- The frames of a file, walked one by one.
+use Rattle.std.specs.Prelude.{◌≡◌, ◌<◌, ℕ, List, ◌++◌, length, drop}
+use Rattle.journal.specs.File.{framed, AreBodies, closing_gate}
+
+-- from byte 19 on there are counted frames of these bodies, up to this place, and a byte follows each of them
+pub record AreFrames (content : List ℕ) (bodies : List (List ℕ)) (at : ℕ) : Type 0 where
+  pub sizes : AreBodies bodies
+  pub place : at ≡ closing_gate bodies
+  pub bytes : drop 19 content ≡ framed bodies ++ drop at content
+  pub followed : 0 < length bodies → at < length content

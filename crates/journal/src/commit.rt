@@ -1,0 +1,26 @@
+// Bytes behind a gate, and then the gate.
+ghost use Rattle.std.specs.Prelude.{◌≡◌, ◌<◌, ◌^◌, length, OnOk, IsTrue};
+ghost use Rattle.ports.specs.Causes.{HasCause};
+ghost use Rattle.chain_disk.specs.Told.{LeavesOnly, IsSettled};
+ghost use Rattle.journal.specs.Commit.{IsCommitImage, IsCommitted};
+
+use chain_disk::Disk;
+use ports::Failed;
+
+// Writes these bytes behind the gate byte at this place, and then the gate as 1, with a sync after each.
+pub(crate) fn commit<D: Disk>(disk: &mut D, gate: u64, bytes: &[u8]) -> Result<(), Failed>
+    requires place { gate < 2 ^ 63 }
+    requires within { IsTrue D.tells → gate < length (D.told disk.old).content }
+    ensures ok { OnOk result (IsTrue D.tells → IsSettled (D.told disk.old) →
+        IsCommitted (D.told disk.old) gate bytes.now (D.told disk.new)) }
+    ensures any_moment { IsTrue D.tells → IsSettled (D.told disk.old) →
+        LeavesOnly (D.told disk.old) (D.told disk.new)
+        (IsCommitImage (D.told disk.old).content gate bytes.now) }
+    ensures cause { HasCause (D.faults disk.old) (D.faults disk.new) result }
+{
+    disk.write_at(gate + 1, bytes)?;
+    disk.sync()?;
+    disk.write_at(gate, &[1])?;
+    disk.sync()?;
+    Ok(())
+}

@@ -1,0 +1,51 @@
+// The creation of a file.
+ghost use Rattle.std.specs.Prelude.{◌≡◌, ◌<◌, ◌^◌, ◌++◌, [], ◌∷◌, length, OnOk, IsTrue};
+ghost use Rattle.ports.specs.Causes.{HasCause};
+ghost use Rattle.chain_disk.specs.Told.{LeavesOnly, IsSettled};
+ghost use Rattle.parties.specs.Nif.{IsNif};
+ghost use Rattle.journal.specs.Commit.{IsShut};
+ghost use Rattle.journal.specs.File.{header, IsNotBegun, IsNotBegunOrEmpty, IsAt};
+
+use crate::commit::commit;
+use chain_disk::Disk;
+use parties::Nif;
+use ports::Failed;
+
+// The header and a closed gate.
+fn header_bytes(issuer: &Nif) -> [u8; 19]
+    ensures bytes { result ≡ header issuer.now ++ 0 ∷ [] }
+    ensures nif { IsNif issuer.now }
+{
+    let mut bytes = [0; 19];
+    bytes[..9].copy_from_slice(b"VFCHAIN1\x01");
+    bytes[9..18].copy_from_slice(&issuer.bytes());
+    bytes
+}
+
+// Writes a closed first byte where the file has at most one.
+fn shut_first<D: Disk>(disk: &mut D) -> Result<(), Failed>
+    requires { IsTrue D.tells → IsNotBegun (D.told disk.old).content × IsSettled (D.told disk.old) }
+    ensures ok { OnOk result (IsTrue D.tells → IsShut (D.told disk.new)) }
+    ensures any_moment { IsTrue D.tells → LeavesOnly (D.told disk.old) (D.told disk.new) IsNotBegun }
+    ensures cause { HasCause (D.faults disk.old) (D.faults disk.new) result }
+{
+    if disk.len()? > 1 {
+        return Ok(());
+    }
+    disk.write_at(0, &[0])?;
+    disk.sync()?;
+    Ok(())
+}
+
+pub(crate) fn set_up<D: Disk>(disk: &mut D, issuer: &Nif) -> Result<(), Failed>
+    requires { IsTrue D.tells → IsNotBegun (D.told disk.old).content × IsSettled (D.told disk.old) }
+    ensures ok { OnOk result (IsTrue D.tells → IsAt issuer.now [] 19 (D.told disk.new)) }
+    ensures any_moment { IsTrue D.tells →
+        LeavesOnly (D.told disk.old) (D.told disk.new) (IsNotBegunOrEmpty issuer.now) }
+    ensures cause { HasCause (D.faults disk.old) (D.faults disk.new) result }
+{
+    shut_first(disk)?;
+    let bytes = header_bytes(issuer);
+    commit(disk, 0, &bytes)?;
+    Ok(())
+}

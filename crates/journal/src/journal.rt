@@ -1,0 +1,160 @@
+// The journal: a file of frames, and where the next one goes.
+ghost use Rattle.std.specs.Prelude.{◌≡◌, ◌<◌, ◌≤◌, ◌+◌, ◌^◌, ◌++◌, ◌∷◌, [], ◌↔◌, List, ℕ, length, IfOk, IfErr, OnOk, OnErr, IsErrOf, IsSome, IsTrue, None, Some};
+ghost use Rattle.ports.specs.Causes.{Rose};
+ghost use Rattle.chain_disk.specs.Told.{LeavesOnly, LeavesNow, IsSettled};
+ghost use Rattle.frames.specs.Frames.{IsBody, frame};
+ghost use Rattle.journal.specs.File.{IsAt, IsAtSome, IsFile, IsBeforeOrAfter, IsNotBegun, IsNotBegunOrEmpty};
+
+use crate::commit::commit;
+use crate::creation::set_up;
+use chain_disk::Disk;
+use frames::{FrameBuf, frame_bytes};
+use parties::Nif;
+
+/// Why a body could not be appended.
+#[derive(Clone, Copy, Debug, PartialEq, Eq)]
+pub enum JournalFault {
+    /// The disk failed in this call. The frame may be on the disk or not, so the journal is stopped.
+    DiskFault,
+    /// The disk failed in an earlier append, at this count of its faults. Nothing was done.
+    Stopped { faults: u64 },
+}
+
+/// A begun file whose next frame goes to its closing gate.
+#[derive(Drop)]
+pub struct Journal<D: Disk> {
+    disk: D,
+    end: u64,
+    stopped: Option<u64>,
+    /// Where it isn't stopped, its file is a chain with nothing pending, which closes at its end.
+    pub ghost ready: { stopped ≡ None → IsTrue D.tells → IsAtSome end (D.told disk) },
+}
+
+/// The disk of a journal that could not be created.
+#[derive(Drop)]
+pub struct Lost<D: Disk> {
+    pub disk: D,
+}
+
+impl<D: Disk> Journal<D> {
+    ghost use Rattle.journal.specs.Journal.{disk_of, end_of, stopped_of};
+
+    /// A journal of this issuer on a file that isn't begun. First a closed byte 0 is made sure of, then
+    /// the header is written behind it, and then byte 0 is opened, with a sync after each.
+    pub fn create(disk: D, issuer: &Nif) -> Result<Journal<D>, Lost<D>>
+        requires { IsTrue D.tells → IsNotBegun (D.told disk).content × IsSettled (D.told disk) }
+
+        ensures empty { IfOk result (λ journal. IsTrue D.tells →
+            IsAt issuer.now [] (end_of journal) (D.told (disk_of journal))) }
+        ensures every_crash { IfOk result (λ journal. IsTrue D.tells →
+            LeavesNow (D.told (disk_of journal)) (IsFile issuer.now [])) }
+        ensures place { IfOk result (λ journal. end_of journal ≡ 19) }
+        ensures going_on { IfOk result (λ journal. stopped_of journal ≡ None) }
+
+        // A crash at any moment of the call leaves a file that isn't begun, or is begun and empty.
+        ensures any_moment { IfOk result (λ journal. IsTrue D.tells →
+            LeavesOnly (D.told disk) (D.told (disk_of journal)) (IsNotBegunOrEmpty issuer.now)) }
+        ensures any_moment_err { IfErr result (λ lost. IsTrue D.tells →
+            LeavesOnly (D.told disk) (D.told lost.disk) (IsNotBegunOrEmpty issuer.now)) }
+        ensures content_err { IfErr result (λ lost. IsTrue D.tells →
+            IsNotBegunOrEmpty issuer.now (D.told lost.disk).content) }
+
+        ensures lost { IfErr result (λ lost. Rose (D.faults disk) (D.faults lost.disk)) }
+        ensures later { IfOk result (λ journal. D.faults disk ≤ D.faults (disk_of journal)) }
+        ensures later_err { IfErr result (λ lost. D.faults disk ≤ D.faults lost.disk) }
+    {
+        let mut disk = disk;
+        match set_up(&mut disk, issuer) {
+            Ok(()) => Ok(Journal {
+                disk,
+                end: 19,
+                stopped: None,
+            }),
+            Err(_) => Err(Lost { disk }),
+        }
+    }
+
+    /// The journal of a begun file, with nothing pending, whose closing gate is at this place.
+    pub fn at(disk: D, end: u64) -> Journal<D>
+        requires { IsTrue D.tells → IsAtSome end (D.told disk) }
+        ensures parts { (disk_of result ≡ disk) × (end_of result ≡ end) × (stopped_of result ≡ None) }
+    {
+        Journal {
+            disk,
+            end,
+            stopped: None,
+        }
+    }
+
+    /// The disk that it writes.
+    pub fn into_disk(self) -> D
+        ensures { result ≡ disk_of self }
+    {
+        let Journal {
+            disk,
+            end: _,
+            stopped: _,
+        } = self;
+        disk
+    }
+
+    /// The disk's count of faults when an append failed. None where the journal goes on.
+    pub fn stopped(&self) -> Option<u64>
+        ensures { result ≡ stopped_of self.now }
+    {
+        self.stopped
+    }
+
+    /// Adds a frame of this body. At `Ok` it is acknowledged, and the answer is the place of the new
+    /// closing gate. The frame is written behind the closing gate, and then the gate is opened, with a
+    /// sync after each.
+    pub fn append(&mut self, body: &[u8]) -> Result<u64, JournalFault>
+        requires size { IsBody body.now }
+        requires place { end_of self.old < 2 ^ 63 }
+
+        // After Ok every crash leaves this body too.
+        ensures acknowledged { OnOk result (IsTrue D.tells → (issuer : List ℕ) (bodies : List (List ℕ)) →
+            IsAt issuer bodies (end_of self.old) (D.told (disk_of self.old)) →
+            IsAt issuer (bodies ++ body.now ∷ []) (end_of self.new) (D.told (disk_of self.new))) }
+        ensures every_crash { OnOk result (IsTrue D.tells → (issuer : List ℕ) (bodies : List (List ℕ)) →
+            IsAt issuer bodies (end_of self.old) (D.told (disk_of self.old)) →
+            LeavesNow (D.told (disk_of self.new)) (IsFile issuer (bodies ++ body.now ∷ []))) }
+        ensures answer { IfOk result (λ at. at ≡ end_of self.new) }
+        ensures place { OnOk result (end_of self.new ≡ end_of self.old + 5 + length body.now) }
+        ensures going_on { OnOk result ((stopped_of self.old ≡ None) × (stopped_of self.new ≡ None)) }
+
+        // A crash at any moment of the call leaves the bodies from before it, or those and this one.
+        ensures any_moment { stopped_of self.old ≡ None → IsTrue D.tells →
+            (issuer : List ℕ) (bodies : List (List ℕ)) →
+            IsAt issuer bodies (end_of self.old) (D.told (disk_of self.old)) →
+            LeavesOnly (D.told (disk_of self.old)) (D.told (disk_of self.new))
+            (IsBeforeOrAfter issuer bodies body.now) }
+
+        // A fault of the disk stops the journal for good. From then on no call of the disk is made.
+        ensures fault { IsErrOf result JournalFault.DiskFault →
+            (stopped_of self.old ≡ None) × Rose (D.faults (disk_of self.old)) (D.faults (disk_of self.new)) }
+        ensures stops { IsErrOf result JournalFault.DiskFault →
+            stopped_of self.new ≡ Some (D.faults (disk_of self.new)) }
+        ensures stopped { (faults : ℕ) →
+            IsErrOf result (JournalFault.Stopped faults) ↔ (stopped_of self.old ≡ Some faults) }
+        ensures untouched { IsSome (stopped_of self.old) → self.new ≡ self.old }
+        ensures end_err { OnErr result (end_of self.new ≡ end_of self.old) }
+        ensures later { D.faults (disk_of self.old) ≤ D.faults (disk_of self.new) }
+    {
+        if let Some(faults) = self.stopped {
+            return Err(JournalFault::Stopped { faults });
+        }
+        let mut frame = FrameBuf::new();
+        frame_bytes(body, &mut frame);
+        match commit(&mut self.disk, self.end, frame.as_slice()) {
+            Ok(()) => {
+                self.end += body.len() as u64 + 5;
+                Ok(self.end)
+            }
+            Err(_) => {
+                self.stopped = Some(self.disk.faults());
+                Err(JournalFault::DiskFault)
+            }
+        }
+    }
+}

@@ -1,0 +1,25 @@
+// What holds of the file's definitions alone.
+ghost use Rattle.journal.specs.Laws.{OneChain, NoChain, OneHeader, WalkBegins, WalkGoesOn, WalkEnds, OneWalk};
+
+/// A file stands for at most one chain.
+pub fn a_file_stands_for_one_chain()
+    ensures { OneChain }
+{}
+
+/// A file that isn't begun stands for no chain.
+pub fn a_file_not_begun_is_no_chain()
+    ensures { NoChain }
+{}
+
+/// A file has one header.
+pub fn a_file_has_one_header()
+    ensures { OneHeader }
+{}
+
+/// How a file is read frame by frame: where that begins, goes on and ends.
+pub fn a_file_is_walked()
+    ensures begins { WalkBegins }
+    ensures goes_on { WalkGoesOn }
+    ensures ends { WalkEnds }
+    ensures one { OneWalk }
+{}

@@ -1,0 +1,28 @@
+//! The journal's file: its header, its creation, and frames appended one by one.
+//!
+//! | Bytes | Content |
+//! |---|---|
+//! | 0 | 1 once the file is begun |
+//! | 1 to 8 | `VFCHAIN1` |
+//! | 9 | version, 1 |
+//! | 10 to 18 | the issuer's NIF |
+//! | 19 on | frames, up to the first whose gate byte isn't 1 |
+#![tactic(auto)]
+
+mod commit;
+mod creation;
+mod faults;
+mod journal;
+mod laws;
+mod reading;
+
+pub use faults::StoreFault;
+pub use journal::{Journal, JournalFault, Lost};
+pub use laws::{
+    a_file_has_one_header, a_file_is_walked, a_file_not_begun_is_no_chain,
+    a_file_stands_for_one_chain,
+};
+pub use reading::{Header, Step, read_header, scan};
+
+#[cfg(test)]
+mod tests;
