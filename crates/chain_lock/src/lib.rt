@@ -1,0 +1,18 @@
+//! A lock over one value that records items in a list which only grows. Each pass knows a beginning of that list.
+//!
+//! `docs/LOCK.md` has the rule: the steps on the lock's two words and one slot, and what holds between any two of them.
+#![tactic(auto)]
+
+mod act;
+mod close;
+mod lock;
+mod open;
+mod pass;
+mod plays;
+#[cfg(test)]
+mod tests;
+mod view;
+
+pub use act::{Act, Recorded};
+pub use lock::ChainLock;
+pub use pass::{Pass, Passes, Refused};
