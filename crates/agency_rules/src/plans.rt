@@ -1,0 +1,131 @@
+// The plan of the practice agency.
+ghost use Rattle.std.specs.Prelude.{◌≡◌};
+
+use series::NumSerie;
+use std::alloc::Global;
+use std::marker::Model;
+
+/// What the agency says of a record beside the rules of its register, with its code from 1 to 65535.
+#[derive(Clone, Copy, Debug, PartialEq, Eq)]
+pub enum Verdict {
+    /// It is refused.
+    Vet(u16),
+    /// It is accepted with errors.
+    Warn(u16),
+}
+
+/// The verdict on the `n`-th record of an invoice that reaches the agency, counted from 1 to 1000.
+#[derive(Clone, Copy, Debug, PartialEq, Eq)]
+pub struct PlannedVerdict {
+    pub num: NumSerie,
+    pub n: u32,
+    pub verdict: Verdict,
+}
+
+/// What befalls a call to the agency.
+#[derive(Clone, Copy, Debug, PartialEq, Eq)]
+pub enum Fate {
+    /// It does not arrive.
+    Lost,
+    /// It arrives, and its answer is lost.
+    Taken,
+    /// It arrives, and the answer before is given once more.
+    Stale,
+    /// It arrives, and so do once more all those before it.
+    Again,
+    /// It arrives so many calls later, 1 to 1000 of them.
+    Late(u32),
+}
+
+/// The fate of a call, counted from 1 to 1,000,000.
+#[derive(Clone, Copy, Debug, PartialEq, Eq)]
+pub struct PlannedFate {
+    pub call: u32,
+    pub fate: Fate,
+}
+
+/// The verdicts of a plan, at most one for an invoice and a count.
+#[derive(Drop)]
+pub struct Verdicts {
+    list: Vec<PlannedVerdict>,
+}
+
+impl Model for Verdicts {
+    ghost use Rattle.std.specs.Prelude.{List};
+    ghost use Rattle.agency_rules.specs.declared.plans.PlannedVerdict.{PlannedVerdict};
+
+    ghost Value = { List PlannedVerdict };
+
+    ghost view = { λ v. v.list.items };
+}
+
+impl Verdicts {
+    /// The list of these verdicts.
+    pub fn of(list: Vec<PlannedVerdict>) -> Verdicts
+        ensures { result ≡ list.items }
+    {
+        Verdicts { list }
+    }
+
+    /// The verdicts, in their order.
+    pub fn as_slice(&self) -> &[PlannedVerdict]
+        ensures { result.now ≡ self.now }
+    {
+        &self.list
+    }
+}
+
+/// The fates of a plan, at most one for a call.
+#[derive(Drop)]
+pub struct Fates {
+    list: Vec<PlannedFate>,
+}
+
+impl Model for Fates {
+    ghost use Rattle.std.specs.Prelude.{List};
+    ghost use Rattle.agency_rules.specs.declared.plans.PlannedFate.{PlannedFate};
+
+    ghost Value = { List PlannedFate };
+
+    ghost view = { λ f. f.list.items };
+}
+
+impl Fates {
+    /// The list of these fates.
+    pub fn of(list: Vec<PlannedFate>) -> Fates
+        ensures { result ≡ list.items }
+    {
+        Fates { list }
+    }
+
+    /// The fates, in their order.
+    pub fn as_slice(&self) -> &[PlannedFate]
+        ensures { result.now ≡ self.now }
+    {
+        &self.list
+    }
+}
+
+/// What the practice agency does beside its rules. `wait` is the pause in seconds that it asks for after each answer, up to
+/// 86400.
+#[derive(Drop)]
+pub struct Plan {
+    pub verdicts: Verdicts,
+    pub wait: u32,
+    pub fates: Fates,
+}
+
+impl Plan {
+    ghost use Rattle.agency_rules.specs.Plans.{plain};
+
+    /// The plan without a line: no verdict, a pause of a minute, and each call arrives and is answered.
+    pub fn plain(alloc: Global) -> Plan
+        ensures { result ≡ plain }
+    {
+        Plan {
+            verdicts: Verdicts::of(Vec::new(alloc)),
+            wait: 60,
+            fates: Fates::of(Vec::new(alloc)),
+        }
+    }
+}

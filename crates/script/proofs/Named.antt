@@ -1,0 +1,128 @@
+-- Values that are found by their texts.
+use Rattle.std.proofs.Common.{◌≡◌, ◌≢◌, ℕ, suc, zero, ◌+◌, ◌<◌, ◌≤◌, List, [], ◌∷◌, refl, sym, ◌∙◌, ap, arith, Option, Some, None, Bool, true, false, bytes_eq, ◌==◌, ◌⊎◌, inl, inr, IfSome}
+use Rattle.std.proofs.lemmas.Slice.Eq.{bytes_eq-Decides}
+use Rattle.std.specs.List.{range_with_len}
+use Rattle.std.proofs.lemmas.Bool.Decides.{nat_tests}
+use Rattle.invoice_kinds.specs.Kinds.{kind_text}
+use Rattle.invoice_kinds.specs.declared.kind.Kind.{Kind}
+use Rattle.invoice_kinds.specs.declared.kind.Kind.TheVariants.{F1, F2, F3, R1, R2, R3, R4, R5}
+use Rattle.script.specs.Readings.{named, kinds, classes, kind_of, class_of, first_days, day_of}
+use Rattle.stamps.specs.Text.{date_text_of}
+use Rattle.tax_lines.specs.Classes.{key_text}
+use Rattle.tax_lines.specs.declared.classes.LineKey.{LineKey}
+use Rattle.tax_lines.specs.declared.classes.LineKey.TheVariants.{General, Reduced, SuperReduced, Zero, GeneralSurcharge, ReducedSurcharge, SuperReducedSurcharge, S2, N1, N2, E1, E2, E3, E4, E5, E6}
+
+cases : (b : Bool) → (b ≡ true) ⊎ (b ≡ false)
+cases true = inl refl
+cases false = inr refl
+
+-- the first of a list whose text it is has that text
+found : {A : Type 0} (f : A → List ℕ) (all : List A) (text : List ℕ) (y : A) → named f all text ≡ Some y → text ≡ f y
+found f [] text y e = absurd cc
+found f (x ∷ all) text y e =
+    elim (cases (bytes_eq text (f x))) [
+      | inl it ↦
+          let t = (bytes_eq-Decides text (f x)).0 it in
+          let h = rw it at e in
+          let same : x ≡ y = cc in
+          t ∙ ap f same
+      | inr no_it ↦ found f all text y (rw no_it at e)
+    ]
+
+none_unless : {A : Type 0} (o : Option A) → ((y : A) → o ≡ Some y → ⊥) → None ≡ o
+none_unless None h = refl
+none_unless (Some y) h = absurd (h y refl)
+
+kind_there : (kind : Kind) → kind_of (kind_text kind) ≡ Some kind
+unfolding kind_of
+kind_there F1 = refl
+kind_there F2 = refl
+kind_there F3 = refl
+kind_there R1 = refl
+kind_there R2 = refl
+kind_there R3 = refl
+kind_there R4 = refl
+kind_there R5 = refl
+
+pub kind_is : (text : List ℕ) (r : Option Kind) → IfSome r (λ (kind : Kind). text ≡ kind_text kind)
+    → ((kind : Kind) → text ≡ kind_text kind → r ≡ Some kind) → r ≡ kind_of text
+unfolding kind_of
+kind_is text None value complete = none_unless (kind_of text) (λ y e. let h = complete y (found kind_text kinds text y e) in cc)
+kind_is text (Some kind) value complete = sym (ap kind_of value ∙ kind_there kind)
+
+class_there : (key : LineKey) → class_of (key_text key) ≡ Some key
+unfolding class_of
+class_there General = refl
+class_there Reduced = refl
+class_there SuperReduced = refl
+class_there Zero = refl
+class_there GeneralSurcharge = refl
+class_there ReducedSurcharge = refl
+class_there SuperReducedSurcharge = refl
+class_there S2 = refl
+class_there N1 = refl
+class_there N2 = refl
+class_there E1 = refl
+class_there E2 = refl
+class_there E3 = refl
+class_there E4 = refl
+class_there E5 = refl
+class_there E6 = refl
+
+pub class_is : (text : List ℕ) (r : Option LineKey) → IfSome r (λ (key : LineKey). text ≡ key_text key)
+    → ((key : LineKey) → text ≡ key_text key → r ≡ Some key) → r ≡ class_of text
+unfolding class_of
+class_is text None value complete = none_unless (class_of text) (λ y e. let h = complete y (found key_text classes text y e) in cc)
+class_is text (Some key) value complete = sym (ap class_of value ∙ class_there key)
+
+-- days
+
+equal_from : (a k : ℕ) → (a == k) ≡ true → a ≡ k
+equal_from a k h = grind (arith, nat_tests)
+
+more_from : (a k : ℕ) → (a == k) ≡ false → a ≤ k → a + 1 ≤ k
+more_from a k h le = grind (arith, nat_tests)
+
+same_or : (a k : ℕ) → a ≤ k → (a ≡ k) ⊎ (a + 1 ≤ k)
+same_or a k h = elim (cases (a == k)) [ inl it ↦ inl (equal_from a k it) | inr no_it ↦ inr (more_from a k no_it h) ]
+
+below : (text : List ℕ) (a n y : ℕ) → named date_text_of (range_with_len a n) text ≡ Some y → y < a + n
+below text a zero y e = absurd cc
+below text a (suc n) y e =
+    elim (cases (bytes_eq text (date_text_of a))) [
+      | inl it ↦ let h = rw it at e in let same : a ≡ y = cc in omega arith
+      | inr no_it ↦ let h = below text (a + 1) n y (rw no_it at e) in omega arith
+    ]
+
+absent : (text : List ℕ) (a n k : ℕ) → named date_text_of (range_with_len a n) text ≡ None → a ≤ k → k < a + n → text ≢ date_text_of k
+absent text a zero k e low high t = absurd (omega arith)
+absent text a (suc n) k e low high t =
+    elim (cases (bytes_eq text (date_text_of a))) [
+      | inl it ↦ let h = rw it at e in absurd cc
+      | inr no_it ↦
+          elim (same_or a k low) [
+            | inl same ↦ let there = (bytes_eq-Decides text (date_text_of a)).1 (t ∙ ap date_text_of (sym same)) in absurd cc
+            | inr more ↦ absent text (a + 1) n k (rw no_it at e) more (omega arith) t
+          ]
+    ]
+
+day_none : (n : ℕ) (text : List ℕ) → ((k : ℕ) → k < n → text ≢ date_text_of k) → None ≡ named date_text_of (first_days n) text
+unfolding first_days
+day_none n text none = none_unless (named date_text_of (range_with_len 0 n) text)
+    (λ y e. let small = below text 0 n y e in none y (omega arith) (found date_text_of (range_with_len 0 n) text y e))
+
+day_some : (n : ℕ) (text : List ℕ) (day : ℕ) → day < n → text ≡ date_text_of day → ((k m : ℕ) → date_text_of k ≡ date_text_of m → k ≡ m)
+    → (o : Option ℕ) → named date_text_of (first_days n) text ≡ o → Some day ≡ o
+unfolding first_days
+day_some n text day lt t law None e = absurd (absent text 0 n day e (omega arith) (omega arith) t)
+day_some n text day lt t law (Some y) e =
+    let same : day ≡ y = law day y (sym t ∙ found date_text_of (range_with_len 0 n) text y e) in ap Some same
+
+pub day_yes : (text : List ℕ) (day : ℕ) → text ≡ date_text_of day → day ≤ 47_846
+    → ((k m : ℕ) → date_text_of k ≡ date_text_of m → k ≡ m) → Some day ≡ day_of text
+unfolding day_of
+day_yes text day t low law = day_some 47_847 text day (omega arith) t law (day_of text) refl
+
+pub day_no : (text : List ℕ) → ((n : ℕ) → n ≤ 47_846 → text ≢ date_text_of n) → None ≡ day_of text
+unfolding day_of
+day_no text none = day_none 47_847 text (λ k lt. none k (omega arith))

@@ -1,0 +1,274 @@
+-- Lines of a script, read one after another.
+use mathlib.Core.Path.{fun_ext}
+use Rattle.std.proofs.Common.{◌≡◌, ◌∙◌, ℕ, ◌+◌, ◌≤◌, ◌<◌, List, [], ◌∷◌, ◌++◌, length, map, filter_map, count_by, refl, sym, ap, subst, append_assoc, length-append, arith, Option, Some, None, is_some, Bool, true, false, not, ◌==◌, nat_le, cond, if◌then◌else◌, get_or, codes, bytes_eq, Result, Ok, Err, IfOk, Vec, Global, IsUtf8}
+use Rattle.std.specs.BTreeMap.{btree_map_len}
+use Rattle.std.specs.Option.{option_or}
+use Rattle.std.specs.Str.{is_utf8}
+use Rattle.std.specs.Str.Lines.{strip_carriage_return}
+use Rattle.std.proofs.lemmas.Bool.Decides.{nat_tests}
+use Rattle.std.proofs.lemmas.List.{append-nil}
+use Rattle.std.proofs.lemmas.List.Elements.{filter_map-append}
+use Rattle.std.proofs.lemmas.List.Sums.{sum_by-append}
+use Rattle.std.proofs.lemmas.Slice.Eq.{bytes_eq-Decides}
+use Rattle.std.proofs.lemmas.Str.{is_utf8-from_IsUtf8, IsUtf8-from_is_utf8}
+use Rattle.parties.specs.declared.name.Party.{Party}
+use Rattle.record_fields.specs.Picks.{first_of, when}
+use Rattle.shop_core.specs.Asked.{Asked}
+use Rattle.shop_core.specs.declared.requests.Request.{Request}
+use Rattle.shop_core.specs.declared.words.Word.{Word}
+use Rattle.shop_core.specs.declared.words.Word.TheVariants as word
+use Rattle.script.specs.Cuts.{parts_of}
+use Rattle.script.specs.Fields.{and_then, word_or, unless_any, field_at, past, is_left, such}
+use Rattle.script.specs.Numbers.{number_in}
+use Rattle.script.specs.Readings.{is_key, is_nif}
+use Rattle.script.specs.Kept.{Answers, IsNew, IsRead, known, party_of}
+use Rattle.script.specs.Lines.{Above, above_of, said, line_said, fields_said, form_said, clock_said, customer_said, command_said, request_said, name_said, has_commands, is_skipped, clock_in, ask_in, party_in, is_command, is_customer}
+use Rattle.script.specs.Script.{EachSays, IsFirstBad}
+use Rattle.script.specs.declared.faults.Fault.{Fault}
+use Rattle.script.specs.declared.faults.Fault.TheVariants as fault
+use Rattle.script.specs.declared.forms.Form.{Form}
+use Rattle.script.specs.declared.lines.Line.{Line}
+use Rattle.script.specs.declared.lines.Line.TheVariants as line
+use Rattle.script.specs.declared.requests.Command.{Command}
+use Rattle.script.specs.declared.requests.Command.TheVariants as command
+use Rattle.script.specs.declared.scripts.SoFar.{SoFar}
+use Rattle.script.proofs.Gathering.{first_more, or_none}
+
+-- an answer of an earlier step is handed on
+
+pub passes_on : {A B : Type 0} (bad : Fault) (first : Result A Word) (next : A → Result B Word) → Answers {A = A} first (Err bad) → Answers {A = B} (and_then first next) (Err bad)
+passes_on (fault.Bad w) first next h = rw h refl
+passes_on fault.NoMemory first next h = tt
+
+pub answers_along : {B : Type 0} (one other : Result B Word) (answer : Result B Fault) → one ≡ other → Answers other answer → Answers one answer
+answers_along {B} one other answer e h = subst (λ (r : Result B Word). Answers r answer) (sym e) h
+
+-- a line that is read, and one that is no text
+
+other_than : (a b : ℕ) → (a ≡ b → ⊥) → (a == b) ≡ false
+other_than a b h = grind (arith, nat_tests)
+
+pub read_on : (form : Form) (above : Above) (text : List ℕ) → (length text == 0) ≡ false → (get_or text 0 0 ≡ 35 → ⊥) → IsUtf8 text
+    → line_said form above text ≡ fields_said form above (parts_of 32 text)
+read_on form above text some hash utf8 = rw (some, other_than (get_or text 0 0) 35 hash, is_utf8-from_IsUtf8 text utf8) refl
+
+not_utf8 : (text : List ℕ) (b : Bool) → is_utf8 text ≡ b → (IsUtf8 text → ⊥) → is_utf8 text ≡ false
+not_utf8 text true e h = absurd (h (IsUtf8-from_is_utf8 text e))
+not_utf8 text false e h = e
+
+pub no_text : (form : Form) (above : Above) (text : List ℕ) → (length text == 0) ≡ false → (get_or text 0 0 ≡ 35 → ⊥) → (IsUtf8 text → ⊥)
+    → line_said form above text ≡ Err word.Utf8
+no_text form above text some hash utf8 = rw (some, other_than (get_or text 0 0) 35 hash, not_utf8 text (is_utf8 text) refl utf8) refl
+
+-- a clock and a customer are new
+
+once : {A : Type 0} (P : Line → Type 0) (o : Option A) (meaning : Line) → (o ≡ None → P meaning)
+    → IfOk (unless_any (when (is_some o) word.Twice ∷ []) (Ok meaning)) P
+once P None meaning h = h refl
+once P (Some x) meaning h = tt
+
+clock_shape : (above : Above) (a b : Result ℕ Word) (o : Option Word)
+    → IfOk (and_then a (λ start. and_then b (λ step. word_or o (unless_any (when (is_some above.clock) word.Twice ∷ []) (Ok (line.Clock start step)))))) (IsNew above)
+clock_shape above (Err w) b o = tt
+clock_shape above (Ok start) (Err w) o = tt
+clock_shape above (Ok start) (Ok step) (Some w) = tt
+clock_shape above (Ok start) (Ok step) None = once (IsNew above) above.clock (line.Clock start step) (λ e. e)
+
+customer_shape : (above : Above) (o : Option Word) (a b n : Result (List ℕ) Word)
+    → IfOk (word_or o (and_then a (λ key. and_then b (λ nif. and_then n (λ name. unless_any (when (is_some (above.party key)) word.Twice ∷ []) (Ok (line.Customer key (record { nif = nif; name = name })))))))) (IsNew above)
+customer_shape above (Some w) a b n = tt
+customer_shape above None (Err w) b n = tt
+customer_shape above None (Ok key) (Err w) n = tt
+customer_shape above None (Ok key) (Ok nif) (Err w) = tt
+customer_shape above None (Ok key) (Ok nif) (Ok name) = once (IsNew above) (above.party key) (line.Customer key (record { nif = nif; name = name })) (λ e. e)
+
+room : (n : ℕ) → nat_le 100_000 n ≡ false → n < 100_000
+room n h = grind (arith, nat_tests)
+
+-- in a script with commands, below so many of them
+command_shape : (above : Above) (commands many : Bool) (a b : Result ℕ Word) (r : Result Request Word) → (many ≡ false → above.commands < 100_000)
+    → IfOk (unless_any (when (not commands) word.Command ∷ when many word.TooMany ∷ []) (and_then a (λ till. and_then b (λ serial. and_then r (λ request. Ok (line.Command (record { till = till; serial = serial; request = request }))))))) (IsNew above)
+command_shape above false many a b r h = tt
+command_shape above true true a b r h = tt
+command_shape above true false (Err w) b r h = tt
+command_shape above true false (Ok till) (Err w) r h = tt
+command_shape above true false (Ok till) (Ok serial) (Err w) h = tt
+command_shape above true false (Ok till) (Ok serial) (Ok request) h = h refl
+
+clock_new : (above : Above) (fields : List (List ℕ)) → IfOk (clock_said above fields) (IsNew above)
+clock_new above fields =
+    clock_shape above (field_at 0 fields (number_in 0 1_000_000_000_000) word.Number) (field_at 1 fields (number_in 0 1_000_000) word.Number)
+    (first_of (when (is_left (past 2 fields)) word.Fields ∷ []))
+
+customer_new : (above : Above) (fields : List (List ℕ)) → IfOk (customer_said above fields) (IsNew above)
+customer_new above fields =
+    customer_shape above (first_of (when (nat_le 10_000 above.customers) word.TooMany ∷ [])) (field_at 0 fields (such is_key) word.Customer)
+    (field_at 1 fields (such is_nif) word.Nif) (name_said (past 2 fields))
+
+command_new : (form : Form) (above : Above) (command : Command) (fields : List (List ℕ)) → IfOk (command_said form above command fields) (IsNew above)
+command_new form above command fields =
+    command_shape above (has_commands form) (nat_le 100_000 above.commands) (field_at 0 fields (number_in 1 64) word.Till) (field_at 1 fields (number_in 1 4_294_967_295) word.Number)
+    (request_said command above.party (past 2 fields)) (room above.commands)
+
+choice_new : (P : Line → Type 0) (b : Bool) (one other : Result Line Word) → IfOk one P → IfOk other P → IfOk (if b then one else other) P
+choice_new P true one other h k = h
+choice_new P false one other h k = k
+
+form_new : (form : Form) (above : Above) (verb : List ℕ) (fields : List (List ℕ)) → IfOk (form_said form above verb fields) (IsNew above)
+form_new form above verb fields =
+    let cancelled = command_said form above command.Cancel fields in
+    let fixed = command_said form above command.Fix fields in
+    let sold = command_said form above command.Sale fields in
+    let last = if bytes_eq verb (codes "cancel") then cancelled else Err word.Verb in
+    let third = if bytes_eq verb (codes "fix") then fixed else last in
+    let second = if bytes_eq verb (codes "sale") then sold else third in
+    let first = if bytes_eq verb (codes "customer") then customer_said above fields else second in
+    choice_new (IsNew above) (bytes_eq verb (codes "clock")) (clock_said above fields) first (clock_new above fields)
+    (choice_new (IsNew above) (bytes_eq verb (codes "customer")) (customer_said above fields) second (customer_new above fields)
+    (choice_new (IsNew above) (bytes_eq verb (codes "sale")) sold third (command_new form above command.Sale fields)
+    (choice_new (IsNew above) (bytes_eq verb (codes "fix")) fixed last (command_new form above command.Fix fields)
+    (choice_new (IsNew above) (bytes_eq verb (codes "cancel")) cancelled (Err word.Verb) (command_new form above command.Cancel fields) tt))))
+
+fields_new : (form : Form) (above : Above) (fields : List (List ℕ)) → IfOk (fields_said form above fields) (IsNew above)
+fields_new form above [] = tt
+fields_new form above (verb ∷ fields) = form_new form above verb fields
+
+text_new : (above : Above) (o : Option Word) (answer : Result Line Word) → IfOk answer (IsNew above) → IfOk (word_or o answer) (IsNew above)
+text_new above None answer h = h
+text_new above (Some w) answer h = tt
+
+line_new : (form : Form) (above : Above) (text : List ℕ) → IfOk (line_said form above text) (IsNew above)
+line_new form above text =
+    let fields = fields_said form above (parts_of 32 text) in
+    let utf8 = first_of (when (not (is_utf8 text)) word.Utf8 ∷ []) in
+    choice_new (IsNew above) (is_skipped text) (Ok line.Skip) (word_or utf8 fields) tt (text_new above utf8 fields (fields_new form above (parts_of 32 text)))
+
+pub said_is_new : (form : Form) (above : Above) (text : List ℕ) (meaning : Line) → line_said form above text ≡ Ok meaning → IsNew above meaning
+said_is_new form above text meaning e = subst (λ (r : Result Line Word). IfOk r (IsNew above)) e (line_new form above text)
+
+-- what is above one line more
+
+abbrev with_line : Above → Line → Above
+with_line above meaning = record {
+  clock = option_or above.clock (clock_in meaning);
+  commands = above.commands + count_by is_command (meaning ∷ []);
+  customers = above.customers + count_by is_customer (meaning ∷ []);
+  party = λ key. option_or (above.party key) (party_in key meaning);
+}
+
+same_above : (clock other : Option (ℕ × ℕ)) (n m k l : ℕ) (f g : List ℕ → Option Party) → clock ≡ other → n ≡ m → k ≡ l → f ≡ g
+    → (let one : Above = record { clock = clock; commands = n; customers = k; party = f } in one) ≡ record { clock = other; commands = m; customers = l; party = g }
+same_above clock other n m k l f g c e d p = rw (c, e, d, p) refl
+
+above_more : (before : List Line) (meaning : Line) → above_of (before ++ meaning ∷ []) ≡ with_line (above_of before) meaning
+above_more before meaning =
+    same_above _ _ _ _ _ _ _ _ (first_more clock_in before meaning) (sum_by-append (λ (l : Line). cond (is_command l) 1 0) before (meaning ∷ []))
+    (sum_by-append (λ (l : Line). cond (is_customer l) 1 0) before (meaning ∷ [])) (fun_ext (λ (key : List ℕ). first_more (party_in key) before meaning))
+
+pub read_more : (before : List Line) (meaning : Line) (old new : SoFar) → IsRead before old
+    → new.clock ≡ option_or old.clock (clock_in meaning)
+    → length new.asks.items ≡ length old.asks.items + count_by is_command (meaning ∷ [])
+    → btree_map_len new.customers.by_key ≡ btree_map_len old.customers.by_key + count_by is_customer (meaning ∷ [])
+    → ((key : List ℕ) → party_of new.customers key ≡ option_or (party_of old.customers key) (party_in key meaning))
+    → new.asks.items ≡ old.asks.items ++ filter_map ask_in (meaning ∷ []) → length new.asks.items ≤ 100_000 → IsRead (before ++ meaning ∷ []) new
+read_more before meaning old new r clock commands customers party asks few = record {
+  above =
+      let now : known new ≡ with_line (known old) meaning = same_above _ _ _ _ _ _ _ _ clock commands customers (fun_ext party) in
+      now ∙ ap (λ (above : Above). with_line above meaning) r.above ∙ sym (above_more before meaning);
+  asks = rw (filter_map-append ask_in before (meaning ∷ []), ← r.asks) asks;
+  few = few;
+}
+
+none_more : (n : ℕ) → n ≡ n + 0
+none_more n = omega arith
+
+pub read_skip : (before : List Line) (read : SoFar) → IsRead before read → IsRead (before ++ line.Skip ∷ []) read
+read_skip before read r =
+    read_more before line.Skip read read r (or_none read.clock) (none_more _) (none_more _) (λ key. or_none (party_of read.customers key)) (sym (append-nil _)) r.few
+
+pub read_clock : (before : List Line) (read : SoFar) (start step : ℕ) → IsRead before read → read.clock ≡ None
+    → IsRead (before ++ line.Clock start step ∷ []) (record read { clock = Some (start, step) })
+read_clock before read start step r none =
+    let now : ℕ × ℕ = (start, step) in
+    read_more before (line.Clock start step) read (record read { clock = Some now }) r
+    (subst (λ (o : Option (ℕ × ℕ)). Some now ≡ option_or o (Some now)) (sym none) refl)
+    (none_more _) (none_more _) (λ key. or_none (party_of read.customers key)) (sym (append-nil _)) r.few
+
+party_new : (key other : List ℕ) (party : Party) (of : List ℕ → Option Party) (b : Bool) → bytes_eq key other ≡ b → of key ≡ None
+    → (if b then Some party else of other) ≡ option_or (of other) (when b party)
+party_new key other party of true e none =
+    let same : key ≡ other = (bytes_eq-Decides key other).0 e in
+    subst (λ (o : Option Party). Some party ≡ option_or o (Some party)) (sym none ∙ ap of same) refl
+party_new key other party of false e none = or_none (of other)
+
+pub read_customer : (before : List Line) (old new : SoFar) (key : List ℕ) (party : Party) → IsRead before old → party_of old.customers key ≡ None
+    → new.clock ≡ old.clock → new.asks ≡ old.asks → btree_map_len new.customers.by_key ≡ btree_map_len old.customers.by_key + 1
+    → ((other : List ℕ) → party_of new.customers other ≡ (if bytes_eq key other then Some party else party_of old.customers other))
+    → IsRead (before ++ line.Customer key party ∷ []) new
+read_customer before old new key party r none clock asks count found =
+    read_more before (line.Customer key party) old new r (clock ∙ or_none old.clock) (ap (λ (a : Vec Asked Global). length a.items) asks ∙ none_more _) count
+    (λ other. found other ∙ party_new key other party (party_of old.customers) (bytes_eq key other) refl none) (ap (λ (a : Vec Asked Global). a.items) asks ∙ sym (append-nil _))
+    (let same = ap (λ (a : Vec Asked Global). length a.items) asks in omega (arith, r.few))
+
+pub read_command : (before : List Line) (read : SoFar) (ask : Asked) (asks : Vec Asked Global) → IsRead before read → length read.asks.items < 100_000 → asks.items ≡ read.asks.items ++ ask ∷ []
+    → IsRead (before ++ line.Command ask ∷ []) (record read { asks = asks })
+read_command before read ask asks r less e =
+    read_more before (line.Command ask) read (record read { asks = asks }) r (or_none read.clock) (ap length e ∙ length-append read.asks.items (ask ∷ [])) (none_more _)
+    (λ key. or_none (party_of read.customers key)) e (let more = ap length e ∙ length-append read.asks.items (ask ∷ []) in omega arith)
+
+-- all lines, those that were read and those to come
+
+each_more : (form : Form) (before : List Line) (lines : List (List ℕ)) (meanings : List Line) (text : List ℕ) (meaning : Line)
+    → EachSays form before lines meanings → said form (before ++ meanings) text ≡ Ok meaning → EachSays form before (lines ++ text ∷ []) (meanings ++ meaning ∷ [])
+each_more form before [] [] text meaning h e = (subst (λ (b : List Line). said form b text ≡ Ok meaning) (append-nil before) e, tt)
+each_more form before [] (x ∷ xs) text meaning h e = absurd h
+each_more form before (l ∷ ls) [] text meaning h e = absurd h
+each_more form before (l ∷ ls) (x ∷ xs) text meaning h e =
+    (h.0, each_more form (before ++ x ∷ []) ls xs text meaning h.1 (subst (λ (b : List Line). said form b text ≡ Ok meaning) (sym (append_assoc before (x ∷ []) xs)) e))
+
+abbrev pub to_come : List (List ℕ) → List (List ℕ)
+to_come lines = map strip_carriage_return lines
+
+-- all lines are those that were read and those to come, and as many were numbered as were read
+pub record IsPartway (form : Form) (all front left : List (List ℕ)) (meanings : List Line) (number : ℕ) (read : SoFar) : Type 0 where
+  pub split : all ≡ front ++ to_come left
+  pub each : EachSays form [] front meanings
+  pub numbered : number ≡ length front
+  pub good : IsRead meanings read
+
+said_here : (form : Form) (meanings : List Line) (read : SoFar) (line text : List ℕ) (answer : Result Line Word)
+    → IsRead meanings read → line ≡ strip_carriage_return text → line_said form (known read) line ≡ answer → said form meanings (strip_carriage_return text) ≡ answer
+said_here form meanings read line text answer r e h =
+    subst (λ (above : Above). line_said form above (strip_carriage_return text) ≡ answer) r.above (subst (λ (l : List ℕ). line_said form (known read) l ≡ answer) e h)
+
+onward : (all front left after : List (List ℕ)) (text : List ℕ) → all ≡ front ++ to_come left → left ≡ text ∷ after
+    → all ≡ front ++ strip_carriage_return text ∷ to_come after
+onward all front left after text split e = split ∙ ap (λ (ls : List (List ℕ)). front ++ to_come ls) e
+
+pub next_line : (form : Form) (all front left after : List (List ℕ)) (meanings : List Line) (line text : List ℕ) (meaning : Line) (number : ℕ) (read new : SoFar)
+    → IsPartway form all front left meanings number read → left ≡ text ∷ after → line ≡ strip_carriage_return text
+    → line_said form (known read) line ≡ Ok meaning → IsRead (meanings ++ meaning ∷ []) new
+    → IsPartway form all (front ++ strip_carriage_return text ∷ []) after (meanings ++ meaning ∷ []) (number + 1) new
+next_line form all front left after meanings line text meaning number read new h e cut is good = record {
+  split = onward all front left after text h.split e ∙ sym (append_assoc front (strip_carriage_return text ∷ []) (to_come after));
+  each = each_more form [] front meanings (strip_carriage_return text) meaning h.each (said_here form meanings read line text (Ok meaning) h.good cut is);
+  numbered = ap (λ k. k + 1) h.numbered ∙ sym (length-append front (strip_carriage_return text ∷ []));
+  good = good;
+}
+
+pub first_bad : (form : Form) (all front left after : List (List ℕ)) (meanings : List Line) (line text : List ℕ) (w : Word) (number : ℕ) (read : SoFar)
+    → IsPartway form all front left meanings number read → left ≡ text ∷ after → line ≡ strip_carriage_return text
+    → line_said form (known read) line ≡ Err w → IsFirstBad form all (number + 1) w
+first_bad form all front left after meanings line text w number read h e cut is = record {
+  before = front;
+  line = strip_carriage_return text;
+  after = to_come after;
+  there = onward all front left after text h.split e;
+  meanings = meanings;
+  each = h.each;
+  wrong = said_here form meanings read line text (Err w) h.good cut is;
+  place = ap (λ k. k + 1) h.numbered;
+}
+
+pub all_read : (all front left : List (List ℕ)) → all ≡ front ++ to_come left → left ≡ [] → front ≡ all
+all_read all front left split e = sym (split ∙ ap (λ (ls : List (List ℕ)). front ++ to_come ls) e ∙ append-nil front)

@@ -1,0 +1,6 @@
+use Rattle.std.proofs.Common.{arith}
+use Rattle.script.proofs.Cutting.{at_first}
+use Rattle.script.proofs.fields.at_colon.Goals as goal
+
+pub returns : goal.returns
+returns c = at_first 58 c.args.text.now c.split_once.result c.split_once.ensures.cases (omega arith)

@@ -1,0 +1,18 @@
+use Rattle.std.proofs.Common.{refl}
+use Rattle.script.proofs.Reading.{read_skip, read_clock, read_customer, read_command}
+use Rattle.script.proofs.scripts.SoFar.add.Goals as goal
+
+pub returns-in-Skip : goal.returns-in-Skip
+returns-in-Skip c = λ lines r. rw c.in-Skip.is (read_skip lines c.args.self.now r)
+
+pub returns-in-Clock : goal.returns-in-Clock
+returns-in-Clock c = λ lines r. rw c.in-Clock.is (read_clock lines c.args.self.now c.in-Clock.start c.in-Clock.step r (rw c.in-Clock.is at c.requires))
+
+pub returns-in_ok-push-in-Command : goal.returns-in_ok-push-in-Command
+returns-in_ok-push-in-Command c = λ lines r. rw c.in-Command.is (read_command lines c.args.self.now c.in-Command.ask c.push.new.self r (rw c.in-Command.is at c.requires) c.in_ok-push-in-Command.ensures.items)
+
+pub returns-in_ok-add-in-Customer : goal.returns-in_ok-add-in-Customer
+returns-in_ok-add-in-Customer c = λ lines r.
+    let old = c.args.self.now in
+    rw c.in-Customer.is (read_customer lines old (record old { customers = c.add.new.self }) c.in-Customer.key c.in-Customer.party r (rw c.in-Customer.is at c.requires)
+    refl refl c.in_ok-add-in-Customer.ensures.count c.in_ok-add-in-Customer.ensures.found)

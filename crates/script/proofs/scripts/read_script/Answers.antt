@@ -1,0 +1,57 @@
+use Rattle.std.proofs.Common.{◌∙◌, ◌++◌, ◌∷◌, ◌≤◌, refl, sym, ap, subst, arith, length, List, ℕ, [], ◌==◌}
+use Rattle.std.proofs.lemmas.List.Splits.{length-slice_split}
+use Rattle.std.proofs.lemmas.List.Sums.{count_by-le-length}
+use Rattle.std.specs.Str.Lines.{strip_carriage_return}
+use Rattle.script.specs.Cuts.{lines_of}
+use Rattle.script.specs.Kept.{known}
+use Rattle.script.specs.Lines.{Above}
+use Rattle.script.specs.Script.{EachSays}
+use Rattle.script.proofs.Reading.{to_come, said_is_new, next_line, all_read}
+use Rattle.script.proofs.scripts.read_script.Goals as goal
+
+pub loop-text-init : goal.loop-text-init
+loop-text-init c =
+    let parts = length-slice_split (λ b. b == 10) c.args.bytes.now in
+    let cuts = count_by-le-length (λ b. b == 10) c.args.bytes.now in
+    let few : length c.of-lines.result ≤ 4_294_967_295 = rw c.of-lines.ensures (omega (arith, parts, cuts, c.requires)) in
+    record {
+      front = [];
+      meanings = [];
+      partway = record {
+        split = ap to_come (sym c.of-lines.ensures);
+        each = tt;
+        numbered = refl;
+        good = c.nothing-read.ensures;
+      };
+      size = omega (arith, few);
+    }
+
+pub add-requires : goal.add-requires
+add-requires c = said_is_new c.args.form (known c.loop-text.read) c.without_return.result.now c.in-Ok.line c.in-Ok.ensures
+
+pub loop-text-preserved : goal.loop-text-preserved
+loop-text-preserved c =
+    let inv = c.loop-text.invariant in
+    record {
+      front = inv.front ++ strip_carriage_return c.in-Some.text.now ∷ [];
+      meanings = inv.meanings ++ c.in-Ok.line ∷ [];
+      partway = next_line c.args.form (lines_of c.args.bytes.now) inv.front c.loop-text.lines c.next.new.self inv.meanings c.without_return.result.now c.in-Some.text.now
+          c.in-Ok.line c.loop-text.number c.loop-text.read c.add.new.self inv.partway c.in-Some.ensures c.without_return.ensures c.in-Ok.ensures
+          (c.in_ok-add-in-Ok.ensures inv.meanings inv.partway.good);
+      size = let fewer = ap length c.in-Some.ensures in omega (arith, inv.size, fewer);
+    }
+
+pub returns-clause-script : goal.returns-clause-script
+returns-clause-script c =
+    let inv = c.loop-text.invariant in
+    record {
+      meanings = inv.meanings;
+      each = subst (λ (lines : List (List ℕ)). EachSays c.args.form [] lines inv.meanings)
+          (all_read (lines_of c.args.bytes.now) inv.front c.loop-text.lines inv.partway.split c.in_default.ensures) inv.partway.each;
+      clock = ap (λ (above : Above). above.clock) inv.partway.good.above;
+      asks = c.of.ensures ∙ inv.partway.good.asks;
+      plan = c.plain.ensures;
+    }
+
+pub returns-clause-few : goal.returns-clause-few
+returns-clause-few c = rw c.of.ensures c.loop-text.invariant.partway.good.few

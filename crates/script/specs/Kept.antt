@@ -1,0 +1,50 @@
+-- What readers answer, and what is kept of the lines above.
+use Rattle.std.specs.Prelude.{◌≡◌, ◌≤◌, ◌<◌, ℕ, List, length, filter_map, Option, None, Result, Ok, Err}
+use Rattle.std.specs.BTreeMap.{btree_map_len, get_by_text}
+use Rattle.ports.specs.declared.faults.NoMemory.{NoMemory as NoRoom}
+use Rattle.parties.specs.declared.name.Party.{Party}
+use Rattle.shop_core.specs.declared.words.Word.{Word}
+use Rattle.script.specs.Lines.{Above, above_of, ask_in}
+use Rattle.script.specs.declared.customers.Customers.{Customers}
+use Rattle.script.specs.declared.faults.Fault.{Fault}
+use Rattle.script.specs.declared.faults.Fault.TheVariants.{Bad, NoMemory}
+use Rattle.script.specs.declared.lines.Line.{Line}
+use Rattle.script.specs.declared.lines.Line.TheVariants as line
+use Rattle.script.specs.declared.scripts.SoFar.{SoFar}
+
+-- a reader answers what the definition says; want of memory is free
+abbrev pub Answers : {A : Type 0} → Result A Word → Result A Fault → Type 0
+Answers said (Ok x) = said ≡ Ok x
+Answers said (Err (Bad word)) = said ≡ Err word
+Answers said (Err NoMemory) = Unit {0}
+
+-- the customer with a key
+abbrev pub party_of : Customers → List ℕ → Option Party
+party_of customers key = get_by_text customers.by_key key
+
+-- what is known of the lines above
+abbrev pub known : SoFar → Above
+known read = record {
+  clock = read.clock;
+  commands = length read.asks.items;
+  customers = btree_map_len read.customers.by_key;
+  party = party_of read.customers;
+}
+
+-- these meanings were read
+pub record IsRead (meanings : List Line) (read : SoFar) : Type 0 where
+  pub above : known read ≡ above_of meanings
+  pub asks : read.asks.items ≡ filter_map ask_in meanings
+  pub few : length read.asks.items ≤ 100_000
+
+-- they were read, unless there was no memory
+abbrev pub Reads : List Line → SoFar → Result (Unit {0}) NoRoom → Type 0
+Reads meanings read (Ok _) = IsRead meanings read
+Reads meanings read (Err _) = Unit {0}
+
+-- a clock and the key of a customer stand nowhere above, and there is room for a command
+abbrev pub IsNew : Above → Line → Type 0
+IsNew above line.Skip = Unit {0}
+IsNew above (line.Clock start step) = above.clock ≡ None
+IsNew above (line.Customer key party) = above.party key ≡ None
+IsNew above (line.Command ask) = above.commands < 100_000

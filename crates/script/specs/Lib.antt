@@ -1,0 +1,9 @@
+pub mod Cuts
+pub mod Numbers
+pub mod Fields
+pub mod Readings
+pub mod Items
+pub mod Lines
+pub mod Script
+pub mod Kept
+pub mod Gathered

@@ -1,0 +1,157 @@
+-- What a line of a script says, after the lines before it. The grammar is this project's own.
+use Rattle.std.specs.Prelude.{ℕ, List, [], ◌∷◌, length, map, codes, bytes_eq, count_by, Bool, true, false, not, ◌||◌, ◌==◌, nat_le, slice_index, if◌then◌else◌, is_some, Option, Some, None, Result, Ok, Err}
+use Rattle.std.specs.List.{join_with_byte}
+use Rattle.std.specs.Option.{ok_or}
+use Rattle.std.specs.Str.{is_utf8}
+use Rattle.invoice_kinds.specs.declared.kind.Kind.{Kind}
+use Rattle.parties.specs.declared.name.Party.{Party}
+use Rattle.record_fields.specs.Picks.{first_of, when}
+use Rattle.record_fields.specs.declared.drafts.Draft.{Draft}
+use Rattle.series.specs.Numbers.{is_series, is_num_serie}
+use Rattle.shop_core.specs.Asked.{Asked}
+use Rattle.shop_core.specs.declared.requests.Request.{Request}
+use Rattle.shop_core.specs.declared.requests.Request.TheVariants.{Sale, Fix, Cancel}
+use Rattle.shop_core.specs.declared.words.Word.{Word}
+use Rattle.shop_core.specs.declared.words.Word.TheVariants as word
+use Rattle.script.specs.Cuts.{parts_of}
+use Rattle.script.specs.Fields.{and_then, unless_any, such, past, field_at, ends_at}
+use Rattle.script.specs.Items.{draft_said}
+use Rattle.script.specs.Numbers.{number_in}
+use Rattle.script.specs.Readings.{kind_of, is_key, is_nif, is_name}
+use Rattle.script.specs.declared.forms.Form.{Form}
+use Rattle.script.specs.declared.forms.Form.TheVariants.{Full, NoCommands}
+use Rattle.script.specs.declared.requests.Command.{Command}
+use Rattle.script.specs.declared.requests.Command.TheVariants as command
+use Rattle.script.specs.declared.lines.Line.{Line}
+use Rattle.script.specs.declared.lines.Line.TheVariants as line
+
+-- commands may stand in the script
+abbrev pub has_commands : Form → Bool
+has_commands Full = true
+has_commands NoCommands = false
+
+abbrev pub clock_in : Line → Option (ℕ × ℕ)
+clock_in line.Skip = None
+clock_in (line.Clock start step) = Some (start, step)
+clock_in (line.Customer key party) = None
+clock_in (line.Command ask) = None
+
+abbrev pub ask_in : Line → Option Asked
+ask_in line.Skip = None
+ask_in (line.Clock start step) = None
+ask_in (line.Customer key party) = None
+ask_in (line.Command ask) = Some ask
+
+-- the customer with this key
+abbrev pub party_in : List ℕ → Line → Option Party
+party_in key line.Skip = None
+party_in key (line.Clock start step) = None
+party_in key (line.Customer own party) = when (bytes_eq own key) party
+party_in key (line.Command ask) = None
+
+abbrev pub is_command : Line → Bool
+is_command said = is_some (ask_in said)
+
+abbrev pub is_customer : Line → Bool
+is_customer line.Skip = false
+is_customer (line.Clock start step) = false
+is_customer (line.Customer key party) = true
+is_customer (line.Command ask) = false
+
+-- what a line looks at of those above: a clock, how many commands and customers, and the customer with a key
+pub record Above : Type 0 where
+  pub clock : Option (ℕ × ℕ)
+  pub commands : ℕ
+  pub customers : ℕ
+  pub party : List ℕ → Option Party
+
+abbrev pub above_of : List Line → Above
+above_of before = record {
+  clock = first_of (map clock_in before);
+  commands = count_by is_command before;
+  customers = count_by is_customer before;
+  party = λ key. first_of (map (party_in key) before);
+}
+
+-- `clock START STEP`, behind its first field
+abbrev pub clock_said : Above → List (List ℕ) → Result Line Word
+clock_said above fields =
+    and_then (field_at 0 fields (number_in 0 1_000_000_000_000) word.Number) (λ (start : ℕ).
+    and_then (field_at 1 fields (number_in 0 1_000_000) word.Number) (λ (step : ℕ).
+    ends_at 2 fields (unless_any (when (is_some above.clock) word.Twice ∷ []) (Ok (line.Clock start step)))))
+
+-- the name of a party is the rest of its line
+abbrev pub name_said : List (List ℕ) → Result (List ℕ) Word
+name_said [] = Err word.Fields
+name_said (field ∷ fields) = ok_or (such is_name (join_with_byte 32 (field ∷ fields))) word.Name
+
+-- `customer KEY NIF NAME`
+abbrev pub customer_said : Above → List (List ℕ) → Result Line Word
+customer_said above fields =
+    unless_any (when (nat_le 10_000 above.customers) word.TooMany ∷ []) (
+    and_then (field_at 0 fields (such is_key) word.Customer) (λ (key : List ℕ).
+    and_then (field_at 1 fields (such is_nif) word.Nif) (λ (nif : List ℕ).
+    and_then (name_said (past 2 fields)) (λ (name : List ℕ).
+    unless_any (when (is_some (above.party key)) word.Twice ∷ []) (Ok (line.Customer key (record { nif = nif; name = name })))))))
+
+-- `SERIES KIND OPTION.. LINE..`
+abbrev pub sale_said : (List ℕ → Option Party) → List (List ℕ) → Result Request Word
+sale_said party_of fields =
+    and_then (field_at 0 fields (such is_series) word.Series) (λ (series : List ℕ).
+    and_then (field_at 1 fields kind_of word.Kind) (λ (kind : Kind).
+    and_then (draft_said party_of kind (past 2 fields)) (λ (draft : Draft). Ok (Sale series draft))))
+
+-- `NUM KIND OPTION.. LINE..`
+abbrev pub fix_said : (List ℕ → Option Party) → List (List ℕ) → Result Request Word
+fix_said party_of fields =
+    and_then (field_at 0 fields (such is_num_serie) word.Num) (λ (num : List ℕ).
+    and_then (field_at 1 fields kind_of word.Kind) (λ (kind : Kind).
+    and_then (draft_said party_of kind (past 2 fields)) (λ (draft : Draft). Ok (Fix num draft))))
+
+-- `NUM`
+abbrev pub cancel_said : List (List ℕ) → Result Request Word
+cancel_said fields =
+    and_then (field_at 0 fields (such is_num_serie) word.Num) (λ (num : List ℕ). ends_at 1 fields (Ok (Cancel num)))
+
+-- what a command asks for
+abbrev pub request_said : Command → (List ℕ → Option Party) → List (List ℕ) → Result Request Word
+request_said command.Sale party_of fields = sale_said party_of fields
+request_said command.Fix party_of fields = fix_said party_of fields
+request_said command.Cancel party_of fields = cancel_said fields
+
+-- a command, `TILL SERIAL` and then what it asks for
+abbrev pub command_said : Form → Above → Command → List (List ℕ) → Result Line Word
+command_said form above command fields =
+    unless_any (when (not (has_commands form)) word.Command ∷ when (nat_le 100_000 above.commands) word.TooMany ∷ []) (
+    and_then (field_at 0 fields (number_in 1 64) word.Till) (λ (till : ℕ).
+    and_then (field_at 1 fields (number_in 1 4_294_967_295) word.Number) (λ (serial : ℕ).
+    and_then (request_said command above.party (past 2 fields)) (λ (request : Request).
+    Ok (line.Command (record { till = till; serial = serial; request = request }))))))
+
+-- the form that a first field begins
+abbrev pub form_said : Form → Above → List ℕ → List (List ℕ) → Result Line Word
+form_said form above verb fields =
+    if bytes_eq verb (codes "clock") then clock_said above fields
+    else if bytes_eq verb (codes "customer") then customer_said above fields
+    else if bytes_eq verb (codes "sale") then command_said form above command.Sale fields
+    else if bytes_eq verb (codes "fix") then command_said form above command.Fix fields
+    else if bytes_eq verb (codes "cancel") then command_said form above command.Cancel fields
+    else Err word.Verb
+
+abbrev pub fields_said : Form → Above → List (List ℕ) → Result Line Word
+fields_said form above [] = Err word.Verb
+fields_said form above (verb ∷ fields) = form_said form above verb fields
+
+-- an empty line and one that begins with # say nothing
+abbrev pub is_skipped : List ℕ → Bool
+is_skipped text = (length text == 0) || (slice_index text 0 == 35)
+
+-- what a line says below these; its fields are cut at each blank
+abbrev pub line_said : Form → Above → List ℕ → Result Line Word
+line_said form above text =
+    if is_skipped text then Ok line.Skip
+    else unless_any (when (not (is_utf8 text)) word.Utf8 ∷ []) (fields_said form above (parts_of 32 text))
+
+-- what a line says after the lines before it
+abbrev pub said : Form → List Line → List ℕ → Result Line Word
+said form before text = line_said form (above_of before) text

@@ -1,0 +1,72 @@
+-- What single fields are read as.
+use Rattle.std.specs.Prelude.{ℕ, ◌-◌, List, [], ◌∷◌, length, map, Bool, not, ◌&&◌, ◌||◌, nat_le, ◌==◌, slice_index, codes, bytes_eq, is_some, position, Option}
+use Rattle.std.specs.Char.{is_ascii_alphanumeric}
+use Rattle.std.specs.List.{list_all, range_with_len}
+use Rattle.invoice_kinds.specs.Kinds.{kind_text}
+use Rattle.invoice_kinds.specs.declared.kind.Kind.{Kind}
+use Rattle.invoice_kinds.specs.declared.kind.Kind.TheVariants.{F1, F2, F3, R1, R2, R3, R4, R5}
+use Rattle.invoice_kinds.specs.declared.kind.RectKind.{RectKind}
+use Rattle.invoice_kinds.specs.declared.kind.RectKind.TheVariants.{S, I}
+use Rattle.parties.specs.Nif.{is_person, is_entity, is_controlled}
+use Rattle.parties.specs.NameForm.{is_control}
+use Rattle.record_fields.specs.Picks.{first_of, when}
+use Rattle.stamps.specs.Text.{date_text_of}
+use Rattle.tax_lines.specs.Breakdown.{is_past}
+use Rattle.tax_lines.specs.Classes.{key_text}
+use Rattle.tax_lines.specs.declared.classes.LineKey.{LineKey}
+use Rattle.tax_lines.specs.declared.classes.LineKey.TheVariants.{General, Reduced, SuperReduced, Zero, GeneralSurcharge, ReducedSurcharge, SuperReducedSurcharge, S2, N1, N2, E1, E2, E3, E4, E5, E6}
+use Rattle.tax_lines.specs.declared.lines.TaxLine.{TaxLine}
+
+-- the first of all whose text this is
+abbrev pub named : {A : Type 0} → (A → List ℕ) → List A → List ℕ → Option A
+named text_of all text = first_of (map (λ x. when (bytes_eq text (text_of x)) x) all)
+
+abbrev pub kinds : List Kind
+kinds = F1 ∷ F2 ∷ F3 ∷ R1 ∷ R2 ∷ R3 ∷ R4 ∷ R5 ∷ []
+
+-- the kind of an invoice with this code
+unfoldable pub kind_of : List ℕ → Option Kind
+kind_of text = named kind_text kinds text
+
+abbrev pub classes : List LineKey
+classes =
+    General ∷ Reduced ∷ SuperReduced ∷ Zero ∷ GeneralSurcharge ∷ ReducedSurcharge ∷ SuperReducedSurcharge
+    ∷ S2 ∷ N1 ∷ N2 ∷ E1 ∷ E2 ∷ E3 ∷ E4 ∷ E5 ∷ E6 ∷ []
+
+-- the class of a line with this word
+unfoldable pub class_of : List ℕ → Option LineKey
+class_of text = named key_text classes text
+
+abbrev pub rect_text : RectKind → List ℕ
+rect_text S = codes "S"
+rect_text I = codes "I"
+
+-- how a rectifying invoice rectifies
+abbrev pub rect_of : List ℕ → Option RectKind
+rect_of text = named rect_text (S ∷ I ∷ []) text
+
+-- the first days from 01-01-1970 on
+unfoldable pub first_days : ℕ → List ℕ
+first_days n = range_with_len 0 n
+
+-- the day that is written `DD-MM-YYYY`, of the 47,847 from 01-01-1970 to 31-12-2100
+unfoldable pub day_of : List ℕ → Option ℕ
+day_of text = named date_text_of (first_days 47_847) text
+
+-- the key of a customer: 1 to 20 letters or digits of ASCII
+abbrev pub is_key : List ℕ → Bool
+is_key text = nat_le 1 (length text) && nat_le (length text) 20 && list_all is_ascii_alphanumeric text
+
+-- a tax number
+unfoldable pub is_nif : List ℕ → Bool
+is_nif text = (length text == 9) && (is_person text || is_entity text) && is_controlled text
+
+-- the name of a party: 1 to 120 bytes without control characters, and no blank at either end
+unfoldable pub is_name : List ℕ → Bool
+is_name text =
+    nat_le 1 (length text) && nat_le (length text) 120 && not (is_some (position is_control text))
+    && not ((slice_index text 0 == 32) || (slice_index text (length text - 1) == 32))
+
+-- the lines of an invoice: 1 to 12, and no base past 99,999,999.99
+unfoldable pub is_breakdown : List TaxLine → Bool
+is_breakdown lines = nat_le 1 (length lines) && nat_le (length lines) 12 && not (is_some (position is_past lines))

@@ -1,0 +1,45 @@
+-- A script: what its lines say, or the first line that says nothing.
+use Rattle.std.specs.Prelude.{◌≡◌, ℕ, ◌+◌, List, [], ◌∷◌, ◌++◌, length, map, filter_map, Result, Ok, Err}
+use Rattle.agency_rules.specs.Plans.{plain}
+use Rattle.record_fields.specs.Picks.{first_of}
+use Rattle.shop_core.specs.declared.words.Word.{Word}
+use Rattle.script.specs.Cuts.{lines_of}
+use Rattle.script.specs.Lines.{said, clock_in, ask_in}
+use Rattle.script.specs.declared.forms.Form.{Form}
+use Rattle.script.specs.declared.lines.Line.{Line}
+use Rattle.script.specs.declared.scripts.Script.{Script}
+use Rattle.script.specs.declared.scripts.ScriptFault.{ScriptFault}
+use Rattle.script.specs.declared.scripts.ScriptFault.TheVariants.{BadLine, NoMemory}
+
+-- each of these lines says its meaning, after those before it
+abbrev pub EachSays : Form → List Line → List (List ℕ) → List Line → Type 0
+EachSays form before [] [] = Unit {0}
+EachSays form before [] (meaning ∷ meanings) = ⊥
+EachSays form before (line ∷ lines) [] = ⊥
+EachSays form before (line ∷ lines) (meaning ∷ meanings) =
+    (said form before line ≡ Ok meaning) × EachSays form (before ++ meaning ∷ []) lines meanings
+
+-- every line says something; the clock is that of the line that says one, the asks are those of the lines, in order
+pub record IsWhole (form : Form) (lines : List (List ℕ)) (script : Script) : Type 0 where
+  pub meanings : List Line
+  pub each : EachSays form [] lines meanings
+  pub clock : script.clock ≡ first_of (map clock_in meanings)
+  pub asks : script.asks ≡ filter_map ask_in meanings
+  pub plan : script.plan ≡ plain
+
+-- the first line that says nothing, by its number from 1, and its word
+pub record IsFirstBad (form : Form) (lines : List (List ℕ)) (number : ℕ) (word : Word) : Type 0 where
+  pub before : List (List ℕ)
+  pub line : List ℕ
+  pub after : List (List ℕ)
+  pub there : lines ≡ before ++ line ∷ after
+  pub meanings : List Line
+  pub each : EachSays form [] before meanings
+  pub wrong : said form meanings line ≡ Err word
+  pub place : number ≡ length before + 1
+
+-- the script of these bytes, its first bad line, or want of memory
+abbrev pub IsScript : Form → List ℕ → Result Script ScriptFault → Type 0
+IsScript form bytes (Ok script) = IsWhole form (lines_of bytes) script
+IsScript form bytes (Err (BadLine number word)) = IsFirstBad form (lines_of bytes) number word
+IsScript form bytes (Err NoMemory) = Unit {0}

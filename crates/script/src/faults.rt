@@ -1,0 +1,35 @@
+// Why a line, or a part of it, says nothing.
+
+use ports::NoMemory;
+use shop_core::Word;
+
+/// Why a line, or a part of it, says nothing.
+#[derive(Clone, Copy, Drop)]
+pub enum Fault {
+    /// What is wrong in it.
+    Bad(Word),
+    /// There was no memory for what it says.
+    NoMemory,
+}
+
+impl From<Word> for Fault {
+    ghost use Rattle.std.specs.Prelude.{◌≡◌};
+    ghost use Rattle.script.specs.declared.faults.Fault.TheVariants as fault;
+
+    ghost from_gives = { λ word e. e ≡ fault.Bad word };
+
+    fn from(word: Word) -> Self {
+        Fault::Bad(word)
+    }
+}
+
+impl From<NoMemory> for Fault {
+    ghost use Rattle.std.specs.Prelude.{◌≡◌};
+    ghost use Rattle.script.specs.declared.faults.Fault.TheVariants as fault;
+
+    ghost from_gives = { λ _ e. e ≡ fault.NoMemory };
+
+    fn from(_: NoMemory) -> Self {
+        Fault::NoMemory
+    }
+}

@@ -1,0 +1,111 @@
+// The fields of a line, one after another.
+ghost use Rattle.std.specs.Prelude.{◌≡◌, ◌==◌, [], ◌∷◌, drop, true, MatchOption, MatchResult};
+ghost use Rattle.std.specs.List.{join_with_byte};
+ghost use Rattle.shop_core.specs.declared.words.Word.TheVariants as word;
+ghost use Rattle.script.specs.Cuts.{parts_of, parts_left, cut_at_first, cut_at_last};
+ghost use Rattle.script.specs.Fields.{is_left, unless_any};
+ghost use Rattle.record_fields.specs.Picks.{when};
+
+use shop_core::Word;
+use std::marker::Model;
+
+/// The fields of a line, between its blanks. Contracts see the list of those that are still to come.
+#[derive(Drop)]
+pub struct Fields<'a> {
+    rest: Option<&'a str>,
+}
+
+impl<'a> Model for Fields<'a> {
+    ghost use Rattle.std.specs.Prelude.{ℕ, List};
+    ghost use Rattle.script.specs.Cuts.{parts_left};
+
+    ghost Value = { List (List ℕ) };
+
+    ghost view = { λ f. parts_left 32 f.rest };
+}
+
+impl<'a> Fields<'a> {
+    pub fn of(line: &'a str) -> Fields<'a>
+        ensures { result ≡ parts_of 32 line.now }
+    {
+        Fields { rest: Some(line) }
+    }
+
+    /// The next field, where there is one.
+    pub fn next(&mut self) -> Option<&'a str>
+        ensures { MatchOption result (self.old ≡ []) (λ field. self.old ≡ field.now ∷ self.new) }
+    {
+        match self.rest {
+            None => None,
+            Some(text) => {
+                let (field, rest) = first_field(text);
+                self.rest = rest;
+                Some(field)
+            }
+        }
+    }
+
+    /// What is left of the line, blanks included, where something is.
+    pub fn rest(&mut self) -> Option<&'a str>
+        ensures { MatchOption result (self.old ≡ []) (λ text. (text.now ≡ join_with_byte 32 self.old) × (is_left self.old ≡ true)) }
+    {
+        self.rest
+    }
+
+    /// The next field, which is `Fields` where it is missing.
+    pub fn field(&mut self) -> Result<&'a str, Word>
+        ensures { MatchResult result (λ field. self.old ≡ field.now ∷ self.new) (λ w. (self.old ≡ []) × (w ≡ word.Fields)) }
+    {
+        match self.next() {
+            Some(field) => Ok(field),
+            None => Err(Word::Fields),
+        }
+    }
+
+    /// No field is left.
+    pub fn end(&mut self) -> Result<(), Word>
+        ensures { result ≡ unless_any (when (is_left self.old) word.Fields ∷ []) (Ok tt) }
+    {
+        match self.next() {
+            Some(_) => Err(Word::Fields),
+            None => Ok(()),
+        }
+    }
+}
+
+fn at_blank(text: &str) -> Option<(&str, &str)>
+    ensures { MatchOption result (cut_at_first 32 text.now ≡ None) (λ cut. cut_at_first 32 text.now ≡ Some (cut.0.now, cut.1.now)) }
+{
+    text.split_once(' ')
+}
+
+// The field before the first blank, and what is left behind it, where there is a blank.
+fn first_field(text: &str) -> (&str, Option<&str>)
+    ensures { parts_of 32 text.now ≡ result.0.now ∷ parts_left 32 result.1 }
+{
+    match at_blank(text) {
+        Some((field, rest)) => (field, Some(rest)),
+        None => (text, None),
+    }
+}
+
+/// What stands before the first place of `=` and after it.
+pub fn at_equals(text: &str) -> Option<(&str, &str)>
+    ensures { MatchOption result (cut_at_first 61 text.now ≡ None) (λ cut. cut_at_first 61 text.now ≡ Some (cut.0.now, cut.1.now)) }
+{
+    text.split_once('=')
+}
+
+/// What stands before the first place of `:` and after it.
+pub fn at_colon(text: &str) -> Option<(&str, &str)>
+    ensures { MatchOption result (cut_at_first 58 text.now ≡ None) (λ cut. cut_at_first 58 text.now ≡ Some (cut.0.now, cut.1.now)) }
+{
+    text.split_once(':')
+}
+
+/// What stands before the last place of `@` and after it.
+pub fn at_sign(text: &str) -> Option<(&str, &str)>
+    ensures { MatchOption result (cut_at_last 64 text.now ≡ None) (λ cut. cut_at_last 64 text.now ≡ Some (cut.0.now, cut.1.now)) }
+{
+    text.rsplit_once('@')
+}

@@ -1,0 +1,179 @@
+// The options and the lines of an invoice, field by field.
+ghost use Rattle.std.specs.Prelude.{◌≡◌, ◌∷◌, ◌++◌, [], ℕ, List, bytes_eq};
+ghost use Rattle.script.specs.Items as spec;
+ghost use Rattle.script.specs.Kept.{Answers, party_of};
+
+use crate::customers::Customers;
+use crate::faults::Fault;
+use crate::fields::{at_colon, at_equals, at_sign};
+use crate::numbers::cents_of;
+use crate::readings::{class_of, day_of, rect_of};
+use amounts::Cents;
+use invoice_kinds::RectKind;
+use parties::Party;
+use series::{InvoiceId, NumSerie};
+use shop_core::Word;
+use std::alloc::Global;
+use tax_lines::TaxLine;
+
+/// What a field past the kind of an invoice says.
+#[derive(Drop)]
+pub enum Item {
+    /// The customer that it names.
+    To(Party),
+    /// How the invoice rectifies.
+    Rect(RectKind),
+    /// An invoice that it refers to.
+    Ref(InvoiceId),
+    /// A line.
+    Line(TaxLine),
+}
+
+/// What stands among the fields before.
+#[derive(Clone, Copy, Drop)]
+pub struct Seen {
+    pub to: bool,
+    pub rect: bool,
+    pub line: bool,
+}
+
+impl Seen {
+    /// Nothing.
+    pub fn nothing() -> Seen
+        ensures { result ≡ spec.seen_in [] }
+    {
+        Seen {
+            to: false,
+            rect: false,
+            line: false,
+        }
+    }
+
+    /// What stands among them with this field.
+    pub fn with(self, field: &str) -> Seen
+        ensures { (before : List (List ℕ)) → self ≡ spec.seen_in before → result ≡ spec.seen_in (before ++ field.now ∷ []) }
+    {
+        match at_equals(field) {
+            Some((name, _)) => Seen {
+                to: self.to || is_word(name, "to"),
+                rect: self.rect || is_word(name, "rect"),
+                line: self.line,
+            },
+            None => Seen {
+                to: self.to,
+                rect: self.rect,
+                line: true,
+            },
+        }
+    }
+}
+
+/// The text is this word.
+pub fn is_word(text: &str, word: &str) -> bool
+    ensures { result ≡ bytes_eq text.now word.now }
+{
+    text == word
+}
+
+fn to_of(alloc: Global, customers: &Customers, seen: Seen, value: &str) -> Result<Item, Fault>
+    ensures { Answers (spec.to_said (party_of customers.now) seen value.now) result }
+{
+    if seen.to {
+        return Err(Fault::Bad(Word::Option));
+    }
+    let Some(party) = customers.get(value) else {
+        return Err(Fault::Bad(Word::Customer));
+    };
+    match party.copied(alloc) {
+        Ok(party) => Ok(Item::To(party)),
+        Err(_) => Err(Fault::NoMemory),
+    }
+}
+
+fn rect_item(seen: Seen, value: &str) -> Result<Item, Word>
+    ensures { result ≡ spec.rect_said seen value.now }
+{
+    if seen.rect {
+        return Err(Word::Option);
+    }
+    match rect_of(value) {
+        Some(rect) => Ok(Item::Rect(rect)),
+        None => Err(Word::Option),
+    }
+}
+
+fn ref_item(value: &str) -> Result<Item, Word>
+    ensures { result ≡ spec.ref_said value.now }
+{
+    let Some((num, day)) = at_sign(value) else {
+        return Err(Word::Option);
+    };
+    let Some(num) = NumSerie::read(num) else {
+        return Err(Word::Num);
+    };
+    let Some(day) = day_of(day) else {
+        return Err(Word::Date);
+    };
+    Ok(Item::Ref(InvoiceId { num, day }))
+}
+
+fn line_item(field: &str) -> Result<Item, Word>
+    ensures { result ≡ spec.line_said field.now }
+{
+    let Some((class, base)) = at_colon(field) else {
+        return Err(Word::Class);
+    };
+    let Some(key) = class_of(class) else {
+        return Err(Word::Class);
+    };
+    let Some(base) = cents_of(base.as_bytes()) else {
+        return Err(Word::Number);
+    };
+    Ok(Item::Line(TaxLine {
+        key,
+        base: Cents::of(base),
+    }))
+}
+
+fn option_item(
+    alloc: Global,
+    customers: &Customers,
+    seen: Seen,
+    name: &str,
+    value: &str,
+) -> Result<Item, Fault>
+    ensures { Answers (spec.option_said (party_of customers.now) seen name.now value.now) result }
+{
+    if seen.line {
+        return Err(Fault::Bad(Word::Option));
+    }
+    if is_word(name, "to") {
+        return to_of(alloc, customers, seen, value);
+    }
+    if is_word(name, "rect") {
+        return worded(rect_item(seen, value));
+    }
+    if is_word(name, "ref") {
+        return worded(ref_item(value));
+    }
+    Err(Fault::Bad(Word::Option))
+}
+
+fn worded(item: Result<Item, Word>) -> Result<Item, Fault>
+    ensures { Answers item result }
+{
+    match item {
+        Ok(item) => Ok(item),
+        Err(word) => Err(Fault::Bad(word)),
+    }
+}
+
+/// What a field says after those in which that was seen.
+pub fn said_by(alloc: Global, customers: &Customers, seen: Seen, field: &str) -> Result<Item, Fault>
+    ensures { Answers (spec.item_said (party_of customers.now) seen field.now) result }
+{
+    match at_equals(field) {
+        Some((name, value)) => option_item(alloc, customers, seen, name, value),
+        None => worded(line_item(field)),
+    }
+}

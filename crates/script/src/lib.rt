@@ -1,0 +1,22 @@
+//! The script: bytes, cut into lines, that say what a run of the shop is to do.
+#![tactic(auto)]
+
+mod customers;
+mod cuts;
+mod drafts;
+mod faults;
+mod fields;
+mod forms;
+mod items;
+mod keys;
+mod lines;
+mod numbers;
+mod readings;
+mod requests;
+mod saying;
+mod scripts;
+#[cfg(test)]
+mod tests;
+
+pub use forms::Form;
+pub use scripts::{Asks, Script, ScriptFault, read_script};

@@ -1,0 +1,18 @@
+// What a line of a script says.
+
+use crate::keys::Key;
+use parties::Party;
+use shop_core::Ask;
+
+/// What a line says.
+#[derive(Drop)]
+pub enum Line {
+    /// Nothing: it is empty, or begins with `#`.
+    Skip,
+    /// `clock START STEP`, in seconds.
+    Clock { start: u64, step: u64 },
+    /// `customer KEY NIF NAME`.
+    Customer { key: Key, party: Party },
+    /// `sale`, `fix` or `cancel`.
+    Command(Ask),
+}

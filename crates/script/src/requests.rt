@@ -1,0 +1,68 @@
+// The requests of `sale`, `fix` and `cancel`, past their tills and serials.
+ghost use Rattle.std.specs.Prelude.{◌≡◌};
+ghost use Rattle.script.specs.Kept.{Answers, party_of};
+ghost use Rattle.script.specs.Lines as spec;
+
+use crate::customers::Customers;
+use crate::drafts::draft;
+use crate::faults::Fault;
+use crate::fields::Fields;
+use crate::readings::{kind, num, series};
+use shop_core::{Request, Word};
+use std::alloc::Global;
+
+/// Which command a line is.
+#[derive(Clone, Copy, Drop)]
+pub enum Command {
+    Sale,
+    Fix,
+    Cancel,
+}
+
+// `SERIES KIND OPTION.. LINE..`
+fn sale(alloc: Global, customers: &Customers, fields: &mut Fields) -> Result<Request, Fault>
+    ensures { Answers (spec.sale_said (party_of customers.now) fields.old) result }
+{
+    let series = series(fields)?;
+    let kind = kind(fields)?;
+    let draft = draft(alloc, customers, kind, fields)?;
+    Ok(Request::Sale { series, draft })
+}
+
+// `NUM KIND OPTION.. LINE..`
+fn fix(alloc: Global, customers: &Customers, fields: &mut Fields) -> Result<Request, Fault>
+    ensures { Answers (spec.fix_said (party_of customers.now) fields.old) result }
+{
+    let num = num(fields)?;
+    let kind = kind(fields)?;
+    let draft = draft(alloc, customers, kind, fields)?;
+    Ok(Request::Fix { num, draft })
+}
+
+// `NUM`
+fn cancel(fields: &mut Fields) -> Result<Request, Word>
+    ensures { result ≡ spec.cancel_said fields.old }
+{
+    let num = num(fields)?;
+    fields.end()?;
+    Ok(Request::Cancel { num })
+}
+
+/// What the command asks for.
+pub fn request(
+    alloc: Global,
+    customers: &Customers,
+    command: Command,
+    fields: &mut Fields,
+) -> Result<Request, Fault>
+    ensures { Answers (spec.request_said command (party_of customers.now) fields.old) result }
+{
+    match command {
+        Command::Sale => sale(alloc, customers, fields),
+        Command::Fix => fix(alloc, customers, fields),
+        Command::Cancel => match cancel(fields) {
+            Ok(request) => Ok(request),
+            Err(word) => Err(Fault::Bad(word)),
+        },
+    }
+}

@@ -1,0 +1,145 @@
+// What a line of a script says, below those that were read.
+ghost use Rattle.std.specs.Prelude.{◌≡◌, ◌+◌, Ok, Err};
+ghost use Rattle.script.specs.Cuts.{parts_of};
+ghost use Rattle.script.specs.Kept.{Answers, known};
+ghost use Rattle.script.specs.Lines as spec;
+
+use crate::faults::Fault;
+use crate::fields::Fields;
+use crate::forms::Form;
+use crate::items::is_word;
+use crate::keys::Key;
+use crate::lines::Line;
+use crate::readings::{key, nif, number};
+use crate::requests::{Command, request};
+use crate::scripts::SoFar;
+use parties::{Name, NameFault, Nif, Party};
+use shop_core::{Ask, Word};
+use std::alloc::Global;
+
+// `clock START STEP`
+fn clock(read: &SoFar, fields: &mut Fields) -> Result<Line, Word>
+    ensures { result ≡ spec.clock_said (known read.now) fields.old }
+{
+    let start = number(fields, 0, 1_000_000_000_000, Word::Number)?;
+    let step = number(fields, 0, 1_000_000, Word::Number)?;
+    fields.end()?;
+    if read.clock.is_some() {
+        return Err(Word::Twice);
+    }
+    Ok(Line::Clock { start, step })
+}
+
+// The name that the rest of a line is.
+fn name(alloc: Global, fields: &mut Fields) -> Result<Name, Fault>
+    ensures { Answers (spec.name_said fields.old) result }
+{
+    let Some(text) = fields.rest() else {
+        return Err(Fault::Bad(Word::Fields));
+    };
+    match Name::read(alloc, text) {
+        Ok(name) => Ok(name),
+        Err(fault) => match fault {
+            NameFault::NoMemory => Err(Fault::NoMemory),
+            _ => Err(Fault::Bad(Word::Name)),
+        },
+    }
+}
+
+// `customer KEY NIF NAME`
+fn customer(alloc: Global, read: &SoFar, fields: &mut Fields) -> Result<Line, Fault>
+    ensures { Answers (spec.customer_said (known read.now) fields.old) result }
+{
+    if read.customers.len() >= 10_000 {
+        return Err(Fault::Bad(Word::TooMany));
+    }
+    let key = key(fields)?;
+    let nif = nif(fields)?;
+    let name = name(alloc, fields)?;
+    if read.customers.get(key).is_some() {
+        return Err(Fault::Bad(Word::Twice));
+    }
+    let key = Key::of(alloc, key)?;
+    Ok(Line::Customer {
+        key,
+        party: Party { nif, name },
+    })
+}
+
+// `TILL SERIAL`, and then what the command asks for
+fn command(
+    alloc: Global,
+    form: Form,
+    read: &SoFar,
+    command: Command,
+    fields: &mut Fields,
+) -> Result<Line, Fault>
+    ensures { Answers (spec.command_said form (known read.now) command fields.old) result }
+{
+    if form == Form::NoCommands {
+        return Err(Fault::Bad(Word::Command));
+    }
+    if read.asks.len() >= 100_000 {
+        return Err(Fault::Bad(Word::TooMany));
+    }
+    let till = number(fields, 1, 64, Word::Till)?;
+    let serial = number(fields, 1, 4_294_967_295, Word::Number)?;
+    match request(alloc, &read.customers, command, fields) {
+        Ok(request) => Ok(Line::Command(Ask::new(till as u8, serial as u32, request))),
+        Err(fault) => Err(fault),
+    }
+}
+
+// What the fields past the first say.
+fn form_line(
+    alloc: Global,
+    form: Form,
+    read: &SoFar,
+    verb: &str,
+    fields: &mut Fields,
+) -> Result<Line, Fault>
+    ensures { Answers (spec.form_said form (known read.now) verb.now fields.old) result }
+{
+    if is_word(verb, "clock") {
+        return match clock(read, fields) {
+            Ok(line) => Ok(line),
+            Err(word) => Err(Fault::Bad(word)),
+        };
+    }
+    if is_word(verb, "customer") {
+        return customer(alloc, read, fields);
+    }
+    if is_word(verb, "sale") {
+        return command(alloc, form, read, Command::Sale, fields);
+    }
+    if is_word(verb, "fix") {
+        return command(alloc, form, read, Command::Fix, fields);
+    }
+    if is_word(verb, "cancel") {
+        return command(alloc, form, read, Command::Cancel, fields);
+    }
+    Err(Fault::Bad(Word::Verb))
+}
+
+fn fields_line(alloc: Global, form: Form, read: &SoFar, text: &str) -> Result<Line, Fault>
+    ensures { Answers (spec.fields_said form (known read.now) (parts_of 32 text.now)) result }
+{
+    let mut fields = Fields::of(text);
+    match fields.next() {
+        Some(verb) => form_line(alloc, form, read, verb, &mut fields),
+        None => Err(Fault::Bad(Word::Verb)),
+    }
+}
+
+/// What a line says below those that were read. It has no carriage return at its end any more.
+pub fn line(alloc: Global, form: Form, read: &SoFar, text: &[u8]) -> Result<Line, Fault>
+    ensures { Answers (spec.line_said form (known read.now) text.now) result }
+{
+    if text.is_empty() || text[0] == b'#' {
+        return Ok(Line::Skip);
+    }
+    match str::from_utf8(text) {
+        Ok(text) => fields_line(alloc, form, read, text),
+        Err(_) => Err(Fault::Bad(Word::Utf8)),
+    }
+}

@@ -1,0 +1,150 @@
+// Scripts: what their lines say, or the first bad line.
+ghost use Rattle.std.specs.Prelude.{◌≡◌, ◌≤◌, ◌<◌, IfOk, ◌++◌, ◌∷◌, [], List, length};
+ghost use Rattle.script.specs.Kept.{IsRead, IsNew, Reads, known};
+ghost use Rattle.script.specs.Script.{IsScript};
+ghost use Rattle.script.specs.declared.lines.Line.{Line as AnyLine};
+
+use crate::customers::Customers;
+use crate::cuts::{Parts, without_return};
+use crate::faults::Fault;
+use crate::forms::Form;
+use crate::lines::Line;
+use crate::saying::line;
+use agency_rules::Plan;
+use ports::NoMemory;
+use shop_core::{Ask, Word};
+use std::alloc::Global;
+use std::marker::Model;
+
+/// The asks of a script, in line order.
+#[derive(Drop)]
+pub struct Asks {
+    list: Vec<Ask>,
+}
+
+impl Model for Asks {
+    ghost use Rattle.std.specs.Prelude.{List};
+    ghost use Rattle.shop_core.specs.Asked.{Asked};
+
+    ghost Value = { List Asked };
+
+    ghost view = { λ a. a.list.items };
+}
+
+impl Asks {
+    /// The list of these asks.
+    pub fn of(list: Vec<Ask>) -> Asks
+        ensures { result ≡ list.items }
+    {
+        Asks { list }
+    }
+
+    /// The asks, in their order.
+    pub fn as_slice(&self) -> &[Ask]
+        ensures { result.now ≡ self.now }
+    {
+        &self.list
+    }
+}
+
+/// A script: START and STEP of its clock line, where it has one, its asks, and the plan of the practice agency.
+#[derive(Drop)]
+pub struct Script {
+    pub clock: Option<(u64, u64)>,
+    pub asks: Asks,
+    pub plan: Plan,
+}
+
+/// Why there is no script.
+#[derive(Clone, Copy, Debug, PartialEq, Eq)]
+pub enum ScriptFault {
+    /// The first line that says nothing, by its number from 1, and the first thing that is wrong in it.
+    BadLine { line: u32, fault: Word },
+    /// There was no memory for it.
+    NoMemory,
+}
+
+impl From<NoMemory> for ScriptFault {
+    ghost use Rattle.std.specs.Prelude.{◌≡◌};
+    ghost use Rattle.script.specs.declared.scripts.ScriptFault.TheVariants as fault;
+
+    ghost from_gives = { λ _ e. e ≡ fault.NoMemory };
+
+    fn from(_: NoMemory) -> Self {
+        ScriptFault::NoMemory
+    }
+}
+
+/// What was read of the lines so far.
+#[derive(Drop)]
+pub struct SoFar {
+    pub clock: Option<(u64, u64)>,
+    pub customers: Customers,
+    pub asks: Vec<Ask>,
+}
+
+impl SoFar {
+    fn nothing(alloc: Global) -> SoFar
+        ensures { IsRead [] result }
+    {
+        SoFar {
+            clock: None,
+            customers: Customers::new(alloc),
+            asks: Vec::new(alloc),
+        }
+    }
+
+    // One more line that says something below the others.
+    fn add(&mut self, line: Line) -> Result<(), NoMemory>
+        requires { IsNew (known self.old) line }
+        ensures { (lines : List AnyLine) → IsRead lines self.old → Reads (lines ++ line ∷ []) self.new result }
+    {
+        match line {
+            Line::Skip => Ok(()),
+            Line::Clock { start, step } => {
+                self.clock = Some((start, step));
+                Ok(())
+            }
+            Line::Customer { key, party } => {
+                self.customers.add(key, party)?;
+                Ok(())
+            }
+            Line::Command(ask) => {
+                self.asks.push(ask)?;
+                Ok(())
+            }
+        }
+    }
+}
+
+/// The script of these bytes, or its first bad line: its number from 1, and the first thing that is wrong in it. It walks
+/// the bytes once, and keeps the customers and the asks alone. Line numbers are u32, so there are fewer bytes than that. The
+/// grammar is this project's own.
+pub fn read_script(alloc: Global, bytes: &[u8], form: Form) -> Result<Script, ScriptFault>
+    requires { length bytes.now < 4_294_967_295 }
+    ensures script { IsScript form bytes.now result }
+    ensures few { IfOk result (λ script. length script.asks ≤ 100_000) }
+{
+    let mut lines = Parts::of(bytes, b'\n');
+    let mut read = SoFar::nothing(alloc);
+    let mut number = 0u32;
+    while let Some(text) = lines.next() {
+        number += 1;
+        match line(alloc, form, &read, without_return(text)) {
+            Ok(line) => read.add(line)?,
+            Err(Fault::Bad(fault)) => {
+                return Err(ScriptFault::BadLine {
+                    line: number,
+                    fault,
+                });
+            }
+            Err(Fault::NoMemory) => return Err(ScriptFault::NoMemory),
+        }
+    }
+    let SoFar { clock, asks, .. } = read;
+    Ok(Script {
+        clock,
+        asks: Asks::of(asks),
+        plan: Plan::plain(alloc),
+    })
+}

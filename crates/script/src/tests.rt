@@ -1,0 +1,237 @@
+use crate::{Form, ScriptFault, read_script};
+use shop_core::{Request, Word};
+use std::alloc::{AllocError, Global};
+use std::test::Fail;
+
+fn bad_line(alloc: Global, bytes: &[u8], form: Form) -> Option<(u32, Word)> {
+    if bytes.len() > 16_777_216 {
+        return None;
+    }
+    match read_script(alloc, bytes, form) {
+        Err(ScriptFault::BadLine { line, fault }) => Some((line, fault)),
+        _ => None,
+    }
+}
+
+#[test]
+fn bad_lines_have_their_words(rt: HostRuntime) {
+    for (bytes, line, fault) in [
+        (
+            b"clock 1 1\n# \xff\ncl\xffck 1 1\n".as_slice(),
+            3,
+            Word::Utf8,
+        ),
+        (b"customer k 89890001K Bar \xc3", 1, Word::Utf8),
+        (b"sal 1 1 A F2 21:100", 1, Word::Verb),
+        (b" sale 1 1 A F2 21:100", 1, Word::Verb),
+        (b"\n\r\n#\nSale 1 1 A F2 21:100", 4, Word::Verb),
+        (b"vet A-1 1 5", 1, Word::Verb),
+        (b"warn A-1 1 5", 1, Word::Verb),
+        (b"wait 60", 1, Word::Verb),
+        (b"link 1 lost", 1, Word::Verb),
+        (b"\rclock 1 1", 1, Word::Verb),
+        (b"clock", 1, Word::Fields),
+        (b"clock 1", 1, Word::Fields),
+        (b"clock 1 1 ", 1, Word::Fields),
+        (b"clock 1 1 1", 1, Word::Fields),
+        (b"customer k", 1, Word::Fields),
+        (b"customer k 89890001K", 1, Word::Fields),
+        (b"sale 1 1 A", 1, Word::Fields),
+        (b"fix 1 1", 1, Word::Fields),
+        (b"cancel 1 1", 1, Word::Fields),
+        (b"cancel 1 1 A-1 ", 1, Word::Fields),
+        (b"cancel 1 1 A-1 A-2", 1, Word::Fields),
+        (b"clock x", 1, Word::Number),
+        (b"clock  1 1", 1, Word::Number),
+        (b"clock 1000000000001 1", 1, Word::Number),
+        (b"clock 1 1000001", 1, Word::Number),
+        (b"clock 01 1", 1, Word::Number),
+        (b"clock 1 1\r\r\n", 1, Word::Number),
+        (b"clock 1 +1", 1, Word::Number),
+        (b"sale 1 0 A F2 21:100", 1, Word::Number),
+        (b"sale 1 4294967296 A F2 21:100", 1, Word::Number),
+        (b"sale 1 18446744073709551617 A F2 21:100", 1, Word::Number),
+        (b"sale 1 1 A F2 21:-0", 1, Word::Number),
+        (b"sale 1 1 A F2 21:007", 1, Word::Number),
+        (b"sale 1 1 A F2 21:", 1, Word::Number),
+        (b"sale 1 1 A F2 21:1:2", 1, Word::Number),
+        (b"sale 1 1 A F2 21:10000000000000", 1, Word::Number),
+        (b"sale 0 1 A F2 21:100", 1, Word::Till),
+        (b"sale 65 1 A F2 21:100", 1, Word::Till),
+        (b"sale 01 x A F2 21:100", 1, Word::Till),
+        (b"cancel  1 1 A-1", 1, Word::Till),
+        (b"sale 1 1 A-B F2 21:100", 1, Word::Series),
+        (b"sale 1 1  F2 21:100", 1, Word::Series),
+        (b"sale 1 1 ABCDEFGHIJKLMNOPQRSTU F9 x", 1, Word::Series),
+        (b"fix 1 1 A<1 F2 21:100", 1, Word::Num),
+        (b"cancel 1 1 ", 1, Word::Num),
+        (b"sale 1 1 A R5 rect=S ref=A=1@x 21:100", 1, Word::Num),
+        (b"sale 1 1 A R5 rect=S ref=@01-01-2025 21:100", 1, Word::Num),
+        (b"sale 1 1 A F4 21:100", 1, Word::Kind),
+        (b"sale 1 1 A ", 1, Word::Kind),
+        (b"fix 1 1 A-1 f2 21:100", 1, Word::Kind),
+        (b"fix 1 1 A 1 F2 21:100", 1, Word::Kind),
+        (b"customer k 89890001L Bar", 1, Word::Nif),
+        (b"customer k  Bar", 1, Word::Nif),
+        (b"customer k 89890001K ", 1, Word::Name),
+        (b"customer k 89890001K Bar ", 1, Word::Name),
+        (b"customer k 89890001K  Bar", 1, Word::Name),
+        (b"customer k 89890001K B\tr", 1, Word::Name),
+        (b"sale 1 1 A F2 ", 1, Word::Class),
+        (b"sale 1 1 A F2 21:100 ", 1, Word::Class),
+        (b"sale 1 1 A F2 21:100  21:100", 1, Word::Class),
+        (b"sale 1 1 A F2 5:x", 1, Word::Class),
+        (b"sale 1 1 A F2 21", 1, Word::Class),
+        (b"sale 1 1 A F2 :100", 1, Word::Class),
+        (b"sale 1 1 A F2 with=K 21:100", 1, Word::Option),
+        (b"sale 1 1 A F2 TO=K 21:100", 1, Word::Option),
+        (b"sale 1 1 A R5 rect=X 21:100", 1, Word::Option),
+        (b"sale 1 1 A R5 rect=S rect=I 21:100", 1, Word::Option),
+        (b"sale 1 1 A F2 21:100 rect=S", 1, Word::Option),
+        (b"sale 1 1 A R5 ref=A-1 21:100", 1, Word::Option),
+        (b"sale 1 1 A F2 21:1=2", 1, Word::Option),
+        (
+            b"customer k 89890001K Bar\nsale 1 1 A F1 to=k to=x 21:100",
+            2,
+            Word::Option,
+        ),
+        (b"customer k-1 89890001K Bar", 1, Word::Customer),
+        (b"customer  89890001K Bar", 1, Word::Customer),
+        (
+            b"customer 123456789012345678901 89890001K Bar",
+            1,
+            Word::Customer,
+        ),
+        (
+            b"sale 1 1 A F1 to=k 21:100\ncustomer k 89890001K Bar",
+            1,
+            Word::Customer,
+        ),
+        (
+            b"customer k 89890001K Bar\nsale 1 1 A F1 to=K 21:100",
+            2,
+            Word::Customer,
+        ),
+        (b"sale 1 1 A F1 to= 21:100", 1, Word::Customer),
+        (b"sale 1 1 A R5 ref=A-1@30-02-2025 21:100", 1, Word::Date),
+        (b"sale 1 1 A R5 ref=A-1@1-1-2025 21:100", 1, Word::Date),
+        (b"sale 1 1 A R5 ref=A-1@01-01-2101 21:100", 1, Word::Date),
+        (b"sale 1 1 A F2", 1, Word::Lines),
+        (b"sale 1 1 A R5 rect=S", 1, Word::Lines),
+        (
+            b"sale 1 1 A F2 0:1 0:1 0:1 0:1 0:1 0:1 0:1 0:1 0:1 0:1 0:1 0:1 0:1",
+            1,
+            Word::Lines,
+        ),
+        (b"sale 1 1 A F2 21:10000000000", 1, Word::Lines),
+        (b"sale 1 1 A F2 21:-9999999999999", 1, Word::Lines),
+        (b"clock 1 1\nclock 2 2", 2, Word::Twice),
+        (b"clock 1 1\n\nclock 2 2\n", 3, Word::Twice),
+        (
+            b"customer k 89890001K Bar\ncustomer k 12345678Z Sol",
+            2,
+            Word::Twice,
+        ),
+    ] {
+        let said = bad_line(rt.alloc(), bytes, Form::Full);
+        assert!(rt; said == Some((line, fault)), "{fault:?} {line}");
+    }
+    for (bytes, line, fault) in [
+        (b"clock 1 1\nsale 0 0 A".as_slice(), 2, Word::Command),
+        (b"fix", 1, Word::Command),
+        (b"cancel 1 1 A-1", 1, Word::Command),
+        (b"sold", 1, Word::Verb),
+        (b"clock 1 x", 1, Word::Number),
+    ] {
+        let said = bad_line(rt.alloc(), bytes, Form::NoCommands);
+        assert!(rt; said == Some((line, fault)), "{fault:?} {line}");
+    }
+}
+
+fn commands(alloc: Global, bytes: &[u8]) -> Option<usize> {
+    if bytes.len() > 16_777_216 {
+        return None;
+    }
+    match read_script(alloc, bytes, Form::Full) {
+        Ok(script) => Some(script.asks.as_slice().len()),
+        Err(_) => None,
+    }
+}
+
+// Each line as it is taken: its till and serial, how many references and lines it has, and whether it names a customer.
+#[test]
+fn good_lines_say_their_commands(rt: HostRuntime) -> Result<(), Fail> {
+    let bytes = b"# a day\n\nclock 1000000000000 1000000\r\n\
+        customer Bar1 89890001K Bar  Sol, S.L.\n\
+        sale 1 1 A F2 21:100\n\
+        sale 64 4294967295 tienda_1/25 F1 to=Bar1 21:-9999999999 10:0\n\
+        fix 2 3 12345678/G33 R5 ref=A-1@01-01-2025 rect=I ref=A@2@31-12-2100 E6:5\n\
+        sale 1 2 A R1 rect=S ref=A-1@01-01-2025 ref=A-1@01-01-2025 ref=A-1@01-01-2025 ref=A-1@01-01-2025 \
+ref=A-1@01-01-2025 ref=A-1@01-01-2025 ref=A-1@01-01-2025 ref=A-1@01-01-2025 ref=A-1@01-01-2025 to=Bar1 21+:1\n\
+        sale 1 3 A F2 0:1 0:1 0:1 0:1 0:1 0:1 0:1 0:1 0:1 0:1 0:1 0:1\n\
+        cancel 7 8 A-1";
+    let script = match read_script(rt.alloc(), bytes.as_slice(), Form::Full) {
+        Ok(script) => script,
+        Err(_) => return Err(Fail::from("no script")),
+    };
+    assert!(rt; script.clock == Some((1_000_000_000_000, 1_000_000)));
+    assert!(rt; script.plan.wait == 60);
+    assert!(rt; script.plan.verdicts.as_slice().is_empty());
+    assert!(rt; script.plan.fates.as_slice().is_empty());
+    let wanted = [
+        (1, 1, 0, 1, false),
+        (64, 4_294_967_295, 0, 2, true),
+        (2, 3, 2, 1, false),
+        (1, 2, 9, 1, true),
+        (1, 3, 0, 12, false),
+        (7, 8, 0, 0, false),
+    ];
+    let asks = script.asks.as_slice();
+    assert!(rt; asks.len() == wanted.len());
+    for (ask, (till, serial, refs, lines, to)) in asks.iter().zip(wanted) {
+        assert!(rt; ask.till == till && ask.serial == serial, "{serial}");
+        let said = match &ask.request {
+            Request::Sale { draft, .. } | Request::Fix { draft, .. } => (
+                draft.refs.as_slice().len(),
+                draft.lines.lines().len(),
+                draft.customer.is_some(),
+            ),
+            Request::Cancel { num } => (0, 0, num.as_slice() != b"A-1".as_slice()),
+        };
+        assert!(rt; said == (refs, lines, to), "{serial}");
+    }
+    Ok(())
+}
+
+fn customers(alloc: Global, n: u32) -> Result<String, AllocError> {
+    let mut text = String::new(alloc);
+    for i in 0..n {
+        text.push_str(format!(in alloc; "customer k{i} 89890001K Bar\n")?.as_str())?;
+    }
+    Ok(text)
+}
+
+fn sales(alloc: Global, n: u32) -> Result<String, AllocError> {
+    let mut text = String::new(alloc);
+    for i in 0..n {
+        text.push_str(format!(in alloc; "sale 1 1{i} A F2 21:100\n")?.as_str())?;
+    }
+    Ok(text)
+}
+
+#[test]
+fn one_command_and_one_customer_are_too_many(rt: HostRuntime) -> Result<(), Fail> {
+    let mut text = customers(rt.alloc(), 10_000)?;
+    text.push_str("sale 1 1 A F1 to=k9999 21:100\n")?;
+    assert!(rt; commands(rt.alloc(), text.as_bytes()) == Some(1));
+    text.push_str("customer")?;
+    let said = bad_line(rt.alloc(), text.as_bytes(), Form::Full);
+    assert!(rt; said == Some((10_002, Word::TooMany)));
+    let mut text = String::from_str(rt.alloc(), "clock 1 1\n")?;
+    text.push_str(sales(rt.alloc(), 100_000)?.as_str())?;
+    assert!(rt; commands(rt.alloc(), text.as_bytes()) == Some(100_000));
+    text.push_str("cancel")?;
+    let said = bad_line(rt.alloc(), text.as_bytes(), Form::Full);
+    assert!(rt; said == Some((100_002, Word::TooMany)));
+    Ok(())
+}
