@@ -1,0 +1,175 @@
+-- Texts with their escapes in capitals: how they join and part.
+use Rattle.std.proofs.Common.{◌≡◌, ℕ, ◌+◌, ◌-◌, ◌/◌, ◌%◌, ◌<◌, ◌≤◌, Bool, true, false, not, ◌&&◌, cond, eqb, List, [], ◌∷◌, ◌++◌, length, take, drop, refl, sym, ap, ◌∙◌, arith, inl, inr, length-append, take-append-drop}
+use Rattle.std.specs.Char.{to_ascii_uppercase}
+use Rattle.std.specs.Fmt.{digit_glyph}
+use Rattle.std.specs.List.{list_all}
+use Rattle.std.proofs.Math.Seq.{take-append_seam, drop-append_seam}
+use Rattle.std.proofs.lemmas.List.{length-take-le}
+use Rattle.std.proofs.lemmas.Bool.{cases_Bool}
+use Rattle.std.proofs.lemmas.Bool.Decides.{nat_tests}
+use Rattle.verify_link.specs.Encoding.{is_plain, encoded, capitals}
+use Rattle.verify_link.proofs.EncodingLemmas.{encoded-nil, encoded-plain, encoded-escaped}
+
+-- how many bytes are due after this one
+abbrev pub due_past : ℕ → ℕ → ℕ
+due_past due b = cond (eqb b 37) 2 (due - 1)
+
+-- a byte where so many are due
+abbrev pub shown : ℕ → ℕ → ℕ
+shown due b = cond (eqb due 0) b (to_ascii_uppercase b)
+
+pub capitals-nil : (due : ℕ) → capitals due [] ≡ []
+unfolding capitals
+capitals-nil due = refl
+
+pub capitals-cons : (due b : ℕ) (rest : List ℕ) → capitals due (b ∷ rest) ≡ shown due b ∷ capitals (due_past due b) rest
+unfolding capitals
+capitals-cons due b rest = refl
+
+-- how many bytes are due after these
+unfoldable pub due_after : ℕ → List ℕ → ℕ
+due_after due [] = due
+due_after due (b ∷ rest) = due_after (due_past due b) rest
+
+pub length-capitals : (due : ℕ) (text : List ℕ) → length (capitals due text) ≡ length text
+unfolding capitals
+length-capitals due [] = refl
+length-capitals due (b ∷ rest) = omega (arith, length-capitals (due_past due b) rest)
+
+pub capitals-append : (due : ℕ) (front rest : List ℕ) → capitals due (front ++ rest) ≡ capitals due front ++ capitals (due_after due front) rest
+unfolding capitals due_after
+capitals-append due [] rest = refl
+capitals-append due (b ∷ front) rest = ap (λ x. shown due b ∷ x) (capitals-append (due_past due b) front rest)
+
+-- a capital is `%` where the byte is
+shown_percent : (due b : ℕ) → eqb (shown due b) 37 ≡ eqb b 37
+shown_percent due b = grind (arith, nat_tests)
+
+pub due_after-capitals : (from due : ℕ) (text : List ℕ) → due_after due (capitals from text) ≡ due_after due text
+unfolding capitals due_after
+due_after-capitals from due [] = refl
+due_after-capitals from due (b ∷ rest) =
+    ap (λ e. due_after (cond e 2 (due - 1)) (capitals (due_past from b) rest)) (shown_percent from b)
+    ∙ due_after-capitals (due_past from b) (due_past due b) rest
+
+-- a plain byte is no `%`
+pub plain_percent : (b : ℕ) → is_plain b ≡ true → eqb b 37 ≡ false
+plain_percent b plain = grind (arith, nat_tests)
+
+pub glyph_percent : (d : ℕ) → d < 16 → eqb (digit_glyph true d) 37 ≡ false
+glyph_percent d small = grind (arith, nat_tests)
+
+pub glyph_capital : (d : ℕ) → d < 16 → to_ascii_uppercase (digit_glyph true d) ≡ digit_glyph true d
+glyph_capital d small = grind (arith, nat_tests)
+
+-- nothing is due after encoded bytes
+pub due_after-encoded : (bs : List ℕ) → due_after 0 (encoded bs) ≡ 0
+unfolding due_after
+due_after-encoded [] = rw encoded-nil refl
+due_after-encoded (b ∷ bs) =
+    elim (cases_Bool (is_plain b)) [
+      | inl plain ↦ rw (encoded-plain b bs plain) (ap (λ e. due_after (cond e 2 0) (encoded bs)) (plain_percent b plain) ∙ due_after-encoded bs)
+      | inr escaped ↦ (
+          let high = digit_glyph true (b / 16 % 16) in
+          let low = digit_glyph true (b % 16) in
+          rw (encoded-escaped b bs escaped) (
+          ap (λ e. due_after (cond (eqb low 37) 2 (cond e 2 1 - 1)) (encoded bs)) (glyph_percent (b / 16 % 16) (omega arith))
+          ∙ ap (λ e. due_after (cond e 2 0) (encoded bs)) (glyph_percent (b % 16) (omega arith))
+          ∙ due_after-encoded bs))
+    ]
+
+-- two bytes that are no `%`, after one
+pub capitals-escape : (high low : ℕ) (rest : List ℕ) → eqb high 37 ≡ false → eqb low 37 ≡ false
+    → capitals 0 (37 ∷ high ∷ low ∷ rest) ≡ 37 ∷ to_ascii_uppercase high ∷ to_ascii_uppercase low ∷ capitals 0 rest
+unfolding capitals
+capitals-escape high low rest first second = rw (first, second) refl
+
+-- encoded bytes have their escapes in capitals
+pub capitals-encoded : (bs : List ℕ) → capitals 0 (encoded bs) ≡ encoded bs
+capitals-encoded [] = rw encoded-nil (capitals-nil 0)
+capitals-encoded (b ∷ bs) =
+    elim (cases_Bool (is_plain b)) [
+      | inl plain ↦ rw (encoded-plain b bs plain) (
+          capitals-cons 0 b (encoded bs)
+          ∙ ap (λ e. b ∷ capitals (cond e 2 0) (encoded bs)) (plain_percent b plain) ∙ ap (λ x. b ∷ x) (capitals-encoded bs))
+      | inr escaped ↦ (
+          let high = digit_glyph true (b / 16 % 16) in
+          let low = digit_glyph true (b % 16) in
+          rw (encoded-escaped b bs escaped) (
+          capitals-escape high low (encoded bs) (glyph_percent (b / 16 % 16) (omega arith)) (glyph_percent (b % 16) (omega arith))
+          ∙ ap (λ x. 37 ∷ x ∷ to_ascii_uppercase low ∷ capitals 0 (encoded bs)) (glyph_capital (b / 16 % 16) (omega arith))
+          ∙ ap (λ x. 37 ∷ high ∷ x ∷ capitals 0 (encoded bs)) (glyph_capital (b % 16) (omega arith))
+          ∙ ap (λ x. 37 ∷ high ∷ low ∷ x) (capitals-encoded bs)))
+    ]
+
+-- texts of one length, each with a rest: where the wholes are equal the parts are
+pub same_parts : (a b c d : List ℕ) → length a ≡ length b → a ++ c ≡ b ++ d → (a ≡ b) × (c ≡ d)
+same_parts a b c d lengths whole =
+    let front : a ≡ b =
+    sym (take-append_seam a c) ∙ ap (take (length a)) whole ∙ ap (λ n. take n (b ++ d)) lengths ∙ take-append_seam b d in
+    let back : c ≡ d =
+    sym (drop-append_seam a c) ∙ ap (drop (length a)) whole ∙ ap (λ n. drop n (b ++ d)) lengths ∙ drop-append_seam b d in
+    (front, back)
+
+-- what becomes of a text's parts, where nothing is due between them
+pub record Parts (text front rest : List ℕ) : Type 0 where
+  pub front_is : capitals 0 (take (length front) text) ≡ front
+  pub rest_is : capitals 0 (drop (length front) text) ≡ rest
+  pub fits : length front ≤ length text
+
+pub parts_of : (text front rest : List ℕ) → capitals 0 text ≡ front ++ rest → due_after 0 front ≡ 0 → Parts text front rest
+parts_of text front rest whole none =
+    let k = length front in
+    let lengths : length text ≡ k + length rest = sym (length-capitals 0 text) ∙ ap length whole ∙ length-append front rest in
+    let fits : k ≤ length text = omega arith in
+    let halves = same_parts (capitals 0 (take k text)) front (capitals (due_after 0 (take k text)) (drop k text)) rest
+    (length-capitals 0 (take k text) ∙ length-take-le k text fits)
+    (sym (capitals-append 0 (take k text) (drop k text)) ∙ ap (capitals 0) (take-append-drop k text) ∙ whole) in
+    let due : due_after 0 (take k text) ≡ 0 = sym (due_after-capitals 0 0 (take k text)) ∙ ap (due_after 0) halves.0 ∙ none in
+    record {
+      front_is = halves.0;
+      rest_is = ap (λ n. capitals n (drop k text)) (sym due) ∙ halves.1;
+      fits = fits;
+    }
+
+-- and of a text that is joined
+pub joined : (front rest shown_front : List ℕ) → capitals 0 front ≡ shown_front → due_after 0 shown_front ≡ 0
+    → capitals 0 (front ++ rest) ≡ shown_front ++ capitals 0 rest
+joined front rest shown_front is none =
+    let due : due_after 0 front ≡ 0 = sym (due_after-capitals 0 0 front) ∙ ap (due_after 0) is ∙ none in
+    capitals-append 0 front rest ∙ ap (λ n. capitals 0 front ++ capitals n rest) due ∙ ap (λ x. x ++ capitals 0 rest) is
+
+-- no `%` is among the bytes
+abbrev pub has_no_percent : List ℕ → Bool
+has_no_percent text = list_all (λ b. not (eqb b 37)) text
+
+cons_from : (b c : ℕ) (bs cs : List ℕ) → b ∷ bs ≡ c ∷ cs → (b ≡ c) × (bs ≡ cs)
+cons_from b c bs cs e = (cc, cc)
+
+both : (a b : Bool) → (a && b) ≡ true → (a ≡ true) × (b ≡ true)
+both true b e = (refl, e)
+both false b e = cc
+
+no_cons : (b : ℕ) (bs : List ℕ) → b ∷ bs ≡ [] → ⊥
+no_cons b bs e = cc
+
+not_true : (a : Bool) → not a ≡ true → a ≡ false
+not_true true e = cc
+not_true false e = refl
+
+-- a text without `%` stays as it is
+pub unchanged : (text shown_text : List ℕ) → capitals 0 text ≡ shown_text → has_no_percent shown_text ≡ true → text ≡ shown_text
+unchanged [] shown_text is plain = sym (capitals-nil 0) ∙ is
+unchanged (b ∷ rest) [] is plain = absurd (no_cons _ _ (sym (capitals-cons 0 b rest) ∙ is))
+unchanged (b ∷ rest) (c ∷ cs) is plain =
+    let heads = cons_from b c (capitals (due_past 0 b) rest) cs (sym (capitals-cons 0 b rest) ∙ is) in
+    let tests = both (not (eqb c 37)) (has_no_percent cs) plain in
+    let none : eqb b 37 ≡ false = ap (λ x. eqb x 37) heads.0 ∙ not_true (eqb c 37) tests.0 in
+    let tail : capitals 0 rest ≡ cs = ap (λ e. capitals (cond e 2 0) rest) (sym none) ∙ heads.1 in
+    rw (heads.0, unchanged rest cs tail tests.1) refl
+
+pub capitals-plain : (text : List ℕ) → has_no_percent text ≡ true → capitals 0 text ≡ text
+capitals-plain [] plain = capitals-nil 0
+capitals-plain (b ∷ rest) plain =
+    let tests = both (not (eqb b 37)) (has_no_percent rest) plain in
+    capitals-cons 0 b rest ∙ ap (λ e. b ∷ capitals (cond e 2 0) rest) (not_true (eqb b 37) tests.0) ∙ ap (λ x. b ∷ x) (capitals-plain rest tests.1)

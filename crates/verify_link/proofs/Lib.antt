@@ -1,0 +1,10 @@
+pub mod EncodingLemmas
+pub mod CapitalLemmas
+pub mod DecodingLemmas
+pub mod ValueLemmas
+pub mod BeginsLemmas
+pub mod FieldLemmas
+pub mod PlaceLemmas
+pub mod LinkLemmas
+pub mod AsciiLemmas
+pub mod DeterminedLemmas

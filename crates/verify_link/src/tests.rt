@@ -1,0 +1,217 @@
+// Links written and read. The encoded numbers are those of another program's encoder.
+use crate::{Host, LinkFault, LinkParts, link_of, read_link};
+use amounts::Cents;
+use invoice_kinds::Kind;
+use parties::Nif;
+use record_fields::{Alta, Draft, Link, Previo, Refs};
+use series::{InvoiceId, NumSerie};
+use stamps::{Day, stamp_at};
+use std::alloc::Global;
+use std::str::from_utf8;
+use std::test::Fail;
+use tax_lines::{Breakdown, LineKey, TaxLine};
+
+const REAL: &str = "https://www2.agenciatributaria.gob.es/wlpl/TIKE-CONT/ValidarQR?";
+
+const PRACTICE: &str = "https://prewww2.aeat.es/wlpl/TIKE-CONT/ValidarQR?";
+
+// What the links below say, but for their number.
+fn parts(host: Host, num: &str, total: i64) -> Result<LinkParts, Fail> {
+    let nif = match Nif::read("89890001K") {
+        Ok(nif) => nif,
+        Err(_) => return Err(Fail::from("a tax number")),
+    };
+    Ok(LinkParts {
+        host,
+        nif,
+        num: NumSerie::read(num).ok_or("a number")?,
+        day: Day::read("01-01-2025").ok_or("a day")?,
+        total: Cents::new(total).ok_or("an amount")?,
+    })
+}
+
+// An alta that says them, with one line of 100.00 at 21 percent.
+fn alta(alloc: Global, parts: &LinkParts) -> Result<Alta, Fail> {
+    let moment = match stamp_at(1_735_729_200) {
+        Ok(moment) => moment,
+        Err(_) => return Err(Fail::from("a moment")),
+    };
+    let line = TaxLine {
+        key: LineKey::General,
+        base: Cents::new(10_000).ok_or("a base")?,
+    };
+    let lines = match Breakdown::of(alloc, &[line]) {
+        Ok(lines) => lines,
+        Err(_) => return Err(Fail::from("lines")),
+    };
+    Ok(Alta {
+        issuer: parts.nif,
+        id: InvoiceId {
+            num: parts.num,
+            day: parts.day,
+        },
+        draft: Draft {
+            kind: Kind::F2,
+            rect: None,
+            customer: None,
+            refs: Refs::of(Vec::new(alloc)),
+            lines,
+        },
+        subsanacion: false,
+        rechazo: Previo::N,
+        link: Link::First,
+        moment,
+    })
+}
+
+#[test]
+fn links_are_written_and_read_back(rt: HostRuntime) -> Result<(), Fail> {
+    let alloc = rt.alloc();
+    for (host, beginning, num, encoded) in [
+        (Host::Real, REAL, "12&G33/A-1", "12%26G33%2FA-1"),
+        (Host::Practice, PRACTICE, "12&G33/A-1", "12%26G33%2FA-1"),
+        // Every character that a number may hold.
+        (
+            Host::Real,
+            REAL,
+            "0 !#$%&()*+,-./:;?@[\\]^_`{|}~123456789",
+            "0%20%21%23%24%25%26%28%29%2A%2B%2C-.%2F%3A%3B%3F%40%5B%5C%5D%5E_%60%7B%7C%7D~123456789",
+        ),
+        (
+            Host::Real,
+            REAL,
+            "ABCDEFGHIJKLMNOPQRSTUVWXYZabcdefghijklmnopqrstuvwxyz",
+            "ABCDEFGHIJKLMNOPQRSTUVWXYZabcdefghijklmnopqrstuvwxyz",
+        ),
+    ] {
+        let parts = parts(host, num, 12_100)?;
+        let text = format!(in alloc;
+            "{beginning}nif=89890001K&numserie={encoded}&fecha=01-01-2025&importe=121.00"
+        )?;
+        let link = link_of(alloc, &alta(alloc, &parts)?, host)?;
+        assert!(rt; link.as_slice() == text.as_bytes(), "{text}");
+        match read_link(alloc, from_utf8(link.as_slice())?) {
+            Ok(read) => assert!(rt; read == parts, "{text}"),
+            Err(fault) => return Err(Fail::from(fault)),
+        }
+    }
+    Ok(())
+}
+
+#[test]
+fn texts_are_read(rt: HostRuntime) -> Result<(), Fail> {
+    let alloc = rt.alloc();
+    for (query, total) in [
+        (
+            "nif=89890001K&numserie=12%26G33%2fA-1&fecha=01-01-2025&importe=121.00",
+            12_100,
+        ),
+        (
+            "nif=89890001K&numserie=12%26G33%2FA-1&fecha=01-01-2025&importe=-0.05",
+            -5,
+        ),
+    ] {
+        let text = format!(in alloc; "{REAL}{query}")?;
+        let parts = parts(Host::Real, "12&G33/A-1", total)?;
+        match read_link(alloc, text.as_str()) {
+            Ok(read) => assert!(rt; read == parts, "{query}"),
+            Err(fault) => return Err(Fail::from(fault)),
+        }
+    }
+    Ok(())
+}
+
+#[test]
+fn other_texts_are_refused(rt: HostRuntime) -> Result<(), Fail> {
+    let alloc = rt.alloc();
+    for (beginning, query, fault) in [
+        // The beginning.
+        ("", "", LinkFault::Prefix),
+        (
+            "http://www2.agenciatributaria.gob.es/wlpl/TIKE-CONT/ValidarQR?",
+            "nif=89890001K&numserie=A-1&fecha=01-01-2025&importe=121.00",
+            LinkFault::Prefix,
+        ),
+        (
+            "https://www2.aeat.es/wlpl/TIKE-CONT/ValidarQR?",
+            "nif=89890001K&numserie=A-1&fecha=01-01-2025&importe=121.00",
+            LinkFault::Prefix,
+        ),
+        // Fields, the first one that is wrong.
+        (REAL, "", LinkFault::Field { i: 0 }),
+        (
+            REAL,
+            "nif=89890001L&numserie=A-1&fecha=01-01-2025&importe=121.00",
+            LinkFault::Field { i: 0 },
+        ),
+        (REAL, "nif=89890001K", LinkFault::Field { i: 1 }),
+        (
+            REAL,
+            "nif=89890001K&fecha=01-01-2025&numserie=A-1&importe=121.00",
+            LinkFault::Field { i: 1 },
+        ),
+        (
+            REAL,
+            "nif=89890001K&numserie=12%26G33/A-1&fecha=01-01-2025&importe=121.00",
+            LinkFault::Field { i: 1 },
+        ),
+        (
+            REAL,
+            "nif=89890001K&numserie=%41-1&fecha=01-01-2025&importe=121.00",
+            LinkFault::Field { i: 1 },
+        ),
+        (
+            REAL,
+            "nif=89890001K&numserie=%FF&fecha=01-01-2025&importe=121.00",
+            LinkFault::Field { i: 1 },
+        ),
+        (
+            REAL,
+            "nif=89890001K&numserie=A-1&fecha=31-02-2025&importe=%4",
+            LinkFault::Field { i: 2 },
+        ),
+        (
+            REAL,
+            "nif=89890001K&numserie=A-1&fecha=01-01-2025&importe=121.0",
+            LinkFault::Field { i: 3 },
+        ),
+        (
+            REAL,
+            "nif=89890001K&numserie=A-1&fecha=01-01-2025&importe=100000000000.00",
+            LinkFault::Field { i: 3 },
+        ),
+        (
+            REAL,
+            "nif=89890001K&numserie=A-1&fecha=01-01-2025&importe=121.00&x=1",
+            LinkFault::Field { i: 3 },
+        ),
+        // Escapes, before what else is wrong with their field.
+        (
+            REAL,
+            "nif=8989%2G001K&numserie=A-1&fecha=01-01-2025&importe=121.00",
+            LinkFault::Escape { at: 71 },
+        ),
+        (
+            REAL,
+            "nif=89890001K&numserie=/A%2&fecha=01-01-2025&importe=121.00",
+            LinkFault::Escape { at: 88 },
+        ),
+        (
+            REAL,
+            "nif=89890001K&numserie=A-%2F%%41&fecha=01-01-2025&importe=121.00",
+            LinkFault::Escape { at: 91 },
+        ),
+        (
+            REAL,
+            "nif=89890001K&numserie=12%26G33%2FA-1&fecha=01-01-2025&importe=%4",
+            LinkFault::Escape { at: 126 },
+        ),
+    ] {
+        let text = format!(in alloc; "{beginning}{query}")?;
+        match read_link(alloc, text.as_str()) {
+            Ok(_) => return Err(Fail::from("a link")),
+            Err(found) => assert!(rt; found == fault, "{query}"),
+        }
+    }
+    Ok(())
+}
