@@ -1,0 +1,8 @@
+//! When a submission is due: the waiting time that the agency's replies set.
+#![tactic(auto)]
+
+mod pace;
+#[cfg(test)]
+mod tests;
+
+pub use pace::{Pace, WaitUntil};

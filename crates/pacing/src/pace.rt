@@ -1,0 +1,49 @@
+// The waiting time between submissions, by the tax agency's description of the submission service.
+ghost use Rattle.std.specs.Prelude.{◌≡◌, MatchResult, true, false};
+ghost use Rattle.pacing.specs.Due.{is_due, due_at};
+
+/// No submission is due before this second.
+#[derive(Clone, Copy, Debug, PartialEq, Eq)]
+pub struct WaitUntil(pub u64);
+
+/// When the last submission was made, and how long the next one waits after it, in seconds.
+#[derive(Clone, Copy, Debug, PartialEq, Eq)]
+pub struct Pace {
+    pub last: u64,
+    pub wait: u64,
+}
+
+impl Pace {
+    /// Before the first submission: none was made, and the agency's first waiting time is 60 seconds.
+    pub fn start() -> Pace
+        ensures { result ≡ record { last = 0; wait = 60 } }
+    {
+        Pace { last: 0, wait: 60 }
+    }
+
+    /// Whether a submission is due at this second, with so many records waiting. Refused exactly where fewer than 1000 wait
+    /// and the waiting time hasn't passed, with the second at which it will have passed.
+    pub fn due(&self, now: u64, waiting: u32) -> Result<(), WaitUntil>
+        ensures { MatchResult result (λ _. is_due self.now now waiting ≡ true) (λ w. (is_due self.now now waiting ≡ false) × (w.0 ≡ due_at self.now)) }
+    {
+        let at = self.last.saturating_add(self.wait);
+        if waiting < 1000 && now < at {
+            return Err(WaitUntil(at));
+        }
+        Ok(())
+    }
+
+    /// A submission was made at this second.
+    pub fn sent(&mut self, now: u64)
+        ensures { self.new ≡ record { last = now; wait = self.old.wait } }
+    {
+        self.last = now;
+    }
+
+    /// A reply set the waiting time, in seconds.
+    pub fn told(&mut self, wait: u32)
+        ensures { self.new ≡ record { last = self.old.last; wait = wait } }
+    {
+        self.wait = u64::from(wait);
+    }
+}
