@@ -1,0 +1,37 @@
+#!/bin/sh
+# How many sales a second `chain` answers: scripts of 1,000, 5,000 and 10,000 sales from standard input, three runs each,
+# the fastest of them counts. Run by hand, from anywhere, on a machine that does nothing else. 10,000 sales are to take 2
+# seconds at most.
+set -eu
+
+root=$(CDPATH= cd -- "$(dirname -- "$0")/.." && pwd)
+folder=$(mktemp -d)
+trap 'rm -rf "$folder"' EXIT
+
+"$root/verifactu" --version >/dev/null
+program=$root/crates/verifactu/out/verifactu
+
+# A script of so many sales of till 1.
+script() {
+    echo "clock 1735722000 1"
+    seq "$1" | sed 's/.*/sale 1 & A F2 21:1000/'
+}
+
+milliseconds() {
+    echo $(($(date +%s%N) / 1000000))
+}
+
+for sales in 1000 5000 10000; do
+    script "$sales" >"$folder/script"
+    best=
+    for _ in 1 2 3; do
+        begun=$(milliseconds)
+        "$program" chain shop.chain 89890001K <"$folder/script" >"$folder/text"
+        took=$(($(milliseconds) - begun))
+        [ "$took" -gt 0 ] || took=1
+        if [ -z "$best" ] || [ "$took" -lt "$best" ]; then best=$took; fi
+    done
+    [ "$(tail -n 1 "$folder/text")" = "chain $sales noted 0" ] || { echo "a wrong chain line" >&2; exit 1; }
+    echo "$sales sales in $best ms: $((sales * 1000 / best)) sales a second"
+done
+[ "$best" -le 2000 ] || { echo "10000 sales took more than 2 seconds" >&2; exit 1; }

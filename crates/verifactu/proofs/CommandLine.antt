@@ -1,0 +1,36 @@
+-- Words that are no command.
+use Rattle.std.proofs.Common.{◌≡◌, ℕ, suc, ◌<◌, List, [], ◌∷◌, length, map, refl, sym, ◌∙◌, ap, subst, arith, None, true, false, codes, bytes_eq, ◌==◌}
+use Rattle.std.proofs.lemmas.Bool.Decides.{nat_tests}
+use Rattle.std.proofs.lemmas.Slice.Eq.{bytes_eq-Decides}
+use Rattle.parties.specs.Nif.{IsNif}
+use Rattle.verifactu.specs.Words.{IsAskedFor, AsksFor, IsChain}
+use Rattle.verifactu.specs.declared.words.Command.{Command}
+use Rattle.verifactu.specs.declared.words.Command.TheVariants.{Chain, Help, Version}
+
+length_map : {A B : Type 0} (f : A → B) (xs : List A) → length (map f xs) ≡ length xs
+length_map f [] = refl
+length_map f (x ∷ xs) = ap suc (length_map f xs)
+
+not_asked : (words : List (List ℕ)) → (length words ≡ 1 → ⊥) → (length words ≡ 3 → ⊥) → (command : Command) → AsksFor words command → ⊥
+not_asked words one three (Chain issuer) h = three (ap length h.words_are)
+not_asked words one three Help h = one (ap length h)
+not_asked words one three Version h = one (ap length h)
+
+pub no_command : {A : Type 0} (f : A → List ℕ) (words : List A) → (length words ≡ 1 → ⊥) → (length words ≡ 3 → ⊥) → IsAskedFor (map f words) None
+no_command f words one three =
+    not_asked (map f words) (λ e. one (sym (length_map f words) ∙ e)) (λ e. three (sym (length_map f words) ∙ e))
+
+bytes_eq_is : (xs ys : List ℕ) → bytes_eq xs ys ≡ true → xs ≡ ys
+bytes_eq_is xs ys h = (bytes_eq-Decides xs ys).0 h
+
+there : (n : ℕ) → (n == 0) ≡ false → 0 < n
+there n h = grind (arith, nat_tests)
+
+pub is_chain : (name file nif issuer : List ℕ) → bytes_eq name (codes "chain") ≡ true → (length file == 0) ≡ false →
+    IsNif nif × (issuer ≡ nif) → IsChain (name ∷ (file ∷ (nif ∷ []))) issuer
+is_chain name file nif issuer named filed h = record {
+  file = file;
+  words_are = rw (bytes_eq_is name (codes "chain") named, h.1) refl;
+  named = there (length file) filed;
+  nif = subst (λ (n : List ℕ). IsNif n) (sym h.1) h.0;
+}

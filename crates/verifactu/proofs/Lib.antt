@@ -1,0 +1,3 @@
+pub mod Bytewise
+pub mod CommandLine
+pub mod Running

@@ -1,0 +1,61 @@
+// What `--help` and `--version` print.
+ghost use Rattle.std.specs.Prelude.{◌≡◌};
+ghost use Rattle.verifactu.specs.Help as spec;
+
+const HELP: &[u8] = b"\
+The invoicing chain of a shop with many tills, in VERI*FACTU mode.
+
+Usage:
+  verifactu chain FILE NIF   answers the script on standard input
+  verifactu --help           prints this text
+  verifactu --version        prints the version
+
+FILE names the shop's chain. This version keeps the chain in memory: each run
+starts from the empty chain, and the file is neither read nor written.
+NIF is the issuer's tax number.
+
+A script has one command a line:
+  clock START STEP         at most once: the commands' readings of the clock are
+                           START, START+STEP, .. in seconds since 1970; without
+                           this line it is the machine's clock
+  customer KEY NIF NAME    a customer, named by KEY in the lines below
+  sale TILL SERIAL SERIES KIND OPTION.. LINE..
+                           an invoice in a series; tills are 1 to 64, and each
+                           numbers its commands itself
+  fix TILL SERIAL NUM KIND OPTION.. LINE..
+                           the invoice NUM, mended
+  cancel TILL SERIAL NUM   the invoice NUM, cancelled
+KIND is F1, F2, F3 or R1 to R5. OPTION is to=KEY, rect=S, rect=I or
+ref=NUM@DD-MM-YYYY. LINE is CLASS:BASE, the base in cents; CLASS is 21, 10, 4,
+0, 21+, 10+, 4+, S2, N1, N2 or E1 to E6.
+Empty lines and lines that begin with # are skipped. An example:
+  clock 1735722000 0
+  sale 1 1 A F2 21:10000
+
+It prints an answer for each command, a line for each record, and the chain line.
+
+Status:
+   0  done
+   2  the words are no command
+   3  a line of the script is wrong; standard error names it
+   4  standard input could not be read
+   5  standard output could not be written
+  10  no memory
+  12  the script is longer than 16777216 bytes
+";
+
+const VERSION: &[u8] = b"verifactu 0.1.0\n";
+
+/// How the program is called, what a script says, and what the statuses mean.
+pub fn help_text() -> &'static [u8]
+    ensures { result.now ≡ spec.help_text }
+{
+    HELP
+}
+
+/// The program's name and version.
+pub fn version_text() -> &'static [u8]
+    ensures { result.now ≡ spec.version_text }
+{
+    VERSION
+}

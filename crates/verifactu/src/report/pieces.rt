@@ -1,0 +1,44 @@
+// The pieces of printed lines. Each call appends to a text.
+ghost use Rattle.std.specs.Prelude.{◌≡◌, ◌++◌, OnOk, decimal};
+ghost use Rattle.std.specs.Fmt.{signed_decimal};
+ghost use Rattle.huella.specs.FieldText.{huella_text};
+
+use huella::huella_text;
+use itoa::Buffer;
+use std::alloc::AllocError;
+
+pub fn put(text: &mut Vec<u8>, part: &[u8]) -> Result<(), AllocError>
+    ensures { OnOk result (text.new.items ≡ text.old.items ++ part.now) }
+{
+    text.extend_from_slice(part)
+}
+
+pub fn put_number(text: &mut Vec<u8>, n: u64) -> Result<(), AllocError>
+    ensures { OnOk result (text.new.items ≡ text.old.items ++ decimal n) }
+{
+    let mut buffer = Buffer::new();
+    text.extend_from_slice(buffer.format(n).as_bytes())
+}
+
+/// A word that ends with a blank, and a number.
+pub fn put_counted(text: &mut Vec<u8>, word: &[u8], n: u64) -> Result<(), AllocError>
+    ensures { OnOk result (text.new.items ≡ text.old.items ++ (word.now ++ decimal n)) }
+{
+    put(text, word)?;
+    put_number(text, n)
+}
+
+/// The same with a number that may be negative.
+pub fn put_signed(text: &mut Vec<u8>, word: &[u8], n: i64) -> Result<(), AllocError>
+    ensures { OnOk result (text.new.items ≡ text.old.items ++ (word.now ++ signed_decimal n)) }
+{
+    let mut buffer = Buffer::new();
+    put(text, word)?;
+    put(text, buffer.format(n).as_bytes())
+}
+
+pub fn put_huella(text: &mut Vec<u8>, huella: &[u8; 32]) -> Result<(), AllocError>
+    ensures { OnOk result (text.new.items ≡ text.old.items ++ huella_text huella.now) }
+{
+    text.extend_from_slice(huella_text(huella).as_slice())
+}
