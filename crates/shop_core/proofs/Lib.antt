@@ -9,3 +9,4 @@ mod Grows
 mod Planning
 mod Taking
 mod Judged
+mod Ranges

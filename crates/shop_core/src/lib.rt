@@ -14,14 +14,16 @@ mod standing;
 mod state;
 #[cfg(test)]
 mod tests;
+mod waiting;
 mod words;
 
 pub use answers::{Planned, Refusal, Reply};
 pub use breaks::{Break, next_fault};
-pub use laws::legal_is_chained;
+pub use laws::{legal_is_chained, what_continues_fits_its_bytes};
 pub use plans::plan;
 pub use receipts::Receipt;
 pub use replies::reply_to;
 pub use requests::{Ask, Request};
 pub use state::State;
+pub use waiting::Waiting;
 pub use words::Word;
