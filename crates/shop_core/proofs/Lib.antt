@@ -10,3 +10,4 @@ mod Planning
 mod Taking
 mod Judged
 mod Ranges
+mod Breaking

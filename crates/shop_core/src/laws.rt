@@ -3,7 +3,8 @@ ghost use Rattle.std.specs.Prelude.{ℕ, List};
 ghost use Rattle.huella.specs.Linked.{Linked};
 ghost use Rattle.record_codec.specs.declared.entries.Entry.{Entry as AnyEntry};
 ghost use Rattle.shop_core.specs.History as history;
-ghost use Rattle.shop_core.specs.Legal.{Legal};
+ghost use Rattle.shop_core.specs.Answer.{MakesRecords};
+ghost use Rattle.shop_core.specs.Legal.{GoesOn, Legal};
 ghost use Rattle.shop_core.specs.Ranges.{FitsItsBytes};
 ghost use Rattle.shop_core.specs.Rising.{SerialsRise};
 
@@ -16,4 +17,14 @@ pub fn legal_is_chained()
 /// What continues a history can be written into its issuer's file.
 pub fn what_continues_fits_its_bytes()
     ensures { FitsItsBytes }
+{}
+
+/// A legal history with an entry that continues it is legal.
+pub fn a_legal_history_goes_on()
+    ensures { GoesOn }
+{}
+
+/// What an answer makes is a record.
+pub fn what_is_made_is_a_record()
+    ensures { MakesRecords }
 {}

@@ -1,0 +1,43 @@
+-- Where a load stops, and how it goes on.
+use Rattle.std.proofs.Common.{◌≡◌, ℕ, ◌+◌, List, [], ◌∷◌, ◌++◌, length, drop, map, refl, sym, ◌∙◌, ap, subst}
+use Rattle.std.proofs.lemmas.List.{map-append}
+use Rattle.frames.specs.Frames.{IsCounted, IsDamaged}
+use Rattle.journal.specs.Laws.{WalkGoesOn}
+use Rattle.journal.specs.Walk.{AreFrames}
+use Rattle.journal.specs.Step.{IsStep, IsNext}
+use Rattle.journal.specs.declared.reading.Step.{Step}
+use Rattle.journal.specs.declared.reading.Step.TheVariants.{Counted, Damaged}
+use Rattle.record_codec.specs.Bytes.{entry_bytes}
+use Rattle.record_codec.specs.Fields.{IsEncoding}
+use Rattle.record_codec.specs.declared.entries.Entry.{Entry}
+use Rattle.shop_core.specs.Legal.{Legal, Continues}
+use Rattle.chain_store.specs.Stands.{IsSoundUpTo, AreEncoded, bodies_of}
+
+pub encoded_more : (issuer : List ℕ) (entries : List Entry) (entry : Entry) → AreEncoded issuer entries → IsEncoding issuer entry (entry_bytes entry) → AreEncoded issuer (entries ++ entry ∷ [])
+encoded_more issuer [] entry all is = (is, tt)
+encoded_more issuer (e ∷ entries) entry all is = (all.0, encoded_more issuer entries entry all.1 is)
+
+pub bodies_more : (entries : List Entry) (entry : Entry) → bodies_of (entries ++ entry ∷ []) ≡ bodies_of entries ++ entry_bytes entry ∷ []
+bodies_more entries entry = map-append entry_bytes entries (entry ∷ [])
+
+-- a counted frame of an entry that continues the history is sound too
+pub sound_more : WalkGoesOn → (issuer : List ℕ) (entries : List Entry) (at : ℕ) (file body : List ℕ) (entry : Entry) → Legal issuer (entries ++ entry ∷ []) →
+    IsSoundUpTo issuer entries at file → IsCounted (drop at file) body → IsEncoding issuer entry body → IsSoundUpTo issuer (entries ++ entry ∷ []) (at + 5 + length body) file
+sound_more goes_on issuer entries at file body entry legal sound counted encoding =
+    let walk : AreFrames file (bodies_of entries ++ body ∷ []) (at + 5 + length body) = goes_on file (bodies_of entries) at body sound.frames counted in
+    let same : bodies_of entries ++ body ∷ [] ≡ bodies_of (entries ++ entry ∷ []) = ap (λ (b : List ℕ). bodies_of entries ++ b ∷ []) encoding.spelled ∙ sym (bodies_more entries entry) in
+    record {
+      header = sound.header;
+      frames = subst (λ (bs : List (List ℕ)). AreFrames file bs (at + 5 + length body)) same walk;
+      encoded = encoded_more issuer entries entry sound.encoded (subst (λ (b : List ℕ). IsEncoding issuer entry b) encoding.spelled encoding);
+      legal = legal;
+    }
+
+pub counted_step : (bytes body : List ℕ) (step : Step) (next : ℕ) → step ≡ Counted next → IsStep bytes step body → IsCounted bytes body
+counted_step bytes body step next e h = subst (λ (s : Step). IsStep bytes s body) e h
+
+pub damaged_step : (bytes body : List ℕ) (step : Step) → step ≡ Damaged → IsStep bytes step body → IsDamaged bytes
+damaged_step bytes body step e h = subst (λ (s : Step). IsStep bytes s body) e h
+
+pub next_step : (at next : ℕ) (body : List ℕ) (step : Step) → step ≡ Counted next → IsNext at step body → next ≡ at + 5 + length body
+next_step at next body step e h = (subst (λ (s : Step). IsNext at s body) e h).1

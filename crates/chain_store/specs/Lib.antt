@@ -1,0 +1,3 @@
+pub mod Stands
+pub mod Loading
+pub mod Ready

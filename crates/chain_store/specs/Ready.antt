@@ -1,0 +1,43 @@
+-- What a store keeps, and what one call of it leaves.
+use Rattle.std.specs.Prelude.{◌≡◌, ◌≤◌, ◌++◌, ℕ, List, Bool, IsTrue, Option, None, Result}
+use Rattle.chain_disk.specs.Told.{Told, LeavesOnly}
+use Rattle.journal.specs.File.{IsAt}
+use Rattle.journal.specs.declared.faults.StoreFault.{StoreFault}
+use Rattle.ports.specs.Readings.{IsTold, MovedBy}
+use Rattle.record_codec.specs.declared.entries.Entry.{Entry}
+use Rattle.shop_core.specs.Answer.{answer}
+use Rattle.shop_core.specs.Asked.{Asked}
+use Rattle.shop_core.specs.History.{History}
+use Rattle.shop_core.specs.Runs.{IsReply}
+use Rattle.shop_core.specs.declared.answers.Reply.{Reply}
+use Rattle.shop_core.specs.declared.answers.Reply.TheVariants.{Taken, Again, Refused}
+use Rattle.chain_store.specs.Loading.{furthest_gate}
+use Rattle.chain_store.specs.Stands.{AreEncoded, bodies_of, StandsAround}
+
+-- the disk reads as this history's file, with nothing pending, and its closing gate is at this place
+pub record Holds (history : History) (gate : ℕ) (t : Told) : Type 0 where
+  pub file : IsAt history.issuer (bodies_of history.entries) gate t
+  pub encoded : AreEncoded history.issuer history.entries
+
+-- where the journal isn't stopped and its disk tells what it holds, that is this history
+pub record IsReady (tells : Bool) (history : History) (stopped : Option ℕ) (gate : ℕ) (t : Told) : Type 0 where
+  pub place : gate ≤ furthest_gate history.entries
+  pub holds : stopped ≡ None → IsTrue tells → Holds history gate t
+
+-- One ask at a journal that goes on. The clock is read once. The reply is the answer at that reading, the history gains
+-- what it makes, and a crash at any moment of the call leaves the history before it, or that with the entry made.
+pub record Takes (old new : History) (ask : Asked) (coming coming_after : ℕ → Option ℕ) (tells : Bool) (t u : Told) (told : Result Reply StoreFault) : Type 0 where
+  pub seconds : ℕ
+  pub reading : IsTold (coming 0) seconds
+  pub moved : MovedBy 1 coming coming_after
+  pub issuer : new.issuer ≡ old.issuer
+  pub gained : List Entry
+  pub entries : new.entries ≡ old.entries ++ gained
+  pub reply : IsReply old.issuer old.entries ask seconds told gained
+  pub any_moment : IsTrue tells → LeavesOnly t u (StandsAround old.issuer old.entries (answer old.issuer old.entries ask seconds))
+
+-- P, where the reply tells of no new record
+abbrev pub IfNothingTaken : Reply → Type 0 → Type 0
+IfNothingTaken (Taken receipt) P = Unit {0}
+IfNothingTaken (Again receipt) P = P
+IfNothingTaken (Refused why) P = P

@@ -1,0 +1,257 @@
+// A history on disk: the state, the journal that keeps it, and the clock that dates its records.
+ghost use Rattle.std.specs.Prelude.{◌≡◌, ◌≤◌, ◌+◌, ◌++◌, ◌∷◌, [], ◌↔◌, true, ℕ, List, length, take, drop, IsTrue, IfOk, OnOk, OnErr, IsErrOf, IsSome, None, Some};
+ghost use Rattle.ports.specs.Causes.{Rose};
+ghost use Rattle.chain_disk.specs.Told.{LeavesOnly, LeavesNow};
+ghost use Rattle.shop_core.specs.History.{recs, noted, is_record};
+ghost use Rattle.shop_core.specs.Runs.{IsTaken};
+ghost use Rattle.record_codec.specs.declared.entries.Entry.TheVariants.{Notes};
+ghost use Rattle.std.specs.Int.{IsInRange};
+ghost use Rattle.shop_core.specs.Legal.{Continues};
+ghost use Rattle.chain_store.specs.Stands.{StandsFor, StandsBeforeOrWith};
+ghost use Rattle.chain_store.specs.Ready.{IfNothingTaken, IsReady, Takes};
+
+use chain_disk::Disk;
+use journal::{Journal, JournalFault, StoreFault};
+use ports::{Clock, NoMemory};
+use record_codec::{Entry, an_encoding_is_a_body, encode, fields_are_valid};
+use record_fields::{Line, Lines, Sealed, SealedList};
+use shop_core::{
+    Ask, Planned, Reply, State, Waiting, a_legal_history_goes_on, plan, taken,
+    what_continues_fits_its_bytes, what_is_made_is_a_record,
+};
+use std::alloc::Global;
+
+/// An issuer's history, in memory and on its disk.
+#[derive(Drop)]
+pub struct Store<D: Disk, C: Clock> {
+    state: State,
+    journal: Journal<D>,
+    clock: C,
+}
+
+impl<D: Disk, C: Clock> Store<D, C> {
+    ghost use Rattle.journal.specs.Journal.{disk_of, end_of, stopped_of};
+
+    /// The store of a journal that goes on and keeps this history.
+    pub fn of(state: State, journal: Journal<D>, clock: C) -> Store<D, C>
+        requires going_on { stopped_of journal ≡ None }
+        requires ready { IsReady D.tells state None (end_of journal) (D.told (disk_of journal)) }
+        ensures parts { (result.state ≡ state) × (result.journal ≡ journal) × (result.clock ≡ clock) }
+    {
+        Store {
+            state,
+            journal,
+            clock,
+        }
+    }
+
+    pub fn state(&self) -> &State
+        ensures { result.now ≡ self.now.state }
+    {
+        &self.state
+    }
+
+    /// The disk's count of faults when an append failed. None where the journal goes on.
+    pub fn stopped(&self) -> Option<u64>
+        ensures { result ≡ stopped_of self.now.journal }
+    {
+        self.journal.stopped()
+    }
+
+    pub fn into_parts(self) -> (State, D, C)
+        ensures { (result.0 ≡ self.state) × (result.1 ≡ disk_of self.journal) × (result.2 ≡ self.clock) }
+    {
+        let Store {
+            state,
+            journal,
+            clock,
+        } = self;
+        (state, journal.into_disk(), clock)
+    }
+
+    /// Answers an ask at the history and one reading of the clock, and keeps the record that is made, in the journal first.
+    /// A journal that stopped answers so before the clock is read. Want of memory comes before the first call of the disk.
+    pub fn take(&mut self, alloc: Global, ask: &Ask) -> Result<Reply, StoreFault>
+        requires { IsReady D.tells self.old.state (stopped_of self.old.journal) (end_of self.old.journal) (D.told (disk_of self.old.journal)) }
+        ensures ready { IsReady D.tells self.new.state (stopped_of self.new.journal) (end_of self.new.journal) (D.told (disk_of self.new.journal)) }
+        ensures takes { stopped_of self.old.journal ≡ None → Takes self.old.state self.new.state ask.now (C.coming self.old.clock) (C.coming self.new.clock)
+            D.tells (D.told (disk_of self.old.journal)) (D.told (disk_of self.new.journal)) result }
+
+        // After Ok every crash leaves the whole history.
+        ensures acknowledged { OnOk result (IsTrue D.tells →
+            LeavesNow (D.told (disk_of self.new.journal)) (StandsFor self.new.state.issuer self.new.state.entries)) }
+        ensures going_on { OnOk result ((stopped_of self.old.journal ≡ None) × (stopped_of self.new.journal ≡ None)) }
+        ensures nothing_taken { IfOk result (λ reply. IfNothingTaken reply (self.new.journal ≡ self.old.journal)) }
+        ensures no_memory { IsErrOf result StoreFault.NoMemory → self.new.journal ≡ self.old.journal }
+
+        // A fault of the disk stops the journal for good. From then on nothing is asked of the disk or the clock.
+        ensures fault { IsErrOf result StoreFault.DiskFault → Rose (D.faults (disk_of self.old.journal)) (D.faults (disk_of self.new.journal))
+            × (stopped_of self.new.journal ≡ Some (D.faults (disk_of self.new.journal))) }
+        ensures stopped { (faults : ℕ) → IsErrOf result (StoreFault.Stopped faults) ↔ (stopped_of self.old.journal ≡ Some faults) }
+        ensures untouched { IsSome (stopped_of self.old.journal) → self.new ≡ self.old }
+        ensures later { D.faults (disk_of self.old.journal) ≤ D.faults (disk_of self.new.journal) }
+    {
+        if let Some(faults) = self.journal.stopped() {
+            return Err(StoreFault::Stopped { faults });
+        }
+        let seconds = self.clock.now();
+        what_is_made_is_a_record();
+        let _legal = self.state.history();
+        match plan(alloc, &self.state, ask, seconds) {
+            Err(_) => Err(StoreFault::NoMemory),
+            Ok(Planned::Again(receipt)) => Ok(Reply::Again(receipt)),
+            Ok(Planned::Refused(why)) => Ok(Reply::Refused(why)),
+            Ok(Planned::Made(entry)) => self.take_made(alloc, entry),
+        }
+    }
+
+    // Keeps the record that an answer made.
+    fn take_made(&mut self, alloc: Global, entry: Entry) -> Result<Reply, StoreFault>
+        requires going_on { stopped_of self.old.journal ≡ None }
+        requires ready { IsReady D.tells self.old.state None (end_of self.old.journal) (D.told (disk_of self.old.journal)) }
+        requires continues { Continues self.old.state.issuer self.old.state.entries entry }
+        requires of_record { is_record entry ≡ true }
+        ensures ready { IsReady D.tells self.new.state (stopped_of self.new.journal) (end_of self.new.journal) (D.told (disk_of self.new.journal)) }
+        ensures issuer { self.new.state.issuer ≡ self.old.state.issuer }
+        ensures taken { IfOk result (λ reply. IsTaken self.old.state.entries entry reply × (stopped_of self.new.journal ≡ None)
+            × (self.new.state.entries ≡ self.old.state.entries ++ entry ∷ [])) }
+        ensures same { OnErr result (self.new.state.entries ≡ self.old.state.entries) }
+        ensures clock { self.new.clock ≡ self.old.clock }
+        ensures any_moment { IsTrue D.tells → LeavesOnly (D.told (disk_of self.old.journal)) (D.told (disk_of self.new.journal))
+            (StandsBeforeOrWith self.old.state.issuer self.old.state.entries entry) }
+        ensures acknowledged { OnOk result (IsTrue D.tells →
+            LeavesNow (D.told (disk_of self.new.journal)) (StandsFor self.new.state.issuer self.new.state.entries)) }
+        ensures no_memory { IsErrOf result StoreFault.NoMemory → self.new.journal ≡ self.old.journal }
+        ensures fault { IsErrOf result StoreFault.DiskFault → Rose (D.faults (disk_of self.old.journal)) (D.faults (disk_of self.new.journal))
+            × (stopped_of self.new.journal ≡ Some (D.faults (disk_of self.new.journal))) }
+        ensures not_stopped { (faults : ℕ) → IsErrOf result (StoreFault.Stopped faults) → ⊥ }
+        ensures later { D.faults (disk_of self.old.journal) ≤ D.faults (disk_of self.new.journal) }
+    {
+        let reply = taken(self.state.records() + 1, &entry);
+        match self.add(alloc, entry) {
+            Ok(()) => {
+                let _legal = self.state.history();
+                Ok(reply)
+            }
+            Err(fault) => Err(fault),
+        }
+    }
+
+    /// Keeps the agency's lines for the first records that have none: 1 to 1000 lines, and no more than such records.
+    pub fn note(&mut self, alloc: Global, lines: &[Line]) -> Result<(), StoreFault>
+        requires ready { IsReady D.tells self.old.state (stopped_of self.old.journal) (end_of self.old.journal) (D.told (disk_of self.old.journal)) }
+        requires count { IsInRange 1 1000 (length lines.now) }
+        requires within { length (noted self.old.state.entries) + length lines.now ≤ length (recs self.old.state.entries) }
+        ensures ready { IsReady D.tells self.new.state (stopped_of self.new.journal) (end_of self.new.journal) (D.told (disk_of self.new.journal)) }
+        ensures issuer { self.new.state.issuer ≡ self.old.state.issuer }
+        ensures noted { OnOk result (self.new.state.entries ≡ self.old.state.entries ++ Notes (length (noted self.old.state.entries)) lines.now ∷ []) }
+        ensures same { OnErr result (self.new.state.entries ≡ self.old.state.entries) }
+        ensures clock { self.new.clock ≡ self.old.clock }
+
+        // A crash at any moment of the call leaves the history before it, or that with these lines.
+        ensures any_moment { stopped_of self.old.journal ≡ None → IsTrue D.tells → LeavesOnly (D.told (disk_of self.old.journal)) (D.told (disk_of self.new.journal))
+            (StandsBeforeOrWith self.old.state.issuer self.old.state.entries (Notes (length (noted self.old.state.entries)) lines.now)) }
+        ensures acknowledged { OnOk result (IsTrue D.tells →
+            LeavesNow (D.told (disk_of self.new.journal)) (StandsFor self.new.state.issuer self.new.state.entries)) }
+        ensures going_on { OnOk result ((stopped_of self.old.journal ≡ None) × (stopped_of self.new.journal ≡ None)) }
+        ensures no_memory { IsErrOf result StoreFault.NoMemory → self.new.journal ≡ self.old.journal }
+        ensures fault { IsErrOf result StoreFault.DiskFault → Rose (D.faults (disk_of self.old.journal)) (D.faults (disk_of self.new.journal))
+            × (stopped_of self.new.journal ≡ Some (D.faults (disk_of self.new.journal))) }
+        ensures stopped { (faults : ℕ) → IsErrOf result (StoreFault.Stopped faults) ↔ (stopped_of self.old.journal ≡ Some faults) }
+        ensures untouched { IsSome (stopped_of self.old.journal) → self.new ≡ self.old }
+        ensures later { D.faults (disk_of self.old.journal) ≤ D.faults (disk_of self.new.journal) }
+    {
+        if let Some(faults) = self.journal.stopped() {
+            return Err(StoreFault::Stopped { faults });
+        }
+        let first = self.state.noted();
+        let Ok(copy) = Vec::from_slice(alloc, lines) else {
+            return Err(StoreFault::NoMemory);
+        };
+        self.add(
+            alloc,
+            Entry::Notes {
+                first,
+                lines: Lines::of(copy),
+            },
+        )
+    }
+
+    /// The counts of the history, and at most so many of the first records that have no noted line.
+    pub fn waiting(&self, alloc: Global, max: u16) -> Result<Waiting, NoMemory>
+        ensures { IfOk result (λ waiting. (waiting.noted ≡ length (noted self.now.state.entries)) × (waiting.records ≡ length (recs self.now.state.entries))
+            × (waiting.list ≡ take max (drop (length (noted self.now.state.entries)) (recs self.now.state.entries)))) }
+    {
+        let first = self.state.noted();
+        let records = records_from(alloc, &self.state, first, max)?;
+        Ok(Waiting {
+            noted: first,
+            records: self.state.records(),
+            list: SealedList::of(records),
+        })
+    }
+
+    // Adds an entry that continues the history, to the journal and then to the state. What needs memory is done before the
+    // first call of the disk.
+    fn add(&mut self, alloc: Global, entry: Entry) -> Result<(), StoreFault>
+        requires going_on { stopped_of self.old.journal ≡ None }
+        requires ready { IsReady D.tells self.old.state None (end_of self.old.journal) (D.told (disk_of self.old.journal)) }
+        requires continues { Continues self.old.state.issuer self.old.state.entries entry }
+        ensures ready { IsReady D.tells self.new.state (stopped_of self.new.journal) (end_of self.new.journal) (D.told (disk_of self.new.journal)) }
+        ensures issuer { self.new.state.issuer ≡ self.old.state.issuer }
+        ensures added { OnOk result ((stopped_of self.new.journal ≡ None)
+            × (self.new.state.entries ≡ self.old.state.entries ++ entry ∷ [])) }
+        ensures same { OnErr result (self.new.state.entries ≡ self.old.state.entries) }
+        ensures clock { self.new.clock ≡ self.old.clock }
+        ensures any_moment { IsTrue D.tells → LeavesOnly (D.told (disk_of self.old.journal)) (D.told (disk_of self.new.journal))
+            (StandsBeforeOrWith self.old.state.issuer self.old.state.entries entry) }
+        ensures no_memory { IsErrOf result StoreFault.NoMemory → self.new.journal ≡ self.old.journal }
+        ensures fault { IsErrOf result StoreFault.DiskFault → Rose (D.faults (disk_of self.old.journal)) (D.faults (disk_of self.new.journal))
+            × (stopped_of self.new.journal ≡ Some (D.faults (disk_of self.new.journal))) }
+        ensures not_stopped { (faults : ℕ) → IsErrOf result (StoreFault.Stopped faults) → ⊥ }
+        ensures later { D.faults (disk_of self.old.journal) ≤ D.faults (disk_of self.new.journal) }
+        ensures acknowledged { OnOk result (IsTrue D.tells →
+            LeavesNow (D.told (disk_of self.new.journal)) (StandsFor self.new.state.issuer self.new.state.entries)) }
+    {
+        a_legal_history_goes_on();
+        what_continues_fits_its_bytes();
+        an_encoding_is_a_body();
+        fields_are_valid(&entry);
+        let _few = self.state.entries();
+        let _legal = self.state.history();
+        let Ok(bytes) = encode(alloc, &entry) else {
+            return Err(StoreFault::NoMemory);
+        };
+        let Ok(()) = self.state.reserve(&entry) else {
+            return Err(StoreFault::NoMemory);
+        };
+        match self.journal.append(bytes.as_slice()) {
+            Ok(_) => {
+                self.state.apply(entry);
+                Ok(())
+            }
+            Err(JournalFault::DiskFault) => Err(StoreFault::DiskFault),
+            Err(JournalFault::Stopped { .. }) => unreachable!(),
+        }
+    }
+}
+
+// At most so many of the records behind the first ones.
+fn records_from(
+    alloc: Global,
+    state: &State,
+    first: u32,
+    max: u16,
+) -> Result<Vec<Sealed>, NoMemory>
+    requires { first ≤ 1_000_000 }
+    ensures { IfOk result (λ records. records.items ≡ take max (drop first (recs state.now.entries))) }
+{
+    let mut records = Vec::new(alloc);
+    for n in 0..max as u32 {
+        match state.sealed(alloc, first + n + 1)? {
+            Some(sealed) => records.push(sealed)?,
+            None => return Ok(records),
+        }
+    }
+    Ok(records)
+}
