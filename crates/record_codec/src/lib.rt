@@ -1,6 +1,11 @@
-//! Entries of a history.
+//! Entries of a history, and their bytes.
 #![tactic(auto)]
 
+mod codes;
 mod entries;
+mod faults;
+mod fields;
+mod values;
 
 pub use entries::Entry;
+pub use faults::BadEntry;
