@@ -43,14 +43,17 @@ abbrev pub ◌>>=◌ : {A B : Type 0} → Result A ℕ → (A → Result B ℕ) 
 (Ok x) >>= f = f x
 (Err left) >>= f = Err left
 
--- what a function returned, seen by view, is what reading gives, want of memory aside
+-- what a call returned, seen by view, and the bytes that it left are what reading gives, want of memory aside
 abbrev pub Fails : {Y : Type 0} → Unread → Result Y ℕ → Type 0
 Fails unread.NoMemory read = ⊤
 Fails (unread.Left left) read = read ≡ Err left
 
-abbrev pub Gives : {X Y : Type 0} → (X → Y) → Result X Unread → Result Y ℕ → Type 0
-Gives view (Ok x) read = read ≡ Ok (view x)
-Gives view (Err e) read = Fails e read
+abbrev pub GivesBy : {X Y : Type 0} → (X → Y) → Result X Unread → List ℕ → Reading Y → Type 0
+GivesBy view (Ok x) rest read = read ≡ Ok (view x, rest)
+GivesBy view (Err e) rest read = Fails e read
+
+abbrev pub Gives : {X : Type 0} → Result X Unread → List ℕ → Reading X → Type 0
+Gives returned rest read = GivesBy (λ x. x) returned rest read
 
 -- ---- one field
 

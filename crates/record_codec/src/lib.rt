@@ -5,7 +5,9 @@ mod codes;
 mod entries;
 mod faults;
 mod fields;
+mod reading;
 mod values;
 
 pub use entries::Entry;
 pub use faults::BadEntry;
+pub use reading::decode;
