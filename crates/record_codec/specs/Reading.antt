@@ -100,7 +100,7 @@ abbrev pub flag_at : List ℕ → Reading Bool
 flag_at = byte_at (of_code flag_code flags)
 
 -- a tax number
-abbrev pub nif_in : List ℕ → Option (List ℕ)
+unfoldable pub nif_in : List ℕ → Option (List ℕ)
 nif_in bytes = when ((is_person bytes || is_entity bytes) && is_controlled bytes) bytes
 
 -- a name, which is UTF-8

@@ -7,7 +7,9 @@ mod faults;
 mod fields;
 mod reading;
 mod values;
+mod writing;
 
 pub use entries::Entry;
 pub use faults::BadEntry;
 pub use reading::decode;
+pub use writing::encode;
