@@ -1,3 +1,5 @@
 pub mod CodeLemmas
 pub mod ValueLemmas
 pub mod Loop
+pub mod Readers
+pub mod EntryLemmas

@@ -1,0 +1,5 @@
+use Rattle.record_codec.proofs.EntryLemmas.{num_day}
+use Rattle.record_codec.proofs.reading.decode.Goals as goal
+
+pub overflow_sub-result : goal.overflow_sub-result
+overflow_sub-result c = ?
