@@ -6,17 +6,17 @@ use Rattle.std.proofs.lemmas.List.{take_at, drop_at, take-append-drop, length-ap
 use Rattle.record_codec.specs.Fields.{AreBytes}
 use Rattle.record_codec.specs.Reading.{Reading, ◌>>=◌, found, byte_at, fixed_at, text_at, many_at}
 
-AreBytes-drop : (n : ℕ) (bytes : List ℕ) → AreBytes bytes → AreBytes (drop n bytes)
+pub AreBytes-drop : (n : ℕ) (bytes : List ℕ) → AreBytes bytes → AreBytes (drop n bytes)
 AreBytes-drop n bytes h i = rw get_or-drop (h (n + i))
 
-AreBytes-take : (n : ℕ) (bytes : List ℕ) → AreBytes bytes → AreBytes (take n bytes)
+pub AreBytes-take : (n : ℕ) (bytes : List ℕ) → AreBytes bytes → AreBytes (take n bytes)
 AreBytes-take n bytes h i =
     elim (cases_lt i n) [
       | inl lt ↦ rw (get_or-take n bytes i 0 lt) (h i)
       | inr le ↦ rw (get_or_past (take n bytes) i 0 (omega (arith, length-take n bytes))) (omega arith)
     ]
 
-AreBytes-tail : (b : ℕ) (bytes : List ℕ) → AreBytes (b ∷ bytes) → AreBytes bytes
+pub AreBytes-tail : (b : ℕ) (bytes : List ℕ) → AreBytes (b ∷ bytes) → AreBytes bytes
 AreBytes-tail b bytes h i = h (suc i)
 
 -- what a reader took from the front: a value that fits, whose bytes stand there
@@ -84,9 +84,20 @@ Reads-then {A} {B} first second spell spell_rest Fits FitsToo key one two = reco
 
 -- ---- one reader after another
 
+abbrev paired : {A B : Type 0} → A → B → List ℕ → Reading (A × B)
+paired a b rest = Ok ((a, b), rest)
+
+-- two parts
+abbrev pub pair_at : {A B : Type 0} → (List ℕ → Reading A) → (List ℕ → Reading B) → List ℕ → Reading (A × B)
+pair_at one two bytes = one bytes >>= λ a. two a.1 >>= λ b. paired a.0 b.0 b.1
+
+-- two parts, of which something is made
+abbrev pub both_at : {A B C : Type 0} → (List ℕ → Reading A) → (List ℕ → Reading B) → (A × B → C) → List ℕ → Reading C
+both_at {A} {B} one two make bytes = ◌>>=◌ {A = (A × B) × List ℕ} (pair_at one two bytes) (λ p. Ok (make p.0, p.1))
+
 pub Reads-and : {A B : Type 0} (one : List ℕ → Reading A) (two : List ℕ → Reading B) (spell : A → List ℕ) (spell_too : B → List ℕ)
     (Fits : A → Type 0) (FitsToo : B → Type 0) → Reads one spell Fits → Reads two spell_too FitsToo
-    → Reads {A = A × B} (λ bytes. one bytes >>= λ a. two a.1 >>= λ b. Ok ((a.0, b.0), b.1)) (λ p. spell p.0 ++ spell_too p.1) (λ p. Fits p.0 × FitsToo p.1)
+    → Reads {A = A × B} (pair_at one two) (λ p. spell p.0 ++ spell_too p.1) (λ p. Fits p.0 × FitsToo p.1)
 Reads-and {A} {B} one two spell spell_too Fits FitsToo first second = record {
   takes = λ bytes value rest are e.
     let w = went (one bytes) (λ a. two a.1 >>= λ b. Ok ((a.0, b.0), b.1)) (value, rest) e in
@@ -134,6 +145,14 @@ Reads-as read same spell spell_same Fits FitsSame reads is spelled to back = rec
     record { parts = rw (spelled value) t.parts; rest_fits = t.rest_fits; fits = to value t.fits };
   again = λ value rest fits. rw (spelled value, is (spell value ++ rest)) (reads.again value rest (back value fits));
 }
+
+pub Reads-both : {A B C : Type 0} (one : List ℕ → Reading A) (two : List ℕ → Reading B) (spell : A → List ℕ) (spell_too : B → List ℕ)
+    (Fits : A → Type 0) (FitsToo : B → Type 0) (make : A × B → C) (part : C → A × B)
+    → Reads one spell Fits → Reads two spell_too FitsToo → ((c : C) → make (part c) ≡ c) → ((p : A × B) → part (make p) ≡ p)
+    → Reads (both_at one two make) (λ c. spell (part c).0 ++ spell_too (part c).1) (λ c. Fits (part c).0 × FitsToo (part c).1)
+Reads-both {A} {B} {C} one two spell spell_too Fits FitsToo make part first second whole parted =
+    Reads-made (pair_at one two) (λ (p : A × B). spell p.0 ++ spell_too p.1)
+    (λ (p : A × B). Fits p.0 × FitsToo p.1) make part whole parted (Reads-and one two spell spell_too Fits FitsToo first second)
 
 pub bind_assoc : {A B C : Type 0} (r : Reading A) (f : A × List ℕ → Reading B) (g : B × List ℕ → Reading C) → ((r >>= f) >>= g) ≡ (r >>= λ x. (f x >>= g))
 bind_assoc (Ok x) f g = refl
