@@ -5,3 +5,5 @@ pub mod Readers
 pub mod FieldLemmas
 pub mod FieldReaders
 pub mod EntryLemmas
+pub mod BreakdownLemmas
+pub mod EntryReaders

@@ -157,3 +157,26 @@ Reads-both {A} {B} {C} one two spell spell_too Fits FitsToo make part first seco
 pub bind_assoc : {A B C : Type 0} (r : Reading A) (f : A × List ℕ → Reading B) (g : B × List ℕ → Reading C) → ((r >>= f) >>= g) ≡ (r >>= λ x. (f x >>= g))
 bind_assoc (Ok x) f g = refl
 bind_assoc (Err left) f g = refl
+
+-- ---- what is made of what was read, where not all is made so
+
+pub Reads-through : {A B : Type 0} (read : List ℕ → Reading A) (make : A → B) (spell : A → List ℕ) (spell_made : B → List ℕ)
+    (Fits : A → Type 0) (FitsMade : B → Type 0) → Reads read spell Fits
+    → ((a : A) → Fits a → FitsMade (make a) × (spell_made (make a) ≡ spell a))
+    → ((b : B) → FitsMade b → (a : A) × Fits a × (make a ≡ b))
+    → Reads (λ bytes. read bytes >>= λ a. Ok (make a.0, a.1)) spell_made FitsMade
+Reads-through {A} {B} read make spell spell_made Fits FitsMade reads made parted = record {
+  takes = λ bytes value rest are e.
+    let w = went (read bytes) (λ a. Ok (make a.0, a.1)) (value, rest) e in
+    let t = reads.takes bytes w.value w.rest are w.was in
+    let m = made w.value t.fits in
+    let same = same_given (make w.value) value w.rest rest w.went_on in
+    let took : Took spell_made FitsMade bytes (make w.value) w.rest =
+        record { parts = rw m.1 t.parts; rest_fits = t.rest_fits; fits = m.0 } in
+    took_same _ _ bytes (make w.value) value w.rest rest took same.0 same.1;
+  again = λ value rest fits.
+    let p = parted value fits in
+    let spelled : spell_made value ≡ spell p.0 = ap spell_made (sym p.2) ∙ (made p.0 p.1).1 in
+    rw spelled (ap (λ (r : Reading A). r >>= λ a. Ok (make a.0, a.1)) (reads.again p.0 rest p.1)
+    ∙ ap (λ (b : B). given (b, rest)) p.2);
+}
