@@ -1,5 +1,5 @@
 -- The parts of an entry, each with its reader.
-use Rattle.std.proofs.Common.{◌≡◌, ◌≢◌, ℕ, zero, suc, ◌^◌, ◌<◌, ◌≤◌, Bool, true, false, eqb, is_some, List, [], ◌∷◌, ◌++◌, length, Option, Some, None, Ok, Err, refl, sym, ap, subst, ◌∙◌, append_assoc, arith, IsTrue, ℤ}
+use Rattle.std.proofs.Common.{◌≡◌, ◌≢◌, ℕ, zero, suc, ◌^◌, ◌<◌, ◌≤◌, Bool, true, false, eqb, is_some, List, [], ◌∷◌, ◌++◌, length, Option, Some, None, Ok, Err, refl, sym, ap, subst, ◌∙◌, append_assoc, arith, inl, inr, IsTrue, ℤ}
 use Rattle.std.specs.Prelude.{⊤, IsUtf8}
 use Rattle.std.specs.Int.{w16, w32, w64, to_be_bytes, cast_unsigned, IsInRange}
 use Rattle.std.specs.List.{flat_map, AllByRecursion}
@@ -26,7 +26,7 @@ use Rattle.record_codec.specs.Fields.{AreBytes, IsMoment, IsHuella, IsLink}
 use Rattle.record_codec.specs.Reading.{Reading, ◌>>=◌, byte_at, fixed_at, text_at, number_at, number_in, many_at, nif_in, base_in, offset_in, flag_at, huella_at, is_name, id_at, party_at, customer_behind, customer_at, refs_at, tax_line_at, breakdown_at, moment_at, link_behind, link_at}
 use Rattle.record_codec.proofs.FieldLemmas.{Reads-text, Reads-counted}
 use Rattle.record_codec.proofs.FieldReaders.{wide32, wide64, Reads-number, Reads-byte_in, flag_reads, class_reads, nif_reads, huella_reads, IsBase, base_reads, offset_reads}
-use Rattle.record_codec.proofs.Readers.{Reads, Took, went, took_same, same_given, pair_at, both_at, Reads-and, Reads-both, Reads-through, Reads-as, bind_assoc}
+use Rattle.record_codec.proofs.Readers.{Reads, Took, went, took_same, took_shorter, erred, given_not, same_given, pair_at, both_at, Reads-and, Reads-both, Reads-through, Reads-as, bind_assoc}
 use Rattle.record_codec.proofs.ValueLemmas.{name_is, name_yes}
 
 -- ---- an invoice
@@ -99,6 +99,14 @@ unfolding customer_bytes customer_at
 customer_again None rest fits = refl
 customer_again (Some party) rest fits = rw (party_reads.again party rest (fits party refl)) refl
 
+customer_fails : (flag : Bool) (bytes : List ℕ) (left : ℕ) → AreBytes bytes → customer_behind flag bytes ≡ Err left → left ≤ length bytes
+customer_fails false bytes left are e = absurd (given_not {A = Option Party} (None, bytes) left e)
+customer_fails true bytes left are e =
+    elim (erred (party_at bytes) (λ p. Ok (Some p.0, p.1)) left e) [
+      | inl f ↦ party_reads.fails bytes left are f
+      | inr w ↦ absurd (given_not {A = Option Party} (Some w.0.0, w.0.1) left w.2)
+    ]
+
 pub customer_reads : Reads customer_at customer_bytes IsTextCustomer
 unfolding customer_at
 customer_reads = record {
@@ -107,6 +115,14 @@ customer_reads = record {
     let t = flag_reads.takes bytes w.value w.rest are w.was in
     customer_takes w.value bytes w.rest value rest t.parts t.rest_fits w.went_on;
   again = customer_again;
+  fails = λ bytes left are e.
+    elim (erred (flag_at bytes) (λ f. customer_behind f.0 f.1) left e) [
+      | inl f ↦ flag_reads.fails bytes left are f
+      | inr w ↦ (
+          let t = flag_reads.takes bytes w.0.0 w.0.1 are w.1 in
+          let within = customer_fails w.0.0 w.0.1 left t.rest_fits w.2 in
+          omega (arith, took_shorter t, within))
+    ];
 }
 
 -- ---- a link
@@ -150,6 +166,10 @@ unfolding link_bytes link_at
 link_again First rest fits = refl
 link_again (After id huella) rest fits = huella_behind ((id_bytes id ++ huella) ++ rest) ∙ link_behind_reads.again (After id huella) rest fits
 
+link_fails : (flag : Bool) (bytes : List ℕ) (left : ℕ) → AreBytes bytes → link_behind flag bytes ≡ Err left → left ≤ length bytes
+link_fails false bytes left are e = absurd (given_not (First, bytes) left e)
+link_fails true bytes left are e = link_behind_reads.fails bytes left are (sym (huella_behind bytes) ∙ e)
+
 pub link_reads : Reads link_at link_bytes IsLink
 unfolding link_at
 link_reads = record {
@@ -158,6 +178,14 @@ link_reads = record {
     let t = flag_reads.takes bytes w.value w.rest are w.was in
     link_takes w.value bytes w.rest value rest t.parts t.rest_fits w.went_on;
   again = link_again;
+  fails = λ bytes left are e.
+    elim (erred (flag_at bytes) (λ f. link_behind f.0 f.1) left e) [
+      | inl f ↦ flag_reads.fails bytes left are f
+      | inr w ↦ (
+          let t = flag_reads.takes bytes w.0.0 w.0.1 are w.1 in
+          let within = link_fails w.0.0 w.0.1 left t.rest_fits w.2 in
+          omega (arith, took_shorter t, within))
+    ];
 }
 
 -- ---- a moment

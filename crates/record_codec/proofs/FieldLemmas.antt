@@ -12,7 +12,7 @@ use Rattle.record_fields.specs.Picks.{when}
 use Rattle.record_codec.specs.Bytes.{text_bytes}
 use Rattle.record_codec.specs.Fields.{AreBytes}
 use Rattle.record_codec.specs.Reading.{Reading, ◌>>=◌, found, byte_at, fixed_at, text_at, number_at, number_in, many_at}
-use Rattle.record_codec.proofs.Readers.{Reads, Took, Went, went, took_same, same_given, AreBytes-drop, AreBytes-take, AreBytes-tail, Reads-then}
+use Rattle.record_codec.proofs.Readers.{Reads, Took, Went, went, took_same, took_shorter, erred, given_not, same_given, AreBytes-drop, AreBytes-take, AreBytes-tail, Reads-then}
 use Rattle.record_codec.proofs.ValueLemmas.{taken, taken_some}
 
 -- what was found
@@ -20,6 +20,30 @@ found_is : {A : Type 0} (left : ℕ) (o : Option A) (after : List ℕ) (value : 
     → (o ≡ Some value) × (after ≡ rest)
 found_is left None after value rest e = absurd cc
 found_is left (Some x) after value rest e = let same = same_given x value after rest e in (ap (λ y. Some y) same.0, same.1)
+
+-- where a field was not found
+found_not : {A : Type 0} (left : ℕ) (o : Option A) (after : List ℕ) (n : ℕ) → found left o after ≡ Err n → left ≡ n
+found_not left None after n e = cc
+found_not left (Some x) after n e = absurd (given_not (x, after) n e)
+
+byte_fails : {A : Type 0} (says : ℕ → Option A) (bytes : List ℕ) (left : ℕ) → byte_at says bytes ≡ Err left → left ≤ length bytes
+byte_fails says [] left e = let same : 0 ≡ left = cc in omega arith
+byte_fails says (b ∷ bytes) left e = let same = found_not (suc (length bytes)) (says b) bytes left e in omega (arith, same)
+
+-- a test that may have refused
+guarded : {A : Type 0} (b : Bool) (n : ℕ) (o : Option A) (after : List ℕ) (left : ℕ) → cond b (Err n) (found n o after) ≡ Err left → n ≡ left
+guarded true n o after left e = cc
+guarded false n o after left e = found_not n o after left e
+
+fixed_fails : {A : Type 0} (n : ℕ) (says : List ℕ → Option A) (bytes : List ℕ) (left : ℕ) → fixed_at n says bytes ≡ Err left → left ≤ length bytes
+fixed_fails n says bytes left e =
+    let same = guarded (ltb (length bytes) n) (length bytes) (says (take n bytes)) (drop n bytes) left e in omega (arith, same)
+
+text_fails : (passes : List ℕ → Bool) (bytes : List ℕ) (left : ℕ) → text_at passes bytes ≡ Err left → left ≤ length bytes
+text_fails passes [] left e = let same : 0 ≡ left = cc in omega arith
+text_fails passes (n ∷ bytes) left e =
+    let text = take n bytes in
+    let same = guarded (ltb (length bytes) n) (suc (length bytes)) (when (passes text) text) (drop n bytes) left e in omega (arith, same)
 
 -- a test that did not refuse
 guard_ok : {A : Type 0} (b : Bool) (left : ℕ) (read : Reading A) (got : A × List ℕ) → cond b (Err left) read ≡ Ok got → (b ≡ false) × (read ≡ Ok got)
@@ -44,6 +68,7 @@ pub Reads-byte : {A : Type 0} (says : ℕ → Option A) (code : A → ℕ) (Fits
 Reads-byte {A} says code Fits is_said is_read = record {
   takes = byte_takes says code Fits is_said;
   again = λ value rest fits. ap (λ (o : Option A). found (suc (length rest)) o rest) (is_read value fits);
+  fails = λ bytes left are e. byte_fails says bytes left e;
 }
 
 -- ---- some bytes
@@ -68,6 +93,7 @@ Reads-fixed {A} n says spell Fits is_said is_read = record {
     let r = is_read value fits in
     let long : ltb (length (spell value ++ rest)) n ≡ false = le-ltb _ _ (omega (arith, length-append (spell value) rest, r.0)) in
     rw (long, take_at (spell value) rest n r.0, drop_at (spell value) rest n r.0, r.1) refl;
+  fails = λ bytes left are e. fixed_fails n says bytes left e;
 }
 
 -- ---- a text behind its length
@@ -96,7 +122,11 @@ text_again passes value rest fits =
     rw (long, take_at value rest (length value) refl, drop_at value rest (length value) refl, fits) refl
 
 pub Reads-text : (passes : List ℕ → Bool) → Reads (text_at passes) text_bytes (λ t. passes t ≡ true)
-Reads-text passes = record { takes = text_takes passes; again = text_again passes }
+Reads-text passes = record {
+  takes = text_takes passes;
+  again = text_again passes;
+  fails = λ bytes left are e. text_fails passes bytes left e;
+}
 
 -- ---- so many of them
 
@@ -133,9 +163,28 @@ many_again {A} item spell Fits reads (suc n) (x ∷ xs) rest fits =
     ap (many_at item (suc n)) regrouped
     ∙ rw (reads.again x (flat_map spell xs ++ rest) fits.1.0, many_again item spell Fits reads n xs rest (omega (arith, len), fits.1.1)) refl
 
+many_fails : {A : Type 0} (item : List ℕ → Reading A) (spell : A → List ℕ) (Fits : A → Type 0) → Reads item spell Fits → (n : ℕ)
+    → (bytes : List ℕ) (left : ℕ) → AreBytes bytes → many_at item n bytes ≡ Err left → left ≤ length bytes
+unfolding many_at
+many_fails {A} item spell Fits reads zero bytes left are e = absurd (given_not {A = List A} ([], bytes) left e)
+many_fails {A} item spell Fits reads (suc n) bytes left are e =
+    elim (erred (item bytes) (λ x. many_at item n x.1 >>= λ xs. Ok (x.0 ∷ xs.0, xs.1)) left e) [
+      | inl f ↦ reads.fails bytes left are f
+      | inr w ↦ (
+          let t = reads.takes bytes w.0.0 w.0.1 are w.1 in
+          elim (erred (many_at item n w.0.1) (λ xs. Ok (w.0.0 ∷ xs.0, xs.1)) left w.2) [
+            | inl f ↦ (let within = many_fails item spell Fits reads n w.0.1 left t.rest_fits f in omega (arith, took_shorter t, within))
+            | inr v ↦ absurd (given_not {A = List A} (w.0.0 ∷ v.0.0, v.0.1) left v.2)
+          ])
+    ]
+
 pub Reads-many : {A : Type 0} (item : List ℕ → Reading A) (spell : A → List ℕ) (Fits : A → Type 0) → Reads item spell Fits → (n : ℕ)
     → Reads (many_at item n) (flat_map spell) (λ xs. (length xs ≡ n) × AllByRecursion Fits xs)
-Reads-many item spell Fits reads n = record { takes = many_takes item spell Fits reads n; again = many_again item spell Fits reads n }
+Reads-many item spell Fits reads n = record {
+  takes = many_takes item spell Fits reads n;
+  again = many_again item spell Fits reads n;
+  fails = many_fails item spell Fits reads n;
+}
 
 -- behind their number
 pub Reads-counted : {A : Type 0} (count : List ℕ → Reading ℕ) (item : List ℕ → Reading A) (spell_count : ℕ → List ℕ) (spell : A → List ℕ)

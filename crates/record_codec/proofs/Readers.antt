@@ -1,5 +1,5 @@
 -- What a reader reads is what is written, and what is written is read.
-use Rattle.std.proofs.Common.{◌≡◌, ℕ, zero, suc, ◌+◌, ◌<◌, ◌≤◌, Bool, true, false, cond, ltb, List, [], ◌∷◌, ◌++◌, length, get_or, take, drop, Option, Some, None, Ok, Err, refl, sym, ap, subst, ◌∙◌, append_assoc, arith, inl, inr}
+use Rattle.std.proofs.Common.{◌≡◌, ◌⊎◌, ℕ, zero, suc, ◌+◌, ◌<◌, ◌≤◌, Bool, true, false, cond, ltb, List, [], ◌∷◌, ◌++◌, length, get_or, take, drop, Option, Some, None, Ok, Err, refl, sym, ap, subst, ◌∙◌, append_assoc, arith, inl, inr}
 use Rattle.std.specs.List.{flat_map, AllByRecursion}
 use Rattle.std.proofs.lemmas.Bool.{cases_lt, ltb-false, le-ltb}
 use Rattle.std.proofs.lemmas.List.{take_at, drop_at, take-append-drop, length-append, length-take, get_or-drop, get_or-take, get_or_past, length-take-le}
@@ -29,6 +29,26 @@ pub record Took {A : Type 0} (spell : A → List ℕ) (Fits : A → Type 0) (byt
 pub record Reads {A : Type 0} (read : List ℕ → Reading A) (spell : A → List ℕ) (Fits : A → Type 0) : Type 0 where
   pub takes : (bytes : List ℕ) (value : A) (rest : List ℕ) → AreBytes bytes → read bytes ≡ Ok (value, rest) → Took spell Fits bytes value rest
   pub again : (value : A) (rest : List ℕ) → Fits value → read (spell value ++ rest) ≡ Ok (value, rest)
+  pub fails : (bytes : List ℕ) (left : ℕ) → AreBytes bytes → read bytes ≡ Err left → left ≤ length bytes
+
+-- a field that was not read lies within the bytes that were to be read
+pub took_shorter : {A : Type 0} {spell : A → List ℕ} {Fits : A → Type 0} {bytes : List ℕ} {value : A} {rest : List ℕ} → Took spell Fits bytes value rest → length rest ≤ length bytes
+took_shorter {A} {spell} {Fits} {bytes} {value} {rest} took = omega (arith, ap length took.parts, length-append (spell value) rest)
+
+-- which of two steps failed
+pub erred : {A B : Type 0} (read : Reading A) (next : A × List ℕ → Reading B) (left : ℕ) → (read >>= next) ≡ Err left
+    → (read ≡ Err left) ⊎ ((x : A × List ℕ) × (read ≡ Ok x) × (next x ≡ Err left))
+erred (Ok x) next left e = inr (x, refl, e)
+erred (Err other) next left e = let same : other ≡ left = cc in inl (ap (λ n. Err n) same)
+
+abbrev given : {A : Type 0} → A × List ℕ → Reading A
+given x = Ok x
+
+abbrev refusal : {A : Type 0} → ℕ → Reading A
+refusal left = Err left
+
+pub given_not : {A : Type 0} (x : A × List ℕ) (left : ℕ) → given x ≡ refusal left → ⊥
+given_not x left e = cc
 
 -- the value of a step that did not fail
 pub record Went {A B : Type 0} (read : Reading A) (next : A × List ℕ → Reading B) (got : B × List ℕ) : Type 0 where
@@ -40,9 +60,6 @@ pub record Went {A B : Type 0} (read : Reading A) (next : A × List ℕ → Read
 pub went : {A B : Type 0} (read : Reading A) (next : A × List ℕ → Reading B) (got : B × List ℕ) → (read >>= next) ≡ Ok got → Went read next got
 went (Ok x) next got e = record { value = x.0; rest = x.1; was = refl; went_on = e }
 went (Err left) next got e = absurd cc
-
-abbrev given : {A : Type 0} → A × List ℕ → Reading A
-given x = Ok x
 
 whole_given : {A : Type 0} (x y : A × List ℕ) → given x ≡ given y → x ≡ y
 whole_given x y e = cc
@@ -80,6 +97,14 @@ Reads-then {A} {B} first second spell spell_rest Fits FitsToo key one two = reco
     ap (λ (x : List ℕ). first x >>= λ a. second a.0 a.1) regrouped
     ∙ ap (λ (r : Reading A). r >>= λ a. second a.0 a.1) (one.again (key value) (spell_rest value ++ rest) fits.0)
     ∙ (two (key value) fits.0).again value rest (refl, fits.1);
+  fails = λ bytes left are e.
+    elim (erred (first bytes) (λ a. second a.0 a.1) left e) [
+      | inl f ↦ one.fails bytes left are f
+      | inr w ↦ (
+          let t = one.takes bytes w.0.0 w.0.1 are w.1 in
+          let within = (two w.0.0 t.fits).fails w.0.1 left t.rest_fits w.2 in
+          omega (arith, took_shorter t, within))
+    ];
 }
 
 -- ---- one reader after another
@@ -116,6 +141,16 @@ Reads-and {A} {B} one two spell spell_too Fits FitsToo first second = record {
     ap (λ (x : List ℕ). one x >>= λ a. two a.1 >>= λ b. Ok ((a.0, b.0), b.1)) regrouped
     ∙ ap (λ (r : Reading A). r >>= λ a. two a.1 >>= λ b. Ok ((a.0, b.0), b.1)) (first.again value.0 (spell_too value.1 ++ rest) fits.0)
     ∙ ap (λ (r : Reading B). r >>= λ b. Ok ((value.0, b.0), b.1)) (second.again value.1 rest fits.1);
+  fails = λ bytes left are e.
+    elim (erred (one bytes) (λ a. two a.1 >>= λ b. Ok ((a.0, b.0), b.1)) left e) [
+      | inl f ↦ first.fails bytes left are f
+      | inr w ↦ (
+          let t = first.takes bytes w.0.0 w.0.1 are w.1 in
+          elim (erred (two w.0.1) (λ b. Ok ((w.0.0, b.0), b.1)) left w.2) [
+            | inl f ↦ (let within = second.fails w.0.1 left t.rest_fits f in omega (arith, took_shorter t, within))
+            | inr v ↦ absurd cc
+          ])
+    ];
 }
 
 -- what is made of the parts that were read
@@ -133,6 +168,11 @@ Reads-made {A} {B} read spell Fits make part whole parted reads = record {
   again = λ value rest fits.
     ap (λ (r : Reading A). r >>= λ a. Ok (make a.0, a.1)) (reads.again (part value) rest fits)
     ∙ ap (λ (b : B). given (b, rest)) (whole value);
+  fails = λ bytes left are e.
+    elim (erred (read bytes) (λ a. Ok (make a.0, a.1)) left e) [
+      | inl f ↦ reads.fails bytes left are f
+      | inr w ↦ absurd (given_not (make w.0.0, w.0.1) left w.2)
+    ];
 }
 
 -- the same reader in other words
@@ -144,6 +184,7 @@ Reads-as read same spell spell_same Fits FitsSame reads is spelled to back = rec
     let t = reads.takes bytes value rest are (sym (is bytes) ∙ e) in
     record { parts = rw (spelled value) t.parts; rest_fits = t.rest_fits; fits = to value t.fits };
   again = λ value rest fits. rw (spelled value, is (spell value ++ rest)) (reads.again value rest (back value fits));
+  fails = λ bytes left are e. reads.fails bytes left are (sym (is bytes) ∙ e);
 }
 
 pub Reads-both : {A B C : Type 0} (one : List ℕ → Reading A) (two : List ℕ → Reading B) (spell : A → List ℕ) (spell_too : B → List ℕ)
@@ -179,4 +220,9 @@ Reads-through {A} {B} read make spell spell_made Fits FitsMade reads made parted
     let spelled : spell_made value ≡ spell p.0 = ap spell_made (sym p.2) ∙ (made p.0 p.1).1 in
     rw spelled (ap (λ (r : Reading A). r >>= λ a. Ok (make a.0, a.1)) (reads.again p.0 rest p.1)
     ∙ ap (λ (b : B). given (b, rest)) p.2);
+  fails = λ bytes left are e.
+    elim (erred (read bytes) (λ a. Ok (make a.0, a.1)) left e) [
+      | inl f ↦ reads.fails bytes left are f
+      | inr w ↦ absurd (given_not (make w.0.0, w.0.1) left w.2)
+    ];
 }
