@@ -148,7 +148,7 @@ alta_parts_read =
     previo_reads (Reads-and link_at moment_at link_bytes moment_bytes IsLink IsMoment link_reads moment_reads))))
 
 -- an alta of this issuer
-abbrev IsAltaOf : List ℕ → Alta → Type 0
+abbrev pub IsAltaOf : List ℕ → Alta → Type 0
 IsAltaOf issuer alta = IsAlta alta × (alta.issuer ≡ issuer)
 
 alta_parted : (issuer : List ℕ) (alta : Alta) → IsAltaOf issuer alta
@@ -199,7 +199,7 @@ anulacion_parts_read =
     (λ flag. flag_code flag ∷ []) (λ p. link_bytes p.0 ++ moment_bytes p.1) (λ _. ⊤) (λ p. IsLink p.0 × IsMoment p.1)
     flag_reads (Reads-and link_at moment_at link_bytes moment_bytes IsLink IsMoment link_reads moment_reads)))
 
-abbrev IsAnulacionOf : List ℕ → Anulacion → Type 0
+abbrev pub IsAnulacionOf : List ℕ → Anulacion → Type 0
 IsAnulacionOf issuer anulacion = IsAnulacion anulacion × (anulacion.issuer ≡ issuer)
 
 anulacion_parted : (issuer : List ℕ) (anulacion : Anulacion) → IsAnulacionOf issuer anulacion

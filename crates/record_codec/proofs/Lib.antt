@@ -7,3 +7,5 @@ pub mod FieldReaders
 pub mod EntryLemmas
 pub mod BreakdownLemmas
 pub mod EntryReaders
+pub mod RecordReaders
+pub mod LengthLemmas

@@ -5,11 +5,13 @@ mod codes;
 mod entries;
 mod faults;
 mod fields;
+mod laws;
 mod reading;
 mod values;
 mod writing;
 
 pub use entries::Entry;
 pub use faults::BadEntry;
+pub use laws::{an_encoding_is_a_body, encodings_are_apart};
 pub use reading::decode;
 pub use writing::encode;
