@@ -7,6 +7,7 @@ mod faults;
 mod fields;
 mod laws;
 mod reading;
+mod validity;
 mod values;
 mod writing;
 
@@ -14,4 +15,5 @@ pub use entries::Entry;
 pub use faults::BadEntry;
 pub use laws::{an_encoding_is_a_body, encodings_are_apart};
 pub use reading::decode;
+pub use validity::fields_are_valid;
 pub use writing::encode;
