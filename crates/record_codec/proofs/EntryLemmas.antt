@@ -42,8 +42,8 @@ id_reads =
     (λ (id : InvoiceId). text_bytes id.num ++ to_be_bytes w32 id.day) id_bytes
     (λ (id : InvoiceId). (is_num_serie id.num ≡ true) × IsInRange 0 last_day id.day) IsId
     (Reads-both (text_at is_num_serie) (number_at w32 0 last_day) text_bytes (to_be_bytes w32) (λ t. is_num_serie t ≡ true) (IsInRange 0 last_day)
-      (λ p. record { num = p.0; day = p.1 }) (λ id. (id.num, id.day)) (Reads-text is_num_serie) (Reads-number w32 (2 ^ 32) wide32 0 last_day (omega arith))
-      (λ id. refl) (λ p. refl))
+    (λ p. record { num = p.0; day = p.1 }) (λ id. (id.num, id.day)) (Reads-text is_num_serie) (Reads-number w32 (2 ^ 32) wide32 0 last_day (omega arith))
+    (λ id. refl) (λ p. refl))
     id_is (λ id. refl)
     (λ id fits. record { num = fits.0; day = fits.1.1 })
     (λ id is. (is.num, (omega arith, is.day)))
@@ -65,7 +65,7 @@ party_reads =
     (λ (p : Party). p.nif ++ text_bytes p.name) party_bytes
     (λ (p : Party). IsNif p.nif × (is_name p.name ≡ true)) IsTextParty
     (Reads-both (fixed_at 9 nif_in) (text_at is_name) (λ nif. nif) text_bytes IsNif (λ t. is_name t ≡ true)
-      (λ p. record { nif = p.0; name = p.1 }) (λ p. (p.nif, p.name)) nif_reads (Reads-text is_name) (λ p. refl) (λ p. refl))
+    (λ p. record { nif = p.0; name = p.1 }) (λ p. (p.nif, p.name)) nif_reads (Reads-text is_name) (λ p. refl) (λ p. refl))
     party_is (λ p. refl)
     (λ p fits. let n = name_is p.name fits.1 in (record { nif = fits.0; name = n.0 }, n.1))
     (λ p is. (is.0.nif, name_yes p.name is.0.name is.1))
@@ -91,7 +91,7 @@ customer_takes true bytes after value rest parts are e =
     let t = party_reads.takes after w.value w.rest are w.was in
     let same = same_given (Some w.value) value w.rest rest w.went_on in
     let took : Took customer_bytes IsTextCustomer bytes (Some w.value) w.rest =
-        record { parts = parts ∙ ap (λ (x : List ℕ). 1 ∷ x) t.parts; rest_fits = t.rest_fits; fits = some_fits w.value t.fits } in
+    record { parts = parts ∙ ap (λ (x : List ℕ). 1 ∷ x) t.parts; rest_fits = t.rest_fits; fits = some_fits w.value t.fits } in
     took_same _ _ bytes (Some w.value) value w.rest rest took same.0 same.1
 
 customer_again : (customer : Option Party) (rest : List ℕ) → IsTextCustomer customer → customer_at (customer_bytes customer ++ rest) ≡ Ok (customer, rest)
@@ -111,18 +111,18 @@ pub customer_reads : Reads customer_at customer_bytes IsTextCustomer
 unfolding customer_at
 customer_reads = record {
   takes = λ bytes value rest are e.
-    let w = went (flag_at bytes) (λ f. customer_behind f.0 f.1) (value, rest) e in
-    let t = flag_reads.takes bytes w.value w.rest are w.was in
-    customer_takes w.value bytes w.rest value rest t.parts t.rest_fits w.went_on;
+      let w = went (flag_at bytes) (λ f. customer_behind f.0 f.1) (value, rest) e in
+      let t = flag_reads.takes bytes w.value w.rest are w.was in
+      customer_takes w.value bytes w.rest value rest t.parts t.rest_fits w.went_on;
   again = customer_again;
   fails = λ bytes left are e.
-    elim (erred (flag_at bytes) (λ f. customer_behind f.0 f.1) left e) [
-      | inl f ↦ flag_reads.fails bytes left are f
-      | inr w ↦ (
-          let t = flag_reads.takes bytes w.0.0 w.0.1 are w.1 in
-          let within = customer_fails w.0.0 w.0.1 left t.rest_fits w.2 in
-          omega (arith, took_shorter t, within))
-    ];
+      elim (erred (flag_at bytes) (λ f. customer_behind f.0 f.1) left e) [
+        | inl f ↦ flag_reads.fails bytes left are f
+        | inr w ↦ (
+            let t = flag_reads.takes bytes w.0.0 w.0.1 are w.1 in
+            let within = customer_fails w.0.0 w.0.1 left t.rest_fits w.2 in
+            omega (arith, took_shorter t, within))
+      ];
 }
 
 -- ---- a link
@@ -174,18 +174,18 @@ pub link_reads : Reads link_at link_bytes IsLink
 unfolding link_at
 link_reads = record {
   takes = λ bytes value rest are e.
-    let w = went (flag_at bytes) (λ f. link_behind f.0 f.1) (value, rest) e in
-    let t = flag_reads.takes bytes w.value w.rest are w.was in
-    link_takes w.value bytes w.rest value rest t.parts t.rest_fits w.went_on;
+      let w = went (flag_at bytes) (λ f. link_behind f.0 f.1) (value, rest) e in
+      let t = flag_reads.takes bytes w.value w.rest are w.was in
+      link_takes w.value bytes w.rest value rest t.parts t.rest_fits w.went_on;
   again = link_again;
   fails = λ bytes left are e.
-    elim (erred (flag_at bytes) (λ f. link_behind f.0 f.1) left e) [
-      | inl f ↦ flag_reads.fails bytes left are f
-      | inr w ↦ (
-          let t = flag_reads.takes bytes w.0.0 w.0.1 are w.1 in
-          let within = link_fails w.0.0 w.0.1 left t.rest_fits w.2 in
-          omega (arith, took_shorter t, within))
-    ];
+      elim (erred (flag_at bytes) (λ f. link_behind f.0 f.1) left e) [
+        | inl f ↦ flag_reads.fails bytes left are f
+        | inr w ↦ (
+            let t = flag_reads.takes bytes w.0.0 w.0.1 are w.1 in
+            let within = link_fails w.0.0 w.0.1 left t.rest_fits w.2 in
+            omega (arith, took_shorter t, within))
+      ];
 }
 
 -- ---- a moment
@@ -201,8 +201,8 @@ moment_reads =
     (λ (m : Moment). to_be_bytes w64 m.seconds ++ to_be_bytes w16 (cast_unsigned w16 m.offset_minutes)) moment_bytes
     (λ (m : Moment). IsInRange 1_704_067_200 4_102_444_799 m.seconds × IsStampOffset m.offset_minutes) IsMoment
     (Reads-both (number_at w64 1_704_067_200 4_102_444_799) (fixed_at 2 offset_in) (to_be_bytes w64) (λ minutes. to_be_bytes w16 (cast_unsigned w16 minutes))
-      (IsInRange 1_704_067_200 4_102_444_799) IsStampOffset (λ p. record { seconds = p.0; offset_minutes = p.1 }) (λ m. (m.seconds, m.offset_minutes))
-      (Reads-number w64 (2 ^ 64) wide64 1_704_067_200 4_102_444_799 (omega arith)) offset_reads (λ m. refl) (λ p. refl))
+    (IsInRange 1_704_067_200 4_102_444_799) IsStampOffset (λ p. record { seconds = p.0; offset_minutes = p.1 }) (λ m. (m.seconds, m.offset_minutes))
+    (Reads-number w64 (2 ^ 64) wide64 1_704_067_200 4_102_444_799 (omega arith)) offset_reads (λ m. refl) (λ p. refl))
     moment_is (λ m. refl)
     (λ m fits. record { seconds = fits.0; offset = fits.1 })
     (λ m is. (is.seconds, is.offset))
@@ -227,7 +227,7 @@ tax_line_reads =
     (λ (line : TaxLine). (key_code line.key ∷ []) ++ to_be_bytes w64 (cast_unsigned w64 line.base)) tax_line_bytes
     (λ (line : TaxLine). ⊤ × IsBase line.base) HasBase
     (Reads-both (byte_at (of_code key_code classes)) (fixed_at 8 base_in) (λ key. key_code key ∷ []) (λ base. to_be_bytes w64 (cast_unsigned w64 base))
-      (λ _. ⊤) IsBase (λ p. record { key = p.0; base = p.1 }) (λ line. (line.key, line.base)) class_reads base_reads (λ line. refl) (λ p. refl))
+    (λ _. ⊤) IsBase (λ p. record { key = p.0; base = p.1 }) (λ line. (line.key, line.base)) class_reads base_reads (λ line. refl) (λ p. refl))
     tax_line_is (λ line. refl) (λ line fits. fits.1) (λ line is. (tt, is))
 
 pub breakdown_counted : Reads breakdown_at breakdown_bytes (λ lines. IsInRange 1 12 (length lines) × AllByRecursion HasBase lines)

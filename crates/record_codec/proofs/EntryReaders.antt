@@ -69,10 +69,11 @@ draft_full p fits =
     }
 
 draft_parted : (draft : Draft) → IsFullDraft draft → (p : Kind × (Option RectKind × (Option Party × (List InvoiceId × List TaxLine)))) × IsDraftParts p × (draft_of p ≡ draft)
-draft_parted draft is =
-    ((draft.kind, (draft.rect, (draft.customer, (draft.refs, draft.lines)))),
-    (tt, (tt, ((λ q e. (is.valid.customer q e, is.name q e)), (((omega arith, is.refs), is.valid.refs), is.valid.lines)))),
-    refl)
+draft_parted draft is = (
+  (draft.kind, (draft.rect, (draft.customer, (draft.refs, draft.lines)))),
+  (tt, (tt, ((λ q e. (is.valid.customer q e, is.name q e)), (((omega arith, is.refs), is.valid.refs), is.valid.lines)))),
+  refl,
+)
 
 draft_spell : Kind × (Option RectKind × (Option Party × (List InvoiceId × List TaxLine))) → List ℕ
 draft_spell p = (kind_code p.0 ∷ []) ++ ((rect_code p.1.0 ∷ []) ++ (customer_bytes p.1.1.0 ++ (refs_bytes p.1.1.1.0 ++ breakdown_bytes p.1.1.1.1)))
@@ -103,7 +104,7 @@ pub draft_reads : Reads draft_at draft_bytes IsFullDraft
 draft_reads =
     Reads-as (λ bytes. draft_parts bytes >>= λ p. Ok (draft_of p.0, p.1)) draft_at draft_bytes draft_bytes IsFullDraft IsFullDraft
     (Reads-through draft_parts draft_of draft_spell draft_bytes IsDraftParts IsFullDraft draft_parts_read
-      (λ p fits. (draft_full p fits, draft_spelled p)) draft_parted)
+    (λ p fits. (draft_full p fits, draft_spelled p)) draft_parted)
     draft_is (λ draft. refl) (λ draft is. is) (λ draft is. is)
 
 -- ---- what a record says
@@ -161,7 +162,7 @@ pub alta_reads : (issuer : List ℕ) → Reads (alta_at issuer) alta_bytes (IsAl
 alta_reads issuer =
     Reads-as (λ bytes. alta_parts bytes >>= λ p. Ok (alta_of issuer p.0, p.1)) (alta_at issuer) alta_bytes alta_bytes (IsAltaOf issuer) (IsAltaOf issuer)
     (Reads-through alta_parts (alta_of issuer) alta_spell alta_bytes AreAltaParts (IsAltaOf issuer) alta_parts_read
-      (λ p fits. ((record { id = fits.0; draft = fits.1.0; link = fits.1.1.1.1.0; moment = fits.1.1.1.1.1 }, refl), alta_spelled issuer p)) (alta_parted issuer))
+    (λ p fits. ((record { id = fits.0; draft = fits.1.0; link = fits.1.1.1.1.0; moment = fits.1.1.1.1.1 }, refl), alta_spelled issuer p)) (alta_parted issuer))
     (alta_is issuer) (λ alta. refl) (λ alta is. is) (λ alta is. is)
 
 abbrev anulacion_parts : List ℕ → Reading (InvoiceId × (Bool × (Bool × (Link × Moment))))
@@ -212,5 +213,5 @@ pub anulacion_reads : (issuer : List ℕ) → Reads (anulacion_at issuer) anulac
 anulacion_reads issuer =
     Reads-as (λ bytes. anulacion_parts bytes >>= λ p. Ok (anulacion_of issuer p.0, p.1)) (anulacion_at issuer) anulacion_bytes anulacion_bytes (IsAnulacionOf issuer) (IsAnulacionOf issuer)
     (Reads-through anulacion_parts (anulacion_of issuer) anulacion_spell anulacion_bytes AreAnulacionParts (IsAnulacionOf issuer) anulacion_parts_read
-      (λ p fits. ((record { id = fits.0; link = fits.1.1.1.0; moment = fits.1.1.1.1 }, refl), anulacion_spelled issuer p)) (anulacion_parted issuer))
+    (λ p fits. ((record { id = fits.0; link = fits.1.1.1.0; moment = fits.1.1.1.1 }, refl), anulacion_spelled issuer p)) (anulacion_parted issuer))
     (anulacion_is issuer) (λ anulacion. refl) (λ anulacion is. is) (λ anulacion is. is)

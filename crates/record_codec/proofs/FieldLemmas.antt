@@ -90,9 +90,9 @@ pub Reads-fixed : {A : Type 0} (n : ℕ) (says : List ℕ → Option A) (spell :
 Reads-fixed {A} n says spell Fits is_said is_read = record {
   takes = fixed_takes n says spell Fits is_said;
   again = λ value rest fits.
-    let r = is_read value fits in
-    let long : ltb (length (spell value ++ rest)) n ≡ false = le-ltb _ _ (omega (arith, length-append (spell value) rest, r.0)) in
-    rw (long, take_at (spell value) rest n r.0, drop_at (spell value) rest n r.0, r.1) refl;
+      let r = is_read value fits in
+      let long : ltb (length (spell value ++ rest)) n ≡ false = le-ltb _ _ (omega (arith, length-append (spell value) rest, r.0)) in
+      rw (long, take_at (spell value) rest n r.0, drop_at (spell value) rest n r.0, r.1) refl;
   fails = λ bytes left are e. fixed_fails n says bytes left e;
 }
 
@@ -112,7 +112,7 @@ text_takes passes (n ∷ bytes) value rest are e =
     let len : length text ≡ n = length-take-le n bytes long in
     let parts : n ∷ bytes ≡ (length text ∷ text) ++ drop n bytes = rw len (ap (λ (x : List ℕ). n ∷ x) (sym (take-append-drop n bytes))) in
     let took : Took text_bytes (λ t. passes t ≡ true) (n ∷ bytes) text (drop n bytes) =
-        record { parts = parts; rest_fits = AreBytes-drop n bytes (AreBytes-tail n bytes are); fits = s.0 } in
+    record { parts = parts; rest_fits = AreBytes-drop n bytes (AreBytes-tail n bytes are); fits = s.0 } in
     took_same _ _ (n ∷ bytes) text value (drop n bytes) rest took s.1 f.1
 
 text_again : (passes : List ℕ → Bool) (value rest : List ℕ) → passes value ≡ true → text_at passes (text_bytes value ++ rest) ≡ Ok (value, rest)
@@ -137,7 +137,7 @@ unfolding many_at
 many_takes {A} item spell Fits reads zero bytes value rest are e =
     let same = same_given [] value bytes rest e in
     let took : Took (flat_map spell) (λ (xs : List A). (length xs ≡ 0) × AllByRecursion Fits xs) bytes [] bytes =
-        record { parts = refl; rest_fits = are; fits = (refl, tt) } in
+    record { parts = refl; rest_fits = are; fits = (refl, tt) } in
     took_same _ _ bytes [] value bytes rest took same.0 same.1
 many_takes {A} item spell Fits reads (suc n) bytes value rest are e =
     let w = went (item bytes) (λ x. many_at item n x.1 >>= λ xs. Ok (x.0 ∷ xs.0, xs.1)) (value, rest) e in
@@ -145,10 +145,10 @@ many_takes {A} item spell Fits reads (suc n) bytes value rest are e =
     let t = reads.takes bytes w.value w.rest are w.was in
     let u = many_takes item spell Fits reads n w.rest v.value v.rest t.rest_fits v.was in
     let joined : bytes ≡ (spell w.value ++ flat_map spell v.value) ++ v.rest =
-        t.parts ∙ ap (λ (x : List ℕ). spell w.value ++ x) u.parts ∙ sym (append_assoc (spell w.value) (flat_map spell v.value) v.rest) in
+    t.parts ∙ ap (λ (x : List ℕ). spell w.value ++ x) u.parts ∙ sym (append_assoc (spell w.value) (flat_map spell v.value) v.rest) in
     let same = same_given (w.value ∷ v.value) value v.rest rest v.went_on in
     let took : Took (flat_map spell) (λ (xs : List A). (length xs ≡ suc n) × AllByRecursion Fits xs) bytes (w.value ∷ v.value) v.rest =
-        record { parts = joined; rest_fits = u.rest_fits; fits = (ap suc u.fits.0, (t.fits, u.fits.1)) } in
+    record { parts = joined; rest_fits = u.rest_fits; fits = (ap suc u.fits.0, (t.fits, u.fits.1)) } in
     took_same _ _ bytes (w.value ∷ v.value) value v.rest rest took same.0 same.1
 
 many_again : {A : Type 0} (item : List ℕ → Reading A) (spell : A → List ℕ) (Fits : A → Type 0) → Reads item spell Fits → (n : ℕ)

@@ -77,11 +77,11 @@ pub Reads-number : (w : Width) (limit : ℕ) → IsWide w limit → (low high : 
 Reads-number w limit wide low high below =
     Reads-fixed (byte_len w) (λ front. number_in low high (from_be_bytes w front)) (to_be_bytes w) (IsInRange low high)
     (λ front value len are e.
-      let s = number_said low high (from_be_bytes w front) value e in
-      (rw (← s.0) (wide.back front len are), s.1))
+    let s = number_said low high (from_be_bytes w front) value e in
+    (rw (← s.0) (wide.back front len are), s.1))
     (λ value fits.
-      let small : value < limit = omega (arith, fits.1) in
-      (wide.len value, rw (wide.again value small) (number_taken low high value fits)))
+    let small : value < limit = omega (arith, fits.1) in
+    (wide.len value, rw (wide.again value small) (number_taken low high value fits)))
 
 -- ---- one byte
 
@@ -120,16 +120,16 @@ unfolding nif_in
 nif_reads =
     Reads-fixed 9 nif_in (λ nif. nif) IsNif
     (λ front value len are e.
-      let t = taken_some ((is_person front || is_entity front) && is_controlled front) front value e in
-      (sym t.1, subst IsNif t.1 (nif_is front len t.0)))
+    let t = taken_some ((is_person front || is_entity front) && is_controlled front) front value e in
+    (sym t.1, subst IsNif t.1 (nif_is front len t.0)))
     (λ value fits. (fits.nine, rw (fits.shaped, fits.controlled) refl))
 
 pub huella_reads : Reads huella_at (λ huella. huella) IsHuella
 huella_reads =
     Reads-fixed 32 Some (λ huella. huella) IsHuella
     (λ front value len are e.
-      let same : front ≡ value = cc in
-      (sym same, subst IsHuella same (record { long = len; bytes = are })))
+    let same : front ≡ value = cc in
+    (sym same, subst IsHuella same (record { long = len; bytes = are })))
     (λ value fits. (fits.long, refl))
 
 -- ---- signed numbers
@@ -151,14 +151,14 @@ pub base_reads : Reads (fixed_at 8 base_in) (λ base. to_be_bytes w64 (cast_unsi
 base_reads =
     Reads-fixed 8 base_in (λ base. to_be_bytes w64 (cast_unsigned w64 base)) IsBase
     (λ front value len are e.
-      let n = from_be_bytes w64 front in
-      let base = cast_signed w64 n in
-      let t = taken_some (nat_le (unsigned_abs base) 9_999_999_999) base value e in
-      let bits : cast_unsigned w64 value ≡ n = rw (← t.1) (of_z-to_z w64 n (wide64.below front are)) in
-      (rw bits (wide64.back front len are), base_fits value (rw (← t.1) t.0)))
+    let n = from_be_bytes w64 front in
+    let base = cast_signed w64 n in
+    let t = taken_some (nat_le (unsigned_abs base) 9_999_999_999) base value e in
+    let bits : cast_unsigned w64 value ≡ n = rw (← t.1) (of_z-to_z w64 n (wide64.below front are)) in
+    (rw bits (wide64.back front len are), base_fits value (rw (← t.1) t.0)))
     (λ value fits.
-      let back = base_back value fits in
-      (refl, rw (wide64.again (cast_unsigned w64 value) back.1, back.0, base_passes (unsigned_abs value) fits) refl))
+    let back = base_back value fits in
+    (refl, rw (wide64.again (cast_unsigned w64 value) back.1, back.0, base_passes (unsigned_abs value) fits) refl))
 
 either : (n : ℕ) → (eqb n 60 || eqb n 120) ≡ true → (pos n ≡ pos 60) ⊎ (pos n ≡ pos 120)
 either n h = grind (arith, nat_tests)
@@ -176,8 +176,8 @@ pub offset_reads : Reads (fixed_at 2 offset_in) (λ minutes. to_be_bytes w16 (ca
 offset_reads =
     Reads-fixed 2 offset_in (λ minutes. to_be_bytes w16 (cast_unsigned w16 minutes)) IsStampOffset
     (λ front value len are e.
-      let o = offset_of (from_be_bytes w16 front) value e in
-      (rw o.0 (wide16.back front len are), o.1))
+    let o = offset_of (from_be_bytes w16 front) value e in
+    (rw o.0 (wide16.back front len are), o.1))
     (λ value fits. (refl, offset_again value fits))
 
 -- ---- a line of the agency

@@ -84,8 +84,14 @@ draft_long draft is =
     let customer = customer_long draft.customer is.valid.customer in
     let refs = refs_long draft.refs is.refs is.valid.refs in
     let lines = breakdown_long draft.lines is.valid.lines in
-    omega (arith, length-append (customer_bytes draft.customer ++ refs_bytes draft.refs) (breakdown_bytes draft.lines),
-      length-append (customer_bytes draft.customer) (refs_bytes draft.refs), customer, refs, lines)
+    omega (
+      arith,
+      length-append (customer_bytes draft.customer ++ refs_bytes draft.refs) (breakdown_bytes draft.lines),
+      length-append (customer_bytes draft.customer) (refs_bytes draft.refs),
+      customer,
+      refs,
+      lines,
+    )
 
 link_long : (link : Link) → IsLink link → length (link_bytes link) ≤ 98
 unfolding link_bytes

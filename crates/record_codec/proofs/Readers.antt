@@ -82,29 +82,29 @@ pub Reads-then : {A B : Type 0} (first : List ℕ → Reading A) (second : A →
     → Reads (λ bytes. first bytes >>= λ a. second a.0 a.1) (λ b. spell (key b) ++ spell_rest b) (λ b. Fits (key b) × FitsToo b)
 Reads-then {A} {B} first second spell spell_rest Fits FitsToo key one two = record {
   takes = λ bytes value rest are e.
-    let w = went (first bytes) (λ a. second a.0 a.1) (value, rest) e in
-    let t = one.takes bytes w.value w.rest are w.was in
-    let u = (two w.value t.fits).takes w.rest value rest t.rest_fits w.went_on in
-    let joined : bytes ≡ (spell w.value ++ spell_rest value) ++ rest =
-        t.parts ∙ ap (λ (x : List ℕ). spell w.value ++ x) u.parts ∙ sym (append_assoc (spell w.value) (spell_rest value) rest) in
-    record {
-      parts = subst (λ (a : A). bytes ≡ (spell a ++ spell_rest value) ++ rest) (sym u.fits.0) joined;
-      rest_fits = u.rest_fits;
-      fits = (subst Fits (sym u.fits.0) t.fits, u.fits.1);
-    };
+      let w = went (first bytes) (λ a. second a.0 a.1) (value, rest) e in
+      let t = one.takes bytes w.value w.rest are w.was in
+      let u = (two w.value t.fits).takes w.rest value rest t.rest_fits w.went_on in
+      let joined : bytes ≡ (spell w.value ++ spell_rest value) ++ rest =
+      t.parts ∙ ap (λ (x : List ℕ). spell w.value ++ x) u.parts ∙ sym (append_assoc (spell w.value) (spell_rest value) rest) in
+      record {
+        parts = subst (λ (a : A). bytes ≡ (spell a ++ spell_rest value) ++ rest) (sym u.fits.0) joined;
+        rest_fits = u.rest_fits;
+        fits = (subst Fits (sym u.fits.0) t.fits, u.fits.1);
+      };
   again = λ value rest fits.
-    let regrouped : (spell (key value) ++ spell_rest value) ++ rest ≡ spell (key value) ++ (spell_rest value ++ rest) = append_assoc (spell (key value)) (spell_rest value) rest in
-    ap (λ (x : List ℕ). first x >>= λ a. second a.0 a.1) regrouped
-    ∙ ap (λ (r : Reading A). r >>= λ a. second a.0 a.1) (one.again (key value) (spell_rest value ++ rest) fits.0)
-    ∙ (two (key value) fits.0).again value rest (refl, fits.1);
+      let regrouped : (spell (key value) ++ spell_rest value) ++ rest ≡ spell (key value) ++ (spell_rest value ++ rest) = append_assoc (spell (key value)) (spell_rest value) rest in
+      ap (λ (x : List ℕ). first x >>= λ a. second a.0 a.1) regrouped
+      ∙ ap (λ (r : Reading A). r >>= λ a. second a.0 a.1) (one.again (key value) (spell_rest value ++ rest) fits.0)
+      ∙ (two (key value) fits.0).again value rest (refl, fits.1);
   fails = λ bytes left are e.
-    elim (erred (first bytes) (λ a. second a.0 a.1) left e) [
-      | inl f ↦ one.fails bytes left are f
-      | inr w ↦ (
-          let t = one.takes bytes w.0.0 w.0.1 are w.1 in
-          let within = (two w.0.0 t.fits).fails w.0.1 left t.rest_fits w.2 in
-          omega (arith, took_shorter t, within))
-    ];
+      elim (erred (first bytes) (λ a. second a.0 a.1) left e) [
+        | inl f ↦ one.fails bytes left are f
+        | inr w ↦ (
+            let t = one.takes bytes w.0.0 w.0.1 are w.1 in
+            let within = (two w.0.0 t.fits).fails w.0.1 left t.rest_fits w.2 in
+            omega (arith, took_shorter t, within))
+      ];
 }
 
 -- ---- one reader after another
@@ -125,32 +125,32 @@ pub Reads-and : {A B : Type 0} (one : List ℕ → Reading A) (two : List ℕ �
     → Reads {A = A × B} (pair_at one two) (λ p. spell p.0 ++ spell_too p.1) (λ p. Fits p.0 × FitsToo p.1)
 Reads-and {A} {B} one two spell spell_too Fits FitsToo first second = record {
   takes = λ bytes value rest are e.
-    let w = went (one bytes) (λ a. two a.1 >>= λ b. Ok ((a.0, b.0), b.1)) (value, rest) e in
-    let v = went (two w.rest) (λ b. Ok ((w.value, b.0), b.1)) (value, rest) w.went_on in
-    let t = first.takes bytes w.value w.rest are w.was in
-    let u = second.takes w.rest v.value v.rest t.rest_fits v.was in
-    let joined : bytes ≡ (spell w.value ++ spell_too v.value) ++ v.rest =
-        t.parts ∙ ap (λ (x : List ℕ). spell w.value ++ x) u.parts ∙ sym (append_assoc (spell w.value) (spell_too v.value) v.rest) in
-    let pair : A × B = (w.value, v.value) in
-    let same = same_given pair value v.rest rest v.went_on in
-    let took : Took (λ (p : A × B). spell p.0 ++ spell_too p.1) (λ (p : A × B). Fits p.0 × FitsToo p.1) bytes (w.value, v.value) v.rest =
-        record { parts = joined; rest_fits = u.rest_fits; fits = (t.fits, u.fits) } in
-    took_same _ _ bytes (w.value, v.value) value v.rest rest took same.0 same.1;
+      let w = went (one bytes) (λ a. two a.1 >>= λ b. Ok ((a.0, b.0), b.1)) (value, rest) e in
+      let v = went (two w.rest) (λ b. Ok ((w.value, b.0), b.1)) (value, rest) w.went_on in
+      let t = first.takes bytes w.value w.rest are w.was in
+      let u = second.takes w.rest v.value v.rest t.rest_fits v.was in
+      let joined : bytes ≡ (spell w.value ++ spell_too v.value) ++ v.rest =
+      t.parts ∙ ap (λ (x : List ℕ). spell w.value ++ x) u.parts ∙ sym (append_assoc (spell w.value) (spell_too v.value) v.rest) in
+      let pair : A × B = (w.value, v.value) in
+      let same = same_given pair value v.rest rest v.went_on in
+      let took : Took (λ (p : A × B). spell p.0 ++ spell_too p.1) (λ (p : A × B). Fits p.0 × FitsToo p.1) bytes (w.value, v.value) v.rest =
+      record { parts = joined; rest_fits = u.rest_fits; fits = (t.fits, u.fits) } in
+      took_same _ _ bytes (w.value, v.value) value v.rest rest took same.0 same.1;
   again = λ value rest fits.
-    let regrouped : (spell value.0 ++ spell_too value.1) ++ rest ≡ spell value.0 ++ (spell_too value.1 ++ rest) = append_assoc (spell value.0) (spell_too value.1) rest in
-    ap (λ (x : List ℕ). one x >>= λ a. two a.1 >>= λ b. Ok ((a.0, b.0), b.1)) regrouped
-    ∙ ap (λ (r : Reading A). r >>= λ a. two a.1 >>= λ b. Ok ((a.0, b.0), b.1)) (first.again value.0 (spell_too value.1 ++ rest) fits.0)
-    ∙ ap (λ (r : Reading B). r >>= λ b. Ok ((value.0, b.0), b.1)) (second.again value.1 rest fits.1);
+      let regrouped : (spell value.0 ++ spell_too value.1) ++ rest ≡ spell value.0 ++ (spell_too value.1 ++ rest) = append_assoc (spell value.0) (spell_too value.1) rest in
+      ap (λ (x : List ℕ). one x >>= λ a. two a.1 >>= λ b. Ok ((a.0, b.0), b.1)) regrouped
+      ∙ ap (λ (r : Reading A). r >>= λ a. two a.1 >>= λ b. Ok ((a.0, b.0), b.1)) (first.again value.0 (spell_too value.1 ++ rest) fits.0)
+      ∙ ap (λ (r : Reading B). r >>= λ b. Ok ((value.0, b.0), b.1)) (second.again value.1 rest fits.1);
   fails = λ bytes left are e.
-    elim (erred (one bytes) (λ a. two a.1 >>= λ b. Ok ((a.0, b.0), b.1)) left e) [
-      | inl f ↦ first.fails bytes left are f
-      | inr w ↦ (
-          let t = first.takes bytes w.0.0 w.0.1 are w.1 in
-          elim (erred (two w.0.1) (λ b. Ok ((w.0.0, b.0), b.1)) left w.2) [
-            | inl f ↦ (let within = second.fails w.0.1 left t.rest_fits f in omega (arith, took_shorter t, within))
-            | inr v ↦ absurd cc
-          ])
-    ];
+      elim (erred (one bytes) (λ a. two a.1 >>= λ b. Ok ((a.0, b.0), b.1)) left e) [
+        | inl f ↦ first.fails bytes left are f
+        | inr w ↦ (
+            let t = first.takes bytes w.0.0 w.0.1 are w.1 in
+            elim (erred (two w.0.1) (λ b. Ok ((w.0.0, b.0), b.1)) left w.2) [
+              | inl f ↦ (let within = second.fails w.0.1 left t.rest_fits f in omega (arith, took_shorter t, within))
+              | inr v ↦ absurd cc
+            ])
+      ];
 }
 
 -- what is made of the parts that were read
@@ -159,20 +159,20 @@ pub Reads-made : {A B : Type 0} (read : List ℕ → Reading A) (spell : A → L
     → Reads (λ bytes. read bytes >>= λ a. Ok (make a.0, a.1)) (λ b. spell (part b)) (λ b. Fits (part b))
 Reads-made {A} {B} read spell Fits make part whole parted reads = record {
   takes = λ bytes value rest are e.
-    let w = went (read bytes) (λ a. Ok (make a.0, a.1)) (value, rest) e in
-    let t = reads.takes bytes w.value w.rest are w.was in
-    let same = same_given (make w.value) value w.rest rest w.went_on in
-    let took : Took (λ (b : B). spell (part b)) (λ (b : B). Fits (part b)) bytes (make w.value) w.rest =
-        record { parts = rw (parted w.value) t.parts; rest_fits = t.rest_fits; fits = rw (parted w.value) t.fits } in
-    took_same _ _ bytes (make w.value) value w.rest rest took same.0 same.1;
+      let w = went (read bytes) (λ a. Ok (make a.0, a.1)) (value, rest) e in
+      let t = reads.takes bytes w.value w.rest are w.was in
+      let same = same_given (make w.value) value w.rest rest w.went_on in
+      let took : Took (λ (b : B). spell (part b)) (λ (b : B). Fits (part b)) bytes (make w.value) w.rest =
+      record { parts = rw (parted w.value) t.parts; rest_fits = t.rest_fits; fits = rw (parted w.value) t.fits } in
+      took_same _ _ bytes (make w.value) value w.rest rest took same.0 same.1;
   again = λ value rest fits.
-    ap (λ (r : Reading A). r >>= λ a. Ok (make a.0, a.1)) (reads.again (part value) rest fits)
-    ∙ ap (λ (b : B). given (b, rest)) (whole value);
+      ap (λ (r : Reading A). r >>= λ a. Ok (make a.0, a.1)) (reads.again (part value) rest fits)
+      ∙ ap (λ (b : B). given (b, rest)) (whole value);
   fails = λ bytes left are e.
-    elim (erred (read bytes) (λ a. Ok (make a.0, a.1)) left e) [
-      | inl f ↦ reads.fails bytes left are f
-      | inr w ↦ absurd (given_not (make w.0.0, w.0.1) left w.2)
-    ];
+      elim (erred (read bytes) (λ a. Ok (make a.0, a.1)) left e) [
+        | inl f ↦ reads.fails bytes left are f
+        | inr w ↦ absurd (given_not (make w.0.0, w.0.1) left w.2)
+      ];
 }
 
 -- the same reader in other words
@@ -181,8 +181,8 @@ pub Reads-as : {A : Type 0} (read same : List ℕ → Reading A) (spell spell_sa
     → ((a : A) → Fits a → FitsSame a) → ((a : A) → FitsSame a → Fits a) → Reads same spell_same FitsSame
 Reads-as read same spell spell_same Fits FitsSame reads is spelled to back = record {
   takes = λ bytes value rest are e.
-    let t = reads.takes bytes value rest are (sym (is bytes) ∙ e) in
-    record { parts = rw (spelled value) t.parts; rest_fits = t.rest_fits; fits = to value t.fits };
+      let t = reads.takes bytes value rest are (sym (is bytes) ∙ e) in
+      record { parts = rw (spelled value) t.parts; rest_fits = t.rest_fits; fits = to value t.fits };
   again = λ value rest fits. rw (spelled value, is (spell value ++ rest)) (reads.again value rest (back value fits));
   fails = λ bytes left are e. reads.fails bytes left are (sym (is bytes) ∙ e);
 }
@@ -208,21 +208,21 @@ pub Reads-through : {A B : Type 0} (read : List ℕ → Reading A) (make : A →
     → Reads (λ bytes. read bytes >>= λ a. Ok (make a.0, a.1)) spell_made FitsMade
 Reads-through {A} {B} read make spell spell_made Fits FitsMade reads made parted = record {
   takes = λ bytes value rest are e.
-    let w = went (read bytes) (λ a. Ok (make a.0, a.1)) (value, rest) e in
-    let t = reads.takes bytes w.value w.rest are w.was in
-    let m = made w.value t.fits in
-    let same = same_given (make w.value) value w.rest rest w.went_on in
-    let took : Took spell_made FitsMade bytes (make w.value) w.rest =
-        record { parts = rw m.1 t.parts; rest_fits = t.rest_fits; fits = m.0 } in
-    took_same _ _ bytes (make w.value) value w.rest rest took same.0 same.1;
+      let w = went (read bytes) (λ a. Ok (make a.0, a.1)) (value, rest) e in
+      let t = reads.takes bytes w.value w.rest are w.was in
+      let m = made w.value t.fits in
+      let same = same_given (make w.value) value w.rest rest w.went_on in
+      let took : Took spell_made FitsMade bytes (make w.value) w.rest =
+      record { parts = rw m.1 t.parts; rest_fits = t.rest_fits; fits = m.0 } in
+      took_same _ _ bytes (make w.value) value w.rest rest took same.0 same.1;
   again = λ value rest fits.
-    let p = parted value fits in
-    let spelled : spell_made value ≡ spell p.0 = ap spell_made (sym p.2) ∙ (made p.0 p.1).1 in
-    rw spelled (ap (λ (r : Reading A). r >>= λ a. Ok (make a.0, a.1)) (reads.again p.0 rest p.1)
-    ∙ ap (λ (b : B). given (b, rest)) p.2);
+      let p = parted value fits in
+      let spelled : spell_made value ≡ spell p.0 = ap spell_made (sym p.2) ∙ (made p.0 p.1).1 in
+      rw spelled (ap (λ (r : Reading A). r >>= λ a. Ok (make a.0, a.1)) (reads.again p.0 rest p.1)
+      ∙ ap (λ (b : B). given (b, rest)) p.2);
   fails = λ bytes left are e.
-    elim (erred (read bytes) (λ a. Ok (make a.0, a.1)) left e) [
-      | inl f ↦ reads.fails bytes left are f
-      | inr w ↦ absurd (given_not (make w.0.0, w.0.1) left w.2)
-    ];
+      elim (erred (read bytes) (λ a. Ok (make a.0, a.1)) left e) [
+        | inl f ↦ reads.fails bytes left are f
+        | inr w ↦ absurd (given_not (make w.0.0, w.0.1) left w.2)
+      ];
 }

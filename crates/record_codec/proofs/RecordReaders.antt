@@ -109,7 +109,7 @@ rec_reads : (alta : Bool) (issuer : List ℕ) → Reads (rec_at alta issuer) ent
 rec_reads alta issuer =
     Reads-as (λ bytes. rec_parts alta issuer bytes >>= λ p. Ok (rec_of p.0, p.1)) (rec_at alta issuer) entry_rest entry_rest (IsRecOf alta issuer) (IsRecOf alta issuer)
     (Reads-through (rec_parts alta issuer) rec_of rec_spell entry_rest (AreRecParts alta issuer) (IsRecOf alta issuer) (rec_parts_read alta issuer)
-      (λ p fits. (rec_fits alta issuer p fits, rec_spelled p)) (rec_parted alta issuer))
+    (λ p fits. (rec_fits alta issuer p fits, rec_spelled p)) (rec_parted alta issuer))
     (rec_is alta issuer) (λ entry. refl) (λ entry is. is) (λ entry is. is)
 
 -- ---- notes
@@ -145,11 +145,11 @@ unfolding entry_rest
 notes_reads =
     Reads-as (λ bytes. pair_at (number_at w32 0 4_294_967_295) counted_lines bytes >>= λ p. Ok (notes_of p.0, p.1)) notes_at entry_rest entry_rest AreNotesOf AreNotesOf
     (Reads-through (pair_at (number_at w32 0 4_294_967_295) counted_lines) notes_of
-      (λ p. to_be_bytes w32 p.0 ++ (to_be_bytes w16 (length p.1) ++ flat_map line_bytes p.1)) entry_rest
-      (λ p. IsInRange 0 4_294_967_295 p.0 × AreLines p.1) AreNotesOf
-      (Reads-and (number_at w32 0 4_294_967_295) counted_lines (to_be_bytes w32) (λ lines. to_be_bytes w16 (length lines) ++ flat_map line_bytes lines)
-        (IsInRange 0 4_294_967_295) AreLines (Reads-number w32 (2 ^ 32) wide32 0 4_294_967_295 (omega arith)) counted_lines_read)
-      (λ p fits. (record { first = let small = fits.0 in omega arith; few = fits.1.0; lines = fits.1.1 }, refl)) notes_parted)
+    (λ p. to_be_bytes w32 p.0 ++ (to_be_bytes w16 (length p.1) ++ flat_map line_bytes p.1)) entry_rest
+    (λ p. IsInRange 0 4_294_967_295 p.0 × AreLines p.1) AreNotesOf
+    (Reads-and (number_at w32 0 4_294_967_295) counted_lines (to_be_bytes w32) (λ lines. to_be_bytes w16 (length lines) ++ flat_map line_bytes lines)
+    (IsInRange 0 4_294_967_295) AreLines (Reads-number w32 (2 ^ 32) wide32 0 4_294_967_295 (omega arith)) counted_lines_read)
+    (λ p fits. (record { first = let small = fits.0 in omega arith; few = fits.1.0; lines = fits.1.1 }, refl)) notes_parted)
     notes_is (λ entry. refl) (λ entry is. is) (λ entry is. is)
 
 -- ---- an entry
@@ -252,7 +252,7 @@ entry_reads issuer =
     (λ (entry : Entry). (sort_of entry ∷ []) ++ entry_rest entry) entry_bytes
     (λ (entry : Entry). IsInRange 1 3 (sort_of entry) × IsEntryOf issuer entry) (IsEntryOf issuer)
     (Reads-then (byte_at (number_in 1 3)) (λ sort. entry_behind sort issuer) (λ sort. sort ∷ []) entry_rest (IsInRange 1 3) (IsEntryOf issuer) sort_of
-      (Reads-byte_in 1 3 (omega arith)) (λ sort within. behind_reads sort issuer within))
+    (Reads-byte_in 1 3 (omega arith)) (λ sort within. behind_reads sort issuer within))
     (λ bytes. refl) entry_spelled (λ entry fits. fits.1) (λ entry is. (entry_in_range entry, is))
 
 -- ---- all of the bytes
@@ -315,7 +315,6 @@ in_fails issuer bytes left are e =
           let same = w.2 in
           omega (arith, took_shorter t, same))
     ]
-
 
 pub same_entry : (issuer bytes : List ℕ) (value entry : Entry) → entry_in issuer bytes ≡ Ok value → IsEncoding issuer entry bytes → value ≡ entry
 same_entry issuer bytes value entry read is = ok_is value entry (sym read ∙ in_again issuer bytes entry is)

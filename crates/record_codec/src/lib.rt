@@ -7,6 +7,8 @@ mod faults;
 mod fields;
 mod laws;
 mod reading;
+#[cfg(test)]
+mod tests;
 mod validity;
 mod values;
 mod writing;
