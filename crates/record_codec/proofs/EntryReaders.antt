@@ -1,11 +1,9 @@
 -- Entries, with their reader.
-use Rattle.std.proofs.Common.{◌≡◌, ◌≢◌, ℕ, zero, suc, ◌+◌, ◌^◌, ◌<◌, ◌≤◌, Bool, true, false, eqb, List, [], ◌∷◌, ◌++◌, length, Option, Some, None, Result, Ok, Err, cond, refl, sym, ap, subst, ◌∙◌, append_assoc, arith}
+use Rattle.std.proofs.Common.{◌≡◌, ℕ, Bool, List, [], ◌∷◌, ◌++◌, length, Option, Ok, refl, sym, ap, append_assoc, arith}
 use Rattle.std.specs.Prelude.{⊤, IsUtf8}
-use Rattle.std.specs.Int.{w16, w32, to_be_bytes, IsInRange}
-use Rattle.std.specs.List.{flat_map, AllByRecursion}
+use Rattle.std.specs.Int.{IsInRange}
+use Rattle.std.specs.List.{AllByRecursion}
 use Rattle.std.specs.Option.{ForSome}
-use Rattle.std.proofs.lemmas.Bool.{eqb-true}
-use Rattle.std.proofs.lemmas.List.{append-nil, nil_from_length}
 use Rattle.invoice_kinds.specs.declared.kind.Kind.{Kind}
 use Rattle.invoice_kinds.specs.declared.kind.RectKind.{RectKind}
 use Rattle.parties.specs.declared.name.Party.{Party}
@@ -13,28 +11,20 @@ use Rattle.series.specs.declared.numbers.InvoiceId.{InvoiceId}
 use Rattle.stamps.specs.Moment.{Moment}
 use Rattle.tax_lines.specs.declared.lines.TaxLine.{TaxLine}
 use Rattle.tax_lines.specs.Breakdown.{IsBreakdown}
-use Rattle.record_fields.specs.Records.{issuer_of, is_alta}
-use Rattle.record_fields.specs.Valid.{IsId, IsParty, IsDraft}
+use Rattle.record_fields.specs.Valid.{IsId, IsParty}
 use Rattle.record_fields.specs.declared.drafts.Draft.{Draft}
-use Rattle.record_fields.specs.declared.lines.Line.{Line}
 use Rattle.record_fields.specs.declared.records.Alta.{Alta}
 use Rattle.record_fields.specs.declared.records.Anulacion.{Anulacion}
 use Rattle.record_fields.specs.declared.records.Link.{Link}
 use Rattle.record_fields.specs.declared.records.Previo.{Previo}
-use Rattle.record_fields.specs.declared.records.Record.{Record}
-use Rattle.record_fields.specs.declared.records.Record.TheVariants as record_of
-use Rattle.record_fields.specs.declared.records.Sealed.{Sealed}
-use Rattle.record_codec.specs.declared.entries.Entry.{Entry}
-use Rattle.record_codec.specs.declared.entries.Entry.TheVariants.{Rec, Notes}
-use Rattle.record_codec.specs.Bytes.{id_bytes, customer_bytes, refs_bytes, breakdown_bytes, draft_bytes, link_bytes, moment_bytes, alta_bytes, anulacion_bytes, line_bytes, entry_bytes}
-use Rattle.record_codec.specs.Codes.{flag_code, flags, kind_code, kinds, rect_code, rects, previo_code, previos, of_code}
-use Rattle.record_codec.specs.Fields.{AreBytes, IsMoment, IsHuella, IsLink, IsFullDraft, IsAlta, IsAnulacion, IsBody, IsRec, IsLine, AreNotes, AreFields, HasIssuer}
-use Rattle.record_codec.specs.Reading.{Reading, ◌>>=◌, byte_at, fixed_at, number_at, number_in, many_at, flag_at, huella_at, id_at, customer_at, refs_at, breakdown_at, draft_at, link_at, moment_at, alta_at, anulacion_at, line_in, notes_at, body_at, rec_at, entry_behind, entry_at, entry_in}
+use Rattle.record_codec.specs.Bytes.{id_bytes, customer_bytes, refs_bytes, breakdown_bytes, draft_bytes, link_bytes, moment_bytes, alta_bytes, anulacion_bytes}
+use Rattle.record_codec.specs.Codes.{flag_code, kind_code, kinds, rect_code, rects, previo_code, previos, of_code}
+use Rattle.record_codec.specs.Fields.{IsMoment, IsLink, IsFullDraft, IsAlta, IsAnulacion}
+use Rattle.record_codec.specs.Reading.{Reading, ◌>>=◌, byte_at, flag_at, id_at, customer_at, refs_at, breakdown_at, draft_at, link_at, moment_at, alta_at, anulacion_at}
 use Rattle.record_codec.proofs.BreakdownLemmas.{breakdown_from, breakdown_has}
-use Rattle.record_codec.proofs.EntryLemmas.{IsTextParty, IsTextCustomer, HasBase, id_reads, customer_reads, refs_reads, breakdown_counted, link_reads, moment_reads}
-use Rattle.record_codec.proofs.FieldLemmas.{Reads-counted}
-use Rattle.record_codec.proofs.FieldReaders.{wide16, wide32, Reads-number, Reads-byte_in, flag_reads, kind_reads, rect_reads, previo_reads, huella_reads, line_reads}
-use Rattle.record_codec.proofs.Readers.{Reads, Took, went, took_same, same_given, pair_at, Reads-then, Reads-and, Reads-made, Reads-through, Reads-as, bind_assoc}
+use Rattle.record_codec.proofs.EntryLemmas.{IsTextCustomer, HasBase, id_reads, customer_reads, refs_reads, breakdown_counted, link_reads, moment_reads}
+use Rattle.record_codec.proofs.FieldReaders.{flag_reads, kind_reads, rect_reads, previo_reads}
+use Rattle.record_codec.proofs.Readers.{Reads, pair_at, Reads-and, Reads-through, Reads-as, bind_assoc}
 
 pub breakdown_reads : Reads breakdown_at breakdown_bytes IsBreakdown
 breakdown_reads =

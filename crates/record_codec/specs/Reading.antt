@@ -3,8 +3,6 @@
 use Rattle.std.specs.Prelude.{◌≡◌, ⊤, ℕ, zero, suc, ◌+◌, ◌-◌, List, [], ◌∷◌, length, take, drop, slice_index, Option, Some, None, Result, Ok, Err, Bool, true, false, nat_lt, nat_le, ◌==◌, ◌&&◌, ◌||◌, not, is_none, position, ℤ, pos, unsigned_abs, if◌then◌else◌}
 use Rattle.std.specs.Int.{Width, w16, w32, w64, byte_len, from_be_bytes, cast_signed, is_in_range}
 use Rattle.std.specs.Str.{is_utf8}
-use Rattle.invoice_kinds.specs.declared.kind.Kind.{Kind}
-use Rattle.invoice_kinds.specs.declared.kind.RectKind.{RectKind}
 use Rattle.parties.specs.declared.name.Party.{Party}
 use Rattle.parties.specs.NameForm.{is_control}
 use Rattle.parties.specs.Nif.{is_person, is_entity, is_controlled}
@@ -12,7 +10,6 @@ use Rattle.series.specs.declared.numbers.InvoiceId.{InvoiceId}
 use Rattle.series.specs.Numbers.{is_num_serie}
 use Rattle.stamps.specs.Civil.{last_day}
 use Rattle.stamps.specs.Moment.{Moment}
-use Rattle.tax_lines.specs.declared.classes.LineKey.{LineKey}
 use Rattle.tax_lines.specs.declared.lines.TaxLine.{TaxLine}
 use Rattle.tax_lines.specs.Classes.{key_code}
 use Rattle.record_fields.specs.Picks.{when}
@@ -24,7 +21,6 @@ use Rattle.record_fields.specs.declared.records.Alta.{Alta}
 use Rattle.record_fields.specs.declared.records.Anulacion.{Anulacion}
 use Rattle.record_fields.specs.declared.records.Link.{Link}
 use Rattle.record_fields.specs.declared.records.Link.TheVariants.{First, After}
-use Rattle.record_fields.specs.declared.records.Previo.{Previo}
 use Rattle.record_fields.specs.declared.records.Record.{Record}
 use Rattle.record_fields.specs.declared.records.Record.TheVariants as record_of
 use Rattle.record_codec.specs.declared.entries.Entry.{Entry}

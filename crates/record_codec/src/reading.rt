@@ -14,7 +14,7 @@ use record_fields::{Alta, Anulacion, Draft, Line, Lines, Link, Record, Refs, Sea
 use series::InvoiceId;
 use stamps::Stamp;
 use std::alloc::Global;
-use tax_lines::{Breakdown, TaxLine};
+use tax_lines::{Breakdown, LinesFault, TaxLine};
 
 /// The entry that the bytes are, in a file of this issuer. A field that isn't permitted is refused before the fields after it
 /// are looked at.
@@ -229,7 +229,10 @@ impl Cursor<'_> {
         let lines = self.tax_lines(alloc, count as usize)?;
         match Breakdown::of(alloc, &lines) {
             Ok(breakdown) => Ok(breakdown),
-            Err(_) => Err(Unread::NoMemory),
+            Err(fault) => match fault {
+                LinesFault::NoMemory => Err(Unread::NoMemory),
+                _ => unreachable!(),
+            },
         }
     }
 
