@@ -10,6 +10,7 @@ use Rattle.journal.specs.declared.reading.Step.TheVariants.{Counted, Damaged}
 use Rattle.record_codec.specs.Bytes.{entry_bytes}
 use Rattle.record_codec.specs.Fields.{IsEncoding}
 use Rattle.record_codec.specs.declared.entries.Entry.{Entry}
+use Rattle.record_codec.specs.declared.faults.BadEntry.{BadEntry}
 use Rattle.shop_core.specs.Legal.{Legal, Continues}
 use Rattle.chain_store.specs.Stands.{IsSoundUpTo, AreEncoded, bodies_of}
 
@@ -25,11 +26,11 @@ pub sound_more : WalkGoesOn → (issuer : List ℕ) (entries : List Entry) (at :
     IsSoundUpTo issuer entries at file → IsCounted (drop at file) body → IsEncoding issuer entry body → IsSoundUpTo issuer (entries ++ entry ∷ []) (at + 5 + length body) file
 sound_more goes_on issuer entries at file body entry legal sound counted encoding =
     let walk : AreFrames file (bodies_of entries ++ body ∷ []) (at + 5 + length body) = goes_on file (bodies_of entries) at body sound.frames counted in
-    let same : bodies_of entries ++ body ∷ [] ≡ bodies_of (entries ++ entry ∷ []) = ap (λ (b : List ℕ). bodies_of entries ++ b ∷ []) encoding.spelled ∙ sym (bodies_more entries entry) in
+    let same : bodies_of entries ++ body ∷ [] ≡ bodies_of (entries ++ entry ∷ []) = ap (λ (b : List ℕ). bodies_of entries ++ b ∷ []) encoding.bytes ∙ sym (bodies_more entries entry) in
     record {
       header = sound.header;
       frames = subst (λ (bs : List (List ℕ)). AreFrames file bs (at + 5 + length body)) same walk;
-      encoded = encoded_more issuer entries entry sound.encoded (subst (λ (b : List ℕ). IsEncoding issuer entry b) encoding.spelled encoding);
+      encoded = encoded_more issuer entries entry sound.encoded (subst (λ (b : List ℕ). IsEncoding issuer entry b) encoding.bytes encoding);
       legal = legal;
     }
 
@@ -41,3 +42,7 @@ damaged_step bytes body step e h = subst (λ (s : Step). IsStep bytes s body) e 
 
 pub next_step : (at next : ℕ) (body : List ℕ) (step : Step) → step ≡ Counted next → IsNext at step body → next ≡ at + 5 + length body
 next_step at next body step e h = (subst (λ (s : Step). IsNext at s body) e h).1
+
+-- a fault of the bytes is no want of memory
+pub unread : (entry : Entry) (fault : BadEntry) (at : ℕ) → fault ≡ BadEntry.At at → fault ≡ BadEntry.NoMemory → ⊥
+unread entry fault at e h = absurd cc

@@ -17,7 +17,7 @@ use Rattle.chain_store.specs.Stands.{StandsFor, StandsBeforeOrWith, AreEncoded, 
 use Rattle.chain_store.proofs.Loads.{encoded_more, bodies_more}
 
 pub encoding_of : (issuer : List ℕ) (entry : Entry) → HasIssuer issuer entry → AreFields entry → IsEncoding issuer entry (entry_bytes entry)
-encoding_of issuer entry own fields = record { of_issuer = own; fields = fields; spelled = refl }
+encoding_of issuer entry own fields = record { issuer = own; fields = fields; bytes = refl }
 
 -- an entry on its way into a file that holds this history
 pub record Adding (history : History) (gate : ℕ) (t : Told) (entry : Entry) : Type 0 where

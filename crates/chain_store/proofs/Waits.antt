@@ -5,7 +5,7 @@ use Rattle.std.proofs.lemmas.Option.{slice_get_within, get_or_from_slice_get, sl
 use Rattle.shop_core.specs.History.{at_place}
 
 at_later : {A : Type 0} (xs : List A) (k : ℕ) → at_place xs (k + 1) ≡ slice_get xs k
-at_later xs k = let e : k + 1 - 1 ≡ k = omega arith in rw e refl
+at_later xs k = let e : k + 1 - 1 ≡ k = omega arith in let f : (k + 1 == 0) ≡ false = eqb-false (k + 1) 0 (λ h. omega arith) in rw (f, e) refl
 
 -- one record more
 pub wait_more : {A : Type 0} (xs : List A) (first n : ℕ) (x : A) → at_place xs (first + n + 1) ≡ Some x → take (n + 1) (drop first xs) ≡ take n (drop first xs) ++ x ∷ []
@@ -21,7 +21,7 @@ pub wait_ends : {A : Type 0} (xs : List A) (first n max : ℕ) → n ≤ max →
 wait_ends xs first n max le e =
     let none : slice_get xs (first + n) ≡ None = sym (at_later xs (first + n)) ∙ e in
     elim (slice_get_cases xs (first + n)).1 [
-      | inl some ↦ absurd (let got = some.2.1 in cc)
+      | inl some ↦ absurd (let got = some.2 in cc)
       | inr past ↦
           let short : length (drop first xs) ≤ n = omega (arith, past.0, length-drop first xs) in
           take_all n (drop first xs) short ∙ sym (take_all max (drop first xs) (omega (arith, short, le)))

@@ -1,5 +1,5 @@
 //! Names of parties.
-ghost use Rattle.std.specs.Prelude.{◌≡◌, position, nat_eq, IfOk};
+ghost use Rattle.std.specs.Prelude.{◌≡◌, position, nat_eq, IfOk, IsUtf8};
 ghost use Rattle.std.specs.Cmp.{partial_equiv_from_equiv};
 ghost use Rattle.std.specs.Cmp.Lexicographic.{pointwise, nat_list_eq_equiv};
 ghost use Rattle.parties.specs.NameForm.{is_control};
@@ -76,8 +76,9 @@ impl Name {
     pub fn as_slice(&self) -> &[u8]
         ensures value { result.now ≡ self.now }
         ensures name { IsName result.now }
+        ensures text { IsUtf8 result.now }
     {
-        self.text.as_bytes()
+        self.text.as_str().as_bytes()
     }
 
     /// The same name in memory of its own.

@@ -1,0 +1,11 @@
+pub mod CodeLemmas
+pub mod ValueLemmas
+pub mod Loop
+pub mod Readers
+pub mod FieldLemmas
+pub mod FieldReaders
+pub mod EntryLemmas
+pub mod BreakdownLemmas
+pub mod EntryReaders
+pub mod RecordReaders
+pub mod LengthLemmas

@@ -1,3 +1,5 @@
+pub mod Codes
 pub mod Bytes
 pub mod Fields
+pub mod Reading
 pub mod Laws

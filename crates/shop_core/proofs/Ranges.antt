@@ -77,6 +77,6 @@ fits issuer entries (Rec till serial s) c =
     let m = is_made issuer entries (ask_of till serial s) (moment_of s.body).seconds (Rec till serial s) c.made in
     let same : made_sealed issuer entries (request_of s.body) (moment_of s.body).seconds ≡ s = made_is issuer entries till serial s m in
     (
-      record { till_is = c.asked.till; serial_is = c.asked.serial.0; refs = few_in s.body m.none.good },
+      record { till = c.asked.till; serial = c.asked.serial.0; refs = few_in s.body m.none.good },
       sym (ap (λ (x : Sealed). issuer_of x.body) same) ∙ issuer_made issuer entries (request_of s.body) _
     )

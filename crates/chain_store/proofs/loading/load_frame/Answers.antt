@@ -1,14 +1,13 @@
 use Rattle.std.proofs.Common.{◌≡◌, ℕ, ◌+◌, List, ◌∷◌, [], ◌++◌, length, drop, sym, ap, subst, Err}
 use Rattle.chain_store.specs.declared.causes.OpenCause.{OpenCause}
 use Rattle.chain_store.specs.declared.causes.OpenCause.TheVariants as Cause
-use Rattle.record_codec.specs.declared.codec.BadEntry.{BadEntry}
 use Rattle.frames.specs.Frames.{IsCounted, IsDamaged}
 use Rattle.record_codec.specs.Fields.{IsEncoding}
 use Rattle.record_codec.specs.declared.entries.Entry.{Entry}
 use Rattle.shop_core.specs.Legal.{Legal}
 use Rattle.chain_store.specs.Stands.{IsDamagedFile, IsSoundUpTo}
 use Rattle.chain_store.specs.Stands.IsDamagedFile.{no_frame, no_entry, not_next}
-use Rattle.chain_store.proofs.Loads.{counted_step, damaged_step, next_step, sound_more}
+use Rattle.chain_store.proofs.Loads.{unread, counted_step, damaged_step, next_step, sound_more}
 use Rattle.chain_store.proofs.loading.load_frame.Goals as goal
 
 pub returns-in-Err-At-clause-damaged : goal.returns-in-Err-At-clause-damaged
@@ -20,8 +19,8 @@ returns-in-Err-At-clause-damaged g c byte is tells =
     counted_step _ body c.in-Ok-Counted.field-0 c.in-Ok-Counted.next c.in-Ok-Counted.field-0-is (c.in-Ok-Counted.ensures.step tells) in
     let read : c.as_slice.result.now ≡ body = c.as_slice.ensures.value in
     let none : (entry : Entry) → IsEncoding s.issuer entry body → ⊥ =
-    λ entry encoding. c.in-Err-At.ensures.bad c.in-Err-At.field-0-0 (ap (λ (e : BadEntry). Err e) c.in-Err-At.field-0-is) entry
-    (subst (λ (b : List ℕ). IsEncoding c.issuer.result.now entry b) (sym read) (subst (λ (n : List ℕ). IsEncoding n entry body) (sym c.issuer.ensures) encoding)) in
+    λ entry encoding. unread entry c.in-Err-At.field-0 c.in-Err-At.field-0-0 c.in-Err-At.field-0-is (c.in-Err-At.ensures.only entry
+    (subst (λ (b : List ℕ). IsEncoding c.issuer.result.now entry b) (sym read) (subst (λ (n : List ℕ). IsEncoding n entry body) (sym c.issuer.ensures) encoding))) in
     subst (λ (b : ℕ). IsDamagedFile (g.D.Disk.told c.args.disk.now).content b) at
     (no_entry s.issuer s.entries c.args.at body (c.requires.sound tells) counted none)
 
