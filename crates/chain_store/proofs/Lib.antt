@@ -1,3 +1,4 @@
 mod Loads
 mod Stores
 mod Waits
+mod Taking

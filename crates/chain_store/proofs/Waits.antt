@@ -1,11 +1,22 @@
 -- The first records that wait.
-use Rattle.std.proofs.Common.{◌≡◌, ℕ, ◌+◌, ◌-◌, ◌≤◌, ◌<◌, List, [], ◌∷◌, ◌++◌, length, take, drop, get_or, refl, sym, ◌∙◌, ap, subst, arith, inl, inr, Option, Some, None, slice_get}
+use Rattle.std.proofs.Common.{◌≡◌, ℕ, ◌+◌, ◌-◌, ◌≤◌, ◌<◌, List, [], ◌∷◌, ◌++◌, length, take, drop, get_or, refl, sym, ◌∙◌, ap, subst, arith, inl, inr, Option, Some, None, slice_get, Bool, true, false, cond, eqb}
+use Rattle.std.proofs.lemmas.Bool.{cases_Bool, eqb-true}
 use Rattle.std.proofs.lemmas.List.{take_more, take_all, length-drop, get_or-drop}
 use Rattle.std.proofs.lemmas.Option.{slice_get_within, get_or_from_slice_get, slice_get_cases}
 use Rattle.shop_core.specs.History.{at_place}
 
+not_zero : (n : ℕ) → 0 < n → eqb n 0 ≡ false
+not_zero n more = elim (cases_Bool (eqb n 0)) [
+  | inl is ↦ absurd (let zero : n ≡ 0 = eqb-true n 0 is in omega arith)
+  | inr isnt ↦ isnt
+]
+
+else_part : {A : Type 0} (b : Bool) (x y : A) → b ≡ false → cond b x y ≡ y
+else_part true x y e = absurd cc
+else_part false x y e = refl
+
 at_later : {A : Type 0} (xs : List A) (k : ℕ) → at_place xs (k + 1) ≡ slice_get xs k
-at_later xs k = let e : k + 1 - 1 ≡ k = omega arith in let f : (k + 1 == 0) ≡ false = eqb-false (k + 1) 0 (λ h. omega arith) in rw (f, e) refl
+at_later xs k = else_part (eqb (k + 1) 0) None (slice_get xs (k + 1 - 1)) (not_zero (k + 1) (omega arith)) ∙ (let e : k + 1 - 1 ≡ k = omega arith in ap (slice_get xs) e)
 
 -- one record more
 pub wait_more : {A : Type 0} (xs : List A) (first n : ℕ) (x : A) → at_place xs (first + n + 1) ≡ Some x → take (n + 1) (drop first xs) ≡ take n (drop first xs) ++ x ∷ []

@@ -164,6 +164,7 @@ impl<D: Disk, C: Clock> Store<D, C> {
         if let Some(faults) = self.journal.stopped() {
             return Err(StoreFault::Stopped { faults });
         }
+        let _legal = self.state.history();
         let first = self.state.noted();
         let Ok(copy) = Vec::from_slice(alloc, lines) else {
             return Err(StoreFault::NoMemory);

@@ -1,0 +1,9 @@
+use Rattle.std.proofs.Common.{refl, sym, subst, Option, ℕ}
+use Rattle.journal.specs.Journal.{disk_of, end_of}
+use Rattle.chain_store.specs.Ready.{IsReady}
+use Rattle.chain_store.proofs.Stores.{untouched_around}
+use Rattle.chain_store.proofs.store.Store.note.Goals as goal
+
+pub returns-in_default-from_slice-clause-any_moment : goal.returns-in_default-from_slice-clause-any_moment
+returns-in_default-from_slice-clause-any_moment g c going_on tells =
+    untouched_around c.args.self.now.state (end_of c.args.self.now.journal) _ _ (c.requires.ready.holds going_on tells) c.history-legal.ensures.legal

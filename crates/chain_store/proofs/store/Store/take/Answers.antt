@@ -1,0 +1,54 @@
+use Rattle.std.proofs.Common.{◌≡◌, ℕ, ◌∷◌, [], ◌++◌, List, refl, sym, ◌∙◌, ap, subst, append-nil, None, Ok, Err, Option}
+use Rattle.chain_disk.specs.Told.{LeavesOnly}
+use Rattle.journal.specs.Journal.{disk_of, end_of, stopped_of}
+use Rattle.journal.specs.declared.faults.StoreFault.{StoreFault}
+use Rattle.ports.specs.Readings.{MovedBy}
+use Rattle.shop_core.specs.Answer.{answer}
+use Rattle.shop_core.specs.Runs.{IsTaken}
+use Rattle.shop_core.specs.declared.answers.Reply.{Reply}
+use Rattle.shop_core.specs.declared.answers.Reply.TheVariants as reply
+use Rattle.chain_store.specs.Ready.{Takes}
+use Rattle.chain_store.proofs.Stores.{on_disk, untouched}
+use Rattle.chain_store.proofs.Taking.{both_taken, made, not_made, told_again, told_refused}
+use Rattle.chain_store.proofs.store.Store.take.Goals as goal
+
+pub returns-in-Err-clause-takes : goal.returns-in-Err-clause-takes
+returns-in-Err-clause-takes g c going_on =
+    not_made c.args.self.now.state c.args.ask.now _ _ g.D.Disk.tells _ (Err StoreFault.NoMemory) c.now-seconds.result c.now-seconds.ensures.told c.now-seconds.ensures.moved refl
+    (λ tells. untouched c.args.self.now.state (end_of c.args.self.now.journal) _ (c.requires.holds going_on tells) c.history-legal.ensures.legal)
+
+pub returns-in-Ok-Again-clause-takes : goal.returns-in-Ok-Again-clause-takes
+returns-in-Ok-Again-clause-takes g c going_on =
+    let s = c.args.self.now.state in
+    let planned = answer s.issuer s.entries c.args.ask.now c.now-seconds.result in
+    not_made s c.args.ask.now _ _ g.D.Disk.tells _ (Ok (reply.Again c.in-Ok-Again.receipt)) c.now-seconds.result c.now-seconds.ensures.told c.now-seconds.ensures.moved
+    (told_again s.issuer s.entries planned c.in-Ok-Again.receipt (sym c.in-Ok-Again.ensures.answer ∙ c.in-Ok-Again.field-0-is))
+    (λ tells. untouched s (end_of c.args.self.now.journal) _ (c.requires.holds going_on tells) c.history-legal.ensures.legal)
+
+pub returns-in-Ok-Again-clause-acknowledged : goal.returns-in-Ok-Again-clause-acknowledged
+returns-in-Ok-Again-clause-acknowledged g c tells =
+    on_disk c.args.self.now.state (end_of c.args.self.now.journal) _ (c.requires.holds (sym c.in_default.ensures) tells) c.history-legal.ensures.legal
+
+pub returns-in-Ok-Refused-clause-takes : goal.returns-in-Ok-Refused-clause-takes
+returns-in-Ok-Refused-clause-takes g c going_on =
+    let s = c.args.self.now.state in
+    let planned = answer s.issuer s.entries c.args.ask.now c.now-seconds.result in
+    not_made s c.args.ask.now _ _ g.D.Disk.tells _ (Ok (reply.Refused c.in-Ok-Refused.why)) c.now-seconds.result c.now-seconds.ensures.told c.now-seconds.ensures.moved
+    (told_refused s.issuer s.entries planned c.in-Ok-Refused.why (sym c.in-Ok-Refused.ensures.answer ∙ c.in-Ok-Refused.field-0-is))
+    (λ tells. untouched s (end_of c.args.self.now.journal) _ (c.requires.holds going_on tells) c.history-legal.ensures.legal)
+
+pub returns-in-Ok-Refused-clause-acknowledged : goal.returns-in-Ok-Refused-clause-acknowledged
+returns-in-Ok-Refused-clause-acknowledged g c tells =
+    on_disk c.args.self.now.state (end_of c.args.self.now.journal) _ (c.requires.holds (sym c.in_default.ensures) tells) c.history-legal.ensures.legal
+
+pub returns-in-Ok-Made-clause-takes : goal.returns-in-Ok-Made-clause-takes
+returns-in-Ok-Made-clause-takes g c going_on =
+    let s = c.args.self.now.state in
+    let entry = c.in-Ok-Made.entry in
+    let t = c.take_made.ensures in
+    let both =
+    both_taken (λ (r : Reply). IsTaken s.entries entry r) (λ r. stopped_of c.take_made.new.self.journal ≡ None) (λ r. c.take_made.new.self.state.entries ≡ s.entries ++ entry ∷ [])
+    c.take_made.result t.taken in
+    made s c.take_made.new.self.state c.args.ask.now _ _ g.D.Disk.tells _ _ c.take_made.result c.now-seconds.result entry c.now-seconds.ensures.told
+    (subst (λ (k : g.row.C.Denot). MovedBy 1 (g.C.Clock.coming c.args.self.now.clock) (g.C.Clock.coming k)) (sym t.clock) c.now-seconds.ensures.moved)
+    t.issuer (sym c.in-Ok-Made.ensures.answer ∙ c.in-Ok-Made.field-0-is) both.0 both.1 t.same t.any_moment
