@@ -42,7 +42,7 @@ returns-in-Ok-load_entry-clause-sound g c tells =
     let next : c.in-Ok-Counted.next ≡ c.args.at + 5 + length body = next_step c.args.at c.in-Ok-Counted.next body c.in-Ok-Counted.field-0 c.in-Ok-Counted.field-0-is c.in-Ok-Counted.ensures.place in
     let encoding : IsEncoding s.issuer c.in-Ok.entry body =
     subst (λ (n : List ℕ). IsEncoding n c.in-Ok.entry body) c.issuer.ensures
-    (subst (λ (b : List ℕ). IsEncoding c.issuer.result.now c.in-Ok.entry b) c.as_slice.ensures.value c.in-Ok.ensures.ok) in
+    (subst (λ (b : List ℕ). IsEncoding c.issuer.result.now c.in-Ok.entry b) c.as_slice.ensures.value c.in-Ok.ensures.found) in
     let added = c.in-Ok-load_entry.ensures.ok in
     let legal : Legal s.issuer (s.entries ++ c.in-Ok.entry ∷ []) =
     subst (λ (es : List Entry). Legal s.issuer es) added.2 (subst (λ (n : List ℕ). Legal n c.load_entry.new.state.entries) added.1 added.3) in
@@ -60,7 +60,7 @@ returns-in-Err-load_entry-clause-damaged g c byte is tells =
     counted_step _ body c.in-Ok-Counted.field-0 c.in-Ok-Counted.next c.in-Ok-Counted.field-0-is (c.in-Ok-Counted.ensures.step tells) in
     let encoding : IsEncoding s.issuer c.in-Ok.entry body =
     subst (λ (n : List ℕ). IsEncoding n c.in-Ok.entry body) c.issuer.ensures
-    (subst (λ (b : List ℕ). IsEncoding c.issuer.result.now c.in-Ok.entry b) c.as_slice.ensures.value c.in-Ok.ensures.ok) in
+    (subst (λ (b : List ℕ). IsEncoding c.issuer.result.now c.in-Ok.entry b) c.as_slice.ensures.value c.in-Ok.ensures.found) in
     let same : c.in-Err-load_entry.cause ≡ Cause.Damaged byte = cc in
     let why = c.in-Err-load_entry.ensures.not_next byte (ap (λ (e : OpenCause). Err e) same) in
     subst (λ (b : ℕ). IsDamagedFile file b) (sym why.0)

@@ -1,0 +1,8 @@
+//! Opens a shop's file: a sync, so that nothing is pending, then what the file stands for, or its creation.
+#![tactic(auto)]
+
+mod opening;
+#[cfg(test)]
+mod tests;
+
+pub use opening::{OpenFault, open_store};
