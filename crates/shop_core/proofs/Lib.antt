@@ -9,3 +9,5 @@ mod Grows
 mod Planning
 mod Taking
 mod Judged
+mod Ranges
+mod Breaking

@@ -4,6 +4,7 @@ pub mod Standing
 pub mod Making
 pub mod Answer
 pub mod Legal
+pub mod Ranges
 pub mod Rising
 pub mod Runs
 pub mod Kept

@@ -27,8 +27,8 @@ Tells entries (Again kept) told gained = (told ≡ reply.Again kept) × (gained 
 Tells entries (Refused why) told gained = (told ≡ reply.Refused why) × (gained ≡ [])
 Tells entries (Made entry) told gained = IsTaken entries entry told × (gained ≡ entry ∷ [])
 
--- one reply of a run at a reading of the clock; want of memory changes nothing
-abbrev pub IsReply : List ℕ → List Entry → Asked → ℕ → Result Reply NoMemory → List Entry → Type 0
+-- one reply of a run at a reading of the clock; a fault changes nothing
+abbrev pub IsReply : {E : Type 0} → List ℕ → List Entry → Asked → ℕ → Result Reply E → List Entry → Type 0
 IsReply issuer entries ask seconds (Ok told) gained = Tells entries (answer issuer entries ask seconds) told gained
 IsReply issuer entries ask seconds (Err e) gained = gained ≡ []
 
@@ -40,12 +40,12 @@ pub record Replied (old new : History) (ask : Asked) (seconds : ℕ) (told : Res
   pub reply : IsReply old.issuer old.entries ask seconds told gained
 
 -- The replies to these asks, in order, from this history to that one. IsReading replies seconds says which numbers the
--- clock may give after these replies.
-pub data ChainRun (issuer : List ℕ) (IsReading : List (Result Reply NoMemory) → ℕ → Type 0) (start : List Entry) :
-    List Asked → List (Result Reply NoMemory) → List Entry → Type 0 where
+-- clock may give after these replies; a reply may be a fault E in place of an answer.
+pub data ChainRun {E : Type 0} (issuer : List ℕ) (IsReading : List (Result Reply E) → ℕ → Type 0) (start : List Entry) :
+    List Asked → List (Result Reply E) → List Entry → Type 0 where
   begun : ChainRun issuer IsReading start [] [] start
-  replied : (asks : List Asked) (replies : List (Result Reply NoMemory)) (entries : List Entry)
-      (ask : Asked) (told : Result Reply NoMemory) (gained : List Entry) →
+  replied : (asks : List Asked) (replies : List (Result Reply E)) (entries : List Entry)
+      (ask : Asked) (told : Result Reply E) (gained : List Entry) →
       ChainRun issuer IsReading start asks replies entries →
       (seconds : ℕ) → IsReading replies seconds → IsReply issuer entries ask seconds told gained →
       ChainRun issuer IsReading start (asks ++ ask ∷ []) (replies ++ told ∷ []) (entries ++ gained)

@@ -4,7 +4,7 @@ ghost use Rattle.record_codec.specs.declared.entries.Entry.TheVariants as entry_
 ghost use Rattle.record_fields.specs.declared.records.Record.TheVariants as record_of;
 ghost use Rattle.shop_core.specs.Asked.{IsAsked, IsRequest};
 ghost use Rattle.shop_core.specs.Breaks.{IsBreak, IsRecordBreak};
-ghost use Rattle.shop_core.specs.Legal.{IsNext, ask_of, request_of};
+ghost use Rattle.shop_core.specs.Legal.{Continues, IsNext, ask_of, request_of};
 ghost use Rattle.shop_core.specs.Same.{SameAlta, SameAnulacion, SameBody, SameButDraft};
 
 use crate::making::next_link;
@@ -30,6 +30,14 @@ pub enum Break {
 
 /// What is wrong with an entry as the next one of the history; None exactly where it continues it.
 pub fn next_fault(alloc: Global, state: &State, entry: &Entry) -> Result<Option<Break>, NoMemory>
+    ensures first { IfOk result (λ found. IsBreak state.now.issuer state.now.entries entry.now found) }
+    ensures none { IfOk result (λ found. IfNone found (Continues state.now.issuer state.now.entries entry.now)) }
+    ensures some { IfOk result (λ found. IfSome found (λ _. Continues state.now.issuer state.now.entries entry.now → ⊥)) }
+{
+    first_break(alloc, state, entry)
+}
+
+fn first_break(alloc: Global, state: &State, entry: &Entry) -> Result<Option<Break>, NoMemory>
     ensures { IfOk result (λ found. IsBreak state.now.issuer state.now.entries entry.now found) }
 {
     match entry {

@@ -14,14 +14,19 @@ mod standing;
 mod state;
 #[cfg(test)]
 mod tests;
+mod waiting;
 mod words;
 
 pub use answers::{Planned, Refusal, Reply};
 pub use breaks::{Break, next_fault};
-pub use laws::legal_is_chained;
+pub use laws::{
+    a_legal_history_goes_on, legal_is_chained, what_continues_fits_its_bytes,
+    what_is_made_is_a_record,
+};
 pub use plans::plan;
 pub use receipts::Receipt;
-pub use replies::reply_to;
+pub use replies::{reply_to, taken};
 pub use requests::{Ask, Request};
 pub use state::State;
+pub use waiting::Waiting;
 pub use words::Word;

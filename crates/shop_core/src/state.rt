@@ -63,9 +63,10 @@ impl State {
         &self.kept
     }
 
-    /// How many entries the history has.
+    /// How many entries the history has: each is a record, or notes a line of one.
     pub fn entries(&self) -> u64
-        ensures { result ≡ length self.now.entries }
+        ensures count { result ≡ length self.now.entries }
+        ensures few { result ≤ 2_000_000 }
     {
         self.kept.len() as u64
     }
