@@ -1,0 +1,7 @@
+use Rattle.std.proofs.Common.{◌∙◌, sym}
+use Rattle.agency_rules.specs.Judgement as spec
+use Rattle.agency_rules.proofs.Tables.{judged_gone, judged_clash, judged_warned}
+use Rattle.agency_rules.proofs.judging.judge_by_register.Goals as goal
+
+pub returns-then-past : goal.returns-then-past
+returns-then-past c = judged_gone c.args.past.now c.args.verdict c.args.body.now c.requires c.if-past.true
