@@ -48,6 +48,18 @@ impl Pairs {
         }
     }
 
+    /// The list of these pairs, in memory of its own. Want of memory where they are more than there may be.
+    pub fn of(alloc: Global, pairs: &[(Sealed, Line)]) -> Result<Pairs, NoMemory>
+        ensures { IfOk result (λ list. list ≡ pairs.now) }
+    {
+        let mut list = Pairs::new(alloc);
+        for i in 0..pairs.len() {
+            let pair = &pairs[i];
+            list.push(pair.0.copied(alloc)?, pair.1)?;
+        }
+        Ok(list)
+    }
+
     /// The pairs, in order.
     pub fn as_slice(&self) -> &[(Sealed, Line)]
         ensures { result.now ≡ self.now }

@@ -75,13 +75,16 @@ fn batches_are_cut(rt: HostRuntime) -> Result<(), Fail> {
         return Err(Fail::from("a batch"));
     };
     assert_eq!(rt; batch.as_slice().len(), 1000);
+    assert_eq!(rt; records.len(), 1001);
     let rest = &records[1000..];
     assert!(rt; are_linked(rest));
     let Ok(Some(last)) = Batch::cut(alloc, rest) else {
         return Err(Fail::from("a batch"));
     };
     assert_eq!(rt; last.as_slice().len(), 1);
-    assert!(rt; matches!(Batch::cut(alloc, &records[..0]), Ok(None)));
+    let none = Vec::new(alloc);
+    assert!(rt; are_linked(&none));
+    assert!(rt; matches!(Batch::cut(alloc, &none), Ok(None)));
     let Ok(copy) = last.copied(alloc) else {
         return Err(Fail::from("a copy"));
     };
