@@ -1,0 +1,10 @@
+use Rattle.std.proofs.Common.{◌∙◌, ap, List}
+use Rattle.agency_port.specs.Telling.{Telling, used_up}
+use Rattle.agency_port.specs.declared.told.ToldAnswer.{ToldAnswer}
+use Rattle.agency_port.proofs.Tellings.{left_after, left_record}
+use Rattle.agency_port.proofs.told.ToldAgency.use_up.Goals as goal
+
+pub returns-then-self-as_slice : goal.returns-then-self-as_slice
+returns-then-self-as_slice c =
+    let s = c.self.inside in
+    left_record s.answers s.at s.said.items s.fault_count ∙ ap used_up c.self.view_is
