@@ -1,5 +1,5 @@
 -- Which batches were handed over.
-use Rattle.std.proofs.Common.{◌≡◌, ℕ, suc, ◌<◌, List, [], ◌∷◌, ◌++◌, refl, ◌∙◌, arith, Option, Some, None, Bool, true, false, cond, length, length-append, get_or}
+use Rattle.std.proofs.Common.{ℕ, suc, List, [], ◌∷◌, ◌++◌, refl, ◌∙◌, arith, Option, Some, None, Bool, true, false, cond, length, length-append}
 use Rattle.std.specs.Prelude.{Contains}
 use Rattle.std.specs.List.{AllByRecursion, cons_option}
 use Rattle.std.proofs.Math.ListN.{get_or-append}

@@ -1,21 +1,18 @@
 -- What follows from a consultation's row, and from a session's opening.
-use Rattle.std.proofs.Common.{◌≡◌, ℕ, ◌+◌, ◌^◌, ◌<◌, ◌≤◌, List, [], ◌∷◌, ◌++◌, refl, sym, ◌∙◌, ap, subst, inl, inr, arith, Option, Some, None, Result, Ok, Err, IfOk, OnOk, OnErr, Bool, true, false, cond, length, append-nil}
+use Rattle.std.proofs.Common.{◌≡◌, ℕ, ◌^◌, ◌<◌, ◌≤◌, List, [], ◌∷◌, ◌++◌, refl, sym, ◌∙◌, ap, subst, inl, arith, None, Result, Ok, Err, IfOk, Bool, true, false, cond, length, append-nil}
 use Rattle.ports.specs.Causes.{Rose}
-use Rattle.std.proofs.lemmas.List.{map-append, length-map}
-use Rattle.std.proofs.lemmas.List.Elements.{filter_map-append}
+use Rattle.std.proofs.lemmas.List.{length-map}
 use Rattle.record_fields.specs.declared.lines.Line.{Line}
 use Rattle.record_fields.specs.declared.records.Sealed.{Sealed}
 use Rattle.agency_rules.specs.Delivery.{delivered_all, line_of}
 use Rattle.agency_rules.specs.declared.plans.Plan.{Plan}
-use Rattle.agency_rules.specs.declared.plans.Fate.{Fate}
 use Rattle.agency_port.specs.Answers.{looked, seen_of}
 use Rattle.agency_port.specs.Ledger.{HasCause, IsAsked, Consults, Begins}
-use Rattle.agency_port.specs.Rules.{LooksUp, ConsultKeeps}
-use Rattle.agency_port.specs.Practice.{Practice, messages_of, sent_in, ledger_of, number, fate_of, is_faulty, processed_before, seen_by, consultation_answer, faults_by, consulted, opened, IsRow}
+use Rattle.agency_port.specs.Rules.{ConsultKeeps}
+use Rattle.agency_port.specs.Practice.{Practice, messages_of, sent_in, ledger_of, fate_of, is_faulty, processed_before, consultation_answer, faults_by, consulted, opened, IsRow}
 use Rattle.agency_port.specs.declared.answers.Seen.{Seen}
 use Rattle.agency_port.specs.declared.answers.AgencyFault.{AgencyFault}
 use Rattle.agency_port.specs.declared.answers.AgencyFault.TheVariants.{Failed, NoMemory}
-use Rattle.agency_port.specs.declared.messages.Message.{Message}
 use Rattle.agency_port.specs.declared.messages.Message.TheVariants.{Begun, Consulted}
 use Rattle.agency_port.specs.declared.messages.Logged.{Logged}
 use Rattle.agency_port.proofs.Logs.{messages-append, sent-append}

@@ -1,5 +1,5 @@
 -- Counts of faults.
-use Rattle.std.proofs.Common.{◌≡◌, ℕ, ◌+◌, ◌^◌, ◌<◌, ◌≤◌, refl, arith, Option, Some, None, true}
+use Rattle.std.proofs.Common.{◌≡◌, ℕ, ◌^◌, ◌<◌, ◌≤◌, arith, Option, Some, None, true}
 use Rattle.ports.specs.Causes.{Rose}
 use Rattle.ports.specs.Memory.{counted_up}
 use Rattle.agency_rules.specs.declared.plans.Fate.{Fate}

@@ -1,5 +1,5 @@
 -- A log that goes on.
-use Rattle.std.proofs.Common.{◌≡◌, ℕ, ◌<◌, ◌+◌, ◌-◌, List, [], ◌∷◌, ◌++◌, refl, sym, ◌∙◌, ap, arith, Option, Some, None, option_to_list, length, length-append, map, filter_map, take, get_or, append-nil, slice_get, Bool, true, false}
+use Rattle.std.proofs.Common.{◌≡◌, ℕ, ◌<◌, ◌+◌, ◌-◌, List, [], ◌∷◌, ◌++◌, refl, sym, ◌∙◌, ap, arith, Option, Some, None, option_to_list, length, length-append, filter_map, take, get_or, append-nil, slice_get}
 use Rattle.std.proofs.lemmas.List.{take_more, map-append}
 use Rattle.std.proofs.lemmas.List.Elements.{filter_map-append}
 use Rattle.record_fields.specs.Picks.{last_of}
@@ -7,7 +7,6 @@ use Rattle.record_fields.specs.declared.records.Sealed.{Sealed}
 use Rattle.agency_port.specs.Replied.{Replied}
 use Rattle.agency_port.specs.Messages.{batch_in, batches_in}
 use Rattle.agency_port.specs.Practice.{messages_of, sent_in, late_in, late_for, reply_in, last_reply}
-use Rattle.agency_port.specs.declared.messages.Message.{Message}
 use Rattle.agency_port.specs.declared.messages.Logged.{Logged}
 
 one_of : {A B : Type 0} (f : A → Option B) (x : A) (o : Option B) → f x ≡ o → filter_map f (x ∷ []) ≡ option_to_list o

@@ -1,5 +1,5 @@
 -- Whether a reply names a batch.
-use Rattle.std.proofs.Common.{◌≡◌, ℕ, List, refl, sym, ◌∙◌, ap, Bool, true, false, bytes_eq}
+use Rattle.std.proofs.Common.{◌≡◌, ℕ, List, refl, sym, Bool, true, false, bytes_eq}
 use Rattle.std.specs.Bool.{Decides}
 use Rattle.std.proofs.lemmas.Slice.Eq.{bytes_eq-Decides, slice_eq-Decides}
 use Rattle.record_fields.specs.declared.records.Sealed.{Sealed}

@@ -1,7 +1,6 @@
 -- What follows from a submission's row.
-use Rattle.std.proofs.Common.{◌≡◌, ℕ, ◌+◌, ◌^◌, ◌<◌, ◌≤◌, List, [], ◌∷◌, ◌++◌, refl, sym, ◌∙◌, ap, subst, inl, inr, arith, Option, Some, None, Result, Ok, Err, IfOk, Bool, true, false, cond, count_by, length, map, take, unwrap_or}
+use Rattle.std.proofs.Common.{◌≡◌, ℕ, ◌+◌, ◌^◌, ◌<◌, ◌≤◌, List, [], ◌∷◌, ◌++◌, refl, sym, ◌∙◌, ap, subst, inl, arith, Option, Some, None, Result, Ok, Err, IfOk, Bool, true, false, cond, count_by, length, take, unwrap_or}
 use Rattle.ports.specs.Causes.{Rose}
-use Rattle.std.proofs.lemmas.List.{map-append}
 use Rattle.record_fields.specs.declared.lines.Line.{Line}
 use Rattle.record_fields.specs.declared.records.Sealed.{Sealed}
 use Rattle.agency_rules.specs.Plans.{fate_at}
@@ -13,10 +12,9 @@ use Rattle.agency_port.specs.Replied.{Replied}
 use Rattle.agency_port.specs.Answers.{answers}
 use Rattle.agency_port.specs.Ledger.{HasCause, StaleShows, Names, HandsOver, Submits}
 use Rattle.agency_port.specs.Rules.{AreAmong, DeliversThis, SubmitKeeps}
-use Rattle.agency_port.specs.Practice.{Practice, messages_of, sent_in, ledger_of, is_call, number, late_for, fate_of, again_before, is_faulty, comes_at, own_of, processed_before, processed_after, reply_by, last_reply, empty_reply, is_reply_to, unless_own, answer_by, submission_answer, faults_by, submitted, IsRow, IsCutShort, cut}
+use Rattle.agency_port.specs.Practice.{Practice, messages_of, sent_in, ledger_of, is_call, number, late_for, fate_of, again_before, is_faulty, comes_at, own_of, processed_before, reply_by, last_reply, empty_reply, is_reply_to, answer_by, submission_answer, faults_by, submitted, IsRow, IsCutShort, cut}
 use Rattle.agency_port.specs.declared.answers.AgencyFault.{AgencyFault}
 use Rattle.agency_port.specs.declared.answers.AgencyFault.TheVariants.{Failed, NoMemory}
-use Rattle.agency_port.specs.declared.messages.Message.{Message}
 use Rattle.agency_port.specs.declared.messages.Message.TheVariants.{Submitted}
 use Rattle.agency_port.specs.declared.messages.Logged.{Logged}
 use Rattle.agency_port.proofs.Deliveries.{delivered_all-append, three_parts}

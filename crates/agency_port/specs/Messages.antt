@@ -1,8 +1,6 @@
 -- What a list of messages says.
-use Rattle.std.specs.Prelude.{ℕ, List, filter_map, Option, Some, None, Result, Ok, Err}
+use Rattle.std.specs.Prelude.{List, filter_map, Option, Some, None}
 use Rattle.record_fields.specs.declared.records.Sealed.{Sealed}
-use Rattle.agency_port.specs.Replied.{Replied}
-use Rattle.agency_port.specs.declared.answers.AgencyFault.{AgencyFault}
 use Rattle.agency_port.specs.declared.messages.Message.{Message}
 use Rattle.agency_port.specs.declared.messages.Message.TheVariants.{Begun, Submitted, Consulted}
 

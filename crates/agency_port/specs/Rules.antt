@@ -1,7 +1,7 @@
 -- The rules of an agency that keeps them. A delivery of a batch goes through all its records in order: one whose Huella
 -- stands among the processed ones changes nothing and is answered Duplicado, any other is added with its judgement. In any
 -- submission or consultation any batches that were ever handed over may come, old ones again too.
-use Rattle.std.specs.Prelude.{◌≡◌, ℕ, List, [], ◌∷◌, ◌++◌, Contains, Result, IfOk}
+use Rattle.std.specs.Prelude.{◌≡◌, ℕ, List, ◌∷◌, ◌++◌, Contains, Result, IfOk}
 use Rattle.std.specs.List.{AllByRecursion}
 use Rattle.record_fields.specs.declared.records.Sealed.{Sealed}
 use Rattle.record_fields.specs.declared.lines.Line.{Line}

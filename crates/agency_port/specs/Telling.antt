@@ -1,5 +1,5 @@
 -- An agency that was told its answers.
-use Rattle.std.specs.Prelude.{ℕ, List, [], ◌∷◌, ◌++◌, drop, length, Result, Ok, Err, Bool, ◌==◌, if◌then◌else◌}
+use Rattle.std.specs.Prelude.{ℕ, List, [], ◌∷◌, ◌++◌, drop, length, Result, Ok, Err, ◌==◌, if◌then◌else◌}
 use Rattle.ports.specs.Memory.{counted_up}
 use Rattle.record_fields.specs.declared.records.Sealed.{Sealed}
 use Rattle.agency_rules.specs.declared.plans.Plan.{Plan}

@@ -23,7 +23,7 @@ pub trait Agency {
     /// What they tell.
     ghost ledger: { Self → Ledger };
 
-    /// The count of faults, which never falls.
+    /// The count of faults, which never falls. At the greatest u64 it stays.
     ghost faults: { Self → ℕ };
 
     /// What has been processed once a session is open, by what had been and the noted records.
@@ -40,8 +40,7 @@ pub trait Agency {
         ensures lists { OnOk result (IsTrue tells → Begins (ledger self.old) (ledger self.new) plan.now (length noted.now)) }
         ensures rules { OnOk result (IsTrue keeps_rules →
             (ledger self.new).processed ≡ begun (ledger self.old).processed noted.now) }
-        ensures err { OnErr result (IsTrue tells → ledger self.new ≡ ledger self.old) }
-        ensures err_rules { OnErr result (IsTrue keeps_rules → ledger self.new ≡ ledger self.old) };
+        ensures err { OnErr result (IsTrue tells → ledger self.new ≡ ledger self.old) };
 
     /// Hands a batch over. A reply that doesn't name the batch comes only where the count of faults rose. After `Failed` the
     /// batch counts as handed over.
@@ -59,10 +58,6 @@ pub trait Agency {
         ensures cause { HasCause (faults self.old) (faults self.new) result }
         ensures lists { IsTrue tells → Consults (ledger self.old) (ledger self.new) huellas.now result }
         ensures rules { IsTrue keeps_rules → ConsultKeeps (ledger self.old) (ledger self.new) huellas.now result };
-
-    /// How often it has failed. At the greatest u64 the count stays.
-    fn faults(&self) -> u64
-        ensures { result ≡ faults self.now };
 
     /// Who keeps the rules tells what was said.
     ghost keeps_and_tells: { IsTrue keeps_rules → IsTrue tells };

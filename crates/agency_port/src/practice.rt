@@ -66,11 +66,12 @@ impl PracticeAgency {
         &self.entries
     }
 
-    // The count of faults is a u64.
-    fn is_counted(&self)
-        ensures { self.now.faults < 2 ^ 64 }
+    /// How often it has failed. At the greatest u64 the count stays.
+    pub fn faults(&self) -> u64
+        ensures value { result ≡ self.now.faults }
+        ensures small { self.now.faults < 2 ^ 64 }
     {
-        let _count = self.fault_count;
+        self.fault_count
     }
 
     fn processed_count(&self) -> u32
@@ -236,7 +237,6 @@ impl Agency for PracticeAgency {
         ensures lists { OnOk result (IsTrue true → Begins (ledger_of self.old) (ledger_of self.new) plan.now (length noted.now)) }
         ensures rules { OnOk result (IsTrue true → (ledger_of self.new).processed ≡ begun (ledger_of self.old).processed noted.now) }
         ensures err { OnErr result (IsTrue true → ledger_of self.new ≡ ledger_of self.old) }
-        ensures err_rules { OnErr result (IsTrue true → ledger_of self.new ≡ ledger_of self.old) }
         ensures row { OnOk result (self.new ≡ opened self.old plan.now noted.now) }
         ensures unchanged { OnErr result (self.new ≡ self.old) }
     {
@@ -250,7 +250,7 @@ impl Agency for PracticeAgency {
         ensures rules { IsTrue true → SubmitKeeps (ledger_of self.old) (ledger_of self.new) batch.now result }
         ensures row { IsRow result (submission_answer self.old batch.now) self.old self.new (submitted self.old batch.now) }
     {
-        self.is_counted();
+        let _count = self.faults();
         self.submission(alloc, batch)
     }
 
@@ -263,11 +263,7 @@ impl Agency for PracticeAgency {
         ensures rules { IsTrue true → ConsultKeeps (ledger_of self.old) (ledger_of self.new) huellas.now result }
         ensures row { IsRow result (consultation_answer self.old huellas.now) self.old self.new (consulted self.old huellas.now) }
     {
-        self.is_counted();
+        let _count = self.faults();
         self.consultation(alloc, huellas)
-    }
-
-    fn faults(&self) -> u64 {
-        self.fault_count
     }
 }

@@ -93,11 +93,12 @@ impl ToldAgency {
         &self.said
     }
 
-    // The count of faults is a u64.
-    fn is_counted(&self)
-        ensures { self.now.faults < 2 ^ 64 }
+    /// How often it has failed. At the greatest u64 the count stays.
+    pub fn faults(&self) -> u64
+        ensures value { result ≡ self.now.faults }
+        ensures small { self.now.faults < 2 ^ 64 }
     {
-        let _count = self.fault_count;
+        self.fault_count
     }
 
     // The next answer is used up.
@@ -173,7 +174,6 @@ impl Agency for ToldAgency {
         ensures lists { OnOk result (IsTrue true → Begins (telling.ledger_of self.old) (telling.ledger_of self.new) plan.now (length noted.now)) }
         ensures rules { OnOk result (IsTrue false → (telling.ledger_of self.new).processed ≡ (telling.ledger_of self.old).processed) }
         ensures err { OnErr result (IsTrue true → telling.ledger_of self.new ≡ telling.ledger_of self.old) }
-        ensures err_rules { OnErr result (IsTrue false → telling.ledger_of self.new ≡ telling.ledger_of self.old) }
         ensures row { OnOk result (self.new ≡ telling.opened self.old plan.now (length noted.now)) }
         ensures unchanged { OnErr result (self.new ≡ self.old) }
     {
@@ -190,7 +190,7 @@ impl Agency for ToldAgency {
         ensures rules { IsTrue false → SubmitKeeps (telling.ledger_of self.old) (telling.ledger_of self.new) batch.now result }
         ensures row { IsRow result (telling.submission_answer self.old.answers batch.now) self.old self.new (telling.submitted self.old batch.now) }
     {
-        self.is_counted();
+        let _count = self.faults();
         self.submission(alloc, batch)
     }
 
@@ -203,11 +203,7 @@ impl Agency for ToldAgency {
         ensures rules { IsTrue false → ConsultKeeps (telling.ledger_of self.old) (telling.ledger_of self.new) huellas.now result }
         ensures row { IsRow result (telling.consultation_answer self.old.answers huellas.now) self.old self.new (telling.consulted self.old huellas.now) }
     {
-        self.is_counted();
+        let _count = self.faults();
         self.consultation(alloc, huellas)
-    }
-
-    fn faults(&self) -> u64 {
-        self.fault_count
     }
 }

@@ -1,12 +1,12 @@
 -- What a delivery keeps, and a delivery record by record.
-use Rattle.std.proofs.Common.{◌≡◌, ℕ, ◌<◌, ◌≤◌, ◌+◌, List, [], ◌∷◌, ◌++◌, refl, sym, ◌∙◌, ap, subst, arith, length, take, get_or, Option, Some, None, append-nil, length-take}
+use Rattle.std.proofs.Common.{◌≡◌, ℕ, ◌<◌, ◌≤◌, ◌+◌, List, [], ◌∷◌, ◌++◌, refl, sym, ◌∙◌, ap, arith, length, take, get_or, length-take}
 use Rattle.std.proofs.lemmas.List.{take-append-le, take_more}
 use Rattle.record_fields.specs.declared.lines.Line.{Line}
 use Rattle.record_fields.specs.declared.records.Sealed.{Sealed}
 use Rattle.agency_rules.specs.declared.plans.PlannedVerdict.{PlannedVerdict}
 use Rattle.agency_rules.specs.declared.pairs.Delivered.{Delivered}
 use Rattle.agency_rules.specs.declared.pairs.Delivered.TheVariants.{First, Again}
-use Rattle.agency_rules.specs.Delivery.{delivered_record, with_record, after_record, delivered}
+use Rattle.agency_rules.specs.Delivery.{with_record, after_record, delivered}
 
 pub delivered-append : (verdicts : List PlannedVerdict) (processed : List (Sealed × Line)) (a b : List Sealed) →
     delivered verdicts processed (a ++ b) ≡ delivered verdicts (delivered verdicts processed a) b

@@ -1,5 +1,5 @@
 -- The judgement by its parts.
-use Rattle.std.proofs.Common.{◌≡◌, ◌+◌, ◌∙◌, sym, ap, List, Option}
+use Rattle.std.proofs.Common.{◌≡◌, ◌+◌, ◌∙◌, ap, List, Option}
 use Rattle.series.specs.declared.numbers.InvoiceId.{InvoiceId}
 use Rattle.record_fields.specs.Records.{id_of, num_of}
 use Rattle.record_fields.specs.declared.lines.Line.{Line}

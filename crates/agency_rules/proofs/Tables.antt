@@ -1,5 +1,5 @@
 -- The table of judgements, with its rows on the register read at once.
-use Rattle.std.proofs.Common.{◌≡◌, [], ◌∷◌, refl, ◌∙◌, ap, Option, Some, None, option_map, Bool, true, false, not, ◌&&◌, unwrap_or}
+use Rattle.std.proofs.Common.{◌≡◌, [], ◌∷◌, refl, Option, Some, None, option_map, Bool, true, false, not, ◌&&◌, unwrap_or}
 use Rattle.record_fields.specs.Picks.{first_of, when}
 use Rattle.record_fields.specs.declared.lines.Line.{Line}
 use Rattle.record_fields.specs.declared.lines.Line.TheVariants.{Correcto, Incorrecto}

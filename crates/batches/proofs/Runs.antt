@@ -1,5 +1,5 @@
 -- Runs of linked records.
-use Rattle.std.proofs.Common.{◌≡◌, ◌==◌, false, ℕ, zero, suc, ◌<◌, ◌≤◌, ◌+◌, ◌-◌, List, [], ◌∷◌, ◌++◌, refl, sym, ◌∙◌, ap, subst, arith, length, take, drop, get_or, append_assoc, drop-cons, add-one}
+use Rattle.std.proofs.Common.{◌≡◌, ◌==◌, false, ℕ, zero, suc, ◌<◌, ◌≤◌, ◌+◌, ◌-◌, List, [], ◌∷◌, ◌++◌, sym, ◌∙◌, ap, subst, arith, length, take, drop, get_or, append_assoc, drop-cons, add-one}
 use Rattle.std.proofs.lemmas.List.{take-append-drop, length-drop, length-take}
 use Rattle.record_fields.specs.Records.{link_of}
 use Rattle.record_fields.specs.declared.records.Sealed.{Sealed}

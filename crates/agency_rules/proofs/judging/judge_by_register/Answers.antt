@@ -1,6 +1,4 @@
-use Rattle.std.proofs.Common.{◌∙◌, sym}
-use Rattle.agency_rules.specs.Judgement as spec
-use Rattle.agency_rules.proofs.Tables.{judged_gone, judged_clash, judged_warned}
+use Rattle.agency_rules.proofs.Tables.{judged_gone}
 use Rattle.agency_rules.proofs.judging.judge_by_register.Goals as goal
 
 pub returns-then-past : goal.returns-then-past

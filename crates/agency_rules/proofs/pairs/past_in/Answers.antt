@@ -1,4 +1,4 @@
-use Rattle.std.proofs.Common.{◌≤◌, ◌+◌, arith}
+use Rattle.std.proofs.Common.{arith}
 use Rattle.agency_rules.proofs.Pasts.{past_step_in}
 use Rattle.agency_rules.proofs.pairs.past_in.Goals as goal
 

@@ -1,7 +1,6 @@
-use Rattle.std.proofs.Common.{◌∙◌, ap, List}
-use Rattle.agency_port.specs.Telling.{Telling, used_up}
-use Rattle.agency_port.specs.declared.told.ToldAnswer.{ToldAnswer}
-use Rattle.agency_port.proofs.Tellings.{left_after, left_record}
+use Rattle.std.proofs.Common.{◌∙◌, ap}
+use Rattle.agency_port.specs.Telling.{used_up}
+use Rattle.agency_port.proofs.Tellings.{left_record}
 use Rattle.agency_port.proofs.told.ToldAgency.use_up.Goals as goal
 
 pub returns-then-self-as_slice : goal.returns-then-self-as_slice

@@ -1,4 +1,3 @@
-use Rattle.std.proofs.Common.{◌≡◌, ◌+◌, ◌∙◌, sym, ap, subst, List, Option}
 use Rattle.agency_rules.proofs.Judgements.{judged_by}
 use Rattle.agency_rules.proofs.pairs.Pairs.judgement.Goals as goal
 
