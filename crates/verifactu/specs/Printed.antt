@@ -12,13 +12,13 @@ use Rattle.report.specs.declared.answers.AnswerLine.{AnswerLine}
 use Rattle.report.specs.declared.answers.AnswerLine.TheVariants.{Answered}
 
 -- a reply as it is printed
-abbrev pub told : Result Reply NoMemory → Result Reply StoreFault
-told (Ok reply) = Ok reply
-told (Err e) = Err no_memory
+abbrev pub replied : Result Reply NoMemory → Result Reply StoreFault
+replied (Ok reply) = Ok reply
+replied (Err e) = Err no_memory
 
 -- an ask's answer
 abbrev pub answered : Asked × Result Reply NoMemory → AnswerLine
-answered a = Answered a.0.till a.0.serial (told a.1)
+answered a = Answered a.0.till a.0.serial (replied a.1)
 
 -- the answers to these asks, in line order
 abbrev pub answers : List Asked → List (Result Reply NoMemory) → List AnswerLine

@@ -2,12 +2,17 @@
 use Rattle.std.specs.Prelude.{◌≡◌, ℕ, List, Option, Result, Ok, Err, Bool, true, [], ◌⊎◌}
 use Rattle.std.specs.Io.KnownBytes.{Appends}
 use Rattle.ports.specs.Causes.{Rose}
+use Rattle.ports.specs.declared.faults.NoMemory.{NoMemory}
+use Rattle.record_codec.specs.declared.entries.Entry.{Entry}
 use Rattle.script.specs.Script.{IsScript}
 use Rattle.script.specs.declared.forms.Form.TheVariants.{Full}
 use Rattle.script.specs.declared.scripts.Script.{Script}
+use Rattle.shop_core.specs.Asked.{Asked}
+use Rattle.shop_core.specs.declared.answers.Reply.{Reply}
 use Rattle.verifactu.specs.Inputs.{ReadAll, ReadPast, ReadFailed}
 use Rattle.verifactu.specs.Output.{WrotePart}
-use Rattle.verifactu.specs.Readings.{LeavesClock, MovedOn}
+use Rattle.verifactu.specs.Printed.{printed}
+use Rattle.verifactu.specs.Readings.{AllReplied, LeavesClock, MovedOn}
 use Rattle.verifactu.specs.Run.{Played, PlayedWhole, IsBadScript}
 use Rattle.report.specs.declared.ended.Detail.{Detail}
 use Rattle.report.specs.declared.ended.Detail.TheVariants as detail
@@ -31,6 +36,11 @@ ReadStage left left_after faults faults_after (Err detail.WriteFault) = ⊥
 ReadStage left left_after faults faults_after (Err detail.DiskFault) = ⊥
 ReadStage left left_after faults faults_after (Err (detail.Damaged at)) = ⊥
 ReadStage left left_after faults faults_after (Err (detail.OtherIssuer held)) = ⊥
+
+-- this text tells these replies and this history, and the flag says that none of the replies is want of memory
+pub record Tells (asks : List Asked) (replies : List (Result Reply NoMemory)) (entries : List Entry) (text : List ℕ) (whole : Bool) : Type 0 where
+  pub prints : text ≡ printed asks replies entries
+  pub all_replied : whole ≡ true → AllReplied replies
 
 -- this text tells the run of a script, and the flag says that no reply of it is want of memory
 pub record IsTold (issuer : List ℕ) (script : Script) (coming : ℕ → Option ℕ) (text : List ℕ) (whole : Bool) : Type 0 where

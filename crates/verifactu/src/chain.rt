@@ -1,18 +1,17 @@
 // The command `chain`: reads a script, runs its commands on the empty history, and prints the replies and the chain.
-ghost use Rattle.std.specs.Prelude.{◌≡◌, [], ◌++◌, IfOk, MatchResult, true};
+ghost use Rattle.std.specs.Prelude.{◌≡◌, [], ◌++◌, IfOk, MatchResult};
 ghost use Rattle.shop_core.specs.Runs.{ChainRun};
-ghost use Rattle.verifactu.specs.Readings.{AllReplied, IsComing, readings_of, LeavesClock, MovedOn};
+ghost use Rattle.verifactu.specs.Readings.{IsComing, readings_of, LeavesClock, MovedOn};
 ghost use Rattle.verifactu.specs.Run.{ChainEnds};
 ghost use Rattle.verifactu.specs.Stages.{ReadStage, RunStage, IsTold};
 
 use crate::commands::run_commands;
 use crate::input::{InputFault, read_input};
 use crate::output::write_texts;
-use crate::printed::answers_of;
+use crate::printed::{Told, told_of};
 use parties::Nif;
 use ports::{Clock, CountingClock, NoMemory, Sink, Source};
-use record_fields::Text;
-use report::{Detail, answers_text, listing_text};
+use report::Detail;
 use script::{Form, Script, ScriptFault, read_script};
 use shop_core::{Reply, State, legal_is_chained};
 use std::alloc::Global;
@@ -91,15 +90,6 @@ fn run_script<K: Sink, C: Clock>(
     }
 }
 
-// The text of a run, in two parts.
-#[derive(Drop)]
-struct Told {
-    answers: Text,
-    listing: Text,
-    // Whether no reply is want of memory.
-    whole: bool,
-}
-
 fn text_of_run<C: Clock>(
     alloc: Global,
     issuer: &Nif,
@@ -113,16 +103,12 @@ fn text_of_run<C: Clock>(
 {
     let mut state = State::empty(alloc, issuer);
     let replies = replies_of(alloc, &mut state, script, clock)?;
-    let lines = answers_of(alloc, script.asks.as_slice(), &replies)?;
-    let answers = answers_text(alloc, &lines)?;
-    let listing = listing_text(alloc, &state)?;
+    let Ok(told) = told_of(alloc, script.asks.as_slice(), &replies, &state) else {
+        return Err(NoMemory);
+    };
     let _legal = state.history();
     legal_is_chained();
-    Ok(Told {
-        answers,
-        listing,
-        whole: none_failed(&replies),
-    })
+    Ok(told)
 }
 
 fn replies_of<C: Clock>(
@@ -146,17 +132,4 @@ fn replies_of<C: Clock>(
         }
         None => run_commands(alloc, state, script.asks.as_slice(), clock),
     }
-}
-
-fn none_failed(replies: &[Result<Reply, NoMemory>]) -> bool
-    ensures { result ≡ true → AllReplied replies.now }
-{
-    let mut rest = replies;
-    while let [first, after @ ..] = rest {
-        if first.is_err() {
-            return false;
-        }
-        rest = after;
-    }
-    true
 }

@@ -1,15 +1,47 @@
-// The answers of a run, as they are printed.
-ghost use Rattle.std.specs.Prelude.{◌≡◌, IfOk};
+// What is printed of a run.
+ghost use Rattle.std.specs.Prelude.{◌≡◌, ◌++◌, IfOk, true};
 ghost use Rattle.verifactu.specs.Printed as spec;
+ghost use Rattle.verifactu.specs.Readings.{AllReplied};
+ghost use Rattle.verifactu.specs.Stages.{Tells};
 
 use journal::StoreFault;
 use ports::NoMemory;
-use report::{AnswerLine, Answers};
-use shop_core::{Ask, Reply};
+use record_fields::Text;
+use report::{AnswerLine, Answers, answers_text, listing_text};
+use shop_core::{Ask, Reply, State};
 use std::alloc::Global;
 
-fn told(reply: &Result<Reply, NoMemory>) -> Result<Reply, StoreFault>
-    ensures { result ≡ spec.told reply.now }
+/// The text of a run, in two parts.
+#[derive(Drop)]
+pub struct Told {
+    pub answers: Text,
+    pub listing: Text,
+    /// Whether no reply is want of memory.
+    pub whole: bool,
+}
+
+/// The text of these replies and of the history that they left.
+pub fn told_of(
+    alloc: Global,
+    asks: &[Ask],
+    replies: &[Result<Reply, NoMemory>],
+    state: &State,
+) -> Result<Told, NoMemory>
+    ensures { IfOk result (λ told. Tells asks.now replies.now state.now.entries (told.answers ++ told.listing) told.whole) }
+{
+    let lines = answers_of(alloc, asks, replies)?;
+    let answers = answers_text(alloc, &lines)?;
+    let listing = listing_text(alloc, state)?;
+    let whole = none_failed(replies);
+    Ok(Told {
+        answers,
+        listing,
+        whole,
+    })
+}
+
+fn replied(reply: &Result<Reply, NoMemory>) -> Result<Reply, StoreFault>
+    ensures { result ≡ spec.replied reply.now }
 {
     match reply {
         Ok(reply) => Ok(*reply),
@@ -23,12 +55,12 @@ fn answered(ask: &Ask, reply: &Result<Reply, NoMemory>) -> AnswerLine
     AnswerLine::Answered {
         till: ask.till,
         serial: ask.serial,
-        reply: told(reply),
+        reply: replied(reply),
     }
 }
 
-/// A line for each ask with its reply, in order.
-pub fn answers_of(
+// A line for each ask with its reply, in order.
+fn answers_of(
     alloc: Global,
     asks: &[Ask],
     replies: &[Result<Reply, NoMemory>],
@@ -40,11 +72,24 @@ pub fn answers_of(
     let mut told = replies;
     while let [ask, more_asked @ ..] = asked {
         let [reply, more_told @ ..] = told else {
-            break;
+            return Ok(Answers::of(lines));
         };
-        lines.push(answered(ask, reply))?;
+        lines.extend_from_slice(&[answered(ask, reply)])?;
         asked = more_asked;
         told = more_told;
     }
     Ok(Answers::of(lines))
+}
+
+fn none_failed(replies: &[Result<Reply, NoMemory>]) -> bool
+    ensures { result ≡ true → AllReplied replies.now }
+{
+    let mut rest = replies;
+    while let [first, after @ ..] = rest {
+        if first.is_err() {
+            return false;
+        }
+        rest = after;
+    }
+    true
 }
