@@ -254,11 +254,7 @@ fn ends_have_texts(rt: HostRuntime) -> Result<(), Fail> {
         (Detail::ReadFault, 4, "verifactu: read fault\n"),
         (Detail::WriteFault, 5, "verifactu: write fault\n"),
         (Detail::DiskFault, 6, "verifactu: disk fault\n"),
-        (
-            Detail::Damaged { at: 19 },
-            7,
-            "verifactu: damaged at 19\n",
-        ),
+        (Detail::Damaged { at: 19 }, 7, "verifactu: damaged at 19\n"),
         (Detail::NoMemory, 10, "verifactu: no memory\n"),
         (Detail::TooBig, 12, "verifactu: input too big\n"),
         (
