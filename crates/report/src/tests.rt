@@ -27,6 +27,28 @@ const LISTING: &str = "\
 8 anulacion A-2 01-01-2025 S N A28295DB39DEFA68517B13D90AE45627646596A67A2A33EA82A032212D12CE37 pending\n\
 chain 8 noted 7\n";
 
+const ANSWERS: &str = "\
+till 64 serial 4294967295 taken 1000000 A/B-7 AB0000000000000000000000000000000000000000000000000000000000000F\n\
+till 64 serial 4294967295 again 1000000 A/B-7 AB0000000000000000000000000000000000000000000000000000000000000F\n\
+till 64 serial 4294967295 refused passed 5\n\
+till 64 serial 4294967295 refused draft customer-missing\n\
+till 64 serial 4294967295 refused draft customer-unwanted\n\
+till 64 serial 4294967295 refused draft rect-missing\n\
+till 64 serial 4294967295 refused draft rect-unwanted\n\
+till 64 serial 4294967295 refused draft refs-missing\n\
+till 64 serial 4294967295 refused draft refs-unwanted\n\
+till 64 serial 4294967295 refused draft too-many-refs 101\n\
+till 64 serial 4294967295 refused draft over-simplified 300001\n\
+till 64 serial 4294967295 refused unknown\n\
+till 64 serial 4294967295 refused cancelled 3\n\
+till 64 serial 4294967295 refused ref 0\n\
+till 64 serial 4294967295 refused full\n\
+till 64 serial 4294967295 refused clock 1704067199\n\
+till 64 serial 4294967295 refused twice 12\n\
+till 64 serial 4294967295 fault disk\n\
+till 64 serial 4294967295 fault stopped 18446744073709551615\n\
+till 64 serial 4294967295 fault memory\n";
+
 fn issuer() -> Result<Nif, Fail> {
     match Nif::read("89890001K") {
         Ok(nif) => Ok(nif),
@@ -56,28 +78,38 @@ fn draft(alloc: Global, base: i64) -> Result<Draft, Fail> {
     })
 }
 
-fn sale(alloc: Global, base: i64) -> Result<Request, Fail> {
-    let series = SeriesName::read("A").ok_or("a series")?;
-    let draft = draft(alloc, base)?;
-    Ok(Request::Sale { series, draft })
+// A command of the only till.
+#[derive(Clone, Copy)]
+enum Step {
+    Sale(i64),
+    Fix(i64),
+    Cancel(&'static str),
 }
 
-fn fix(alloc: Global, base: i64) -> Result<Request, Fail> {
-    let num = number("A-1")?;
-    let draft = draft(alloc, base)?;
-    Ok(Request::Fix { num, draft })
-}
-
-fn cancel(num: &str) -> Result<Request, Fail> {
-    let num = number(num)?;
-    Ok(Request::Cancel { num })
+fn request(alloc: Global, step: Step) -> Result<Request, Fail> {
+    match step {
+        Step::Sale(base) => {
+            let series = SeriesName::read("A").ok_or("a series")?;
+            let draft = draft(alloc, base)?;
+            Ok(Request::Sale { series, draft })
+        }
+        Step::Fix(base) => {
+            let num = number("A-1")?;
+            let draft = draft(alloc, base)?;
+            Ok(Request::Fix { num, draft })
+        }
+        Step::Cancel(num) => {
+            let num = number(num)?;
+            Ok(Request::Cancel { num })
+        }
+    }
 }
 
 // Takes the command of the next serial.
 fn take(alloc: Global, state: &mut State, request: Request) -> Result<(), Fail> {
     let serial = state.records() + 1;
-    match reply_to(alloc, state, &Ask::new(1, serial, request), TEN)? {
-        Reply::Taken(_) => Ok(()),
+    match reply_to(alloc, state, &Ask::new(1, serial, request), TEN) {
+        Ok(Reply::Taken(_)) => Ok(()),
         _ => Err(Fail::from("not taken")),
     }
 }
@@ -104,21 +136,22 @@ fn histories_are_listed(rt: HostRuntime) -> Result<(), Fail> {
     let mut state = State::empty(alloc, &issuer()?);
     let empty = listing_text(alloc, &state)?;
     assert_eq!(rt; empty.as_slice(), b"chain 0 noted 0\n".as_slice());
-    take(alloc, &mut state, sale(alloc, 10_000)?)?;
-    note(alloc, &mut state, Line::Incorrecto(Cause::Vet(4100)))?;
-    take(alloc, &mut state, fix(alloc, 20_000)?)?;
-    note(alloc, &mut state, Line::Correcto)?;
-    take(alloc, &mut state, fix(alloc, 500)?)?;
-    note(alloc, &mut state, Line::Incorrecto(Cause::Held))?;
-    take(alloc, &mut state, fix(alloc, -50)?)?;
-    note(alloc, &mut state, Line::ConErrores(2000))?;
-    take(alloc, &mut state, cancel("A-1")?)?;
-    note(alloc, &mut state, Line::Incorrecto(Cause::NotHeld))?;
-    take(alloc, &mut state, cancel("A-1")?)?;
-    note(alloc, &mut state, Line::Incorrecto(Cause::Gone))?;
-    take(alloc, &mut state, sale(alloc, 5)?)?;
-    note(alloc, &mut state, Line::Incorrecto(Cause::Vet(65535)))?;
-    take(alloc, &mut state, cancel("A-2")?)?;
+    let steps = [
+        (Step::Sale(10_000), Some(Line::Incorrecto(Cause::Vet(4100)))),
+        (Step::Fix(20_000), Some(Line::Correcto)),
+        (Step::Fix(500), Some(Line::Incorrecto(Cause::Held))),
+        (Step::Fix(-50), Some(Line::ConErrores(2000))),
+        (Step::Cancel("A-1"), Some(Line::Incorrecto(Cause::NotHeld))),
+        (Step::Cancel("A-1"), Some(Line::Incorrecto(Cause::Gone))),
+        (Step::Sale(5), Some(Line::Incorrecto(Cause::Vet(65535)))),
+        (Step::Cancel("A-2"), None),
+    ];
+    for (step, line) in steps {
+        take(alloc, &mut state, request(alloc, step)?)?;
+        if let Some(line) = line {
+            note(alloc, &mut state, line)?;
+        }
+    }
     let text = listing_text(alloc, &state)?;
     assert_eq!(rt; text.as_slice(), LISTING.as_bytes());
     Ok(())
@@ -142,101 +175,53 @@ fn receipt() -> Result<Receipt, Fail> {
     })
 }
 
-fn refused(why: Refusal) -> Result<Reply, StoreFault> {
-    Ok(Reply::Refused(why))
+fn answered(reply: Result<Reply, StoreFault>) -> AnswerLine {
+    AnswerLine::Answered {
+        till: 64,
+        serial: u32::MAX,
+        reply,
+    }
 }
 
-fn bad_draft(fault: DraftFault) -> Result<Reply, StoreFault> {
+fn refused(why: Refusal) -> AnswerLine {
+    answered(Ok(Reply::Refused(why)))
+}
+
+fn bad_draft(fault: DraftFault) -> AnswerLine {
     refused(Refusal::BadDraft(fault))
 }
 
 #[test]
 fn answers_have_lines(rt: HostRuntime) -> Result<(), Fail> {
     let alloc = rt.alloc();
-    let receipt = receipt()?;
     let total = Cents::new(300_001).ok_or("a total")?;
-    let rows = [
-        (
-            Ok(Reply::Taken(receipt)),
-            "taken 1000000 A/B-7 AB0000000000000000000000000000000000000000000000000000000000000F",
-        ),
-        (
-            Ok(Reply::Again(receipt)),
-            "again 1000000 A/B-7 AB0000000000000000000000000000000000000000000000000000000000000F",
-        ),
-        (refused(Refusal::Passed { last: 5 }), "refused passed 5"),
-        (
-            bad_draft(DraftFault::CustomerMissing),
-            "refused draft customer-missing",
-        ),
-        (
-            bad_draft(DraftFault::CustomerUnwanted),
-            "refused draft customer-unwanted",
-        ),
-        (
-            bad_draft(DraftFault::RectMissing),
-            "refused draft rect-missing",
-        ),
-        (
-            bad_draft(DraftFault::RectUnwanted),
-            "refused draft rect-unwanted",
-        ),
-        (
-            bad_draft(DraftFault::RefsMissing),
-            "refused draft refs-missing",
-        ),
-        (
-            bad_draft(DraftFault::RefsUnwanted),
-            "refused draft refs-unwanted",
-        ),
-        (
-            bad_draft(DraftFault::TooManyRefs { n: 101 }),
-            "refused draft too-many-refs 101",
-        ),
-        (
-            bad_draft(DraftFault::OverSimplified { total }),
-            "refused draft over-simplified 300001",
-        ),
-        (refused(Refusal::Unknown), "refused unknown"),
-        (
-            refused(Refusal::Cancelled { place: 3 }),
-            "refused cancelled 3",
-        ),
-        (
-            refused(Refusal::RefNotSimplified { index: 0 }),
-            "refused ref 0",
-        ),
-        (refused(Refusal::ChainFull), "refused full"),
-        (
-            refused(Refusal::ClockRange { now: 1_704_067_199 }),
-            "refused clock 1704067199",
-        ),
-        (
-            refused(Refusal::HuellaTwice { place: 12 }),
-            "refused twice 12",
-        ),
-        (Err(StoreFault::DiskFault), "fault disk"),
-        (
-            Err(StoreFault::Stopped { faults: u64::MAX }),
-            "fault stopped 18446744073709551615",
-        ),
-        (Err(StoreFault::NoMemory), "fault memory"),
+    let lines = [
+        answered(Ok(Reply::Taken(receipt()?))),
+        answered(Ok(Reply::Again(receipt()?))),
+        refused(Refusal::Passed { last: 5 }),
+        bad_draft(DraftFault::CustomerMissing),
+        bad_draft(DraftFault::CustomerUnwanted),
+        bad_draft(DraftFault::RectMissing),
+        bad_draft(DraftFault::RectUnwanted),
+        bad_draft(DraftFault::RefsMissing),
+        bad_draft(DraftFault::RefsUnwanted),
+        bad_draft(DraftFault::TooManyRefs { n: 101 }),
+        bad_draft(DraftFault::OverSimplified { total }),
+        refused(Refusal::Unknown),
+        refused(Refusal::Cancelled { place: 3 }),
+        refused(Refusal::RefNotSimplified { index: 0 }),
+        refused(Refusal::ChainFull),
+        refused(Refusal::ClockRange { now: 1_704_067_199 }),
+        refused(Refusal::HuellaTwice { place: 12 }),
+        answered(Err(StoreFault::DiskFault)),
+        answered(Err(StoreFault::Stopped { faults: u64::MAX })),
+        answered(Err(StoreFault::NoMemory)),
     ];
-    let mut lines = Vec::new(alloc);
-    let mut wanted = String::new(alloc);
-    for (reply, text) in rows {
-        let serial = u32::MAX;
-        lines.push(AnswerLine::Answered {
-            till: 64,
-            serial,
-            reply,
-        })?;
-        wanted.push_str("till 64 serial 4294967295 ")?;
-        wanted.push_str(text)?;
-        wanted.push_str("\n")?;
-    }
-    let text = answers_text(alloc, &Answers::of(lines))?;
-    assert_eq!(rt; text.as_slice(), wanted.as_bytes());
+    let answers = Answers::of(Vec::from_slice(alloc, &lines)?);
+    let text = answers_text(alloc, &answers)?;
+    assert_eq!(rt; text.as_slice(), ANSWERS.as_bytes());
+    let none = answers_text(alloc, &Answers::of(Vec::new(alloc)))?;
+    assert_eq!(rt; none.as_slice().len(), 0);
     Ok(())
 }
 
