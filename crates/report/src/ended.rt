@@ -1,7 +1,8 @@
 // How a call of the program ends.
 ghost use Rattle.std.specs.Prelude.{◌≡◌};
-ghost use Rattle.verifactu.specs.Statuses.{status_of};
+ghost use Rattle.report.specs.Statuses.{status_of};
 
+use parties::Nif;
 use shop_core::Word;
 
 /// What a call of the program came to.
@@ -17,10 +18,16 @@ pub enum Detail {
     ReadFault,
     /// The sink failed, and took a front of the text.
     WriteFault,
+    /// The disk failed.
+    DiskFault,
+    /// The file is damaged at this byte.
+    Damaged { at: u64 },
     /// A growth was refused.
     NoMemory,
     /// The source gave more than 16,777,216 bytes.
     TooBig,
+    /// The file holds the chain of another issuer, this one.
+    OtherIssuer { held: Nif },
 }
 
 /// What a call came to, with the status that the program ends with.
@@ -31,8 +38,8 @@ pub struct Ended {
 }
 
 /// The status of an end.
-pub fn status_of(detail: Detail) -> u8
-    ensures { result ≡ status_of detail }
+pub fn status_of(detail: &Detail) -> u8
+    ensures { result ≡ status_of detail.now }
 {
     match detail {
         Detail::Done => 0,
@@ -40,7 +47,10 @@ pub fn status_of(detail: Detail) -> u8
         Detail::Script { .. } => 3,
         Detail::ReadFault => 4,
         Detail::WriteFault => 5,
+        Detail::DiskFault => 6,
+        Detail::Damaged { .. } => 7,
         Detail::NoMemory => 10,
         Detail::TooBig => 12,
+        Detail::OtherIssuer { .. } => 13,
     }
 }

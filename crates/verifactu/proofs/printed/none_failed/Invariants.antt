@@ -1,6 +1,6 @@
 use Rattle.std.proofs.Common.{length}
 use Rattle.verifactu.specs.Readings.{AllReplied}
-use Rattle.verifactu.proofs.chain.none_failed.Given as goal
+use Rattle.verifactu.proofs.printed.none_failed.Given as goal
 
 abbrev pub invariant-loop-rest : goal.invariant-loop-rest
 invariant-loop-rest l = AllReplied l.rest → AllReplied l.replies

@@ -2,8 +2,8 @@ use Rattle.std.proofs.Common.{◌≡◌, ◌≤◌, ◌++◌, ◌+◌, ℕ, leng
 use Rattle.std.specs.List.{enumerate_from}
 use Rattle.record_fields.specs.declared.records.Sealed.{Sealed}
 use Rattle.shop_core.specs.History.{recs, line_at}
-use Rattle.verifactu.specs.Printed.{record_line, listing}
-use Rattle.verifactu.proofs.report.listing.put_listing.Given as goal
+use Rattle.report.specs.Listing.{record_line, listing}
+use Rattle.report.proofs.listing.put_listing.Given as goal
 
 abbrev pub invariant-loop-rest : goal.invariant-loop-rest
 invariant-loop-rest l = record {

@@ -1,13 +1,13 @@
-// The listing, the chain line, and the whole text of a run.
+// The listing of a history, and its chain line.
 ghost use Rattle.std.specs.Prelude.{◌≡◌, ◌++◌, OnOk, IfOk};
-ghost use Rattle.verifactu.specs.Printed as spec;
+ghost use Rattle.report.specs.Listing as spec;
 
-use crate::report::answers::put_answers;
-use crate::report::pieces::{put, put_number};
-use crate::report::records::put_record;
+use crate::pieces::{put, put_number};
+use crate::records::put_record;
 use ports::NoMemory;
 use record_codec::Entry;
-use shop_core::{Ask, Reply, State};
+use record_fields::Text;
+use shop_core::State;
 use std::alloc::{AllocError, Global};
 
 fn put_listing(text: &mut Vec<u8>, state: &State) -> Result<(), AllocError>
@@ -36,18 +36,12 @@ fn put_chain_line(text: &mut Vec<u8>, state: &State) -> Result<(), AllocError>
     put(text, b"\n")
 }
 
-/// The whole text of a run: the answers in line order, the listing and the chain line.
-pub fn printed(
-    alloc: Global,
-    asks: &[Ask],
-    replies: &[Result<Reply, NoMemory>],
-    state: &State,
-) -> Result<Vec<u8>, AllocError>
-    ensures { IfOk result (λ text. text.items ≡ spec.printed asks.now replies.now state.now.entries) }
+/// A line for each record, in order of their places, and the chain line.
+pub fn listing_text(alloc: Global, state: &State) -> Result<Text, NoMemory>
+    ensures { IfOk result (λ text. text ≡ spec.listing_text state.now.entries) }
 {
     let mut text = Vec::new(alloc);
-    put_answers(&mut text, asks, replies)?;
     put_listing(&mut text, state)?;
     put_chain_line(&mut text, state)?;
-    Ok(text)
+    Ok(Text::of(text))
 }

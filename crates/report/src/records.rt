@@ -1,8 +1,8 @@
 // The line of a record.
 ghost use Rattle.std.specs.Prelude.{◌≡◌, ◌++◌, OnOk};
-ghost use Rattle.verifactu.specs.Printed as spec;
+ghost use Rattle.report.specs.Listing as spec;
 
-use crate::report::pieces::{put, put_counted, put_huella, put_number};
+use crate::pieces::{put, put_counted, put_huella, put_number};
 use amounts::text_of;
 use record_fields::{Alta, Anulacion, Cause, Line, Previo, Record, Sealed};
 use series::InvoiceId;

@@ -1,9 +1,10 @@
 // What is printed on standard error.
 ghost use Rattle.std.specs.Prelude.{◌≡◌, ◌++◌, OnOk, IfOk};
-ghost use Rattle.verifactu.specs.Statuses as spec;
+ghost use Rattle.report.specs.Faults as spec;
 
-use crate::report::Detail;
-use crate::report::pieces::{put, put_number};
+use crate::Detail;
+use crate::pieces::{put, put_counted, put_number};
+use parties::Nif;
 use ports::NoMemory;
 use record_fields::Text;
 use shop_core::Word;
@@ -32,7 +33,6 @@ fn word_text(word: Word) -> &'static [u8]
         Word::Lines => b"Lines",
         Word::Twice => b"Twice",
         Word::TooMany => b"TooMany",
-        Word::Form => b"Form",
     }
 }
 
@@ -42,6 +42,20 @@ fn put_bad_line(text: &mut Vec<u8>, line: u32, fault: Word) -> Result<(), AllocE
     put_number(text, u64::from(line))?;
     put(text, b" ")?;
     put(text, word_text(fault))?;
+    put(text, b"\n")
+}
+
+fn put_damage(text: &mut Vec<u8>, at: u64) -> Result<(), AllocError>
+    ensures { OnOk result (text.new.items ≡ text.old.items ++ spec.damage_text at) }
+{
+    put_counted(text, b"verifactu: damaged at ", at)?;
+    put(text, b"\n")
+}
+
+fn put_nif(text: &mut Vec<u8>, nif: &Nif) -> Result<(), AllocError>
+    ensures { OnOk result (text.new.items ≡ text.old.items ++ spec.nif_line nif.now) }
+{
+    put(text, &nif.bytes())?;
     put(text, b"\n")
 }
 
@@ -57,8 +71,14 @@ fn put_fault(text: &mut Vec<u8>, detail: &Detail) -> Result<(), AllocError>
         }
         Detail::ReadFault => put(text, b"verifactu: read fault\n"),
         Detail::WriteFault => put(text, b"verifactu: write fault\n"),
+        Detail::DiskFault => put(text, b"verifactu: disk fault\n"),
+        Detail::Damaged { at } => put_damage(text, *at),
         Detail::NoMemory => put(text, b"verifactu: no memory\n"),
         Detail::TooBig => put(text, b"verifactu: input too big\n"),
+        Detail::OtherIssuer { held } => {
+            put(text, b"verifactu: file of ")?;
+            put_nif(text, held)
+        }
     }
 }
 
