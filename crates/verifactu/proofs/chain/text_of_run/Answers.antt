@@ -1,12 +1,9 @@
-use Rattle.std.proofs.Common.{◌≡◌, ◌∙◌, ◌++◌, ap, subst, List, ℕ, Result, []}
-use Rattle.ports.specs.declared.faults.NoMemory.{NoMemory}
+use Rattle.std.proofs.Common.{◌≡◌, ◌∙◌, ◌++◌, ap, subst, List, ℕ, []}
 use Rattle.shop_core.specs.History.{History}
 use Rattle.shop_core.specs.Legal.{Legal}
 use Rattle.shop_core.specs.Runs.{ChainRun}
-use Rattle.shop_core.specs.declared.answers.Reply.{Reply}
-use Rattle.verifactu.specs.Readings.{AllReplied, IsComing, readings_of}
+use Rattle.verifactu.specs.Readings.{IsComing, readings_of}
 use Rattle.verifactu.specs.Run.{Played}
-use Rattle.verifactu.specs.Printed.{printed}
 use Rattle.verifactu.specs.Stages.{Tells}
 use Rattle.verifactu.proofs.Running.{moved_of}
 use Rattle.verifactu.proofs.chain.text_of_run.Goals as goal
