@@ -1,1 +1,4 @@
 pub mod Plans
+pub mod Judgement
+pub mod Clashes
+pub mod Delivery

@@ -1,7 +1,13 @@
--- The plan of the practice agency where nothing is planned. The pause of 60 seconds is that which the agency's description
--- of the submission service begins with.
-use Rattle.std.specs.Prelude.{[]}
+-- The plan of the practice agency.
+use Rattle.std.specs.Prelude.{ℕ, List, [], Option, option_map, find, ◌==◌}
 use Rattle.agency_rules.specs.declared.plans.Plan.{Plan}
+use Rattle.agency_rules.specs.declared.plans.PlannedFate.{PlannedFate}
+use Rattle.agency_rules.specs.declared.plans.Fate.{Fate}
 
+-- Nothing is planned. The pause of 60 seconds is that which the agency's description of the submission service begins with.
 abbrev pub plain : Plan
 plain = record { verdicts = []; wait = 60; fates = [] }
+
+-- what befalls the call of this number, where something is planned
+abbrev pub fate_at : List PlannedFate → ℕ → Option Fate
+fate_at fates call = option_map (λ (f : PlannedFate). f.fate) (find (λ (f : PlannedFate). f.call == call) fates)

@@ -1,6 +1,13 @@
-//! What the practice agency is told to do: its verdicts, its pace, and what befalls its calls.
+//! The agency's rules: its judgement of a record, what a delivered batch adds to what it has processed, and what the
+//! practice agency is told to do.
 #![tactic(auto)]
 
+mod judging;
+mod pairs;
 mod plans;
+#[cfg(test)]
+mod tests;
 
+pub use judging::{Past, judge};
+pub use pairs::{Delivered, Pairs};
 pub use plans::{Fate, Fates, Plan, PlannedFate, PlannedVerdict, Verdict, Verdicts};

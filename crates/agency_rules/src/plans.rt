@@ -1,6 +1,9 @@
 // The plan of the practice agency.
-ghost use Rattle.std.specs.Prelude.{◌≡◌};
+ghost use Rattle.std.specs.Prelude.{◌≡◌, IfOk};
+ghost use Rattle.agency_rules.specs.Judgement.{verdict_for};
+ghost use Rattle.agency_rules.specs.Plans.{fate_at};
 
+use ports::NoMemory;
 use series::NumSerie;
 use std::alloc::Global;
 use std::marker::Model;
@@ -73,6 +76,25 @@ impl Verdicts {
     {
         &self.list
     }
+
+    /// The same verdicts, in memory of their own.
+    pub fn copied(&self, alloc: Global) -> Result<Verdicts, NoMemory>
+        ensures { IfOk result (λ verdicts. verdicts ≡ self.now) }
+    {
+        Ok(Verdicts {
+            list: Vec::from_slice(alloc, &self.list)?,
+        })
+    }
+
+    /// The verdict on the n-th record of a number, where one is planned.
+    pub fn for_record(&self, num: &NumSerie, n: u32) -> Option<Verdict>
+        ensures { result ≡ verdict_for self.now num.now n }
+    {
+        self.list
+            .iter()
+            .find(|v| v.num.as_slice() == num.as_slice() && v.n == n)
+            .map(|v| v.verdict)
+    }
 }
 
 /// The fates of a plan, at most one for a call.
@@ -104,6 +126,25 @@ impl Fates {
     {
         &self.list
     }
+
+    /// The same fates, in memory of their own.
+    pub fn copied(&self, alloc: Global) -> Result<Fates, NoMemory>
+        ensures { IfOk result (λ fates. fates ≡ self.now) }
+    {
+        Ok(Fates {
+            list: Vec::from_slice(alloc, &self.list)?,
+        })
+    }
+
+    /// The fate of the call of this number, where one is planned.
+    pub fn at(&self, call: u64) -> Option<Fate>
+        ensures { result ≡ fate_at self.now call }
+    {
+        self.list
+            .iter()
+            .find(|f| u64::from(f.call) == call)
+            .map(|f| f.fate)
+    }
 }
 
 /// What the practice agency does beside its rules. `wait` is the pause in seconds that it asks for after each answer, up to
@@ -127,5 +168,16 @@ impl Plan {
             wait: 60,
             fates: Fates::of(Vec::new(alloc)),
         }
+    }
+
+    /// The same plan, in memory of its own.
+    pub fn copied(&self, alloc: Global) -> Result<Plan, NoMemory>
+        ensures { IfOk result (λ plan. plan ≡ self.now) }
+    {
+        Ok(Plan {
+            verdicts: self.verdicts.copied(alloc)?,
+            wait: self.wait,
+            fates: self.fates.copied(alloc)?,
+        })
     }
 }

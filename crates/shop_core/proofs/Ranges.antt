@@ -75,8 +75,7 @@ pub fits : FitsItsBytes
 fits issuer entries (Notes first lines) c = ((c.some, c.few), tt)
 fits issuer entries (Rec till serial s) c =
     let m = is_made issuer entries (ask_of till serial s) (moment_of s.body).seconds (Rec till serial s) c.made in
-    let same : made_sealed issuer entries (request_of s.body) (moment_of s.body).seconds ≡ s = made_is issuer entries till serial s m in
-    (
+    let same : made_sealed issuer entries (request_of s.body) (moment_of s.body).seconds ≡ s = made_is issuer entries till serial s m in (
       record { till = c.asked.till; serial = c.asked.serial.0; refs = few_in s.body m.none.good },
-      sym (ap (λ (x : Sealed). issuer_of x.body) same) ∙ issuer_made issuer entries (request_of s.body) _
+      sym (ap (λ (x : Sealed). issuer_of x.body) same) ∙ issuer_made issuer entries (request_of s.body) _,
     )

@@ -3,7 +3,6 @@ pub mod Help
 pub mod Inputs
 pub mod Output
 pub mod Printed
-pub mod Statuses
 pub mod Readings
 pub mod Run
 pub mod Stages

@@ -20,13 +20,13 @@ use Rattle.verifactu.specs.Inputs.{ReadAll, ReadPast, ReadFailed}
 use Rattle.verifactu.specs.Output.{WrotePart}
 use Rattle.verifactu.specs.Printed.{printed}
 use Rattle.verifactu.specs.Readings.{AllReplied, IsComing, readings_of, LeavesClock, MovedOn}
-use Rattle.verifactu.specs.Statuses.{status_of}
+use Rattle.report.specs.Statuses.{status_of}
 use Rattle.verifactu.specs.Words.{IsAskedFor}
 use Rattle.verifactu.specs.declared.words.Command.{Command}
 use Rattle.verifactu.specs.declared.words.Command.TheVariants.{Chain, Help, Version}
-use Rattle.verifactu.specs.declared.report.ended.Detail.{Detail}
-use Rattle.verifactu.specs.declared.report.ended.Detail.TheVariants as detail
-use Rattle.verifactu.specs.declared.report.ended.Ended.{Ended}
+use Rattle.report.specs.declared.ended.Detail.{Detail}
+use Rattle.report.specs.declared.ended.Detail.TheVariants as detail
+use Rattle.report.specs.declared.ended.Ended.{Ended}
 
 -- the source, the sink and the clock of a call, before it and after it
 pub record Devices (C : Type 0) : Type 0 where
@@ -114,8 +114,11 @@ ChainEnds issuer d (detail.Script line fault) =
     IsBadScript d.left d.left_after line fault × WroteNothing d × LeftClock d
 ChainEnds issuer d detail.ReadFault = ReadFailed d.left d.left_after d.read_faults d.read_faults_after × WroteNothing d × LeftClock d
 ChainEnds issuer d detail.WriteFault = (text : List ℕ) × RanWhole issuer d text × FailedIn d text
+ChainEnds issuer d detail.DiskFault = ⊥
+ChainEnds issuer d (detail.Damaged at) = ⊥
 ChainEnds issuer d detail.NoMemory = RanOut issuer d
 ChainEnds issuer d detail.TooBig = ReadPast d.left d.left_after × WroteNothing d × LeftClock d
+ChainEnds issuer d (detail.OtherIssuer held) = ⊥
 
 -- when printing a text ends in this way
 abbrev pub TextEnds : {C : Type 0} → List ℕ → Devices C → Detail → Type 0

@@ -2,15 +2,20 @@
 use Rattle.std.specs.Prelude.{◌≡◌, ℕ, List, Option, Result, Ok, Err, Bool, true, [], ◌⊎◌}
 use Rattle.std.specs.Io.KnownBytes.{Appends}
 use Rattle.ports.specs.Causes.{Rose}
+use Rattle.ports.specs.declared.faults.NoMemory.{NoMemory}
+use Rattle.record_codec.specs.declared.entries.Entry.{Entry}
 use Rattle.script.specs.Script.{IsScript}
 use Rattle.script.specs.declared.forms.Form.TheVariants.{Full}
 use Rattle.script.specs.declared.scripts.Script.{Script}
+use Rattle.shop_core.specs.Asked.{Asked}
+use Rattle.shop_core.specs.declared.answers.Reply.{Reply}
 use Rattle.verifactu.specs.Inputs.{ReadAll, ReadPast, ReadFailed}
 use Rattle.verifactu.specs.Output.{WrotePart}
-use Rattle.verifactu.specs.Readings.{LeavesClock, MovedOn}
+use Rattle.verifactu.specs.Printed.{printed}
+use Rattle.verifactu.specs.Readings.{AllReplied, LeavesClock, MovedOn}
 use Rattle.verifactu.specs.Run.{Played, PlayedWhole, IsBadScript}
-use Rattle.verifactu.specs.declared.report.ended.Detail.{Detail}
-use Rattle.verifactu.specs.declared.report.ended.Detail.TheVariants as detail
+use Rattle.report.specs.declared.ended.Detail.{Detail}
+use Rattle.report.specs.declared.ended.Detail.TheVariants as detail
 
 -- a source that is a script
 pub record IsGoodScript (left left_after : Option (List ℕ)) (script : Script) : Type 0 where
@@ -28,6 +33,14 @@ ReadStage left left_after faults faults_after (Err detail.NoMemory) = Unit {0}
 ReadStage left left_after faults faults_after (Err detail.Done) = ⊥
 ReadStage left left_after faults faults_after (Err detail.Usage) = ⊥
 ReadStage left left_after faults faults_after (Err detail.WriteFault) = ⊥
+ReadStage left left_after faults faults_after (Err detail.DiskFault) = ⊥
+ReadStage left left_after faults faults_after (Err (detail.Damaged at)) = ⊥
+ReadStage left left_after faults faults_after (Err (detail.OtherIssuer held)) = ⊥
+
+-- this text tells these replies and this history, and the flag says that none of the replies is want of memory
+pub record Tells (asks : List Asked) (replies : List (Result Reply NoMemory)) (entries : List Entry) (text : List ℕ) (whole : Bool) : Type 0 where
+  pub prints : text ≡ printed asks replies entries
+  pub all_replied : whole ≡ true → AllReplied replies
 
 -- this text tells the run of a script, and the flag says that no reply of it is want of memory
 pub record IsTold (issuer : List ℕ) (script : Script) (coming : ℕ → Option ℕ) (text : List ℕ) (whole : Bool) : Type 0 where
@@ -60,6 +73,9 @@ RunStage issuer script e (detail.Script line fault) = ⊥
 RunStage issuer script e detail.ReadFault = ⊥
 RunStage issuer script e detail.TooBig = ⊥
 RunStage issuer script e detail.Usage = ⊥
+RunStage issuer script e detail.DiskFault = ⊥
+RunStage issuer script e (detail.Damaged at) = ⊥
+RunStage issuer script e (detail.OtherIssuer held) = ⊥
 
 -- how printing a text ends
 abbrev pub PrintEnds : Option (List ℕ) → Option (List ℕ) → ℕ → ℕ → List ℕ → Detail → Type 0

@@ -1,16 +1,17 @@
 // The command `chain`: reads a script, runs its commands on the empty history, and prints the replies and the chain.
-ghost use Rattle.std.specs.Prelude.{◌≡◌, [], IfOk, MatchResult, true};
+ghost use Rattle.std.specs.Prelude.{◌≡◌, [], ◌++◌, IfOk, MatchResult};
 ghost use Rattle.shop_core.specs.Runs.{ChainRun};
-ghost use Rattle.verifactu.specs.Readings.{AllReplied, IsComing, readings_of, LeavesClock, MovedOn};
+ghost use Rattle.verifactu.specs.Readings.{IsComing, readings_of, LeavesClock, MovedOn};
 ghost use Rattle.verifactu.specs.Run.{ChainEnds};
 ghost use Rattle.verifactu.specs.Stages.{ReadStage, RunStage, IsTold};
 
 use crate::commands::run_commands;
 use crate::input::{InputFault, read_input};
-use crate::output::write_text;
-use crate::report::{Detail, printed};
+use crate::output::write_texts;
+use crate::printed::{Told, told_of};
 use parties::Nif;
 use ports::{Clock, CountingClock, NoMemory, Sink, Source};
+use report::Detail;
 use script::{Form, Script, ScriptFault, read_script};
 use shop_core::{Reply, State, legal_is_chained};
 use std::alloc::Global;
@@ -76,11 +77,11 @@ fn run_script<K: Sink, C: Clock>(
       clock_after = clock.new;
     }) result }
 {
-    let Ok((text, whole)) = text_of_run(alloc, issuer, script, clock) else {
+    let Ok(told) = text_of_run(alloc, issuer, script, clock) else {
         return Detail::NoMemory;
     };
-    let written = write_text(sink, &text);
-    if !whole {
+    let written = write_texts(sink, told.answers.as_slice(), told.listing.as_slice());
+    if !told.whole {
         return Detail::NoMemory;
     }
     match written {
@@ -89,26 +90,25 @@ fn run_script<K: Sink, C: Clock>(
     }
 }
 
-// The text of a run, and whether no reply of it is want of memory.
 fn text_of_run<C: Clock>(
     alloc: Global,
     issuer: &Nif,
     script: &Script,
     clock: &mut C,
-) -> Result<(Vec<u8>, bool), NoMemory>
-    ensures text { IfOk result (λ told. IsTold issuer.now script.now (C.coming clock.old) told.0.items told.1) }
+) -> Result<Told, NoMemory>
+    ensures text { IfOk result (λ told. IsTold issuer.now script.now (C.coming clock.old) (told.answers ++ told.listing) told.whole) }
     ensures clock { MatchResult result
         (λ _. LeavesClock C.coming script.now.clock script.now.asks clock.old clock.new)
         (λ _. MovedOn C.coming clock.old clock.new) }
 {
     let mut state = State::empty(alloc, issuer);
     let replies = replies_of(alloc, &mut state, script, clock)?;
-    let Ok(text) = printed(alloc, script.asks.as_slice(), &replies, &state) else {
+    let Ok(told) = told_of(alloc, script.asks.as_slice(), &replies, &state) else {
         return Err(NoMemory);
     };
     let _legal = state.history();
     legal_is_chained();
-    Ok((text, none_failed(&replies)))
+    Ok(told)
 }
 
 fn replies_of<C: Clock>(
@@ -132,17 +132,4 @@ fn replies_of<C: Clock>(
         }
         None => run_commands(alloc, state, script.asks.as_slice(), clock),
     }
-}
-
-fn none_failed(replies: &[Result<Reply, NoMemory>]) -> bool
-    ensures { result ≡ true → AllReplied replies.now }
-{
-    let mut rest = replies;
-    while let [first, after @ ..] = rest {
-        if first.is_err() {
-            return false;
-        }
-        rest = after;
-    }
-    true
 }

@@ -6,7 +6,7 @@ mod commands;
 mod help;
 mod input;
 mod output;
-mod report;
+mod printed;
 mod run;
 #[cfg(test)]
 mod tests;
@@ -34,7 +34,7 @@ fn words_of(rt: &HostRuntime) -> Result<Vec<String>, Detail> {
 fn end_of_program(rt: &HostRuntime) -> Ended {
     match words_of(rt) {
         Err(detail) => Ended {
-            status: status_of(detail),
+            status: status_of(&detail),
             detail,
         },
         Ok(words) => {

@@ -6,9 +6,9 @@ ghost use Rattle.verifactu.specs.Stages.{PrintEnds};
 use crate::chain::chain;
 use crate::help::{help_text, version_text};
 use crate::output::write_text;
-use crate::report::{Detail, Ended, status_of};
 use crate::words::{Command, command_of};
 use ports::{Clock, Sink, Source};
+use report::{Detail, Ended, status_of};
 use std::alloc::Global;
 
 /// Runs the command that the words are. `chain FILE NIF` reads a script from the source, runs its commands on the empty
@@ -40,7 +40,7 @@ pub fn run<S: Source, K: Sink, C: Clock>(
         None => Detail::Usage,
         Some(command) => end_of(alloc, command, source, sink, &mut clock),
     };
-    let status = status_of(detail);
+    let status = status_of(&detail);
     (Ended { status, detail }, clock)
 }
 

@@ -1,7 +1,7 @@
 // The expected Huellas are SHA-256, by another program, of the field texts of these records.
-use crate::report::{Detail, Ended, fault_text};
 use crate::run::run;
 use ports::{Clock, CountingClock, ListClock, MemSink, MemSource};
+use report::{Detail, Ended, fault_text};
 use shop_core::Word;
 use std::alloc::Global;
 use std::test::Fail;
@@ -158,15 +158,6 @@ fn bad_lines_are_named(rt: HostRuntime) -> Result<(), Fail> {
         let detail = Detail::Script { line, fault };
         assert_eq!(rt; ended, Ended { status: 3, detail }, "at {script}");
     }
-    let detail = Detail::Script {
-        line: 16_777_217,
-        fault: Word::TooMany,
-    };
-    let text = fault_text(rt.alloc(), &detail)?;
-    assert_eq!(rt;
-        text.as_slice(),
-        b"verifactu: script line 16777217 TooMany\n".as_slice()
-    );
     Ok(())
 }
 

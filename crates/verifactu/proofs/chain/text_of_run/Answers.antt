@@ -1,12 +1,10 @@
-use Rattle.std.proofs.Common.{◌≡◌, ◌∙◌, ap, subst, List, ℕ, Result, []}
-use Rattle.ports.specs.declared.faults.NoMemory.{NoMemory}
+use Rattle.std.proofs.Common.{◌≡◌, ◌∙◌, ◌++◌, ap, subst, List, ℕ, []}
 use Rattle.shop_core.specs.History.{History}
 use Rattle.shop_core.specs.Legal.{Legal}
 use Rattle.shop_core.specs.Runs.{ChainRun}
-use Rattle.shop_core.specs.declared.answers.Reply.{Reply}
-use Rattle.verifactu.specs.Readings.{AllReplied, IsComing, readings_of}
+use Rattle.verifactu.specs.Readings.{IsComing, readings_of}
 use Rattle.verifactu.specs.Run.{Played}
-use Rattle.verifactu.specs.Printed.{printed}
+use Rattle.verifactu.specs.Stages.{Tells}
 use Rattle.verifactu.proofs.Running.{moved_of}
 use Rattle.verifactu.proofs.chain.text_of_run.Goals as goal
 
@@ -20,24 +18,23 @@ returns-clause-text g c =
     let coming = g.C.Clock.coming c.args.clock.now in
     let state = c.replies_of.new.state in
     let replies = c.in_ok-replies.replies.items in
+    let told = c.in-Ok.told in
+    let text = told.answers ++ told.listing in
     let first : c.empty-state.result.issuer ≡ nif = ap (λ (h : History). h.issuer) c.empty-state.ensures in
     let same : state.issuer ≡ nif = c.replies_of.ensures.issuer ∙ first in
-    let prints : c.in-Ok.text.items ≡ printed script.asks replies state.entries =
+    let tells : Tells script.asks replies state.entries text told.whole =
     rw (← c.as_slice.ensures, ← c.deref.ensures.value) c.in-Ok.ensures in
     let legal : Legal nif state.entries = subst (λ (n : List ℕ). Legal n state.entries) same c.history-legal.ensures.legal in
-    let told : Played nif script coming c.in-Ok.text.items = record {
+    let whole : Played nif script coming text = record {
       replies = replies;
       entries = state.entries;
       run = subst (λ (n : List ℕ). ChainRun n (IsComing (readings_of script.clock coming)) [] script.asks replies state.entries) first c.in_ok-replies.ensures.run;
       legal = legal;
       linked = c.legal_is_chained.ensures.linked nif state.entries legal;
       rising = λ till. c.legal_is_chained.ensures.rising nif state.entries till legal;
-      prints = prints;
+      prints = tells.prints;
     } in
     record {
-      played = told;
-      all_replied = λ whole. record {
-        played = told;
-        all_replied = subst (λ (xs : List (Result Reply NoMemory)). AllReplied xs) c.deref-2.ensures.value (c.none_failed.ensures whole);
-      };
+      played = whole;
+      all_replied = λ w. record { played = whole; all_replied = tells.all_replied w };
     }

@@ -1,0 +1,71 @@
+-- What an agency tells, and what each call adds to it.
+use Rattle.std.specs.Prelude.{◌≡◌, ◌⊎◌, ℕ, ◌≤◌, List, [], ◌∷◌, ◌++◌, ⊤, Result, Ok, Err, IfOk}
+use Rattle.ports.specs.Causes.{Rose}
+use Rattle.record_fields.specs.declared.records.Sealed.{Sealed}
+use Rattle.record_fields.specs.declared.lines.Line.{Line}
+use Rattle.agency_rules.specs.declared.plans.Plan.{Plan}
+use Rattle.agency_rules.specs.declared.plans.PlannedVerdict.{PlannedVerdict}
+use Rattle.batches.specs.Batches.{huellas_of}
+use Rattle.agency_port.specs.Replied.{Replied}
+use Rattle.agency_port.specs.declared.answers.Seen.{Seen}
+use Rattle.agency_port.specs.declared.answers.AgencyFault.{AgencyFault}
+use Rattle.agency_port.specs.declared.answers.AgencyFault.TheVariants.{Failed, NoMemory}
+use Rattle.agency_port.specs.declared.messages.Message.{Message}
+use Rattle.agency_port.specs.declared.messages.Message.TheVariants.{Begun, Submitted, Consulted}
+
+-- the processed records with their lines, the batches that were ever handed over, the verdicts, and all messages
+pub record Ledger : Type 0 where
+  pub processed : List (Sealed × Line)
+  pub sent : List (List Sealed)
+  pub verdicts : List PlannedVerdict
+  pub messages : List Message
+
+-- the fact holds where the answer is Failed
+abbrev pub OnFailed : {T : Type 0} → Result T AgencyFault → Type 0 → Type 0
+OnFailed (Ok x) P = ⊤
+OnFailed (Err Failed) P = P
+OnFailed (Err NoMemory) P = ⊤
+
+-- the count of faults never falls, and Failed shows in it
+pub record HasCause {T : Type 0} (before now : ℕ) (result : Result T AgencyFault) : Type 0 where
+  pub later : before ≤ now
+  pub failed : OnFailed result (Rose before now)
+
+-- the reply names exactly the batch's Huellas, in order
+abbrev pub Names : Replied → List Sealed → Type 0
+Names reply batch = reply.huellas ≡ huellas_of batch
+
+-- a reply that names another list shows in the count
+abbrev pub StaleShows : ℕ → ℕ → List Sealed → Result Replied AgencyFault → Type 0
+StaleShows before now batch result = IfOk result (λ (reply : Replied). (Names reply batch → ⊥) → Rose before now)
+
+-- a session was opened
+pub record Begins (old new : Ledger) (plan : Plan) (pairs : ℕ) : Type 0 where
+  pub sent : new.sent ≡ old.sent
+  pub messages : new.messages ≡ old.messages ++ Begun plan pairs ∷ []
+
+-- nothing was said
+pub record IsSilent (old new : Ledger) : Type 0 where
+  pub sent : new.sent ≡ old.sent
+  pub messages : new.messages ≡ old.messages
+
+-- a batch was handed over, and answered so
+pub record HandsOver (old new : Ledger) (batch : List Sealed) (answer : Result Replied AgencyFault) : Type 0 where
+  pub sent : new.sent ≡ old.sent ++ batch ∷ []
+  pub messages : new.messages ≡ old.messages ++ Submitted batch answer ∷ []
+
+-- a batch for whose submission memory was wanting counts as handed over, or not
+abbrev pub Submits : Ledger → Ledger → List Sealed → Result Replied AgencyFault → Type 0
+Submits old new batch (Ok reply) = HandsOver old new batch (Ok reply)
+Submits old new batch (Err Failed) = HandsOver old new batch (Err Failed)
+Submits old new batch (Err NoMemory) = IsSilent old new ⊎ HandsOver old new batch (Err NoMemory)
+
+-- it was asked for these Huellas, and answered so
+pub record IsAsked (old new : Ledger) (huellas : List (List ℕ)) (answer : Result (List Seen) AgencyFault) : Type 0 where
+  pub sent : new.sent ≡ old.sent
+  pub messages : new.messages ≡ old.messages ++ Consulted huellas answer ∷ []
+
+abbrev pub Consults : Ledger → Ledger → List (List ℕ) → Result (List Seen) AgencyFault → Type 0
+Consults old new huellas (Ok seen) = IsAsked old new huellas (Ok seen)
+Consults old new huellas (Err Failed) = IsAsked old new huellas (Err Failed)
+Consults old new huellas (Err NoMemory) = IsSilent old new ⊎ IsAsked old new huellas (Err NoMemory)

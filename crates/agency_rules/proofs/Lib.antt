@@ -1,0 +1,4 @@
+pub mod Pasts
+pub mod Judgements
+pub mod Tables
+pub mod Deliveries

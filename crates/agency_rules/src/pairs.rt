@@ -1,0 +1,201 @@
+// The records that the agency has processed, each with its line.
+ghost use Rattle.std.specs.Prelude.{◌≡◌, ◌≤◌, ◌+◌, ◌-◌, ◌^◌, ◌<◌, [], ◌∷◌, ◌++◌, length, take, true, false, IfOk, OnOk, OnErr};
+ghost use Rattle.record_fields.specs.Records.{id_of};
+ghost use Rattle.agency_rules.specs.Judgement as spec;
+ghost use Rattle.agency_rules.specs.Delivery.{line_of, delivered_record, after_record, delivered};
+
+use crate::{Past, Verdicts, judge};
+use ports::NoMemory;
+use record_fields::{Line, Record, Sealed};
+use series::InvoiceId;
+use std::alloc::Global;
+use std::marker::Model;
+
+/// What a delivered record met.
+#[derive(Clone, Copy, Debug, PartialEq, Eq)]
+pub enum Delivered {
+    /// It is new, and this is its line.
+    First(Line),
+    /// Its Huella stands there, with this line.
+    Again(Line),
+}
+
+/// The processed records with their lines, in order, fewer than 2^32 - 1 of them.
+#[derive(Drop)]
+pub struct Pairs {
+    list: Vec<(Sealed, Line)>,
+}
+
+impl Model for Pairs {
+    ghost use Rattle.std.specs.Prelude.{List, length, ◌<◌, ◌-◌, ◌^◌};
+    ghost use Rattle.record_fields.specs.declared.records.Sealed.{Sealed};
+    ghost use Rattle.record_fields.specs.declared.lines.Line.{Line};
+
+    ghost Value = { List (Sealed × Line) };
+
+    ghost view = { λ p. p.list.items };
+
+    ghost invariant = { λ p. length p.list.items < 2 ^ 32 - 1 };
+}
+
+impl Pairs {
+    /// No pair.
+    pub fn new(alloc: Global) -> Pairs
+        ensures { result ≡ [] }
+    {
+        Pairs {
+            list: Vec::new(alloc),
+        }
+    }
+
+    /// The list of these pairs, in memory of its own. Want of memory where they are more than there may be.
+    pub fn of(alloc: Global, pairs: &[(Sealed, Line)]) -> Result<Pairs, NoMemory>
+        ensures { IfOk result (λ list. list ≡ pairs.now) }
+    {
+        let mut list = Pairs::new(alloc);
+        for i in 0..pairs.len() {
+            let pair = &pairs[i];
+            list.push(pair.0.copied(alloc)?, pair.1)?;
+        }
+        Ok(list)
+    }
+
+    /// The pairs, in order.
+    pub fn as_slice(&self) -> &[(Sealed, Line)]
+        ensures { result.now ≡ self.now }
+    {
+        &self.list
+    }
+
+    /// How many there are.
+    pub fn len(&self) -> u32
+        ensures { result ≡ length self.now }
+    {
+        self.list.len() as u32
+    }
+
+    /// The line that stands there for this Huella, where one does.
+    pub fn line_of(&self, huella: &[u8; 32]) -> Option<Line>
+        ensures { result ≡ line_of self.now huella.now }
+    {
+        self.list
+            .iter()
+            .find(|p| p.0.huella == *huella)
+            .map(|p| p.1)
+    }
+
+    /// What was processed of an invoice.
+    pub fn past_of(&self, id: &InvoiceId) -> Past
+        ensures value { result ≡ spec.past_of self.now id.now }
+        ensures bound { result.count < 2 ^ 32 - 1 }
+    {
+        past_in(&self.list, id)
+    }
+
+    // The line of a record after these pairs.
+    fn judgement(&self, verdicts: &Verdicts, body: &Record) -> Line
+        ensures { result ≡ spec.judgement verdicts.now self.now body.now }
+    {
+        let id = body.id();
+        let past = self.past_of(&id);
+        let verdict = verdicts.for_record(&id.num, past.count + 1);
+        judge(&past, verdict, body)
+    }
+
+    /// Adds a pair, in memory that the list finds. Without memory, or where there are as many as there may be, the list
+    /// stays as it was.
+    pub fn push(&mut self, sealed: Sealed, line: Line) -> Result<(), NoMemory>
+        ensures ok { OnOk result (self.new ≡ self.old ++ (sealed, line) ∷ []) }
+        ensures err { OnErr result (self.new ≡ self.old) }
+    {
+        if self.len() >= MOST {
+            return Err(NoMemory);
+        }
+        self.list.push((sealed, line))?;
+        Ok(())
+    }
+
+    /// A record arrives: it is added with its judgement, unless its Huella stands there. Without memory the list stays
+    /// as it was.
+    pub fn deliver_record(
+        &mut self,
+        alloc: Global,
+        verdicts: &Verdicts,
+        sealed: &Sealed,
+    ) -> Result<Delivered, NoMemory>
+        ensures met { IfOk result (λ met. met ≡ delivered_record verdicts.now self.old sealed.now) }
+        ensures ok { OnOk result (self.new ≡ after_record verdicts.now self.old sealed.now) }
+        ensures err { OnErr result (self.new ≡ self.old) }
+    {
+        if let Some(line) = self.line_of(&sealed.huella) {
+            return Ok(Delivered::Again(line));
+        }
+        let line = self.judgement(verdicts, &sealed.body);
+        self.push(sealed.copied(alloc)?, line)?;
+        Ok(Delivered::First(line))
+    }
+
+    /// A batch arrives, its records in order. Without memory a front of it may have been added.
+    pub fn deliver(
+        &mut self,
+        alloc: Global,
+        verdicts: &Verdicts,
+        batch: &[Sealed],
+    ) -> Result<(), NoMemory>
+        ensures ok { OnOk result (self.new ≡ delivered verdicts.now self.old batch.now) }
+        ensures front { take (length self.old) self.new ≡ self.old }
+    {
+        for i in 0..batch.len() {
+            self.deliver_record(alloc, verdicts, &batch[i])?;
+        }
+        Ok(())
+    }
+
+    /// Keeps the first `count` pairs.
+    pub fn truncate(&mut self, count: u32)
+        ensures { self.new ≡ take count self.old }
+    {
+        self.list.truncate(count as usize);
+    }
+}
+
+// The most pairs that a list holds.
+const MOST: u32 = 4_294_967_294;
+
+// What these pairs say of an invoice.
+fn past_in(pairs: &[(Sealed, Line)], id: &InvoiceId) -> Past
+    requires { length pairs.now < 2 ^ 32 - 1 }
+    ensures value { result ≡ spec.past_of pairs.now id.now }
+    ensures bound { result.count ≤ length pairs.now }
+{
+    let mut past = Past {
+        count: 0,
+        held: false,
+        gone: false,
+    };
+    for i in 0..pairs.len() {
+        let pair = &pairs[i];
+        past = past_with(past, id, &pair.0.body, &pair.1);
+    }
+    past
+}
+
+// The past of an invoice after one more record of any.
+fn past_with(past: Past, id: &InvoiceId, body: &Record, line: &Line) -> Past
+    requires { past.count < 2 ^ 32 - 1 }
+    ensures same { spec.same_id (id_of body.now) id.now ≡ true → result ≡ spec.past_after past body.now line.now }
+    ensures other { spec.same_id (id_of body.now) id.now ≡ false → result ≡ past }
+    ensures bound { result.count ≤ past.count + 1 }
+{
+    if same_id(&body.id(), id) {
+        past.after(body, line)
+    } else {
+        past
+    }
+}
+
+fn same_id(a: &InvoiceId, b: &InvoiceId) -> bool
+    ensures { result ≡ spec.same_id a.now b.now }
+{
+    a.num.as_slice() == b.num.as_slice() && a.day == b.day
+}

@@ -1,0 +1,62 @@
+-- The lines of answers. The texts are this project's own; a Huella is written as in the field text.
+use Rattle.std.specs.Prelude.{ℕ, List, ◌++◌, codes, decimal, flat_map, Result, Ok, Err}
+use Rattle.std.specs.Fmt.{signed_decimal}
+use Rattle.journal.specs.declared.faults.StoreFault.{StoreFault}
+use Rattle.journal.specs.declared.faults.StoreFault.TheVariants.{DiskFault, Stopped, NoMemory}
+use Rattle.record_fields.specs.declared.checks.DraftFault.{DraftFault}
+use Rattle.record_fields.specs.declared.checks.DraftFault.TheVariants.{CustomerMissing, CustomerUnwanted, RectMissing, RectUnwanted, RefsMissing, RefsUnwanted, TooManyRefs, OverSimplified}
+use Rattle.huella.specs.FieldText.{huella_text}
+use Rattle.shop_core.specs.declared.receipts.Receipt.{Receipt}
+use Rattle.shop_core.specs.declared.answers.Refusal.{Refusal}
+use Rattle.shop_core.specs.declared.answers.Refusal.TheVariants.{Passed, BadDraft, Unknown, Cancelled, RefNotSimplified, ChainFull, ClockRange, HuellaTwice}
+use Rattle.shop_core.specs.declared.answers.Reply.{Reply}
+use Rattle.shop_core.specs.declared.answers.Reply.TheVariants.{Taken, Again, Refused}
+use Rattle.report.specs.declared.answers.AnswerLine.{AnswerLine}
+use Rattle.report.specs.declared.answers.AnswerLine.TheVariants.{Answered}
+
+-- PLACE NUM HUELLA
+abbrev pub receipt_text : Receipt → List ℕ
+receipt_text r = decimal r.place ++ codes " " ++ r.id.num ++ codes " " ++ huella_text r.huella
+
+abbrev pub draft_fault_text : DraftFault → List ℕ
+draft_fault_text CustomerMissing = codes "customer-missing"
+draft_fault_text CustomerUnwanted = codes "customer-unwanted"
+draft_fault_text RectMissing = codes "rect-missing"
+draft_fault_text RectUnwanted = codes "rect-unwanted"
+draft_fault_text RefsMissing = codes "refs-missing"
+draft_fault_text RefsUnwanted = codes "refs-unwanted"
+draft_fault_text (TooManyRefs n) = codes "too-many-refs " ++ decimal n
+draft_fault_text (OverSimplified cents) = codes "over-simplified " ++ signed_decimal cents
+
+abbrev pub refusal_text : Refusal → List ℕ
+refusal_text (Passed last) = codes "passed " ++ decimal last
+refusal_text (BadDraft fault) = codes "draft " ++ draft_fault_text fault
+refusal_text Unknown = codes "unknown"
+refusal_text (Cancelled place) = codes "cancelled " ++ decimal place
+refusal_text (RefNotSimplified index) = codes "ref " ++ decimal index
+refusal_text ChainFull = codes "full"
+refusal_text (ClockRange now) = codes "clock " ++ decimal now
+refusal_text (HuellaTwice place) = codes "twice " ++ decimal place
+
+abbrev pub reply_text : Reply → List ℕ
+reply_text (Taken r) = codes "taken " ++ receipt_text r
+reply_text (Again r) = codes "again " ++ receipt_text r
+reply_text (Refused why) = codes "refused " ++ refusal_text why
+
+abbrev pub store_fault_text : StoreFault → List ℕ
+store_fault_text DiskFault = codes "disk"
+store_fault_text (Stopped faults) = codes "stopped " ++ decimal faults
+store_fault_text NoMemory = codes "memory"
+
+abbrev pub told_text : Result Reply StoreFault → List ℕ
+told_text (Ok reply) = reply_text reply
+told_text (Err fault) = codes "fault " ++ store_fault_text fault
+
+-- till T serial S ANSWER
+abbrev pub answer_line : AnswerLine → List ℕ
+answer_line (Answered till serial told) =
+    codes "till " ++ decimal till ++ codes " serial " ++ decimal serial ++ codes " " ++ told_text told ++ codes "\n"
+
+-- a line for each answer, in order
+abbrev pub answers_text : List AnswerLine → List ℕ
+answers_text answers = flat_map answer_line answers

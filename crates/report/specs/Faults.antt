@@ -1,0 +1,52 @@
+-- What is said on standard error of each end. The texts are this project's own.
+use Rattle.std.specs.Prelude.{ℕ, List, [], ◌++◌, codes, decimal}
+use Rattle.shop_core.specs.declared.words.Word.{Word}
+use Rattle.shop_core.specs.declared.words.Word.TheVariants as word
+use Rattle.report.specs.declared.ended.Detail.{Detail}
+use Rattle.report.specs.declared.ended.Detail.TheVariants as detail
+
+abbrev pub word_text : Word → List ℕ
+word_text word.Utf8 = codes "Utf8"
+word_text word.Verb = codes "Verb"
+word_text word.Command = codes "Command"
+word_text word.Fields = codes "Fields"
+word_text word.Number = codes "Number"
+word_text word.Till = codes "Till"
+word_text word.Series = codes "Series"
+word_text word.Num = codes "Num"
+word_text word.Kind = codes "Kind"
+word_text word.Nif = codes "Nif"
+word_text word.Name = codes "Name"
+word_text word.Class = codes "Class"
+word_text word.Fate = codes "Fate"
+word_text word.Option = codes "Option"
+word_text word.Customer = codes "Customer"
+word_text word.Date = codes "Date"
+word_text word.Lines = codes "Lines"
+word_text word.Twice = codes "Twice"
+word_text word.TooMany = codes "TooMany"
+
+-- LINE WORD
+abbrev pub bad_line_text : ℕ → Word → List ℕ
+bad_line_text line fault = decimal line ++ codes " " ++ word_text fault ++ codes "\n"
+
+-- damaged at BYTE
+abbrev pub damage_text : ℕ → List ℕ
+damage_text at = codes "verifactu: damaged at " ++ decimal at ++ codes "\n"
+
+-- NIF
+abbrev pub nif_line : List ℕ → List ℕ
+nif_line nif = nif ++ codes "\n"
+
+-- what went wrong; nothing at Done
+abbrev pub fault_text : Detail → List ℕ
+fault_text detail.Done = []
+fault_text detail.Usage = codes "verifactu: usage\n"
+fault_text (detail.Script line fault) = codes "verifactu: script line " ++ bad_line_text line fault
+fault_text detail.ReadFault = codes "verifactu: read fault\n"
+fault_text detail.WriteFault = codes "verifactu: write fault\n"
+fault_text detail.DiskFault = codes "verifactu: disk fault\n"
+fault_text (detail.Damaged at) = damage_text at
+fault_text detail.NoMemory = codes "verifactu: no memory\n"
+fault_text detail.TooBig = codes "verifactu: input too big\n"
+fault_text (detail.OtherIssuer held) = codes "verifactu: file of " ++ nif_line held

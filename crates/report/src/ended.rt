@@ -1,0 +1,56 @@
+// How a call of the program ends.
+ghost use Rattle.std.specs.Prelude.{◌≡◌};
+ghost use Rattle.report.specs.Statuses.{status_of};
+
+use parties::Nif;
+use shop_core::Word;
+
+/// What a call of the program came to.
+#[derive(Clone, Copy, Debug, PartialEq, Eq)]
+pub enum Detail {
+    /// The source was read to its end, every command has its answer, and all was printed.
+    Done,
+    /// The words are no command.
+    Usage,
+    /// This line of the script, by its number from 1, is wrong.
+    Script { line: u32, fault: Word },
+    /// The source failed.
+    ReadFault,
+    /// The sink failed, and took a front of the text.
+    WriteFault,
+    /// The disk failed.
+    DiskFault,
+    /// The file is damaged at this byte.
+    Damaged { at: u64 },
+    /// A growth was refused.
+    NoMemory,
+    /// The source gave more than 16,777,216 bytes.
+    TooBig,
+    /// The file holds the chain of another issuer, this one.
+    OtherIssuer { held: Nif },
+}
+
+/// What a call came to, with the status that the program ends with.
+#[derive(Clone, Copy, Debug, PartialEq, Eq)]
+pub struct Ended {
+    pub status: u8,
+    pub detail: Detail,
+}
+
+/// The status of an end.
+pub fn status_of(detail: &Detail) -> u8
+    ensures { result ≡ status_of detail.now }
+{
+    match detail {
+        Detail::Done => 0,
+        Detail::Usage => 2,
+        Detail::Script { .. } => 3,
+        Detail::ReadFault => 4,
+        Detail::WriteFault => 5,
+        Detail::DiskFault => 6,
+        Detail::Damaged { .. } => 7,
+        Detail::NoMemory => 10,
+        Detail::TooBig => 12,
+        Detail::OtherIssuer { .. } => 13,
+    }
+}

@@ -1,0 +1,92 @@
+// What is printed on standard error.
+ghost use Rattle.std.specs.Prelude.{◌≡◌, ◌++◌, OnOk, IfOk};
+ghost use Rattle.report.specs.Faults as spec;
+
+use crate::Detail;
+use crate::pieces::{put, put_counted, put_number};
+use parties::Nif;
+use ports::NoMemory;
+use record_fields::Text;
+use shop_core::Word;
+use std::alloc::{AllocError, Global};
+
+fn word_text(word: Word) -> &'static [u8]
+    ensures { result.now ≡ spec.word_text word }
+{
+    match word {
+        Word::Utf8 => b"Utf8",
+        Word::Verb => b"Verb",
+        Word::Command => b"Command",
+        Word::Fields => b"Fields",
+        Word::Number => b"Number",
+        Word::Till => b"Till",
+        Word::Series => b"Series",
+        Word::Num => b"Num",
+        Word::Kind => b"Kind",
+        Word::Nif => b"Nif",
+        Word::Name => b"Name",
+        Word::Class => b"Class",
+        Word::Fate => b"Fate",
+        Word::Option => b"Option",
+        Word::Customer => b"Customer",
+        Word::Date => b"Date",
+        Word::Lines => b"Lines",
+        Word::Twice => b"Twice",
+        Word::TooMany => b"TooMany",
+    }
+}
+
+fn put_bad_line(text: &mut Vec<u8>, line: u32, fault: Word) -> Result<(), AllocError>
+    ensures { OnOk result (text.new.items ≡ text.old.items ++ spec.bad_line_text line fault) }
+{
+    put_number(text, u64::from(line))?;
+    put(text, b" ")?;
+    put(text, word_text(fault))?;
+    put(text, b"\n")
+}
+
+fn put_damage(text: &mut Vec<u8>, at: u64) -> Result<(), AllocError>
+    ensures { OnOk result (text.new.items ≡ text.old.items ++ spec.damage_text at) }
+{
+    put_counted(text, b"verifactu: damaged at ", at)?;
+    put(text, b"\n")
+}
+
+fn put_nif(text: &mut Vec<u8>, nif: &Nif) -> Result<(), AllocError>
+    ensures { OnOk result (text.new.items ≡ text.old.items ++ spec.nif_line nif.now) }
+{
+    put(text, &nif.bytes())?;
+    put(text, b"\n")
+}
+
+fn put_fault(text: &mut Vec<u8>, detail: &Detail) -> Result<(), AllocError>
+    ensures { OnOk result (text.new.items ≡ text.old.items ++ spec.fault_text detail.now) }
+{
+    match detail {
+        Detail::Done => Ok(()),
+        Detail::Usage => put(text, b"verifactu: usage\n"),
+        Detail::Script { line, fault } => {
+            put(text, b"verifactu: script line ")?;
+            put_bad_line(text, *line, *fault)
+        }
+        Detail::ReadFault => put(text, b"verifactu: read fault\n"),
+        Detail::WriteFault => put(text, b"verifactu: write fault\n"),
+        Detail::DiskFault => put(text, b"verifactu: disk fault\n"),
+        Detail::Damaged { at } => put_damage(text, *at),
+        Detail::NoMemory => put(text, b"verifactu: no memory\n"),
+        Detail::TooBig => put(text, b"verifactu: input too big\n"),
+        Detail::OtherIssuer { held } => {
+            put(text, b"verifactu: file of ")?;
+            put_nif(text, held)
+        }
+    }
+}
+
+/// What the program prints on standard error where its status isn't 0: one line, and nothing at `Done`.
+pub fn fault_text(alloc: Global, detail: &Detail) -> Result<Text, NoMemory>
+    ensures { IfOk result (λ text. text ≡ spec.fault_text detail.now) }
+{
+    let mut text = Vec::new(alloc);
+    put_fault(&mut text, detail)?;
+    Ok(Text::of(text))
+}

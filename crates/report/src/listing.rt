@@ -1,0 +1,47 @@
+// The listing of a history, and its chain line.
+ghost use Rattle.std.specs.Prelude.{◌≡◌, ◌++◌, OnOk, IfOk};
+ghost use Rattle.report.specs.Listing as spec;
+
+use crate::pieces::{put, put_number};
+use crate::records::put_record;
+use ports::NoMemory;
+use record_codec::Entry;
+use record_fields::Text;
+use shop_core::State;
+use std::alloc::{AllocError, Global};
+
+fn put_listing(text: &mut Vec<u8>, state: &State) -> Result<(), AllocError>
+    ensures { OnOk result (text.new.items ≡ text.old.items ++ spec.listing state.now.entries) }
+{
+    let _few = state.records();
+    let mut rest = state.history();
+    let mut place = 1;
+    while let [entry, after @ ..] = rest {
+        if let Entry::Rec { sealed, .. } = entry {
+            put_record(text, place, sealed, state.line(place))?;
+            place += 1;
+        }
+        rest = after;
+    }
+    Ok(())
+}
+
+fn put_chain_line(text: &mut Vec<u8>, state: &State) -> Result<(), AllocError>
+    ensures { OnOk result (text.new.items ≡ text.old.items ++ spec.chain_line state.now.entries) }
+{
+    put(text, b"chain ")?;
+    put_number(text, u64::from(state.records()))?;
+    put(text, b" noted ")?;
+    put_number(text, u64::from(state.noted()))?;
+    put(text, b"\n")
+}
+
+/// A line for each record, in order of their places, and the chain line.
+pub fn listing_text(alloc: Global, state: &State) -> Result<Text, NoMemory>
+    ensures { IfOk result (λ text. text ≡ spec.listing_text state.now.entries) }
+{
+    let mut text = Vec::new(alloc);
+    put_listing(&mut text, state)?;
+    put_chain_line(&mut text, state)?;
+    Ok(Text::of(text))
+}

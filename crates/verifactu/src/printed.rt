@@ -1,0 +1,95 @@
+// What is printed of a run.
+ghost use Rattle.std.specs.Prelude.{◌≡◌, ◌++◌, IfOk, true};
+ghost use Rattle.verifactu.specs.Printed as spec;
+ghost use Rattle.verifactu.specs.Readings.{AllReplied};
+ghost use Rattle.verifactu.specs.Stages.{Tells};
+
+use journal::StoreFault;
+use ports::NoMemory;
+use record_fields::Text;
+use report::{AnswerLine, Answers, answers_text, listing_text};
+use shop_core::{Ask, Reply, State};
+use std::alloc::Global;
+
+/// The text of a run, in two parts.
+#[derive(Drop)]
+pub struct Told {
+    pub answers: Text,
+    pub listing: Text,
+    /// Whether no reply is want of memory.
+    pub whole: bool,
+}
+
+/// The text of these replies and of the history that they left.
+pub fn told_of(
+    alloc: Global,
+    asks: &[Ask],
+    replies: &[Result<Reply, NoMemory>],
+    state: &State,
+) -> Result<Told, NoMemory>
+    ensures { IfOk result (λ told. Tells asks.now replies.now state.now.entries (told.answers ++ told.listing) told.whole) }
+{
+    let lines = answers_of(alloc, asks, replies)?;
+    let answers = answers_text(alloc, &lines)?;
+    let listing = listing_text(alloc, state)?;
+    let whole = none_failed(replies);
+    Ok(Told {
+        answers,
+        listing,
+        whole,
+    })
+}
+
+fn replied(reply: &Result<Reply, NoMemory>) -> Result<Reply, StoreFault>
+    ensures { result ≡ spec.replied reply.now }
+{
+    match reply {
+        Ok(reply) => Ok(*reply),
+        Err(_) => Err(StoreFault::NoMemory),
+    }
+}
+
+fn answered(ask: &Ask, reply: &Result<Reply, NoMemory>) -> AnswerLine
+    ensures { result ≡ spec.answered (ask.now, reply.now) }
+{
+    AnswerLine::Answered {
+        till: ask.till,
+        serial: ask.serial,
+        reply: replied(reply),
+    }
+}
+
+// A line for each ask with its reply, in order.
+fn answers_of(
+    alloc: Global,
+    asks: &[Ask],
+    replies: &[Result<Reply, NoMemory>],
+) -> Result<Answers, NoMemory>
+    ensures { IfOk result (λ answers. answers ≡ spec.answers asks.now replies.now) }
+{
+    let mut lines = Vec::new(alloc);
+    let mut asked = asks;
+    let mut told = replies;
+    while let [ask, more_asked @ ..] = asked {
+        let [reply, more_told @ ..] = told else {
+            return Ok(Answers::of(lines));
+        };
+        lines.extend_from_slice(&[answered(ask, reply)])?;
+        asked = more_asked;
+        told = more_told;
+    }
+    Ok(Answers::of(lines))
+}
+
+fn none_failed(replies: &[Result<Reply, NoMemory>]) -> bool
+    ensures { result ≡ true → AllReplied replies.now }
+{
+    let mut rest = replies;
+    while let [first, after @ ..] = rest {
+        if first.is_err() {
+            return false;
+        }
+        rest = after;
+    }
+    true
+}
