@@ -1,3 +1,4 @@
 pub mod Stands
 pub mod Loading
 pub mod Ready
+pub mod Store
