@@ -1,9 +1,13 @@
 // Opens a file for an issuer.
-ghost use Rattle.std.specs.Prelude.{◌≡◌, ◌≤◌, ℕ, List, IsTrue, IfOk, IfErr, None};
+ghost use Rattle.std.specs.Prelude.{◌≡◌, ◌≢◌, ◌≤◌, [], ℕ, List, IsTrue, IfOk, IfErr, None, Some};
 ghost use Rattle.ports.specs.Causes.{Rose};
-ghost use Rattle.chain_disk.specs.Told.{LeavesNow};
+ghost use Rattle.chain_disk.specs.Told.{IsSettled, LeavesNow};
+ghost use Rattle.journal.specs.File.{IsNotBegun};
+ghost use Rattle.journal.specs.Journal.{disk_of, end_of, stopped_of};
+ghost use Rattle.chain_store.specs.Loading.{IsLoaded, IsShaped};
 ghost use Rattle.chain_store.specs.Ready.{IsReady};
 ghost use Rattle.chain_store.specs.Stands.{IsDamagedFile, StandsFor};
+ghost use Rattle.chain_store.specs.Store.{clock_of, journal_of, state_of};
 ghost use Rattle.chain_store.specs.declared.causes.OpenCause.TheVariants as cause;
 ghost use Rattle.recovery.specs.Opening.{IsFound, IsOthers, ReadsAlike};
 
@@ -31,7 +35,131 @@ pub fn open_store<D: Disk, C: Clock>(
     clock: C,
     issuer: &Nif,
 ) -> Result<Store<D, C>, OpenFault<D, C>>
-    ghost use Rattle.journal.specs.Journal.{disk_of, end_of, stopped_of};
+    ensures ready { IfOk result (λ store. IsReady D.tells (state_of store) None (end_of (journal_of store)) (D.told (disk_of (journal_of store)))) }
+    ensures going_on { IfOk result (λ store. stopped_of (journal_of store) ≡ None) }
+    ensures issuer { IfOk result (λ store. (state_of store).issuer ≡ issuer.now) }
+    ensures found { IfOk result (λ store. IsTrue D.tells → IsFound issuer.now (state_of store).entries (D.told disk).content) }
+    ensures every_crash { IfOk result (λ store. IsTrue D.tells →
+        LeavesNow (D.told (disk_of (journal_of store))) (StandsFor issuer.now (state_of store).entries)) }
+    ensures clock { IfOk result (λ store. clock_of store ≡ clock) }
+    ensures damaged { IfErr result (λ fault. (at : ℕ) → fault.cause ≡ cause.Damaged at → IsTrue D.tells →
+        IsDamagedFile (D.told disk).content at × ReadsAlike (D.told disk) (D.told fault.disk)) }
+    ensures other { IfErr result (λ fault. (held : List ℕ) → fault.cause ≡ cause.OtherIssuer held → IsTrue D.tells →
+        IsOthers issuer.now held (D.told disk).content × ReadsAlike (D.told disk) (D.told fault.disk)) }
+    ensures disk_fault { IfErr result (λ fault. fault.cause ≡ cause.DiskFault → Rose (D.faults disk) (D.faults fault.disk)) }
+    ensures clock_err { IfErr result (λ fault. fault.clock ≡ clock) }
+    ensures later { IfOk result (λ store. D.faults disk ≤ D.faults (disk_of (journal_of store))) }
+    ensures later_err { IfErr result (λ fault. D.faults disk ≤ D.faults fault.disk) }
 {
-    open(alloc, disk, clock, issuer)
+    let mut disk = disk;
+    let Ok(()) = disk.sync() else {
+        return Err(OpenFault {
+            cause: OpenCause::DiskFault,
+            disk,
+            clock,
+        });
+    };
+    match load(alloc, &mut disk) {
+        Err(cause) => Err(OpenFault { cause, disk, clock }),
+        Ok(loaded) => open_loaded(alloc, disk, clock, issuer, loaded),
+    }
+}
+
+// The store of a file that was read.
+fn open_loaded<D: Disk, C: Clock>(
+    alloc: Global,
+    disk: D,
+    clock: C,
+    issuer: &Nif,
+    loaded: Loaded,
+) -> Result<Store<D, C>, OpenFault<D, C>>
+    requires shape { IsShaped loaded.issuer loaded.state loaded.end }
+    requires content { IsTrue D.tells → IsLoaded (D.told disk).content loaded.issuer loaded.state loaded.end × IsSettled (D.told disk) }
+    ensures ready { IfOk result (λ store. IsReady D.tells (state_of store) None (end_of (journal_of store)) (D.told (disk_of (journal_of store)))) }
+    ensures going_on { IfOk result (λ store. stopped_of (journal_of store) ≡ None) }
+    ensures issuer { IfOk result (λ store. (state_of store).issuer ≡ issuer.now) }
+    ensures found { IfOk result (λ store. IsTrue D.tells → IsFound issuer.now (state_of store).entries (D.told disk).content) }
+    ensures every_crash { IfOk result (λ store. IsTrue D.tells →
+        LeavesNow (D.told (disk_of (journal_of store))) (StandsFor issuer.now (state_of store).entries)) }
+    ensures clock { IfOk result (λ store. clock_of store ≡ clock) }
+    ensures damaged { IfErr result (λ fault. (at : ℕ) → fault.cause ≡ cause.Damaged at → ⊥) }
+    ensures other { IfErr result (λ fault. (held : List ℕ) → fault.cause ≡ cause.OtherIssuer held → IsTrue D.tells →
+        IsOthers issuer.now held (D.told disk).content × ReadsAlike (D.told disk) (D.told fault.disk)) }
+    ensures disk_fault { IfErr result (λ fault. fault.cause ≡ cause.DiskFault → Rose (D.faults disk) (D.faults fault.disk)) }
+    ensures clock_err { IfErr result (λ fault. fault.clock ≡ clock) }
+    ensures later { IfOk result (λ store. D.faults disk ≤ D.faults (disk_of (journal_of store))) }
+    ensures later_err { IfErr result (λ fault. D.faults disk ≤ D.faults fault.disk) }
+{
+    let Loaded {
+        issuer: held,
+        state,
+        end,
+    } = loaded;
+    match held {
+        None => begin(alloc, disk, clock, issuer),
+        Some(held) => match state {
+            Some(state) => open_held(disk, clock, issuer, held, state, end),
+            None => unreachable!(),
+        },
+    }
+}
+
+// The store of a file that stands for this history of this issuer.
+fn open_held<D: Disk, C: Clock>(
+    disk: D,
+    clock: C,
+    issuer: &Nif,
+    held: Nif,
+    state: State,
+    end: u64,
+) -> Result<Store<D, C>, OpenFault<D, C>>
+    requires place { IsShaped (Some held) (Some state) end }
+    requires holds { IsTrue D.tells → IsLoaded (D.told disk).content (Some held) (Some state) end × IsSettled (D.told disk) }
+    ensures ready { IfOk result (λ store. IsReady D.tells (state_of store) None (end_of (journal_of store)) (D.told (disk_of (journal_of store)))) }
+    ensures going_on { IfOk result (λ store. stopped_of (journal_of store) ≡ None) }
+    ensures same { IfOk result (λ store. (held ≡ issuer.now) × (state_of store ≡ state) × (clock_of store ≡ clock)
+        × (disk_of (journal_of store) ≡ disk)) }
+    ensures every_crash { IfOk result (λ store. IsTrue D.tells →
+        LeavesNow (D.told (disk_of (journal_of store))) (StandsFor issuer.now (state_of store).entries)) }
+    ensures other { IfErr result (λ fault. (fault.cause ≡ cause.OtherIssuer held) × (held ≢ issuer.now)
+        × (fault.disk ≡ disk) × (fault.clock ≡ clock)) }
+{
+    if held != *issuer {
+        return Err(OpenFault {
+            cause: OpenCause::OtherIssuer { held },
+            disk,
+            clock,
+        });
+    }
+    let _legal = state.history();
+    Ok(Store::of(state, Journal::at(disk, end), clock))
+}
+
+// The store of a file that isn't begun, which begins it.
+fn begin<D: Disk, C: Clock>(
+    alloc: Global,
+    disk: D,
+    clock: C,
+    issuer: &Nif,
+) -> Result<Store<D, C>, OpenFault<D, C>>
+    requires { IsTrue D.tells → IsNotBegun (D.told disk).content × IsSettled (D.told disk) }
+    ensures ready { IfOk result (λ store. IsReady D.tells (state_of store) None (end_of (journal_of store)) (D.told (disk_of (journal_of store)))) }
+    ensures going_on { IfOk result (λ store. stopped_of (journal_of store) ≡ None) }
+    ensures empty { IfOk result (λ store. ((state_of store).issuer ≡ issuer.now) × ((state_of store).entries ≡ []) × (clock_of store ≡ clock)) }
+    ensures every_crash { IfOk result (λ store. IsTrue D.tells →
+        LeavesNow (D.told (disk_of (journal_of store))) (StandsFor issuer.now (state_of store).entries)) }
+    ensures lost { IfErr result (λ fault. (fault.cause ≡ cause.DiskFault) × Rose (D.faults disk) (D.faults fault.disk) × (fault.clock ≡ clock)) }
+    ensures later { IfOk result (λ store. D.faults disk ≤ D.faults (disk_of (journal_of store))) }
+    ensures later_err { IfErr result (λ fault. D.faults disk ≤ D.faults fault.disk) }
+{
+    let state = State::empty(alloc, issuer);
+    let _legal = state.history();
+    match Journal::create(disk, issuer) {
+        Ok(journal) => Ok(Store::of(state, journal, clock)),
+        Err(Lost { disk }) => Err(OpenFault {
+            cause: OpenCause::DiskFault,
+            disk,
+            clock,
+        }),
+    }
 }
