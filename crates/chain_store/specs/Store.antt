@@ -1,7 +1,11 @@
 -- The words in which contracts above speak of a store.
+use Rattle.std.specs.Prelude.{Bool}
+use Rattle.chain_disk.specs.Told.{Told}
 use Rattle.chain_disk.specs.declared.disk.Disk.{Ghosts}
 use Rattle.shop_core.specs.History.{History}
 use Rattle.journal.specs.declared.journal.Journal.{Journal}
+use Rattle.journal.specs.Journal.{disk_of, end_of, stopped_of}
+use Rattle.chain_store.specs.Ready.{IsReady}
 use Rattle.chain_store.specs.declared.store.Store.{Store}
 
 -- its history
@@ -15,3 +19,7 @@ journal_of store = store.journal
 -- its clock
 abbrev pub clock_of : {D C : Type 0} {g : Ghosts D} → Store D C g → C
 clock_of store = store.clock
+
+-- where its journal isn't stopped and its disk tells what it holds, that is its history
+abbrev pub Ready : {D C : Type 0} {g : Ghosts D} → Bool → (D → Told) → Store D C g → Type 0
+Ready tells told store = IsReady tells store.state (stopped_of store.journal) (end_of store.journal) (told (disk_of store.journal))

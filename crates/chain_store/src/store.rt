@@ -31,6 +31,7 @@ pub struct Store<D: Disk, C: Clock> {
 
 impl<D: Disk, C: Clock> Store<D, C> {
     ghost use Rattle.journal.specs.Journal.{disk_of, end_of, stopped_of};
+    ghost use Rattle.chain_store.specs.Store.{Ready};
 
     /// The store of a journal that goes on and keeps this history.
     pub fn of(state: State, journal: Journal<D>, clock: C) -> Store<D, C>
@@ -72,8 +73,8 @@ impl<D: Disk, C: Clock> Store<D, C> {
     /// Answers an ask at the history and one reading of the clock, and keeps the record that is made, in the journal first.
     /// A journal that stopped answers so before the clock is read. Want of memory comes before the first call of the disk.
     pub fn take(&mut self, alloc: Global, ask: &Ask) -> Result<Reply, StoreFault>
-        requires { IsReady D.tells self.old.state (stopped_of self.old.journal) (end_of self.old.journal) (D.told (disk_of self.old.journal)) }
-        ensures ready { IsReady D.tells self.new.state (stopped_of self.new.journal) (end_of self.new.journal) (D.told (disk_of self.new.journal)) }
+        requires { Ready D.tells D.told self.old }
+        ensures ready { Ready D.tells D.told self.new }
         ensures takes { stopped_of self.old.journal ≡ None → Takes self.old.state self.new.state ask.now (C.coming self.old.clock) (C.coming self.new.clock)
             D.tells (D.told (disk_of self.old.journal)) (D.told (disk_of self.new.journal)) result }
 
@@ -111,7 +112,7 @@ impl<D: Disk, C: Clock> Store<D, C> {
         requires ready { IsReady D.tells self.old.state None (end_of self.old.journal) (D.told (disk_of self.old.journal)) }
         requires continues { Continues self.old.state.issuer self.old.state.entries entry }
         requires of_record { is_record entry ≡ true }
-        ensures ready { IsReady D.tells self.new.state (stopped_of self.new.journal) (end_of self.new.journal) (D.told (disk_of self.new.journal)) }
+        ensures ready { Ready D.tells D.told self.new }
         ensures issuer { self.new.state.issuer ≡ self.old.state.issuer }
         ensures taken { IfOk result (λ reply. IsTaken self.old.state.entries entry reply × (stopped_of self.new.journal ≡ None)
             × (self.new.state.entries ≡ self.old.state.entries ++ entry ∷ [])) }
@@ -139,10 +140,10 @@ impl<D: Disk, C: Clock> Store<D, C> {
 
     /// Keeps the agency's lines for the first records that have none: 1 to 1000 lines, and no more than such records.
     pub fn note(&mut self, alloc: Global, lines: &[Line]) -> Result<(), StoreFault>
-        requires ready { IsReady D.tells self.old.state (stopped_of self.old.journal) (end_of self.old.journal) (D.told (disk_of self.old.journal)) }
+        requires ready { Ready D.tells D.told self.old }
         requires count { IsInRange 1 1000 (length lines.now) }
         requires within { length (noted self.old.state.entries) + length lines.now ≤ length (recs self.old.state.entries) }
-        ensures ready { IsReady D.tells self.new.state (stopped_of self.new.journal) (end_of self.new.journal) (D.told (disk_of self.new.journal)) }
+        ensures ready { Ready D.tells D.told self.new }
         ensures issuer { self.new.state.issuer ≡ self.old.state.issuer }
         ensures noted { OnOk result (self.new.state.entries ≡ self.old.state.entries ++ Notes (length (noted self.old.state.entries)) lines.now ∷ []) }
         ensures same { OnErr result (self.new.state.entries ≡ self.old.state.entries) }
@@ -198,7 +199,7 @@ impl<D: Disk, C: Clock> Store<D, C> {
         requires going_on { stopped_of self.old.journal ≡ None }
         requires ready { IsReady D.tells self.old.state None (end_of self.old.journal) (D.told (disk_of self.old.journal)) }
         requires continues { Continues self.old.state.issuer self.old.state.entries entry }
-        ensures ready { IsReady D.tells self.new.state (stopped_of self.new.journal) (end_of self.new.journal) (D.told (disk_of self.new.journal)) }
+        ensures ready { Ready D.tells D.told self.new }
         ensures issuer { self.new.state.issuer ≡ self.old.state.issuer }
         ensures added { OnOk result ((stopped_of self.new.journal ≡ None)
             × (self.new.state.entries ≡ self.old.state.entries ++ entry ∷ [])) }

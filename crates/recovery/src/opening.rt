@@ -3,11 +3,10 @@ ghost use Rattle.std.specs.Prelude.{◌≡◌, ◌≢◌, ◌≤◌, [], ℕ, Li
 ghost use Rattle.ports.specs.Causes.{Rose};
 ghost use Rattle.chain_disk.specs.Told.{IsSettled, LeavesNow};
 ghost use Rattle.journal.specs.File.{IsNotBegun};
-ghost use Rattle.journal.specs.Journal.{disk_of, end_of, stopped_of};
+ghost use Rattle.journal.specs.Journal.{disk_of, stopped_of};
 ghost use Rattle.chain_store.specs.Loading.{IsLoaded, IsShaped};
-ghost use Rattle.chain_store.specs.Ready.{IsReady};
 ghost use Rattle.chain_store.specs.Stands.{IsDamagedFile, StandsFor};
-ghost use Rattle.chain_store.specs.Store.{clock_of, journal_of, state_of};
+ghost use Rattle.chain_store.specs.Store.{Ready, clock_of, journal_of, state_of};
 ghost use Rattle.chain_store.specs.declared.causes.OpenCause.TheVariants as cause;
 ghost use Rattle.recovery.specs.Opening.{IsFound, IsOthers, ReadsAlike};
 
@@ -35,7 +34,7 @@ pub fn open_store<D: Disk, C: Clock>(
     clock: C,
     issuer: &Nif,
 ) -> Result<Store<D, C>, OpenFault<D, C>>
-    ensures ready { IfOk result (λ store. IsReady D.tells (state_of store) None (end_of (journal_of store)) (D.told (disk_of (journal_of store)))) }
+    ensures ready { IfOk result (λ store. Ready D.tells D.told store) }
     ensures going_on { IfOk result (λ store. stopped_of (journal_of store) ≡ None) }
     ensures issuer { IfOk result (λ store. (state_of store).issuer ≡ issuer.now) }
     ensures found { IfOk result (λ store. IsTrue D.tells → IsFound issuer.now (state_of store).entries (D.told disk).content) }
@@ -75,7 +74,7 @@ fn open_loaded<D: Disk, C: Clock>(
 ) -> Result<Store<D, C>, OpenFault<D, C>>
     requires shape { IsShaped loaded.issuer loaded.state loaded.end }
     requires content { IsTrue D.tells → IsLoaded (D.told disk).content loaded.issuer loaded.state loaded.end × IsSettled (D.told disk) }
-    ensures ready { IfOk result (λ store. IsReady D.tells (state_of store) None (end_of (journal_of store)) (D.told (disk_of (journal_of store)))) }
+    ensures ready { IfOk result (λ store. Ready D.tells D.told store) }
     ensures going_on { IfOk result (λ store. stopped_of (journal_of store) ≡ None) }
     ensures issuer { IfOk result (λ store. (state_of store).issuer ≡ issuer.now) }
     ensures found { IfOk result (λ store. IsTrue D.tells → IsFound issuer.now (state_of store).entries (D.told disk).content) }
@@ -115,7 +114,7 @@ fn open_held<D: Disk, C: Clock>(
 ) -> Result<Store<D, C>, OpenFault<D, C>>
     requires place { IsShaped (Some held) (Some state) end }
     requires holds { IsTrue D.tells → IsLoaded (D.told disk).content (Some held) (Some state) end × IsSettled (D.told disk) }
-    ensures ready { IfOk result (λ store. IsReady D.tells (state_of store) None (end_of (journal_of store)) (D.told (disk_of (journal_of store)))) }
+    ensures ready { IfOk result (λ store. Ready D.tells D.told store) }
     ensures going_on { IfOk result (λ store. stopped_of (journal_of store) ≡ None) }
     ensures same { IfOk result (λ store. (held ≡ issuer.now) × (state_of store ≡ state) × (clock_of store ≡ clock)
         × (disk_of (journal_of store) ≡ disk)) }
@@ -143,7 +142,7 @@ fn begin<D: Disk, C: Clock>(
     issuer: &Nif,
 ) -> Result<Store<D, C>, OpenFault<D, C>>
     requires { IsTrue D.tells → IsNotBegun (D.told disk).content × IsSettled (D.told disk) }
-    ensures ready { IfOk result (λ store. IsReady D.tells (state_of store) None (end_of (journal_of store)) (D.told (disk_of (journal_of store)))) }
+    ensures ready { IfOk result (λ store. Ready D.tells D.told store) }
     ensures going_on { IfOk result (λ store. stopped_of (journal_of store) ≡ None) }
     ensures empty { IfOk result (λ store. ((state_of store).issuer ≡ issuer.now) × ((state_of store).entries ≡ []) × (clock_of store ≡ clock)) }
     ensures every_crash { IfOk result (λ store. IsTrue D.tells →
