@@ -1,5 +1,5 @@
 -- Where a load stops, and how it goes on.
-use Rattle.std.proofs.Common.{◌≡◌, ℕ, ◌+◌, List, [], ◌∷◌, ◌++◌, length, drop, map, refl, sym, ◌∙◌, ap, subst}
+use Rattle.std.proofs.Common.{◌≡◌, ℕ, ◌+◌, List, [], ◌∷◌, ◌++◌, length, drop, sym, ◌∙◌, ap, subst}
 use Rattle.std.proofs.lemmas.List.{map-append}
 use Rattle.frames.specs.Frames.{IsCounted, IsDamaged}
 use Rattle.journal.specs.Laws.{WalkGoesOn}
@@ -11,7 +11,7 @@ use Rattle.record_codec.specs.Bytes.{entry_bytes}
 use Rattle.record_codec.specs.Fields.{IsEncoding}
 use Rattle.record_codec.specs.declared.entries.Entry.{Entry}
 use Rattle.record_codec.specs.declared.faults.BadEntry.{BadEntry}
-use Rattle.shop_core.specs.Legal.{Legal, Continues}
+use Rattle.shop_core.specs.Legal.{Legal}
 use Rattle.chain_store.specs.Stands.{IsSoundUpTo, AreEncoded, bodies_of}
 
 pub encoded_more : (issuer : List ℕ) (entries : List Entry) (entry : Entry) → AreEncoded issuer entries → IsEncoding issuer entry (entry_bytes entry) → AreEncoded issuer (entries ++ entry ∷ [])

@@ -1,6 +1,5 @@
 -- What an append makes of a store's file.
-use Rattle.std.proofs.Common.{◌≡◌, ◌⊎◌, inl, inr, ℕ, ◌+◌, ◌≤◌, List, [], ◌∷◌, ◌++◌, length, length-append, arith, refl, sym, ap, subst, Bool, Option, Some, None}
-use Rattle.std.specs.Prelude.{IsTrue}
+use Rattle.std.proofs.Common.{◌≡◌, inl, inr, ℕ, ◌+◌, ◌≤◌, List, [], ◌∷◌, ◌++◌, length, length-append, arith, refl, sym, subst, Bool, Option, Some}
 use Rattle.chain_disk.specs.Told.{Told, LeavesNow, LeavesOnly}
 use Rattle.chain_disk.specs.Runs.{leaves_now, started_settled, weaker}
 use Rattle.frames.specs.Frames.{IsBody}

@@ -1,5 +1,5 @@
 -- What one ask leaves.
-use Rattle.std.proofs.Common.{◌≡◌, ℕ, List, [], ◌∷◌, ◌++◌, refl, sym, ◌∙◌, ap, subst, append-nil, inl, Bool, Option, Some, None, Result, Ok, Err}
+use Rattle.std.proofs.Common.{◌≡◌, ℕ, List, [], ◌∷◌, ◌++◌, refl, sym, ◌∙◌, subst, append-nil, inl, Bool, Option, Result, Ok, Err}
 use Rattle.std.specs.Prelude.{IsTrue, IfOk, OnErr}
 use Rattle.chain_disk.specs.Told.{Told, LeavesOnly}
 use Rattle.chain_disk.specs.Runs.{weaker}

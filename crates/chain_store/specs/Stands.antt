@@ -1,5 +1,5 @@
 -- What the bytes of a file stand for: nothing yet, the legal history of an issuer, or a damage at a byte.
-use Rattle.std.specs.Prelude.{◌≡◌, ◌⊎◌, ℕ, List, ◌∷◌, [], ◌++◌, map, drop}
+use Rattle.std.specs.Prelude.{◌⊎◌, ℕ, List, ◌∷◌, [], ◌++◌, map, drop}
 use Rattle.std.specs.List.{AllByRecursion}
 use Rattle.frames.specs.Frames.{IsCounted, IsDamaged}
 use Rattle.journal.specs.File.{IsFile}

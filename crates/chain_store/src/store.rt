@@ -239,12 +239,7 @@ impl<D: Disk, C: Clock> Store<D, C> {
 }
 
 // At most so many of the records behind the first ones.
-fn records_from(
-    alloc: Global,
-    state: &State,
-    first: u32,
-    max: u16,
-) -> Result<Vec<Sealed>, NoMemory>
+fn records_from(alloc: Global, state: &State, first: u32, max: u16) -> Result<Vec<Sealed>, NoMemory>
     requires { first ≤ 1_000_000 }
     ensures { IfOk result (λ records. records.items ≡ take max (drop first (recs state.now.entries))) }
 {

@@ -1,12 +1,12 @@
 -- A file that was opened.
-use Rattle.std.proofs.Common.{◌≡◌, ℕ, List, [], sym, ◌∙◌, subst, Result, Ok, Err}
+use Rattle.std.proofs.Common.{◌≡◌, ℕ, List, [], ◌∙◌, subst, Result, Ok, Err}
 use Rattle.std.specs.Prelude.{IfErr}
 use Rattle.chain_store.specs.declared.causes.OpenCause.{OpenCause}
 use Rattle.chain_store.specs.declared.causes.OpenCause.TheVariants.{OtherIssuer}
 use Rattle.recovery.specs.Opening.{IsOthers, ReadsAlike}
 use Rattle.chain_disk.specs.Told.{Told, IsSettled, LeavesNow}
 use Rattle.chain_disk.specs.Runs.{leaves_now}
-use Rattle.journal.specs.File.{IsAt, IsAtSome, IsFile, closing_gate}
+use Rattle.journal.specs.File.{IsAtSome, IsFile, closing_gate}
 use Rattle.record_codec.specs.declared.entries.Entry.{Entry}
 use Rattle.shop_core.specs.Legal.{Legal}
 use Rattle.chain_store.specs.Stands.{StandsFor, bodies_of}

@@ -1,6 +1,6 @@
 -- What an opening finds.
 use Rattle.std.specs.Prelude.{◌≡◌, ◌≢◌, ◌⊎◌, ℕ, List, []}
-use Rattle.chain_disk.specs.Told.{Told, IsSettled}
+use Rattle.chain_disk.specs.Told.{Told}
 use Rattle.journal.specs.File.{IsNotBegun}
 use Rattle.record_codec.specs.declared.entries.Entry.{Entry}
 use Rattle.chain_store.specs.Stands.{StandsFor}

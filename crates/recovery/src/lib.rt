@@ -2,5 +2,7 @@
 #![tactic(auto)]
 
 mod opening;
+#[cfg(test)]
+mod tests;
 
 pub use opening::{OpenFault, open_store};

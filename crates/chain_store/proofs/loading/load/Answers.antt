@@ -1,4 +1,4 @@
-use Rattle.std.proofs.Common.{◌≡◌, ℕ, ap, subst}
+use Rattle.std.proofs.Common.{◌≡◌, ℕ, subst}
 use Rattle.journal.specs.Header.{IsHeader, IsHeaderDamaged}
 use Rattle.journal.specs.declared.reading.Header.{Header}
 use Rattle.chain_store.specs.Stands.{IsDamagedFile}

@@ -1,4 +1,4 @@
-use Rattle.std.proofs.Common.{◌≡◌, ◌∙◌, ap, List, ℕ}
+use Rattle.std.proofs.Common.{◌∙◌, ap}
 use Rattle.std.specs.Prelude.{IsTrue}
 use Rattle.chain_disk.specs.Told.{Told}
 use Rattle.recovery.proofs.Opens.{others_before}

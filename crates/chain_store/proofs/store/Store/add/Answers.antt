@@ -1,8 +1,7 @@
-use Rattle.std.proofs.Common.{◌≡◌, ℕ, ◌∷◌, [], ◌++◌, List, length, refl, sym, ◌∙◌, ap, subst, None, Some, Option, Err}
+use Rattle.std.proofs.Common.{◌≡◌, ℕ, ◌∷◌, [], ◌++◌, List, refl, sym, ◌∙◌, ap, subst, None, Err}
 use Rattle.journal.specs.declared.journal.JournalFault.{JournalFault}
 use Rattle.frames.specs.Frames.{IsBody}
 use Rattle.journal.specs.Journal.{disk_of, end_of, stopped_of}
-use Rattle.record_codec.specs.Bytes.{entry_bytes}
 use Rattle.shop_core.specs.History.{History}
 use Rattle.shop_core.specs.Legal.{Legal}
 use Rattle.chain_store.specs.Ready.{IsReady}

@@ -1,6 +1,4 @@
-use Rattle.std.proofs.Common.{refl, sym, subst, Option, ℕ}
-use Rattle.journal.specs.Journal.{disk_of, end_of}
-use Rattle.chain_store.specs.Ready.{IsReady}
+use Rattle.journal.specs.Journal.{end_of}
 use Rattle.chain_store.proofs.Stores.{untouched_around}
 use Rattle.chain_store.proofs.store.Store.note.Goals as goal
 

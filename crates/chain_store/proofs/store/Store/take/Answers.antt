@@ -1,13 +1,11 @@
-use Rattle.std.proofs.Common.{◌≡◌, ℕ, ◌∷◌, [], ◌++◌, List, refl, sym, ◌∙◌, ap, subst, append-nil, None, Ok, Err, Option}
-use Rattle.chain_disk.specs.Told.{LeavesOnly}
-use Rattle.journal.specs.Journal.{disk_of, end_of, stopped_of}
+use Rattle.std.proofs.Common.{◌≡◌, ◌∷◌, [], ◌++◌, refl, sym, ◌∙◌, subst, None, Ok, Err}
+use Rattle.journal.specs.Journal.{end_of, stopped_of}
 use Rattle.journal.specs.declared.faults.StoreFault.{StoreFault}
 use Rattle.ports.specs.Readings.{MovedBy}
 use Rattle.shop_core.specs.Answer.{answer}
 use Rattle.shop_core.specs.Runs.{IsTaken}
 use Rattle.shop_core.specs.declared.answers.Reply.{Reply}
 use Rattle.shop_core.specs.declared.answers.Reply.TheVariants as reply
-use Rattle.chain_store.specs.Ready.{Takes}
 use Rattle.chain_store.proofs.Stores.{on_disk, untouched}
 use Rattle.chain_store.proofs.Taking.{both_taken, made, not_made, told_again, told_refused}
 use Rattle.chain_store.proofs.store.Store.take.Goals as goal
