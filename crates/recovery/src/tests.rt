@@ -21,9 +21,9 @@ use tax_lines::{Breakdown, LineKey, TaxLine};
 const TEN: u64 = 1_735_722_000;
 
 // The Huellas of the first two sales, made by another SHA-256 of their field texts.
-const FIRST: &[u8] = b"D88B42F8D11C4EA2112502EC992F055A7E94F796D67095359B946A4A5B03E616";
+const FIRST: [u8; 64] = *b"D88B42F8D11C4EA2112502EC992F055A7E94F796D67095359B946A4A5B03E616";
 
-const SECOND: &[u8] = b"4DB9BA37C07D44D4DAFC79742BD454AE86D5C6A354352780573CF06FACADE438";
+const SECOND: [u8; 64] = *b"4DB9BA37C07D44D4DAFC79742BD454AE86D5C6A354352780573CF06FACADE438";
 
 const FILLS: [Fill; 4] = [Fill::Old, Fill::New, Fill::Zeros, Fill::Ones];
 
@@ -50,7 +50,7 @@ fn opened<D: Disk + Drop, C: Clock + Drop>(
     };
     match open_store(alloc, disk, clock, &issuer) {
         Ok(store) => Ok(store),
-        Err(OpenFault { cause, .. }) => Err(cause),
+        Err(fault) => Err(fault.cause),
     }
 }
 
@@ -77,16 +77,40 @@ fn sale(alloc: Global, serial: u32) -> Result<Ask, Fail> {
     Ok(Ask::new(1, serial, Request::Sale { series, draft }))
 }
 
-fn sold<D: Disk, C: Clock>(
+// What a till was told of a sale.
+#[derive(Clone, Copy, Debug, PartialEq, Eq)]
+enum Sold {
+    Taken { place: u32, huella: [u8; 64] },
+    Again { place: u32, huella: [u8; 64] },
+    Fault(StoreFault),
+    Refused,
+}
+
+fn told(reply: Result<Reply, StoreFault>) -> Sold {
+    match reply {
+        Ok(Reply::Taken(receipt)) => Sold::Taken {
+            place: receipt.place,
+            huella: huella_text(&receipt.huella),
+        },
+        Ok(Reply::Again(receipt)) => Sold::Again {
+            place: receipt.place,
+            huella: huella_text(&receipt.huella),
+        },
+        Ok(Reply::Refused(_)) => Sold::Refused,
+        Err(fault) => Sold::Fault(fault),
+    }
+}
+
+fn sell<D: Disk, C: Clock>(
     alloc: Global,
     store: &mut Store<D, C>,
     serial: u32,
-) -> Result<Result<Reply, StoreFault>, Fail>
+) -> Result<Sold, Fail>
     requires { Ready D.tells D.told store.old }
     ensures { Ready D.tells D.told store.new }
 {
     let ask = sale(alloc, serial)?;
-    Ok(store.take(alloc, &ask))
+    Ok(told(store.take(alloc, &ask)))
 }
 
 fn noted<D: Disk, C: Clock>(
@@ -107,25 +131,6 @@ fn noted<D: Disk, C: Clock>(
     Ok(store.note(alloc, lines))
 }
 
-// The place and the Huella of a receipt.
-fn is_taken(told: &Result<Reply, StoreFault>, place: u32, huella: &[u8]) -> bool {
-    match told {
-        Ok(Reply::Taken(receipt)) => {
-            receipt.place == place && huella_text(&receipt.huella).as_slice() == huella
-        }
-        _ => false,
-    }
-}
-
-fn is_again(told: &Result<Reply, StoreFault>, place: u32, huella: &[u8]) -> bool {
-    match told {
-        Ok(Reply::Again(receipt)) => {
-            receipt.place == place && huella_text(&receipt.huella).as_slice() == huella
-        }
-        _ => false,
-    }
-}
-
 // How many records the file of a disk has once it is opened.
 fn records_on(alloc: Global, disk: MemDisk) -> Result<u32, OpenCause> {
     let store = opened(alloc, disk, CountingClock::new(TEN, 0))?;
@@ -139,13 +144,31 @@ fn a_shop_goes_on_from_its_file(rt: HostRuntime) -> Result<(), Fail> {
     let Ok(mut store) = opened(alloc, disk, CountingClock::new(TEN, 0)) else {
         return Err(Fail::from("a new file"));
     };
-    assert!(rt; is_taken(&sold(alloc, &mut store, 1)?, 1, FIRST));
+    assert_eq!(rt;
+        sell(alloc, &mut store, 1)?,
+        Sold::Taken {
+            place: 1,
+            huella: FIRST
+        }
+    );
     let (_, disk, clock) = store.into_parts();
     let Ok(mut store) = opened(alloc, disk, clock) else {
         return Err(Fail::from("the file again"));
     };
-    assert!(rt; is_again(&sold(alloc, &mut store, 1)?, 1, FIRST));
-    assert!(rt; is_taken(&sold(alloc, &mut store, 2)?, 2, SECOND));
+    assert_eq!(rt;
+        sell(alloc, &mut store, 1)?,
+        Sold::Again {
+            place: 1,
+            huella: FIRST
+        }
+    );
+    assert_eq!(rt;
+        sell(alloc, &mut store, 2)?,
+        Sold::Taken {
+            place: 2,
+            huella: SECOND
+        }
+    );
     let waiting = store.waiting(alloc, 1)?;
     assert_eq!(rt; (waiting.noted, waiting.records), (0, 2));
     assert_eq!(rt; waiting.list.as_slice().len(), 1);
@@ -181,9 +204,20 @@ fn a_crash_leaves_what_was_acknowledged(rt: HostRuntime) -> Result<(), Fail> {
     let Ok(mut store) = opened(alloc, disk, CountingClock::new(TEN, 0)) else {
         return Err(Fail::from("a new file"));
     };
-    let first = sold(alloc, &mut store, 1)?;
-    let second = sold(alloc, &mut store, 2)?;
-    assert!(rt; first.is_ok() && second.is_ok());
+    assert_eq!(rt;
+        sell(alloc, &mut store, 1)?,
+        Sold::Taken {
+            place: 1,
+            huella: FIRST
+        }
+    );
+    assert_eq!(rt;
+        sell(alloc, &mut store, 2)?,
+        Sold::Taken {
+            place: 2,
+            huella: SECOND
+        }
+    );
     let (_, disk, _) = store.into_parts();
     let mut images = 0u32;
     for moment in 0..16u64 {
@@ -212,12 +246,12 @@ fn two_sales(alloc: Global, failing: u64) -> Result<Option<(u32, MemDisk)>, Fail
         Err(OpenCause::DiskFault) => return Ok(None),
         Err(_) => return Err(Fail::from("another cause")),
     };
-    let first = sold(alloc, &mut store, 1)?;
-    let second = sold(alloc, &mut store, 2)?;
-    let taken = match (&first, &second) {
-        (Ok(_), Ok(_)) => 2,
-        (Ok(_), Err(StoreFault::DiskFault)) => 1,
-        (Err(StoreFault::DiskFault), Err(StoreFault::Stopped { faults: 1 })) => 0,
+    let first = sell(alloc, &mut store, 1)?;
+    let second = sell(alloc, &mut store, 2)?;
+    let taken = match (first, second) {
+        (Sold::Taken { .. }, Sold::Taken { .. }) => 2,
+        (Sold::Taken { .. }, Sold::Fault(StoreFault::DiskFault)) => 1,
+        (Sold::Fault(StoreFault::DiskFault), Sold::Fault(StoreFault::Stopped { faults: 1 })) => 0,
         _ => return Err(Fail::from("other answers")),
     };
     let (_, disk, _) = store.into_parts();
@@ -266,15 +300,21 @@ fn files_that_are_damaged_or_of_another(rt: HostRuntime) -> Result<(), Fail> {
     let Ok(mut store) = opened(alloc, disk, CountingClock::new(TEN, 0)) else {
         return Err(Fail::from("a new file"));
     };
-    assert!(rt; is_taken(&sold(alloc, &mut store, 1)?, 1, FIRST));
+    assert_eq!(rt;
+        sell(alloc, &mut store, 1)?,
+        Sold::Taken {
+            place: 1,
+            huella: FIRST
+        }
+    );
     let (_, mut disk, _) = store.into_parts();
     let mut room = [0; 128];
     let len = disk.read_at(0, &mut room)?;
     // The header, a frame of five bytes and 73 bytes of body, and the closing gate.
     assert_eq!(rt; len, 98);
-    assert_eq!(rt; cause_of(alloc, &room[..98])?, None);
+    assert_eq!(rt; cause_of(alloc, front(&room, 98)?)?, None);
     assert_eq!(rt;
-        cause_of(alloc, &room[..19])?,
+        cause_of(alloc, front(&room, 19)?)?,
         Some(OpenCause::Damaged { at: 19 })
     );
     assert_eq!(rt;
@@ -284,17 +324,31 @@ fn files_that_are_damaged_or_of_another(rt: HostRuntime) -> Result<(), Fail> {
     assert_eq!(rt; cause_of(alloc, &[0; 20])?, None);
     let held = issuer("89890001K")?;
     let other = issuer("12345678Z")?;
-    let disk = MemDisk::new(alloc, Vec::from_slice(alloc, &room[..98])?, Vec::new(alloc));
-    match open_store(alloc, disk, CountingClock::new(TEN, 0), &other) {
-        Err(OpenFault { cause, .. }) => assert_eq!(rt; cause, OpenCause::OtherIssuer { held }),
-        Ok(_) => return Err(Fail::from("another issuer's file")),
-    }
+    let disk = MemDisk::new(
+        alloc,
+        Vec::from_slice(alloc, front(&room, 98)?)?,
+        Vec::new(alloc),
+    );
+    let opened = open_store(alloc, disk, CountingClock::new(TEN, 0), &other);
+    assert_eq!(rt; why_not(&opened), Some(OpenCause::OtherIssuer { held }));
     room[90] ^= 1;
     assert_eq!(rt;
-        cause_of(alloc, &room[..98])?,
+        cause_of(alloc, front(&room, 98)?)?,
         Some(OpenCause::Damaged { at: 19 })
     );
     Ok(())
+}
+
+fn why_not<D: Disk, C: Clock>(opened: &Result<Store<D, C>, OpenFault<D, C>>) -> Option<OpenCause> {
+    match opened {
+        Ok(_) => None,
+        Err(fault) => Some(fault.cause),
+    }
+}
+
+// The first bytes of a buffer.
+fn front(bytes: &[u8], count: usize) -> Result<&[u8], Fail> {
+    Ok(bytes.get(..count).ok_or("so many bytes")?)
 }
 
 // Why a file of these bytes isn't opened; None where it is.
