@@ -108,8 +108,44 @@ fn practice(alloc: Global, call: u32, fate: Fate) -> Result<PracticeAgency, Fail
     let mut agency = PracticeAgency::new(alloc);
     let plan = plan(alloc, call, fate)?;
     let none = Vec::new(alloc);
-    match agency.begin(alloc, &plan, &none) {
-        Ok(()) => Ok(agency),
+    open_session(alloc, &mut agency, &plan, &none)?;
+    Ok(agency)
+}
+
+// A submission, of which a test keeps the answer alone.
+fn hand_over<A: Agency>(
+    alloc: Global,
+    agency: &mut A,
+    batch: &Batch,
+) -> Result<Reply, AgencyFault> {
+    agency.submit(alloc, batch)
+}
+
+// A consultation for these records.
+fn ask_for<A: Agency>(
+    alloc: Global,
+    agency: &mut A,
+    records: &[Sealed],
+) -> Result<SeenList, AgencyFault> {
+    let Ok(asked) = Huellas::of(alloc, records) else {
+        return Err(AgencyFault::NoMemory);
+    };
+    let count = asked.as_slice().len();
+    if count < 1 || count > 1000 {
+        return Err(AgencyFault::NoMemory);
+    }
+    agency.consult(alloc, &asked)
+}
+
+// A session begins with this plan.
+fn open_session<A: Agency>(
+    alloc: Global,
+    agency: &mut A,
+    plan: &Plan,
+    noted: &[(Sealed, Line)],
+) -> Result<(), Fail> {
+    match agency.begin(alloc, plan, noted) {
+        Ok(()) => Ok(()),
         Err(_) => Err(Fail::from("memory")),
     }
 }
@@ -142,19 +178,23 @@ fn a_stale_reply_that_names_the_batch_is_lost(rt: HostRuntime) -> Result<(), Fai
     let records = chain(alloc, 2)?;
     let batch = batch(alloc, &records)?;
     let mut agency = practice(alloc, 2, Fate::Stale)?;
-    let Ok(first) = agency.submit(alloc, &batch) else {
+    let Ok(first) = hand_over(alloc, &mut agency, &batch) else {
         return Err(Fail::from("a reply"));
     };
     assert_eq!(rt; first.lines().as_slice(), FIRST.as_slice());
     assert_eq!(rt; first.wait(), 60);
-    assert!(rt; matches!(agency.submit(alloc, &batch), Err(AgencyFault::Failed)));
-    let Ok(third) = agency.submit(alloc, &batch) else {
+    assert!(rt;
+        matches!(
+            hand_over(alloc, &mut agency, &batch),
+            Err(AgencyFault::Failed)
+        )
+    );
+    let Ok(third) = hand_over(alloc, &mut agency, &batch) else {
         return Err(Fail::from("a reply"));
     };
     assert_eq!(rt; third.lines().as_slice(), AGAIN.as_slice());
     assert!(rt; third.huellas().are_of(&records));
-    assert_eq!(rt; records.len(), 2);
-    let Ok(seen) = agency.consult(alloc, &huellas(alloc, &records)?) else {
+    let Ok(seen) = ask_for(alloc, &mut agency, &records) else {
         return Err(Fail::from("answers"));
     };
     assert_eq!(rt; seen.as_slice(), SEEN.as_slice());
@@ -181,7 +221,7 @@ fn each_fate_of_a_submission(rt: HostRuntime) -> Result<(), Fail> {
     ];
     for (call, fate, lines, processed, faults) in rows {
         let mut agency = practice(alloc, call, fate)?;
-        let count = match agency.submit(alloc, &batch) {
+        let count = match hand_over(alloc, &mut agency, &batch) {
             Ok(reply) => Some(reply.lines().as_slice().len()),
             Err(_) => None,
         };
@@ -198,9 +238,7 @@ fn each_fate_of_a_submission(rt: HostRuntime) -> Result<(), Fail> {
 fn each_fate_of_a_consultation(rt: HostRuntime) -> Result<(), Fail> {
     let alloc = rt.alloc();
     let records = chain(alloc, 2)?;
-    assert_eq!(rt; records.len(), 2);
     let batch = batch(alloc, &records)?;
-    let asked = huellas(alloc, &records)?;
     let rows = [
         (1, Fate::Again, true),
         (2, Fate::Again, true),
@@ -211,8 +249,8 @@ fn each_fate_of_a_consultation(rt: HostRuntime) -> Result<(), Fail> {
     ];
     for (call, fate, answered) in rows {
         let mut agency = practice(alloc, call, fate)?;
-        assert!(rt; agency.submit(alloc, &batch).is_ok());
-        match agency.consult(alloc, &asked) {
+        assert!(rt; hand_over(alloc, &mut agency, &batch).is_ok());
+        match ask_for(alloc, &mut agency, &records) {
             Ok(seen) => assert_eq!(rt; seen.as_slice(), SEEN.as_slice()),
             Err(_) => assert!(rt; !answered),
         }
@@ -226,16 +264,14 @@ fn each_fate_of_a_consultation(rt: HostRuntime) -> Result<(), Fail> {
 fn a_late_batch_comes_in_time(rt: HostRuntime) -> Result<(), Fail> {
     let alloc = rt.alloc();
     let records = chain(alloc, 2)?;
-    assert_eq!(rt; records.len(), 2);
     let batch = batch(alloc, &records)?;
-    let asked = huellas(alloc, &records)?;
     let mut agency = practice(alloc, 1, Fate::Late(2))?;
-    assert!(rt; agency.submit(alloc, &batch).is_err());
-    let Ok(early) = agency.consult(alloc, &asked) else {
+    assert!(rt; hand_over(alloc, &mut agency, &batch).is_err());
+    let Ok(early) = ask_for(alloc, &mut agency, &records) else {
         return Err(Fail::from("answers"));
     };
     assert_eq!(rt; early.as_slice(), UNSEEN.as_slice());
-    let Ok(then) = agency.consult(alloc, &asked) else {
+    let Ok(then) = ask_for(alloc, &mut agency, &records) else {
         return Err(Fail::from("answers"));
     };
     assert_eq!(rt; then.as_slice(), SEEN.as_slice());
@@ -247,21 +283,20 @@ fn a_late_batch_comes_in_time(rt: HostRuntime) -> Result<(), Fail> {
 fn a_lost_batch_comes_again(rt: HostRuntime) -> Result<(), Fail> {
     let alloc = rt.alloc();
     let records = chain(alloc, 3)?;
-    assert_eq!(rt; records.len(), 3);
     let first = batch(alloc, &records[..2])?;
     let second = batch(alloc, &records[2..])?;
     let mut agency = practice(alloc, 1, Fate::Lost)?;
-    assert!(rt; agency.submit(alloc, &first).is_err());
+    assert!(rt; hand_over(alloc, &mut agency, &first).is_err());
     let again = plan(alloc, 2, Fate::Again)?;
     let none = Vec::new(alloc);
-    assert!(rt; agency.begin(alloc, &again, &none).is_ok());
-    assert!(rt; agency.submit(alloc, &second).is_ok());
+    open_session(alloc, &mut agency, &again, &none)?;
+    assert!(rt; hand_over(alloc, &mut agency, &second).is_ok());
     let processed = agency.processed();
     assert_eq!(rt; processed.len(), 3);
     assert_eq!(rt; processed[0].1, REFUSED);
     assert_eq!(rt; processed[2].0.huella, records[2].huella);
     let mut other = PracticeAgency::new(alloc);
-    assert!(rt; other.begin(alloc, &again, processed).is_ok());
+    open_session(alloc, &mut other, &again, processed)?;
     assert_eq!(rt; other.processed().len(), 3);
     Ok(())
 }
@@ -272,10 +307,8 @@ fn told(alloc: Global, answer: ToldAnswer) -> Result<ToldAgency, Fail> {
     let mut agency = ToldAgency::new(alloc, ToldAnswers::of(answers));
     let plan = Plan::plain(alloc);
     let none = Vec::new(alloc);
-    match agency.begin(alloc, &plan, &none) {
-        Ok(()) => Ok(agency),
-        Err(_) => Err(Fail::from("memory")),
-    }
+    open_session(alloc, &mut agency, &plan, &none)?;
+    Ok(agency)
 }
 
 fn reply(alloc: Global, records: &[Sealed]) -> Result<Reply, Fail> {
@@ -304,21 +337,19 @@ fn unseen(alloc: Global, count: usize) -> Result<SeenList, Fail> {
 fn told_answers_fit_or_fail(rt: HostRuntime) -> Result<(), Fail> {
     let alloc = rt.alloc();
     let records = chain(alloc, 2)?;
-    assert_eq!(rt; records.len(), 2);
     let both = batch(alloc, &records)?;
-    let asked = huellas(alloc, &records)?;
     let mut fits = told(alloc, ToldAnswer::Submitted(reply(alloc, &records)?))?;
-    assert!(rt; fits.submit(alloc, &both).is_ok());
-    assert!(rt; matches!(fits.submit(alloc, &both), Err(AgencyFault::Failed)));
+    assert!(rt; hand_over(alloc, &mut fits, &both).is_ok());
+    assert!(rt; matches!(hand_over(alloc, &mut fits, &both), Err(AgencyFault::Failed)));
     assert_eq!(rt; fits.messages().len(), 3);
     let mut other = told(alloc, ToldAnswer::Submitted(reply(alloc, &records[1..])?))?;
-    assert!(rt; other.submit(alloc, &both).is_err());
+    assert!(rt; hand_over(alloc, &mut other, &both).is_err());
     let mut crossed = told(alloc, ToldAnswer::Submitted(reply(alloc, &records)?))?;
-    assert!(rt; crossed.consult(alloc, &asked).is_err());
+    assert!(rt; ask_for(alloc, &mut crossed, &records).is_err());
     let mut seen = told(alloc, ToldAnswer::Consulted(unseen(alloc, 2)?))?;
-    assert!(rt; seen.consult(alloc, &asked).is_ok());
+    assert!(rt; ask_for(alloc, &mut seen, &records).is_ok());
     let mut short = told(alloc, ToldAnswer::Consulted(unseen(alloc, 1)?))?;
-    assert!(rt; short.consult(alloc, &asked).is_err());
+    assert!(rt; ask_for(alloc, &mut short, &records).is_err());
     assert_eq!(rt; short.faults(), 1);
     Ok(())
 }
