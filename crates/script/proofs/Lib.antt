@@ -5,3 +5,4 @@ pub mod Reading
 pub mod Drafting
 pub mod Gathering
 pub mod Parties
+pub mod Tabling

@@ -11,6 +11,11 @@ use Rattle.std.proofs.lemmas.List.Elements.{filter_map-append}
 use Rattle.std.proofs.lemmas.List.Sums.{sum_by-append}
 use Rattle.std.proofs.lemmas.Slice.Eq.{bytes_eq-Decides}
 use Rattle.std.proofs.lemmas.Str.{is_utf8-from_IsUtf8, IsUtf8-from_is_utf8}
+use Rattle.agency_rules.specs.Judgement.{verdict_for}
+use Rattle.agency_rules.specs.Plans.{fate_at}
+use Rattle.agency_rules.specs.declared.plans.Fate.{Fate}
+use Rattle.agency_rules.specs.declared.plans.PlannedFate.{PlannedFate}
+use Rattle.agency_rules.specs.declared.plans.PlannedVerdict.{PlannedVerdict}
 use Rattle.parties.specs.declared.name.Party.{Party}
 use Rattle.record_fields.specs.Picks.{first_of, when}
 use Rattle.shop_core.specs.Asked.{Asked}
@@ -20,15 +25,19 @@ use Rattle.shop_core.specs.declared.words.Word.TheVariants as word
 use Rattle.script.specs.Cuts.{parts_of}
 use Rattle.script.specs.Fields.{and_then, word_or, unless_any, field_at, past, is_left, such}
 use Rattle.script.specs.Numbers.{number_in}
+use Rattle.series.specs.Numbers.{is_num_serie}
 use Rattle.script.specs.Readings.{is_key, is_nif}
 use Rattle.script.specs.Kept.{Answers, IsNew, IsRead, known, party_of}
-use Rattle.script.specs.Lines.{Above, above_of, said, line_said, fields_said, form_said, clock_said, customer_said, command_said, request_said, name_said, has_commands, is_skipped, clock_in, ask_in, party_in, is_command, is_customer}
+use Rattle.script.specs.Lines.{Above, above_of, said, line_said, fields_said, form_said, clock_said, customer_said, command_said, request_said, name_said, has_commands, is_skipped, verdict_of, verdict_said, wait_said, fate_said, link_said, planned_said, clock_in, ask_in, party_in, verdict_in, wait_in, fate_in, is_command, is_customer}
 use Rattle.script.specs.Script.{EachSays, IsFirstBad}
+use Rattle.script.specs.declared.customers.Customers.{Customers}
 use Rattle.script.specs.declared.faults.Fault.{Fault}
 use Rattle.script.specs.declared.faults.Fault.TheVariants as fault
 use Rattle.script.specs.declared.forms.Form.{Form}
 use Rattle.script.specs.declared.lines.Line.{Line}
 use Rattle.script.specs.declared.lines.Line.TheVariants as line
+use Rattle.script.specs.declared.planning.Judging.{Judging}
+use Rattle.script.specs.declared.planning.Judging.TheVariants as judging
 use Rattle.script.specs.declared.requests.Command.{Command}
 use Rattle.script.specs.declared.requests.Command.TheVariants as command
 use Rattle.script.specs.declared.scripts.SoFar.{SoFar}
@@ -66,6 +75,10 @@ once : {A : Type 0} (P : Line → Type 0) (o : Option A) (meaning : Line) → (o
     → IfOk (unless_any (when (is_some o) word.Twice ∷ []) (Ok meaning)) P
 once P None meaning h = h refl
 once P (Some x) meaning h = tt
+
+worded_new : (P : Line → Type 0) (o : Option Word) (answer : Result Line Word) → IfOk answer P → IfOk (word_or o answer) P
+worded_new P None answer h = h
+worded_new P (Some w) answer h = tt
 
 clock_shape : (above : Above) (a b : Result ℕ Word) (o : Option Word)
     → IfOk (and_then a (λ start. and_then b (λ step. word_or o (unless_any (when (is_some above.clock) word.Twice ∷ []) (Ok (line.Clock start step)))))) (IsNew above)
@@ -110,16 +123,62 @@ command_new form above command fields =
     command_shape above (has_commands form) (nat_le 100_000 above.commands) (field_at 0 fields (number_in 1 64) word.Till) (field_at 1 fields (number_in 1 4_294_967_295) word.Number)
     (request_said command above.party (past 2 fields)) (room above.commands)
 
+verdict_shape : (judging : Judging) (above : Above) (a : Result (List ℕ) Word) (b d : Result ℕ Word) (o : Option Word) (twice : List ℕ → ℕ → Option Word)
+    → IfOk (and_then a (λ num. and_then b (λ n. and_then d (λ code. word_or o (word_or (twice num n) (Ok (line.Verdict (record { num = num; n = n; verdict = verdict_of judging code })))))))) (IsNew above)
+verdict_shape judging above (Err w) b d o twice = tt
+verdict_shape judging above (Ok num) (Err w) d o twice = tt
+verdict_shape judging above (Ok num) (Ok n) (Err w) o twice = tt
+verdict_shape judging above (Ok num) (Ok n) (Ok code) (Some w) twice = tt
+verdict_shape judging above (Ok num) (Ok n) (Ok code) None twice = worded_new (IsNew above) (twice num n) (Ok (line.Verdict (record { num = num; n = n; verdict = verdict_of judging code }))) tt
+
+wait_shape : (above : Above) (a : Result ℕ Word) (o : Option Word)
+    → IfOk (and_then a (λ seconds. word_or o (unless_any (when (is_some above.wait) word.Twice ∷ []) (Ok (line.Wait seconds))))) (IsNew above)
+wait_shape above (Err w) o = tt
+wait_shape above (Ok seconds) (Some w) = tt
+wait_shape above (Ok seconds) None = once (IsNew above) above.wait (line.Wait seconds) (λ e. e)
+
+link_shape : (above : Above) (a : Result ℕ Word) (b : Result Fate Word) (twice : ℕ → Option Word)
+    → IfOk (and_then a (λ call. and_then b (λ fate. word_or (twice call) (Ok (line.Link (record { call = call; fate = fate })))))) (IsNew above)
+link_shape above (Err w) b twice = tt
+link_shape above (Ok call) (Err w) twice = tt
+link_shape above (Ok call) (Ok fate) twice = worded_new (IsNew above) (twice call) (Ok (line.Link (record { call = call; fate = fate }))) tt
+
+verdict_new : (judging : Judging) (above : Above) (fields : List (List ℕ)) → IfOk (verdict_said judging above fields) (IsNew above)
+verdict_new judging above fields =
+    verdict_shape judging above (field_at 0 fields (such is_num_serie) word.Num) (field_at 1 fields (number_in 1 1000) word.Number)
+    (field_at 2 fields (number_in 1 65_535) word.Number) (first_of (when (is_left (past 3 fields)) word.Fields ∷ []))
+    (λ num n. first_of (when (is_some (verdict_for above.verdicts num n)) word.Twice ∷ []))
+
+wait_new : (above : Above) (fields : List (List ℕ)) → IfOk (wait_said above fields) (IsNew above)
+wait_new above fields =
+    wait_shape above (field_at 0 fields (number_in 0 86_400) word.Number) (first_of (when (is_left (past 1 fields)) word.Fields ∷ []))
+
+link_new : (above : Above) (fields : List (List ℕ)) → IfOk (link_said above fields) (IsNew above)
+link_new above fields =
+    link_shape above (field_at 0 fields (number_in 1 1_000_000) word.Number) (fate_said (past 1 fields))
+    (λ call. first_of (when (is_some (fate_at above.fates call)) word.Twice ∷ []))
+
 choice_new : (P : Line → Type 0) (b : Bool) (one other : Result Line Word) → IfOk one P → IfOk other P → IfOk (if b then one else other) P
 choice_new P true one other h k = h
 choice_new P false one other h k = k
+
+planned_new : (above : Above) (verb : List ℕ) (fields : List (List ℕ)) → IfOk (planned_said above verb fields) (IsNew above)
+planned_new above verb fields =
+    let linked = if bytes_eq verb (codes "link") then link_said above fields else Err word.Verb in
+    let waited = if bytes_eq verb (codes "wait") then wait_said above fields else linked in
+    let warned = if bytes_eq verb (codes "warn") then verdict_said judging.Warn above fields else waited in
+    choice_new (IsNew above) (bytes_eq verb (codes "vet")) (verdict_said judging.Vet above fields) warned (verdict_new judging.Vet above fields)
+    (choice_new (IsNew above) (bytes_eq verb (codes "warn")) (verdict_said judging.Warn above fields) waited (verdict_new judging.Warn above fields)
+    (choice_new (IsNew above) (bytes_eq verb (codes "wait")) (wait_said above fields) linked (wait_new above fields)
+    (choice_new (IsNew above) (bytes_eq verb (codes "link")) (link_said above fields) (Err word.Verb) (link_new above fields) tt)))
 
 form_new : (form : Form) (above : Above) (verb : List ℕ) (fields : List (List ℕ)) → IfOk (form_said form above verb fields) (IsNew above)
 form_new form above verb fields =
     let cancelled = command_said form above command.Cancel fields in
     let fixed = command_said form above command.Fix fields in
     let sold = command_said form above command.Sale fields in
-    let last = if bytes_eq verb (codes "cancel") then cancelled else Err word.Verb in
+    let planned = planned_said above verb fields in
+    let last = if bytes_eq verb (codes "cancel") then cancelled else planned in
     let third = if bytes_eq verb (codes "fix") then fixed else last in
     let second = if bytes_eq verb (codes "sale") then sold else third in
     let first = if bytes_eq verb (codes "customer") then customer_said above fields else second in
@@ -127,21 +186,17 @@ form_new form above verb fields =
     (choice_new (IsNew above) (bytes_eq verb (codes "customer")) (customer_said above fields) second (customer_new above fields)
     (choice_new (IsNew above) (bytes_eq verb (codes "sale")) sold third (command_new form above command.Sale fields)
     (choice_new (IsNew above) (bytes_eq verb (codes "fix")) fixed last (command_new form above command.Fix fields)
-    (choice_new (IsNew above) (bytes_eq verb (codes "cancel")) cancelled (Err word.Verb) (command_new form above command.Cancel fields) tt))))
+    (choice_new (IsNew above) (bytes_eq verb (codes "cancel")) cancelled planned (command_new form above command.Cancel fields) (planned_new above verb fields)))))
 
 fields_new : (form : Form) (above : Above) (fields : List (List ℕ)) → IfOk (fields_said form above fields) (IsNew above)
 fields_new form above [] = tt
 fields_new form above (verb ∷ fields) = form_new form above verb fields
 
-text_new : (above : Above) (o : Option Word) (answer : Result Line Word) → IfOk answer (IsNew above) → IfOk (word_or o answer) (IsNew above)
-text_new above None answer h = h
-text_new above (Some w) answer h = tt
-
 line_new : (form : Form) (above : Above) (text : List ℕ) → IfOk (line_said form above text) (IsNew above)
 line_new form above text =
     let fields = fields_said form above (parts_of 32 text) in
     let utf8 = first_of (when (not (is_utf8 text)) word.Utf8 ∷ []) in
-    choice_new (IsNew above) (is_skipped text) (Ok line.Skip) (word_or utf8 fields) tt (text_new above utf8 fields (fields_new form above (parts_of 32 text)))
+    choice_new (IsNew above) (is_skipped text) (Ok line.Skip) (word_or utf8 fields) tt (worded_new (IsNew above) utf8 fields (fields_new form above (parts_of 32 text)))
 
 pub said_is_new : (form : Form) (above : Above) (text : List ℕ) (meaning : Line) → line_said form above text ≡ Ok meaning → IsNew above meaning
 said_is_new form above text meaning e = subst (λ (r : Result Line Word). IfOk r (IsNew above)) e (line_new form above text)
@@ -154,27 +209,42 @@ with_line above meaning = record {
   commands = above.commands + count_by is_command (meaning ∷ []);
   customers = above.customers + count_by is_customer (meaning ∷ []);
   party = λ key. option_or (above.party key) (party_in key meaning);
+  verdicts = above.verdicts ++ filter_map verdict_in (meaning ∷ []);
+  wait = option_or above.wait (wait_in meaning);
+  fates = above.fates ++ filter_map fate_in (meaning ∷ []);
 }
 
-same_above : (clock other : Option (ℕ × ℕ)) (n m k l : ℕ) (f g : List ℕ → Option Party) → clock ≡ other → n ≡ m → k ≡ l → f ≡ g
-    → (let one : Above = record { clock = clock; commands = n; customers = k; party = f } in one) ≡ record { clock = other; commands = m; customers = l; party = g }
-same_above clock other n m k l f g c e d p = rw (c, e, d, p) refl
+-- the parts of what is above are the same
+record IsSame (one other : Above) : Type 0 where
+  clock : one.clock ≡ other.clock
+  commands : one.commands ≡ other.commands
+  customers : one.customers ≡ other.customers
+  party : (key : List ℕ) → one.party key ≡ other.party key
+  verdicts : one.verdicts ≡ other.verdicts
+  wait : one.wait ≡ other.wait
+  fates : one.fates ≡ other.fates
+
+same_above : (one other : Above) → IsSame one other → one ≡ other
+same_above one other s =
+    let party : one.party ≡ other.party = fun_ext s.party in rw (s.clock, s.commands, s.customers, party, s.verdicts, s.wait, s.fates) refl
 
 above_more : (before : List Line) (meaning : Line) → above_of (before ++ meaning ∷ []) ≡ with_line (above_of before) meaning
 above_more before meaning =
-    same_above _ _ _ _ _ _ _ _ (first_more clock_in before meaning) (sum_by-append (λ (l : Line). cond (is_command l) 1 0) before (meaning ∷ []))
-    (sum_by-append (λ (l : Line). cond (is_customer l) 1 0) before (meaning ∷ [])) (fun_ext (λ (key : List ℕ). first_more (party_in key) before meaning))
+    same_above (above_of (before ++ meaning ∷ [])) (with_line (above_of before) meaning) (record {
+      clock = first_more clock_in before meaning;
+      commands = sum_by-append (λ (l : Line). cond (is_command l) 1 0) before (meaning ∷ []);
+      customers = sum_by-append (λ (l : Line). cond (is_customer l) 1 0) before (meaning ∷ []);
+      party = λ key. first_more (party_in key) before meaning;
+      verdicts = filter_map-append verdict_in before (meaning ∷ []);
+      wait = first_more wait_in before meaning;
+      fates = filter_map-append fate_in before (meaning ∷ []);
+    })
 
-pub read_more : (before : List Line) (meaning : Line) (old new : SoFar) → IsRead before old
-    → new.clock ≡ option_or old.clock (clock_in meaning)
-    → length new.asks.items ≡ length old.asks.items + count_by is_command (meaning ∷ [])
-    → btree_map_len new.customers.by_key ≡ btree_map_len old.customers.by_key + count_by is_customer (meaning ∷ [])
-    → ((key : List ℕ) → party_of new.customers key ≡ option_or (party_of old.customers key) (party_in key meaning))
+-- one line more was read
+read_more : (before : List Line) (meaning : Line) (old new : SoFar) → IsRead before old → IsSame (known new) (with_line (known old) meaning)
     → new.asks.items ≡ old.asks.items ++ filter_map ask_in (meaning ∷ []) → length new.asks.items ≤ 100_000 → IsRead (before ++ meaning ∷ []) new
-read_more before meaning old new r clock commands customers party asks few = record {
-  above =
-      let now : known new ≡ with_line (known old) meaning = same_above _ _ _ _ _ _ _ _ clock commands customers (fun_ext party) in
-      now ∙ ap (λ (above : Above). with_line above meaning) r.above ∙ sym (above_more before meaning);
+read_more before meaning old new r same asks few = record {
+  above = same_above (known new) (with_line (known old) meaning) same ∙ ap (λ (above : Above). with_line above meaning) r.above ∙ sym (above_more before meaning);
   asks = rw (filter_map-append ask_in before (meaning ∷ []), ← r.asks) asks;
   few = few;
 }
@@ -183,16 +253,32 @@ none_more : (n : ℕ) → n ≡ n + 0
 none_more n = omega arith
 
 pub read_skip : (before : List Line) (read : SoFar) → IsRead before read → IsRead (before ++ line.Skip ∷ []) read
-read_skip before read r =
-    read_more before line.Skip read read r (or_none read.clock) (none_more _) (none_more _) (λ key. or_none (party_of read.customers key)) (sym (append-nil _)) r.few
+read_skip before read r = read_more before line.Skip read read r (record {
+  clock = or_none read.clock;
+  commands = none_more (length read.asks.items);
+  customers = none_more (btree_map_len read.customers.by_key);
+  party = λ key. or_none (party_of read.customers key);
+  verdicts = sym (append-nil read.verdicts);
+  wait = or_none read.wait;
+  fates = sym (append-nil read.fates);
+}) (sym (append-nil _)) r.few
+
+first_one : {A : Type 0} (o : Option A) (x : A) → o ≡ None → Some x ≡ option_or o (Some x)
+first_one {A} o x none = subst (λ (p : Option A). Some x ≡ option_or p (Some x)) (sym none) refl
 
 pub read_clock : (before : List Line) (read : SoFar) (start step : ℕ) → IsRead before read → read.clock ≡ None
     → IsRead (before ++ line.Clock start step ∷ []) (record read { clock = Some (start, step) })
 read_clock before read start step r none =
     let now : ℕ × ℕ = (start, step) in
-    read_more before (line.Clock start step) read (record read { clock = Some now }) r
-    (subst (λ (o : Option (ℕ × ℕ)). Some now ≡ option_or o (Some now)) (sym none) refl)
-    (none_more _) (none_more _) (λ key. or_none (party_of read.customers key)) (sym (append-nil _)) r.few
+    read_more before (line.Clock start step) read (record read { clock = Some now }) r (record {
+      clock = first_one read.clock now none;
+      commands = none_more (length read.asks.items);
+      customers = none_more (btree_map_len read.customers.by_key);
+      party = λ key. or_none (party_of read.customers key);
+      verdicts = sym (append-nil read.verdicts);
+      wait = or_none read.wait;
+      fates = sym (append-nil read.fates);
+    }) (sym (append-nil _)) r.few
 
 party_new : (key other : List ℕ) (party : Party) (of : List ℕ → Option Party) (b : Bool) → bytes_eq key other ≡ b → of key ≡ None
     → (if b then Some party else of other) ≡ option_or (of other) (when b party)
@@ -201,20 +287,75 @@ party_new key other party of true e none =
     subst (λ (o : Option Party). Some party ≡ option_or o (Some party)) (sym none ∙ ap of same) refl
 party_new key other party of false e none = or_none (of other)
 
-pub read_customer : (before : List Line) (old new : SoFar) (key : List ℕ) (party : Party) → IsRead before old → party_of old.customers key ≡ None
-    → new.clock ≡ old.clock → new.asks ≡ old.asks → btree_map_len new.customers.by_key ≡ btree_map_len old.customers.by_key + 1
-    → ((other : List ℕ) → party_of new.customers other ≡ (if bytes_eq key other then Some party else party_of old.customers other))
-    → IsRead (before ++ line.Customer key party ∷ []) new
-read_customer before old new key party r none clock asks count found =
-    read_more before (line.Customer key party) old new r (clock ∙ or_none old.clock) (ap (λ (a : Vec Asked Global). length a.items) asks ∙ none_more _) count
-    (λ other. found other ∙ party_new key other party (party_of old.customers) (bytes_eq key other) refl none) (ap (λ (a : Vec Asked Global). a.items) asks ∙ sym (append-nil _))
-    (let same = ap (λ (a : Vec Asked Global). length a.items) asks in omega (arith, r.few))
+pub read_customer : (before : List Line) (read : SoFar) (customers : Customers) (key : List ℕ) (party : Party) → IsRead before read → party_of read.customers key ≡ None
+    → btree_map_len customers.by_key ≡ btree_map_len read.customers.by_key + 1
+    → ((other : List ℕ) → party_of customers other ≡ (if bytes_eq key other then Some party else party_of read.customers other))
+    → IsRead (before ++ line.Customer key party ∷ []) (record read { customers = customers })
+read_customer before read customers key party r none count found =
+    read_more before (line.Customer key party) read (record read { customers = customers }) r
+    (record {
+      clock = or_none read.clock;
+      commands = none_more (length read.asks.items);
+      customers = count;
+      party = λ other. found other ∙ party_new key other party (party_of read.customers) (bytes_eq key other) refl none;
+      verdicts = sym (append-nil read.verdicts);
+      wait = or_none read.wait;
+      fates = sym (append-nil read.fates);
+    })
+    (sym (append-nil _)) r.few
 
 pub read_command : (before : List Line) (read : SoFar) (ask : Asked) (asks : Vec Asked Global) → IsRead before read → length read.asks.items < 100_000 → asks.items ≡ read.asks.items ++ ask ∷ []
     → IsRead (before ++ line.Command ask ∷ []) (record read { asks = asks })
 read_command before read ask asks r less e =
-    read_more before (line.Command ask) read (record read { asks = asks }) r (or_none read.clock) (ap length e ∙ length-append read.asks.items (ask ∷ [])) (none_more _)
-    (λ key. or_none (party_of read.customers key)) e (let more = ap length e ∙ length-append read.asks.items (ask ∷ []) in omega arith)
+    let more = ap length e ∙ length-append read.asks.items (ask ∷ []) in
+    read_more before (line.Command ask) read (record read { asks = asks }) r (record {
+      clock = or_none read.clock;
+      commands = more;
+      customers = none_more (btree_map_len read.customers.by_key);
+      party = λ key. or_none (party_of read.customers key);
+      verdicts = sym (append-nil read.verdicts);
+      wait = or_none read.wait;
+      fates = sym (append-nil read.fates);
+    }) e (omega arith)
+
+pub read_verdict : (before : List Line) (read : SoFar) (verdict : PlannedVerdict) (verdicts : List PlannedVerdict) → IsRead before read → verdicts ≡ read.verdicts ++ verdict ∷ []
+    → IsRead (before ++ line.Verdict verdict ∷ []) (record read { verdicts = verdicts })
+read_verdict before read verdict verdicts r e =
+    read_more before (line.Verdict verdict) read (record read { verdicts = verdicts }) r (record {
+      clock = or_none read.clock;
+      commands = none_more (length read.asks.items);
+      customers = none_more (btree_map_len read.customers.by_key);
+      party = λ key. or_none (party_of read.customers key);
+      verdicts = e;
+      wait = or_none read.wait;
+      fates = sym (append-nil read.fates);
+    }) (sym (append-nil _)) r.few
+
+pub read_wait : (before : List Line) (read : SoFar) (seconds : ℕ) → IsRead before read → read.wait ≡ None
+    → IsRead (before ++ line.Wait seconds ∷ []) (record read { wait = Some seconds })
+read_wait before read seconds r none =
+    read_more before (line.Wait seconds) read (record read { wait = Some seconds }) r (record {
+      clock = or_none read.clock;
+      commands = none_more (length read.asks.items);
+      customers = none_more (btree_map_len read.customers.by_key);
+      party = λ key. or_none (party_of read.customers key);
+      verdicts = sym (append-nil read.verdicts);
+      wait = first_one read.wait seconds none;
+      fates = sym (append-nil read.fates);
+    }) (sym (append-nil _)) r.few
+
+pub read_link : (before : List Line) (read : SoFar) (fate : PlannedFate) (fates : List PlannedFate) → IsRead before read → fates ≡ read.fates ++ fate ∷ []
+    → IsRead (before ++ line.Link fate ∷ []) (record read { fates = fates })
+read_link before read fate fates r e =
+    read_more before (line.Link fate) read (record read { fates = fates }) r (record {
+      clock = or_none read.clock;
+      commands = none_more (length read.asks.items);
+      customers = none_more (btree_map_len read.customers.by_key);
+      party = λ key. or_none (party_of read.customers key);
+      verdicts = sym (append-nil read.verdicts);
+      wait = or_none read.wait;
+      fates = e;
+    }) (sym (append-nil _)) r.few
 
 -- all lines, those that were read and those to come
 

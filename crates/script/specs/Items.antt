@@ -65,8 +65,8 @@ option_said party_of seen name value =
     else Err word.Option
 
 -- CLASS:BASE, cut at its first `:`, the class before the base
-abbrev pub line_said : List ℕ → Result Item Word
-line_said field =
+abbrev pub tax_line_said : List ℕ → Result Item Word
+tax_line_said field =
     and_then (ok_or (cut_at_first 58 field) word.Class) (λ (cut : List ℕ × List ℕ).
     and_then (ok_or (class_of cut.0) word.Class) (λ (key : LineKey).
     and_then (ok_or (cents_of cut.1) word.Number) (λ (base : ℤ).
@@ -76,7 +76,7 @@ line_said field =
 abbrev pub item_said : (List ℕ → Option Party) → Seen → List ℕ → Result Item Word
 item_said party_of seen field =
     if is_option field then option_said party_of seen (before_first (λ b. b == 61) field) (after_first (λ b. b == 61) field)
-    else line_said field
+    else tax_line_said field
 
 -- what each field says after those before it
 abbrev pub each_said : (List ℕ → Option Party) → List (List ℕ) → List (List ℕ) → List (Result Item Word)

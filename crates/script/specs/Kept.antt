@@ -1,5 +1,5 @@
 -- What readers answer, and what is kept of the lines above.
-use Rattle.std.specs.Prelude.{◌≡◌, ◌≤◌, ◌<◌, ℕ, List, length, filter_map, Option, None, Result, Ok, Err}
+use Rattle.std.specs.Prelude.{◌≡◌, ◌≤◌, ◌<◌, ℕ, List, length, filter_map, unwrap_or, Option, None, Result, Ok, Err}
 use Rattle.std.specs.BTreeMap.{btree_map_len, get_by_text}
 use Rattle.ports.specs.declared.faults.NoMemory.{NoMemory as NoRoom}
 use Rattle.parties.specs.declared.name.Party.{Party}
@@ -10,6 +10,7 @@ use Rattle.script.specs.declared.faults.Fault.{Fault}
 use Rattle.script.specs.declared.faults.Fault.TheVariants.{Bad, NoMemory}
 use Rattle.script.specs.declared.lines.Line.{Line}
 use Rattle.script.specs.declared.lines.Line.TheVariants as line
+use Rattle.script.specs.declared.scripts.Script.{Script}
 use Rattle.script.specs.declared.scripts.SoFar.{SoFar}
 
 -- a reader answers what the definition says; want of memory is free
@@ -29,6 +30,17 @@ known read = record {
   commands = length read.asks.items;
   customers = btree_map_len read.customers.by_key;
   party = party_of read.customers;
+  verdicts = read.verdicts;
+  wait = read.wait;
+  fates = read.fates;
+}
+
+-- the script that was kept
+abbrev pub script_kept : SoFar → Script
+script_kept read = record {
+  clock = read.clock;
+  asks = read.asks.items;
+  plan = record { verdicts = read.verdicts; wait = unwrap_or read.wait 60; fates = read.fates };
 }
 
 -- these meanings were read
@@ -42,9 +54,12 @@ abbrev pub Reads : List Line → SoFar → Result (Unit {0}) NoRoom → Type 0
 Reads meanings read (Ok _) = IsRead meanings read
 Reads meanings read (Err _) = Unit {0}
 
--- a clock and the key of a customer stand nowhere above, and there is room for a command
+-- a clock, the key of a customer and a pause stand nowhere above, and there is room for a command
 abbrev pub IsNew : Above → Line → Type 0
 IsNew above line.Skip = Unit {0}
 IsNew above (line.Clock start step) = above.clock ≡ None
 IsNew above (line.Customer key party) = above.party key ≡ None
 IsNew above (line.Command ask) = above.commands < 100_000
+IsNew above (line.Verdict verdict) = Unit {0}
+IsNew above (line.Wait seconds) = above.wait ≡ None
+IsNew above (line.Link fate) = Unit {0}

@@ -7,3 +7,4 @@ pub mod Lines
 pub mod Script
 pub mod Kept
 pub mod Gathered
+pub mod Tables

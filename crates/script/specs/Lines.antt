@@ -1,8 +1,16 @@
 -- What a line of a script says, after the lines before it. The grammar is this project's own.
-use Rattle.std.specs.Prelude.{ℕ, List, [], ◌∷◌, length, map, codes, bytes_eq, count_by, Bool, true, false, not, ◌||◌, ◌==◌, nat_le, slice_index, if◌then◌else◌, is_some, Option, Some, None, Result, Ok, Err}
+use Rattle.std.specs.Prelude.{ℕ, List, [], ◌∷◌, length, map, codes, bytes_eq, count_by, Bool, true, false, not, ◌||◌, ◌==◌, nat_le, slice_index, if◌then◌else◌, is_some, filter_map, Option, Some, None, Result, Ok, Err}
 use Rattle.std.specs.List.{join_with_byte}
 use Rattle.std.specs.Option.{ok_or}
 use Rattle.std.specs.Str.{is_utf8}
+use Rattle.agency_rules.specs.Judgement.{verdict_for}
+use Rattle.agency_rules.specs.Plans.{fate_at}
+use Rattle.agency_rules.specs.declared.plans.Fate.{Fate}
+use Rattle.agency_rules.specs.declared.plans.Fate.TheVariants.{Late}
+use Rattle.agency_rules.specs.declared.plans.PlannedFate.{PlannedFate}
+use Rattle.agency_rules.specs.declared.plans.PlannedVerdict.{PlannedVerdict}
+use Rattle.agency_rules.specs.declared.plans.Verdict.{Verdict}
+use Rattle.agency_rules.specs.declared.plans.Verdict.TheVariants.{Vet, Warn}
 use Rattle.invoice_kinds.specs.declared.kind.Kind.{Kind}
 use Rattle.parties.specs.declared.name.Party.{Party}
 use Rattle.record_fields.specs.Picks.{first_of, when}
@@ -17,9 +25,11 @@ use Rattle.script.specs.Cuts.{parts_of}
 use Rattle.script.specs.Fields.{and_then, unless_any, such, past, field_at, ends_at}
 use Rattle.script.specs.Items.{draft_said}
 use Rattle.script.specs.Numbers.{number_in}
-use Rattle.script.specs.Readings.{kind_of, is_key, is_nif, is_name}
+use Rattle.script.specs.Readings.{kind_of, fate_of, is_key, is_nif, is_name}
 use Rattle.script.specs.declared.forms.Form.{Form}
 use Rattle.script.specs.declared.forms.Form.TheVariants.{Full, NoCommands}
+use Rattle.script.specs.declared.planning.Judging.{Judging}
+use Rattle.script.specs.declared.planning.Judging.TheVariants as judging
 use Rattle.script.specs.declared.requests.Command.{Command}
 use Rattle.script.specs.declared.requests.Command.TheVariants as command
 use Rattle.script.specs.declared.lines.Line.{Line}
@@ -35,12 +45,18 @@ clock_in line.Skip = None
 clock_in (line.Clock start step) = Some (start, step)
 clock_in (line.Customer key party) = None
 clock_in (line.Command ask) = None
+clock_in (line.Verdict verdict) = None
+clock_in (line.Wait seconds) = None
+clock_in (line.Link fate) = None
 
 abbrev pub ask_in : Line → Option Asked
 ask_in line.Skip = None
 ask_in (line.Clock start step) = None
 ask_in (line.Customer key party) = None
 ask_in (line.Command ask) = Some ask
+ask_in (line.Verdict verdict) = None
+ask_in (line.Wait seconds) = None
+ask_in (line.Link fate) = None
 
 -- the customer with this key
 abbrev pub party_in : List ℕ → Line → Option Party
@@ -48,6 +64,36 @@ party_in key line.Skip = None
 party_in key (line.Clock start step) = None
 party_in key (line.Customer own party) = when (bytes_eq own key) party
 party_in key (line.Command ask) = None
+party_in key (line.Verdict verdict) = None
+party_in key (line.Wait seconds) = None
+party_in key (line.Link fate) = None
+
+abbrev pub verdict_in : Line → Option PlannedVerdict
+verdict_in line.Skip = None
+verdict_in (line.Clock start step) = None
+verdict_in (line.Customer key party) = None
+verdict_in (line.Command ask) = None
+verdict_in (line.Verdict verdict) = Some verdict
+verdict_in (line.Wait seconds) = None
+verdict_in (line.Link fate) = None
+
+abbrev pub wait_in : Line → Option ℕ
+wait_in line.Skip = None
+wait_in (line.Clock start step) = None
+wait_in (line.Customer key party) = None
+wait_in (line.Command ask) = None
+wait_in (line.Verdict verdict) = None
+wait_in (line.Wait seconds) = Some seconds
+wait_in (line.Link fate) = None
+
+abbrev pub fate_in : Line → Option PlannedFate
+fate_in line.Skip = None
+fate_in (line.Clock start step) = None
+fate_in (line.Customer key party) = None
+fate_in (line.Command ask) = None
+fate_in (line.Verdict verdict) = None
+fate_in (line.Wait seconds) = None
+fate_in (line.Link fate) = Some fate
 
 abbrev pub is_command : Line → Bool
 is_command said = is_some (ask_in said)
@@ -57,13 +103,20 @@ is_customer line.Skip = false
 is_customer (line.Clock start step) = false
 is_customer (line.Customer key party) = true
 is_customer (line.Command ask) = false
+is_customer (line.Verdict verdict) = false
+is_customer (line.Wait seconds) = false
+is_customer (line.Link fate) = false
 
--- what a line looks at of those above: a clock, how many commands and customers, and the customer with a key
+-- what a line looks at of those above: a clock, how many commands and customers, the customer with a key, the verdicts, a
+-- pause, and the fates
 pub record Above : Type 0 where
   pub clock : Option (ℕ × ℕ)
   pub commands : ℕ
   pub customers : ℕ
   pub party : List ℕ → Option Party
+  pub verdicts : List PlannedVerdict
+  pub wait : Option ℕ
+  pub fates : List PlannedFate
 
 abbrev pub above_of : List Line → Above
 above_of before = record {
@@ -71,6 +124,9 @@ above_of before = record {
   commands = count_by is_command before;
   customers = count_by is_customer before;
   party = λ key. first_of (map (party_in key) before);
+  verdicts = filter_map verdict_in before;
+  wait = first_of (map wait_in before);
+  fates = filter_map fate_in before;
 }
 
 -- `clock START STEP`, behind its first field
@@ -128,6 +184,53 @@ command_said form above command fields =
     and_then (request_said command above.party (past 2 fields)) (λ (request : Request).
     Ok (line.Command (record { till = till; serial = serial; request = request }))))))
 
+-- the verdict of this sort with its code
+abbrev pub verdict_of : Judging → ℕ → Verdict
+verdict_of judging.Vet code = Vet code
+verdict_of judging.Warn code = Warn code
+
+-- `vet NUM N CODE` or `warn NUM N CODE`: the verdict on the N-th record of this number that reaches the agency
+abbrev pub verdict_said : Judging → Above → List (List ℕ) → Result Line Word
+verdict_said judging above fields =
+    and_then (field_at 0 fields (such is_num_serie) word.Num) (λ (num : List ℕ).
+    and_then (field_at 1 fields (number_in 1 1000) word.Number) (λ (n : ℕ).
+    and_then (field_at 2 fields (number_in 1 65_535) word.Number) (λ (code : ℕ).
+    ends_at 3 fields (unless_any (when (is_some (verdict_for above.verdicts num n)) word.Twice ∷ []) (
+    Ok (line.Verdict (record { num = num; n = n; verdict = verdict_of judging code })))))))
+
+-- `wait SECONDS`: the pause that the agency asks for after each answer
+abbrev pub wait_said : Above → List (List ℕ) → Result Line Word
+wait_said above fields =
+    and_then (field_at 0 fields (number_in 0 86_400) word.Number) (λ (seconds : ℕ).
+    ends_at 1 fields (unless_any (when (is_some above.wait) word.Twice ∷ []) (Ok (line.Wait seconds))))
+
+-- `late D`, behind its word: D calls later
+abbrev pub late_said : List (List ℕ) → Result Fate Word
+late_said fields = and_then (field_at 0 fields (number_in 1 1000) word.Number) (λ (calls : ℕ). ends_at 1 fields (Ok (Late calls)))
+
+-- `lost`, `taken`, `stale`, `again` or `late D`, and nothing behind it
+abbrev pub fate_said : List (List ℕ) → Result Fate Word
+fate_said [] = Err word.Fields
+fate_said (field ∷ fields) =
+    if bytes_eq field (codes "late") then late_said fields
+    else and_then (ok_or (fate_of field) word.Fate) (λ (fate : Fate). ends_at 0 fields (Ok fate))
+
+-- `link CALL FATE`: what befalls the call of this number
+abbrev pub link_said : Above → List (List ℕ) → Result Line Word
+link_said above fields =
+    and_then (field_at 0 fields (number_in 1 1_000_000) word.Number) (λ (call : ℕ).
+    and_then (fate_said (past 1 fields)) (λ (fate : Fate).
+    unless_any (when (is_some (fate_at above.fates call)) word.Twice ∷ []) (Ok (line.Link (record { call = call; fate = fate })))))
+
+-- a form that plans what the practice agency does
+abbrev pub planned_said : Above → List ℕ → List (List ℕ) → Result Line Word
+planned_said above verb fields =
+    if bytes_eq verb (codes "vet") then verdict_said judging.Vet above fields
+    else if bytes_eq verb (codes "warn") then verdict_said judging.Warn above fields
+    else if bytes_eq verb (codes "wait") then wait_said above fields
+    else if bytes_eq verb (codes "link") then link_said above fields
+    else Err word.Verb
+
 -- the form that a first field begins
 abbrev pub form_said : Form → Above → List ℕ → List (List ℕ) → Result Line Word
 form_said form above verb fields =
@@ -136,7 +239,7 @@ form_said form above verb fields =
     else if bytes_eq verb (codes "sale") then command_said form above command.Sale fields
     else if bytes_eq verb (codes "fix") then command_said form above command.Fix fields
     else if bytes_eq verb (codes "cancel") then command_said form above command.Cancel fields
-    else Err word.Verb
+    else planned_said above verb fields
 
 abbrev pub fields_said : Form → Above → List (List ℕ) → Result Line Word
 fields_said form above [] = Err word.Verb

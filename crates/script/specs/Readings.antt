@@ -2,6 +2,8 @@
 use Rattle.std.specs.Prelude.{ℕ, ◌-◌, List, [], ◌∷◌, length, map, Bool, not, ◌&&◌, ◌||◌, nat_le, ◌==◌, slice_index, codes, bytes_eq, is_some, position, Option}
 use Rattle.std.specs.Char.{is_ascii_alphanumeric}
 use Rattle.std.specs.List.{list_all, range_with_len}
+use Rattle.agency_rules.specs.declared.plans.Fate.{Fate}
+use Rattle.agency_rules.specs.declared.plans.Fate.TheVariants.{Lost, Taken, Stale, Again}
 use Rattle.invoice_kinds.specs.Kinds.{kind_text}
 use Rattle.invoice_kinds.specs.declared.kind.Kind.{Kind}
 use Rattle.invoice_kinds.specs.declared.kind.Kind.TheVariants.{F1, F2, F3, R1, R2, R3, R4, R5}
@@ -44,6 +46,12 @@ rect_text I = codes "I"
 -- how a rectifying invoice rectifies
 abbrev pub rect_of : List ℕ → Option RectKind
 rect_of text = named rect_text (S ∷ I ∷ []) text
+
+-- the fate of a call that is one word
+abbrev pub fate_of : List ℕ → Option Fate
+fate_of text = first_of (
+    when (bytes_eq text (codes "lost")) Lost ∷ when (bytes_eq text (codes "taken")) Taken
+    ∷ when (bytes_eq text (codes "stale")) Stale ∷ when (bytes_eq text (codes "again")) Again ∷ [])
 
 -- the first days from 01-01-1970 on
 unfoldable pub first_days : ℕ → List ℕ

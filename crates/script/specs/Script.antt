@@ -1,10 +1,10 @@
 -- A script: what its lines say, or the first line that says nothing.
-use Rattle.std.specs.Prelude.{◌≡◌, ℕ, ◌+◌, List, [], ◌∷◌, ◌++◌, length, map, filter_map, Result, Ok, Err}
-use Rattle.agency_rules.specs.Plans.{plain}
+use Rattle.std.specs.Prelude.{◌≡◌, ℕ, ◌+◌, List, [], ◌∷◌, ◌++◌, length, map, filter_map, unwrap_or, Result, Ok, Err}
+use Rattle.agency_rules.specs.declared.plans.Plan.{Plan}
 use Rattle.record_fields.specs.Picks.{first_of}
 use Rattle.shop_core.specs.declared.words.Word.{Word}
 use Rattle.script.specs.Cuts.{lines_of}
-use Rattle.script.specs.Lines.{said, clock_in, ask_in}
+use Rattle.script.specs.Lines.{said, clock_in, ask_in, verdict_in, wait_in, fate_in}
 use Rattle.script.specs.declared.forms.Form.{Form}
 use Rattle.script.specs.declared.lines.Line.{Line}
 use Rattle.script.specs.declared.scripts.Script.{Script}
@@ -19,13 +19,22 @@ EachSays form before (line ∷ lines) [] = ⊥
 EachSays form before (line ∷ lines) (meaning ∷ meanings) =
     (said form before line ≡ Ok meaning) × EachSays form (before ++ meaning ∷ []) lines meanings
 
--- every line says something; the clock is that of the line that says one, the asks are those of the lines, in order
+-- what these lines plan: their verdicts and fates in order, and the pause of the line that says one, else a minute
+abbrev pub plan_of : List Line → Plan
+plan_of meanings = record {
+  verdicts = filter_map verdict_in meanings;
+  wait = unwrap_or (first_of (map wait_in meanings)) 60;
+  fates = filter_map fate_in meanings;
+}
+
+-- every line says something; the clock is that of the line that says one, the asks are those of the lines, in order, and the
+-- plan is what they plan
 pub record IsWhole (form : Form) (lines : List (List ℕ)) (script : Script) : Type 0 where
   pub meanings : List Line
   pub each : EachSays form [] lines meanings
   pub clock : script.clock ≡ first_of (map clock_in meanings)
   pub asks : script.asks ≡ filter_map ask_in meanings
-  pub plan : script.plan ≡ plain
+  pub plan : script.plan ≡ plan_of meanings
 
 -- the first line that says nothing, by its number from 1, and its word
 pub record IsFirstBad (form : Form) (lines : List (List ℕ)) (number : ℕ) (word : Word) : Type 0 where

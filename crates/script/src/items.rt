@@ -118,7 +118,7 @@ fn ref_item(value: &str) -> Result<Item, Word>
 }
 
 fn line_item(field: &str) -> Result<Item, Word>
-    ensures { result ≡ spec.line_said field.now }
+    ensures { result ≡ spec.tax_line_said field.now }
 {
     let Some((class, base)) = at_colon(field) else {
         return Err(Word::Class);

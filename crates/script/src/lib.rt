@@ -11,6 +11,8 @@ mod items;
 mod keys;
 mod lines;
 mod numbers;
+mod planned;
+mod planning;
 mod readings;
 mod requests;
 mod saying;

@@ -1,6 +1,7 @@
 // What a line of a script says.
 
 use crate::keys::Key;
+use agency_rules::{PlannedFate, PlannedVerdict};
 use parties::Party;
 use shop_core::Ask;
 
@@ -15,4 +16,10 @@ pub enum Line {
     Customer { key: Key, party: Party },
     /// `sale`, `fix` or `cancel`.
     Command(Ask),
+    /// `vet NUM N CODE` or `warn NUM N CODE`.
+    Verdict(PlannedVerdict),
+    /// `wait SECONDS`.
+    Wait { seconds: u32 },
+    /// `link CALL FATE`.
+    Link(PlannedFate),
 }

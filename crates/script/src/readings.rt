@@ -11,6 +11,7 @@ ghost use Rattle.script.specs.Readings as spec;
 use crate::fields::Fields;
 use crate::keys::is_key;
 use crate::numbers::number_in;
+use agency_rules::Fate;
 use invoice_kinds::{Kind, RectKind};
 use parties::Nif;
 use series::{NumSerie, SeriesName};
@@ -115,6 +116,19 @@ pub fn rect_of(text: &str) -> Option<RectKind>
     match text {
         "S" => Some(RectKind::S),
         "I" => Some(RectKind::I),
+        _ => None,
+    }
+}
+
+/// The fate of a call that is one word.
+pub fn fate_of(text: &str) -> Option<Fate>
+    ensures { result ≡ spec.fate_of text.now }
+{
+    match text {
+        "lost" => Some(Fate::Lost),
+        "taken" => Some(Fate::Taken),
+        "stale" => Some(Fate::Stale),
+        "again" => Some(Fate::Again),
         _ => None,
     }
 }

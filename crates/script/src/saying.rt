@@ -10,6 +10,7 @@ use crate::forms::Form;
 use crate::items::is_word;
 use crate::keys::Key;
 use crate::lines::Line;
+use crate::planning::planned_line;
 use crate::readings::{key, nif, number};
 use crate::requests::{Command, request};
 use crate::scripts::SoFar;
@@ -90,6 +91,15 @@ fn command(
     }
 }
 
+fn worded(line: Result<Line, Word>) -> Result<Line, Fault>
+    ensures { Answers line result }
+{
+    match line {
+        Ok(line) => Ok(line),
+        Err(word) => Err(Fault::Bad(word)),
+    }
+}
+
 // What the fields past the first say.
 fn form_line(
     alloc: Global,
@@ -101,10 +111,7 @@ fn form_line(
     ensures { Answers (spec.form_said form (known read.now) verb.now fields.old) result }
 {
     if is_word(verb, "clock") {
-        return match clock(read, fields) {
-            Ok(line) => Ok(line),
-            Err(word) => Err(Fault::Bad(word)),
-        };
+        return worded(clock(read, fields));
     }
     if is_word(verb, "customer") {
         return customer(alloc, read, fields);
@@ -118,7 +125,7 @@ fn form_line(
     if is_word(verb, "cancel") {
         return command(alloc, form, read, Command::Cancel, fields);
     }
-    Err(Fault::Bad(Word::Verb))
+    worded(planned_line(read, verb, fields))
 }
 
 fn fields_line(alloc: Global, form: Form, read: &SoFar, text: &str) -> Result<Line, Fault>

@@ -1,6 +1,6 @@
 // Scripts: what their lines say, or the first bad line.
 ghost use Rattle.std.specs.Prelude.{◌≡◌, ◌≤◌, ◌<◌, IfOk, ◌++◌, ◌∷◌, [], List, length};
-ghost use Rattle.script.specs.Kept.{IsRead, IsNew, Reads, known};
+ghost use Rattle.script.specs.Kept.{IsRead, IsNew, Reads, known, script_kept};
 ghost use Rattle.script.specs.Script.{IsScript};
 ghost use Rattle.script.specs.declared.lines.Line.{Line as AnyLine};
 
@@ -9,6 +9,7 @@ use crate::cuts::{Parts, without_return};
 use crate::faults::Fault;
 use crate::forms::Form;
 use crate::lines::Line;
+use crate::planned::{LinkLines, VerdictLines};
 use crate::saying::line;
 use agency_rules::Plan;
 use ports::NoMemory;
@@ -81,6 +82,9 @@ pub struct SoFar {
     pub clock: Option<(u64, u64)>,
     pub customers: Customers,
     pub asks: Vec<Ask>,
+    pub verdicts: VerdictLines,
+    pub wait: Option<u32>,
+    pub fates: LinkLines,
 }
 
 impl SoFar {
@@ -91,6 +95,9 @@ impl SoFar {
             clock: None,
             customers: Customers::new(alloc),
             asks: Vec::new(alloc),
+            verdicts: VerdictLines::nothing(alloc),
+            wait: None,
+            fates: LinkLines::nothing(alloc),
         }
     }
 
@@ -113,6 +120,33 @@ impl SoFar {
                 self.asks.push(ask)?;
                 Ok(())
             }
+            Line::Verdict(verdict) => {
+                self.verdicts.add(verdict)?;
+                Ok(())
+            }
+            Line::Wait { seconds } => {
+                self.wait = Some(seconds);
+                Ok(())
+            }
+            Line::Link(fate) => {
+                self.fates.add(fate)?;
+                Ok(())
+            }
+        }
+    }
+
+    // The script of these lines. The agency's own service begins with a pause of 60 seconds.
+    fn into_script(self) -> Script
+        ensures { result ≡ script_kept self }
+    {
+        Script {
+            clock: self.clock,
+            asks: Asks::of(self.asks),
+            plan: Plan {
+                verdicts: self.verdicts.into_verdicts(),
+                wait: self.wait.unwrap_or(60),
+                fates: self.fates.into_fates(),
+            },
         }
     }
 }
@@ -141,10 +175,5 @@ pub fn read_script(alloc: Global, bytes: &[u8], form: Form) -> Result<Script, Sc
             Err(Fault::NoMemory) => return Err(ScriptFault::NoMemory),
         }
     }
-    let SoFar { clock, asks, .. } = read;
-    Ok(Script {
-        clock,
-        asks: Asks::of(asks),
-        plan: Plan::plain(alloc),
-    })
+    Ok(read.into_script())
 }

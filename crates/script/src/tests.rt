@@ -1,4 +1,5 @@
 use crate::{Form, ScriptFault, read_script};
+use agency_rules::{Fate, Verdict};
 use shop_core::{Request, Word};
 use std::alloc::{AllocError, Global};
 use std::test::Fail;
@@ -25,10 +26,6 @@ fn bad_lines_have_their_words(rt: HostRuntime) {
         (b"sal 1 1 A F2 21:100", 1, Word::Verb),
         (b" sale 1 1 A F2 21:100", 1, Word::Verb),
         (b"\n\r\n#\nSale 1 1 A F2 21:100", 4, Word::Verb),
-        (b"vet A-1 1 5", 1, Word::Verb),
-        (b"warn A-1 1 5", 1, Word::Verb),
-        (b"wait 60", 1, Word::Verb),
-        (b"link 1 lost", 1, Word::Verb),
         (b"\rclock 1 1", 1, Word::Verb),
         (b"clock", 1, Word::Fields),
         (b"clock 1", 1, Word::Fields),
@@ -142,10 +139,120 @@ fn bad_lines_have_their_words(rt: HostRuntime) {
         (b"cancel 1 1 A-1", 1, Word::Command),
         (b"sold", 1, Word::Verb),
         (b"clock 1 x", 1, Word::Number),
+        (b"vet A-1 1 5\nwait 5\nlink 1 lost\nfix 1", 4, Word::Command),
+        (b"link 1 lost\nlink 1 lost", 2, Word::Twice),
     ] {
         let said = bad_line(rt.alloc(), bytes, Form::NoCommands);
         assert!(rt; said == Some((line, fault)), "{fault:?} {line}");
     }
+}
+
+#[test]
+fn bad_lines_of_a_plan_have_their_words(rt: HostRuntime) {
+    for (bytes, line, fault) in [
+        (b"Vet A-1 1 5".as_slice(), 1, Word::Verb),
+        (b"links 1 lost", 1, Word::Verb),
+        (b"vet", 1, Word::Fields),
+        (b"vet A-1", 1, Word::Fields),
+        (b"warn A-1 1", 1, Word::Fields),
+        (b"vet A-1 1 5 ", 1, Word::Fields),
+        (b"warn A-1 1 5 6", 1, Word::Fields),
+        (b"vet A<1 x", 1, Word::Num),
+        (b"warn  1 5", 1, Word::Num),
+        (b"vet A-1 0 x", 1, Word::Number),
+        (b"vet A-1 1001 5", 1, Word::Number),
+        (b"warn A-1 01 5", 1, Word::Number),
+        (b"vet A-1 1 0", 1, Word::Number),
+        (b"warn A-1 1 65536 7", 1, Word::Number),
+        (b"vet A-1 1 5\nvet A-1 1 6", 2, Word::Twice),
+        (
+            b"warn A-1 2 5\nvet A-1 1 5\nvet A-2 2 5\nvet A-1 2 5",
+            4,
+            Word::Twice,
+        ),
+        (b"vet A-1 1 5\nwarn A-1 1 5 6", 2, Word::Fields),
+        (b"wait", 1, Word::Fields),
+        (b"wait 60 ", 1, Word::Fields),
+        (b"wait 60 60", 1, Word::Fields),
+        (b"wait ", 1, Word::Number),
+        (b"wait 86401", 1, Word::Number),
+        (b"wait -1", 1, Word::Number),
+        (b"wait 60\nwait 0", 2, Word::Twice),
+        (b"wait 60\nwait 86401", 2, Word::Number),
+        (b"link", 1, Word::Fields),
+        (b"link 1", 1, Word::Fields),
+        (b"link 0 lose", 1, Word::Number),
+        (b"link 1000001 lost", 1, Word::Number),
+        (b"link lost", 1, Word::Number),
+        (b"link 1 ", 1, Word::Fate),
+        (b"link 1 Lost", 1, Word::Fate),
+        (b"link 1 delay 5 6", 1, Word::Fate),
+        (b"link 1 taken 5", 1, Word::Fields),
+        (b"link 1 again ", 1, Word::Fields),
+        (b"link 1 late", 1, Word::Fields),
+        (b"link 1 late 0", 1, Word::Number),
+        (b"link 1 late 1001 5", 1, Word::Number),
+        (b"link 1 late 5 6", 1, Word::Fields),
+        (b"link 1 lost\nlink 2 stale\nlink 1 late 5", 3, Word::Twice),
+        (b"link 1 lost\nlink 1 lose", 2, Word::Fate),
+        (b"link 1 lost\nlink 1 lost 5", 2, Word::Fields),
+    ] {
+        let said = bad_line(rt.alloc(), bytes, Form::Full);
+        assert!(rt; said == Some((line, fault)), "{fault:?} {line}");
+    }
+}
+
+// The same plan in both forms: verdicts and fates stand in the order of their lines, in which their numbers don't rise.
+#[test]
+fn a_plan_is_that_of_its_lines(rt: HostRuntime) -> Result<(), Fail> {
+    let bytes = b"vet A-1 1 4100\n\
+        link 1000000 late 1000\n\
+        warn A-1 1000 65535\r\n\
+        clock 5 6\n\
+        vet 12345678/G33 1 1\n\
+        # a day\n\
+        link 4 lost\n\
+        warn A-2 1 4100\n\
+        wait 86400\n\
+        link 2 taken\n\
+        link 3 stale\n\
+        link 1 again\n\
+        link 5 late 1";
+    let verdicts = [
+        (b"A-1".as_slice(), 1, Verdict::Vet(4100)),
+        (b"A-1", 1000, Verdict::Warn(65535)),
+        (b"12345678/G33", 1, Verdict::Vet(1)),
+        (b"A-2", 1, Verdict::Warn(4100)),
+    ];
+    let fates = [
+        (1_000_000, Fate::Late(1000)),
+        (4, Fate::Lost),
+        (2, Fate::Taken),
+        (3, Fate::Stale),
+        (1, Fate::Again),
+        (5, Fate::Late(1)),
+    ];
+    for form in [Form::Full, Form::NoCommands] {
+        let script = match read_script(rt.alloc(), bytes.as_slice(), form) {
+            Ok(script) => script,
+            Err(_) => return Err(Fail::from("no script")),
+        };
+        assert!(rt; script.clock == Some((5, 6)));
+        assert!(rt; script.asks.as_slice().is_empty());
+        assert!(rt; script.plan.wait == 86_400);
+        let said = script.plan.verdicts.as_slice();
+        assert!(rt; said.len() == verdicts.len());
+        for (said, (num, n, verdict)) in said.iter().zip(verdicts) {
+            assert!(rt; said.num.as_slice() == num && said.n == n, "{n}");
+            assert!(rt; said.verdict == verdict, "{n}");
+        }
+        let said = script.plan.fates.as_slice();
+        assert!(rt; said.len() == fates.len());
+        for (said, (call, fate)) in said.iter().zip(fates) {
+            assert!(rt; said.call == call && said.fate == fate, "{call}");
+        }
+    }
+    Ok(())
 }
 
 fn commands(alloc: Global, bytes: &[u8]) -> Option<usize> {

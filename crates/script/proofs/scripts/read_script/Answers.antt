@@ -1,13 +1,19 @@
-use Rattle.std.proofs.Common.{◌∙◌, ◌++◌, ◌∷◌, ◌≤◌, refl, sym, ap, subst, arith, length, List, ℕ, [], ◌==◌}
+use Rattle.std.proofs.Common.{◌∙◌, ◌++◌, ◌∷◌, ◌≤◌, refl, sym, ap, subst, arith, length, List, ℕ, [], ◌==◌, unwrap_or}
 use Rattle.std.proofs.lemmas.List.Splits.{length-slice_split}
 use Rattle.std.proofs.lemmas.List.Sums.{count_by-le-length}
 use Rattle.std.specs.Str.Lines.{strip_carriage_return}
+use Rattle.agency_rules.specs.declared.plans.Plan.{Plan}
 use Rattle.script.specs.Cuts.{lines_of}
 use Rattle.script.specs.Kept.{known}
 use Rattle.script.specs.Lines.{Above}
 use Rattle.script.specs.Script.{EachSays}
+use Rattle.script.specs.declared.scripts.Script.{Script}
 use Rattle.script.proofs.Reading.{to_come, said_is_new, next_line, all_read}
 use Rattle.script.proofs.scripts.read_script.Goals as goal
+
+-- what the lines above plan
+abbrev planned_above : Above → Plan
+planned_above above = record { verdicts = above.verdicts; wait = unwrap_or above.wait 60; fates = above.fates }
 
 pub loop-text-init : goal.loop-text-init
 loop-text-init c =
@@ -48,10 +54,10 @@ returns-clause-script c =
       meanings = inv.meanings;
       each = subst (λ (lines : List (List ℕ)). EachSays c.args.form [] lines inv.meanings)
           (all_read (lines_of c.args.bytes.now) inv.front c.loop-text.lines inv.partway.split c.in_default.ensures) inv.partway.each;
-      clock = ap (λ (above : Above). above.clock) inv.partway.good.above;
-      asks = c.of.ensures ∙ inv.partway.good.asks;
-      plan = c.plain.ensures;
+      clock = ap (λ (script : Script). script.clock) c.into_script.ensures ∙ ap (λ (above : Above). above.clock) inv.partway.good.above;
+      asks = ap (λ (script : Script). script.asks) c.into_script.ensures ∙ inv.partway.good.asks;
+      plan = ap (λ (script : Script). script.plan) c.into_script.ensures ∙ ap planned_above inv.partway.good.above;
     }
 
 pub returns-clause-few : goal.returns-clause-few
-returns-clause-few c = rw c.of.ensures c.loop-text.invariant.partway.good.few
+returns-clause-few c = rw c.into_script.ensures c.loop-text.invariant.partway.good.few

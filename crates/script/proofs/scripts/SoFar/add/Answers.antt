@@ -1,5 +1,4 @@
-use Rattle.std.proofs.Common.{refl}
-use Rattle.script.proofs.Reading.{read_skip, read_clock, read_customer, read_command}
+use Rattle.script.proofs.Reading.{read_skip, read_clock, read_customer, read_command, read_verdict, read_wait, read_link}
 use Rattle.script.proofs.scripts.SoFar.add.Goals as goal
 
 pub returns-in-Skip : goal.returns-in-Skip
@@ -14,5 +13,14 @@ returns-in_ok-push-in-Command c = λ lines r. rw c.in-Command.is (read_command l
 pub returns-in_ok-add-in-Customer : goal.returns-in_ok-add-in-Customer
 returns-in_ok-add-in-Customer c = λ lines r.
     let old = c.args.self.now in
-    rw c.in-Customer.is (read_customer lines old (record old { customers = c.add.new.self }) c.in-Customer.key c.in-Customer.party r (rw c.in-Customer.is at c.requires)
-    refl refl c.in_ok-add-in-Customer.ensures.count c.in_ok-add-in-Customer.ensures.found)
+    rw c.in-Customer.is (read_customer lines old c.add.new.self c.in-Customer.key c.in-Customer.party r (rw c.in-Customer.is at c.requires)
+    c.in_ok-add-in-Customer.ensures.count c.in_ok-add-in-Customer.ensures.found)
+
+pub returns-in_ok-add-in-Verdict : goal.returns-in_ok-add-in-Verdict
+returns-in_ok-add-in-Verdict c = λ lines r. rw c.in-Verdict.is (read_verdict lines c.args.self.now c.in-Verdict.verdict c.add-in-Verdict.new.self r c.in_ok-add-in-Verdict.ensures)
+
+pub returns-in-Wait : goal.returns-in-Wait
+returns-in-Wait c = λ lines r. rw c.in-Wait.is (read_wait lines c.args.self.now c.in-Wait.seconds r (rw c.in-Wait.is at c.requires))
+
+pub returns-in_ok-add-in-Link : goal.returns-in_ok-add-in-Link
+returns-in_ok-add-in-Link c = λ lines r. rw c.in-Link.is (read_link lines c.args.self.now c.in-Link.fate c.add-in-Link.new.self r c.in_ok-add-in-Link.ensures)
