@@ -9,6 +9,8 @@ mod practice;
 mod reply;
 mod rows;
 mod telling;
+#[cfg(test)]
+mod tests;
 mod told;
 mod turns;
 

@@ -2,3 +2,4 @@ pub mod Pasts
 pub mod Judgements
 pub mod Tables
 pub mod Deliveries
+pub mod Indexing

@@ -2,3 +2,4 @@ pub mod Plans
 pub mod Judgement
 pub mod Clashes
 pub mod Delivery
+pub mod Indexes

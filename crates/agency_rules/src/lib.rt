@@ -2,6 +2,7 @@
 //! practice agency is told to do.
 #![tactic(auto)]
 
+mod indexes;
 mod judging;
 mod pairs;
 mod plans;

@@ -3,7 +3,9 @@ ghost use Rattle.std.specs.Prelude.{◌≡◌, ◌≤◌, ◌+◌, ◌-◌, ◌^
 ghost use Rattle.record_fields.specs.Records.{id_of};
 ghost use Rattle.agency_rules.specs.Judgement as spec;
 ghost use Rattle.agency_rules.specs.Delivery.{line_of, delivered_record, after_record, delivered};
+ghost use Rattle.agency_rules.specs.Indexes.{line_at};
 
+use crate::indexes::{Pasts, Places};
 use crate::{Past, Verdicts, judge};
 use ports::NoMemory;
 use record_fields::{Line, Record, Sealed};
@@ -24,18 +26,21 @@ pub enum Delivered {
 #[derive(Drop)]
 pub struct Pairs {
     list: Vec<(Sealed, Line)>,
+    places: Places,
+    pasts: Pasts,
 }
 
 impl Model for Pairs {
-    ghost use Rattle.std.specs.Prelude.{List, length, ◌<◌, ◌-◌, ◌^◌};
+    ghost use Rattle.std.specs.Prelude.{List};
     ghost use Rattle.record_fields.specs.declared.records.Sealed.{Sealed};
     ghost use Rattle.record_fields.specs.declared.lines.Line.{Line};
+    ghost use Rattle.agency_rules.specs.Indexes.{IsIndexed};
 
     ghost Value = { List (Sealed × Line) };
 
     ghost view = { λ p. p.list.items };
 
-    ghost invariant = { λ p. length p.list.items < 2 ^ 32 - 1 };
+    ghost invariant = { λ p. IsIndexed p.list.items p.places p.pasts };
 }
 
 impl Pairs {
@@ -45,6 +50,8 @@ impl Pairs {
     {
         Pairs {
             list: Vec::new(alloc),
+            places: Places::new(alloc),
+            pasts: Pasts::new(alloc),
         }
     }
 
@@ -78,10 +85,7 @@ impl Pairs {
     pub fn line_of(&self, huella: &[u8; 32]) -> Option<Line>
         ensures { result ≡ line_of self.now huella.now }
     {
-        self.list
-            .iter()
-            .find(|p| p.0.huella == *huella)
-            .map(|p| p.1)
+        line_at(&self.list, self.places.at(huella), huella)
     }
 
     /// What was processed of an invoice.
@@ -89,7 +93,7 @@ impl Pairs {
         ensures value { result ≡ spec.past_of self.now id.now }
         ensures bound { result.count < 2 ^ 32 - 1 }
     {
-        past_in(&self.list, id)
+        self.pasts.at(id)
     }
 
     // The line of a record after these pairs.
@@ -108,10 +112,20 @@ impl Pairs {
         ensures ok { OnOk result (self.new ≡ self.old ++ (sealed, line) ∷ []) }
         ensures err { OnErr result (self.new ≡ self.old) }
     {
-        if self.len() >= MOST {
+        let place = self.len();
+        if place >= MOST {
             return Err(NoMemory);
         }
-        self.list.push((sealed, line))?;
+        let id = sealed.body.id();
+        let past = self.past_of(&id).after(&sealed.body, &line);
+        let known = self.line_of(&sealed.huella).is_some();
+        self.list.reserve(1)?;
+        self.places
+            .note_first(known, &sealed.huella, place as usize)?;
+        self.pasts.note(id, past)?;
+        let Ok(()) = self.list.push((sealed, line)) else {
+            unreachable!()
+        };
         Ok(())
     }
 
@@ -155,7 +169,34 @@ impl Pairs {
     pub fn truncate(&mut self, count: u32)
         ensures { self.new ≡ take count self.old }
     {
-        self.list.truncate(count as usize);
+        for _cut in count..self.len() {
+            self.pop();
+        }
+    }
+
+    // Takes the last pair away. What was processed of its invoice is read off the list.
+    fn pop(&mut self)
+        requires { 0 < length self.old }
+        ensures { self.new ≡ take (length self.old - 1) self.old }
+    {
+        let Some(pair) = self.list.pop() else {
+            unreachable!()
+        };
+        let id = pair.0.body.id();
+        let past = past_in(&self.list, &id);
+        self.pasts.put_back(id, past);
+    }
+}
+
+// The line of the pair at this place, where it has this Huella.
+fn line_at(pairs: &[(Sealed, Line)], place: Option<usize>, huella: &[u8; 32]) -> Option<Line>
+    ensures { result ≡ line_at pairs.now huella.now place }
+{
+    let pair = pairs.get(place?)?;
+    if pair.0.huella == *huella {
+        Some(pair.1)
+    } else {
+        None
     }
 }
 

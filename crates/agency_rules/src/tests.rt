@@ -118,6 +118,14 @@ fn altas_are_judged(rt: HostRuntime) -> Result<(), Fail> {
             Line::Incorrecto(Cause::Gone),
         ),
         (
+            false,
+            true,
+            None,
+            true,
+            Previo::X,
+            Line::Incorrecto(Cause::Gone),
+        ),
+        (
             true,
             false,
             None,
@@ -176,6 +184,7 @@ fn anulaciones_are_judged(rt: HostRuntime) -> Result<(), Fail> {
     let rows = [
         (true, false, VET, false, Line::Incorrecto(Cause::Vet(4100))),
         (false, true, None, false, Line::Incorrecto(Cause::Gone)),
+        (false, true, None, true, Line::Incorrecto(Cause::Gone)),
         (true, false, None, true, Line::Incorrecto(Cause::Held)),
         (false, false, WARN, false, Line::Incorrecto(Cause::NotHeld)),
         (true, false, WARN, false, Line::ConErrores(2001)),
@@ -293,5 +302,8 @@ fn a_delivery_is_taken_back(rt: HostRuntime) -> Result<(), Fail> {
     );
     pairs.truncate(0);
     assert_eq!(rt; pairs.line_of(&[9; 32]), None);
+    assert_eq!(rt; pairs.past_of(&id(DAY)?).count, 0);
+    assert!(rt; pairs.deliver(alloc, &plan.verdicts, &batch).is_ok());
+    assert_eq!(rt; pairs.past_of(&id(DAY)?).count, 1);
     Ok(())
 }
