@@ -1,0 +1,29 @@
+// What holds of the file's definitions alone.
+ghost use Rattle.chain_store.specs.Laws.{OneHistory, OneDamage, SoundOrDamaged, NotBegunIsNeither, OneStop, StopsAtItsGate};
+
+use frames::bytes_begin_with_one_frame;
+use journal::{a_file_has_one_header, a_file_is_walked, walks_over_a_file_agree};
+use record_codec::encodings_are_apart;
+
+/// A file has one meaning: it stands for one history, or is damaged at one byte, or isn't begun.
+pub fn a_file_has_one_meaning()
+    ensures history { OneHistory }
+    ensures damage { OneDamage }
+    ensures sound { SoundOrDamaged }
+    ensures not_begun { NotBegunIsNeither }
+{
+    bytes_begin_with_one_frame();
+    encodings_are_apart();
+    a_file_has_one_header();
+    a_file_stops_at_one_place();
+}
+
+/// A reader of the frames stops at one place: where no entry that continues the history follows.
+pub fn a_file_stops_at_one_place()
+    ensures one { OneStop }
+    ensures sound { StopsAtItsGate }
+{
+    encodings_are_apart();
+    a_file_is_walked();
+    walks_over_a_file_agree();
+}
