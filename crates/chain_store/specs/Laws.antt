@@ -1,7 +1,8 @@
 -- Laws of what a file stands for.
-use Rattle.std.specs.Prelude.{◌≡◌, ℕ, List, drop}
+use Rattle.std.specs.Prelude.{◌≡◌, ◌+◌, ℕ, List, [], ◌∷◌, ◌++◌, length, drop}
 use Rattle.frames.specs.Frames.{IsCounted, IsClosed}
 use Rattle.journal.specs.File.{IsNotBegun, closing_gate}
+use Rattle.journal.specs.Header.{IsBegun}
 use Rattle.record_codec.specs.Fields.{IsEncoding}
 use Rattle.record_codec.specs.declared.entries.Entry.{Entry}
 use Rattle.shop_core.specs.Legal.{Continues}
@@ -43,3 +44,19 @@ abbrev pub StopsAtItsGate : Type 0
 StopsAtItsGate =
     (issuer : List ℕ) (entries : List Entry) (file : List ℕ) → StandsFor issuer entries file →
     StopsAt issuer entries (closing_gate (bodies_of entries)) file × IsClosed (drop (closing_gate (bodies_of entries)) file)
+
+-- a file with a sound header is sound up to byte 19, with no entry
+abbrev pub SoundBegins : Type 0
+SoundBegins = (issuer file : List ℕ) → IsBegun issuer file → IsSoundUpTo issuer [] 19 file
+
+-- past each counted frame of an entry that continues the history it is sound too
+abbrev pub SoundGoesOn : Type 0
+SoundGoesOn =
+    (issuer : List ℕ) (entries : List Entry) (at : ℕ) (file body : List ℕ) (entry : Entry) →
+    IsSoundUpTo issuer entries at file → IsCounted (drop at file) body → IsEncoding issuer entry body → Continues issuer entries entry →
+    IsSoundUpTo issuer (entries ++ entry ∷ []) (at + 5 + length body) file
+
+-- and it stands for the history where a closed gate follows
+abbrev pub SoundEnds : Type 0
+SoundEnds =
+    (issuer : List ℕ) (entries : List Entry) (at : ℕ) (file : List ℕ) → IsSoundUpTo issuer entries at file → IsClosed (drop at file) → StandsFor issuer entries file
