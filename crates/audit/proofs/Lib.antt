@@ -1,2 +1,3 @@
 mod Verdicts
-mod Frames
+mod Gates
+mod Tellings

@@ -16,7 +16,7 @@ use Rattle.shop_core.specs.Breaks.{IsBreak}
 use Rattle.shop_core.specs.Legal.{Continues}
 use Rattle.shop_core.specs.declared.audits.AuditEnd.{AuditEnd}
 use Rattle.shop_core.specs.declared.audits.AuditEnd.TheVariants.{Sound, Broken}
-use Rattle.shop_core.specs.declared.audits.What.TheVariants.{Header, Frame, Body}
+use Rattle.shop_core.specs.declared.audits.What.TheVariants as what
 use Rattle.shop_core.specs.declared.breaks.Break.{Break}
 use Rattle.shop_core.specs.declared.breaks.Break.TheVariants.{Notes, Link, Seal, Rule}
 use Rattle.chain_store.specs.Laws.{StopsAt, OneStop, StopsAtItsGate}
@@ -27,11 +27,11 @@ use Rattle.audit.specs.Laws.{OneVerdict}
 
 -- the verdict of a stop, by what stands there
 data Ends (issuer : List ℕ) (entries : List Entry) (at : ℕ) (file : List ℕ) : AuditEnd → Type 0 where
-  closed : IsClosed (drop at file) → Ends issuer entries at file (sound_end entries)
-  frame : IsDamaged (drop at file) → Ends issuer entries at file (Broken (next_place entries) at Frame)
-  body : (bytes : List ℕ) → IsCounted (drop at file) bytes → ((entry : Entry) → IsEncoding issuer entry bytes → ⊥) →
-      Ends issuer entries at file (Broken (next_place entries) at Body)
-  next : (bytes : List ℕ) (entry : Entry) (why : Break) → IsCounted (drop at file) bytes → IsEncoding issuer entry bytes → IsBreak issuer entries entry (Some why) →
+  at_closed : IsClosed (drop at file) → Ends issuer entries at file (sound_end entries)
+  at_frame : IsDamaged (drop at file) → Ends issuer entries at file (Broken (next_place entries) at what.Frame)
+  at_body : (bytes : List ℕ) → IsCounted (drop at file) bytes → ((entry : Entry) → IsEncoding issuer entry bytes → ⊥) →
+      Ends issuer entries at file (Broken (next_place entries) at what.Body)
+  at_entry : (bytes : List ℕ) (entry : Entry) (why : Break) → IsCounted (drop at file) bytes → IsEncoding issuer entry bytes → IsBreak issuer entries entry (Some why) →
       Ends issuer entries at file (Broken (next_place entries) at (word_of why))
 
 record Stop (file : List ℕ) (end : AuditEnd) : Type 0 where
@@ -75,22 +75,22 @@ one_break issuer entries (entry_of.Notes first lines) Rule b is is' = absurd is
 module _ (one_frame : OneFrame) (apart : EncodingsAreApart) (headers : OneHeader) (stops : OneStop) (gates : StopsAtItsGate) where
   -- what follows is one thing
   one_end : (issuer : List ℕ) (entries : List Entry) (at : ℕ) (file : List ℕ) (a b : AuditEnd) → Ends issuer entries at file a → Ends issuer entries at file b → a ≡ b
-  one_end issuer entries at file a b (closed c) (closed c') = refl
-  one_end issuer entries at file a b (closed c) (frame d') = absurd (d'.not_closed c)
-  one_end issuer entries at file a b (closed c) (body x' n' none') = absurd (not_both (drop at file) x' c n')
-  one_end issuer entries at file a b (closed c) (next x' e' why' n' is' br') = absurd (not_both (drop at file) x' c n')
-  one_end issuer entries at file a b (frame d) (closed c') = absurd (d.not_closed c')
-  one_end issuer entries at file a b (frame d) (frame d') = refl
-  one_end issuer entries at file a b (frame d) (body x' n' none') = absurd (d.not_counted x' n')
-  one_end issuer entries at file a b (frame d) (next x' e' why' n' is' br') = absurd (d.not_counted x' n')
-  one_end issuer entries at file a b (body x n none) (closed c') = absurd (not_both (drop at file) x c' n)
-  one_end issuer entries at file a b (body x n none) (frame d') = absurd (d'.not_counted x n)
-  one_end issuer entries at file a b (body x n none) (body x' n' none') = refl
-  one_end issuer entries at file a b (body x n none) (next x' e' why' n' is' br') = absurd (none e' (subst (λ (l : List ℕ). IsEncoding issuer e' l) (one_frame.1 (drop at file) x' x n' n) is'))
-  one_end issuer entries at file a b (next x e why n is br) (closed c') = absurd (not_both (drop at file) x c' n)
-  one_end issuer entries at file a b (next x e why n is br) (frame d') = absurd (d'.not_counted x n)
-  one_end issuer entries at file a b (next x e why n is br) (body x' n' none') = absurd (none' e (subst (λ (l : List ℕ). IsEncoding issuer e l) (one_frame.1 (drop at file) x x' n n') is))
-  one_end issuer entries at file a b (next x e why n is br) (next x' e' why' n' is' br') =
+  one_end issuer entries at file a b (at_closed c) (at_closed c') = refl
+  one_end issuer entries at file a b (at_closed c) (at_frame d') = absurd (d'.not_closed c)
+  one_end issuer entries at file a b (at_closed c) (at_body x' n' none') = absurd (not_both (drop at file) x' c n')
+  one_end issuer entries at file a b (at_closed c) (at_entry x' e' why' n' is' br') = absurd (not_both (drop at file) x' c n')
+  one_end issuer entries at file a b (at_frame d) (at_closed c') = absurd (d.not_closed c')
+  one_end issuer entries at file a b (at_frame d) (at_frame d') = refl
+  one_end issuer entries at file a b (at_frame d) (at_body x' n' none') = absurd (d.not_counted x' n')
+  one_end issuer entries at file a b (at_frame d) (at_entry x' e' why' n' is' br') = absurd (d.not_counted x' n')
+  one_end issuer entries at file a b (at_body x n none) (at_closed c') = absurd (not_both (drop at file) x c' n)
+  one_end issuer entries at file a b (at_body x n none) (at_frame d') = absurd (d'.not_counted x n)
+  one_end issuer entries at file a b (at_body x n none) (at_body x' n' none') = refl
+  one_end issuer entries at file a b (at_body x n none) (at_entry x' e' why' n' is' br') = absurd (none e' (subst (λ (l : List ℕ). IsEncoding issuer e' l) (one_frame.1 (drop at file) x' x n' n) is'))
+  one_end issuer entries at file a b (at_entry x e why n is br) (at_closed c') = absurd (not_both (drop at file) x c' n)
+  one_end issuer entries at file a b (at_entry x e why n is br) (at_frame d') = absurd (d'.not_counted x n)
+  one_end issuer entries at file a b (at_entry x e why n is br) (at_body x' n' none') = absurd (none' e (subst (λ (l : List ℕ). IsEncoding issuer e l) (one_frame.1 (drop at file) x x' n n') is))
+  one_end issuer entries at file a b (at_entry x e why n is br) (at_entry x' e' why' n' is' br') =
       let same : e' ≡ e = same_entry apart issuer e' e x' x is' is (one_frame.1 (drop at file) x' x n' n) in
       let word : why ≡ why' = one_break issuer entries e why why' br (subst (λ (f : Entry). IsBreak issuer entries f (Some why')) same br') in
       ap (λ (w : Break). Broken (next_place entries) at (word_of w)) word
@@ -107,18 +107,18 @@ module _ (one_frame : OneFrame) (apart : EncodingsAreApart) (headers : OneHeader
 
   -- a verdict speaks of a file that isn't begun, of its header, or of where it stops
   placed : (file : List ℕ) (end : AuditEnd) → IsVerdict file end →
-      (IsNotBegun file × (end ≡ Sound 0 0 None)) ⊎ (((at : ℕ) × IsHeaderDamaged file at × (end ≡ Broken 1 at Header)) ⊎ Stop file end)
+      (IsNotBegun file × (end ≡ Sound 0 0 None)) ⊎ (((at : ℕ) × IsHeaderDamaged file at × (end ≡ Broken 1 at what.Header)) ⊎ Stop file end)
   placed file end (not_begun none) = inl (none, refl)
   placed file end (stands issuer entries is) =
       let gate = gates issuer entries file is in
-      inr (inr (record { issuer = issuer; entries = entries; at = closing_gate (bodies_of entries); stop = gate.0; ends = closed gate.1 }))
+      inr (inr (record { issuer = issuer; entries = entries; at = closing_gate (bodies_of entries); stop = gate.0; ends = at_closed gate.1 }))
   placed file end (in_header at damage) = inr (inl (at, damage, refl))
   placed file end (no_frame issuer entries at sound damaged) = inr (inr (record {
     issuer = issuer;
     entries = entries;
     at = at;
     stop = record { sound = sound; ends = λ entry bytes counted encoding cont. damaged.not_counted bytes counted };
-    ends = frame damaged;
+    ends = at_frame damaged;
   }))
   placed file end (no_entry issuer entries at bytes sound counted none) = inr (inr (record {
     issuer = issuer;
@@ -128,7 +128,7 @@ module _ (one_frame : OneFrame) (apart : EncodingsAreApart) (headers : OneHeader
       sound = sound;
       ends = λ entry other counted' encoding cont. none entry (subst (λ (l : List ℕ). IsEncoding issuer entry l) (one_frame.1 (drop at file) other bytes counted' counted) encoding);
     };
-    ends = body bytes counted none;
+    ends = at_body bytes counted none;
   }))
   placed file end (not_next issuer entries at bytes entry why sound counted encoding never broken) = inr (inr (record {
     issuer = issuer;
@@ -140,7 +140,7 @@ module _ (one_frame : OneFrame) (apart : EncodingsAreApart) (headers : OneHeader
           let same : other ≡ entry = same_entry apart issuer other entry others bytes encoding' encoding (one_frame.1 (drop at file) others bytes counted' counted) in
           never (subst (λ (e : Entry). Continues issuer entries e) same cont);
     };
-    ends = next bytes entry why counted encoding broken;
+    ends = at_entry bytes entry why counted encoding broken;
   }))
 
   begun_only : (file issuer : List ℕ) → IsBegun issuer file → IsNotBegun file → ⊥
@@ -156,13 +156,13 @@ module _ (one_frame : OneFrame) (apart : EncodingsAreApart) (headers : OneHeader
   one_damage file at place d d' = let same : header.Damaged at ≡ header.Damaged place = headers file (header.Damaged at) (header.Damaged place) d d' in cc same
 
   one_place : (file : List ℕ) (a b : AuditEnd) →
-      (IsNotBegun file × (a ≡ Sound 0 0 None)) ⊎ (((at : ℕ) × IsHeaderDamaged file at × (a ≡ Broken 1 at Header)) ⊎ Stop file a) →
-      (IsNotBegun file × (b ≡ Sound 0 0 None)) ⊎ (((at : ℕ) × IsHeaderDamaged file at × (b ≡ Broken 1 at Header)) ⊎ Stop file b) → a ≡ b
+      (IsNotBegun file × (a ≡ Sound 0 0 None)) ⊎ (((at : ℕ) × IsHeaderDamaged file at × (a ≡ Broken 1 at what.Header)) ⊎ Stop file a) →
+      (IsNotBegun file × (b ≡ Sound 0 0 None)) ⊎ (((at : ℕ) × IsHeaderDamaged file at × (b ≡ Broken 1 at what.Header)) ⊎ Stop file b) → a ≡ b
   one_place file a b (inl x) (inl y) = x.1 ∙ sym y.1
   one_place file a b (inl x) (inr (inl y)) = absurd (begun_or_damaged file y.0 x.0 y.1)
   one_place file a b (inl x) (inr (inr y)) = absurd (begun_only file y.issuer y.stop.sound.header x.0)
   one_place file a b (inr (inl x)) (inl y) = absurd (begun_or_damaged file x.0 y.0 x.1)
-  one_place file a b (inr (inl x)) (inr (inl y)) = x.2 ∙ ap (λ (k : ℕ). Broken 1 k Header) (one_damage file x.0 y.0 x.1 y.1) ∙ sym y.2
+  one_place file a b (inr (inl x)) (inr (inl y)) = x.2 ∙ ap (λ (k : ℕ). Broken 1 k what.Header) (one_damage file x.0 y.0 x.1 y.1) ∙ sym y.2
   one_place file a b (inr (inl x)) (inr (inr y)) = absurd (sound_only file y.issuer x.0 y.stop.sound.header x.1)
   one_place file a b (inr (inr x)) (inl y) = absurd (begun_only file x.issuer x.stop.sound.header y.0)
   one_place file a b (inr (inr x)) (inr (inl y)) = absurd (sound_only file x.issuer y.0 x.stop.sound.header y.1)

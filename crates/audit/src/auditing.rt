@@ -3,7 +3,7 @@ ghost use Rattle.std.specs.Prelude.{◌≡◌, ◌≤◌, ◌+◌, ◌++◌, ◌
 ghost use Rattle.ports.specs.Causes.{Rose};
 ghost use Rattle.journal.specs.Header.{IsBegun};
 ghost use Rattle.shop_core.specs.Breaks.{IsBreak};
-ghost use Rattle.shop_core.specs.Legal.{Continues, Legal};
+ghost use Rattle.shop_core.specs.Legal.{Continues};
 ghost use Rattle.chain_store.specs.Loading.{furthest_gate};
 ghost use Rattle.chain_store.specs.Stands.{IsSoundUpTo};
 ghost use Rattle.audit.specs.Verdict.{IsVerdict, sound_end, word_of};
@@ -11,8 +11,9 @@ ghost use Rattle.audit.specs.Seen.{Grows, IsSeen};
 
 use crate::AuditFault;
 use chain_disk::Disk;
+use chain_store::a_history_is_read_by_frames;
 use frames::FrameBuf;
-use journal::{Header, Step, a_file_is_walked, read_header, scan};
+use journal::{Header, Step, read_header, scan};
 use parties::Nif;
 use ports::NoMemory;
 use record_codec::{BadEntry, Entry, decode};
@@ -60,7 +61,7 @@ fn audit_frames<D: Disk>(
     ensures same { D.told disk.new ≡ D.told disk.old }
     ensures later { D.faults disk.old ≤ D.faults disk.new }
 {
-    a_file_is_walked();
+    a_history_is_read_by_frames();
     let mut body = FrameBuf::new();
     let mut at = 19;
     for _ in 0..2_000_001u32 {
@@ -125,7 +126,7 @@ fn audit_frame<D: Disk>(
     ensures same { D.told disk.new ≡ D.told disk.old }
     ensures later { D.faults disk.old ≤ D.faults disk.new }
 {
-    a_file_is_walked();
+    a_history_is_read_by_frames();
     let _few = state.entries();
     match scan(disk, at, body) {
         Err(_) => Err(AuditFault::DiskFault),
@@ -158,8 +159,8 @@ fn word_of(why: Break) -> What
 
 // Adds an entry that continues the history, else says what is wrong with it.
 fn add_entry(alloc: Global, state: &mut State, entry: Entry) -> Result<Option<Break>, NoMemory>
-    ensures added { IfOk result (λ found. IfNone found ((state.new.issuer ≡ state.old.issuer)
-        × (state.new.entries ≡ state.old.entries ++ entry ∷ []) × Legal state.new.issuer state.new.entries)) }
+    ensures added { IfOk result (λ found. IfNone found (Continues state.old.issuer state.old.entries entry
+        × (state.new.issuer ≡ state.old.issuer) × (state.new.entries ≡ state.old.entries ++ entry ∷ []))) }
     ensures broken { IfOk result (λ found. IfSome found (λ why. (state.new ≡ state.old)
         × (Continues state.old.issuer state.old.entries entry → ⊥) × IsBreak state.old.issuer state.old.entries entry (Some why))) }
     ensures err { OnErr result (state.new ≡ state.old) }
@@ -169,6 +170,5 @@ fn add_entry(alloc: Global, state: &mut State, entry: Entry) -> Result<Option<Br
     }
     state.reserve(&entry)?;
     state.apply(entry);
-    let _legal = state.history();
     Ok(None)
 }

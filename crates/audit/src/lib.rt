@@ -9,4 +9,4 @@ mod tests;
 
 pub use auditing::audit;
 pub use faults::AuditFault;
-pub use laws::a_file_has_one_verdict;
+pub use laws::{a_file_has_one_verdict, a_verdict_tells_what_a_file_is};

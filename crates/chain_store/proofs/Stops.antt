@@ -65,9 +65,9 @@ one_stop apart agree issuer other a b at place file stop stop' =
     elim (agree file (bodies_of a) (bodies_of b) at place stop.sound.frames own.sound.frames) [
       | inl is ↦ (same, same_entries apart issuer a b stop.sound.encoded own.sound.encoded is.0, is.1)
       | inr on ↦ absurd (elim on [
-          | inl past ↦ no_more apart issuer a b at place file stop own.sound past
-          | inr past ↦ no_more apart issuer b a place at file own stop.sound past
-        ])
+        | inl past ↦ no_more apart issuer a b at place file stop own.sound past
+        | inr past ↦ no_more apart issuer b a place at file own stop.sound past
+      ])
     ]
 
 pub stops_at_its_gate : WalkEnds → StopsAtItsGate
