@@ -1,8 +1,8 @@
 -- Where a load stops, and how it goes on.
 use Rattle.std.proofs.Common.{◌≡◌, ℕ, ◌+◌, List, [], ◌∷◌, ◌++◌, length, drop, sym, ◌∙◌, ap, subst}
 use Rattle.std.proofs.lemmas.List.{map-append}
-use Rattle.frames.specs.Frames.{IsCounted, IsDamaged}
-use Rattle.journal.specs.Laws.{WalkGoesOn}
+use Rattle.frames.specs.Frames.{IsCounted, IsClosed, IsDamaged}
+use Rattle.journal.specs.Laws.{WalkBegins, WalkGoesOn, WalkEnds}
 use Rattle.journal.specs.Walk.{AreFrames}
 use Rattle.journal.specs.Step.{IsStep, IsNext}
 use Rattle.journal.specs.declared.reading.Step.{Step}
@@ -11,7 +11,8 @@ use Rattle.record_codec.specs.Bytes.{entry_bytes}
 use Rattle.record_codec.specs.Fields.{IsEncoding}
 use Rattle.record_codec.specs.declared.entries.Entry.{Entry}
 use Rattle.record_codec.specs.declared.faults.BadEntry.{BadEntry}
-use Rattle.shop_core.specs.Legal.{Legal}
+use Rattle.shop_core.specs.Legal.{Legal, GoesOn}
+use Rattle.chain_store.specs.Laws.{SoundBegins, SoundGoesOn, SoundEnds}
 use Rattle.chain_store.specs.Stands.{IsSoundUpTo, AreEncoded, bodies_of}
 
 pub encoded_more : (issuer : List ℕ) (entries : List Entry) (entry : Entry) → AreEncoded issuer entries → IsEncoding issuer entry (entry_bytes entry) → AreEncoded issuer (entries ++ entry ∷ [])
@@ -46,3 +47,27 @@ next_step at next body step e h = (subst (λ (s : Step). IsNext at s body) e h).
 -- a fault of the bytes is no want of memory
 pub unread : (entry : Entry) (fault : BadEntry) (at : ℕ) → fault ≡ BadEntry.At at → fault ≡ BadEntry.NoMemory → ⊥
 unread entry fault at e h = absurd cc
+
+nothing_legal : (issuer : List ℕ) → Legal issuer []
+nothing_legal issuer [] after entry is = absurd cc
+nothing_legal issuer (x ∷ before) after entry is = absurd cc
+
+pub sound_begins : WalkBegins → SoundBegins
+sound_begins begins issuer file header = record { header = header; frames = begins file; encoded = tt; legal = nothing_legal issuer }
+
+pub sound_goes_on : WalkGoesOn → GoesOn → SoundGoesOn
+sound_goes_on walk goes_on issuer entries at file body entry sound counted encoding next =
+    sound_more walk issuer entries at file body entry (goes_on issuer entries entry sound.legal next) sound counted encoding
+
+pub sound_ends : WalkEnds → SoundEnds
+sound_ends ends issuer entries at file sound closed =
+    let place = sound.frames.place in
+    record {
+      frames = (ends issuer (bodies_of entries) file).1 (
+        sound.header,
+        subst (λ (k : ℕ). AreFrames file (bodies_of entries) k) place sound.frames,
+        subst (λ (k : ℕ). IsClosed (drop k file)) place closed,
+      );
+      encoded = sound.encoded;
+      legal = sound.legal;
+    }

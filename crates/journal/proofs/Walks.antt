@@ -1,5 +1,5 @@
 -- A walk over the frames of a file.
-use Rattle.std.proofs.Common.{◌≡◌, ◌<◌, ◌≤◌, ◌+◌, ℕ, List, [], ◌∷◌, ◌++◌, length, get_or, take, drop, refl, sym, ◌∙◌, ap, subst, arith, append_assoc, length-append, take-append-drop, codes}
+use Rattle.std.proofs.Common.{◌≡◌, ◌⊎◌, inl, inr, ◌<◌, ◌≤◌, ◌+◌, ℕ, List, [], ◌∷◌, ◌++◌, length, get_or, take, drop, refl, sym, ◌∙◌, ap, subst, arith, append_assoc, length-append, take-append-drop, codes}
 use Rattle.std.proofs.lemmas.List.{drop-drop, drop_at, drop_more, take_at, length-drop}
 use Rattle.frames.specs.Frames.{length_bytes, IsBody, IsCounted, IsClosed}
 use Rattle.frames.specs.Lengths.{length-length_bytes, same_length, same_front}
@@ -7,8 +7,8 @@ use Rattle.parties.specs.Nif.{IsNif}
 use Rattle.journal.specs.File.{header, framed, AreBodies, IsFile, closing_gate}
 use Rattle.journal.specs.Framed.{framed-push, length-framed-push, AreBodies-push}
 use Rattle.journal.specs.Header.{IsBegun}
-use Rattle.journal.specs.Walk.{AreFrames}
-use Rattle.journal.specs.Laws.{WalkBegins, WalkGoesOn, WalkEnds, OneWalk}
+use Rattle.journal.specs.Walk.{AreFrames, GoOn}
+use Rattle.journal.specs.Laws.{WalkBegins, WalkGoesOn, WalkEnds, OneWalk, WalksAgree}
 
 pub walk_begins : WalkBegins
 walk_begins file = record { sizes = tt; place = refl; bytes = refl; followed = λ some. absurd (omega (arith, some)) }
@@ -111,3 +111,35 @@ pub one_walk : OneWalk
 one_walk file a b p q are are' none none' =
     let bodies = same_frames a b (drop p file) (drop q file) are.sizes are'.sizes (λ some. omega (arith, are.followed some, length-drop p file)) (λ some. omega (arith, are'.followed some, length-drop q file)) none none' (sym are.bytes ∙ are'.bytes) in
     (bodies, are.place ∙ ap closing_gate bodies ∙ sym are'.place)
+
+abbrev Agree : List (List ℕ) → List (List ℕ) → List ℕ → List ℕ → Type 0
+Agree a b r s = (a ≡ b) ⊎ (GoOn r a b ⊎ GoOn s b a)
+
+-- the same with one body in front of both
+with_head : (x y : List ℕ) (a b : List (List ℕ)) (r s : List ℕ) → x ≡ y → Agree a b r s → Agree (x ∷ a) (y ∷ b) r s
+with_head x y a b r s e (inl is) = inl (cc (e, is))
+with_head x y a b r s e (inr (inl on)) = inr (inl (record { body = on.body; more = on.more; longer = cc (e, on.longer); counted = on.counted }))
+with_head x y a b r s e (inr (inr on)) = inr (inr (record { body = on.body; more = on.more; longer = cc (e, on.longer); counted = on.counted }))
+
+agreeing : (a b : List (List ℕ)) (r s : List ℕ) → AreBodies a → AreBodies b → (0 < length a → 1 ≤ length r) → (0 < length b → 1 ≤ length s)
+    → framed a ++ r ≡ framed b ++ s → Agree a b r s
+agreeing [] [] r s are are' some some' same = inl refl
+agreeing [] (y ∷ b) r s are are' some some' same =
+    inr (inl (record { body = y; more = b; longer = refl; counted = counted_front y b r s are'.0 (some' (omega arith)) same }))
+agreeing (x ∷ a) [] r s are are' some some' same =
+    inr (inr (record { body = x; more = a; longer = refl; counted = counted_front x a s r are.0 (some (omega arith)) (sym same) }))
+agreeing (x ∷ a) (y ∷ b) r s are are' some some' same =
+    let m = length_bytes (length x) in
+    let n = length_bytes (length y) in
+    let tails : (m ++ (x ++ framed a)) ++ r ≡ (n ++ (y ++ framed b)) ++ s = cc same in
+    let parts : m ++ (x ++ (framed a ++ r)) ≡ n ++ (y ++ (framed b ++ s)) = simp append_assoc at tails in
+    let heads = same_front m n (x ++ (framed a ++ r)) (y ++ (framed b ++ s)) (length-length_bytes (length x) ∙ sym (length-length_bytes (length y))) parts in
+    let bodies = same_front x y (framed a ++ r) (framed b ++ s) (same_length (length x) (length y) are.0.1 are'.0.1 heads.0) heads.1 in
+    with_head x y a b r s bodies.0 (agreeing a b r s are.1 are'.1 (λ more. some (omega arith)) (λ more. some' (omega arith)) bodies.1)
+
+pub walks_agree : WalksAgree
+walks_agree file a b p q are are' =
+    elim (agreeing a b (drop p file) (drop q file) are.sizes are'.sizes (λ some. omega (arith, are.followed some, length-drop p file)) (λ some. omega (arith, are'.followed some, length-drop q file)) (sym are.bytes ∙ are'.bytes)) [
+      | inl is ↦ inl (is, are.place ∙ ap closing_gate is ∙ sym are'.place)
+      | inr on ↦ inr on
+    ]

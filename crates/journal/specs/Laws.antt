@@ -1,9 +1,9 @@
 -- Laws of the journal's file.
-use Rattle.std.specs.Prelude.{◌≡◌, ◌+◌, ◌↔◌, ℕ, List, [], ◌∷◌, ◌++◌, length, drop}
+use Rattle.std.specs.Prelude.{◌≡◌, ◌+◌, ◌⊎◌, ◌↔◌, ℕ, List, [], ◌∷◌, ◌++◌, length, drop}
 use Rattle.frames.specs.Frames.{IsCounted, IsClosed}
 use Rattle.journal.specs.File.{IsFile, IsNotBegun, closing_gate}
 use Rattle.journal.specs.Header.{IsBegun, IsHeader}
-use Rattle.journal.specs.Walk.{AreFrames}
+use Rattle.journal.specs.Walk.{AreFrames, GoOn}
 use Rattle.journal.specs.declared.reading.Header.{Header}
 
 -- a file stands for at most one chain
@@ -44,3 +44,10 @@ OneWalk =
     AreFrames file bodies at → AreFrames file others place →
     ((body : List ℕ) → IsCounted (drop at file) body → ⊥) → ((body : List ℕ) → IsCounted (drop place file) body → ⊥) →
     (bodies ≡ others) × (at ≡ place)
+
+-- of two walks over a file one is a front of the other: they are the same, or one goes on where the other has come to
+abbrev pub WalksAgree : Type 0
+WalksAgree =
+    (file : List ℕ) (bodies others : List (List ℕ)) (at place : ℕ) →
+    AreFrames file bodies at → AreFrames file others place →
+    ((bodies ≡ others) × (at ≡ place)) ⊎ (GoOn (drop at file) bodies others ⊎ GoOn (drop place file) others bodies)

@@ -1,5 +1,6 @@
 -- The frames of a file, walked one by one.
-use Rattle.std.specs.Prelude.{◌≡◌, ◌<◌, ℕ, List, ◌++◌, length, drop}
+use Rattle.std.specs.Prelude.{◌≡◌, ◌<◌, ℕ, List, ◌∷◌, ◌++◌, length, drop}
+use Rattle.frames.specs.Frames.{IsCounted}
 use Rattle.journal.specs.File.{framed, AreBodies, closing_gate}
 
 -- from byte 19 on there are counted frames of these bodies, up to this place, and a byte follows each of them
@@ -8,3 +9,10 @@ pub record AreFrames (content : List ℕ) (bodies : List (List ℕ)) (at : ℕ) 
   pub place : at ≡ closing_gate bodies
   pub bytes : drop 19 content ≡ framed bodies ++ drop at content
   pub followed : 0 < length bodies → at < length content
+
+-- the others are these bodies and more, and these bytes begin with a counted frame of the first one more
+pub record GoOn (rest : List ℕ) (bodies others : List (List ℕ)) : Type 0 where
+  pub body : List ℕ
+  pub more : List (List ℕ)
+  pub longer : others ≡ bodies ++ body ∷ more
+  pub counted : IsCounted rest body

@@ -1,5 +1,5 @@
 // What holds of the file's definitions alone.
-ghost use Rattle.journal.specs.Laws.{OneChain, NoChain, OneHeader, WalkBegins, WalkGoesOn, WalkEnds, OneWalk};
+ghost use Rattle.journal.specs.Laws.{OneChain, NoChain, OneHeader, WalkBegins, WalkGoesOn, WalkEnds, OneWalk, WalksAgree};
 
 /// A file stands for at most one chain.
 pub fn a_file_stands_for_one_chain()
@@ -22,4 +22,9 @@ pub fn a_file_is_walked()
     ensures goes_on { WalkGoesOn }
     ensures ends { WalkEnds }
     ensures one { OneWalk }
+{}
+
+/// Of two walks over a file one is a front of the other.
+pub fn walks_over_a_file_agree()
+    ensures { WalksAgree }
 {}

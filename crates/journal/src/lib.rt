@@ -20,7 +20,7 @@ pub use faults::StoreFault;
 pub use journal::{Journal, JournalFault, Lost};
 pub use laws::{
     a_file_has_one_header, a_file_is_walked, a_file_not_begun_is_no_chain,
-    a_file_stands_for_one_chain,
+    a_file_stands_for_one_chain, walks_over_a_file_agree,
 };
 pub use reading::{Header, Step, read_header, scan};
 

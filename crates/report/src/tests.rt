@@ -1,5 +1,7 @@
 // The Huellas of the listing are SHA-256, by another program, of the field texts of these records.
-use crate::{AnswerLine, Answers, Detail, answers_text, fault_text, listing_text, status_of};
+use crate::{
+    AnswerLine, Answers, Detail, answers_text, fault_text, listing_text, status_of, verdict_text,
+};
 use amounts::Cents;
 use invoice_kinds::Kind;
 use journal::StoreFault;
@@ -7,7 +9,9 @@ use parties::Nif;
 use record_codec::Entry;
 use record_fields::{Cause, Draft, DraftFault, Line, Lines, Refs};
 use series::{InvoiceId, NumSerie, SeriesName};
-use shop_core::{Ask, Receipt, Refusal, Reply, Request, State, Word, next_fault, reply_to};
+use shop_core::{
+    Ask, AuditEnd, Receipt, Refusal, Reply, Request, State, What, Word, next_fault, reply_to,
+};
 use stamps::{civil_day, stamp_at};
 use std::alloc::Global;
 use std::test::Fail;
@@ -251,6 +255,71 @@ fn ends_have_texts(rt: HostRuntime) -> Result<(), Fail> {
     for (detail, status, text) in rows {
         assert_eq!(rt; status_of(&detail), status, "at {text}");
         let printed = fault_text(rt.alloc(), &detail)?;
+        assert_eq!(rt; printed.as_slice(), text.as_bytes());
+    }
+    Ok(())
+}
+
+fn broken(what: What) -> AuditEnd {
+    AuditEnd::Broken {
+        place: 1_000_001,
+        at: u64::MAX,
+        what,
+    }
+}
+
+#[test]
+fn verdicts_have_lines(rt: HostRuntime) -> Result<(), Fail> {
+    let mut huella = [0u8; 32];
+    huella[0] = 0xab;
+    huella[31] = 0x0f;
+    let sound = AuditEnd::Sound {
+        records: 1_000_000,
+        noted: 7,
+        last: Some(huella),
+    };
+    let empty = AuditEnd::Sound {
+        records: 0,
+        noted: 0,
+        last: None,
+    };
+    let rows = [
+        (empty, "sound 0 noted 0 last -\n"),
+        (
+            sound,
+            "sound 1000000 noted 7 last AB0000000000000000000000000000000000000000000000000000000000000F\n",
+        ),
+        (
+            broken(What::Header),
+            "broken 1000001 at 18446744073709551615 header\n",
+        ),
+        (
+            broken(What::Frame),
+            "broken 1000001 at 18446744073709551615 frame\n",
+        ),
+        (
+            broken(What::Body),
+            "broken 1000001 at 18446744073709551615 body\n",
+        ),
+        (
+            broken(What::Notes),
+            "broken 1000001 at 18446744073709551615 notes\n",
+        ),
+        (
+            broken(What::Link),
+            "broken 1000001 at 18446744073709551615 link\n",
+        ),
+        (
+            broken(What::Seal),
+            "broken 1000001 at 18446744073709551615 seal\n",
+        ),
+        (
+            broken(What::Rule),
+            "broken 1000001 at 18446744073709551615 rule\n",
+        ),
+    ];
+    for (end, text) in rows {
+        let printed = verdict_text(rt.alloc(), &end)?;
         assert_eq!(rt; printed.as_slice(), text.as_bytes());
     }
     Ok(())

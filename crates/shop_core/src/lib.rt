@@ -2,6 +2,7 @@
 #![tactic(auto)]
 
 mod answers;
+mod audits;
 mod breaks;
 mod laws;
 mod lookups;
@@ -18,6 +19,7 @@ mod waiting;
 mod words;
 
 pub use answers::{Planned, Refusal, Reply};
+pub use audits::{AuditEnd, What};
 pub use breaks::{Break, next_fault};
 pub use laws::{
     a_legal_history_goes_on, legal_is_chained, what_continues_fits_its_bytes,

@@ -1,0 +1,4 @@
+pub mod Faults
+pub mod Verdict
+pub mod Seen
+pub mod Laws
