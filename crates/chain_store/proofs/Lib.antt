@@ -1,4 +1,3 @@
 mod Loads
 mod Stores
-mod Waits
 mod Taking

@@ -1,0 +1,6 @@
+mod Lists
+mod Deliveries
+mod Agreements
+mod Looking
+mod Replying
+mod Worlds

@@ -1,0 +1,4 @@
+pub mod Agreement
+pub mod Looks
+pub mod World
+pub mod Laws
