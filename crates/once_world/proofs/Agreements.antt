@@ -1,5 +1,5 @@
 -- What keeps agreement, and where it begins.
-use Rattle.std.proofs.Common.{◌≡◌, ◌≢◌, ℕ, List, [], ◌∷◌, ◌++◌, refl, sym, ◌∙◌, ap, subst, inl, inr, true, length, length-append, map, zip, ◌≤◌, ◌+◌, arith, append_assoc, append-nil, take, drop}
+use Rattle.std.proofs.Common.{◌≡◌, ◌≢◌, ℕ, List, [], ◌∷◌, ◌++◌, refl, sym, ◌∙◌, ap, subst, true, length, length-append, map, zip, ◌≤◌, ◌+◌, arith, append_assoc, append-nil, take, drop}
 use Rattle.std.proofs.lemmas.List.{map-append, length-map, length-take, take-append-drop}
 use Rattle.std.proofs.lemmas.List.Elements.{filter_map-append}
 use Rattle.std.proofs.lemmas.Grind.{flat_map-append}
@@ -9,7 +9,7 @@ use Rattle.record_fields.specs.declared.lines.Line.{Line}
 use Rattle.record_codec.specs.declared.entries.Entry.{Entry}
 use Rattle.record_codec.specs.declared.entries.Entry.TheVariants.{Rec, Notes}
 use Rattle.shop_core.specs.History.{Row, rows, row_in, lines_in, recs, noted, is_record, waiting}
-use Rattle.shop_core.specs.Legal.{Legal, AreNext}
+use Rattle.shop_core.specs.Legal.{AreNext}
 use Rattle.shop_core.specs.Sales.{SalesAreNew}
 use Rattle.shop_core.specs.Spans.{NotedWithinRecords}
 use Rattle.agency_rules.specs.declared.plans.PlannedVerdict.{PlannedVerdict}
@@ -97,6 +97,12 @@ agree_noted entries processed sent lines agree next =
     agree.records next.run
     (runs_wider (recs entries) (length processed) (length (noted entries) + 1000) (length processed) (length (noted entries ++ lines) + 1000) sent (omega arith) (omega arith) agree.batches)
 
+-- the records, cut where the noted ones end and where so many more do
+pub waiting_split : (entries : List Entry) (count : ℕ) → recs entries ≡ take (length (noted entries)) (recs entries) ++ (take count (waiting entries) ++ drop count (waiting entries))
+waiting_split entries count =
+    let before : List Sealed = take (length (noted entries)) (recs entries) in
+    sym (take-append-drop (length (noted entries)) (recs entries)) ∙ ap (λ (xs : List Sealed). before ++ xs) (sym (take-append-drop count (waiting entries)))
+
 -- the first so many waiting records are a run that begins where the noted ones end
 sent_run : (entries : List Entry) (processed : List (Sealed × Line)) (count : ℕ) → count ≤ 1000 → IsPrefix (records_of processed) (recs entries) → IsPrefix (noted entries) (lines_of processed) →
     IsRun (recs entries) (take count (waiting entries)) (length processed) (length (noted entries) + 1000)
@@ -110,7 +116,7 @@ sent_run entries processed count few prefix lines =
     record {
       before = before;
       after = drop count (waiting entries);
-      run = sym (take-append-drop n (recs entries)) ∙ ap (λ (xs : List Sealed). before ++ xs) (sym (take-append-drop count (waiting entries)));
+      run = waiting_split entries count;
       begins = omega arith;
       ends = omega arith;
     }

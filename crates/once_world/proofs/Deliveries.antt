@@ -1,5 +1,5 @@
 -- A batch that is a run of a chain continues the agency's list.
-use Rattle.std.proofs.Common.{◌≡◌, ◌≢◌, ℕ, List, [], ◌∷◌, ◌++◌, refl, sym, ◌∙◌, ap, subst, inl, inr, ◌⊎◌, Option, Some, None, Bool, true, false, not, length, length-append, ◌≤◌, ◌+◌, arith, append_assoc, append-nil, bytes_eq}
+use Rattle.std.proofs.Common.{◌≡◌, ◌≢◌, ℕ, List, [], ◌∷◌, ◌++◌, refl, sym, ◌∙◌, ap, subst, inl, inr, ◌⊎◌, Option, Some, None, Bool, true, false, not, ◌&&◌, length, length-append, ◌≤◌, ◌+◌, arith, append_assoc, append-nil, bytes_eq}
 use Rattle.std.proofs.lemmas.Bool.{cases_Bool}
 use Rattle.std.proofs.lemmas.List.{map-append, length-map}
 use Rattle.std.specs.List.{AllByRecursion}
@@ -115,12 +115,20 @@ sale_judged verdicts processed (record_of.Alta a) sale none = judged_new verdict
     not_true false h = refl
 sale_judged verdicts processed (record_of.Anulacion a) sale none = absurd cc
 
+and_left : (a b : Bool) → a ≡ false → (a && b) ≡ false
+and_left true b h = absurd cc
+and_left false b h = refl
+
+and_right : (a b : Bool) → b ≡ false → (a && b) ≡ false
+and_right true b h = h
+and_right false b h = refl
+
 added_clean : (verdicts : List PlannedVerdict) (processed : List (Sealed × Line)) (s : Sealed) →
     (is_sale s.body ≡ true → AllByRecursion (λ (t : Sealed). num_of t.body ≢ num_of s.body) (records_of processed)) →
     is_sale_refused (s, judgement verdicts processed s.body) ≡ false
 added_clean verdicts processed s new = elim (cases_Bool (is_sale s.body)) [
-  | inl sale ↦ rw sale (sale_judged verdicts processed s.body sale (no_past processed (id_of s.body) (new sale)))
-  | inr other ↦ rw other refl
+  | inl sale ↦ and_right (is_sale s.body) (contradicts (judgement verdicts processed s.body)) (sale_judged verdicts processed s.body sale (no_past processed (id_of s.body) (new sale)))
+  | inr other ↦ and_left (is_sale s.body) (contradicts (judgement verdicts processed s.body)) other
 ]
 
 -- what a delivery makes of the list

@@ -4,3 +4,4 @@ mod Agreements
 mod Looking
 mod Replying
 mod Worlds
+mod Sending

@@ -1,5 +1,5 @@
 -- What the proofs need of lists.
-use Rattle.std.proofs.Common.{◌≡◌, ℕ, zero, suc, List, [], ◌∷◌, ◌++◌, refl, ◌∙◌, ap, subst, length, length-append, map, drop, ◌≤◌, ◌<◌, ◌+◌, arith, append_assoc, get_or, bytes_eq, true, false}
+use Rattle.std.proofs.Common.{◌≡◌, ℕ, zero, suc, List, [], ◌∷◌, ◌++◌, refl, ◌∙◌, ap, subst, length, length-append, map, drop, ◌≤◌, ◌<◌, arith, append_assoc, get_or, bytes_eq, true, false}
 use Rattle.std.proofs.lemmas.Bool.{cases_Bool}
 use Rattle.std.proofs.lemmas.Slice.Eq.{bytes_eq-Decides}
 use Rattle.std.specs.List.{AllByRecursion, Contains}

@@ -1,7 +1,7 @@
 -- What a delivery answers, and what is seen after it.
-use Rattle.std.proofs.Common.{◌≡◌, ◌≢◌, ℕ, List, [], ◌∷◌, ◌++◌, refl, sym, ◌∙◌, ap, subst, inl, inr, Option, Some, None, IsSome, length, length-append, map, take, drop, ◌≤◌, arith, append_assoc, append-nil, bytes_eq}
+use Rattle.std.proofs.Common.{◌≡◌, ◌≢◌, ℕ, List, [], ◌∷◌, ◌++◌, refl, sym, ◌∙◌, ap, subst, inl, inr, Option, Some, None, length, length-append, map, take, drop, ◌≤◌, arith, append_assoc, append-nil, bytes_eq}
 use Rattle.std.proofs.lemmas.Bool.{cases_Bool}
-use Rattle.std.proofs.lemmas.List.{map-append, length-take, take-append-drop}
+use Rattle.std.proofs.lemmas.List.{map-append, length-take}
 use Rattle.std.specs.List.{AllByRecursion}
 use Rattle.record_fields.specs.declared.records.Sealed.{Sealed}
 use Rattle.record_fields.specs.declared.lines.Line.{Line}
@@ -10,14 +10,14 @@ use Rattle.shop_core.specs.History.{recs, noted, waiting}
 use Rattle.shop_core.specs.Sales.{SalesAreNew}
 use Rattle.agency_rules.specs.declared.plans.PlannedVerdict.{PlannedVerdict}
 use Rattle.agency_rules.specs.Judgement.{judgement}
-use Rattle.agency_rules.specs.Delivery.{line_of, met, delivered_record, after_record, delivered, delivered_all}
+use Rattle.agency_rules.specs.Delivery.{line_of, met, delivered_record, after_record, delivered}
 use Rattle.agency_port.specs.Answers.{reply_line, answers}
 use Rattle.agency_port.specs.declared.answers.ReplyLine.{ReplyLine}
-use Rattle.agency_port.specs.declared.answers.ReplyLine.TheVariants.{First, Duplicado}
+use Rattle.agency_port.specs.declared.answers.ReplyLine.TheVariants.{First}
 use Rattle.once_world.specs.Agreement.{IsPrefix, Agree, records_of, lines_of}
 use Rattle.once_world.specs.Laws.{FirstLinesAreNext, DeliveredAreSeen, SeenStays}
 use Rattle.once_world.proofs.Lists.{prefix_length}
-use Rattle.once_world.proofs.Agreements.{as_many_lines, as_many_records}
+use Rattle.once_world.proofs.Agreements.{as_many_lines, as_many_records, waiting_split}
 use Rattle.once_world.proofs.Deliveries.{AreLinked, IsChain, IsSeen, chain_of, next_or_in, shift_run, not_seen, seen_next, seen_there, after_in, after_new}
 use Rattle.once_world.proofs.Lists.{bytes_same}
 
@@ -115,10 +115,7 @@ from_noted verdicts entries processed sent (s ∷ batch) after lines chain agree
 
 pub first_lines : AreLinked → SalesAreNew → FirstLinesAreNext
 first_lines linked sales issuer verdicts entries processed sent count lines legal agree e =
-    let n = length (noted entries) in
-    let run : recs entries ≡ take n (recs entries) ++ (take count (waiting entries) ++ drop count (waiting entries)) =
-    sym (take-append-drop n (recs entries)) ∙ ap (λ (xs : List Sealed). take n (recs entries) ++ xs) (sym (take-append-drop count (waiting entries))) in
-    from_noted verdicts entries processed sent (take count (waiting entries)) (drop count (waiting entries)) lines (chain_of linked sales issuer entries legal) agree run e
+    from_noted verdicts entries processed sent (take count (waiting entries)) (drop count (waiting entries)) lines (chain_of linked sales issuer entries legal) agree (waiting_split entries count) e
 
 -- what is seen stays seen where pairs are added
 seen_still : (processed added : List (Sealed × Line)) (huella : List ℕ) (line : Line) → line_of processed huella ≡ Some line → line_of (processed ++ added) huella ≡ Some line

@@ -1,20 +1,20 @@
 -- Every event keeps agreement.
-use Rattle.std.proofs.Common.{◌≡◌, ℕ, List, [], ◌∷◌, ◌++◌, refl, sym, ◌∙◌, ap, subst, Option, Some, None, IfSome, Bool, true, false, cond, not, ◌&&◌, length, take, ◌≤◌, ◌<◌, ◌+◌, arith, slice_get, get_or, nat_le, leb-true, is_none}
+use Rattle.std.proofs.Common.{◌≡◌, ℕ, List, [], ◌∷◌, ◌++◌, refl, sym, ◌∙◌, ap, subst, Option, Some, None, IfSome, Bool, true, false, cond, ◌&&◌, length, take, ◌≤◌, ◌<◌, ◌+◌, arith, slice_get, get_or}
 use Rattle.std.proofs.lemmas.List.{map-append, take_more}
 use Rattle.std.proofs.lemmas.Option.{slice_get_within, get_or_from_slice_get}
-use Rattle.std.specs.List.{AllByRecursion, Contains}
+use Rattle.std.specs.List.{Contains}
 use Rattle.record_fields.specs.declared.records.Sealed.{Sealed}
 use Rattle.record_fields.specs.declared.lines.Line.{Line}
 use Rattle.record_codec.specs.declared.entries.Entry.{Entry}
 use Rattle.shop_core.specs.Answer.{answer, MakesRecords}
 use Rattle.shop_core.specs.Asked.{Asked}
 use Rattle.shop_core.specs.History.{recs, noted, is_record, waiting}
-use Rattle.shop_core.specs.Legal.{Legal, AreNext}
+use Rattle.shop_core.specs.Legal.{AreNext}
 use Rattle.shop_core.specs.declared.answers.Planned.{Planned}
 use Rattle.shop_core.specs.declared.answers.Planned.TheVariants.{Again, Refused, Made}
 use Rattle.agency_rules.specs.Delivery.{delivered}
 use Rattle.agency_rules.specs.declared.plans.Plan.{Plan}
-use Rattle.once_world.specs.Agreement.{IsPrefix, Agree, AreNextLines, IsLearnt, HasNoRefusedSale, is_sale_refused, lines_of}
+use Rattle.once_world.specs.Agreement.{IsPrefix, Agree, IsLearnt, HasNoRefusedSale, is_sale_refused, lines_of}
 use Rattle.once_world.specs.Looks.{answers_for, lines_in_front}
 use Rattle.once_world.specs.World.{empty, appended, torn, may_send, after_send, after_delivery, learnt_lines, after_look, after_note, torn_note, reopened, happens, happen, world}
 use Rattle.once_world.specs.declared.events.Event.{Event}
@@ -23,6 +23,7 @@ use Rattle.once_world.specs.declared.world.World.{World}
 use Rattle.once_world.proofs.Lists.{all_both, prefix_more, prefix_none}
 use Rattle.once_world.proofs.Deliveries.{IsChain, Extends}
 use Rattle.once_world.proofs.Agreements.{agree_record, noted_record, agree_noted, agree_sent, agree_extended, batch_delivered, lines_fit}
+use Rattle.once_world.proofs.Sending.{sendable}
 use Rattle.once_world.proofs.Looking.{look_next, looked_few}
 
 -- what holds of every world
@@ -84,17 +85,6 @@ holds_sent w count few h = record {
   no_refused_sale = h.no_refused_sale;
 }
 
-and_left : (p q : Bool) → (p && q) ≡ true → p ≡ true
-and_left true q h = refl
-and_left false q h = absurd cc
-
-and_right : (p q : Bool) → (p && q) ≡ true → q ≡ true
-and_right true q h = h
-and_right false q h = absurd cc
-
-sent_few : (a b c d f : Bool) (count : ℕ) → (a && b && c && d && nat_le count 1000 && f) ≡ true → count ≤ 1000
-sent_few a b c d f count h = leb-true count 1000 (and_right (a && b && c && d) (nat_le count 1000) (and_left (a && b && c && d && nat_le count 1000) f h))
-
 learnt_is : (entries : List Entry) (processed : List (Sealed × Line)) (lines : List Line) → IsPrefix (noted entries ++ lines) (lines_of processed) → length lines ≤ 1000 → IsLearnt entries processed (learnt_lines lines)
 learnt_is entries processed [] prefix few = tt
 learnt_is entries processed (line ∷ lines) prefix few = record { run = prefix; some = omega arith; few = few }
@@ -142,7 +132,7 @@ holds_then made plan w (event.Append ask seconds) chain h =
     either w.up (appended w planned) w (λ up. holds_appended made w ask seconds planned refl h) h
 holds_then made plan w (event.Send count) chain h =
     either (may_send w count) (after_send w count) w
-    (λ may. holds_sent w count (sent_few w.up (not w.doubt) (is_none w.learnt) (nat_le 1 count) (nat_le count (length (waiting w.state.entries))) count may) h) h
+    (λ may. holds_sent w count (sendable w count may).few h) h
 holds_then made plan w (event.Deliver index) chain h = holds_coming plan w index (slice_get w.sent index) refl chain h
 holds_then made plan w event.Look chain h = either (w.up && w.doubt) (after_look w) w (λ may. holds_look w chain h) h
 holds_then made plan w event.Note chain h = either w.up (after_note w w.learnt) w (λ up. holds_note w w.learnt refl h) h

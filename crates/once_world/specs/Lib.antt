@@ -2,3 +2,4 @@ pub mod Agreement
 pub mod Looks
 pub mod World
 pub mod Laws
+pub mod Outbox

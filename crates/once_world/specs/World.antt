@@ -6,7 +6,6 @@ use Rattle.record_fields.specs.declared.lines.Line.{Line}
 use Rattle.record_codec.specs.declared.entries.Entry.{Entry}
 use Rattle.record_codec.specs.declared.entries.Entry.TheVariants.{Notes}
 use Rattle.shop_core.specs.Answer.{answer}
-use Rattle.shop_core.specs.Asked.{Asked}
 use Rattle.shop_core.specs.History.{noted, waiting}
 use Rattle.shop_core.specs.declared.answers.Planned.{Planned}
 use Rattle.shop_core.specs.declared.answers.Planned.TheVariants.{Again, Refused, Made}

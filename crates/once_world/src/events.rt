@@ -15,11 +15,7 @@ pub enum Event {
     /// The lines that were learnt are noted.
     Note,
     /// The shop stops while it keeps the record that is made: it stands in the history or not.
-    Tear {
-        ask: Ask,
-        seconds: u64,
-        kept: bool,
-    },
+    Tear { ask: Ask, seconds: u64, kept: bool },
     /// The shop stops while it notes the lines that were learnt: they stand in the history or not.
     TearNote { kept: bool },
     /// The shop is opened again.

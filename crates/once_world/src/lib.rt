@@ -5,8 +5,14 @@
 mod events;
 mod laws;
 mod looks;
+mod outbox;
+mod plain;
+#[cfg(test)]
+mod tests;
 mod world;
 
 pub use events::Event;
 pub use laws::{agreement_is_kept, answers_are_next, no_sale_is_refused, what_came_is_seen};
+pub use outbox::Outbox;
+pub use plain::PlainOutbox;
 pub use world::{World, run_events};

@@ -1,5 +1,5 @@
 // The world of a shop and its agency, event by event.
-ghost use Rattle.std.specs.Prelude.{◌≡◌, ◌++◌, ◌∷◌, [], IfOk, OnOk, IfSome, length, None, slice_get, if◌then◌else◌};
+ghost use Rattle.std.specs.Prelude.{◌≡◌, ◌++◌, ◌∷◌, [], IfOk, OnOk, IfSome, length, None, slice_get, take, true, if◌then◌else◌};
 ghost use Rattle.record_codec.specs.declared.entries.Entry.{Entry as AnyEntry};
 ghost use Rattle.shop_core.specs.History as history;
 ghost use Rattle.shop_core.specs.Legal.{Legal, Continues, AreNext};
@@ -95,16 +95,25 @@ impl World {
             && u32::from(count) <= waiting
     }
 
-    fn send(&mut self, alloc: Global, count: u16) -> Result<(), NoMemory>
-        ensures { OnOk result (self.new ≡ if spec.may_send self.old count then spec.after_send self.old count else self.old) }
+    // The first so many waiting records.
+    fn next_batch(&self, alloc: Global, count: u16) -> Result<Batch, NoMemory>
+        requires { spec.may_send self.now count ≡ true }
+        ensures { IfOk result (λ batch. batch ≡ take count (history.waiting self.now.state.entries)) }
     {
-        if !self.may_send(count) {
-            return Ok(());
-        }
         a_run_of_a_history_is_linked();
         let _legal = self.state.history();
         let records = self.state.waiting_records(alloc, count)?;
-        if let Some(batch) = Batch::cut(alloc, &records)? {
+        match Batch::cut(alloc, &records)? {
+            Some(batch) => Ok(batch),
+            None => unreachable!(),
+        }
+    }
+
+    fn send(&mut self, alloc: Global, count: u16) -> Result<(), NoMemory>
+        ensures { OnOk result (self.new ≡ if spec.may_send self.old count then spec.after_send self.old count else self.old) }
+    {
+        if self.may_send(count) {
+            let batch = self.next_batch(alloc, count)?;
             self.sent.push(batch)?;
             self.doubt = true;
         }
