@@ -5,3 +5,4 @@ mod Looking
 mod Replying
 mod Worlds
 mod Sending
+mod Sights

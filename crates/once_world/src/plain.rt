@@ -1,5 +1,8 @@
 // A shop in memory alone, as its sender sees it.
-ghost use Rattle.std.specs.Prelude.{◌≡◌, [], None};
+ghost use Rattle.std.specs.Prelude.{◌≡◌, ◌++◌, ◌∷◌, [], length, IfOk, OnOk, OnErr};
+ghost use Rattle.record_codec.specs.declared.entries.Entry.TheVariants.{Notes};
+ghost use Rattle.shop_core.specs.History.{noted};
+ghost use Rattle.shop_core.specs.Legal.{AreNext, Continues};
 ghost use Rattle.once_world.specs.Outbox.{plain_sight};
 
 use crate::Outbox;
@@ -7,7 +10,7 @@ use journal::StoreFault;
 use ports::NoMemory;
 use record_codec::Entry;
 use record_fields::{Line, Lines, SealedList};
-use shop_core::{State, Waiting, a_legal_history_goes_on};
+use shop_core::{State, Waiting};
 use std::alloc::Global;
 use std::sync::Wait;
 
@@ -40,6 +43,48 @@ impl PlainOutbox {
     {
         self.state
     }
+
+    // Adds an entry of its own that continues the history. Without memory nothing is added.
+    fn add(&mut self, entry: Entry) -> Result<(), NoMemory>
+        requires { Continues self.old.state.issuer self.old.state.entries entry }
+        ensures issuer { self.new.state.issuer ≡ self.old.state.issuer }
+        ensures ok { OnOk result ((self.new.state.entries ≡ self.old.state.entries ++ entry ∷ [])
+            × (self.new.own.items ≡ self.old.own.items ++ length self.old.state.entries ∷ [])) }
+        ensures err { OnErr result ((self.new.state.entries ≡ self.old.state.entries) × (self.new.own.items ≡ self.old.own.items)) }
+    {
+        let index = self.state.entries();
+        if self.own.reserve(1).is_err() {
+            return Err(NoMemory);
+        }
+        self.state.reserve(&entry)?;
+        let Ok(()) = self.own.push(index) else {
+            unreachable!()
+        };
+        self.state.apply(entry);
+        Ok(())
+    }
+
+    // These lines as the next ones of the history.
+    fn notes(&self, alloc: Global, lines: &[Line]) -> Result<Entry, NoMemory>
+        ensures { IfOk result (λ entry. entry ≡ Notes (length (noted self.now.state.entries)) lines.now) }
+    {
+        Ok(Entry::Notes {
+            first: self.state.noted(),
+            lines: Lines::of(Vec::from_slice(alloc, lines)?),
+        })
+    }
+
+    // Notes the next lines.
+    fn add_notes(&mut self, alloc: Global, lines: &[Line]) -> Result<(), NoMemory>
+        requires { AreNext self.old.state.entries (length (noted self.old.state.entries)) lines.now }
+        ensures issuer { self.new.state.issuer ≡ self.old.state.issuer }
+        ensures ok { OnOk result ((self.new.state.entries ≡ self.old.state.entries ++ Notes (length (noted self.old.state.entries)) lines.now ∷ [])
+            × (self.new.own.items ≡ self.old.own.items ++ length self.old.state.entries ∷ [])) }
+        ensures err { OnErr result ((self.new.state.entries ≡ self.old.state.entries) × (self.new.own.items ≡ self.old.own.items)) }
+    {
+        let entry = self.notes(alloc, lines)?;
+        self.add(entry)
+    }
 }
 
 impl Outbox for PlainOutbox {
@@ -56,23 +101,15 @@ impl Outbox for PlainOutbox {
     }
 
     fn note<R: Wait>(&mut self, alloc: Global, _rt: &R, lines: &[Line]) -> Result<(), StoreFault> {
-        a_legal_history_goes_on();
-        let _legal = self.state.history();
-        let Ok(copy) = Vec::from_slice(alloc, lines) else {
-            return Err(StoreFault::NoMemory);
-        };
-        let entry = Entry::Notes {
-            first: self.state.noted(),
-            lines: Lines::of(copy),
-        };
-        if self.own.reserve(1).is_err() {
-            return Err(StoreFault::NoMemory);
+        match self.add_notes(alloc, lines) {
+            Ok(()) => {
+                let _legal = self.state.history();
+                Ok(())
+            }
+            Err(_) => {
+                let _legal = self.state.history();
+                Err(StoreFault::NoMemory)
+            }
         }
-        self.state.reserve(&entry)?;
-        let Ok(()) = self.own.push(self.state.entries()) else {
-            unreachable!()
-        };
-        self.state.apply(entry);
-        Ok(())
     }
 }

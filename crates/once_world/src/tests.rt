@@ -121,15 +121,49 @@ fn events_change_the_world(rt: HostRuntime) -> Result<(), Fail> {
     let twice = [Append(1), Append(1), Tear(1, true), Look, Send(1), Send(1)];
     assert_eq!(rt; counts(alloc, &twice)?, (1, 0, 0, 1, 0, true, true));
     let old_after_new = [
-        Append(1), Look, Send(1), Tear(2, true), Append(3), Reopen, Look, Send(2),
-        Deliver(1), Deliver(0), Deliver(1), Deliver(2), Look,
+        Append(1),
+        Look,
+        Send(1),
+        Tear(2, true),
+        Append(3),
+        Reopen,
+        Look,
+        Send(2),
+        Deliver(1),
+        Deliver(0),
+        Deliver(1),
+        Deliver(2),
+        Look,
     ];
-    assert_eq!(rt; counts(alloc, &old_after_new)?, (2, 0, 2, 2, 2, true, false));
-    let learnt = [Append(1), Append(2), Look, Send(1), Deliver(0), Look, Send(1)];
+    assert_eq!(rt;
+        counts(alloc, &old_after_new)?,
+        (2, 0, 2, 2, 2, true, false)
+    );
+    let learnt = [
+        Append(1),
+        Append(2),
+        Look,
+        Send(1),
+        Deliver(0),
+        Look,
+        Send(1),
+    ];
     assert_eq!(rt; counts(alloc, &learnt)?, (2, 0, 1, 1, 1, true, false));
     let torn_notes = [
-        Append(1), Look, Send(1), Deliver(0), Look, TearNote(false), Note, Reopen, Look,
-        TearNote(true), Reopen, Look, Note, TearNote(true),
+        Append(1),
+        Look,
+        Send(1),
+        Deliver(0),
+        Look,
+        TearNote(false),
+        Note,
+        Reopen,
+        Look,
+        TearNote(true),
+        Reopen,
+        Look,
+        Note,
+        TearNote(true),
     ];
     assert_eq!(rt; counts(alloc, &torn_notes)?, (1, 1, 1, 1, 0, true, false));
     let down = [Append(1), Look, Tear(2, false), Send(1), Append(3), Look];
@@ -141,8 +175,17 @@ fn events_change_the_world(rt: HostRuntime) -> Result<(), Fail> {
 fn a_torn_shop_notes_both_sales(rt: HostRuntime) -> Result<(), Fail> {
     let alloc = rt.alloc();
     let steps = [
-        Append(1), Look, Send(1), Tear(2, true), Reopen, Look, Send(2), Deliver(1),
-        Deliver(0), Look, Note,
+        Append(1),
+        Look,
+        Send(1),
+        Tear(2, true),
+        Reopen,
+        Look,
+        Send(2),
+        Deliver(1),
+        Deliver(0),
+        Look,
+        Note,
     ];
     assert_eq!(rt; counts(alloc, &steps)?, (2, 2, 2, 2, 0, true, false));
     let world = after(alloc, &steps)?;
