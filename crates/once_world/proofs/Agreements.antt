@@ -16,7 +16,7 @@ use Rattle.agency_rules.specs.declared.plans.PlannedVerdict.{PlannedVerdict}
 use Rattle.agency_rules.specs.Delivery.{delivered, delivered_all}
 use Rattle.agency_port.specs.Rules.{AreAmong}
 use Rattle.once_world.specs.Agreement.{IsPrefix, IsRun, Agree, AreNextLines, AreOnce, records_of, lines_of}
-use Rattle.once_world.specs.Laws.{RecordsKeepAgreement, SendingKeepsAgreement, NotingKeepsAgreement, DeliveriesKeepAgreement, NotedPairsAgree, StandOnce, DeliveriesRefuseNoSale}
+use Rattle.once_world.specs.Laws.{RecordsKeepAgreement, RecordsKeepNextLines, SendingKeepsAgreement, NotingKeepsAgreement, DeliveriesKeepAgreement, NotedPairsAgree, StandOnce, DeliveriesRefuseNoSale}
 use Rattle.once_world.proofs.Lists.{all_contained, all_both, all_change, prefix_more, prefix_length}
 use Rattle.once_world.proofs.Deliveries.{AreLinked, IsChain, Extends, chain_of, deliver_run}
 
@@ -74,7 +74,7 @@ agree_by entries records lines processed sent r n a b c = record {
       (subst (λ (ls : List Line). AreRuns records (length processed) (length ls + 1000) sent) (sym n) c);
 }
 
-pub agree_record : RecordsKeepAgreement
+pub agree_record : (entries : List Entry) (entry : Entry) (processed : List (Sealed × Line)) (sent : List (List Sealed)) → Agree entries processed sent → is_record entry ≡ true → Agree (entries ++ entry ∷ []) processed sent
 agree_record entries (Notes first lines) processed sent agree is = absurd cc
 agree_record entries (Rec till serial s) processed sent agree is =
     agree_by (entries ++ Rec till serial s ∷ []) (recs entries ++ s ∷ []) (noted entries) processed sent
@@ -86,6 +86,22 @@ agree_record entries (Rec till serial s) processed sent agree is =
 pub noted_record : (entries : List Entry) (entry : Entry) → is_record entry ≡ true → noted (entries ++ entry ∷ []) ≡ noted entries
 noted_record entries (Notes first lines) is = absurd cc
 noted_record entries (Rec till serial s) is = noted_append entries (Rec till serial s ∷ []) ∙ append-nil (noted entries)
+
+pub agree_records : RecordsKeepAgreement
+agree_records entries [] processed sent agree are = subst (λ (es : List Entry). Agree es processed sent) (sym (append-nil entries)) agree
+agree_records entries (e ∷ more) processed sent agree are =
+    subst (λ (es : List Entry). Agree es processed sent) (append_assoc entries (e ∷ []) more)
+    (agree_records (entries ++ e ∷ []) more processed sent (agree_record entries e processed sent agree are.0) are.1)
+
+pub next_record : (entries : List Entry) (entry : Entry) (processed : List (Sealed × Line)) (lines : List Line) → is_record entry ≡ true → AreNextLines entries processed lines → AreNextLines (entries ++ entry ∷ []) processed lines
+next_record entries entry processed lines is next =
+    record { run = subst (λ (ls : List Line). IsPrefix (ls ++ lines) (lines_of processed)) (sym (noted_record entries entry is)) next.run; some = next.some; few = next.few }
+
+pub next_records : RecordsKeepNextLines
+next_records entries [] processed lines next are = subst (λ (es : List Entry). AreNextLines es processed lines) (sym (append-nil entries)) next
+next_records entries (e ∷ more) processed lines next are =
+    subst (λ (es : List Entry). AreNextLines es processed lines) (append_assoc entries (e ∷ []) more)
+    (next_records (entries ++ e ∷ []) more processed lines (next_record entries e processed lines are.0 next) are.1)
 
 pub agree_noted : NotingKeepsAgreement
 agree_noted entries processed sent lines agree next =

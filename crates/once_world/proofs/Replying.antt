@@ -10,12 +10,12 @@ use Rattle.shop_core.specs.History.{recs, noted, waiting}
 use Rattle.shop_core.specs.Sales.{SalesAreNew}
 use Rattle.agency_rules.specs.declared.plans.PlannedVerdict.{PlannedVerdict}
 use Rattle.agency_rules.specs.Judgement.{judgement}
-use Rattle.agency_rules.specs.Delivery.{line_of, met, delivered_record, after_record, delivered}
+use Rattle.agency_rules.specs.Delivery.{line_of, met, delivered_record, after_record, delivered, delivered_all}
 use Rattle.agency_port.specs.Answers.{reply_line, answers}
 use Rattle.agency_port.specs.declared.answers.ReplyLine.{ReplyLine}
 use Rattle.agency_port.specs.declared.answers.ReplyLine.TheVariants.{First}
 use Rattle.once_world.specs.Agreement.{IsPrefix, Agree, records_of, lines_of}
-use Rattle.once_world.specs.Laws.{FirstLinesAreNext, DeliveredAreSeen, SeenStays}
+use Rattle.once_world.specs.Laws.{FirstLinesAreNext, DeliveriesOnlyAdd, DeliveredAreSeen, SeenStays}
 use Rattle.once_world.proofs.Lists.{prefix_length}
 use Rattle.once_world.proofs.Agreements.{as_many_lines, as_many_records, waiting_split}
 use Rattle.once_world.proofs.Deliveries.{AreLinked, IsChain, IsSeen, chain_of, next_or_in, shift_run, not_seen, seen_next, seen_there, after_in, after_new}
@@ -116,6 +116,25 @@ from_noted verdicts entries processed sent (s ∷ batch) after lines chain agree
 pub first_lines : AreLinked → SalesAreNew → FirstLinesAreNext
 first_lines linked sales issuer verdicts entries processed sent count lines legal agree e =
     from_noted verdicts entries processed sent (take count (waiting entries)) (drop count (waiting entries)) lines (chain_of linked sales issuer entries legal) agree (waiting_split entries count) e
+
+record_adds : (verdicts : List PlannedVerdict) (processed : List (Sealed × Line)) (s : Sealed) (found : Option Line) → line_of processed s.huella ≡ found → IsPrefix processed (after_record verdicts processed s)
+record_adds verdicts processed s None none = record { rest = (s, judgement verdicts processed s.body) ∷ []; is = after_new verdicts processed s none }
+record_adds verdicts processed s (Some kept) some = record { rest = []; is = after_in verdicts processed s kept some ∙ sym (append-nil processed) }
+
+then_adds : {A : Type 0} (xs ys zs : List A) → IsPrefix xs ys → IsPrefix ys zs → IsPrefix xs zs
+then_adds xs ys zs p q = record { rest = p.rest ++ q.rest; is = q.is ∙ ap (λ t. t ++ q.rest) p.is ∙ append_assoc xs p.rest q.rest }
+
+batch_adds : (verdicts : List PlannedVerdict) (processed : List (Sealed × Line)) (batch : List Sealed) → IsPrefix processed (delivered verdicts processed batch)
+batch_adds verdicts processed [] = record { rest = []; is = sym (append-nil processed) }
+batch_adds verdicts processed (s ∷ batch) =
+    let mid = after_record verdicts processed s in
+    then_adds processed mid (delivered verdicts mid batch) (record_adds verdicts processed s (line_of processed s.huella) refl) (batch_adds verdicts mid batch)
+
+pub only_adds : DeliveriesOnlyAdd
+only_adds verdicts processed [] = record { rest = []; is = sym (append-nil processed) }
+only_adds verdicts processed (batch ∷ batches) =
+    let mid = delivered verdicts processed batch in
+    then_adds processed mid (delivered_all verdicts mid batches) (batch_adds verdicts processed batch) (only_adds verdicts mid batches)
 
 -- what is seen stays seen where pairs are added
 seen_still : (processed added : List (Sealed × Line)) (huella : List ℕ) (line : Line) → line_of processed huella ≡ Some line → line_of (processed ++ added) huella ≡ Some line

@@ -22,7 +22,7 @@ use Rattle.once_world.specs.declared.events.Event.TheVariants as event
 use Rattle.once_world.specs.declared.world.World.{World}
 use Rattle.once_world.proofs.Lists.{all_both, prefix_more, prefix_none}
 use Rattle.once_world.proofs.Deliveries.{IsChain, Extends}
-use Rattle.once_world.proofs.Agreements.{agree_record, noted_record, agree_noted, agree_sent, agree_extended, batch_delivered, lines_fit}
+use Rattle.once_world.proofs.Agreements.{agree_record, next_record, agree_noted, agree_sent, agree_extended, batch_delivered, lines_fit}
 use Rattle.once_world.proofs.Sending.{sendable}
 use Rattle.once_world.proofs.Looking.{look_next, looked_few}
 
@@ -37,8 +37,7 @@ HoldsOf w = Holds w.state.entries w.processed w.sent w.learnt
 
 learnt_record : (entries : List Entry) (entry : Entry) (processed : List (Sealed × Line)) (learnt : Option (List Line)) → is_record entry ≡ true → IsLearnt entries processed learnt → IsLearnt (entries ++ entry ∷ []) processed learnt
 learnt_record entries entry processed None is l = tt
-learnt_record entries entry processed (Some lines) is l =
-    record { run = subst (λ (ls : List Line). IsPrefix (ls ++ lines) (lines_of processed)) (sym (noted_record entries entry is)) l.run; some = l.some; few = l.few }
+learnt_record entries entry processed (Some lines) is l = next_record entries entry processed lines is l
 
 holds_record : (entries : List Entry) (entry : Entry) (processed : List (Sealed × Line)) (sent : List (List Sealed)) (learnt : Option (List Line)) → is_record entry ≡ true →
     Holds entries processed sent learnt → Holds (entries ++ entry ∷ []) processed sent learnt

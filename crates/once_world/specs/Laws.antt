@@ -15,6 +15,9 @@ use Rattle.agency_port.specs.declared.answers.ReplyLine.TheVariants.{First}
 use Rattle.once_world.specs.Agreement.{IsPrefix, Agree, AreNextLines, AddsNoRefusedSale, AreOnce, lines_of}
 use Rattle.once_world.specs.Looks.{answers_for, lines_in_front, HasNoHole}
 
+abbrev pub AreRecords : List Entry → Type 0
+AreRecords more = AllByRecursion (λ (entry : Entry). is_record entry ≡ true) more
+
 -- each record stands once among the processed ones
 abbrev pub StandOnce : Type 0
 StandOnce = (issuer : List ℕ) (entries : List Entry) (processed : List (Sealed × Line)) (sent : List (List Sealed)) →
@@ -25,10 +28,10 @@ abbrev pub DeliveriesKeepAgreement : Type 0
 DeliveriesKeepAgreement = (issuer : List ℕ) (verdicts : List PlannedVerdict) (entries : List Entry) (processed : List (Sealed × Line)) (sent batches : List (List Sealed)) →
     Legal issuer entries → Agree entries processed sent → AreAmong sent batches → Agree entries (delivered_all verdicts processed batches) sent
 
--- with one record more, one batch of waiting records sent, or the next lines noted, agreement stays
+-- with more records, one batch of waiting records sent, or the next lines noted, agreement stays
 abbrev pub RecordsKeepAgreement : Type 0
-RecordsKeepAgreement = (entries : List Entry) (entry : Entry) (processed : List (Sealed × Line)) (sent : List (List Sealed)) →
-    Agree entries processed sent → is_record entry ≡ true → Agree (entries ++ entry ∷ []) processed sent
+RecordsKeepAgreement = (entries more : List Entry) (processed : List (Sealed × Line)) (sent : List (List Sealed)) →
+    Agree entries processed sent → AreRecords more → Agree (entries ++ more) processed sent
 
 abbrev pub SendingKeepsAgreement : Type 0
 SendingKeepsAgreement = (entries : List Entry) (processed : List (Sealed × Line)) (sent : List (List Sealed)) (count : ℕ) →
@@ -37,6 +40,11 @@ SendingKeepsAgreement = (entries : List Entry) (processed : List (Sealed × Line
 abbrev pub NotingKeepsAgreement : Type 0
 NotingKeepsAgreement = (entries : List Entry) (processed : List (Sealed × Line)) (sent : List (List Sealed)) (lines : List Line) →
     Agree entries processed sent → AreNextLines entries processed lines → Agree (entries ++ Notes (length (noted entries)) lines ∷ []) processed sent
+
+-- the next lines are the next ones also behind more records
+abbrev pub RecordsKeepNextLines : Type 0
+RecordsKeepNextLines = (entries more : List Entry) (processed : List (Sealed × Line)) (lines : List Line) →
+    AreNextLines entries processed lines → AreRecords more → AreNextLines (entries ++ more) processed lines
 
 -- an agency that takes the noted pairs, and to which nothing was sent, agrees
 abbrev pub NotedPairsAgree : Type 0
@@ -62,6 +70,11 @@ WaitingHaveNoHole = (issuer : List ℕ) (entries : List Entry) (processed : List
 abbrev pub LookedLinesAreNext : Type 0
 LookedLinesAreNext = (issuer : List ℕ) (entries : List Entry) (processed : List (Sealed × Line)) (sent : List (List Sealed)) (count : ℕ) →
     Legal issuer entries → Agree entries processed sent → IsPrefix (noted entries ++ lines_in_front (answers_for processed (take count (waiting entries)))) (lines_of processed)
+
+-- whatever batches come, the list only grows
+abbrev pub DeliveriesOnlyAdd : Type 0
+DeliveriesOnlyAdd = (verdicts : List PlannedVerdict) (processed : List (Sealed × Line)) (batches : List (List Sealed)) →
+    IsPrefix processed (delivered_all verdicts processed batches)
 
 -- each record of a batch that came is seen
 abbrev pub DeliveredAreSeen : Type 0

@@ -8,6 +8,7 @@ pub fn agreement_is_kept()
     ensures begun { law.NotedPairsAgree }
     ensures once { law.StandOnce }
     ensures records { law.RecordsKeepAgreement }
+    ensures next_lines { law.RecordsKeepNextLines }
     ensures sending { law.SendingKeepsAgreement }
     ensures deliveries { law.DeliveriesKeepAgreement }
     ensures noting { law.NotingKeepsAgreement }
@@ -36,8 +37,10 @@ pub fn answers_are_next()
     a_sale_has_a_new_number();
 }
 
-/// Each record of a batch that came is seen from then on, with one and the same line.
+/// What came only adds to the agency's list. Each record of a batch that came is seen from then on, with one and the same
+/// line.
 pub fn what_came_is_seen()
+    ensures grows { law.DeliveriesOnlyAdd }
     ensures delivered { law.DeliveredAreSeen }
     ensures stays { law.SeenStays }
 {}

@@ -1,4 +1,4 @@
-use Rattle.once_world.proofs.Agreements.{agree_begun, stand_once, agree_record, agree_sent, agree_delivered, agree_noted}
+use Rattle.once_world.proofs.Agreements.{agree_begun, stand_once, agree_records, next_records, agree_sent, agree_delivered, agree_noted}
 use Rattle.once_world.proofs.laws.agreement_is_kept.Goals as goal
 
 pub returns-clause-begun : goal.returns-clause-begun
@@ -8,7 +8,10 @@ pub returns-clause-once : goal.returns-clause-once
 returns-clause-once c = stand_once c.legal_is_chained.ensures.linked c.a_sale_has_a_new_number.ensures
 
 pub returns-clause-records : goal.returns-clause-records
-returns-clause-records c = agree_record
+returns-clause-records c = agree_records
+
+pub returns-clause-next_lines : goal.returns-clause-next_lines
+returns-clause-next_lines c = next_records
 
 pub returns-clause-sending : goal.returns-clause-sending
 returns-clause-sending c = agree_sent
