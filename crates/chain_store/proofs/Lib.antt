@@ -1,6 +1,5 @@
 mod Loads
 mod Stores
-mod Waits
 mod Taking
 mod Stops
 mod Meanings

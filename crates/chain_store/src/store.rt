@@ -14,7 +14,7 @@ use chain_disk::Disk;
 use journal::{Journal, JournalFault, StoreFault};
 use ports::{Clock, NoMemory};
 use record_codec::{Entry, an_encoding_is_a_body, encode, fields_are_valid};
-use record_fields::{Line, Lines, Sealed, SealedList};
+use record_fields::{Line, Lines, SealedList};
 use shop_core::{
     Ask, Planned, Reply, State, Waiting, a_legal_history_goes_on, plan, taken,
     what_continues_fits_its_bytes, what_is_made_is_a_record,
@@ -184,10 +184,9 @@ impl<D: Disk, C: Clock> Store<D, C> {
         ensures { IfOk result (λ waiting. (waiting.noted ≡ length (noted self.now.state.entries)) × (waiting.records ≡ length (recs self.now.state.entries))
             × (waiting.list ≡ take max (drop (length (noted self.now.state.entries)) (recs self.now.state.entries)))) }
     {
-        let first = self.state.noted();
-        let records = records_from(alloc, &self.state, first, max)?;
+        let records = self.state.waiting_records(alloc, max)?;
         Ok(Waiting {
-            noted: first,
+            noted: self.state.noted(),
             records: self.state.records(),
             list: SealedList::of(records),
         })
@@ -236,19 +235,4 @@ impl<D: Disk, C: Clock> Store<D, C> {
             Err(JournalFault::Stopped { .. }) => unreachable!(),
         }
     }
-}
-
-// At most so many of the records behind the first ones.
-fn records_from(alloc: Global, state: &State, first: u32, max: u16) -> Result<Vec<Sealed>, NoMemory>
-    requires { first ≤ 1_000_000 }
-    ensures { IfOk result (λ records. records.items ≡ take max (drop first (recs state.now.entries))) }
-{
-    let mut records = Vec::new(alloc);
-    for n in 0..max as u32 {
-        match state.sealed(alloc, first + n + 1)? {
-            Some(sealed) => records.push(sealed)?,
-            None => return Ok(records),
-        }
-    }
-    Ok(records)
 }

@@ -1,11 +1,9 @@
 -- What a state keeps when it makes room, and when it gains an entry.
-use Rattle.std.proofs.Common.{◌≡◌, ℕ, ◌+◌, ◌≤◌, ◌<◌, List, [], ◌∷◌, ◌++◌, length, length-append, refl, sym, ◌∙◌, ap, subst, Option, Some, None, arith, append-nil}
+use Rattle.std.proofs.Common.{◌≡◌, ℕ, ◌+◌, ◌≤◌, List, [], ◌∷◌, ◌++◌, length, length-append, sym, ◌∙◌, ap, subst, Option, Some, None, arith, append-nil}
 use Rattle.std.specs.Prelude.{Vec, vec_len, vec_capacity}
-use Rattle.std.specs.Option.{ForSome}
 use Rattle.std.specs.declared.alloc.Global.{Global}
 use Rattle.record_codec.specs.declared.entries.Entry.{Entry}
 use Rattle.record_fields.specs.declared.lines.Line.{Line}
-use Rattle.record_fields.specs.declared.records.Sealed.{Sealed}
 use Rattle.shop_core.specs.History.{recs, noted, lines_in}
 use Rattle.shop_core.specs.Legal.{Legal, Continues}
 use Rattle.shop_core.specs.Kept.{IsKept, HasRoom}

@@ -1,11 +1,11 @@
 -- The last record of a history, and the last one that passes a test, looked for from the end.
-use Rattle.std.proofs.Common.{◌≡◌, ℕ, suc, ◌+◌, List, [], ◌∷◌, ◌++◌, length, length-append, refl, sym, subst, ◌∙◌, ap, Option, Some, None, Bool, true, false, cond, filter, arith, append-nil}
+use Rattle.std.proofs.Common.{◌≡◌, ℕ, suc, ◌+◌, List, [], ◌∷◌, ◌++◌, length, length-append, sym, subst, ◌∙◌, ap, Some, Bool, true, false, cond, filter, arith, append-nil}
 use Rattle.std.proofs.lemmas.List.Elements.{filter-append}
 use Rattle.std.specs.List.{enumerate_from}
 use Rattle.record_fields.specs.Picks.{last_of}
 use Rattle.record_fields.specs.declared.records.Sealed.{Sealed}
 use Rattle.record_codec.specs.declared.entries.Entry.{Entry}
-use Rattle.record_codec.specs.declared.entries.Entry.TheVariants.{Rec, Notes}
+use Rattle.record_codec.specs.declared.entries.Entry.TheVariants.{Rec}
 use Rattle.shop_core.specs.History.{recs}
 use Rattle.shop_core.specs.Standing.{last_where}
 use Rattle.shop_core.proofs.Histories.{recs_append, get_last}

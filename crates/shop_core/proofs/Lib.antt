@@ -11,3 +11,5 @@ mod Taking
 mod Judged
 mod Ranges
 mod Breaking
+mod Sales
+mod Waits

@@ -6,6 +6,9 @@ pub mod Answer
 pub mod Legal
 pub mod Ranges
 pub mod Rising
+pub mod Sales
+pub mod Spans
+pub mod Items
 pub mod Runs
 pub mod Kept
 pub mod Found

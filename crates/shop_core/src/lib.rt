@@ -22,7 +22,8 @@ pub use answers::{Planned, Refusal, Reply};
 pub use audits::{AuditEnd, What};
 pub use breaks::{Break, next_fault};
 pub use laws::{
-    a_legal_history_goes_on, legal_is_chained, what_continues_fits_its_bytes,
+    a_history_notes_its_records, a_legal_history_goes_on, a_run_of_a_history_is_linked,
+    a_sale_has_a_new_number, legal_is_chained, what_continues_fits_its_bytes,
     what_is_made_is_a_record,
 };
 pub use plans::plan;

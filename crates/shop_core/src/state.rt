@@ -114,6 +114,21 @@ impl State {
         }
     }
 
+    /// At most so many of the first records that have no noted line.
+    pub fn waiting_records(&self, alloc: Global, max: u16) -> Result<Vec<Sealed>, NoMemory>
+        ensures { IfOk result (λ records. records.items ≡ take max (history.waiting self.now.entries)) }
+    {
+        let first = self.noted();
+        let mut records = Vec::new(alloc);
+        for n in 0..max as u32 {
+            match self.sealed(alloc, first + n + 1)? {
+                Some(sealed) => records.push(sealed)?,
+                None => return Ok(records),
+            }
+        }
+        Ok(records)
+    }
+
     /// The entry of this index, from 0; None exactly where there is none.
     pub fn entry(&self, alloc: Global, index: u64) -> Result<Option<Entry>, NoMemory>
         ensures { IfOk result (λ found. found ≡ slice_get self.now.entries index) }

@@ -1,4 +1,4 @@
-use Rattle.std.proofs.Common.{◌≡◌, ℕ, List, ◌∙◌, sym, ap, Option, None, option_map, bytes_eq}
+use Rattle.std.proofs.Common.{ℕ, List, ◌∙◌, sym, ap, Option, option_map, bytes_eq}
 use Rattle.std.specs.Option.{option_map_or}
 use Rattle.std.specs.List.{position_from}
 use Rattle.record_fields.specs.declared.records.Sealed.{Sealed}

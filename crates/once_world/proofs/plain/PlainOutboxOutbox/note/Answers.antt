@@ -1,0 +1,27 @@
+use Rattle.std.proofs.Common.{◌∷◌, [], length}
+use Rattle.record_codec.specs.declared.entries.Entry.TheVariants.{Notes}
+use Rattle.shop_core.specs.History.{noted}
+use Rattle.once_world.proofs.Sights.{grows_by, grows_same, adds_notes, next_plain}
+use Rattle.once_world.proofs.plain.PlainOutboxOutbox.note.Goals as goal
+
+pub add_notes-requires : goal.add_notes-requires
+add_notes-requires g c = next_plain c.args.self.now.state.entries c.args.lines.now c.requires.some c.requires.few c.requires.fits
+
+pub returns-in-Ok-clause-grows : goal.returns-in-Ok-clause-grows
+returns-in-Ok-clause-grows g c =
+    let old = c.args.self.now in
+    let new = c.add_notes.new.self in
+    grows_by old.state.issuer new.state.issuer old.state.entries new.state.entries (Notes (length (noted old.state.entries)) c.args.lines.now ∷ []) old.own.items new.own.items
+    c.in-Ok.ensures.issuer c.in-Ok.ensures.ok.0 c.history-legal.ensures.legal
+
+pub returns-in-Ok-clause-noted : goal.returns-in-Ok-clause-noted
+returns-in-Ok-clause-noted g c =
+    let old = c.args.self.now in
+    let new = c.add_notes.new.self in
+    adds_notes old.state.issuer new.state.issuer old.state.entries new.state.entries old.own.items new.own.items c.args.lines.now c.in-Ok.ensures.ok.0 c.in-Ok.ensures.ok.1
+
+pub returns-in-Err-clause-grows : goal.returns-in-Err-clause-grows
+returns-in-Err-clause-grows g c =
+    let old = c.args.self.now in
+    let new = c.add_notes.new.self in
+    grows_same old.state.issuer new.state.issuer old.state.entries new.state.entries old.own.items new.own.items c.in-Err.ensures.issuer c.in-Err.ensures.err.0 c.history-legal-in-Err.ensures.legal

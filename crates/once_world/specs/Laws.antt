@@ -1,0 +1,87 @@
+-- What holds of a shop's legal history and an agency that agree.
+use Rattle.std.specs.Prelude.{◌≡◌, ℕ, ◌≤◌, List, [], ◌∷◌, ◌++◌, length, map, take, zip, Some, true, IsSome}
+use Rattle.std.specs.List.{AllByRecursion, Contains}
+use Rattle.record_fields.specs.declared.records.Sealed.{Sealed}
+use Rattle.record_fields.specs.declared.lines.Line.{Line}
+use Rattle.record_codec.specs.declared.entries.Entry.{Entry}
+use Rattle.record_codec.specs.declared.entries.Entry.TheVariants.{Notes}
+use Rattle.shop_core.specs.History.{recs, noted, is_record, waiting}
+use Rattle.shop_core.specs.Legal.{Legal}
+use Rattle.agency_rules.specs.Delivery.{delivered, delivered_all, line_of}
+use Rattle.agency_rules.specs.declared.plans.PlannedVerdict.{PlannedVerdict}
+use Rattle.agency_port.specs.Answers.{answers}
+use Rattle.agency_port.specs.Rules.{AreAmong}
+use Rattle.agency_port.specs.declared.answers.ReplyLine.TheVariants.{First}
+use Rattle.once_world.specs.Agreement.{IsPrefix, Agree, AreNextLines, AddsNoRefusedSale, AreOnce, lines_of}
+use Rattle.once_world.specs.Looks.{answers_for, lines_in_front, HasNoHole}
+
+abbrev pub AreRecords : List Entry → Type 0
+AreRecords more = AllByRecursion (λ (entry : Entry). is_record entry ≡ true) more
+
+-- each record stands once among the processed ones
+abbrev pub StandOnce : Type 0
+StandOnce = (issuer : List ℕ) (entries : List Entry) (processed : List (Sealed × Line)) (sent : List (List Sealed)) →
+    Legal issuer entries → Agree entries processed sent → AreOnce processed
+
+-- whatever batches that were sent come, in whatever order, agreement stays
+abbrev pub DeliveriesKeepAgreement : Type 0
+DeliveriesKeepAgreement = (issuer : List ℕ) (verdicts : List PlannedVerdict) (entries : List Entry) (processed : List (Sealed × Line)) (sent batches : List (List Sealed)) →
+    Legal issuer entries → Agree entries processed sent → AreAmong sent batches → Agree entries (delivered_all verdicts processed batches) sent
+
+-- with more records, one batch of waiting records sent, or the next lines noted, agreement stays
+abbrev pub RecordsKeepAgreement : Type 0
+RecordsKeepAgreement = (entries more : List Entry) (processed : List (Sealed × Line)) (sent : List (List Sealed)) →
+    Agree entries processed sent → AreRecords more → Agree (entries ++ more) processed sent
+
+abbrev pub SendingKeepsAgreement : Type 0
+SendingKeepsAgreement = (entries : List Entry) (processed : List (Sealed × Line)) (sent : List (List Sealed)) (count : ℕ) →
+    Agree entries processed sent → count ≤ 1000 → Agree entries processed (sent ++ take count (waiting entries) ∷ [])
+
+abbrev pub NotingKeepsAgreement : Type 0
+NotingKeepsAgreement = (entries : List Entry) (processed : List (Sealed × Line)) (sent : List (List Sealed)) (lines : List Line) →
+    Agree entries processed sent → AreNextLines entries processed lines → Agree (entries ++ Notes (length (noted entries)) lines ∷ []) processed sent
+
+-- the next lines are the next ones also behind more records
+abbrev pub RecordsKeepNextLines : Type 0
+RecordsKeepNextLines = (entries more : List Entry) (processed : List (Sealed × Line)) (lines : List Line) →
+    AreNextLines entries processed lines → AreRecords more → AreNextLines (entries ++ more) processed lines
+
+-- an agency that takes the noted pairs, and to which nothing was sent, agrees
+abbrev pub NotedPairsAgree : Type 0
+NotedPairsAgree = (issuer : List ℕ) (entries : List Entry) → Legal issuer entries → Agree entries (zip (recs entries) (noted entries)) []
+
+-- a batch that was sent adds no refused sale
+abbrev pub DeliveriesRefuseNoSale : Type 0
+DeliveriesRefuseNoSale = (issuer : List ℕ) (verdicts : List PlannedVerdict) (entries : List Entry) (processed : List (Sealed × Line)) (sent : List (List Sealed)) (batch : List Sealed) →
+    Legal issuer entries → Agree entries processed sent → Contains sent batch → AddsNoRefusedSale processed (delivered verdicts processed batch)
+
+-- where the first waiting records are all answered as new, their lines are the next ones
+abbrev pub FirstLinesAreNext : Type 0
+FirstLinesAreNext = (issuer : List ℕ) (verdicts : List PlannedVerdict) (entries : List Entry) (processed : List (Sealed × Line)) (sent : List (List Sealed)) (count : ℕ) (lines : List Line) →
+    Legal issuer entries → Agree entries processed sent → answers verdicts processed (take count (waiting entries)) ≡ map First lines →
+    IsPrefix (noted entries ++ lines) (lines_of (delivered verdicts processed (take count (waiting entries))))
+
+-- a consultation of the first waiting records has no hole
+abbrev pub WaitingHaveNoHole : Type 0
+WaitingHaveNoHole = (issuer : List ℕ) (entries : List Entry) (processed : List (Sealed × Line)) (sent : List (List Sealed)) (count : ℕ) →
+    Legal issuer entries → Agree entries processed sent → HasNoHole (answers_for processed (take count (waiting entries)))
+
+-- the lines in front of it are the next ones
+abbrev pub LookedLinesAreNext : Type 0
+LookedLinesAreNext = (issuer : List ℕ) (entries : List Entry) (processed : List (Sealed × Line)) (sent : List (List Sealed)) (count : ℕ) →
+    Legal issuer entries → Agree entries processed sent → IsPrefix (noted entries ++ lines_in_front (answers_for processed (take count (waiting entries)))) (lines_of processed)
+
+-- whatever batches come, the list only grows
+abbrev pub DeliveriesOnlyAdd : Type 0
+DeliveriesOnlyAdd = (verdicts : List PlannedVerdict) (processed : List (Sealed × Line)) (batches : List (List Sealed)) →
+    IsPrefix processed (delivered_all verdicts processed batches)
+
+-- each record of a batch that came is seen
+abbrev pub DeliveredAreSeen : Type 0
+DeliveredAreSeen = (verdicts : List PlannedVerdict) (processed : List (Sealed × Line)) (batch : List Sealed) →
+    AllByRecursion (λ (s : Sealed). IsSome (line_of (delivered verdicts processed batch) s.huella)) batch
+
+-- what is seen stays so
+abbrev pub SeenStays : Type 0
+SeenStays = (verdicts : List PlannedVerdict) (processed : List (Sealed × Line)) (batches : List (List Sealed)) (huella : List ℕ) (line : Line) →
+    line_of processed huella ≡ Some line → line_of (delivered_all verdicts processed batches) huella ≡ Some line

@@ -1,0 +1,5 @@
+pub mod Agreement
+pub mod Looks
+pub mod World
+pub mod Laws
+pub mod Outbox

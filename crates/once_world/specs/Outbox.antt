@@ -1,0 +1,66 @@
+-- What the sender sees of a shop: the items that it has seen so far, and which of them its own notes added.
+use Rattle.std.specs.Prelude.{◌≡◌, ℕ, List, [], ◌∷◌, ◌++◌, length, take, map, Result, Ok, Err}
+use Rattle.record_fields.specs.declared.lines.Line.{Line}
+use Rattle.record_codec.specs.declared.entries.Entry.{Entry}
+use Rattle.record_codec.specs.declared.entries.Entry.TheVariants.{Notes}
+use Rattle.journal.specs.declared.faults.StoreFault.{StoreFault}
+use Rattle.journal.specs.declared.faults.StoreFault.TheVariants.{DiskFault, Stopped, NoMemory}
+use Rattle.shop_core.specs.History.{recs, noted, waiting}
+use Rattle.shop_core.specs.Items.{Item, entry, stop, entries_of}
+use Rattle.shop_core.specs.Legal.{Legal}
+use Rattle.shop_core.specs.declared.waiting.Waiting.{Waiting}
+use Rattle.once_world.specs.Agreement.{IsPrefix}
+
+-- the shop's issuer, the items that were seen, and the places, from 0, of those that its own notes added
+pub record Sight : Type 0 where
+  pub issuer : List ℕ
+  pub items : List Item
+  pub own : List ℕ
+
+abbrev pub history_of : Sight → List Entry
+history_of s = entries_of s.items
+
+-- what is seen grows, and is a legal history of the one issuer
+pub record Grows (old new : Sight) : Type 0 where
+  pub issuer : new.issuer ≡ old.issuer
+  pub items : IsPrefix old.items new.items
+  pub legal : Legal new.issuer (history_of new)
+
+-- the two counts, and the first waiting records
+pub record ShowsWaiting (seen : Sight) (max : ℕ) (shown : Waiting) : Type 0 where
+  pub noted_count : shown.noted ≡ length (noted (history_of seen))
+  pub records_count : shown.records ≡ length (recs (history_of seen))
+  pub first : shown.list ≡ take max (waiting (history_of seen))
+
+-- these lines as the next ones behind these items
+abbrev pub notes_behind : List Item → List Line → Entry
+notes_behind items lines = Notes (length (noted (entries_of items))) lines
+
+-- one item more, its own, behind those that others added
+pub record AddsOwn (old new : Sight) (item : List Item → Item) : Type 0 where
+  pub others : List Item
+  pub items : new.items ≡ (old.items ++ others) ++ item (old.items ++ others) ∷ []
+  pub own : new.own ≡ old.own ++ length (old.items ++ others) ∷ []
+
+-- the stop that this call recorded, with the notes that may be in the file
+pub record StopsHere (old new : Sight) (lines : List Line) : Type 0 where
+  pub faults : ℕ
+  pub adds : AddsOwn old new (λ items. stop faults (notes_behind items lines))
+
+-- the last item is a stop with this count, of an earlier call
+pub record HasStopped (old new : Sight) (faults : ℕ) : Type 0 where
+  pub before : List Item
+  pub torn : Entry
+  pub items : new.items ≡ before ++ stop faults torn ∷ []
+  pub own : new.own ≡ old.own
+
+-- what a note of these lines adds
+abbrev pub NotedBy : Sight → Sight → List Line → Result (Unit {0}) StoreFault → Type 0
+NotedBy old new lines (Ok done) = AddsOwn old new (λ items. entry (notes_behind items lines))
+NotedBy old new lines (Err DiskFault) = StopsHere old new lines
+NotedBy old new lines (Err (Stopped faults)) = HasStopped old new faults
+NotedBy old new lines (Err NoMemory) = new.own ≡ old.own
+
+-- what is seen of a history without a stop
+abbrev pub plain_sight : List ℕ → List Entry → List ℕ → Sight
+plain_sight issuer entries own = record { issuer = issuer; items = map entry entries; own = own }

@@ -1,0 +1,46 @@
+// What holds of every shop and agency that agree.
+ghost use Rattle.once_world.specs.Laws as law;
+
+use shop_core::{a_history_notes_its_records, a_sale_has_a_new_number, legal_is_chained};
+
+/// Where agreement begins, what keeps it, and that each record then stands once among the processed ones.
+pub fn agreement_is_kept()
+    ensures begun { law.NotedPairsAgree }
+    ensures once { law.StandOnce }
+    ensures records { law.RecordsKeepAgreement }
+    ensures next_lines { law.RecordsKeepNextLines }
+    ensures sending { law.SendingKeepsAgreement }
+    ensures deliveries { law.DeliveriesKeepAgreement }
+    ensures noting { law.NotingKeepsAgreement }
+{
+    legal_is_chained();
+    a_sale_has_a_new_number();
+    a_history_notes_its_records();
+}
+
+/// A batch that was sent adds no sale that the agency refuses because its register says otherwise.
+pub fn no_sale_is_refused()
+    ensures { law.DeliveriesRefuseNoSale }
+{
+    legal_is_chained();
+    a_sale_has_a_new_number();
+}
+
+/// What an agency that agrees answers of the waiting records: a reply of new lines alone, and what stands in front of a
+/// consultation, are its next lines, and a consultation has no hole.
+pub fn answers_are_next()
+    ensures first { law.FirstLinesAreNext }
+    ensures looked { law.LookedLinesAreNext }
+    ensures whole { law.WaitingHaveNoHole }
+{
+    legal_is_chained();
+    a_sale_has_a_new_number();
+}
+
+/// What came only adds to the agency's list. Each record of a batch that came is seen from then on, with one and the same
+/// line.
+pub fn what_came_is_seen()
+    ensures grows { law.DeliveriesOnlyAdd }
+    ensures delivered { law.DeliveredAreSeen }
+    ensures stays { law.SeenStays }
+{}

@@ -1,0 +1,115 @@
+// A shop in memory alone, as its sender sees it.
+ghost use Rattle.std.specs.Prelude.{◌≡◌, ◌++◌, ◌∷◌, [], length, IfOk, OnOk, OnErr};
+ghost use Rattle.record_codec.specs.declared.entries.Entry.TheVariants.{Notes};
+ghost use Rattle.shop_core.specs.History.{noted};
+ghost use Rattle.shop_core.specs.Legal.{AreNext, Continues};
+ghost use Rattle.once_world.specs.Outbox.{plain_sight};
+
+use crate::Outbox;
+use journal::StoreFault;
+use ports::NoMemory;
+use record_codec::Entry;
+use record_fields::{Line, Lines, SealedList};
+use shop_core::{State, Waiting};
+use std::alloc::Global;
+use std::sync::Wait;
+
+/// The outbox of a history that is kept in memory: nobody else adds to it, and it never stops.
+#[derive(Drop)]
+pub struct PlainOutbox {
+    state: State,
+    own: Vec<u64>,
+}
+
+impl PlainOutbox {
+    pub fn new(alloc: Global, state: State) -> PlainOutbox
+        ensures state { result.state ≡ state }
+        ensures own { result.own.items ≡ [] }
+    {
+        PlainOutbox {
+            state,
+            own: Vec::new(alloc),
+        }
+    }
+
+    pub fn state(&self) -> &State
+        ensures { result.now ≡ self.now.state }
+    {
+        &self.state
+    }
+
+    pub fn into_state(self) -> State
+        ensures { result ≡ self.state }
+    {
+        self.state
+    }
+
+    // Adds an entry of its own that continues the history. Without memory nothing is added.
+    fn add(&mut self, entry: Entry) -> Result<(), NoMemory>
+        requires { Continues self.old.state.issuer self.old.state.entries entry }
+        ensures issuer { self.new.state.issuer ≡ self.old.state.issuer }
+        ensures ok { OnOk result ((self.new.state.entries ≡ self.old.state.entries ++ entry ∷ [])
+            × (self.new.own.items ≡ self.old.own.items ++ length self.old.state.entries ∷ [])) }
+        ensures err { OnErr result ((self.new.state.entries ≡ self.old.state.entries) × (self.new.own.items ≡ self.old.own.items)) }
+    {
+        let index = self.state.entries();
+        if self.own.reserve(1).is_err() {
+            return Err(NoMemory);
+        }
+        self.state.reserve(&entry)?;
+        let Ok(()) = self.own.push(index) else {
+            unreachable!()
+        };
+        self.state.apply(entry);
+        Ok(())
+    }
+
+    // These lines as the next ones of the history.
+    fn notes(&self, alloc: Global, lines: &[Line]) -> Result<Entry, NoMemory>
+        ensures { IfOk result (λ entry. entry ≡ Notes (length (noted self.now.state.entries)) lines.now) }
+    {
+        Ok(Entry::Notes {
+            first: self.state.noted(),
+            lines: Lines::of(Vec::from_slice(alloc, lines)?),
+        })
+    }
+
+    // Notes the next lines.
+    fn add_notes(&mut self, alloc: Global, lines: &[Line]) -> Result<(), NoMemory>
+        requires { AreNext self.old.state.entries (length (noted self.old.state.entries)) lines.now }
+        ensures issuer { self.new.state.issuer ≡ self.old.state.issuer }
+        ensures ok { OnOk result ((self.new.state.entries ≡ self.old.state.entries ++ Notes (length (noted self.old.state.entries)) lines.now ∷ [])
+            × (self.new.own.items ≡ self.old.own.items ++ length self.old.state.entries ∷ [])) }
+        ensures err { OnErr result ((self.new.state.entries ≡ self.old.state.entries) × (self.new.own.items ≡ self.old.own.items)) }
+    {
+        let entry = self.notes(alloc, lines)?;
+        self.add(entry)
+    }
+}
+
+impl Outbox for PlainOutbox {
+    ghost sight = { λ o. plain_sight o.state.issuer o.state.entries o.own.items };
+
+    fn waiting<R: Wait>(&mut self, alloc: Global, _rt: &R, max: u16) -> Result<Waiting, NoMemory> {
+        let _legal = self.state.history();
+        let list = self.state.waiting_records(alloc, max)?;
+        Ok(Waiting {
+            noted: self.state.noted(),
+            records: self.state.records(),
+            list: SealedList::of(list),
+        })
+    }
+
+    fn note<R: Wait>(&mut self, alloc: Global, _rt: &R, lines: &[Line]) -> Result<(), StoreFault> {
+        match self.add_notes(alloc, lines) {
+            Ok(()) => {
+                let _legal = self.state.history();
+                Ok(())
+            }
+            Err(_) => {
+                let _legal = self.state.history();
+                Err(StoreFault::NoMemory)
+            }
+        }
+    }
+}

@@ -1,0 +1,213 @@
+use crate::{Event, Outbox, PlainOutbox, World, run_events};
+use agency_rules::Plan;
+use amounts::Cents;
+use invoice_kinds::Kind;
+use parties::Nif;
+use record_fields::{Draft, Line, Refs};
+use series::SeriesName;
+use shop_core::{Ask, Request};
+use std::alloc::Global;
+use std::test::Fail;
+use tax_lines::{Breakdown, LineKey, TaxLine};
+
+// 2025-01-01, 10:00 on the peninsular clock.
+const TEN: u64 = 1_735_722_000;
+
+fn issuer() -> Result<Nif, Fail> {
+    match Nif::read("89890001K") {
+        Ok(nif) => Ok(nif),
+        Err(_) => Err(Fail::from("a tax number")),
+    }
+}
+
+// A sale of 100 euros at till 1.
+fn sale(alloc: Global, serial: u32) -> Result<Ask, Fail> {
+    if serial < 1 {
+        return Err(Fail::from("a serial"));
+    }
+    let series = SeriesName::read("A").ok_or("a series")?;
+    let base = Cents::new(10_000).ok_or("a base")?;
+    let line = TaxLine {
+        key: LineKey::General,
+        base,
+    };
+    let Ok(lines) = Breakdown::of(alloc, &[line]) else {
+        return Err(Fail::from("lines"));
+    };
+    let draft = Draft {
+        kind: Kind::F2,
+        rect: None,
+        customer: None,
+        refs: Refs::of(Vec::new(alloc)),
+        lines,
+    };
+    Ok(Ask::new(1, serial, Request::Sale { series, draft }))
+}
+
+// An event, with the serial in place of a sale.
+#[derive(Clone, Copy)]
+enum Step {
+    Append(u32),
+    Send(u16),
+    Deliver(u32),
+    Look,
+    Note,
+    Tear(u32, bool),
+    TearNote(bool),
+    Reopen,
+}
+
+use Step::{Append, Deliver, Look, Note, Reopen, Send, Tear, TearNote};
+
+fn event(alloc: Global, step: Step) -> Result<Event, Fail> {
+    match step {
+        Append(serial) => Ok(Event::Append {
+            ask: sale(alloc, serial)?,
+            seconds: TEN,
+        }),
+        Send(count) => Ok(Event::Send { count }),
+        Deliver(index) => Ok(Event::Deliver { index }),
+        Look => Ok(Event::Look),
+        Note => Ok(Event::Note),
+        Tear(serial, kept) => Ok(Event::Tear {
+            ask: sale(alloc, serial)?,
+            seconds: TEN,
+            kept,
+        }),
+        TearNote(kept) => Ok(Event::TearNote { kept }),
+        Reopen => Ok(Event::Reopen),
+    }
+}
+
+fn after(alloc: Global, steps: &[Step]) -> Result<World, Fail> {
+    let mut events = Vec::new(alloc);
+    for step in steps {
+        events.push(event(alloc, *step)?)?;
+    }
+    let Ok(world) = run_events(alloc, &issuer()?, &Plan::plain(alloc), &events) else {
+        return Err(Fail::from("memory"));
+    };
+    Ok(world)
+}
+
+// Records, noted lines, processed records, batches sent, and learnt lines; whether the shop is up, and whether in doubt.
+type Counts = (u32, u32, u32, usize, usize, bool, bool);
+
+fn counts(alloc: Global, steps: &[Step]) -> Result<Counts, Fail> {
+    let world = after(alloc, steps)?;
+    let learnt = match &world.learnt {
+        Some(lines) => lines.as_slice().len(),
+        None => 0,
+    };
+    Ok((
+        world.state.records(),
+        world.state.noted(),
+        world.processed.len(),
+        world.sent.as_slice().len(),
+        learnt,
+        world.up,
+        world.doubt,
+    ))
+}
+
+// Whatever is lost, late, repeated or torn.
+#[test]
+fn events_change_the_world(rt: HostRuntime) -> Result<(), Fail> {
+    let alloc = rt.alloc();
+    let in_doubt = [Append(1), Send(1)];
+    assert_eq!(rt; counts(alloc, &in_doubt)?, (1, 0, 0, 0, 0, true, true));
+    let too_many = [Look, Append(1), Send(2), Look];
+    assert_eq!(rt; counts(alloc, &too_many)?, (1, 0, 0, 0, 0, true, false));
+    let twice = [Append(1), Append(1), Tear(1, true), Look, Send(1), Send(1)];
+    assert_eq!(rt; counts(alloc, &twice)?, (1, 0, 0, 1, 0, true, true));
+    let old_after_new = [
+        Append(1),
+        Look,
+        Send(1),
+        Tear(2, true),
+        Append(3),
+        Reopen,
+        Look,
+        Send(2),
+        Deliver(1),
+        Deliver(0),
+        Deliver(1),
+        Deliver(2),
+        Look,
+    ];
+    assert_eq!(rt;
+        counts(alloc, &old_after_new)?,
+        (2, 0, 2, 2, 2, true, false)
+    );
+    let learnt = [
+        Append(1),
+        Append(2),
+        Look,
+        Send(1),
+        Deliver(0),
+        Look,
+        Send(1),
+    ];
+    assert_eq!(rt; counts(alloc, &learnt)?, (2, 0, 1, 1, 1, true, false));
+    let torn_notes = [
+        Append(1),
+        Look,
+        Send(1),
+        Deliver(0),
+        Look,
+        TearNote(false),
+        Note,
+        Reopen,
+        Look,
+        TearNote(true),
+        Reopen,
+        Look,
+        Note,
+        TearNote(true),
+    ];
+    assert_eq!(rt; counts(alloc, &torn_notes)?, (1, 1, 1, 1, 0, true, false));
+    let down = [Append(1), Look, Tear(2, false), Send(1), Append(3), Look];
+    assert_eq!(rt; counts(alloc, &down)?, (1, 0, 0, 0, 0, false, false));
+    Ok(())
+}
+
+#[test]
+fn a_torn_shop_notes_both_sales(rt: HostRuntime) -> Result<(), Fail> {
+    let alloc = rt.alloc();
+    let steps = [
+        Append(1),
+        Look,
+        Send(1),
+        Tear(2, true),
+        Reopen,
+        Look,
+        Send(2),
+        Deliver(1),
+        Deliver(0),
+        Look,
+        Note,
+    ];
+    assert_eq!(rt; counts(alloc, &steps)?, (2, 2, 2, 2, 0, true, false));
+    let world = after(alloc, &steps)?;
+    assert_eq!(rt; world.state.line(1), Some(Line::Correcto));
+    Ok(())
+}
+
+#[test]
+fn an_outbox_in_memory(rt: HostRuntime) -> Result<(), Fail> {
+    let alloc = rt.alloc();
+    let world = after(alloc, &[Append(1), Append(2)])?;
+    let mut outbox = PlainOutbox::new(alloc, world.state);
+    let Ok(shown) = outbox.waiting(alloc, &rt, 1) else {
+        return Err(Fail::from("memory"));
+    };
+    assert_eq!(rt; (shown.noted, shown.records), (0, 2));
+    assert_eq!(rt; shown.list.as_slice().len(), 1);
+    if shown.list.as_slice().is_empty() {
+        return Err(Fail::from("a waiting record"));
+    }
+    assert!(rt; outbox.note(alloc, &rt, &[Line::Correcto]).is_ok());
+    assert_eq!(rt; outbox.state().noted(), 1);
+    assert_eq!(rt; outbox.into_state().line(1), Some(Line::Correcto));
+    Ok(())
+}
