@@ -1,15 +1,14 @@
 -- What is seen of a history in memory.
-use Rattle.std.proofs.Common.{◌≡◌, ℕ, List, [], ◌∷◌, ◌++◌, refl, sym, ◌∙◌, ap, subst, length, map, drop, take, ◌≤◌, ◌+◌, arith, append-nil}
+use Rattle.std.proofs.Common.{◌≡◌, ℕ, List, [], ◌∷◌, ◌++◌, refl, sym, ◌∙◌, ap, subst, length, map, take, ◌≤◌, arith, append-nil}
 use Rattle.std.proofs.lemmas.List.{map-append, length-drop, length-map}
 use Rattle.record_fields.specs.declared.lines.Line.{Line}
-use Rattle.record_fields.specs.declared.records.Sealed.{Sealed}
 use Rattle.record_codec.specs.declared.entries.Entry.{Entry}
 use Rattle.record_codec.specs.declared.entries.Entry.TheVariants.{Notes}
 use Rattle.shop_core.specs.History.{recs, noted, waiting}
 use Rattle.shop_core.specs.Items.{Item, entry, entries_of}
 use Rattle.shop_core.specs.Legal.{Legal, AreNext}
 use Rattle.shop_core.specs.declared.waiting.Waiting.{Waiting}
-use Rattle.once_world.specs.Outbox.{Sight, Grows, AddsOwn, ShowsWaiting, history_of, notes_behind, plain_sight}
+use Rattle.once_world.specs.Outbox.{Grows, AddsOwn, ShowsWaiting, notes_behind, plain_sight}
 
 -- the entries of the items are the history
 pub entries_plain : (entries : List Entry) → entries_of (map entry entries) ≡ entries
