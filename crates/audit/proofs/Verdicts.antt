@@ -1,11 +1,10 @@
 -- A file has one verdict.
-use Rattle.std.proofs.Common.{◌≡◌, ◌⊎◌, inl, inr, ℕ, ◌+◌, List, [], ◌++◌, drop, refl, sym, ◌∙◌, ap, subst, Option, Some, None}
+use Rattle.std.proofs.Common.{◌≡◌, ◌⊎◌, inl, inr, ℕ, List, [], ◌++◌, drop, refl, sym, ◌∙◌, ap, subst, Some, None}
 use Rattle.frames.specs.Frames.{IsCounted, IsClosed, IsDamaged}
 use Rattle.frames.specs.Laws.{OneFrame}
 use Rattle.journal.specs.File.{IsNotBegun, closing_gate}
 use Rattle.journal.specs.Header.{IsHeaderDamaged, IsBegun}
 use Rattle.journal.specs.Laws.{OneHeader}
-use Rattle.journal.specs.declared.reading.Header.{Header}
 use Rattle.journal.specs.declared.reading.Header.TheVariants as header
 use Rattle.record_codec.specs.Fields.{IsEncoding}
 use Rattle.record_codec.specs.Bytes.{entry_bytes}
@@ -20,7 +19,7 @@ use Rattle.shop_core.specs.declared.audits.What.TheVariants as what
 use Rattle.shop_core.specs.declared.breaks.Break.{Break}
 use Rattle.shop_core.specs.declared.breaks.Break.TheVariants.{Notes, Link, Seal, Rule}
 use Rattle.chain_store.specs.Laws.{StopsAt, OneStop, StopsAtItsGate}
-use Rattle.chain_store.specs.Stands.{StandsFor, IsSoundUpTo, bodies_of}
+use Rattle.chain_store.specs.Stands.{bodies_of}
 use Rattle.audit.specs.Verdict.{IsVerdict, sound_end, next_place, word_of}
 use Rattle.audit.specs.Verdict.IsVerdict.{not_begun, stands, in_header, no_frame, no_entry, not_next}
 use Rattle.audit.specs.Laws.{OneVerdict}

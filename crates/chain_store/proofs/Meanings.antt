@@ -1,18 +1,17 @@
 -- A file has one meaning.
-use Rattle.std.proofs.Common.{◌≡◌, ◌⊎◌, inl, inr, ℕ, List, drop, refl, sym, subst}
-use Rattle.frames.specs.Frames.{IsCounted, IsClosed}
+use Rattle.std.proofs.Common.{◌≡◌, ◌⊎◌, inl, inr, ℕ, List, drop, refl, subst}
+use Rattle.frames.specs.Frames.{IsClosed}
 use Rattle.frames.specs.Laws.{OneFrame}
 use Rattle.journal.specs.File.{IsNotBegun, closing_gate}
 use Rattle.journal.specs.Header.{IsHeaderDamaged, IsBegun}
 use Rattle.journal.specs.Laws.{OneHeader}
-use Rattle.journal.specs.declared.reading.Header.{Header}
 use Rattle.journal.specs.declared.reading.Header.TheVariants.{NotBegun, Begun, Damaged}
 use Rattle.record_codec.specs.Fields.{IsEncoding}
 use Rattle.record_codec.specs.Laws.{EncodingsAreApart}
 use Rattle.record_codec.specs.declared.entries.Entry.{Entry}
 use Rattle.shop_core.specs.Legal.{Continues}
 use Rattle.chain_store.specs.Laws.{StopsAt, OneStop, StopsAtItsGate, OneHistory, OneDamage, SoundOrDamaged, NotBegunIsNeither}
-use Rattle.chain_store.specs.Stands.{StandsFor, IsSoundUpTo, IsDamagedFile, bodies_of}
+use Rattle.chain_store.specs.Stands.{IsDamagedFile, bodies_of}
 use Rattle.chain_store.specs.Stands.IsDamagedFile.{in_header, no_frame, no_entry, not_next}
 use Rattle.chain_store.proofs.Stops.{not_both, same_entry}
 

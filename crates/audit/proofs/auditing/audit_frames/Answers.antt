@@ -1,4 +1,4 @@
-use Rattle.std.proofs.Common.{◌≡◌, arith, drop, sym, subst, IsTrue}
+use Rattle.std.proofs.Common.{◌≡◌, arith, drop, subst, IsTrue}
 use Rattle.std.specs.Prelude.{IfOk}
 use Rattle.chain_disk.specs.Told.{Told}
 use Rattle.frames.specs.Frames.{IsClosed}
