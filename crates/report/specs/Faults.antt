@@ -2,6 +2,8 @@
 use Rattle.std.specs.Prelude.{ℕ, List, [], ◌++◌, codes, decimal}
 use Rattle.shop_core.specs.declared.words.Word.{Word}
 use Rattle.shop_core.specs.declared.words.Word.TheVariants as word
+use Rattle.shop_core.specs.declared.audits.What.{What}
+use Rattle.report.specs.Verdicts.{what_text}
 use Rattle.report.specs.declared.ended.Detail.{Detail}
 use Rattle.report.specs.declared.ended.Detail.TheVariants as detail
 
@@ -34,6 +36,10 @@ bad_line_text line fault = decimal line ++ codes " " ++ word_text fault ++ codes
 abbrev pub damage_text : ℕ → List ℕ
 damage_text at = codes "verifactu: damaged at " ++ decimal at ++ codes "\n"
 
+-- PLACE WHAT
+abbrev pub break_text : ℕ → What → List ℕ
+break_text place what = decimal place ++ codes " " ++ what_text what ++ codes "\n"
+
 -- NIF
 abbrev pub nif_line : List ℕ → List ℕ
 nif_line nif = nif ++ codes "\n"
@@ -47,6 +53,8 @@ fault_text detail.ReadFault = codes "verifactu: read fault\n"
 fault_text detail.WriteFault = codes "verifactu: write fault\n"
 fault_text detail.DiskFault = codes "verifactu: disk fault\n"
 fault_text (detail.Damaged at) = damage_text at
+fault_text (detail.Broken place what) = codes "verifactu: broken " ++ break_text place what
 fault_text detail.NoMemory = codes "verifactu: no memory\n"
 fault_text detail.TooBig = codes "verifactu: input too big\n"
 fault_text (detail.OtherIssuer held) = codes "verifactu: file of " ++ nif_line held
+fault_text detail.Unknown = codes "verifactu: no such invoice\n"

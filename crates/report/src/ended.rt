@@ -3,7 +3,7 @@ ghost use Rattle.std.specs.Prelude.{◌≡◌};
 ghost use Rattle.report.specs.Statuses.{status_of};
 
 use parties::Nif;
-use shop_core::Word;
+use shop_core::{What, Word};
 
 /// What a call of the program came to.
 #[derive(Clone, Copy, Debug, PartialEq, Eq)]
@@ -22,12 +22,16 @@ pub enum Detail {
     DiskFault,
     /// The file is damaged at this byte.
     Damaged { at: u64 },
+    /// The file is broken at this place, counted from 1, and this is the first thing that is wrong there.
+    Broken { place: u32, what: What },
     /// A growth was refused.
     NoMemory,
     /// The source gave more than 16,777,216 bytes.
     TooBig,
     /// The file holds the chain of another issuer, this one.
     OtherIssuer { held: Nif },
+    /// The chain has no alta of this number.
+    Unknown,
 }
 
 /// What a call came to, with the status that the program ends with.
@@ -49,8 +53,10 @@ pub fn status_of(detail: &Detail) -> u8
         Detail::WriteFault => 5,
         Detail::DiskFault => 6,
         Detail::Damaged { .. } => 7,
+        Detail::Broken { .. } => 9,
         Detail::NoMemory => 10,
         Detail::TooBig => 12,
         Detail::OtherIssuer { .. } => 13,
+        Detail::Unknown => 14,
     }
 }

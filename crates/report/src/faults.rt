@@ -4,10 +4,11 @@ ghost use Rattle.report.specs.Faults as spec;
 
 use crate::Detail;
 use crate::pieces::{put, put_counted, put_number};
+use crate::verdicts::what_text;
 use parties::Nif;
 use ports::NoMemory;
 use record_fields::Text;
-use shop_core::Word;
+use shop_core::{What, Word};
 use std::alloc::{AllocError, Global};
 
 fn word_text(word: Word) -> &'static [u8]
@@ -52,6 +53,15 @@ fn put_damage(text: &mut Vec<u8>, at: u64) -> Result<(), AllocError>
     put(text, b"\n")
 }
 
+fn put_broken(text: &mut Vec<u8>, place: u32, what: What) -> Result<(), AllocError>
+    ensures { OnOk result (text.new.items ≡ text.old.items ++ spec.break_text place what) }
+{
+    put_number(text, u64::from(place))?;
+    put(text, b" ")?;
+    put(text, what_text(what))?;
+    put(text, b"\n")
+}
+
 fn put_nif(text: &mut Vec<u8>, nif: &Nif) -> Result<(), AllocError>
     ensures { OnOk result (text.new.items ≡ text.old.items ++ spec.nif_line nif.now) }
 {
@@ -73,12 +83,17 @@ fn put_fault(text: &mut Vec<u8>, detail: &Detail) -> Result<(), AllocError>
         Detail::WriteFault => put(text, b"verifactu: write fault\n"),
         Detail::DiskFault => put(text, b"verifactu: disk fault\n"),
         Detail::Damaged { at } => put_damage(text, *at),
+        Detail::Broken { place, what } => {
+            put(text, b"verifactu: broken ")?;
+            put_broken(text, *place, *what)
+        }
         Detail::NoMemory => put(text, b"verifactu: no memory\n"),
         Detail::TooBig => put(text, b"verifactu: input too big\n"),
         Detail::OtherIssuer { held } => {
             put(text, b"verifactu: file of ")?;
             put_nif(text, held)
         }
+        Detail::Unknown => put(text, b"verifactu: no such invoice\n"),
     }
 }
 

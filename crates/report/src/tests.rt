@@ -244,6 +244,14 @@ fn ends_have_texts(rt: HostRuntime) -> Result<(), Fail> {
         (Detail::WriteFault, 5, "verifactu: write fault\n"),
         (Detail::DiskFault, 6, "verifactu: disk fault\n"),
         (Detail::Damaged { at: 19 }, 7, "verifactu: damaged at 19\n"),
+        (
+            Detail::Broken {
+                place: 1,
+                what: What::Seal,
+            },
+            9,
+            "verifactu: broken 1 seal\n",
+        ),
         (Detail::NoMemory, 10, "verifactu: no memory\n"),
         (Detail::TooBig, 12, "verifactu: input too big\n"),
         (
@@ -251,6 +259,7 @@ fn ends_have_texts(rt: HostRuntime) -> Result<(), Fail> {
             13,
             "verifactu: file of 89890001K\n",
         ),
+        (Detail::Unknown, 14, "verifactu: no such invoice\n"),
     ];
     for (detail, status, text) in rows {
         assert_eq!(rt; status_of(&detail), status, "at {text}");

@@ -8,7 +8,7 @@ use record_fields::Text;
 use shop_core::{AuditEnd, What};
 use std::alloc::{AllocError, Global};
 
-fn what_text(what: What) -> &'static [u8]
+pub fn what_text(what: What) -> &'static [u8]
     ensures { result.now ≡ spec.what_text what }
 {
     match what {

@@ -23,12 +23,14 @@ use Rattle.shop_core.specs.Runs.{ChainRun}
 use Rattle.shop_core.specs.Runs.ChainRun.{begun, replied}
 use Rattle.shop_core.specs.declared.answers.Reply.{Reply}
 use Rattle.verifactu.specs.Crashes.{Kept, StandsBetween}
-use Rattle.verifactu.specs.Opened.{detail_of}
-use Rattle.verifactu.specs.Output.{OutputIs}
+use Rattle.file_commands.specs.Opened.{detail_of}
+use Rattle.file_commands.specs.Output.{OutputIs}
 use Rattle.verifactu.specs.Printed.{printed}
 use Rattle.verifactu.specs.Readings.{IsComing, IsAsked, readings, readings_of, LeavesClock}
 use Rattle.verifactu.specs.Replies.{AllGoOn, AllReplied, StopsAt, StopsOnce, is_disk_fault, is_no_memory}
-use Rattle.verifactu.specs.Run.{ChainEnds, Devices, DiskRose, Disks, FailedIn, IsGoodScript, LeftMeaning, NotOpened, OpeningEnds, Played, RunEnds, ScriptEnds, Sinks, Wrote}
+use Rattle.file_commands.specs.Output.{FailedIn, Sinks, Wrote}
+use Rattle.file_commands.specs.Disks.{DiskRose, Disks}
+use Rattle.verifactu.specs.Run.{ChainEnds, Devices, IsGoodScript, LeftMeaning, NotOpened, OpeningEnds, Played, RunEnds, ScriptEnds}
 use Rattle.verifactu.specs.Stages.{Answers, Span, StoreEnds}
 use Rattle.verifactu.proofs.Finishing.{kept_since}
 
@@ -166,5 +168,9 @@ chain_ends issuer d script (detail.Script line fault) good (inl h) = absurd h.ca
 chain_ends issuer d script (detail.Script line fault) good (inr h) = absurd h.1
 chain_ends issuer d script detail.ReadFault good (inl h) = absurd h.cause
 chain_ends issuer d script detail.ReadFault good (inr h) = absurd h.1
+chain_ends issuer d script (detail.Broken place what) good (inl h) = absurd h.cause
+chain_ends issuer d script (detail.Broken place what) good (inr h) = absurd h.1
+chain_ends issuer d script detail.Unknown good (inl h) = absurd h.cause
+chain_ends issuer d script detail.Unknown good (inr h) = absurd h.1
 chain_ends issuer d script detail.TooBig good (inl h) = absurd h.cause
 chain_ends issuer d script detail.TooBig good (inr h) = absurd h.1

@@ -1,9 +1,7 @@
 -- One call of the program, by what it is given and what it leaves.
 use Rattle.std.specs.Prelude.{◌≡◌, ◌⊎◌, ℕ, List, [], Bool, true, false, IsTrue, Option, Some, None, Result, Ok, Err}
-use Rattle.std.specs.Io.KnownBytes.{Appends}
 use Rattle.std.specs.List.{list_any}
-use Rattle.ports.specs.Causes.{Rose}
-use Rattle.chain_disk.specs.Told.{Told, synced}
+use Rattle.chain_disk.specs.Told.{synced}
 use Rattle.huella.specs.Linked.{Linked}
 use Rattle.journal.specs.declared.faults.StoreFault.{StoreFault}
 use Rattle.record_codec.specs.declared.entries.Entry.{Entry}
@@ -27,28 +25,15 @@ use Rattle.report.specs.declared.ended.Ended.{Ended}
 use Rattle.verifactu.specs.Crashes.{IsPrefix, Kept, StandsSince}
 use Rattle.verifactu.specs.Help.{help_text, version_text}
 use Rattle.verifactu.specs.Inputs.{ReadAll, ReadPast, ReadFailed}
-use Rattle.verifactu.specs.Output.{WrotePart}
+use Rattle.file_commands.specs.Commands.{AuditEnds, LinkEnds}
+use Rattle.file_commands.specs.Disks.{Disks, DiskRose, LeftDisk, OnlyRead}
+use Rattle.file_commands.specs.Output.{Sinks, WroteNothing, Wrote, FailedIn, WrotePart}
 use Rattle.verifactu.specs.Printed.{printed}
 use Rattle.verifactu.specs.Readings.{IsComing, readings_of, LeavesClock}
 use Rattle.verifactu.specs.Replies.{AllReplied, StopsOnce, is_no_memory, is_disk_fault}
 use Rattle.verifactu.specs.Words.{IsAskedFor}
 use Rattle.verifactu.specs.declared.words.Command.{Command}
-use Rattle.verifactu.specs.declared.words.Command.TheVariants.{Chain, Help, Version}
-
--- the sink of a call, before it and after it
-pub record Sinks : Type 0 where
-  pub taken : Option (List ℕ)
-  pub taken_after : Option (List ℕ)
-  pub faults : ℕ
-  pub faults_after : ℕ
-
--- the disk of a call, before it and after it
-pub record Disks (D : Type 0) : Type 0 where
-  pub tells : Bool
-  pub told : D → Told
-  pub faults : D → ℕ
-  pub disk : D
-  pub disk_after : D
+use Rattle.verifactu.specs.declared.words.Command.TheVariants.{Chain, Audit, Link, Help, Version}
 
 -- the source, the sink, the disk and the clock of a call, before it and after it
 pub record Devices (D C : Type 0) : Type 0 where
@@ -61,24 +46,6 @@ pub record Devices (D C : Type 0) : Type 0 where
   pub coming : C → ℕ → Option ℕ
   pub clock : C
   pub clock_after : C
-
-abbrev pub WroteNothing : Sinks → Type 0
-WroteNothing s = Appends s.taken s.taken_after []
-
--- the sink took this text
-abbrev pub Wrote : Sinks → List ℕ → Type 0
-Wrote s text = Appends s.taken s.taken_after text
-
--- the sink failed, and took a front of this text
-pub record FailedIn (s : Sinks) (text : List ℕ) : Type 0 where
-  pub risen : Rose s.faults s.faults_after
-  pub part : WrotePart s.taken s.taken_after text
-
-abbrev pub LeftDisk : {D : Type 0} → Disks D → Type 0
-LeftDisk k = k.disk_after ≡ k.disk
-
-abbrev pub DiskRose : {D : Type 0} → Disks D → Type 0
-DiskRose k = Rose (k.faults k.disk) (k.faults k.disk_after)
 
 -- the file stands for what it stood for
 abbrev pub LeftMeaning : {D : Type 0} → List ℕ → Disks D → Type 0
@@ -113,6 +80,8 @@ RunEnds replies text s detail.ReadFault = ⊥
 RunEnds replies text s (detail.Damaged at) = ⊥
 RunEnds replies text s detail.TooBig = ⊥
 RunEnds replies text s (detail.OtherIssuer held) = ⊥
+RunEnds replies text s (detail.Broken place what) = ⊥
+RunEnds replies text s detail.Unknown = ⊥
 
 -- how a command ends that couldn't open its file
 abbrev pub OpeningEnds : {D : Type 0} → List ℕ → Disks D → Detail → Type 0
@@ -128,6 +97,8 @@ OpeningEnds issuer k (detail.Script line fault) = ⊥
 OpeningEnds issuer k detail.ReadFault = ⊥
 OpeningEnds issuer k detail.WriteFault = ⊥
 OpeningEnds issuer k detail.TooBig = ⊥
+OpeningEnds issuer k (detail.Broken place what) = ⊥
+OpeningEnds issuer k detail.Unknown = ⊥
 
 -- the file wasn't opened, nothing was printed, and the clock wasn't read
 pub record NotOpened {D : Type 0} (issuer : List ℕ) (Leaves : List (Result Reply StoreFault) → Type 0) (s : Sinks) (k : Disks D) (end : Detail) : Type 0 where
@@ -178,6 +149,8 @@ ChainEnds issuer d (detail.Damaged at) = ReadAndRan issuer d (detail.Damaged at)
 ChainEnds issuer d detail.NoMemory = Untouched d ⊎ ReadAndRan issuer d detail.NoMemory
 ChainEnds issuer d detail.TooBig = ReadPast d.left d.left_after × Untouched d
 ChainEnds issuer d (detail.OtherIssuer held) = ReadAndRan issuer d (detail.OtherIssuer held)
+ChainEnds issuer d (detail.Broken place what) = ⊥
+ChainEnds issuer d detail.Unknown = ⊥
 
 -- the source wasn't read
 pub record ReadNothing {D C : Type 0} (d : Devices D C) : Type 0 where
@@ -196,9 +169,17 @@ pub record OnlyPrints {D C : Type 0} (d : Devices D C) : Type 0 where
   pub disk : LeftDisk d.disk
   pub clock : LeftClock d
 
+-- a call that reads its file alone, and nothing else but the sink
+pub record OnlyReadsFile {D C : Type 0} (d : Devices D C) : Type 0 where
+  pub read : ReadNothing d
+  pub disk : OnlyRead d.disk
+  pub clock : LeftClock d
+
 -- when a command ends in this way
 abbrev pub CommandEnds : {D C : Type 0} → Command → Devices D C → Detail → Type 0
 CommandEnds (Chain issuer) d end = ChainEnds issuer d end
+CommandEnds Audit d end = AuditEnds d.sink d.disk end × OnlyReadsFile d
+CommandEnds (Link num host) d end = LinkEnds num host d.sink d.disk end × OnlyReadsFile d
 CommandEnds Help d end = PrintEnds help_text d.sink end × OnlyPrints d
 CommandEnds Version d end = PrintEnds version_text d.sink end × OnlyPrints d
 

@@ -18,7 +18,8 @@ use Rattle.verifactu.specs.Inputs.{ReadPast, ReadFailed}
 use Rattle.verifactu.specs.Printed.{printed}
 use Rattle.verifactu.specs.Readings.{IsComing, IsAsked, readings}
 use Rattle.verifactu.specs.Replies.{StopsOnce}
-use Rattle.verifactu.specs.Run.{IsGoodScript, IsBadScript, RunEnds, Sinks}
+use Rattle.file_commands.specs.Output.{Sinks}
+use Rattle.verifactu.specs.Run.{IsGoodScript, IsBadScript, RunEnds}
 
 -- the script of a source, or the end that the command comes to
 abbrev pub ReadStage : Option (List ℕ) → Option (List ℕ) → ℕ → ℕ → Result Script Detail → Type 0
@@ -33,6 +34,8 @@ ReadStage left left_after faults faults_after (Err detail.WriteFault) = ⊥
 ReadStage left left_after faults faults_after (Err detail.DiskFault) = ⊥
 ReadStage left left_after faults faults_after (Err (detail.Damaged at)) = ⊥
 ReadStage left left_after faults faults_after (Err (detail.OtherIssuer held)) = ⊥
+ReadStage left left_after faults faults_after (Err (detail.Broken place what)) = ⊥
+ReadStage left left_after faults faults_after (Err detail.Unknown) = ⊥
 
 -- a store, before a run and after it
 pub record Span (C : Type 0) : Type 0 where

@@ -1,8 +1,11 @@
 -- What the words of the command line ask for. The commands are this project's own.
-use Rattle.std.specs.Prelude.{◌≡◌, ℕ, ◌<◌, List, [], ◌∷◌, length, codes, Option, Some, None}
+use Rattle.std.specs.Prelude.{◌≡◌, ℕ, ◌<◌, List, [], ◌∷◌, length, codes, IsTrue, Option, Some, None}
 use Rattle.parties.specs.Nif.{IsNif}
+use Rattle.series.specs.Numbers.{is_num_serie}
+use Rattle.verify_link.specs.declared.parts.Host.{Host}
+use Rattle.verify_link.specs.declared.parts.Host.TheVariants.{Real, Practice}
 use Rattle.verifactu.specs.declared.words.Command.{Command}
-use Rattle.verifactu.specs.declared.words.Command.TheVariants.{Chain, Help, Version}
+use Rattle.verifactu.specs.declared.words.Command.TheVariants.{Chain, Audit, Link, Help, Version}
 
 -- `chain FILE NIF`: a file's name, which isn't empty, and a tax number
 pub record IsChain (words : List (List ℕ)) (issuer : List ℕ) : Type 0 where
@@ -11,9 +14,33 @@ pub record IsChain (words : List (List ℕ)) (issuer : List ℕ) : Type 0 where
   pub named : 0 < length file
   pub nif : IsNif issuer
 
+-- `audit FILE`
+pub record IsAudit (words : List (List ℕ)) : Type 0 where
+  pub file : List ℕ
+  pub words_are : words ≡ codes "audit" ∷ (file ∷ [])
+  pub named : 0 < length file
+
+abbrev pub host_word : Host → List ℕ
+host_word Real = codes "real"
+host_word Practice = codes "test"
+
+-- the host that a word names; none where it names none
+abbrev pub IsHost : List ℕ → Option Host → Type 0
+IsHost word None = (host : Host) → word ≡ host_word host → ⊥
+IsHost word (Some host) = word ≡ host_word host
+
+-- `link FILE NUM HOST`: a number of an invoice, and `real` or `test`
+pub record IsLink (words : List (List ℕ)) (num : List ℕ) (host : Host) : Type 0 where
+  pub file : List ℕ
+  pub words_are : words ≡ codes "link" ∷ (file ∷ (num ∷ (host_word host ∷ [])))
+  pub named : 0 < length file
+  pub number : IsTrue (is_num_serie num)
+
 -- the words of this command
 abbrev pub AsksFor : List (List ℕ) → Command → Type 0
 AsksFor words (Chain issuer) = IsChain words issuer
+AsksFor words Audit = IsAudit words
+AsksFor words (Link num host) = IsLink words num host
 AsksFor words Help = words ≡ codes "--help" ∷ []
 AsksFor words Version = words ≡ codes "--version" ∷ []
 

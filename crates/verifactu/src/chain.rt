@@ -3,7 +3,6 @@ ghost use Rattle.std.specs.Prelude.{◌≡◌, ◌≤◌, [], None, List, length
 ghost use Rattle.journal.specs.Journal.{disk_of, stopped_of};
 ghost use Rattle.record_codec.specs.declared.entries.Entry.{Entry};
 ghost use Rattle.chain_store.specs.Store.{Ready, clock_of, journal_of, state_of};
-ghost use Rattle.verifactu.specs.Opened as opened;
 ghost use Rattle.verifactu.specs.Readings.{IsAsked, LeavesClock, readings, readings_of};
 ghost use Rattle.verifactu.specs.Run.{ChainEnds, ScriptEnds};
 ghost use Rattle.verifactu.specs.Stages.{ReadStage, StoreEnds};
@@ -11,10 +10,10 @@ ghost use Rattle.verifactu.specs.Stages.{ReadStage, StoreEnds};
 use crate::commands::run_commands;
 use crate::ending::end_of;
 use crate::input::{InputFault, read_input};
-use crate::output::write_texts;
 use crate::printed::told_of;
 use chain_disk::Disk;
-use chain_store::{OpenCause, Store};
+use chain_store::Store;
+use file_commands::{detail_of, write_texts};
 use journal::StoreFault;
 use parties::Nif;
 use ports::{Clock, CountingClock, Sink, Source};
@@ -114,7 +113,7 @@ fn run_asks<K: Sink, D: Disk, C: Clock>(
         return (Detail::NoMemory, disk, clock);
     }
     match open_store(alloc, disk, clock, issuer) {
-        Err(fault) => (cause_of(&fault.cause), fault.disk, fault.clock),
+        Err(fault) => (detail_of(&fault.cause), fault.disk, fault.clock),
         Ok(store) => run_opened(alloc, asks, sink, store, replies),
     }
 }
@@ -156,17 +155,6 @@ fn devices_of<D: Disk, C: Clock>(store: Store<D, C>) -> (D, C)
 {
     let (_, disk, clock) = store.into_parts();
     (disk, clock)
-}
-
-fn cause_of(cause: &OpenCause) -> Detail
-    ensures { result ≡ opened.detail_of cause.now }
-{
-    match cause {
-        OpenCause::DiskFault => Detail::DiskFault,
-        OpenCause::Damaged { at } => Detail::Damaged { at: *at },
-        OpenCause::OtherIssuer { held } => Detail::OtherIssuer { held: *held },
-        OpenCause::NoMemory => Detail::NoMemory,
-    }
 }
 
 // Runs the commands on a store, and prints the replies and the history.

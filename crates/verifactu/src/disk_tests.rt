@@ -7,6 +7,7 @@ use chain_disk::{Disk, Fill, MemDisk};
 use parties::Nif;
 use ports::{Clock, CountingClock, Failed};
 use report::{Detail, Ended};
+use shop_core::What;
 use std::alloc::Global;
 use std::sync::atomic::{AtomicU64, Ordering};
 use std::test::Fail;
@@ -54,9 +55,9 @@ fn a_run_goes_on_from_its_file(rt: HostRuntime) -> Result<(), Fail> {
 }
 
 // The bytes of the file of the first sale.
-fn first_file(alloc: Global) -> Result<Vec<u8>, Fail> {
+fn first_file(alloc: Global) -> Result<[u8; 98], Fail> {
     let (_, _, mut disk) = runs(alloc, ROW, disk_of(alloc, &[], 0)?)?;
-    let mut bytes = vec![in alloc; 0; 98]?;
+    let mut bytes = [0; 98];
     let Ok(98) = disk.read_at(0, &mut bytes) else {
         return Err(Fail::from("98 bytes"));
     };
@@ -100,6 +101,48 @@ fn files_that_are_no_chain_of_this_issuer(rt: HostRuntime) -> Result<(), Fail> {
         end_on(alloc, CHAIN, &bytes)?.detail,
         Detail::Damaged { at: 19 }
     );
+    Ok(())
+}
+
+#[test]
+fn a_file_is_audited_and_its_invoices_have_links(rt: HostRuntime) -> Result<(), Fail> {
+    let alloc = rt.alloc();
+    let mut bytes = first_file(alloc)?;
+    let broken = Detail::Broken {
+        place: 1,
+        what: What::Seal,
+    };
+    let sound = "sound 1 noted 0 last D88B42F8D11C4EA2112502EC992F055A7E94F796D67095359B946A4A5B03E616\n";
+    let real = "https://www2.agenciatributaria.gob.es/wlpl/TIKE-CONT/ValidarQR?nif=89890001K&numserie=A-1&fecha=01-01-2025&importe=121.00\n";
+    let trial = "https://prewww2.aeat.es/wlpl/TIKE-CONT/ValidarQR?nif=89890001K&numserie=A-1&fecha=01-01-2025&importe=121.00\n";
+    let rows = [
+        ("audit shop.chain", true, Detail::Done, 0, sound),
+        ("audit shop.chain", false, broken, 9, "broken 1 at 19 seal\n"),
+        ("link shop.chain A-1 real", true, Detail::Done, 0, real),
+        ("link shop.chain A-1 test", true, Detail::Done, 0, trial),
+        ("link shop.chain A-2 real", true, Detail::Unknown, 14, ""),
+        (
+            "link shop.chain A-1 real",
+            false,
+            Detail::Damaged { at: 19 },
+            7,
+            "",
+        ),
+    ];
+    for (words, whole, detail, status, text) in rows {
+        bytes[90] ^= if whole { 0 } else { 1 };
+        let disk = disk_of(alloc, &bytes, 0)?;
+        bytes[90] ^= if whole { 0 } else { 1 };
+        let clock = CountingClock::new(0, 0);
+        let (ended, sink, _, _) = ends(alloc, words, b"", (1, 0), disk, clock)?;
+        assert_eq!(rt; ended, Ended { status, detail }, "at {words}");
+        assert_eq!(rt; sink.bytes(), text.as_bytes(), "at {words}");
+    }
+    let nothing = disk_of(alloc, &[], 0)?;
+    let clock = CountingClock::new(0, 0);
+    let (ended, sink, _, _) = ends(alloc, "audit shop.chain", b"", (0, 0), nothing, clock)?;
+    assert_eq!(rt; ended, done());
+    assert_eq!(rt; sink.bytes(), b"sound 0 noted 0 last -\n".as_slice());
     Ok(())
 }
 
@@ -193,7 +236,7 @@ fn each_call_of_the_disk_fails_in_turn(rt: HostRuntime) -> Result<(), Fail> {
 fn a_fault_of_the_disk_stops_the_journal(rt: HostRuntime) -> Result<(), Fail> {
     let alloc = rt.alloc();
     let script = "clock 1735722000 0\nsale 1 1 A F2 21:10000\nsale 1 2 A F2 21:10000\n";
-    // The first sync of an opening, a look at the length, six calls of creation, and the fourth of an append.
+    // A sync and two looks at the length of an opening, six calls of creation, and the fourth of an append.
     let (ended, text, disk) = runs(alloc, script, disk_of(alloc, &[], 13)?)?;
     assert_eq!(rt; ended.detail, Detail::DiskFault);
     assert_eq!(rt; ended.status, 6);
@@ -206,11 +249,25 @@ fn a_fault_of_the_disk_stops_the_journal(rt: HostRuntime) -> Result<(), Fail> {
     Ok(())
 }
 
-// A disk that tells nothing, and counts its syncs where others see it.
+// A disk in memory that tells nothing, and counts its syncs where others see it.
 #[derive(Drop)]
 struct CountedDisk<'a> {
-    disk: MemDisk,
+    bytes: Vec<u8>,
+    faults: u64,
     syncs: &'a AtomicU64,
+}
+
+impl<'a> CountedDisk<'a> {
+    fn put(&mut self, at: usize, bytes: &[u8]) -> Option<()>
+        ensures { self.new.faults ≡ self.old.faults }
+    {
+        let end = at.checked_add(bytes.len())?;
+        if end > self.bytes.len() {
+            self.bytes.resize(end, 0).ok()?;
+        }
+        self.bytes.get_mut(at..end)?.copy_from_slice(bytes);
+        Some(())
+    }
 }
 
 impl<'a> Disk for CountedDisk<'a> {
@@ -218,30 +275,38 @@ impl<'a> Disk for CountedDisk<'a> {
 
     ghost told = { λ d. untold };
 
-    ghost faults = { λ d. ⟦<MemDisk as Disk>⟧.faults d.disk };
+    ghost faults = { λ d. d.faults };
 
     ghost reads_an_image = { λ d tells. untold_reads };
 
     fn len(&mut self) -> Result<u64, Failed> {
-        self.disk.len()
+        Ok(self.bytes.len() as u64)
     }
 
     fn read_at(&mut self, at: u64, buf: &mut [u8]) -> Result<usize, Failed> {
-        self.disk.read_at(at, buf)
+        let rest = self.bytes.get(at as usize..).unwrap_or(&[]);
+        let n = rest.len().min(buf.len());
+        buf[..n].copy_from_slice(&rest[..n]);
+        Ok(n)
     }
 
     fn write_at(&mut self, at: u64, bytes: &[u8]) -> Result<(), Failed> {
-        self.disk.write_at(at, bytes)
+        match self.put(at as usize, bytes) {
+            Some(()) => Ok(()),
+            None => {
+                self.faults = self.faults.saturating_add(1);
+                Err(Failed)
+            }
+        }
     }
 
     fn sync(&mut self) -> Result<(), Failed> {
-        self.disk.sync()?;
         self.syncs.fetch_add(1, Ordering::SeqCst);
         Ok(())
     }
 
     fn faults(&self) -> u64 {
-        self.disk.faults()
+        self.faults
     }
 }
 
@@ -275,7 +340,8 @@ fn each_record_is_synced_before_the_next_command(rt: HostRuntime) -> Result<(), 
     let alloc = rt.alloc();
     let syncs = AtomicU64::new(0);
     let disk = CountedDisk {
-        disk: disk_of(alloc, &[], 0)?,
+        bytes: Vec::new(alloc),
+        faults: 0,
         syncs: &syncs,
     };
     let clock = WatchingClock {

@@ -1,9 +1,9 @@
 // How a run ends.
 ghost use Rattle.std.specs.Prelude.{◌≡◌, ℕ, List};
 ghost use Rattle.std.specs.List.{list_any};
-ghost use Rattle.verifactu.specs.Output.{OutputIs};
+ghost use Rattle.file_commands.specs.Output.{OutputIs, Sinks};
 ghost use Rattle.verifactu.specs.Replies as spec;
-ghost use Rattle.verifactu.specs.Run.{RunEnds, Sinks};
+ghost use Rattle.verifactu.specs.Run.{RunEnds};
 
 use journal::StoreFault;
 use ports::Failed;

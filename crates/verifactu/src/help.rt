@@ -6,14 +6,17 @@ const HELP: &[u8] = b"\
 The invoicing chain of a shop with many tills, in VERI*FACTU mode.
 
 Usage:
-  verifactu chain FILE NIF   answers the script on standard input
-  verifactu --help           prints this text
-  verifactu --version        prints the version
+  verifactu chain FILE NIF       answers the script on standard input
+  verifactu audit FILE           prints whether the file is a sound chain
+  verifactu link FILE NUM HOST   prints the link of an invoice's QR code
+  verifactu --help               prints this text
+  verifactu --version            prints the version
 
 FILE is the file of the shop's chain. It is begun where it isn't there, and each
 record is on it before the next command is read: run the same script again after
 a crash, and what was taken is answered again and not registered twice.
-NIF is the issuer's tax number.
+NIF is the issuer's tax number, NUM the number of an invoice; HOST is real or
+test. audit and link only read the file.
 
 A script has one command a line:
   clock START STEP         at most once: the commands' readings of the clock are
@@ -26,6 +29,8 @@ A script has one command a line:
   fix TILL SERIAL NUM KIND OPTION.. LINE..
                            the invoice NUM, mended
   cancel TILL SERIAL NUM   the invoice NUM, cancelled
+  vet NUM N CODE, warn NUM N CODE, wait SECONDS, link CALL FATE, link CALL late D
+                           the plan of a practice agency; chain does nothing by it
 KIND is F1, F2, F3 or R1 to R5. OPTION is to=KEY, rect=S, rect=I or
 ref=NUM@DD-MM-YYYY. LINE is CLASS:BASE, the base in cents; CLASS is 21, 10, 4,
 0, 21+, 10+, 4+, S2, N1, N2 or E1 to E6.
@@ -43,9 +48,11 @@ Status:
    5  standard output could not be written; the file keeps the records
    6  the file could not be read or written
    7  the file is damaged; standard error names the byte
+   9  audit found the file broken; it printed where
   10  no memory
   12  the script is longer than 16777216 bytes
   13  the file is the chain of another issuer, whom standard error names
+  14  the file has no invoice of this number
 ";
 
 const VERSION: &[u8] = b"verifactu 0.1.0\n";

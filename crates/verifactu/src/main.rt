@@ -9,7 +9,6 @@ mod disk_tests;
 mod ending;
 mod help;
 mod input;
-mod output;
 mod printed;
 mod run;
 #[cfg(test)]

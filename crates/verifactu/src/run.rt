@@ -1,17 +1,18 @@
 // The program: one call does all that it does.
 ghost use Rattle.std.specs.Prelude.{map, string_bytes};
-ghost use Rattle.verifactu.specs.Run.{EndsAs, CommandEnds, PrintEnds, Sinks};
+ghost use Rattle.verifactu.specs.Run.{EndsAs, CommandEnds, PrintEnds};
 
 use crate::chain::chain;
 use crate::help::{help_text, version_text};
-use crate::output::write_text;
 use crate::words::{Command, command_of};
 use chain_disk::Disk;
+use file_commands::{audit_cmd, link_cmd, write_text};
 use ports::{Clock, Sink, Source};
 use report::{Detail, Ended, status_of};
 use std::alloc::Global;
 
-/// Runs the command that the words are. `chain FILE NIF` reads a script from the source, opens the disk for this issuer, runs
+/// Runs the command that the words are. `audit FILE` prints the verdict on the file, and `link FILE NUM HOST` the link of an
+/// invoice: both read the disk alone. `chain FILE NIF` reads a script from the source, opens the disk for this issuer, runs
 /// the commands on the history that it holds, keeps each entry on the disk before the next command, and prints the replies
 /// and the chain to the sink; `--help` and `--version` print their texts. The clock is asked once a command, where the
 /// script has no clock line, and no more once the disk has failed. FILE itself is the caller's: it names the disk.
@@ -65,6 +66,14 @@ fn end_of<S: Source, K: Sink, D: Disk, C: Clock>(
 {
     match command {
         Command::Chain(issuer) => chain(alloc, &issuer, source, sink, disk, clock),
+        Command::Audit => {
+            let (ended, disk) = audit_cmd(alloc, sink, disk);
+            (ended.detail, disk, clock)
+        }
+        Command::Link(num, host) => {
+            let (ended, disk) = link_cmd(alloc, &num, host, sink, disk);
+            (ended.detail, disk, clock)
+        }
         Command::Help => (print(help_text(), sink), disk, clock),
         Command::Version => (print(version_text(), sink), disk, clock),
     }

@@ -64,7 +64,10 @@ fn printed(alloc: Global, script: &[u8]) -> Result<(Ended, MemSink), Fail> {
 fn scripts_are_answered(rt: HostRuntime) -> Result<(), Fail> {
     let rows = [
         ("", "chain 0 noted 0\n"),
-        ("# nothing\r\n\r\n", "chain 0 noted 0\n"),
+        (
+            "# nothing\r\n\r\nvet A-1 1 4100\nwait 5\nlink 2 late 3",
+            "chain 0 noted 0\n",
+        ),
         (
             "clock 1735722000 0\nsale 1 1 A F2 21:10000\n",
             "till 1 serial 1 taken 1 A-1 D88B42F8D11C4EA2112502EC992F055A7E94F796D67095359B946A4A5B03E616\n1 alta A-1 01-01-2025 F2 21.00 121.00 N N D88B42F8D11C4EA2112502EC992F055A7E94F796D67095359B946A4A5B03E616 pending\nchain 1 noted 0\n",
@@ -139,6 +142,29 @@ fn faults_have_statuses(rt: HostRuntime) -> Result<(), Fail> {
             "usage",
         ),
         ("chain", (0, 0), Detail::Usage, 2, "usage"),
+        ("audit ", (0, 0), Detail::Usage, 2, "usage"),
+        (
+            "link shop.chain A=1 real",
+            (0, 0),
+            Detail::Usage,
+            2,
+            "usage",
+        ),
+        (
+            "link shop.chain A-1 both",
+            (0, 0),
+            Detail::Usage,
+            2,
+            "usage",
+        ),
+        ("audit shop.chain", (1, 1), Detail::WriteFault, 5, "write fault"),
+        (
+            "link shop.chain A-1 test",
+            (0, 0),
+            Detail::Unknown,
+            14,
+            "no such invoice",
+        ),
         ("--version now", (0, 0), Detail::Usage, 2, "usage"),
         (CHAIN, (1, 0), Detail::ReadFault, 4, "read fault"),
         (CHAIN, (2, 0), Detail::ReadFault, 4, "read fault"),
@@ -174,7 +200,8 @@ fn bad_lines_are_named(rt: HostRuntime) -> Result<(), Fail> {
         ("sale 1 1 A F2 21:100 ", 1, Word::Class),
         ("sale 1 1 A F1 to=c1 21:100", 1, Word::Customer),
         ("clock 0 0\nsale 1 1 A F2 21:100\nclock 0 0", 3, Word::Twice),
-        ("vet A-1 1 4100", 1, Word::Verb),
+        ("vet A-1 0 4100", 1, Word::Number),
+        ("link 1 later", 1, Word::Fate),
         (" ", 1, Word::Verb),
     ];
     for (script, line, fault) in rows {

@@ -4,9 +4,10 @@ use Rattle.journal.specs.declared.faults.StoreFault.{StoreFault}
 use Rattle.record_codec.specs.declared.entries.Entry.{Entry}
 use Rattle.shop_core.specs.History.{History}
 use Rattle.shop_core.specs.declared.answers.Reply.{Reply}
-use Rattle.verifactu.specs.Output.{OutputIs}
+use Rattle.file_commands.specs.Output.{OutputIs}
 use Rattle.verifactu.specs.Printed.{printed}
-use Rattle.verifactu.specs.Run.{RunEnds, Sinks}
+use Rattle.file_commands.specs.Output.{Sinks}
+use Rattle.verifactu.specs.Run.{RunEnds}
 use Rattle.verifactu.proofs.chain.play.Goals as goal
 
 pub returns-clause-end : goal.returns-clause-end

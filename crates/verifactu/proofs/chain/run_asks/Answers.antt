@@ -3,7 +3,9 @@ use Rattle.chain_disk.specs.Told.{Told}
 use Rattle.chain_store.specs.Store.{state_of, journal_of, clock_of}
 use Rattle.journal.specs.Journal.{disk_of}
 use Rattle.verifactu.specs.Readings.{IsAsked, readings}
-use Rattle.verifactu.specs.Run.{Disks, NotOpened, OpeningEnds, ScriptEnds, Sinks}
+use Rattle.file_commands.specs.Output.{Sinks}
+use Rattle.file_commands.specs.Disks.{Disks}
+use Rattle.verifactu.specs.Run.{NotOpened, OpeningEnds, ScriptEnds}
 use Rattle.verifactu.specs.Stages.{Answers, Span}
 use Rattle.verifactu.proofs.RunEnding.{opening_ends, not_asked, ran}
 use Rattle.verifactu.proofs.chain.run_asks.Goals as goal
@@ -12,8 +14,8 @@ pub returns-in-Err : goal.returns-in-Err
 returns-in-Err g c =
     let fault = c.in-Err.fault in
     let disk : Disks g.row.D.Denot = record { tells = g.D.Disk.tells; told = g.D.Disk.told; faults = g.D.Disk.faults; disk = c.args.disk; disk_after = fault.disk } in
-    let ends : OpeningEnds c.args.issuer.now disk c.cause_of.result =
-    subst (λ d. OpeningEnds c.args.issuer.now disk d) (sym c.cause_of.ensures)
+    let ends : OpeningEnds c.args.issuer.now disk c.detail_of.result =
+    subst (λ d. OpeningEnds c.args.issuer.now disk d) (sym c.detail_of.ensures)
     (opening_ends fault.cause c.args.issuer.now disk c.in-Err.ensures.disk_fault (λ at is says. c.in-Err.ensures.damaged at is says) (λ held is says. c.in-Err.ensures.other held is says) c.in-Err.ensures.kept) in
     inl (record {
       cause = ends;

@@ -2,7 +2,9 @@ use Rattle.std.proofs.Common.{◌≡◌, ℕ, List, sym, ap, subst, refl, Some, 
 use Rattle.ports.specs.Counting.{counting}
 use Rattle.shop_core.specs.Asked.{Asked}
 use Rattle.verifactu.specs.Readings.{IsAsked, LeavesClock, readings, readings_of}
-use Rattle.verifactu.specs.Run.{Disks, ScriptEnds, Sinks}
+use Rattle.file_commands.specs.Output.{Sinks}
+use Rattle.file_commands.specs.Disks.{Disks}
+use Rattle.verifactu.specs.Run.{ScriptEnds}
 use Rattle.verifactu.proofs.RunEnding.{script_by}
 use Rattle.verifactu.proofs.chain.run_script.Goals as goal
 

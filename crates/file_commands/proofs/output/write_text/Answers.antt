@@ -1,7 +1,7 @@
 use Rattle.std.proofs.Common.{arith}
 use Rattle.std.proofs.KnownBytes.{Appends-trans}
-use Rattle.verifactu.proofs.Bytewise.{take_on, rest_le}
-use Rattle.verifactu.proofs.output.write_text.Goals as goal
+use Rattle.file_commands.proofs.Bytewise.{take_on, rest_le}
+use Rattle.file_commands.proofs.output.write_text.Goals as goal
 
 pub loop-done-preserved : goal.loop-done-preserved
 loop-done-preserved g c =

@@ -1,5 +1,5 @@
-use Rattle.verifactu.proofs.Bytewise.{part_of_first, wrote_both}
-use Rattle.verifactu.proofs.output.write_texts.Goals as goal
+use Rattle.file_commands.proofs.Bytewise.{part_of_first, wrote_both}
+use Rattle.file_commands.proofs.output.write_texts.Goals as goal
 
 pub returns-in-Ok : goal.returns-in-Ok
 returns-in-Ok g c =
