@@ -1,12 +1,12 @@
 -- A file that was opened.
-use Rattle.std.proofs.Common.{◌≡◌, ℕ, List, [], ◌∙◌, subst, Result, Ok, Err}
+use Rattle.std.proofs.Common.{◌≡◌, ℕ, List, [], ◌∙◌, subst, refl, inl, inr, Result, Ok, Err}
 use Rattle.std.specs.Prelude.{IfErr}
 use Rattle.chain_store.specs.declared.causes.OpenCause.{OpenCause}
 use Rattle.chain_store.specs.declared.causes.OpenCause.TheVariants.{OtherIssuer}
-use Rattle.recovery.specs.Opening.{IsOthers, ReadsAlike}
-use Rattle.chain_disk.specs.Told.{Told, IsSettled, LeavesNow}
-use Rattle.chain_disk.specs.Runs.{leaves_now}
-use Rattle.journal.specs.File.{IsAtSome, IsFile, closing_gate}
+use Rattle.recovery.specs.Opening.{IsFound, IsOthers, ReadsAlike}
+use Rattle.chain_disk.specs.Told.{Told, IsSettled, LeavesNow, LeavesOnly}
+use Rattle.chain_disk.specs.Runs.{leaves_now, started_settled, weaker}
+use Rattle.journal.specs.File.{IsAtSome, IsFile, IsNotBegunOrEmpty, closing_gate}
 use Rattle.record_codec.specs.declared.entries.Entry.{Entry}
 use Rattle.shop_core.specs.Legal.{Legal}
 use Rattle.chain_store.specs.Stands.{StandsFor, bodies_of}
@@ -29,3 +29,14 @@ others_before cause_of told_of tells issuer old mid (Ok s) same h = tt
 others_before cause_of told_of tells issuer old mid (Err f) same h = λ held is says.
     let found = h held is says in
     (subst (λ (c : List ℕ). IsOthers issuer held c) (same says) found.0, found.1 ∙ same says)
+
+found_empty : (issuer c : List ℕ) → Legal issuer [] → IsNotBegunOrEmpty issuer c → IsFound issuer [] c
+found_empty issuer c legal (inl not_begun) = inl (not_begun, refl)
+found_empty issuer c legal (inr file) = inr (record { frames = file; encoded = tt; legal = legal })
+
+-- while a file is begun, each crash leaves the empty history
+pub begins : (issuer : List ℕ) (t u : Told) → Legal issuer [] → LeavesOnly t u (IsNotBegunOrEmpty issuer) → LeavesOnly t u (IsFound issuer [])
+begins issuer t u legal only = weaker t u (IsNotBegunOrEmpty issuer) (IsFound issuer []) only (λ c left. found_empty issuer c legal left)
+
+pub holds_on : (issuer : List ℕ) (entries : List Entry) (t : Told) → StandsFor issuer entries t.content → IsSettled t → LeavesOnly t t (IsFound issuer entries)
+holds_on issuer entries t stands quiet = started_settled t (IsFound issuer entries) quiet (inr stands)

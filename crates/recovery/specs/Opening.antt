@@ -1,7 +1,7 @@
 -- What an opening finds.
 use Rattle.std.specs.Prelude.{◌≡◌, ◌≢◌, ◌⊎◌, ℕ, List, []}
-use Rattle.chain_disk.specs.Told.{Told}
-use Rattle.journal.specs.File.{IsNotBegun}
+use Rattle.chain_disk.specs.Told.{Told, LeavesOnly}
+use Rattle.journal.specs.File.{IsNotBegun, IsNotBegunOrEmpty}
 use Rattle.record_codec.specs.declared.entries.Entry.{Entry}
 use Rattle.chain_store.specs.Stands.{StandsFor}
 
@@ -12,6 +12,16 @@ IsFound issuer entries file = (IsNotBegun file × (entries ≡ [])) ⊎ StandsFo
 -- nothing was written: the disk reads as it did
 abbrev pub ReadsAlike : Told → Told → Type 0
 ReadsAlike old new = new.content ≡ old.content
+
+-- a file that wasn't begun is still none, or is begun and empty; so is each that a crash since this moment may leave
+pub record IsBegunInPart (issuer : List ℕ) (settled new : Told) : Type 0 where
+  pub not_begun : IsNotBegun settled.content
+  pub reads : IsNotBegunOrEmpty issuer new.content
+  pub any_moment : LeavesOnly settled new (IsNotBegunOrEmpty issuer)
+
+-- the file stands for what it stood for: it reads as it did, or the empty history was begun in part
+abbrev pub KeepsMeaning : List ℕ → Told → Told → Told → Type 0
+KeepsMeaning issuer old settled new = ReadsAlike old new ⊎ IsBegunInPart issuer settled new
 
 -- the file stands for a chain of another issuer
 pub record IsOthers (issuer held file : List ℕ) : Type 0 where

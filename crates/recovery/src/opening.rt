@@ -1,14 +1,14 @@
 // Opens a file for an issuer.
 ghost use Rattle.std.specs.Prelude.{◌≡◌, ◌≢◌, ◌≤◌, [], ℕ, List, IsTrue, IfOk, IfErr, None, Some};
 ghost use Rattle.ports.specs.Causes.{Rose};
-ghost use Rattle.chain_disk.specs.Told.{IsSettled, LeavesNow};
+ghost use Rattle.chain_disk.specs.Told.{IsSettled, LeavesNow, LeavesOnly, synced};
 ghost use Rattle.journal.specs.File.{IsNotBegun};
 ghost use Rattle.journal.specs.Journal.{disk_of, stopped_of};
 ghost use Rattle.chain_store.specs.Loading.{IsLoaded, IsShaped};
 ghost use Rattle.chain_store.specs.Stands.{IsDamagedFile, StandsFor};
 ghost use Rattle.chain_store.specs.Store.{Ready, clock_of, journal_of, state_of};
 ghost use Rattle.chain_store.specs.declared.causes.OpenCause.TheVariants as cause;
-ghost use Rattle.recovery.specs.Opening.{IsFound, IsOthers, ReadsAlike};
+ghost use Rattle.recovery.specs.Opening.{IsBegunInPart, IsFound, IsOthers, KeepsMeaning, ReadsAlike};
 
 use chain_disk::Disk;
 use chain_store::{Loaded, OpenCause, Store, load};
@@ -40,6 +40,11 @@ pub fn open_store<D: Disk, C: Clock>(
     ensures found { IfOk result (λ store. IsTrue D.tells → IsFound issuer.now (state_of store).entries (D.told disk).content) }
     ensures every_crash { IfOk result (λ store. IsTrue D.tells →
         LeavesNow (D.told (disk_of (journal_of store))) (StandsFor issuer.now (state_of store).entries)) }
+
+    // From its first sync on, a crash at any moment of the call leaves what was found.
+    ensures any_moment { IfOk result (λ store. IsTrue D.tells →
+        LeavesOnly (synced (D.told disk)) (D.told (disk_of (journal_of store))) (IsFound issuer.now (state_of store).entries)) }
+    ensures kept { IfErr result (λ fault. IsTrue D.tells → KeepsMeaning issuer.now (D.told disk) (synced (D.told disk)) (D.told fault.disk)) }
     ensures clock { IfOk result (λ store. clock_of store ≡ clock) }
     ensures damaged { IfErr result (λ fault. (at : ℕ) → fault.cause ≡ cause.Damaged at → IsTrue D.tells →
         IsDamagedFile (D.told disk).content at × ReadsAlike (D.told disk) (D.told fault.disk)) }
@@ -80,6 +85,9 @@ fn open_loaded<D: Disk, C: Clock>(
     ensures found { IfOk result (λ store. IsTrue D.tells → IsFound issuer.now (state_of store).entries (D.told disk).content) }
     ensures every_crash { IfOk result (λ store. IsTrue D.tells →
         LeavesNow (D.told (disk_of (journal_of store))) (StandsFor issuer.now (state_of store).entries)) }
+    ensures any_moment { IfOk result (λ store. IsTrue D.tells →
+        LeavesOnly (D.told disk) (D.told (disk_of (journal_of store))) (IsFound issuer.now (state_of store).entries)) }
+    ensures kept { IfErr result (λ fault. IsTrue D.tells → KeepsMeaning issuer.now (D.told disk) (D.told disk) (D.told fault.disk)) }
     ensures clock { IfOk result (λ store. clock_of store ≡ clock) }
     ensures damaged { IfErr result (λ fault. (at : ℕ) → fault.cause ≡ cause.Damaged at → ⊥) }
     ensures other { IfErr result (λ fault. (held : List ℕ) → fault.cause ≡ cause.OtherIssuer held → IsTrue D.tells →
@@ -120,6 +128,8 @@ fn open_held<D: Disk, C: Clock>(
         × (disk_of (journal_of store) ≡ disk)) }
     ensures every_crash { IfOk result (λ store. IsTrue D.tells →
         LeavesNow (D.told (disk_of (journal_of store))) (StandsFor issuer.now (state_of store).entries)) }
+    ensures any_moment { IfOk result (λ store. IsTrue D.tells →
+        LeavesOnly (D.told disk) (D.told (disk_of (journal_of store))) (IsFound issuer.now (state_of store).entries)) }
     ensures other { IfErr result (λ fault. (fault.cause ≡ cause.OtherIssuer held) × (held ≢ issuer.now)
         × (fault.disk ≡ disk) × (fault.clock ≡ clock)) }
 {
@@ -147,6 +157,9 @@ fn begin<D: Disk, C: Clock>(
     ensures empty { IfOk result (λ store. ((state_of store).issuer ≡ issuer.now) × ((state_of store).entries ≡ []) × (clock_of store ≡ clock)) }
     ensures every_crash { IfOk result (λ store. IsTrue D.tells →
         LeavesNow (D.told (disk_of (journal_of store))) (StandsFor issuer.now (state_of store).entries)) }
+    ensures any_moment { IfOk result (λ store. IsTrue D.tells →
+        LeavesOnly (D.told disk) (D.told (disk_of (journal_of store))) (IsFound issuer.now (state_of store).entries)) }
+    ensures in_part { IfErr result (λ fault. IsTrue D.tells → IsBegunInPart issuer.now (D.told disk) (D.told fault.disk)) }
     ensures lost { IfErr result (λ fault. (fault.cause ≡ cause.DiskFault) × Rose (D.faults disk) (D.faults fault.disk) × (fault.clock ≡ clock)) }
     ensures later { IfOk result (λ store. D.faults disk ≤ D.faults (disk_of (journal_of store))) }
     ensures later_err { IfErr result (λ fault. D.faults disk ≤ D.faults fault.disk) }

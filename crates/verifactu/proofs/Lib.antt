@@ -1,3 +1,6 @@
 pub mod Bytewise
 pub mod CommandLine
-pub mod Running
+pub mod Progress
+pub mod Stepping
+pub mod Finishing
+pub mod RunEnding

@@ -4,5 +4,8 @@ pub mod Inputs
 pub mod Output
 pub mod Printed
 pub mod Readings
+pub mod Replies
+pub mod Crashes
+pub mod Opened
 pub mod Run
 pub mod Stages

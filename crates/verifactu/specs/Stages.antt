@@ -1,27 +1,24 @@
 -- The stages of `chain`.
-use Rattle.std.specs.Prelude.{◌≡◌, ℕ, List, Option, Result, Ok, Err, Bool, true, [], ◌⊎◌}
-use Rattle.std.specs.Io.KnownBytes.{Appends}
-use Rattle.ports.specs.Causes.{Rose}
-use Rattle.ports.specs.declared.faults.NoMemory.{NoMemory}
+use Rattle.std.specs.Prelude.{ℕ, List, Bool, IsTrue, Option, Result, Ok, Err}
+use Rattle.chain_disk.specs.Told.{Told}
+use Rattle.huella.specs.Linked.{Linked}
+use Rattle.journal.specs.declared.faults.StoreFault.{StoreFault}
 use Rattle.record_codec.specs.declared.entries.Entry.{Entry}
-use Rattle.script.specs.Script.{IsScript}
-use Rattle.script.specs.declared.forms.Form.TheVariants.{Full}
-use Rattle.script.specs.declared.scripts.Script.{Script}
 use Rattle.shop_core.specs.Asked.{Asked}
+use Rattle.shop_core.specs.History.{recs}
+use Rattle.shop_core.specs.Legal.{Legal}
+use Rattle.shop_core.specs.Rising.{SerialsRise}
+use Rattle.shop_core.specs.Runs.{ChainRun}
 use Rattle.shop_core.specs.declared.answers.Reply.{Reply}
-use Rattle.verifactu.specs.Inputs.{ReadAll, ReadPast, ReadFailed}
-use Rattle.verifactu.specs.Output.{WrotePart}
-use Rattle.verifactu.specs.Printed.{printed}
-use Rattle.verifactu.specs.Readings.{AllReplied, LeavesClock, MovedOn}
-use Rattle.verifactu.specs.Run.{Played, PlayedWhole, IsBadScript}
+use Rattle.script.specs.declared.scripts.Script.{Script}
 use Rattle.report.specs.declared.ended.Detail.{Detail}
 use Rattle.report.specs.declared.ended.Detail.TheVariants as detail
-
--- a source that is a script
-pub record IsGoodScript (left left_after : Option (List ℕ)) (script : Script) : Type 0 where
-  pub bytes : List ℕ
-  pub read : ReadAll left left_after bytes
-  pub is_script : IsScript Full bytes (Ok script)
+use Rattle.verifactu.specs.Crashes.{IsPrefix, Kept, StandsBetween}
+use Rattle.verifactu.specs.Inputs.{ReadPast, ReadFailed}
+use Rattle.verifactu.specs.Printed.{printed}
+use Rattle.verifactu.specs.Readings.{IsComing, IsAsked, readings}
+use Rattle.verifactu.specs.Replies.{StopsOnce}
+use Rattle.verifactu.specs.Run.{IsGoodScript, IsBadScript, RunEnds, Sinks}
 
 -- the script of a source, or the end that the command comes to
 abbrev pub ReadStage : Option (List ℕ) → Option (List ℕ) → ℕ → ℕ → Result Script Detail → Type 0
@@ -37,48 +34,31 @@ ReadStage left left_after faults faults_after (Err detail.DiskFault) = ⊥
 ReadStage left left_after faults faults_after (Err (detail.Damaged at)) = ⊥
 ReadStage left left_after faults faults_after (Err (detail.OtherIssuer held)) = ⊥
 
--- this text tells these replies and this history, and the flag says that none of the replies is want of memory
-pub record Tells (asks : List Asked) (replies : List (Result Reply NoMemory)) (entries : List Entry) (text : List ℕ) (whole : Bool) : Type 0 where
-  pub prints : text ≡ printed asks replies entries
-  pub all_replied : whole ≡ true → AllReplied replies
-
--- this text tells the run of a script, and the flag says that no reply of it is want of memory
-pub record IsTold (issuer : List ℕ) (script : Script) (coming : ℕ → Option ℕ) (text : List ℕ) (whole : Bool) : Type 0 where
-  pub played : Played issuer script coming text
-  pub all_replied : whole ≡ true → PlayedWhole issuer script coming text
-
--- a sink and a clock, before and after
-pub record Ends (C : Type 0) : Type 0 where
-  pub taken : Option (List ℕ)
-  pub taken_after : Option (List ℕ)
+-- a store, before a run and after it
+pub record Span (C : Type 0) : Type 0 where
+  pub issuer : List ℕ
+  pub start : List Entry
+  pub end : List Entry
+  pub tells : Bool
+  pub since : Told
+  pub now : Told
   pub faults : ℕ
   pub faults_after : ℕ
   pub coming : C → ℕ → Option ℕ
   pub clock : C
   pub clock_after : C
 
-abbrev pub LeavesIts : {C : Type 0} → Script → Ends C → Type 0
-LeavesIts script e = LeavesClock e.coming script.clock script.asks e.clock e.clock_after
+-- these asks got these replies from it
+pub record Answers {C : Type 0} (asks : List Asked) (replies : List (Result Reply StoreFault)) (s : Span C) : Type 0 where
+  pub run : ChainRun s.issuer (IsComing (s.coming s.clock)) s.start asks replies s.end
+  pub begins : IsPrefix s.start s.end
+  pub legal : Legal s.issuer s.end
+  pub linked : Linked s.issuer (recs s.end)
+  pub rising : (till : ℕ) → SerialsRise s.end till
+  pub stops : StopsOnce s.faults s.faults_after replies
+  pub kept : IsTrue s.tells → Kept (StandsBetween s.issuer s.start s.end) s.issuer s.end replies s.since s.now
+  pub asked : IsAsked s.coming (readings replies) s.clock s.clock_after
 
--- how a command ends once it has its script
-abbrev pub RunStage : {C : Type 0} → List ℕ → Script → Ends C → Detail → Type 0
-RunStage issuer script e detail.Done =
-    (text : List ℕ) × PlayedWhole issuer script (e.coming e.clock) text × Appends e.taken e.taken_after text × LeavesIts script e
-RunStage issuer script e detail.WriteFault =
-    (text : List ℕ) × PlayedWhole issuer script (e.coming e.clock) text × Rose e.faults e.faults_after × WrotePart e.taken e.taken_after text × LeavesIts script e
-RunStage issuer script e detail.NoMemory =
-    (Appends e.taken e.taken_after [] × MovedOn e.coming e.clock e.clock_after)
-    ⊎ ((text : List ℕ) × Played issuer script (e.coming e.clock) text × WrotePart e.taken e.taken_after text × LeavesIts script e)
-RunStage issuer script e (detail.Script line fault) = ⊥
-RunStage issuer script e detail.ReadFault = ⊥
-RunStage issuer script e detail.TooBig = ⊥
-RunStage issuer script e detail.Usage = ⊥
-RunStage issuer script e detail.DiskFault = ⊥
-RunStage issuer script e (detail.Damaged at) = ⊥
-RunStage issuer script e (detail.OtherIssuer held) = ⊥
-
--- how printing a text ends
-abbrev pub PrintEnds : Option (List ℕ) → Option (List ℕ) → ℕ → ℕ → List ℕ → Detail → Type 0
-PrintEnds taken taken_after faults faults_after text detail.Done = Appends taken taken_after text
-PrintEnds taken taken_after faults faults_after text detail.WriteFault = Rose faults faults_after × WrotePart taken taken_after text
-PrintEnds taken taken_after faults faults_after text end = ⊥
+-- and were printed
+abbrev pub StoreEnds : {C : Type 0} → List Asked → Span C → Sinks → Detail → Type 0
+StoreEnds asks s sink end = (replies : List (Result Reply StoreFault)) × Answers asks replies s × RunEnds replies (printed asks replies s.end) sink end

@@ -1,46 +1,53 @@
-// The command `chain`: reads a script, runs its commands on the empty history, and prints the replies and the chain.
-ghost use Rattle.std.specs.Prelude.{◌≡◌, [], ◌++◌, IfOk, MatchResult};
-ghost use Rattle.shop_core.specs.Runs.{ChainRun};
-ghost use Rattle.verifactu.specs.Readings.{IsComing, readings_of, LeavesClock, MovedOn};
-ghost use Rattle.verifactu.specs.Run.{ChainEnds};
-ghost use Rattle.verifactu.specs.Stages.{ReadStage, RunStage, IsTold};
+// The command `chain`: reads a script, opens the file, runs the commands on its history, and prints the replies and the chain.
+ghost use Rattle.std.specs.Prelude.{◌≡◌, ◌≤◌, [], None, List, length, vec_capacity};
+ghost use Rattle.journal.specs.Journal.{disk_of, stopped_of};
+ghost use Rattle.record_codec.specs.declared.entries.Entry.{Entry};
+ghost use Rattle.chain_store.specs.Store.{Ready, clock_of, journal_of, state_of};
+ghost use Rattle.verifactu.specs.Opened as opened;
+ghost use Rattle.verifactu.specs.Readings.{IsAsked, LeavesClock, readings, readings_of};
+ghost use Rattle.verifactu.specs.Run.{ChainEnds, ScriptEnds};
+ghost use Rattle.verifactu.specs.Stages.{ReadStage, StoreEnds};
 
 use crate::commands::run_commands;
+use crate::ending::end_of;
 use crate::input::{InputFault, read_input};
 use crate::output::write_texts;
-use crate::printed::{Told, told_of};
+use crate::printed::told_of;
+use chain_disk::Disk;
+use chain_store::{OpenCause, Store};
+use journal::StoreFault;
 use parties::Nif;
-use ports::{Clock, CountingClock, NoMemory, Sink, Source};
+use ports::{Clock, CountingClock, Sink, Source};
+use recovery::open_store;
 use report::Detail;
 use script::{Form, Script, ScriptFault, read_script};
-use shop_core::{Reply, State, legal_is_chained};
+use shop_core::{Ask, Reply};
 use std::alloc::Global;
 
 /// Runs `chain` for an issuer.
-pub fn chain<S: Source, K: Sink, C: Clock>(
+pub fn chain<S: Source, K: Sink, D: Disk, C: Clock>(
     alloc: Global,
     issuer: &Nif,
     source: &mut S,
     sink: &mut K,
-    clock: &mut C,
-) -> Detail
+    disk: D,
+    clock: C,
+) -> (Detail, D, C)
     ensures { ChainEnds issuer.now (record {
       left = S.left source.old;
       left_after = S.left source.new;
       read_faults = S.faults source.old;
       read_faults_after = S.faults source.new;
-      taken = K.taken sink.old;
-      taken_after = K.taken sink.new;
-      write_faults = K.faults sink.old;
-      write_faults_after = K.faults sink.new;
+      sink = record { taken = K.taken sink.old; taken_after = K.taken sink.new; faults = K.faults sink.old; faults_after = K.faults sink.new };
+      disk = record { tells = D.tells; told = D.told; faults = D.faults; disk = disk; disk_after = result.1 };
       coming = C.coming;
-      clock = clock.old;
-      clock_after = clock.new;
-    }) result }
+      clock = clock;
+      clock_after = result.2;
+    }) result.0 }
 {
     match read_commands(alloc, source) {
-        Err(detail) => detail,
-        Ok(script) => run_script(alloc, issuer, &script, sink, clock),
+        Err(detail) => (detail, disk, clock),
+        Ok(script) => run_script(alloc, issuer, &script, sink, disk, clock),
     }
 }
 
@@ -60,76 +67,140 @@ fn read_commands<S: Source>(alloc: Global, source: &mut S) -> Result<Script, Det
     }
 }
 
-fn run_script<K: Sink, C: Clock>(
+fn run_script<K: Sink, D: Disk, C: Clock>(
     alloc: Global,
     issuer: &Nif,
     script: &Script,
     sink: &mut K,
-    clock: &mut C,
-) -> Detail
-    ensures { RunStage issuer.now script.now (record {
-      taken = K.taken sink.old;
-      taken_after = K.taken sink.new;
-      faults = K.faults sink.old;
-      faults_after = K.faults sink.new;
-      coming = C.coming;
-      clock = clock.old;
-      clock_after = clock.new;
-    }) result }
-{
-    let Ok(told) = text_of_run(alloc, issuer, script, clock) else {
-        return Detail::NoMemory;
-    };
-    let written = write_texts(sink, told.answers.as_slice(), told.listing.as_slice());
-    if !told.whole {
-        return Detail::NoMemory;
-    }
-    match written {
-        Ok(()) => Detail::Done,
-        Err(_) => Detail::WriteFault,
-    }
-}
-
-fn text_of_run<C: Clock>(
-    alloc: Global,
-    issuer: &Nif,
-    script: &Script,
-    clock: &mut C,
-) -> Result<Told, NoMemory>
-    ensures text { IfOk result (λ told. IsTold issuer.now script.now (C.coming clock.old) (told.answers ++ told.listing) told.whole) }
-    ensures clock { MatchResult result
-        (λ _. LeavesClock C.coming script.now.clock script.now.asks clock.old clock.new)
-        (λ _. MovedOn C.coming clock.old clock.new) }
-{
-    let mut state = State::empty(alloc, issuer);
-    let replies = replies_of(alloc, &mut state, script, clock)?;
-    let Ok(told) = told_of(alloc, script.asks.as_slice(), &replies, &state) else {
-        return Err(NoMemory);
-    };
-    let _legal = state.history();
-    legal_is_chained();
-    Ok(told)
-}
-
-fn replies_of<C: Clock>(
-    alloc: Global,
-    state: &mut State,
-    script: &Script,
-    clock: &mut C,
-) -> Result<Vec<Result<Reply, NoMemory>>, NoMemory>
-    requires { state.old.entries ≡ [] }
-    ensures issuer { state.new.issuer ≡ state.old.issuer }
-    ensures run { IfOk result (λ replies.
-        ChainRun state.old.issuer (IsComing (readings_of script.now.clock (C.coming clock.old))) [] script.now.asks replies.items state.new.entries) }
-    ensures clock { MatchResult result
-        (λ _. LeavesClock C.coming script.now.clock script.now.asks clock.old clock.new)
-        (λ _. MovedOn C.coming clock.old clock.new) }
+    disk: D,
+    clock: C,
+) -> (Detail, D, C)
+    ensures { ScriptEnds issuer.now script.now.asks (readings_of script.now.clock (C.coming clock)) (LeavesClock C.coming script.now.clock clock result.2)
+        (record { taken = K.taken sink.old; taken_after = K.taken sink.new; faults = K.faults sink.old; faults_after = K.faults sink.new })
+        (record { tells = D.tells; told = D.told; faults = D.faults; disk = disk; disk_after = result.1 }) result.0 }
 {
     match script.clock {
         Some((start, step)) => {
-            let mut own = CountingClock::new(start, step);
-            run_commands(alloc, state, script.asks.as_slice(), &mut own)
+            let own = CountingClock::new(start, step);
+            let (detail, disk, _) = run_asks(
+                alloc,
+                issuer,
+                script.asks.as_slice(),
+                sink,
+                disk,
+                own,
+            );
+            (detail, disk, clock)
         }
-        None => run_commands(alloc, state, script.asks.as_slice(), clock),
+        None => run_asks(alloc, issuer, script.asks.as_slice(), sink, disk, clock),
     }
+}
+
+// Opens the file and runs the commands. The room for the replies is made first.
+fn run_asks<K: Sink, D: Disk, C: Clock>(
+    alloc: Global,
+    issuer: &Nif,
+    asks: &[Ask],
+    sink: &mut K,
+    disk: D,
+    clock: C,
+) -> (Detail, D, C)
+    ensures { ScriptEnds issuer.now asks.now (C.coming clock) (λ replies. IsAsked C.coming (readings replies) clock result.2)
+        (record { taken = K.taken sink.old; taken_after = K.taken sink.new; faults = K.faults sink.old; faults_after = K.faults sink.new })
+        (record { tells = D.tells; told = D.told; faults = D.faults; disk = disk; disk_after = result.1 }) result.0 }
+{
+    let mut replies = Vec::new(alloc);
+    if replies.reserve(asks.len()).is_err() {
+        return (Detail::NoMemory, disk, clock);
+    }
+    match open_store(alloc, disk, clock, issuer) {
+        Err(fault) => (cause_of(&fault.cause), fault.disk, fault.clock),
+        Ok(store) => run_opened(alloc, asks, sink, store, replies),
+    }
+}
+
+// Runs the commands on an opened file, and gives its disk and the clock back.
+fn run_opened<K: Sink, D: Disk, C: Clock>(
+    alloc: Global,
+    asks: &[Ask],
+    sink: &mut K,
+    store: Store<D, C>,
+    replies: Vec<Result<Reply, StoreFault>>,
+) -> (Detail, D, C)
+    requires ready { Ready D.tells D.told store }
+    requires going_on { stopped_of (journal_of store) ≡ None }
+    requires none { replies.items ≡ [] }
+    requires room { length asks.now ≤ vec_capacity replies }
+    ensures { (end : List Entry) × StoreEnds asks.now (record {
+      issuer = (state_of store).issuer;
+      start = (state_of store).entries;
+      end = end;
+      tells = D.tells;
+      since = D.told (disk_of (journal_of store));
+      now = D.told result.1;
+      faults = D.faults (disk_of (journal_of store));
+      faults_after = D.faults result.1;
+      coming = C.coming;
+      clock = clock_of store;
+      clock_after = result.2;
+    }) (record { taken = K.taken sink.old; taken_after = K.taken sink.new; faults = K.faults sink.old; faults_after = K.faults sink.new }) result.0 }
+{
+    let mut store = store;
+    let detail = play(alloc, asks, sink, &mut store, replies);
+    let (disk, clock) = devices_of(store);
+    (detail, disk, clock)
+}
+
+fn devices_of<D: Disk, C: Clock>(store: Store<D, C>) -> (D, C)
+    ensures { (result.0 ≡ disk_of (journal_of store)) × (result.1 ≡ clock_of store) }
+{
+    let (_, disk, clock) = store.into_parts();
+    (disk, clock)
+}
+
+fn cause_of(cause: &OpenCause) -> Detail
+    ensures { result ≡ opened.detail_of cause.now }
+{
+    match cause {
+        OpenCause::DiskFault => Detail::DiskFault,
+        OpenCause::Damaged { at } => Detail::Damaged { at: *at },
+        OpenCause::OtherIssuer { held } => Detail::OtherIssuer { held: *held },
+        OpenCause::NoMemory => Detail::NoMemory,
+    }
+}
+
+// Runs the commands on a store, and prints the replies and the history.
+fn play<K: Sink, D: Disk, C: Clock>(
+    alloc: Global,
+    asks: &[Ask],
+    sink: &mut K,
+    store: &mut Store<D, C>,
+    replies: Vec<Result<Reply, StoreFault>>,
+) -> Detail
+    requires ready { Ready D.tells D.told store.old }
+    requires going_on { stopped_of (journal_of store.old) ≡ None }
+    requires none { replies.items ≡ [] }
+    requires room { length asks.now ≤ vec_capacity replies }
+    ensures issuer { (state_of store.new).issuer ≡ (state_of store.old).issuer }
+    ensures end { StoreEnds asks.now (record {
+      issuer = (state_of store.old).issuer;
+      start = (state_of store.old).entries;
+      end = (state_of store.new).entries;
+      tells = D.tells;
+      since = D.told (disk_of (journal_of store.old));
+      now = D.told (disk_of (journal_of store.new));
+      faults = D.faults (disk_of (journal_of store.old));
+      faults_after = D.faults (disk_of (journal_of store.new));
+      coming = C.coming;
+      clock = clock_of store.old;
+      clock_after = clock_of store.new;
+    }) (record { taken = K.taken sink.old; taken_after = K.taken sink.new; faults = K.faults sink.old; faults_after = K.faults sink.new }) result }
+{
+    let mut replies = replies;
+    run_commands(alloc, store, asks, &mut replies);
+    let Ok(told) = told_of(alloc, asks, &replies, store.state()) else {
+        return Detail::NoMemory;
+    };
+    let written = write_texts(sink, told.answers.as_slice(), told.listing.as_slice());
+    end_of(&replies, written)
 }

@@ -1,31 +1,46 @@
 // Runs the commands of a script on one thread.
-ghost use Rattle.std.specs.Prelude.{◌≡◌, [], IfOk, MatchResult};
-ghost use Rattle.shop_core.specs.Runs.{ChainRun};
-ghost use Rattle.verifactu.specs.Readings.{IsComing, IsAsked, MovedOn};
+ghost use Rattle.std.specs.Prelude.{◌≡◌, ◌≤◌, [], None, length, vec_capacity};
+ghost use Rattle.journal.specs.Journal.{disk_of, stopped_of};
+ghost use Rattle.chain_store.specs.Store.{Ready, clock_of, journal_of, state_of};
+ghost use Rattle.verifactu.specs.Stages.{Answers};
 
-use ports::{Clock, NoMemory};
-use shop_core::{Ask, Reply, State, reply_to};
+use chain_disk::Disk;
+use chain_store::Store;
+use journal::StoreFault;
+use ports::Clock;
+use shop_core::{Ask, Reply, legal_is_chained};
 use std::alloc::Global;
 
-/// Replies to each ask, in order, each by one reading of the clock.
-pub fn run_commands<C: Clock>(
+/// Replies to each ask, in order, from the store. `replies` is empty and has room for them.
+pub fn run_commands<D: Disk, C: Clock>(
     alloc: Global,
-    state: &mut State,
+    store: &mut Store<D, C>,
     asks: &[Ask],
-    clock: &mut C,
-) -> Result<Vec<Result<Reply, NoMemory>>, NoMemory>
-    requires { state.old.entries ≡ [] }
-    ensures issuer { state.new.issuer ≡ state.old.issuer }
-    ensures run { IfOk result (λ replies. ChainRun state.old.issuer (IsComing (C.coming clock.old)) [] asks.now replies.items state.new.entries) }
-    ensures clock { MatchResult result (λ _. IsAsked C.coming asks.now clock.old clock.new) (λ _. MovedOn C.coming clock.old clock.new) }
+    replies: &mut Vec<Result<Reply, StoreFault>>,
+)
+    requires ready { Ready D.tells D.told store.old }
+    requires going_on { stopped_of (journal_of store.old) ≡ None }
+    requires none { replies.old.items ≡ [] }
+    requires room { length asks.now ≤ vec_capacity replies.old }
+    ensures issuer { (state_of store.new).issuer ≡ (state_of store.old).issuer }
+    ensures answers { Answers asks.now replies.new.items (record {
+      issuer = (state_of store.old).issuer;
+      start = (state_of store.old).entries;
+      end = (state_of store.new).entries;
+      tells = D.tells;
+      since = D.told (disk_of (journal_of store.old));
+      now = D.told (disk_of (journal_of store.new));
+      faults = D.faults (disk_of (journal_of store.old));
+      faults_after = D.faults (disk_of (journal_of store.new));
+      coming = C.coming;
+      clock = clock_of store.old;
+      clock_after = clock_of store.new;
+    }) }
 {
-    let mut replies = Vec::new(alloc);
+    let _legal = store.state().history();
     for ask in asks {
-        let seconds = clock.now();
-        let told = reply_to(alloc, state, ask, seconds);
-        let Ok(()) = replies.push(told) else {
-            return Err(NoMemory);
-        };
+        replies.push_reserved(store.take(alloc, ask));
     }
-    Ok(replies)
+    let _legal = store.state().history();
+    legal_is_chained();
 }

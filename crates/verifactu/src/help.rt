@@ -10,8 +10,9 @@ Usage:
   verifactu --help           prints this text
   verifactu --version        prints the version
 
-FILE names the shop's chain. This version keeps the chain in memory: each run
-starts from the empty chain, and the file is neither read nor written.
+FILE is the file of the shop's chain. It is begun where it isn't there, and each
+record is on it before the next command is read: run the same script again after
+a crash, and what was taken is answered again and not registered twice.
 NIF is the issuer's tax number.
 
 A script has one command a line:
@@ -39,9 +40,12 @@ Status:
    2  the words are no command
    3  a line of the script is wrong; standard error names it
    4  standard input could not be read
-   5  standard output could not be written
+   5  standard output could not be written; the file keeps the records
+   6  the file could not be read or written
+   7  the file is damaged; standard error names the byte
   10  no memory
   12  the script is longer than 16777216 bytes
+  13  the file is the chain of another issuer, whom standard error names
 ";
 
 const VERSION: &[u8] = b"verifactu 0.1.0\n";

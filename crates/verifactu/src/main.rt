@@ -1,8 +1,12 @@
-//! The invoicing chain of a shop: reads a script of sales, answers it, and prints the answers and the chain.
+//! The invoicing chain of a shop: reads a script of sales, answers it on the history of a file, keeps what it makes there, and
+//! prints the answers and the chain.
 #![tactic(auto)]
 
 mod chain;
 mod commands;
+#[cfg(test)]
+mod disk_tests;
+mod ending;
 mod help;
 mod input;
 mod output;
@@ -12,7 +16,8 @@ mod run;
 mod tests;
 mod words;
 
-use ports::{StdSink, StdSource, SystemClock};
+use chain_disk::FileDisk;
+use ports::{NoMemory, StdSink, StdSource, SystemClock};
 use report::{Detail, Ended, fault_text, status_of};
 use run::run;
 use std::env;
@@ -31,19 +36,35 @@ fn words_of(rt: &HostRuntime) -> Result<Vec<String>, Detail> {
     }
 }
 
+// FILE, the word behind the command's. Where there is none, no call touches the disk.
+fn file_of(rt: &HostRuntime, words: &[String]) -> Result<String, NoMemory> {
+    match words.get(1) {
+        Some(file) => Ok(String::from_str(rt.alloc(), file.as_str())?),
+        None => Ok(String::new(rt.alloc())),
+    }
+}
+
+fn ended_as(detail: Detail) -> Ended {
+    Ended {
+        status: status_of(&detail),
+        detail,
+    }
+}
+
 fn end_of_program(rt: &HostRuntime) -> Ended {
     match words_of(rt) {
-        Err(detail) => Ended {
-            status: status_of(&detail),
-            detail,
+        Err(detail) => ended_as(detail),
+        Ok(words) => match file_of(rt, &words) {
+            Err(_) => ended_as(Detail::NoMemory),
+            Ok(path) => {
+                let mut source = StdSource::new(rt);
+                let mut sink = StdSink::new(rt);
+                let disk = FileDisk::at(rt, path);
+                let clock = SystemClock::new(rt);
+                let (ended, _, _) = run(rt.alloc(), &words, &mut source, &mut sink, disk, clock);
+                ended
+            }
         },
-        Ok(words) => {
-            let mut source = StdSource::new(rt);
-            let mut sink = StdSink::new(rt);
-            let clock = SystemClock::new(rt);
-            let (ended, _) = run(rt.alloc(), &words, &mut source, &mut sink, clock);
-            ended
-        }
     }
 }
 

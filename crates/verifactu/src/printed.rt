@@ -1,8 +1,6 @@
 // What is printed of a run.
-ghost use Rattle.std.specs.Prelude.{◌≡◌, ◌++◌, IfOk, true};
+ghost use Rattle.std.specs.Prelude.{◌≡◌, ◌++◌, IfOk};
 ghost use Rattle.verifactu.specs.Printed as spec;
-ghost use Rattle.verifactu.specs.Readings.{AllReplied};
-ghost use Rattle.verifactu.specs.Stages.{Tells};
 
 use journal::StoreFault;
 use ports::NoMemory;
@@ -16,46 +14,30 @@ use std::alloc::Global;
 pub struct Told {
     pub answers: Text,
     pub listing: Text,
-    /// Whether no reply is want of memory.
-    pub whole: bool,
 }
 
 /// The text of these replies and of the history that they left.
 pub fn told_of(
     alloc: Global,
     asks: &[Ask],
-    replies: &[Result<Reply, NoMemory>],
+    replies: &[Result<Reply, StoreFault>],
     state: &State,
 ) -> Result<Told, NoMemory>
-    ensures { IfOk result (λ told. Tells asks.now replies.now state.now.entries (told.answers ++ told.listing) told.whole) }
+    ensures { IfOk result (λ told. told.answers ++ told.listing ≡ spec.printed asks.now replies.now state.now.entries) }
 {
     let lines = answers_of(alloc, asks, replies)?;
     let answers = answers_text(alloc, &lines)?;
     let listing = listing_text(alloc, state)?;
-    let whole = none_failed(replies);
-    Ok(Told {
-        answers,
-        listing,
-        whole,
-    })
+    Ok(Told { answers, listing })
 }
 
-fn replied(reply: &Result<Reply, NoMemory>) -> Result<Reply, StoreFault>
-    ensures { result ≡ spec.replied reply.now }
-{
-    match reply {
-        Ok(reply) => Ok(*reply),
-        Err(_) => Err(StoreFault::NoMemory),
-    }
-}
-
-fn answered(ask: &Ask, reply: &Result<Reply, NoMemory>) -> AnswerLine
+fn answered(ask: &Ask, reply: &Result<Reply, StoreFault>) -> AnswerLine
     ensures { result ≡ spec.answered (ask.now, reply.now) }
 {
     AnswerLine::Answered {
         till: ask.till,
         serial: ask.serial,
-        reply: replied(reply),
+        reply: *reply,
     }
 }
 
@@ -63,7 +45,7 @@ fn answered(ask: &Ask, reply: &Result<Reply, NoMemory>) -> AnswerLine
 fn answers_of(
     alloc: Global,
     asks: &[Ask],
-    replies: &[Result<Reply, NoMemory>],
+    replies: &[Result<Reply, StoreFault>],
 ) -> Result<Answers, NoMemory>
     ensures { IfOk result (λ answers. answers ≡ spec.answers asks.now replies.now) }
 {
@@ -79,17 +61,4 @@ fn answers_of(
         told = more_told;
     }
     Ok(Answers::of(lines))
-}
-
-fn none_failed(replies: &[Result<Reply, NoMemory>]) -> bool
-    ensures { result ≡ true → AllReplied replies.now }
-{
-    let mut rest = replies;
-    while let [first, after @ ..] = rest {
-        if first.is_err() {
-            return false;
-        }
-        rest = after;
-    }
-    true
 }

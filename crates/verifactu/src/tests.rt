@@ -1,23 +1,34 @@
 // The expected Huellas are SHA-256, by another program, of the field texts of these records.
 use crate::run::run;
+use chain_disk::{Disk, MemDisk};
 use ports::{Clock, CountingClock, ListClock, MemSink, MemSource};
 use report::{Detail, Ended, fault_text};
 use shop_core::Word;
 use std::alloc::Global;
 use std::test::Fail;
 
-const CHAIN: &str = "chain shop.chain 89890001K";
+pub const CHAIN: &str = "chain shop.chain 89890001K";
 
-const ROW: &str = "clock 1735722000 0\nsale 1 1 A F2 21:10000\n";
+pub const ROW: &str = "clock 1735722000 0\nsale 1 1 A F2 21:10000\n";
 
-// Runs the words, which stand between single blanks. The source and the sink fail at the call of this number, from 1.
-fn ends<C: Clock + Drop>(
+/// A disk that holds these bytes, and fails at the call of this number, from 1.
+pub fn disk_of(alloc: Global, bytes: &[u8], failing: u64) -> Result<MemDisk, Fail> {
+    Ok(MemDisk::new(
+        alloc,
+        Vec::from_slice(alloc, bytes)?,
+        Vec::from_slice(alloc, &[failing])?,
+    ))
+}
+
+/// Runs the words, which stand between single blanks. The source and the sink fail at the call of this number, from 1.
+pub fn ends<D: Disk + Drop, C: Clock + Drop>(
     alloc: Global,
     words: &str,
     script: &[u8],
     failing: (u64, u64),
+    disk: D,
     clock: C,
-) -> Result<(Ended, MemSink), Fail> {
+) -> Result<(Ended, MemSink, D, C), Fail> {
     let mut list = Vec::new(alloc);
     for word in words.split(' ') {
         list.push(String::from_str(alloc, word)?)?;
@@ -28,12 +39,25 @@ fn ends<C: Clock + Drop>(
         Vec::from_slice(alloc, &[failing.0])?,
     );
     let mut sink = MemSink::new(alloc, Vec::from_slice(alloc, &[failing.1])?);
-    let (ended, _) = run(alloc, &list, &mut source, &mut sink, clock);
+    let (ended, disk, clock) = run(alloc, &list, &mut source, &mut sink, disk, clock);
+    Ok((ended, sink, disk, clock))
+}
+
+// Runs the words on an empty disk.
+fn ends_empty<C: Clock + Drop>(
+    alloc: Global,
+    words: &str,
+    script: &[u8],
+    failing: (u64, u64),
+    clock: C,
+) -> Result<(Ended, MemSink), Fail> {
+    let disk = disk_of(alloc, &[], 0)?;
+    let (ended, sink, _, _) = ends(alloc, words, script, failing, disk, clock)?;
     Ok((ended, sink))
 }
 
 fn printed(alloc: Global, script: &[u8]) -> Result<(Ended, MemSink), Fail> {
-    ends(alloc, CHAIN, script, (0, 0), CountingClock::new(0, 0))
+    ends_empty(alloc, CHAIN, script, (0, 0), CountingClock::new(0, 0))
 }
 
 #[test]
@@ -86,7 +110,7 @@ fn scripts_are_answered(rt: HostRuntime) -> Result<(), Fail> {
 fn moments_never_fall(rt: HostRuntime) -> Result<(), Fail> {
     let clock = ListClock::new(vec![in rt.alloc(); 1735722000, 1735721990]?);
     let script = b"sale 1 1 A F2 21:10000\nsale 1 2 A F2 21:10000\n";
-    let (ended, sink) = ends(rt.alloc(), CHAIN, script, (0, 0), clock)?;
+    let (ended, sink) = ends_empty(rt.alloc(), CHAIN, script, (0, 0), clock)?;
     assert_eq!(rt; ended.status, 0);
     assert_eq!(rt;
         sink.bytes(),
@@ -122,7 +146,7 @@ fn faults_have_statuses(rt: HostRuntime) -> Result<(), Fail> {
         ("--help", (1, 1), Detail::WriteFault, 5, "write fault"),
     ];
     for (words, failing, detail, status, text) in rows {
-        let (ended, sink) = ends(
+        let (ended, sink) = ends_empty(
             alloc,
             words,
             ROW.as_bytes(),
@@ -178,7 +202,7 @@ fn help_and_version_are_printed(rt: HostRuntime) -> Result<(), Fail> {
         ("--help", "The invoicing chain"),
         ("--version", "verifactu 0.1.0\n"),
     ] {
-        let (ended, sink) = ends(rt.alloc(), word, b"", (1, 0), CountingClock::new(0, 0))?;
+        let (ended, sink) = ends_empty(rt.alloc(), word, b"", (1, 0), CountingClock::new(0, 0))?;
         assert_eq!(rt; ended.status, 0);
         assert!(rt; sink.bytes().starts_with(front.as_bytes()), "at {word}");
     }

@@ -1,14 +1,15 @@
-use Rattle.std.proofs.Common.{◌≡◌, [], length, take}
-use Rattle.ports.specs.Readings.{MovedBy}
-use Rattle.shop_core.specs.Runs.{ChainRun}
-use Rattle.verifactu.specs.Readings.{IsComing}
+use Rattle.std.proofs.Common.{◌≡◌, ◌≤◌, length, take, vec_capacity}
+use Rattle.chain_store.specs.Store.{Ready, clock_of}
+use Rattle.verifactu.specs.Readings.{readings}
+use Rattle.verifactu.proofs.Progress.{SoFar, origin_of, point_of}
 use Rattle.verifactu.proofs.commands.run_commands.Given as goal
 
 abbrev pub invariant-loop-ask : goal.invariant-loop-ask
 invariant-loop-ask g l = record {
-  issuer : l.state.issuer ≡ l.initial.state.issuer;
-  moved : MovedBy l.ask-index (g.C.Clock.coming l.initial.clock) (g.C.Clock.coming l.clock);
-  untouched : l.ask-index ≡ 0 → l.clock ≡ l.initial.clock;
+  ready : Ready g.D.Disk.tells g.D.Disk.told l.store;
+  so_far : SoFar (origin_of g.D.Disk.tells g.D.Disk.told g.D.Disk.faults g.C.Clock.coming l.initial.store) (take l.ask-index l.asks) l.replies.items
+      (point_of g.D.Disk.told g.D.Disk.faults g.C.Clock.coming l.store);
+  untouched : readings l.replies.items ≡ 0 → clock_of l.store ≡ clock_of l.initial.store;
   replied : length l.replies.items ≡ l.ask-index;
-  run : ChainRun l.initial.state.issuer (IsComing (g.C.Clock.coming l.initial.clock)) [] (take l.ask-index l.asks) l.replies.items l.state.entries;
+  room : length l.asks ≤ vec_capacity l.replies;
 }

@@ -1,0 +1,97 @@
+-- How far a run of a store has come.
+use Rattle.std.proofs.Common.{◌≡◌, ℕ, ◌+◌, ◌≤◌, List, [], ◌∷◌, ◌++◌, length, Bool, IsTrue, IsSome, OnOk, Option, Some, None, Result, Ok, Err, ◌↔◌}
+use Rattle.chain_disk.specs.Told.{Told, LeavesOnly, LeavesNow}
+use Rattle.chain_disk.specs.declared.disk.Disk.{Ghosts}
+use Rattle.chain_store.specs.Ready.{Takes}
+use Rattle.chain_store.specs.Store.{clock_of, journal_of, state_of}
+use Rattle.chain_store.specs.declared.store.Store.{Store}
+use Rattle.journal.specs.Journal.{disk_of, stopped_of}
+use Rattle.journal.specs.declared.faults.StoreFault.{StoreFault}
+use Rattle.journal.specs.declared.faults.StoreFault.TheVariants.{DiskFault, Stopped, NoMemory}
+use Rattle.ports.specs.Causes.{Rose}
+use Rattle.ports.specs.Readings.{MovedBy}
+use Rattle.record_codec.specs.declared.entries.Entry.{Entry}
+use Rattle.shop_core.specs.Asked.{Asked}
+use Rattle.shop_core.specs.History.{History}
+use Rattle.shop_core.specs.Runs.{ChainRun}
+use Rattle.shop_core.specs.declared.answers.Reply.{Reply}
+use Rattle.verifactu.specs.Crashes.{IsPrefix, StandsBetween, StandsForEnd}
+use Rattle.verifactu.specs.Readings.{IsComing, readings}
+use Rattle.verifactu.specs.Replies.{AllGoOn, StopsAt}
+
+-- where the run began
+pub record Origin : Type 0 where
+  pub issuer : List ℕ
+  pub start : List Entry
+  pub tells : Bool
+  pub since : Told
+  pub at_faults : ℕ
+  pub coming : ℕ → Option ℕ
+
+-- what the store is now
+pub record Point : Type 0 where
+  pub history : History
+  pub now : Told
+  pub faults : ℕ
+  pub stopped : Option ℕ
+  pub next : ℕ → Option ℕ
+
+-- the journal goes on
+pub record GoingOn (o : Origin) (replies : List (Result Reply StoreFault)) (p : Point) : Type 0 where
+  pub go_on : AllGoOn replies
+  pub only : IsTrue o.tells → LeavesOnly o.since p.now (StandsBetween o.issuer o.start p.history.entries [])
+
+-- what a torn entry leaves
+pub record Torn (o : Origin) (p : Point) : Type 0 where
+  pub torn : List Entry
+  pub at_most_one : length torn ≤ 1
+  pub only : LeavesOnly o.since p.now (StandsBetween o.issuer o.start p.history.entries torn)
+  pub here : LeavesNow p.now (StandsForEnd o.issuer p.history.entries torn)
+
+-- the journal has stopped
+pub record Halted (o : Origin) (replies : List (Result Reply StoreFault)) (p : Point) (count : ℕ) : Type 0 where
+  pub stops : StopsAt o.at_faults count replies
+  pub at_this : count ≡ p.faults
+  pub left : IsTrue o.tells → Torn o p
+
+abbrev pub Progress : Origin → List (Result Reply StoreFault) → Point → Option ℕ → Type 0
+Progress o replies p None = GoingOn o replies p
+Progress o replies p (Some count) = Halted o replies p count
+
+-- these asks got these replies, up to this point
+pub record SoFar (o : Origin) (asks : List Asked) (replies : List (Result Reply StoreFault)) (p : Point) : Type 0 where
+  pub own : p.history.issuer ≡ o.issuer
+  pub run : ChainRun o.issuer (IsComing o.coming) o.start asks replies p.history.entries
+  pub moved : MovedBy (readings replies) o.coming p.next
+  pub begins : IsPrefix o.start p.history.entries
+  pub later : o.at_faults ≤ p.faults
+  pub progress : Progress o replies p p.stopped
+
+-- one ask more
+pub record Step (tells : Bool) (p : Point) (ask : Asked) (told : Result Reply StoreFault) (q : Point) : Type 0 where
+  pub takes : p.stopped ≡ None → Takes p.history q.history ask p.next q.next tells p.now q.now told
+  pub going_on : OnOk told ((p.stopped ≡ None) × (q.stopped ≡ None))
+  pub no_memory : told ≡ Err NoMemory → (q.now ≡ p.now) × (q.stopped ≡ p.stopped)
+  pub fault : told ≡ Err DiskFault → Rose p.faults q.faults × (q.stopped ≡ Some q.faults)
+  pub stops : (count : ℕ) → (told ≡ Err (Stopped count)) ↔ (p.stopped ≡ Some count)
+  pub untouched : IsSome p.stopped → q ≡ p
+  pub later : p.faults ≤ q.faults
+
+abbrev pub origin_of : {D C : Type 0} {g : Ghosts D} → Bool → (D → Told) → (D → ℕ) → (C → ℕ → Option ℕ) → Store D C g → Origin
+origin_of tells told faults coming store = record {
+  issuer = (state_of store).issuer;
+  start = (state_of store).entries;
+  tells = tells;
+  since = told (disk_of (journal_of store));
+  at_faults = faults (disk_of (journal_of store));
+  coming = coming (clock_of store);
+}
+
+abbrev pub point_of : {D C : Type 0} {g : Ghosts D} → (D → Told) → (D → ℕ) → (C → ℕ → Option ℕ) → Store D C g → Point
+point_of told faults coming store = record {
+  history = state_of store;
+  now = told (disk_of (journal_of store));
+  faults = faults (disk_of (journal_of store));
+  stopped = stopped_of (journal_of store);
+  next = coming (clock_of store);
+}

@@ -1,0 +1,170 @@
+-- How a run ends, and what its clause says of the whole call.
+use Rattle.std.proofs.Common.{◌≡◌, inl, inr, ◌⊎◌, ℕ, ◌+◌, ◌≤◌, List, [], ◌∷◌, ◌++◌, sym, ◌∙◌, ap, subst, refl, arith, Bool, true, false, IsTrue, Option, Some, None, Result, Ok, Err}
+use Rattle.std.specs.List.{list_any}
+use Rattle.chain_disk.specs.Told.{Told, LeavesOnly, synced}
+use Rattle.chain_store.specs.Stands.{IsDamagedFile}
+use Rattle.chain_store.specs.declared.causes.OpenCause.{OpenCause}
+use Rattle.chain_store.specs.declared.causes.OpenCause.TheVariants as cause
+use Rattle.journal.specs.declared.faults.StoreFault.{StoreFault}
+use Rattle.journal.specs.declared.faults.StoreFault.TheVariants.{DiskFault, Stopped, NoMemory}
+use Rattle.ports.specs.Causes.{Rose}
+use Rattle.ports.specs.Readings.{IsTold}
+use Rattle.ports.specs.declared.Failed.{Failed}
+use Rattle.record_codec.specs.declared.entries.Entry.{Entry}
+use Rattle.recovery.specs.Opening.{IsFound, IsOthers, KeepsMeaning, ReadsAlike}
+use Rattle.report.specs.declared.ended.Detail.{Detail}
+use Rattle.report.specs.declared.ended.Detail.TheVariants as detail
+use Rattle.script.specs.declared.scripts.Script.{Script}
+use Rattle.shop_core.specs.Asked.{Asked}
+use Rattle.huella.specs.Linked.{Linked}
+use Rattle.shop_core.specs.History.{recs}
+use Rattle.shop_core.specs.Legal.{Legal}
+use Rattle.shop_core.specs.Runs.{ChainRun}
+use Rattle.shop_core.specs.Runs.ChainRun.{begun, replied}
+use Rattle.shop_core.specs.declared.answers.Reply.{Reply}
+use Rattle.verifactu.specs.Crashes.{Kept, StandsBetween}
+use Rattle.verifactu.specs.Opened.{detail_of}
+use Rattle.verifactu.specs.Output.{OutputIs}
+use Rattle.verifactu.specs.Printed.{printed}
+use Rattle.verifactu.specs.Readings.{IsComing, IsAsked, readings, readings_of, LeavesClock}
+use Rattle.verifactu.specs.Replies.{AllGoOn, AllReplied, StopsAt, StopsOnce, is_disk_fault, is_no_memory}
+use Rattle.verifactu.specs.Run.{ChainEnds, Devices, DiskRose, Disks, FailedIn, IsGoodScript, LeftMeaning, NotOpened, OpeningEnds, Played, RunEnds, ScriptEnds, Sinks, Wrote}
+use Rattle.verifactu.specs.Stages.{Answers, Span, StoreEnds}
+use Rattle.verifactu.proofs.Finishing.{kept_since}
+
+-- no reply is want of memory, and none a fault of the disk
+pub all_replied : (replies : List (Result Reply StoreFault)) → list_any is_no_memory replies ≡ false → list_any is_disk_fault replies ≡ false → AllReplied replies
+all_replied [] memory disk = tt
+all_replied (Ok reply ∷ replies) memory disk = (refl, all_replied replies memory disk)
+all_replied (Err NoMemory ∷ replies) memory disk = absurd cc
+all_replied (Err DiskFault ∷ replies) memory disk = absurd cc
+all_replied (Err (Stopped count) ∷ replies) memory disk = absurd cc
+
+-- where the journal went on, no reply is a fault of the disk
+went_on : (replies : List (Result Reply StoreFault)) → AllGoOn replies → list_any is_disk_fault replies ≡ false
+went_on [] all = refl
+went_on (Ok reply ∷ replies) all = went_on replies all.1
+went_on (Err NoMemory ∷ replies) all = went_on replies all.1
+went_on (Err DiskFault ∷ replies) all = absurd all.0
+went_on (Err (Stopped count) ∷ replies) all = absurd all.0
+
+pub written_whole : (text : List ℕ) (s : Sinks) (w : Result (Unit {0}) Failed) (u : Unit {0}) → w ≡ Ok u → OutputIs s.taken s.taken_after s.faults s.faults_after text w → Wrote s text
+written_whole text s w u is h = subst (λ (r : Result (Unit {0}) Failed). OutputIs s.taken s.taken_after s.faults s.faults_after text r) is h
+
+pub written_part : (text : List ℕ) (s : Sinks) (w : Result (Unit {0}) Failed) (e : Failed) → w ≡ Err e → OutputIs s.taken s.taken_after s.faults s.faults_after text w → FailedIn s text
+written_part text s w e is h =
+    let failed = subst (λ (r : Result (Unit {0}) Failed). OutputIs s.taken s.taken_after s.faults s.faults_after text r) is h in
+    record { risen = failed.0; part = failed.1 }
+
+-- the end of an opening that failed has its cause
+pub opening_ends : {D : Type 0} (c : OpenCause) (issuer : List ℕ) (k : Disks D) → (c ≡ cause.DiskFault → DiskRose k) →
+    ((at : ℕ) → c ≡ cause.Damaged at → IsTrue k.tells → IsDamagedFile (k.told k.disk).content at × ReadsAlike (k.told k.disk) (k.told k.disk_after)) →
+    ((held : List ℕ) → c ≡ cause.OtherIssuer held → IsTrue k.tells → IsOthers issuer held (k.told k.disk).content × ReadsAlike (k.told k.disk) (k.told k.disk_after)) →
+    LeftMeaning issuer k → OpeningEnds issuer k (detail_of c)
+opening_ends cause.DiskFault issuer k fault damaged other left = (fault refl, left)
+opening_ends (cause.Damaged at) issuer k fault damaged other left = damaged at refl
+opening_ends (cause.OtherIssuer held) issuer k fault damaged other left = other held refl
+opening_ends cause.NoMemory issuer k fault damaged other left = left
+
+pub not_asked : {C : Type 0} (coming : C → ℕ → Option ℕ) (clock after : C) → after ≡ clock → IsAsked coming 0 clock after
+not_asked coming clock after same = record {
+  moved = λ k. let e : k ≡ 0 + k = omega arith in ap (λ c. coming c k) same ∙ ap (coming clock) e;
+  untouched = λ none. same;
+}
+
+stops_from : (first before after : ℕ) (replies : List (Result Reply StoreFault)) → first ≤ before → StopsOnce before after replies → StopsOnce first after replies
+stops_from first before after replies later (inl all) = inl all
+stops_from first before after replies later (inr h) = inr (record {
+  before = h.before;
+  behind = h.behind;
+  parts = h.parts;
+  go_on = h.go_on;
+  stopped = h.stopped;
+  risen = λ below. let risen = h.risen below in omega (arith, later, risen);
+})
+
+-- a run of a store is one of its file, from its opening on
+pub ran : {D C : Type 0} (issuer : List ℕ) (asks : List Asked) (replies : List (Result Reply StoreFault)) (s : Span C) (sink : Sinks) (k : Disks D) (end : Detail) → s.issuer ≡ issuer → s.tells ≡ k.tells →
+    s.faults_after ≡ k.faults k.disk_after → s.now ≡ k.told k.disk_after → k.faults k.disk ≤ s.faults → (IsTrue k.tells → IsFound issuer s.start (k.told k.disk).content) →
+    (IsTrue k.tells → LeavesOnly (synced (k.told k.disk)) s.since (IsFound issuer s.start)) → Answers asks replies s →
+    RunEnds replies (printed asks replies s.end) sink end → ScriptEnds issuer asks (s.coming s.clock) (λ rs. IsAsked s.coming (readings rs) s.clock s.clock_after) sink k end
+ran issuer asks replies s sink k end own tells faults_after now later found any h ends =
+    let kept_here : IsTrue k.tells → Kept (StandsBetween issuer s.start s.end) issuer s.end replies s.since (k.told k.disk_after) = λ says.
+    subst (λ (t : Told). Kept (StandsBetween issuer s.start s.end) issuer s.end replies s.since t) now
+    (subst (λ (n : List ℕ). Kept (StandsBetween n s.start s.end) n s.end replies s.since s.now) own (h.kept (subst (λ (b : Bool). IsTrue b) (sym tells) says))) in
+    inr (
+      record {
+        start = s.start;
+        replies = replies;
+        end = s.end;
+        found = found;
+        run = subst (λ (n : List ℕ). ChainRun n (IsComing (s.coming s.clock)) s.start asks replies s.end) own h.run;
+        begins = h.begins;
+        legal = subst (λ (n : List ℕ). Legal n s.end) own h.legal;
+        linked = subst (λ (n : List ℕ). Linked n (recs s.end)) own h.linked;
+        rising = h.rising;
+        stops = subst (λ (n : ℕ). StopsOnce (k.faults k.disk) n replies) faults_after (stops_from (k.faults k.disk) s.faults s.faults_after replies later h.stops);
+        kept = λ says. kept_since issuer s.start s.end replies (synced (k.told k.disk)) s.since (k.told k.disk_after) h.begins (any says) (kept_here says);
+        clock = h.asked;
+      },
+      ends,
+    )
+
+-- a run by readings of one kind is one by readings of another kind, where each of the first is one of the second
+run_by : (issuer : List ℕ) (R Q : List (Result Reply StoreFault) → ℕ → Type 0) (start : List Entry) → ((replies : List (Result Reply StoreFault)) (seconds : ℕ) → R replies seconds → Q replies seconds) →
+    {asks : List Asked} {replies : List (Result Reply StoreFault)} {entries : List Entry} → ChainRun issuer R start asks replies entries → ChainRun issuer Q start asks replies entries
+run_by issuer R Q start each begun = begun
+run_by issuer R Q start each (replied asks replies entries ask told gained run seconds reading h) =
+    replied asks replies entries ask told gained (run_by issuer R Q start each run) seconds (each replies seconds reading) h
+
+-- the same end, said of other readings and of another clock
+pub script_by : {D : Type 0} (issuer : List ℕ) (asks : List Asked) (old new : ℕ → Option ℕ) (Leaves Left : List (Result Reply StoreFault) → Type 0) (s : Sinks) (k : Disks D) (end : Detail) →
+    ((i : ℕ) → old i ≡ new i) → ((replies : List (Result Reply StoreFault)) → Leaves replies → Left replies) → ScriptEnds issuer asks old Leaves s k end → ScriptEnds issuer asks new Left s k end
+script_by issuer asks old new Leaves Left s k end same leaves (inl h) = inl (record { cause = h.cause; wrote = h.wrote; clock = leaves [] h.clock })
+script_by issuer asks old new Leaves Left s k end same leaves (inr h) =
+    let p = h.0 in
+    inr (
+      record {
+        start = p.start;
+        replies = p.replies;
+        end = p.end;
+        found = p.found;
+        run = run_by issuer (IsComing old) (IsComing new) p.start (λ replies seconds told. subst (λ (o : Option ℕ). IsTold o seconds) (same (readings replies)) told) p.run;
+        begins = p.begins;
+        legal = p.legal;
+        linked = p.linked;
+        rising = p.rising;
+        stops = p.stops;
+        kept = p.kept;
+        clock = leaves p.replies p.clock;
+      },
+      h.1,
+    )
+
+rose_of : (faults after : ℕ) (replies : List (Result Reply StoreFault)) → StopsOnce faults after replies → list_any is_disk_fault replies ≡ true → Rose faults after
+rose_of faults after replies (inl all) some = let none = went_on replies all in absurd cc
+rose_of faults after replies (inr stop) some = stop.risen
+
+disk_rose : {D : Type 0} (issuer : List ℕ) (asks : List Asked) (coming : ℕ → Option ℕ) (Leaves : List (Result Reply StoreFault) → Type 0) (s : Sinks) (k : Disks D) →
+    ScriptEnds issuer asks coming Leaves s k detail.DiskFault → DiskRose k
+disk_rose issuer asks coming Leaves s k (inl h) = h.cause.0
+disk_rose issuer asks coming Leaves s k (inr h) = rose_of (k.faults k.disk) (k.faults k.disk_after) h.0.replies h.0.stops h.1.1
+
+-- the end of a command that read its script is that of its run
+pub chain_ends : {D C : Type 0} (issuer : List ℕ) (d : Devices D C) (script : Script) (end : Detail) → IsGoodScript d.left d.left_after script →
+    ScriptEnds issuer script.asks (readings_of script.clock (d.coming d.clock)) (LeavesClock d.coming script.clock d.clock d.clock_after) d.sink d.disk end → ChainEnds issuer d end
+chain_ends issuer d script detail.Done good h = (script, good, h)
+chain_ends issuer d script detail.WriteFault good h = (script, good, h)
+chain_ends issuer d script detail.DiskFault good h =
+    ((script, good, h), disk_rose issuer script.asks (readings_of script.clock (d.coming d.clock)) (LeavesClock d.coming script.clock d.clock d.clock_after) d.sink d.disk h)
+chain_ends issuer d script (detail.Damaged at) good h = (script, good, h)
+chain_ends issuer d script (detail.OtherIssuer held) good h = (script, good, h)
+chain_ends issuer d script detail.NoMemory good h = inr (script, good, h)
+chain_ends issuer d script detail.Usage good (inl h) = absurd h.cause
+chain_ends issuer d script detail.Usage good (inr h) = absurd h.1
+chain_ends issuer d script (detail.Script line fault) good (inl h) = absurd h.cause
+chain_ends issuer d script (detail.Script line fault) good (inr h) = absurd h.1
+chain_ends issuer d script detail.ReadFault good (inl h) = absurd h.cause
+chain_ends issuer d script detail.ReadFault good (inr h) = absurd h.1
+chain_ends issuer d script detail.TooBig good (inl h) = absurd h.cause
+chain_ends issuer d script detail.TooBig good (inr h) = absurd h.1

@@ -1,0 +1,303 @@
+-- A run of a store goes on by one more reply.
+use Rattle.std.proofs.Common.{◌≡◌, inl, inr, ℕ, ◌+◌, ◌≤◌, ◌<◌, List, [], ◌∷◌, ◌++◌, length, length-append, append_assoc, sym, ◌∙◌, ap, subst, refl, arith, add_assoc, add-zero, Bool, true, false, cond, IsTrue, IsSome, Option, Some, None, Result, Ok, Err}
+use Rattle.std.specs.List.{AllByRecursion}
+use Rattle.std.proofs.lemmas.List.{append-nil}
+use Rattle.std.proofs.lemmas.List.Sums.{sum_by-append}
+use Rattle.chain_disk.specs.Told.{Told, LeavesOnly, LeavesNow, IsLeft, moment}
+use Rattle.chain_disk.specs.Runs.{follows, weaker}
+use Rattle.chain_store.specs.Ready.{Takes}
+use Rattle.chain_store.specs.Stands.{StandsFor, StandsAround}
+use Rattle.journal.specs.declared.faults.StoreFault.{StoreFault}
+use Rattle.journal.specs.declared.faults.StoreFault.TheVariants.{DiskFault, Stopped, NoMemory}
+use Rattle.ports.specs.Causes.{Rose}
+use Rattle.ports.specs.Readings.{IsTold, MovedBy}
+use Rattle.record_codec.specs.declared.entries.Entry.{Entry}
+use Rattle.shop_core.specs.Answer.{answer}
+use Rattle.shop_core.specs.Asked.{Asked}
+use Rattle.shop_core.specs.History.{History}
+use Rattle.shop_core.specs.Runs.{ChainRun, IsReply, Tells}
+use Rattle.shop_core.specs.Runs.ChainRun.{begun, replied}
+use Rattle.shop_core.specs.declared.answers.Planned.{Planned}
+use Rattle.shop_core.specs.declared.answers.Planned.TheVariants.{Again, Refused, Made}
+use Rattle.shop_core.specs.declared.answers.Reply.{Reply}
+use Rattle.verifactu.specs.Crashes.{IsPrefix, StandsBetween, StandsForEnd}
+use Rattle.verifactu.specs.Readings.{IsComing, has_read, readings}
+use Rattle.verifactu.specs.Replies.{AllGoOn, IsGoingOn, IsStopped, StopsAt}
+use Rattle.verifactu.proofs.Progress.{Origin, Point, GoingOn, Torn, Halted, Progress, SoFar, Step}
+
+abbrev Told_reply : Type 0
+Told_reply = Result Reply StoreFault
+
+all_push : (P : Told_reply → Type 0) (xs : List Told_reply) (x : Told_reply) → P x → AllByRecursion P xs → AllByRecursion P (xs ++ x ∷ [])
+all_push P [] x p h = (p, tt)
+all_push P (y ∷ xs) x p h = (h.0, all_push P xs x p h.1)
+
+readings_read : (replies : List Told_reply) (told : Told_reply) → has_read told ≡ true → readings (replies ++ told ∷ []) ≡ readings replies + 1
+readings_read replies told read =
+    let one : ◌≡◌ {A = ℕ} (cond (has_read told) 1 0) 1 = rw read refl in
+    let more = sum_by-append (λ (r : Told_reply). cond (has_read r) 1 0) replies (told ∷ []) in
+    omega (arith, more, one)
+
+readings_stopped : (replies : List Told_reply) (count : ℕ) → readings (replies ++ Err (Stopped count) ∷ []) ≡ readings replies
+readings_stopped replies count =
+    let more = sum_by-append (λ (r : Told_reply). cond (has_read r) 1 0) replies (Err (Stopped count) ∷ []) in
+    omega (arith, more)
+
+moved_on : (i : ℕ) (old mid new : ℕ → Option ℕ) → MovedBy i old mid → MovedBy 1 mid new → MovedBy (i + 1) old new
+moved_on i old mid new a b k = b k ∙ a (1 + k) ∙ ap old (sym (add_assoc i 1 k))
+
+-- some number is a coming answer
+some_told : (o : Option ℕ) → (seconds : ℕ) × IsTold o seconds
+some_told None = (0, tt)
+some_told (Some told) = (told, refl)
+
+prefix_more : (start entries gained whole : List Entry) → whole ≡ entries ++ gained → IsPrefix start entries → IsPrefix start whole
+prefix_more start entries gained whole is h = record {
+  rest = h.rest ++ gained;
+  parts = is ∙ ap (λ (es : List Entry). es ++ gained) h.parts ∙ append_assoc start h.rest gained;
+}
+
+prefix_all : (entries : List Entry) → IsPrefix entries entries
+prefix_all entries = record { rest = []; parts = sym (append-nil entries) }
+
+-- what was left of a run is left of a longer one
+pub between_more : (issuer : List ℕ) (start entries gained torn whole : List Entry) → whole ≡ entries ++ gained → (c : List ℕ) →
+    StandsBetween issuer start entries [] c → StandsBetween issuer start whole torn c
+between_more issuer start entries gained torn whole is c h =
+    let within : IsPrefix h.history entries = subst (λ (es : List Entry). IsPrefix h.history es) (append-nil entries) h.within in
+    record {
+      history = h.history;
+      stands = h.stands;
+      begins = h.begins;
+      within = prefix_more h.history entries (gained ++ torn) (whole ++ torn) (ap (λ (es : List Entry). es ++ torn) is ∙ append_assoc entries gained torn) within;
+    }
+
+stands_between : (issuer : List ℕ) (start entries history rest : List Entry) (c : List ℕ) → IsPrefix start history → entries ≡ history ++ rest → StandsFor issuer history c →
+    StandsBetween issuer start entries [] c
+stands_between issuer start entries history rest c begins is stands = record {
+  history = history;
+  stands = stands;
+  begins = begins;
+  within = record { rest = rest; parts = append-nil entries ∙ is };
+}
+
+-- what one answered ask leaves
+around_gained : (issuer : List ℕ) (start entries gained whole : List Entry) (planned : Planned) (told : Reply) (c : List ℕ) → IsPrefix start entries → whole ≡ entries ++ gained →
+    Tells entries planned told gained → StandsAround issuer entries planned c → StandsBetween issuer start whole [] c
+around_gained issuer start entries gained whole (Again receipt) told c begins is tells stands =
+    stands_between issuer start whole entries gained c begins is stands
+around_gained issuer start entries gained whole (Refused why) told c begins is tells stands =
+    stands_between issuer start whole entries gained c begins is stands
+around_gained issuer start entries gained whole (Made entry) told c begins is tells (inl before) =
+    stands_between issuer start whole entries gained c begins is before
+around_gained issuer start entries gained whole (Made entry) told c begins is tells (inr with_it) =
+    let all : whole ≡ entries ++ entry ∷ [] = is ∙ ap (λ (es : List Entry). entries ++ es) tells.1 in
+    stands_between issuer start whole (entries ++ entry ∷ []) [] c (prefix_more start entries (entry ∷ []) _ refl begins) (all ∙ sym (append-nil (entries ++ entry ∷ []))) with_it
+
+-- the entry that was to be added, where there is one
+abbrev torn_of : Planned → List Entry
+torn_of (Again receipt) = []
+torn_of (Refused why) = []
+torn_of (Made entry) = entry ∷ []
+
+torn_size : (planned : Planned) → length (torn_of planned) ≤ 1
+torn_size (Again receipt) = omega arith
+torn_size (Refused why) = omega arith
+torn_size (Made entry) = omega arith
+
+around_torn : (issuer : List ℕ) (entries : List Entry) (planned : Planned) (c : List ℕ) → StandsAround issuer entries planned c → StandsForEnd issuer entries (torn_of planned) c
+around_torn issuer entries (Again receipt) c stands = inl stands
+around_torn issuer entries (Refused why) c stands = inl stands
+around_torn issuer entries (Made entry) c stands = stands
+
+end_between : (issuer : List ℕ) (start entries torn : List Entry) (c : List ℕ) → IsPrefix start entries → StandsForEnd issuer entries torn c → StandsBetween issuer start entries torn c
+end_between issuer start entries torn c begins (inl stands) = record {
+  history = entries;
+  stands = stands;
+  begins = begins;
+  within = record { rest = torn; parts = refl };
+}
+end_between issuer start entries torn c begins (inr stands) = record {
+  history = entries ++ torn;
+  stands = stands;
+  begins = prefix_more start entries torn _ refl begins;
+  within = prefix_all (entries ++ torn);
+}
+
+none_some : {A : Type 0} {o : Option A} {x : A} → o ≡ None → o ≡ Some x → ⊥
+none_some none some = absurd cc
+
+some_same : {A : Type 0} {o : Option A} {x y : A} → o ≡ Some x → o ≡ Some y → x ≡ y
+some_same a b = cc
+
+fault_told : {x y : ℕ} {told : Told_reply} → told ≡ Err (Stopped x) → told ≡ Err (Stopped y) → x ≡ y
+fault_told a b = cc
+
+-- a reply at a journal that goes on read the clock
+reads : (told : Told_reply) → ((count : ℕ) → told ≡ Err (Stopped count) → ⊥) → has_read told ≡ true
+reads (Ok reply) none = refl
+reads (Err DiskFault) none = refl
+reads (Err (Stopped count)) none = absurd (none count refl)
+reads (Err NoMemory) none = refl
+
+-- what is said of one ask, with the issuer of the run
+pub record Taking (o : Origin) (p : Point) (ask : Asked) (told : Told_reply) (q : Point) : Type 0 where
+  pub seconds : ℕ
+  pub reading : IsTold (p.next 0) seconds
+  pub moved : MovedBy 1 p.next q.next
+  pub own : q.history.issuer ≡ o.issuer
+  pub gained : List Entry
+  pub entries : q.history.entries ≡ p.history.entries ++ gained
+  pub reply : IsReply o.issuer p.history.entries ask seconds told gained
+  pub any_moment : IsTrue o.tells → LeavesOnly p.now q.now (StandsAround o.issuer p.history.entries (answer o.issuer p.history.entries ask seconds))
+
+taking : (o : Origin) (p q : Point) (ask : Asked) (told : Told_reply) → p.history.issuer ≡ o.issuer →
+    Takes p.history q.history ask p.next q.next o.tells p.now q.now told → Taking o p ask told q
+taking o p q ask told own t = record {
+  seconds = t.seconds;
+  reading = t.reading;
+  moved = t.moved;
+  own = t.issuer ∙ own;
+  gained = t.gained;
+  entries = t.entries;
+  reply = subst (λ (n : List ℕ). IsReply n p.history.entries ask t.seconds told t.gained) own t.reply;
+  any_moment = λ tells.
+      subst (λ (n : List ℕ). LeavesOnly p.now q.now (StandsAround n p.history.entries (answer n p.history.entries ask t.seconds))) own (t.any_moment tells);
+}
+
+answered : (o : Origin) (p q : Point) (ask : Asked) (reply : Reply) (replies : List Told_reply) → IsPrefix o.start p.history.entries → GoingOn o replies p → Taking o p ask (Ok reply) q →
+    GoingOn o (replies ++ Ok reply ∷ []) q
+answered o p q ask reply replies begins g t = record {
+  go_on = all_push IsGoingOn replies (Ok reply) tt g.go_on;
+  only = λ tells. follows o.since p.now q.now
+      (StandsBetween o.issuer o.start p.history.entries [])
+      (StandsAround o.issuer p.history.entries (answer o.issuer p.history.entries ask t.seconds))
+      (StandsBetween o.issuer o.start q.history.entries [])
+      (g.only tells) (t.any_moment tells)
+      (between_more o.issuer o.start p.history.entries t.gained [] q.history.entries t.entries)
+      (λ c stands. around_gained o.issuer o.start p.history.entries t.gained q.history.entries (answer o.issuer p.history.entries ask t.seconds) reply c begins t.entries t.reply stands);
+}
+
+unanswered : (o : Origin) (p q : Point) (ask : Asked) (replies : List Told_reply) → GoingOn o replies p → Taking o p ask (Err NoMemory) q → q.now ≡ p.now →
+    GoingOn o (replies ++ Err NoMemory ∷ []) q
+unanswered o p q ask replies g t same = record {
+  go_on = all_push IsGoingOn replies (Err NoMemory) tt g.go_on;
+  only = λ tells. subst (λ (u : Told). LeavesOnly o.since u (StandsBetween o.issuer o.start q.history.entries [])) (sym same)
+      (weaker o.since p.now (StandsBetween o.issuer o.start p.history.entries []) (StandsBetween o.issuer o.start q.history.entries []) (g.only tells)
+      (between_more o.issuer o.start p.history.entries t.gained [] q.history.entries t.entries));
+}
+
+torn : (o : Origin) (p q : Point) (ask : Asked) (replies : List Told_reply) → IsPrefix o.start p.history.entries → GoingOn o replies p → Taking o p ask (Err DiskFault) q →
+    IsTrue o.tells → Torn o q
+torn o p q ask replies begins g t tells =
+    let planned = answer o.issuer p.history.entries ask t.seconds in
+    let more = torn_of planned in
+    let any = t.any_moment tells in
+    let same : q.history.entries ≡ p.history.entries = t.entries ∙ ap (λ (es : List Entry). p.history.entries ++ es) t.reply ∙ append-nil p.history.entries in
+    let here : LeavesNow q.now (StandsForEnd o.issuer p.history.entries more) = λ c left. around_torn o.issuer p.history.entries planned c (any.each (moment q.now) c any.later left) in
+    let only : LeavesOnly o.since q.now (StandsBetween o.issuer o.start p.history.entries more) =
+    follows o.since p.now q.now
+    (StandsBetween o.issuer o.start p.history.entries [])
+    (StandsAround o.issuer p.history.entries planned)
+    (StandsBetween o.issuer o.start p.history.entries more)
+    (g.only tells) any
+    (between_more o.issuer o.start p.history.entries [] more p.history.entries (sym (append-nil p.history.entries)))
+    (λ c stands. end_between o.issuer o.start p.history.entries more c begins (around_torn o.issuer p.history.entries planned c stands)) in
+    record {
+      torn = more;
+      at_most_one = torn_size planned;
+      only = subst (λ (es : List Entry). LeavesOnly o.since q.now (StandsBetween o.issuer o.start es more)) (sym same) only;
+      here = subst (λ (es : List Entry). LeavesNow q.now (StandsForEnd o.issuer es more)) (sym same) here;
+    }
+
+risen_from : (first before after : ℕ) → first ≤ before → Rose before after → Rose first after
+risen_from first before after later rose = λ below. let risen = rose below in omega (arith, later, risen)
+
+-- the journal went on before the ask
+progress_on : (o : Origin) (p q : Point) (ask : Asked) (told : Told_reply) (replies : List Told_reply) → IsPrefix o.start p.history.entries → o.at_faults ≤ p.faults → GoingOn o replies p →
+    p.stopped ≡ None → Taking o p ask told q → Step o.tells p ask told q → Progress o (replies ++ told ∷ []) q q.stopped
+progress_on o p q ask (Ok reply) replies begins later g none t s =
+    subst (λ (x : Option ℕ). Progress o (replies ++ Ok reply ∷ []) q x) (sym s.going_on.1) (answered o p q ask reply replies begins g t)
+progress_on o p q ask (Err NoMemory) replies begins later g none t s =
+    let same = s.no_memory refl in
+    subst (λ (x : Option ℕ). Progress o (replies ++ Err NoMemory ∷ []) q x) (sym (same.1 ∙ none)) (unanswered o p q ask replies g t same.0)
+progress_on o p q ask (Err DiskFault) replies begins later g none t s =
+    let f = s.fault refl in
+    subst (λ (x : Option ℕ). Progress o (replies ++ Err DiskFault ∷ []) q x) (sym f.1) (record {
+      stops = record { before = replies; behind = []; parts = refl; go_on = g.go_on; stopped = tt; risen = risen_from o.at_faults p.faults q.faults later f.0 };
+      at_this = refl;
+      left = torn o p q ask replies begins g t;
+    })
+progress_on o p q ask (Err (Stopped count)) replies begins later g none t s = absurd (none_some none ((s.stops count).0 refl))
+
+step_on : (o : Origin) (asks : List Asked) (replies : List Told_reply) (p q : Point) (ask : Asked) (told : Told_reply) → p.stopped ≡ None → SoFar o asks replies p → Step o.tells p ask told q →
+    SoFar o (asks ++ ask ∷ []) (replies ++ told ∷ []) q
+step_on o asks replies p q ask told none h s =
+    let t = taking o p q ask told h.own (s.takes none) in
+    let g : GoingOn o replies p = subst (λ (x : Option ℕ). Progress o replies p x) none h.progress in
+    let read = readings_read replies told (reads told (λ count is. none_some none ((s.stops count).0 is))) in
+    let reading : IsComing o.coming replies t.seconds =
+    subst (λ (a : Option ℕ). IsTold a t.seconds) (h.moved 0 ∙ ap o.coming (add-zero (readings replies))) t.reading in
+    record {
+      own = t.own;
+      run = subst (λ (es : List Entry). ChainRun o.issuer (IsComing o.coming) o.start (asks ++ ask ∷ []) (replies ++ told ∷ []) es) (sym t.entries)
+          (replied asks replies p.history.entries ask told t.gained h.run t.seconds reading t.reply);
+      moved = subst (λ (n : ℕ). MovedBy n o.coming q.next) (sym read) (moved_on (readings replies) o.coming p.next q.next h.moved t.moved);
+      begins = prefix_more o.start p.history.entries t.gained q.history.entries t.entries h.begins;
+      later = omega (arith, h.later, s.later);
+      progress = progress_on o p q ask told replies h.begins h.later g none t s;
+    }
+
+stopped_more : (faults count : ℕ) (replies : List Told_reply) → StopsAt faults count replies → StopsAt faults count (replies ++ Err (Stopped count) ∷ [])
+stopped_more faults count replies h = record {
+  before = h.before;
+  behind = h.behind ++ Err (Stopped count) ∷ [];
+  parts = ap (λ (rs : List Told_reply). rs ++ Err (Stopped count) ∷ []) h.parts ∙ append_assoc h.before (Err DiskFault ∷ h.behind) (Err (Stopped count) ∷ []);
+  go_on = h.go_on;
+  stopped = all_push (IsStopped count) h.behind (Err (Stopped count)) refl h.stopped;
+  risen = h.risen;
+}
+
+-- the journal had stopped before the ask
+step_stopped : (o : Origin) (asks : List Asked) (replies : List Told_reply) (p : Point) (ask : Asked) (count : ℕ) → p.stopped ≡ Some count → SoFar o asks replies p →
+    SoFar o (asks ++ ask ∷ []) (replies ++ Err (Stopped count) ∷ []) p
+step_stopped o asks replies p ask count some h =
+    let told : Told_reply = Err (Stopped count) in
+    let g : Halted o replies p count = subst (λ (x : Option ℕ). Progress o replies p x) some h.progress in
+    let any = some_told (o.coming (readings replies)) in
+    let here : Progress o (replies ++ told ∷ []) p (Some count) = record { stops = stopped_more o.at_faults count replies g.stops; at_this = g.at_this; left = g.left } in
+    record {
+      own = h.own;
+      run = subst (λ (es : List Entry). ChainRun o.issuer (IsComing o.coming) o.start (asks ++ ask ∷ []) (replies ++ told ∷ []) es) (append-nil p.history.entries)
+          (replied asks replies p.history.entries ask told [] h.run any.0 any.1 refl);
+      moved = subst (λ (n : ℕ). MovedBy n o.coming p.next) (sym (readings_stopped replies count)) h.moved;
+      begins = h.begins;
+      later = h.later;
+      progress = subst (λ (x : Option ℕ). Progress o (replies ++ told ∷ []) p x) (sym some) here;
+    }
+
+step_by : (stopped : Option ℕ) (o : Origin) (asks : List Asked) (replies : List Told_reply) (p q : Point) (ask : Asked) (told : Told_reply) → p.stopped ≡ stopped → SoFar o asks replies p →
+    Step o.tells p ask told q → SoFar o (asks ++ ask ∷ []) (replies ++ told ∷ []) q
+step_by None o asks replies p q ask told is h s = step_on o asks replies p q ask told is h s
+step_by (Some count) o asks replies p q ask told is h s =
+    let same : q ≡ p = s.untouched (subst (λ (x : Option ℕ). IsSome x) (sym is) refl) in
+    subst (λ (t : Told_reply). SoFar o (asks ++ ask ∷ []) (replies ++ t ∷ []) q) (sym ((s.stops count).1 is))
+    (subst (λ (x : Point). SoFar o (asks ++ ask ∷ []) (replies ++ Err (Stopped count) ∷ []) x) (sym same) (step_stopped o asks replies p ask count is h))
+
+pub step : (o : Origin) (asks : List Asked) (replies : List Told_reply) (p q : Point) (ask : Asked) (told : Told_reply) → SoFar o asks replies p → Step o.tells p ask told q →
+    SoFar o (asks ++ ask ∷ []) (replies ++ told ∷ []) q
+step o asks replies p q ask told h s = step_by p.stopped o asks replies p q ask told refl h s
+
+untouched_by : {C : Type 0} (stopped : Option ℕ) (tells : Bool) (p q : Point) (ask : Asked) (told : Told_reply) (first old new : C) (replies : List Told_reply) → p.stopped ≡ stopped →
+    Step tells p ask told q → (IsSome p.stopped → new ≡ old) → (readings replies ≡ 0 → old ≡ first) → readings (replies ++ told ∷ []) ≡ 0 → new ≡ first
+untouched_by None tells p q ask told first old new replies is s same before none =
+    let read = readings_read replies told (reads told (λ count e. none_some is ((s.stops count).0 e))) in
+    absurd (omega (arith, read, none))
+untouched_by (Some count) tells p q ask told first old new replies is s same before none =
+    let fewer : readings (replies ++ Err (Stopped count) ∷ []) ≡ 0 = subst (λ (t : Told_reply). readings (replies ++ t ∷ []) ≡ 0) ((s.stops count).1 is) none in
+    same (subst (λ (x : Option ℕ). IsSome x) (sym is) refl) ∙ before (sym (readings_stopped replies count) ∙ fewer)
+
+-- a clock that wasn't read before an ask, nor in it, is as it was
+pub untouched : {C : Type 0} (tells : Bool) (p q : Point) (ask : Asked) (told : Told_reply) (first old new : C) (replies : List Told_reply) →
+    Step tells p ask told q → (IsSome p.stopped → new ≡ old) → (readings replies ≡ 0 → old ≡ first) → readings (replies ++ told ∷ []) ≡ 0 → new ≡ first
+untouched tells p q ask told first old new replies s same before none = untouched_by p.stopped tells p q ask told first old new replies refl s same before none

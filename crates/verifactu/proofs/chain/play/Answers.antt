@@ -1,0 +1,33 @@
+use Rattle.std.proofs.Common.{◌≡◌, ◌∙◌, ◌++◌, ℕ, List, sym, ap, subst, Result}
+use Rattle.chain_store.specs.Store.{state_of}
+use Rattle.journal.specs.declared.faults.StoreFault.{StoreFault}
+use Rattle.record_codec.specs.declared.entries.Entry.{Entry}
+use Rattle.shop_core.specs.History.{History}
+use Rattle.shop_core.specs.declared.answers.Reply.{Reply}
+use Rattle.verifactu.specs.Output.{OutputIs}
+use Rattle.verifactu.specs.Printed.{printed}
+use Rattle.verifactu.specs.Run.{RunEnds, Sinks}
+use Rattle.verifactu.proofs.chain.play.Goals as goal
+
+pub returns-clause-end : goal.returns-clause-end
+returns-clause-end g c =
+    let asks = c.args.asks.now in
+    let replies = c.run_commands.new.replies.items in
+    let end = (state_of c.run_commands.new.store).entries in
+    let sink : Sinks = record {
+      taken = g.K.Sink.taken c.args.sink.now;
+      taken_after = g.K.Sink.taken c.write_texts-written.new.sink;
+      faults = g.K.Sink.faults c.args.sink.now;
+      faults_after = g.K.Sink.faults c.write_texts-written.new.sink;
+    } in
+    let text = c.in-Ok.told.answers ++ c.in-Ok.told.listing in
+    let tells : text ≡ printed asks replies end =
+    c.in-Ok.ensures ∙ ap (λ (rs : List (Result Reply StoreFault)). printed asks rs c.state.result.now.entries) c.deref.ensures.value
+    ∙ ap (λ (h : History). printed asks replies h.entries) c.state.ensures in
+    let written = rw (c.as_slice.ensures, c.as_slice-2.ensures) at c.write_texts-written.ensures in
+    let ends : RunEnds c.deref-2.result.now text sink c.end_of.result = c.end_of.ensures text sink written in (
+      replies,
+      c.run_commands.ensures.answers,
+      subst (λ (t : List ℕ). RunEnds replies t sink c.end_of.result) tells
+          (subst (λ (rs : List (Result Reply StoreFault)). RunEnds rs text sink c.end_of.result) c.deref-2.ensures.value ends),
+    )

@@ -1,0 +1,40 @@
+-- What a crash leaves of a run.
+use Rattle.std.specs.Prelude.{◌≡◌, ◌⊎◌, ◌≤◌, ℕ, List, [], ◌++◌, length, Result}
+use Rattle.chain_disk.specs.Told.{Told, LeavesOnly, LeavesNow}
+use Rattle.journal.specs.File.{IsNotBegun}
+use Rattle.journal.specs.declared.faults.StoreFault.{StoreFault}
+use Rattle.record_codec.specs.declared.entries.Entry.{Entry}
+use Rattle.shop_core.specs.declared.answers.Reply.{Reply}
+use Rattle.chain_store.specs.Stands.{StandsFor}
+use Rattle.verifactu.specs.Replies.{AllGoOn}
+
+-- one history is a front of the other
+pub record IsPrefix (front whole : List Entry) : Type 0 where
+  pub rest : List Entry
+  pub parts : whole ≡ front ++ rest
+
+-- The file stands for a legal history that begins with the one at the start, and is a front of the one at the end, or of
+-- that with the torn entry.
+pub record StandsBetween (issuer : List ℕ) (start end torn : List Entry) (file : List ℕ) : Type 0 where
+  pub history : List Entry
+  pub stands : StandsFor issuer history file
+  pub begins : IsPrefix start history
+  pub within : IsPrefix history (end ++ torn)
+
+-- the same; a file that isn't begun stands for the empty history
+abbrev pub StandsSince : List ℕ → List Entry → List Entry → List Entry → List ℕ → Type 0
+StandsSince issuer start end torn file = (IsNotBegun file × (start ≡ [])) ⊎ StandsBetween issuer start end torn file
+
+-- the file stands for the history at the end, or for that with the torn entry
+abbrev pub StandsForEnd : List ℕ → List Entry → List Entry → List ℕ → Type 0
+StandsForEnd issuer end torn file = StandsFor issuer end file ⊎ StandsFor issuer (end ++ torn) file
+
+-- Since some moment each crash leaves a file with P; now it leaves the history at the end, or that with the torn entry, and so
+-- reads the disk. An entry is torn only where the disk failed while it was added.
+pub record Kept (P : List Entry → List ℕ → Type 0) (issuer : List ℕ) (end : List Entry) (replies : List (Result Reply StoreFault)) (since now : Told) : Type 0 where
+  pub torn : List Entry
+  pub at_most_one : length torn ≤ 1
+  pub by_a_fault : AllGoOn replies → torn ≡ []
+  pub each_moment : LeavesOnly since now (P torn)
+  pub every_crash : LeavesNow now (StandsForEnd issuer end torn)
+  pub reads : StandsForEnd issuer end torn now.content

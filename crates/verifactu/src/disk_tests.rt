@@ -1,0 +1,291 @@
+// Runs over files. The expected Huellas are SHA-256, by another program, of the field texts of these records.
+ghost use Rattle.std.specs.Prelude.{◌≡◌, false};
+ghost use Rattle.chain_disk.specs.File.{untold, untold_reads};
+
+use crate::tests::{CHAIN, ROW, disk_of, ends};
+use chain_disk::{Disk, Fill, MemDisk};
+use parties::Nif;
+use ports::{Clock, CountingClock, Failed};
+use report::{Detail, Ended};
+use std::alloc::Global;
+use std::sync::atomic::{AtomicU64, Ordering};
+use std::test::Fail;
+
+const TWO: &str = "clock 1735722000 0\nsale 1 1 A F2 21:10000\nsale 1 2 A F2 10:1000\n";
+
+const FIRST: &str =
+    "1 alta A-1 01-01-2025 F2 21.00 121.00 N N D88B42F8D11C4EA2112502EC992F055A7E94F796D67095359B946A4A5B03E616 pending\n";
+
+const SECOND: &str =
+    "2 alta A-2 01-01-2025 F2 1.00 11.00 N N 43AB7A8D6998F4962D87F4C4F3C7A71FA910CAB982CDB1E08AE6BF918BAE7763 pending\n";
+
+const FILLS: [Fill; 4] = [Fill::Old, Fill::New, Fill::Zeros, Fill::Ones];
+
+// Runs a script on a disk; its end, what was printed, and the disk.
+fn runs<D: Disk + Drop>(alloc: Global, script: &str, disk: D) -> Result<(Ended, Vec<u8>, D), Fail> {
+    let clock = CountingClock::new(0, 0);
+    let (ended, sink, disk, _) = ends(alloc, CHAIN, script.as_bytes(), (0, 0), disk, clock)?;
+    Ok((ended, Vec::from_slice(alloc, sink.bytes())?, disk))
+}
+
+fn done() -> Ended {
+    Ended {
+        status: 0,
+        detail: Detail::Done,
+    }
+}
+
+#[test]
+fn a_run_goes_on_from_its_file(rt: HostRuntime) -> Result<(), Fail> {
+    let alloc = rt.alloc();
+    let (ended, _, disk) = runs(alloc, ROW, disk_of(alloc, &[], 0)?)?;
+    assert_eq!(rt; ended, done());
+    let (ended, text, disk) = runs(alloc, TWO, disk)?;
+    assert_eq!(rt; ended, done());
+    let answers =
+        "till 1 serial 1 again 1 A-1 D88B42F8D11C4EA2112502EC992F055A7E94F796D67095359B946A4A5B03E616\ntill 1 serial 2 taken 2 A-2 43AB7A8D6998F4962D87F4C4F3C7A71FA910CAB982CDB1E08AE6BF918BAE7763\n";
+    let wanted = format!(in alloc; "{answers}{FIRST}{SECOND}chain 2 noted 0\n")?;
+    assert_eq!(rt; text.as_slice(), wanted.as_bytes());
+    let (ended, text, _) = runs(alloc, "", disk)?;
+    assert_eq!(rt; ended, done());
+    let wanted = format!(in alloc; "{FIRST}{SECOND}chain 2 noted 0\n")?;
+    assert_eq!(rt; text.as_slice(), wanted.as_bytes());
+    Ok(())
+}
+
+// The bytes of the file of the first sale.
+fn first_file(alloc: Global) -> Result<Vec<u8>, Fail> {
+    let (_, _, mut disk) = runs(alloc, ROW, disk_of(alloc, &[], 0)?)?;
+    let mut bytes = vec![in alloc; 0; 98]?;
+    let Ok(98) = disk.read_at(0, &mut bytes) else {
+        return Err(Fail::from("98 bytes"));
+    };
+    Ok(bytes)
+}
+
+// How a run of these words on a file of these bytes ends.
+fn end_on(alloc: Global, words: &str, bytes: &[u8]) -> Result<Ended, Fail> {
+    let disk = disk_of(alloc, bytes, 0)?;
+    let clock = CountingClock::new(0, 0);
+    let (ended, sink, _, _) = ends(alloc, words, b"", (0, 0), disk, clock)?;
+    if ended.status != 0 && !sink.bytes().is_empty() {
+        return Err(Fail::from("a text before opening"));
+    }
+    Ok(ended)
+}
+
+#[test]
+fn files_that_are_no_chain_of_this_issuer(rt: HostRuntime) -> Result<(), Fail> {
+    let alloc = rt.alloc();
+    let mut bytes = first_file(alloc)?;
+    let Ok(held) = Nif::read("89890001K") else {
+        return Err(Fail::from("a tax number"));
+    };
+    let other = end_on(alloc, "chain shop.chain 12345678Z", &bytes)?;
+    assert_eq!(rt; other.status, 13);
+    assert_eq!(rt; other.detail, Detail::OtherIssuer { held });
+    assert_eq!(rt; end_on(alloc, CHAIN, &bytes)?, done());
+    for (len, at) in [(19, 19), (97, 19), (9, 9)] {
+        let cut = bytes.get(..len).ok_or("a front")?;
+        let ended = end_on(alloc, CHAIN, cut)?;
+        assert_eq!(rt; ended.status, 7, "at {len} bytes");
+        assert_eq!(rt; ended.detail, Detail::Damaged { at }, "at {len} bytes");
+    }
+    assert_eq!(rt;
+        end_on(alloc, CHAIN, &[0; 21])?.detail,
+        Detail::Damaged { at: 0 }
+    );
+    bytes[90] ^= 1;
+    assert_eq!(rt;
+        end_on(alloc, CHAIN, &bytes)?.detail,
+        Detail::Damaged { at: 19 }
+    );
+    Ok(())
+}
+
+#[test]
+fn a_failing_sink_leaves_the_record(rt: HostRuntime) -> Result<(), Fail> {
+    let alloc = rt.alloc();
+    let disk = disk_of(alloc, &[], 0)?;
+    let clock = CountingClock::new(0, 0);
+    let (ended, sink, disk, _) = ends(alloc, CHAIN, ROW.as_bytes(), (0, 1), disk, clock)?;
+    assert_eq!(rt; ended.status, 5);
+    assert_eq!(rt; sink.bytes().len(), 0);
+    let (_, text, _) = runs(alloc, "", disk)?;
+    let wanted = format!(in alloc; "{FIRST}chain 1 noted 0\n")?;
+    assert_eq!(rt; text.as_slice(), wanted.as_bytes());
+    Ok(())
+}
+
+// How many records a file has: its run prints the listing of that many of the two, and the chain line.
+fn records_on(alloc: Global, disk: MemDisk) -> Result<u32, Fail> {
+    let (ended, text, _) = runs(alloc, "", disk)?;
+    if ended.status != 0 {
+        return Err(Fail::from("a file that opens"));
+    }
+    let texts = [
+        format!(in alloc; "chain 0 noted 0\n")?,
+        format!(in alloc; "{FIRST}chain 1 noted 0\n")?,
+        format!(in alloc; "{FIRST}{SECOND}chain 2 noted 0\n")?,
+    ];
+    for (records, wanted) in (0u32..).zip(texts.iter()) {
+        if text.as_slice() == wanted.as_bytes() {
+            return Ok(records);
+        }
+    }
+    Err(Fail::from("a front of the two records"))
+}
+
+// How many sales the text of a run tells as taken.
+fn taken_in(text: &[u8]) -> u32 {
+    let mut taken = 0u32;
+    for line in text.split(|byte| *byte == b'\n') {
+        if line.starts_with(b"till 1 serial 1 taken 1 A-1 ")
+            || line.starts_with(b"till 1 serial 2 taken 2 A-2 ")
+        {
+            taken = taken.saturating_add(1);
+        }
+    }
+    taken
+}
+
+#[test]
+fn each_call_of_the_disk_fails_in_turn(rt: HostRuntime) -> Result<(), Fail> {
+    let alloc = rt.alloc();
+    let mut faults = 0u32;
+    for failing in 1..30u64 {
+        let (ended, text, disk) = runs(alloc, TWO, disk_of(alloc, &[], failing)?)?;
+        let taken = taken_in(&text);
+        if ended.status == 0 {
+            assert_eq!(rt; taken, 2);
+        } else {
+            assert_eq!(rt; ended.detail, Detail::DiskFault);
+            assert_eq!(rt; ended.status, 6);
+            faults = faults.saturating_add(1);
+        }
+        let mut records = (0, 0);
+        for moment in 0..20u64 {
+            let mut fewest = 2u32;
+            let mut most = 0u32;
+            for fill in FILLS {
+                let Some(image) = disk.image(alloc, moment, fill)? else {
+                    break;
+                };
+                let count = records_on(alloc, image)?;
+                fewest = fewest.min(count);
+                most = most.max(count);
+            }
+            if fewest <= most {
+                records = (fewest, most);
+            }
+        }
+        let (fewest, most) = records;
+        assert!(rt;
+            taken <= fewest && most <= taken.saturating_add(1),
+            "at call {failing}"
+        );
+    }
+    assert!(rt; faults > 8);
+    Ok(())
+}
+
+#[test]
+fn a_fault_of_the_disk_stops_the_journal(rt: HostRuntime) -> Result<(), Fail> {
+    let alloc = rt.alloc();
+    let script = "clock 1735722000 0\nsale 1 1 A F2 21:10000\nsale 1 2 A F2 21:10000\n";
+    // The first sync of an opening, a look at the length, six calls of creation, and the fourth of an append.
+    let (ended, text, disk) = runs(alloc, script, disk_of(alloc, &[], 13)?)?;
+    assert_eq!(rt; ended.detail, Detail::DiskFault);
+    assert_eq!(rt; ended.status, 6);
+    assert_eq!(rt;
+        text.as_slice(),
+        b"till 1 serial 1 fault disk\ntill 1 serial 2 fault stopped 1\nchain 0 noted 0\n".as_slice()
+    );
+    let records = records_on(alloc, disk)?;
+    assert!(rt; records <= 1);
+    Ok(())
+}
+
+// A disk that tells nothing, and counts its syncs where others see it.
+#[derive(Drop)]
+struct CountedDisk<'a> {
+    disk: MemDisk,
+    syncs: &'a AtomicU64,
+}
+
+impl<'a> Disk for CountedDisk<'a> {
+    ghost tells = { false };
+
+    ghost told = { λ d. untold };
+
+    ghost faults = { λ d. ⟦<MemDisk as Disk>⟧.faults d.disk };
+
+    ghost reads_an_image = { λ d tells. untold_reads };
+
+    fn len(&mut self) -> Result<u64, Failed> {
+        self.disk.len()
+    }
+
+    fn read_at(&mut self, at: u64, buf: &mut [u8]) -> Result<usize, Failed> {
+        self.disk.read_at(at, buf)
+    }
+
+    fn write_at(&mut self, at: u64, bytes: &[u8]) -> Result<(), Failed> {
+        self.disk.write_at(at, bytes)
+    }
+
+    fn sync(&mut self) -> Result<(), Failed> {
+        self.disk.sync()?;
+        self.syncs.fetch_add(1, Ordering::SeqCst);
+        Ok(())
+    }
+
+    fn faults(&self) -> u64 {
+        self.disk.faults()
+    }
+}
+
+// A clock that sees at each reading how many syncs were made.
+#[derive(Drop)]
+struct WatchingClock<'a> {
+    syncs: &'a AtomicU64,
+    readings: u64,
+    early: u64,
+}
+
+impl<'a> Clock for WatchingClock<'a> {
+    ghost use Rattle.std.specs.Prelude.{None};
+
+    ghost last = { λ c. 1_735_722_000 };
+
+    ghost coming = { λ c k. None };
+
+    fn now(&mut self) -> u64 {
+        let due = 4u64.saturating_add(self.readings.saturating_mul(2));
+        if self.syncs.load(Ordering::SeqCst) < due {
+            self.early = self.early.saturating_add(1);
+        }
+        self.readings = self.readings.saturating_add(1);
+        1_735_722_000
+    }
+}
+
+#[test]
+fn each_record_is_synced_before_the_next_command(rt: HostRuntime) -> Result<(), Fail> {
+    let alloc = rt.alloc();
+    let syncs = AtomicU64::new(0);
+    let disk = CountedDisk {
+        disk: disk_of(alloc, &[], 0)?,
+        syncs: &syncs,
+    };
+    let clock = WatchingClock {
+        syncs: &syncs,
+        readings: 0,
+        early: 0,
+    };
+    let script = "sale 1 1 A F2 21:10000\nsale 1 2 A F2 21:10000\nsale 1 3 A F2 21:10000\n";
+    let (ended, _, _, clock) = ends(alloc, CHAIN, script.as_bytes(), (0, 0), disk, clock)?;
+    assert_eq!(rt; ended, done());
+    assert_eq!(rt; (clock.readings, clock.early), (3, 0));
+    Ok(())
+}
