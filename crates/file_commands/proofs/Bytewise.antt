@@ -13,9 +13,6 @@ take_on text done n = rw (take_all (length text - done) (drop done text) (simp l
 pub rest_le : (text : List ℕ) (done n : ℕ) → n ≤ length (take (length text - done) (drop done text)) → n ≤ length text - done
 rest_le text done n h = omega (arith, length-take {A = ℕ}, length-drop {A = ℕ})
 
-pub front_length : (bytes : List ℕ) (n : ℕ) → n ≤ length bytes → length (take n bytes) ≡ n
-front_length bytes n h = omega (arith, length-take {A = ℕ})
-
 front_of_first : (first second : List ℕ) (n : ℕ) → take (min n (length first)) (first ++ second) ≡ take n first
 front_of_first first second n =
     let within : min n (length first) ≤ length first = omega arith in

@@ -1,5 +1,5 @@
 -- How a command that only reads a file ends.
-use Rattle.std.proofs.Common.{◌≡◌, inl, inr, ℕ, List, [], ◌∷◌, ◌++◌, ◌-◌, length, sym, ◌∙◌, ap, subst, refl, arith, append-nil, length-append, filter_map, slice_get, IsTrue, Option, Some, None}
+use Rattle.std.proofs.Common.{◌≡◌, inl, inr, ℕ, List, [], ◌∷◌, ◌++◌, ◌-◌, length, sym, ◌∙◌, ap, refl, arith, append-nil, length-append, filter_map, slice_get, IsTrue, Option, Some, None}
 use Rattle.std.proofs.lemmas.List.Elements.{filter_map-append}
 use Rattle.chain_store.specs.Loading.{IsLoaded}
 use Rattle.chain_store.specs.Stands.{IsDamagedFile}

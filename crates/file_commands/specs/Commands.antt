@@ -12,7 +12,7 @@ use Rattle.report.specs.Verdicts.{verdict_text}
 use Rattle.report.specs.declared.ended.Detail.{Detail}
 use Rattle.report.specs.declared.ended.Detail.TheVariants as detail
 use Rattle.file_commands.specs.Output.{Sinks, WroteNothing, Wrote, FailedIn}
-use Rattle.file_commands.specs.Disks.{Disks, DiskRose, OnlyRead, IsHistoryOf}
+use Rattle.file_commands.specs.Disks.{Disks, DiskRose, IsHistoryOf}
 use Rattle.file_commands.specs.LastAlta.{last_alta}
 
 -- this is the verdict on the file

@@ -1,5 +1,5 @@
 -- The disk of a call.
-use Rattle.std.specs.Prelude.{◌≡◌, ◌⊎◌, ℕ, List, [], Bool, IsTrue}
+use Rattle.std.specs.Prelude.{◌≡◌, ◌⊎◌, ℕ, List, [], Bool}
 use Rattle.ports.specs.Causes.{Rose}
 use Rattle.chain_disk.specs.Told.{Told}
 use Rattle.journal.specs.File.{IsNotBegun}

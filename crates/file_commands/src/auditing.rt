@@ -18,7 +18,7 @@ use std::alloc::Global;
 pub fn audit_cmd<K: Sink, D: Disk>(alloc: Global, sink: &mut K, disk: D) -> (Ended, D)
     ensures status { result.0.status ≡ status_of result.0.detail }
     ensures ends { AuditEnds (record { taken = K.taken sink.old; taken_after = K.taken sink.new; faults = K.faults sink.old; faults_after = K.faults sink.new })
-      (record { tells = D.tells; told = D.told; faults = D.faults; disk = disk; disk_after = result.1 }) result.0.detail }
+        (record { tells = D.tells; told = D.told; faults = D.faults; disk = disk; disk_after = result.1 }) result.0.detail }
     ensures same { D.told result.1 ≡ D.told disk }
 {
     let mut disk = disk;
@@ -30,7 +30,7 @@ pub fn audit_cmd<K: Sink, D: Disk>(alloc: Global, sink: &mut K, disk: D) -> (End
 // Looks at the file and prints the verdict.
 fn audited<K: Sink, D: Disk>(alloc: Global, sink: &mut K, disk: &mut D) -> Detail
     ensures ends { AuditEnds (record { taken = K.taken sink.old; taken_after = K.taken sink.new; faults = K.faults sink.old; faults_after = K.faults sink.new })
-      (record { tells = D.tells; told = D.told; faults = D.faults; disk = disk.old; disk_after = disk.new }) result }
+        (record { tells = D.tells; told = D.told; faults = D.faults; disk = disk.old; disk_after = disk.new }) result }
     ensures same { D.told disk.new ≡ D.told disk.old }
 {
     match audit(alloc, disk) {

@@ -29,7 +29,7 @@ pub fn link_cmd<K: Sink, D: Disk>(
 ) -> (Ended, D)
     ensures status { result.0.status ≡ status_of result.0.detail }
     ensures ends { LinkEnds num.now host (record { taken = K.taken sink.old; taken_after = K.taken sink.new; faults = K.faults sink.old; faults_after = K.faults sink.new })
-      (record { tells = D.tells; told = D.told; faults = D.faults; disk = disk; disk_after = result.1 }) result.0.detail }
+        (record { tells = D.tells; told = D.told; faults = D.faults; disk = disk; disk_after = result.1 }) result.0.detail }
     ensures same { D.told result.1 ≡ D.told disk }
 {
     let mut disk = disk;
@@ -47,7 +47,7 @@ fn linked<K: Sink, D: Disk>(
     disk: &mut D,
 ) -> Detail
     ensures ends { LinkEnds num.now host (record { taken = K.taken sink.old; taken_after = K.taken sink.new; faults = K.faults sink.old; faults_after = K.faults sink.new })
-      (record { tells = D.tells; told = D.told; faults = D.faults; disk = disk.old; disk_after = disk.new }) result }
+        (record { tells = D.tells; told = D.told; faults = D.faults; disk = disk.old; disk_after = disk.new }) result }
     ensures same { D.told disk.new ≡ D.told disk.old }
 {
     match load(alloc, disk) {
@@ -65,7 +65,7 @@ fn link_in<K: Sink>(
     sink: &mut K,
 ) -> Detail
     ensures { HistoryEnds (entries_of state.now) num.now host
-      (record { taken = K.taken sink.old; taken_after = K.taken sink.new; faults = K.faults sink.old; faults_after = K.faults sink.new }) result }
+        (record { taken = K.taken sink.old; taken_after = K.taken sink.new; faults = K.faults sink.old; faults_after = K.faults sink.new }) result }
 {
     let Some(state) = state else {
         return Detail::Unknown;

@@ -1,24 +1,28 @@
 -- Words that are no command.
-use Rattle.std.proofs.Common.{◌≡◌, ℕ, suc, ◌<◌, List, [], ◌∷◌, length, map, refl, sym, ◌∙◌, ap, subst, arith, None, true, false, codes, bytes_eq, ◌==◌}
+use Rattle.std.proofs.Common.{◌≡◌, ℕ, suc, ◌<◌, ◌≤◌, List, [], ◌∷◌, length, get_or, map, refl, sym, ◌∙◌, ap, subst, arith, None, true, false, codes, bytes_eq, ◌==◌}
 use Rattle.std.proofs.lemmas.Bool.Decides.{nat_tests}
 use Rattle.std.proofs.lemmas.Slice.Eq.{bytes_eq-Decides}
 use Rattle.parties.specs.Nif.{IsNif}
 use Rattle.verifactu.specs.Words.{IsAskedFor, AsksFor, IsChain}
 use Rattle.verifactu.specs.declared.words.Command.{Command}
-use Rattle.verifactu.specs.declared.words.Command.TheVariants.{Chain, Help, Version}
+use Rattle.verifactu.specs.declared.words.Command.TheVariants.{Chain, Audit, Link, Help, Version}
 
 length_map : {A B : Type 0} (f : A → B) (xs : List A) → length (map f xs) ≡ length xs
 length_map f [] = refl
 length_map f (x ∷ xs) = ap suc (length_map f xs)
 
-not_asked : (words : List (List ℕ)) → (length words ≡ 1 → ⊥) → (length words ≡ 3 → ⊥) → (command : Command) → AsksFor words command → ⊥
-not_asked words one three (Chain issuer) h = three (ap length h.words_are)
-not_asked words one three Help h = one (ap length h)
-not_asked words one three Version h = one (ap length h)
+-- words of another count than those of every command
+not_asked : (words : List (List ℕ)) → (length words ≡ 1 → ⊥) → (length words ≡ 2 → ⊥) → (length words ≡ 3 → ⊥) → (length words ≡ 4 → ⊥) → (command : Command) → AsksFor words command → ⊥
+not_asked words one two three four (Chain issuer) h = three (ap length h.words_are)
+not_asked words one two three four Audit h = two (ap length h.words_are)
+not_asked words one two three four (Link num host) h = four (ap length h.words_are)
+not_asked words one two three four Help h = one (ap length h)
+not_asked words one two three four Version h = one (ap length h)
 
-pub no_command : {A : Type 0} (f : A → List ℕ) (words : List A) → (length words ≡ 1 → ⊥) → (length words ≡ 3 → ⊥) → IsAskedFor (map f words) None
-no_command f words one three =
-    not_asked (map f words) (λ e. one (sym (length_map f words) ∙ e)) (λ e. three (sym (length_map f words) ∙ e))
+pub no_command : {A : Type 0} (f : A → List ℕ) (words : List A) → (length words ≡ 1 → ⊥) → (length words ≡ 2 → ⊥) → (length words ≡ 3 → ⊥) → (length words ≡ 4 → ⊥) → IsAskedFor (map f words) None
+no_command f words one two three four =
+    let same = length_map f words in
+    not_asked (map f words) (λ e. one (sym same ∙ e)) (λ e. two (sym same ∙ e)) (λ e. three (sym same ∙ e)) (λ e. four (sym same ∙ e))
 
 bytes_eq_is : (xs ys : List ℕ) → bytes_eq xs ys ≡ true → xs ≡ ys
 bytes_eq_is xs ys h = (bytes_eq-Decides xs ys).0 h
@@ -34,3 +38,12 @@ is_chain name file nif issuer named filed h = record {
   named = there (length file) filed;
   nif = subst (λ (n : List ℕ). IsNif n) (sym h.1) h.0;
 }
+
+pub four_words : {A : Type 0} (xs : List A) (a b c d : A) → 4 ≤ length xs → length xs < 5 → a ≡ get_or xs 0 a → b ≡ get_or xs 1 b → c ≡ get_or xs 2 c → d ≡ get_or xs 3 d →
+    xs ≡ a ∷ (b ∷ (c ∷ (d ∷ [])))
+four_words (w ∷ (x ∷ (y ∷ (z ∷ [])))) a b c d many few first second third fourth = cc
+four_words [] a b c d many few first second third fourth = absurd (omega arith)
+four_words (w ∷ []) a b c d many few first second third fourth = absurd (omega arith)
+four_words (w ∷ (x ∷ [])) a b c d many few first second third fourth = absurd (omega arith)
+four_words (w ∷ (x ∷ (y ∷ []))) a b c d many few first second third fourth = absurd (omega arith)
+four_words (w ∷ (x ∷ (y ∷ (z ∷ (v ∷ xs))))) a b c d many few first second third fourth = absurd (omega arith)

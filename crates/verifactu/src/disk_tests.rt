@@ -112,12 +112,21 @@ fn a_file_is_audited_and_its_invoices_have_links(rt: HostRuntime) -> Result<(), 
         place: 1,
         what: What::Seal,
     };
-    let sound = "sound 1 noted 0 last D88B42F8D11C4EA2112502EC992F055A7E94F796D67095359B946A4A5B03E616\n";
-    let real = "https://www2.agenciatributaria.gob.es/wlpl/TIKE-CONT/ValidarQR?nif=89890001K&numserie=A-1&fecha=01-01-2025&importe=121.00\n";
-    let trial = "https://prewww2.aeat.es/wlpl/TIKE-CONT/ValidarQR?nif=89890001K&numserie=A-1&fecha=01-01-2025&importe=121.00\n";
+    let sound =
+        "sound 1 noted 0 last D88B42F8D11C4EA2112502EC992F055A7E94F796D67095359B946A4A5B03E616\n";
+    let real =
+        "https://www2.agenciatributaria.gob.es/wlpl/TIKE-CONT/ValidarQR?nif=89890001K&numserie=A-1&fecha=01-01-2025&importe=121.00\n";
+    let trial =
+        "https://prewww2.aeat.es/wlpl/TIKE-CONT/ValidarQR?nif=89890001K&numserie=A-1&fecha=01-01-2025&importe=121.00\n";
     let rows = [
         ("audit shop.chain", true, Detail::Done, 0, sound),
-        ("audit shop.chain", false, broken, 9, "broken 1 at 19 seal\n"),
+        (
+            "audit shop.chain",
+            false,
+            broken,
+            9,
+            "broken 1 at 19 seal\n",
+        ),
         ("link shop.chain A-1 real", true, Detail::Done, 0, real),
         ("link shop.chain A-1 test", true, Detail::Done, 0, trial),
         ("link shop.chain A-2 real", true, Detail::Unknown, 14, ""),

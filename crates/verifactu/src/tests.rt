@@ -157,7 +157,13 @@ fn faults_have_statuses(rt: HostRuntime) -> Result<(), Fail> {
             2,
             "usage",
         ),
-        ("audit shop.chain", (1, 1), Detail::WriteFault, 5, "write fault"),
+        (
+            "audit shop.chain",
+            (1, 1),
+            Detail::WriteFault,
+            5,
+            "write fault",
+        ),
         (
             "link shop.chain A-1 test",
             (0, 0),

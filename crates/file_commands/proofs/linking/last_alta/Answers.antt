@@ -1,4 +1,4 @@
-use Rattle.std.proofs.Common.{◌≡◌, ◌∙◌, sym, Some, None, option_copied, ap}
+use Rattle.std.proofs.Common.{◌∙◌, sym, option_copied, ap}
 use Rattle.file_commands.proofs.FileEnding.{alta_last, alta_before}
 use Rattle.file_commands.proofs.linking.last_alta.Goals as goal
 

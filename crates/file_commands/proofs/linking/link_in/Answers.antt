@@ -1,6 +1,5 @@
 use Rattle.std.proofs.Common.{rules, ◌≡◌, ◌∙◌, sym, ap, subst, refl, option_copied, Option, Some, None, List}
 use Rattle.record_codec.specs.declared.entries.Entry.{Entry}
-use Rattle.record_fields.specs.declared.records.Alta.{Alta}
 use Rattle.report.specs.declared.ended.Detail.TheVariants as detail
 use Rattle.shop_core.specs.History.{History}
 use Rattle.file_commands.specs.Ends.{HistoryEnds, entries_of}

@@ -1,4 +1,3 @@
-use Rattle.std.specs.Prelude.{IsTrue}
 use Rattle.file_commands.specs.Disks.{Disks}
 use Rattle.file_commands.specs.Ends.{entries_of}
 use Rattle.file_commands.specs.Output.{Sinks}

@@ -1,6 +1,5 @@
-use Rattle.std.proofs.Common.{rules, ◌≡◌, ◌∙◌, ◌++◌, ◌∷◌, [], ap, List, ℕ}
+use Rattle.std.proofs.Common.{rules, ◌≡◌, ◌∙◌}
 use Rattle.verify_link.specs.Link.{link_text, parts_of}
-use Rattle.file_commands.specs.Commands.{link_line}
 use Rattle.file_commands.specs.Ends.PrintEnds.{wrote, stopped, nothing}
 use Rattle.file_commands.proofs.linking.print_link.Goals as goal
 
