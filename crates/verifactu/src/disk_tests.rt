@@ -274,7 +274,7 @@ impl<'a> CountedDisk<'a> {
         if end > self.bytes.len() {
             self.bytes.resize(end, 0).ok()?;
         }
-        self.bytes.get_mut(at..end)?.copy_from_slice(bytes);
+        self.bytes[at..end].copy_from_slice(bytes);
         Some(())
     }
 }
@@ -293,7 +293,7 @@ impl<'a> Disk for CountedDisk<'a> {
     }
 
     fn read_at(&mut self, at: u64, buf: &mut [u8]) -> Result<usize, Failed> {
-        let rest = self.bytes.get(at as usize..).unwrap_or(&[]);
+        let rest = self.bytes.as_slice().get(at as usize..).unwrap_or(&[]);
         let n = rest.len().min(buf.len());
         buf[..n].copy_from_slice(&rest[..n]);
         Ok(n)
