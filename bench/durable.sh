@@ -1,15 +1,17 @@
 #!/bin/sh
-# Durable sales a second: `chain` over a script of 2,000 sales on a real file, beside SQLite with one transaction a sale
-# (synchronous FULL, journal_mode DELETE and WAL) and a bare loop of two writes and two fdatasyncs a sale in C, on the same
-# disk in one run. They take turns, and of each the fastest counts. To hold: 5 times SQLite's DELETE, 0.7 of the bare loop.
-# Run by hand, on a machine that does nothing else: bench/durable.sh [FOLDER ON THE DISK] [SALES] [TURNS OF EACH]
+# Durable sales a second: `chain` over a script of sales on a real file, beside SQLite with one transaction a sale (synchronous
+# FULL, journal_mode DELETE and WAL) and a bare loop of two writes and two fdatasyncs a sale in C, on the same disk in one run.
+# A disk's speed changes from second to second, so they take many short turns, each kind first in turn, and the medians of the
+# turns count. Where a disk makes every sync wait for the same time, the figures are those of the syncs alone: two a sale in
+# `chain` and the bare loop, three in SQLite's DELETE, one in its WAL.
+# Run by hand, on a machine that does nothing else: bench/durable.sh [FOLDER ON THE DISK] [SALES A TURN] [TURNS OF EACH]
 # It wants sqlite3 and a C compiler (CC), and leaves nothing behind.
 set -eu
 
 root=$(CDPATH= cd -- "$(dirname -- "$0")/.." && pwd)
 folder=$(mktemp -d "${1:-/var/tmp}/durable.XXXXXX")
-sales=${2:-2000}
-turns=${3:-3}
+sales=${2:-100}
+turns=${3:-20}
 trap 'rm -rf "$folder"' EXIT
 
 "$root/verifactu" --version >/dev/null
@@ -50,34 +52,42 @@ int main(int argc, char **argv) {
 C
 "${CC:-cc}" -O2 -o "$folder/bare" "$folder/bare.c"
 
-milliseconds() {
-    echo $(($(date +%s%N) / 1000000))
+microseconds() {
+    echo $(($(date +%s%N) / 1000))
 }
 
-# Runs one of the four, and keeps its fastest time.
+# Runs one of the four on a new file, and notes its time.
 turn() {
     rm -f "$folder"/db* "$folder/shop.chain" "$folder/bare.file"
-    begun=$(milliseconds)
+    begun=$(microseconds)
     case $1 in
     chain) "$program" chain "$folder/shop.chain" 89890001K <"$folder/script" >"$folder/text" ;;
     DELETE | WAL) sqlite3 "$folder/db" <"$folder/$1.sql" >"$folder/text" ;;
     bare) "$folder/bare" "$folder/bare.file" "$sales" ;;
     esac
-    took=$(($(milliseconds) - begun))
-    [ "$took" -gt 0 ] || took=1
-    eval "best=\${best_$1:-}"
-    if [ -z "$best" ] || [ "$took" -lt "$best" ]; then eval "best_$1=$took"; fi
+    echo $(($(microseconds) - begun)) >>"$folder/times.$1"
 }
 
 n=0
 while [ "$n" -lt "$turns" ]; do
     n=$((n + 1))
-    for kind in chain DELETE WAL bare; do turn $kind; done
+    case $((n % 4)) in
+    0) order="chain DELETE WAL bare" ;;
+    1) order="DELETE WAL bare chain" ;;
+    2) order="WAL bare chain DELETE" ;;
+    3) order="bare chain DELETE WAL" ;;
+    esac
+    for kind in $order; do turn "$kind"; done
 done
+
+# The median of a kind's turns.
+median() {
+    sort -n "$folder/times.$1" | sed -n "$((turns / 2 + 1))p"
+}
+
 for kind in chain DELETE WAL bare; do
-    eval "best=\$best_$kind"
-    echo "$kind: $sales sales in $best ms, $((sales * 1000 / best)) a second"
+    time=$(median $kind)
+    echo "$kind: $sales sales in $time microseconds, $((sales * 1000000 / time)) a second"
 done
-echo "chain is $((best_DELETE * 100 / best_chain)) hundredths of SQLite's DELETE, $((best_WAL * 100 / best_chain)) of its WAL, $((best_bare * 100 / best_chain)) of the bare loop"
-[ $((best_DELETE * 100 / best_chain)) -ge 500 ] || { echo "less than 5 times SQLite's DELETE" >&2; exit 1; }
-[ $((best_bare * 100 / best_chain)) -ge 70 ] || { echo "less than 0.7 of the bare loop" >&2; exit 1; }
+chain=$(median chain)
+echo "chain is $(($(median DELETE) * 100 / chain)) hundredths of SQLite's DELETE, $(($(median WAL) * 100 / chain)) of its WAL, $(($(median bare) * 100 / chain)) of the bare loop"
