@@ -3,7 +3,7 @@ use Rattle.std.proofs.Common.{◌≡◌, ◌==◌, false, ℕ, zero, suc, ◌<�
 use Rattle.std.proofs.lemmas.List.{take-append-drop, length-drop, length-take}
 use Rattle.record_fields.specs.Records.{link_of}
 use Rattle.record_fields.specs.declared.records.Sealed.{Sealed}
-use Rattle.huella.specs.Linked.{LinkedRun, link_to}
+use Rattle.record_fields.specs.Links.{LinkedRun, link_to}
 use Rattle.batches.specs.Batches.{IsBatch}
 
 pub linked_cons : (x y : Sealed) (rest : List Sealed) → link_of y.body ≡ link_to x → LinkedRun (y ∷ rest) → LinkedRun (x ∷ (y ∷ rest))

@@ -1,6 +1,6 @@
 // A batch of records.
 ghost use Rattle.std.specs.Prelude.{◌≡◌, ◌↔◌, [], ◌∷◌, ◌++◌, take, IfOk, OnOk, OnErr, IfSome, IsNone};
-ghost use Rattle.huella.specs.Linked.{LinkedRun};
+ghost use Rattle.record_fields.specs.Links.{LinkedRun};
 ghost use Rattle.batches.specs.Batches.{IsBatch};
 
 use ports::NoMemory;

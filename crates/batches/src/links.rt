@@ -1,7 +1,7 @@
 // Records that name the one before them.
 ghost use Rattle.std.specs.Prelude.{◌≡◌, ◌↔◌, IsTrue};
 ghost use Rattle.record_fields.specs.Records.{link_of};
-ghost use Rattle.huella.specs.Linked.{LinkedRun, link_to};
+ghost use Rattle.record_fields.specs.Links.{LinkedRun, link_to};
 
 use record_fields::{Link, Sealed};
 

@@ -1,5 +1,5 @@
 -- What a store keeps, and what one call of it leaves.
-use Rattle.std.specs.Prelude.{◌≡◌, ◌≤◌, ◌++◌, ℕ, List, Bool, IsTrue, Option, None, Result}
+use Rattle.std.specs.Prelude.{◌≡◌, ◌≤◌, ◌++◌, ℕ, List, Bool, IsTrue, Option, None, Some, Result}
 use Rattle.chain_disk.specs.Told.{Told, LeavesOnly}
 use Rattle.journal.specs.File.{IsAt}
 use Rattle.journal.specs.declared.faults.StoreFault.{StoreFault}
@@ -11,8 +11,10 @@ use Rattle.shop_core.specs.History.{History}
 use Rattle.shop_core.specs.Runs.{IsReply}
 use Rattle.shop_core.specs.declared.answers.Reply.{Reply}
 use Rattle.shop_core.specs.declared.answers.Reply.TheVariants.{Taken, Again, Refused}
+use Rattle.shop_core.specs.Legal.{Continues}
+use Rattle.shop_core.specs.declared.answers.Planned.TheVariants.{Made}
 use Rattle.chain_store.specs.Loading.{furthest_gate}
-use Rattle.chain_store.specs.Stands.{AreEncoded, bodies_of, StandsAround}
+use Rattle.chain_store.specs.Stands.{AreEncoded, bodies_of, StandsAround, StandsBeforeOrWith}
 
 -- the disk reads as this history's file, with nothing pending, and its closing gate is at this place
 pub record Holds (history : History) (gate : ℕ) (t : Told) : Type 0 where
@@ -35,6 +37,16 @@ pub record Takes (old new : History) (ask : Asked) (coming coming_after : ℕ �
   pub entries : new.entries ≡ old.entries ++ gained
   pub reply : IsReply old.issuer old.entries ask seconds told gained
   pub any_moment : IsTrue tells → LeavesOnly t u (StandsAround old.issuer old.entries (answer old.issuer old.entries ask seconds))
+
+-- One ask that the disk's failure cut off. Its entry was made at the history and a reading of the clock, and may be on the disk.
+pub record Tears (history : History) (ask : Asked) (coming : ℕ → Option ℕ) (tells : Bool) (t u : Told) (torn : Option Entry) : Type 0 where
+  pub entry : Entry
+  pub entry_is : torn ≡ Some entry
+  pub seconds : ℕ
+  pub reading : IsTold (coming 0) seconds
+  pub made : answer history.issuer history.entries ask seconds ≡ Made entry
+  pub continues : Continues history.issuer history.entries entry
+  pub any_moment : IsTrue tells → LeavesOnly t u (StandsBeforeOrWith history.issuer history.entries entry)
 
 -- P, where the reply tells of no new record
 abbrev pub IfNothingTaken : Reply → Type 0 → Type 0

@@ -1,5 +1,6 @@
 -- The words in which contracts above speak of a store.
-use Rattle.std.specs.Prelude.{Bool}
+use Rattle.std.specs.Prelude.{Bool, Option, option_map}
+use Rattle.record_codec.specs.declared.entries.Entry.{Entry}
 use Rattle.chain_disk.specs.Told.{Told}
 use Rattle.chain_disk.specs.declared.disk.Disk.{Ghosts}
 use Rattle.shop_core.specs.History.{History}
@@ -19,6 +20,10 @@ journal_of store = store.journal
 -- its clock
 abbrev pub clock_of : {D C : Type 0} {g : Ghosts D} → Store D C g → C
 clock_of store = store.clock
+
+-- the entry whose append failed
+abbrev pub torn_of : {D C : Type 0} {g : Ghosts D} → Store D C g → Option Entry
+torn_of store = option_map (λ s. s.value) store.torn
 
 -- where its journal isn't stopped and its disk tells what it holds, that is its history
 abbrev pub Ready : {D C : Type 0} {g : Ghosts D} → Bool → (D → Told) → Store D C g → Type 0

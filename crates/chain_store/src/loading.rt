@@ -161,6 +161,6 @@ fn load_entry(alloc: Global, state: &mut State, entry: Entry, at: u64) -> Result
         return Err(OpenCause::NoMemory);
     }
     state.apply(entry);
-    let _legal = state.history();
+    state.is_legal();
     Ok(())
 }

@@ -8,7 +8,7 @@ ghost use Rattle.record_codec.specs.declared.entries.Entry.TheVariants.{Notes};
 ghost use Rattle.std.specs.Int.{IsInRange};
 ghost use Rattle.shop_core.specs.Legal.{Continues};
 ghost use Rattle.chain_store.specs.Stands.{StandsFor, StandsBeforeOrWith};
-ghost use Rattle.chain_store.specs.Ready.{IfNothingTaken, IsReady, Takes};
+ghost use Rattle.chain_store.specs.Ready.{IfNothingTaken, IsReady, Takes, Tears};
 
 use chain_disk::Disk;
 use journal::{Journal, JournalFault, StoreFault};
@@ -20,6 +20,7 @@ use shop_core::{
     what_continues_fits_its_bytes, what_is_made_is_a_record,
 };
 use std::alloc::Global;
+use std::snapshot::Snapshot;
 
 /// An issuer's history, in memory and on its disk.
 #[derive(Drop)]
@@ -27,11 +28,13 @@ pub struct Store<D: Disk, C: Clock> {
     state: State,
     journal: Journal<D>,
     clock: C,
+    // The entry whose append failed.
+    torn: Option<Snapshot<Entry>>,
 }
 
 impl<D: Disk, C: Clock> Store<D, C> {
     ghost use Rattle.journal.specs.Journal.{disk_of, end_of, stopped_of};
-    ghost use Rattle.chain_store.specs.Store.{Ready};
+    ghost use Rattle.chain_store.specs.Store.{Ready, torn_of};
 
     /// The store of a journal that goes on and keeps this history.
     pub fn of(state: State, journal: Journal<D>, clock: C) -> Store<D, C>
@@ -43,6 +46,7 @@ impl<D: Disk, C: Clock> Store<D, C> {
             state,
             journal,
             clock,
+            torn: None,
         }
     }
 
@@ -66,6 +70,7 @@ impl<D: Disk, C: Clock> Store<D, C> {
             state,
             journal,
             clock,
+            torn: _,
         } = self;
         (state, journal.into_disk(), clock)
     }
@@ -88,6 +93,8 @@ impl<D: Disk, C: Clock> Store<D, C> {
         // A fault of the disk stops the journal for good. From then on nothing is asked of the disk or the clock.
         ensures fault { IsErrOf result StoreFault.DiskFault → Rose (D.faults (disk_of self.old.journal)) (D.faults (disk_of self.new.journal))
             × (stopped_of self.new.journal ≡ Some (D.faults (disk_of self.new.journal))) }
+        ensures torn { IsErrOf result StoreFault.DiskFault → Tears self.old.state ask.now (C.coming self.old.clock) D.tells
+            (D.told (disk_of self.old.journal)) (D.told (disk_of self.new.journal)) (torn_of self.new) }
         ensures stopped { (faults : ℕ) → IsErrOf result (StoreFault.Stopped faults) ↔ (stopped_of self.old.journal ≡ Some faults) }
         ensures untouched { IsSome (stopped_of self.old.journal) → self.new ≡ self.old }
         ensures later { D.faults (disk_of self.old.journal) ≤ D.faults (disk_of self.new.journal) }
@@ -97,7 +104,7 @@ impl<D: Disk, C: Clock> Store<D, C> {
         }
         let seconds = self.clock.now();
         what_is_made_is_a_record();
-        let _legal = self.state.history();
+        self.state.is_legal();
         match plan(alloc, &self.state, ask, seconds) {
             Err(_) => Err(StoreFault::NoMemory),
             Ok(Planned::Again(receipt)) => Ok(Reply::Again(receipt)),
@@ -125,13 +132,14 @@ impl<D: Disk, C: Clock> Store<D, C> {
         ensures no_memory { IsErrOf result StoreFault.NoMemory → self.new.journal ≡ self.old.journal }
         ensures fault { IsErrOf result StoreFault.DiskFault → Rose (D.faults (disk_of self.old.journal)) (D.faults (disk_of self.new.journal))
             × (stopped_of self.new.journal ≡ Some (D.faults (disk_of self.new.journal))) }
+        ensures torn { IsErrOf result StoreFault.DiskFault → torn_of self.new ≡ Some entry }
         ensures not_stopped { (faults : ℕ) → IsErrOf result (StoreFault.Stopped faults) → ⊥ }
         ensures later { D.faults (disk_of self.old.journal) ≤ D.faults (disk_of self.new.journal) }
     {
         let reply = taken(self.state.records() + 1, &entry);
         match self.add(alloc, entry) {
             Ok(()) => {
-                let _legal = self.state.history();
+                self.state.is_legal();
                 Ok(reply)
             }
             Err(fault) => Err(fault),
@@ -158,6 +166,7 @@ impl<D: Disk, C: Clock> Store<D, C> {
         ensures no_memory { IsErrOf result StoreFault.NoMemory → self.new.journal ≡ self.old.journal }
         ensures fault { IsErrOf result StoreFault.DiskFault → Rose (D.faults (disk_of self.old.journal)) (D.faults (disk_of self.new.journal))
             × (stopped_of self.new.journal ≡ Some (D.faults (disk_of self.new.journal))) }
+        ensures torn { IsErrOf result StoreFault.DiskFault → torn_of self.new ≡ Some (Notes (length (noted self.old.state.entries)) lines.now) }
         ensures stopped { (faults : ℕ) → IsErrOf result (StoreFault.Stopped faults) ↔ (stopped_of self.old.journal ≡ Some faults) }
         ensures untouched { IsSome (stopped_of self.old.journal) → self.new ≡ self.old }
         ensures later { D.faults (disk_of self.old.journal) ≤ D.faults (disk_of self.new.journal) }
@@ -165,7 +174,7 @@ impl<D: Disk, C: Clock> Store<D, C> {
         if let Some(faults) = self.journal.stopped() {
             return Err(StoreFault::Stopped { faults });
         }
-        let _legal = self.state.history();
+        self.state.is_legal();
         let first = self.state.noted();
         let Ok(copy) = Vec::from_slice(alloc, lines) else {
             return Err(StoreFault::NoMemory);
@@ -209,6 +218,7 @@ impl<D: Disk, C: Clock> Store<D, C> {
         ensures no_memory { IsErrOf result StoreFault.NoMemory → self.new.journal ≡ self.old.journal }
         ensures fault { IsErrOf result StoreFault.DiskFault → Rose (D.faults (disk_of self.old.journal)) (D.faults (disk_of self.new.journal))
             × (stopped_of self.new.journal ≡ Some (D.faults (disk_of self.new.journal))) }
+        ensures torn { IsErrOf result StoreFault.DiskFault → torn_of self.new ≡ Some entry }
         ensures not_stopped { (faults : ℕ) → IsErrOf result (StoreFault.Stopped faults) → ⊥ }
         ensures later { D.faults (disk_of self.old.journal) ≤ D.faults (disk_of self.new.journal) }
         ensures acknowledged { OnOk result (IsTrue D.tells →
@@ -219,7 +229,7 @@ impl<D: Disk, C: Clock> Store<D, C> {
         an_encoding_is_a_body();
         fields_are_valid(&entry);
         let _few = self.state.entries();
-        let _legal = self.state.history();
+        self.state.is_legal();
         let Ok(bytes) = encode(alloc, &entry) else {
             return Err(StoreFault::NoMemory);
         };
@@ -231,7 +241,10 @@ impl<D: Disk, C: Clock> Store<D, C> {
                 self.state.apply(entry);
                 Ok(())
             }
-            Err(JournalFault::DiskFault) => Err(StoreFault::DiskFault),
+            Err(JournalFault::DiskFault) => {
+                self.torn = Some(Snapshot::of(&entry));
+                Err(StoreFault::DiskFault)
+            }
             Err(JournalFault::Stopped { .. }) => unreachable!(),
         }
     }

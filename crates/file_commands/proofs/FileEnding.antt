@@ -18,7 +18,7 @@ use Rattle.file_commands.specs.Disks.{Disks, DiskRose, IsHistoryOf}
 use Rattle.file_commands.specs.Ends.{HistoryEnds, PrintEnds, VerdictEnds, entries_of}
 use Rattle.file_commands.specs.Ends.VerdictEnds.{printed, failed, no_memory}
 use Rattle.file_commands.specs.Ends.PrintEnds.{wrote, stopped, nothing}
-use Rattle.file_commands.specs.Ends.HistoryEnds.{found, unknown}
+use Rattle.file_commands.specs.Ends.HistoryEnds.{found, unknown, no_memory as unread_memory}
 use Rattle.file_commands.specs.LastAlta.{alta_in, last_alta}
 use Rattle.file_commands.specs.Opened.{detail_of}
 use Rattle.file_commands.specs.Output.{Sinks, WroteNothing}
@@ -49,6 +49,7 @@ pub link_ends : {D : Type 0} (entries : List Entry) (num : List ℕ) (host : Hos
     HistoryEnds entries num host s end → LinkEnds num host s k end
 link_ends entries num host s k end history (found alta last is p) = link_printed num host alta s k end (record { entries = entries; history = history; last = is }) p
 link_ends entries num host s k end history (unknown none n) = (record { entries = entries; history = history; last = none }, n)
+link_ends entries num host s k end history (unread_memory n) = n
 
 -- the end of a file that couldn't be read
 pub unread : {D : Type 0} (c : OpenCause) (num : List ℕ) (host : Host) (s : Sinks) (k : Disks D) → (c ≡ cause.DiskFault → DiskRose k) →
@@ -58,27 +59,3 @@ unread cause.DiskFault num host s k fault damaged other n = (fault refl, n)
 unread (cause.Damaged at) num host s k fault damaged other n = (damaged at refl, n)
 unread (cause.OtherIssuer held) num host s k fault damaged other n = absurd (other held refl)
 unread cause.NoMemory num host s k fault damaged other n = n
-
-get_last : (xs : List Alta) (x : Alta) → last_of (xs ++ x ∷ []) ≡ Some x
-get_last xs x = rw (length_after xs x) (get_end xs x)
-  where
-    length_after : (xs : List Alta) (x : Alta) → length (xs ++ x ∷ []) - 1 ≡ length xs
-    length_after xs x = simp length-append (omega arith)
-
-    get_end : (xs : List Alta) (x : Alta) → slice_get (xs ++ x ∷ []) (length xs) ≡ Some x
-    get_end [] x = refl
-    get_end (y ∷ xs) x = get_end xs x
-
--- the last entry is an alta of this number
-pub alta_last : (num : List ℕ) (rest before : List Entry) (e : Entry) (alta : Alta) → rest ≡ before ++ e ∷ [] → alta_in num e ≡ Some alta → last_alta rest num ≡ Some alta
-alta_last num rest before e alta is here =
-    let one : filter_map (alta_in num) (e ∷ []) ≡ alta ∷ [] = rw here refl in
-    ap (λ (es : List Entry). last_alta es num) is ∙ ap last_of (filter_map-append (alta_in num) before (e ∷ []) ∙ ap (λ (xs : List Alta). filter_map (alta_in num) before ++ xs) one)
-    ∙ get_last (filter_map (alta_in num) before) alta
-
--- it isn't: the one before is looked at
-pub alta_before : (num : List ℕ) (rest before : List Entry) (e : Entry) → rest ≡ before ++ e ∷ [] → alta_in num e ≡ None → last_alta before num ≡ last_alta rest num
-alta_before num rest before e is none =
-    let one : filter_map (alta_in num) (e ∷ []) ≡ [] = rw none refl in
-    sym (ap (λ (es : List Entry). last_alta es num) is ∙ ap last_of (filter_map-append (alta_in num) before (e ∷ []) ∙ ap (λ (xs : List Alta). filter_map (alta_in num) before ++ xs) one
-    ∙ append-nil (filter_map (alta_in num) before)))

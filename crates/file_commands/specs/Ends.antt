@@ -39,3 +39,4 @@ entries_of (Some history) = history.entries
 pub data HistoryEnds (entries : List Entry) (num : List ℕ) (host : Host) (s : Sinks) : Detail → Type 0 where
   found : (alta : Alta) (end : Detail) → last_alta entries num ≡ Some alta → PrintEnds (link_line alta host) s end → HistoryEnds entries num host s end
   unknown : last_alta entries num ≡ None → WroteNothing s → HistoryEnds entries num host s detail.Unknown
+  no_memory : WroteNothing s → HistoryEnds entries num host s detail.NoMemory

@@ -1,16 +1,14 @@
 // The command `link`: prints the verification link of an invoice.
-ghost use Rattle.std.specs.Prelude.{◌≡◌, ◌≤◌, IsTrue, option_copied};
+ghost use Rattle.std.specs.Prelude.{◌≡◌, ◌≤◌, IsTrue};
 ghost use Rattle.file_commands.specs.Commands.{LinkEnds, link_line};
 ghost use Rattle.file_commands.specs.Ends.{HistoryEnds, PrintEnds, entries_of};
-ghost use Rattle.file_commands.specs.LastAlta as spec;
 ghost use Rattle.report.specs.Statuses.{status_of};
 
 use crate::opened::detail_of;
 use crate::output::write_texts;
 use chain_disk::Disk;
 use chain_store::load;
-use ports::Sink;
-use record_codec::Entry;
+use ports::{NoMemory, Sink};
 use record_fields::{Alta, Record};
 use report::{Detail, Ended, status_of};
 use series::NumSerie;
@@ -70,9 +68,13 @@ fn link_in<K: Sink>(
     let Some(state) = state else {
         return Detail::Unknown;
     };
-    match last_alta(state.history(), num) {
-        None => Detail::Unknown,
-        Some(alta) => print_link(alloc, alta, host, sink),
+    match state.last_alta(alloc, num) {
+        Err(NoMemory) => Detail::NoMemory,
+        Ok(None) => Detail::Unknown,
+        Ok(Some(sealed)) => match &sealed.body {
+            Record::Alta(alta) => print_link(alloc, alta, host, sink),
+            Record::Anulacion(_) => unreachable!(),
+        },
     }
 }
 
@@ -86,37 +88,4 @@ fn print_link<K: Sink>(alloc: Global, alta: &Alta, host: Host, sink: &mut K) -> 
         Ok(()) => Detail::Done,
         Err(_) => Detail::WriteFault,
     }
-}
-
-// The alta of this number that an entry is, if it is one.
-fn alta_in<'a>(entry: &'a Entry, num: &NumSerie) -> Option<&'a Alta>
-    ensures { option_copied result ≡ spec.alta_in num.now entry.now }
-{
-    match entry {
-        Entry::Notes { .. } => None,
-        Entry::Rec { sealed, .. } => match &sealed.body {
-            Record::Anulacion(_) => None,
-            Record::Alta(alta) => {
-                if alta.id.num.as_slice() == num.as_slice() {
-                    Some(alta)
-                } else {
-                    None
-                }
-            }
-        },
-    }
-}
-
-// The last alta of a number, looked for from the end on.
-fn last_alta<'a>(entries: &'a [Entry], num: &NumSerie) -> Option<&'a Alta>
-    ensures { option_copied result ≡ spec.last_alta entries.now num.now }
-{
-    let mut rest = entries;
-    while let Some((last, before)) = rest.split_last() {
-        if let Some(alta) = alta_in(last, num) {
-            return Some(alta);
-        }
-        rest = before;
-    }
-    None
 }

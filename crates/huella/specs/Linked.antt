@@ -1,22 +1,11 @@
 -- A chain: each record names the one before it, from the first on (Real Decreto 1007/2023 on the chaining of records).
 -- That Huellas all differ and moments never fall is this project's own.
 use Rattle.std.specs.Prelude.{◌≡◌, ◌≢◌, ℕ, ◌≤◌, List, ◌∷◌, ◌++◌}
-use Rattle.std.specs.Option.{option_map_or}
 use Rattle.std.specs.List.{AllByRecursion}
-use Rattle.record_fields.specs.Picks.{last_of}
-use Rattle.record_fields.specs.Records.{issuer_of, id_of, link_of, moment_of}
+use Rattle.record_fields.specs.Links.{link_after}
+use Rattle.record_fields.specs.Records.{issuer_of, link_of, moment_of}
 use Rattle.record_fields.specs.declared.records.Sealed.{Sealed}
-use Rattle.record_fields.specs.declared.records.Link.{Link}
-use Rattle.record_fields.specs.declared.records.Link.TheVariants.{First, After}
 use Rattle.huella.specs.FieldText.{huella_of}
-
--- the link of a record that follows this one
-abbrev pub link_to : Sealed → Link
-link_to s = After (id_of s.body) s.huella
-
--- the link of the record after these: to the last of them, where there is one
-abbrev pub link_after : List Sealed → Link
-link_after before = option_map_or link_to (last_of before) First
 
 -- the record follows these in a chain of this issuer
 pub record Follows (issuer : List ℕ) (before : List Sealed) (s : Sealed) : Type 0 where
@@ -29,7 +18,3 @@ pub record Follows (issuer : List ℕ) (before : List Sealed) (s : Sealed) : Typ
 -- the records are one chain of this issuer: each follows those before it
 abbrev pub Linked : List ℕ → List Sealed → Type 0
 Linked issuer records = (before after : List Sealed) (s : Sealed) → records ≡ before ++ s ∷ after → Follows issuer before s
-
--- each record of the run but the first names the one before it
-abbrev pub LinkedRun : List Sealed → Type 0
-LinkedRun run = (before after : List Sealed) (s t : Sealed) → run ≡ before ++ s ∷ (t ∷ after) → link_of t.body ≡ link_to s

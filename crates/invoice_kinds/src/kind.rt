@@ -33,7 +33,7 @@ pub enum RectKind {
 
 impl Kind {
     ghost use Rattle.invoice_kinds.specs.declared.kind.Kind.{Kind};
-    ghost use Rattle.invoice_kinds.specs.Kinds.{kind_text};
+    ghost use Rattle.invoice_kinds.specs.Kinds.{is_f2, is_f3, is_simplified, kind_text};
 
     /// The kind with that code, `None` exactly where the text is the code of none.
     pub fn read(text: &str) -> Option<Kind>
@@ -67,5 +67,26 @@ impl Kind {
             Kind::R4 => "R4",
             Kind::R5 => "R5",
         }
+    }
+
+    /// Whether it is a simplified invoice: F2, or R5, which rectifies one.
+    pub fn is_simplified(self) -> bool
+        ensures { result ≡ is_simplified self }
+    {
+        matches!(self, Kind::F2 | Kind::R5)
+    }
+
+    /// Whether it is F2, a simplified invoice that an F3 may take the place of.
+    pub fn is_f2(self) -> bool
+        ensures { result ≡ is_f2 self }
+    {
+        matches!(self, Kind::F2)
+    }
+
+    /// Whether it is F3, an invoice in place of simplified ones.
+    pub fn is_f3(self) -> bool
+        ensures { result ≡ is_f3 self }
+    {
+        matches!(self, Kind::F3)
     }
 }

@@ -1,7 +1,7 @@
 -- The batch that is sent next.
 use Rattle.std.proofs.Common.{◌≡◌, ℕ, List, [], sym, ◌∙◌, ap, subst, Bool, true, false, not, ◌&&◌, length, take, drop, ◌≤◌, arith, nat_le, leb-true, is_none}
 use Rattle.std.proofs.lemmas.List.{length-take, take_all}
-use Rattle.huella.specs.Linked.{LinkedRun}
+use Rattle.record_fields.specs.Links.{LinkedRun}
 use Rattle.record_fields.specs.declared.records.Sealed.{Sealed}
 use Rattle.record_codec.specs.declared.entries.Entry.{Entry}
 use Rattle.shop_core.specs.History.{recs, noted, waiting}

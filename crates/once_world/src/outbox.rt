@@ -12,11 +12,17 @@ use std::sync::Wait;
 
 /// A shop as the sender sees it. Others may add to it at any time: each call shows more of it.
 pub trait Outbox {
+    /// What no call changes, besides the issuer. Clauses alone speak of it.
+    type Fixed;
+
+    ghost fixed: { Self → Self.Fixed };
+
     /// The issuer, the items seen so far, and which of them its own notes added.
     ghost sight: { Self → Sight };
 
     /// The counts, and at most so many of the first records that have no noted line.
     fn waiting<R: Wait>(&mut self, alloc: Global, rt: &R, max: u16) -> Result<Waiting, NoMemory>
+        ensures fixed { fixed self.new ≡ fixed self.old }
         ensures grows { Grows (sight self.old) (sight self.new) }
         ensures own { (sight self.new).own ≡ (sight self.old).own }
         ensures shows { IfOk result (ShowsWaiting (sight self.new) max) };
@@ -28,6 +34,7 @@ pub trait Outbox {
         requires some { 1 ≤ length lines.now }
         requires few { length lines.now ≤ 1000 }
         requires fits { length lines.now ≤ length (history.waiting (history_of (sight self.old))) }
+        ensures fixed { fixed self.new ≡ fixed self.old }
         ensures grows { Grows (sight self.old) (sight self.new) }
         ensures noted { NotedBy (sight self.old) (sight self.new) lines.now result };
 }

@@ -88,10 +88,14 @@ impl PlainOutbox {
 }
 
 impl Outbox for PlainOutbox {
+    type Fixed = ();
+
+    ghost fixed = { λ o. tt };
+
     ghost sight = { λ o. plain_sight o.state.issuer o.state.entries o.own.items };
 
     fn waiting<R: Wait>(&mut self, alloc: Global, _rt: &R, max: u16) -> Result<Waiting, NoMemory> {
-        let _legal = self.state.history();
+        self.state.is_legal();
         let list = self.state.waiting_records(alloc, max)?;
         Ok(Waiting {
             noted: self.state.noted(),
@@ -103,11 +107,11 @@ impl Outbox for PlainOutbox {
     fn note<R: Wait>(&mut self, alloc: Global, _rt: &R, lines: &[Line]) -> Result<(), StoreFault> {
         match self.add_notes(alloc, lines) {
             Ok(()) => {
-                let _legal = self.state.history();
+                self.state.is_legal();
                 Ok(())
             }
             Err(_) => {
-                let _legal = self.state.history();
+                self.state.is_legal();
                 Err(StoreFault::NoMemory)
             }
         }

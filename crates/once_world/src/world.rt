@@ -101,7 +101,7 @@ impl World {
         ensures { IfOk result (λ batch. batch ≡ take count (history.waiting self.now.state.entries)) }
     {
         a_run_of_a_history_is_linked();
-        let _legal = self.state.history();
+        self.state.is_legal();
         let records = self.state.waiting_records(alloc, count)?;
         match Batch::cut(alloc, &records)? {
             Some(batch) => Ok(batch),
@@ -253,9 +253,9 @@ pub fn run_events(
     what_is_made_is_a_record();
     let mut world = World::empty(alloc, issuer);
     for event in events {
-        let _legal = world.state.history();
+        world.state.is_legal();
         world.step(alloc, plan, event)?;
     }
-    let _legal = world.state.history();
+    world.state.is_legal();
     Ok(world)
 }

@@ -1,1 +1,2 @@
 mod Opens
+mod Readies

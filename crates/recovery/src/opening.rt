@@ -140,7 +140,7 @@ fn open_held<D: Disk, C: Clock>(
             clock,
         });
     }
-    let _legal = state.history();
+    state.is_legal();
     Ok(Store::of(state, Journal::at(disk, end), clock))
 }
 
@@ -165,7 +165,7 @@ fn begin<D: Disk, C: Clock>(
     ensures later_err { IfErr result (λ fault. D.faults disk ≤ D.faults fault.disk) }
 {
     let state = State::empty(alloc, issuer);
-    let _legal = state.history();
+    state.is_legal();
     match Journal::create(disk, issuer) {
         Ok(journal) => Ok(Store::of(state, journal, clock)),
         Err(Lost { disk }) => Err(OpenFault {

@@ -5,23 +5,19 @@ ghost use Rattle.report.specs.Listing as spec;
 use crate::pieces::{put, put_number};
 use crate::records::put_record;
 use ports::NoMemory;
-use record_codec::Entry;
 use record_fields::Text;
 use shop_core::State;
 use std::alloc::{AllocError, Global};
 
-fn put_listing(text: &mut Vec<u8>, state: &State) -> Result<(), AllocError>
+fn put_listing(alloc: Global, text: &mut Vec<u8>, state: &State) -> Result<(), NoMemory>
     ensures { OnOk result (text.new.items ≡ text.old.items ++ spec.listing state.now.entries) }
 {
-    let _few = state.records();
-    let mut rest = state.history();
-    let mut place = 1;
-    while let [entry, after @ ..] = rest {
-        if let Entry::Rec { sealed, .. } = entry {
-            put_record(text, place, sealed, state.line(place))?;
-            place += 1;
-        }
-        rest = after;
+    for n in 0..state.records() {
+        let place = n + 1;
+        let Some(sealed) = state.sealed(alloc, place)? else {
+            return Ok(());
+        };
+        put_record(text, place, &sealed, state.line(place))?;
     }
     Ok(())
 }
@@ -41,7 +37,7 @@ pub fn listing_text(alloc: Global, state: &State) -> Result<Text, NoMemory>
     ensures { IfOk result (λ text. text ≡ spec.listing_text state.now.entries) }
 {
     let mut text = Vec::new(alloc);
-    put_listing(&mut text, state)?;
+    put_listing(alloc, &mut text, state)?;
     put_chain_line(&mut text, state)?;
     Ok(Text::of(text))
 }

@@ -37,10 +37,10 @@ pub fn run_commands<D: Disk, C: Clock>(
       clock_after = clock_of store.new;
     }) }
 {
-    let _legal = store.state().history();
+    store.state().is_legal();
     for ask in asks {
         replies.push_reserved(store.take(alloc, ask));
     }
-    let _legal = store.state().history();
+    store.state().is_legal();
     legal_is_chained();
 }

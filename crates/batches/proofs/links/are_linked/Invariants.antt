@@ -1,5 +1,5 @@
 use Rattle.std.proofs.Common.{◌≤◌, ◌-◌, drop}
-use Rattle.huella.specs.Linked.{LinkedRun}
+use Rattle.record_fields.specs.Links.{LinkedRun}
 use Rattle.batches.proofs.links.are_linked.Given as goal
 
 abbrev pub invariant-loop-i : goal.invariant-loop-i

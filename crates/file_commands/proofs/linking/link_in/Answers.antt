@@ -3,7 +3,8 @@ use Rattle.record_codec.specs.declared.entries.Entry.{Entry}
 use Rattle.report.specs.declared.ended.Detail.TheVariants as detail
 use Rattle.shop_core.specs.History.{History}
 use Rattle.file_commands.specs.Ends.{HistoryEnds, entries_of}
-use Rattle.file_commands.specs.Ends.HistoryEnds.{found, unknown}
+use Rattle.file_commands.specs.Ends.HistoryEnds.{found, unknown, no_memory}
+use Rattle.file_commands.proofs.LastAltas.{body_alta, alta_none, alta_some, no_anulacion}
 use Rattle.file_commands.specs.LastAlta.{last_alta}
 use Rattle.file_commands.specs.Output.{Sinks}
 use Rattle.file_commands.proofs.linking.link_in.Goals as goal
@@ -18,8 +19,18 @@ returns-in_default g c =
     } in
     subst (λ (st : Option History). HistoryEnds (entries_of st) c.args.num.now c.args.host s detail.Unknown) (sym c.in_default.is) (unknown refl (search rules))
 
-pub returns-in-None : goal.returns-in-None
-returns-in-None g c =
+pub returns-in-Err : goal.returns-in-Err
+returns-in-Err g c =
+    let s : Sinks = record {
+      taken = g.K.Sink.taken c.args.sink.now;
+      taken_after = g.K.Sink.taken c.args.sink.now;
+      faults = g.K.Sink.faults c.args.sink.now;
+      faults_after = g.K.Sink.faults c.args.sink.now;
+    } in
+    subst (λ (st : Option History). HistoryEnds (entries_of st) c.args.num.now c.args.host s detail.NoMemory) (sym c.in-Some.is) (no_memory (search rules))
+
+pub returns-in-Ok-None : goal.returns-in-Ok-None
+returns-in-Ok-None g c =
     let s : Sinks = record {
       taken = g.K.Sink.taken c.args.sink.now;
       taken_after = g.K.Sink.taken c.args.sink.now;
@@ -27,18 +38,22 @@ returns-in-None g c =
       faults_after = g.K.Sink.faults c.args.sink.now;
     } in
     let none : last_alta c.in-Some.state.entries c.args.num.now ≡ None =
-    ap (λ (es : List Entry). last_alta es c.args.num.now) (sym c.history.ensures.entries) ∙ sym c.last_alta.ensures ∙ ap option_copied c.in-None.is in
+    alta_none c.in-Some.state.entries c.args.num.now (sym c.in-Ok-None.field-0-is ∙ c.in-Ok-None.ensures) in
     subst (λ (st : Option History). HistoryEnds (entries_of st) c.args.num.now c.args.host s detail.Unknown) (sym c.in-Some.is) (unknown none (search rules))
 
-pub returns-in-Some-last_alta : goal.returns-in-Some-last_alta
-returns-in-Some-last_alta g c =
+pub returns-in-Alta : goal.returns-in-Alta
+returns-in-Alta g c =
     let s : Sinks = record {
       taken = g.K.Sink.taken c.args.sink.now;
       taken_after = g.K.Sink.taken c.print_link.new.sink;
       faults = g.K.Sink.faults c.args.sink.now;
       faults_after = g.K.Sink.faults c.print_link.new.sink;
     } in
-    let some : last_alta c.in-Some.state.entries c.args.num.now ≡ Some c.in-Some-last_alta.alta.now =
-    ap (λ (es : List Entry). last_alta es c.args.num.now) (sym c.history.ensures.entries) ∙ sym c.last_alta.ensures ∙ ap option_copied c.in-Some-last_alta.is in
+    let some : last_alta c.in-Some.state.entries c.args.num.now ≡ Some c.in-Alta.alta =
+    alta_some c.in-Some.state.entries c.args.num.now c.in-Ok-Some.sealed (sym c.in-Ok-Some.field-0-is ∙ c.in-Ok-Some.ensures) ∙ ap body_alta c.in-Alta.is in
     subst (λ (st : Option History). HistoryEnds (entries_of st) c.args.num.now c.args.host s c.print_link.result) (sym c.in-Some.is)
-    (found c.in-Some-last_alta.alta.now c.print_link.result some c.print_link.ensures)
+    (found c.in-Alta.alta c.print_link.result some c.print_link.ensures)
+
+pub unreachable-requires : goal.unreachable-requires
+unreachable-requires g c =
+    no_anulacion c.in-Some.state.entries c.args.num.now c.in-Ok-Some.sealed c.in-Anulacion.field-0 (sym c.in-Ok-Some.field-0-is ∙ c.in-Ok-Some.ensures) c.in-Anulacion.is

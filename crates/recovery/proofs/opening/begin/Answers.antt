@@ -7,13 +7,16 @@ use Rattle.shop_core.specs.Legal.{Legal}
 use Rattle.chain_store.specs.Stands.{StandsFor}
 use Rattle.recovery.specs.Opening.{IsFound}
 use Rattle.recovery.proofs.Opens.{begun, begins}
+use Rattle.chain_store.specs.Ready.{IsReady}
+use Rattle.journal.specs.Journal.{end_of, stopped_of}
+use Rattle.recovery.proofs.Readies.{ready_empty}
 use Rattle.recovery.proofs.opening.begin.Goals as goal
 
 pub returns-in-Ok-clause-every_crash : goal.returns-in-Ok-clause-every_crash
 returns-in-Ok-clause-every_crash g c tells =
     let issuer = c.args.issuer.now in
     let parts = c.of.ensures.parts in
-    let legal : Legal issuer [] = subst (λ (h : History). Legal h.issuer h.entries) c.empty-state.ensures c.history-legal.ensures.legal in
+    let legal : Legal issuer [] = subst (λ (h : History). Legal h.issuer h.entries) c.empty-state.ensures c.is_legal.ensures in
     let none : c.of.result.state.entries ≡ [] = ap (λ (h : History). h.entries) (parts.0 ∙ c.empty-state.ensures) in
     let told = ap (λ j. g.D.Disk.told (disk_of j)) parts.1 in
     subst (λ (t : Told). LeavesNow t (StandsFor issuer c.of.result.state.entries)) (sym told)
@@ -26,9 +29,18 @@ returns-in-Ok-clause-any_moment g c tells =
     let parts = c.of.ensures.parts in
     let old = g.D.Disk.told c.args.disk in
     let now = g.D.Disk.told (disk_of c.in-Ok.journal) in
-    let legal : Legal issuer [] = subst (λ (h : History). Legal h.issuer h.entries) c.empty-state.ensures c.history-legal.ensures.legal in
+    let legal : Legal issuer [] = subst (λ (h : History). Legal h.issuer h.entries) c.empty-state.ensures c.is_legal.ensures in
     let none : c.of.result.state.entries ≡ [] = ap (λ (h : History). h.entries) (parts.0 ∙ c.empty-state.ensures) in
     let told = ap (λ j. g.D.Disk.told (disk_of j)) parts.1 in
     subst (λ (t : Told). LeavesOnly old t (IsFound issuer c.of.result.state.entries)) (sym told)
     (subst (λ (es : List Entry). LeavesOnly old now (IsFound issuer es)) (sym none)
     (begins issuer old now legal (c.in-Ok.ensures.any_moment tells)))
+
+pub of-requires-clause-ready : goal.of-requires-clause-ready
+of-requires-clause-ready g c = ready_empty g.D.Disk.tells c.args.issuer.now c.empty-state.result _ _ _ c.empty-state.ensures c.in-Ok.ensures.place c.in-Ok.ensures.empty
+
+pub returns-in-Ok-clause-ready : goal.returns-in-Ok-clause-ready
+returns-in-Ok-clause-ready g c =
+    let parts = c.of.ensures.parts in
+    subst (λ (j : _). IsReady g.D.Disk.tells c.of.result.state (stopped_of j) (end_of j) (g.D.Disk.told (disk_of j))) (sym parts.1)
+    (ready_empty g.D.Disk.tells c.args.issuer.now c.of.result.state _ _ _ (parts.0 ∙ c.empty-state.ensures) c.in-Ok.ensures.place c.in-Ok.ensures.empty)

@@ -6,6 +6,10 @@ use Rattle.shop_core.specs.History.{History}
 use Rattle.chain_store.specs.Stands.{StandsFor}
 use Rattle.recovery.specs.Opening.{IsFound}
 use Rattle.recovery.proofs.Opens.{at_some, stays, holds_on}
+use Rattle.std.proofs.Common.{refl, None}
+use Rattle.chain_store.specs.Ready.{IsReady}
+use Rattle.journal.specs.Journal.{end_of, stopped_of}
+use Rattle.recovery.proofs.Readies.{ready_held}
 use Rattle.recovery.proofs.opening.open_held.Goals as goal
 
 pub at-requires : goal.at-requires
@@ -39,3 +43,29 @@ returns-clause-any_moment g c tells =
     (subst (λ (es : List Entry). LeavesOnly old old (IsFound c.args.issuer.now es)) (sym same)
     (subst (λ (n : List ℕ). LeavesOnly old old (IsFound n c.args.state.entries)) own
     (holds_on c.args.held c.args.state.entries old h.0.0 h.1)))
+
+pub returns-then-ne-clause-other : goal.returns-then-ne-clause-other
+returns-then-ne-clause-other g c = let apart : c.args.held ≡ c.args.issuer.now → ⊥ = search rules in (refl, apart, refl, refl)
+
+pub of-requires-clause-ready : goal.of-requires-clause-ready
+of-requires-clause-ready g c =
+    let parts = c.at.ensures.parts in
+    subst (λ (d : _). IsReady g.D.Disk.tells c.args.state None (end_of c.at.result) (g.D.Disk.told d)) (sym parts.0)
+    (subst (λ (n : ℕ). IsReady g.D.Disk.tells c.args.state None n (g.D.Disk.told c.args.disk)) (sym parts.1)
+    (ready_held g.D.Disk.tells c.args.held c.args.state None c.args.end (g.D.Disk.told c.args.disk) c.requires.place.0 c.requires.place.1 c.requires.holds))
+
+pub returns-clause-ready : goal.returns-clause-ready
+returns-clause-ready g c =
+    let parts = c.at.ensures.parts in
+    let made = c.of.ensures.parts in
+    subst (λ (j : _). IsReady g.D.Disk.tells c.of.result.state (stopped_of j) (end_of j) (g.D.Disk.told (disk_of j))) (sym made.1)
+    (subst (λ (h : History). IsReady g.D.Disk.tells h (stopped_of c.at.result) (end_of c.at.result) (g.D.Disk.told (disk_of c.at.result))) (sym made.0)
+    (subst (λ (d : _). IsReady g.D.Disk.tells c.args.state (stopped_of c.at.result) (end_of c.at.result) (g.D.Disk.told d)) (sym parts.0)
+    (subst (λ (n : ℕ). IsReady g.D.Disk.tells c.args.state (stopped_of c.at.result) n (g.D.Disk.told c.args.disk)) (sym parts.1)
+    (ready_held g.D.Disk.tells c.args.held c.args.state (stopped_of c.at.result) c.args.end (g.D.Disk.told c.args.disk) c.requires.place.0 c.requires.place.1 c.requires.holds))))
+
+pub returns-clause-same : goal.returns-clause-same
+returns-clause-same g c =
+    let made = c.of.ensures.parts in
+    let own : c.args.held ≡ c.args.issuer.now = search rules in
+    (own, made.0, made.2, ap (λ j. disk_of j) made.1 ∙ c.at.ensures.parts.0)

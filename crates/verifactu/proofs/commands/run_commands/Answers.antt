@@ -18,7 +18,7 @@ loop-ask-init g c =
     let store = c.args.store.now in
     let o = origin_of g.D.Disk.tells g.D.Disk.told g.D.Disk.faults g.C.Clock.coming store in
     let p = point_of g.D.Disk.told g.D.Disk.faults g.C.Clock.coming store in
-    let legal : Legal (state_of store).issuer (state_of store).entries = subst (λ (h : History). Legal h.issuer h.entries) c.state.ensures c.history-legal.ensures.legal in
+    let legal : Legal (state_of store).issuer (state_of store).entries = subst (λ (h : History). Legal h.issuer h.entries) c.state.ensures c.is_legal.ensures in
     record {
       ready = c.requires.ready;
       so_far = begins o p c.args.replies.now.items (end_of (journal_of store)) c.requires.none refl refl refl refl c.requires.going_on (λ k. refl) legal
@@ -74,7 +74,7 @@ returns-clause-answers g c =
     let replies = c.loop-ask.replies.items in
     let inv = c.loop-ask.invariant in
     let so_far : SoFar o asks replies p = subst (λ (xs : List Asked). SoFar o xs replies p) (take_all c.loop-ask.ask-index asks (omega arith)) inv.so_far in
-    let own : Legal (state_of after).issuer (state_of after).entries = subst (λ (h : History). Legal h.issuer h.entries) c.state-2.ensures c.history-legal-2.ensures.legal in
+    let own : Legal (state_of after).issuer (state_of after).entries = subst (λ (h : History). Legal h.issuer h.entries) c.state-2.ensures c.is_legal-2.ensures in
     let legal : Legal o.issuer (state_of after).entries = subst (λ (n : List ℕ). Legal n (state_of after).entries) so_far.own own in
     record {
       run = so_far.run;

@@ -10,11 +10,11 @@ use Rattle.chain_store.proofs.store.Store.add.Goals as goal
 
 pub returns-in_default-clause-any_moment : goal.returns-in_default-clause-any_moment
 returns-in_default-clause-any_moment g c tells =
-    untouched_around c.args.self.now.state _ _ c.args.entry (c.requires.ready.holds refl tells) c.history-legal.ensures.legal
+    untouched_around c.args.self.now.state _ _ c.args.entry (c.requires.ready.holds refl tells) c.is_legal.ensures
 
 pub returns-in_default-reserve-clause-any_moment : goal.returns-in_default-reserve-clause-any_moment
 returns-in_default-reserve-clause-any_moment g c tells =
-    untouched_around c.args.self.now.state _ _ c.args.entry (c.requires.ready.holds refl tells) c.history-legal.ensures.legal
+    untouched_around c.args.self.now.state _ _ c.args.entry (c.requires.ready.holds refl tells) c.is_legal.ensures
 
 pub unreachable-requires : goal.unreachable-requires
 unreachable-requires g c =
@@ -38,7 +38,7 @@ returns-in-Ok-append-clause-ready g c =
           let holds = c.requires.ready.holds refl tells in
           let a =
           adding s (end_of c.args.self.now.journal) (g.D.Disk.told (disk_of c.args.self.now.journal)) entry c.what_continues_fits_its_bytes.ensures c.a_legal_history_goes_on.ensures holds
-          c.history-legal.ensures.legal c.requires.continues c.fields_are_valid.ensures in
+          c.is_legal.ensures c.requires.continues c.fields_are_valid.ensures in
           holds_more a is (c.in-Ok-append.ensures.acknowledged tells s.issuer _ holds.file);
     })
 
@@ -50,7 +50,7 @@ returns-in-Ok-append-clause-any_moment g c tells =
     let holds = c.requires.ready.holds refl tells in
     let a =
     adding s (end_of c.args.self.now.journal) (g.D.Disk.told (disk_of c.args.self.now.journal)) entry c.what_continues_fits_its_bytes.ensures c.a_legal_history_goes_on.ensures holds
-    c.history-legal.ensures.legal c.requires.continues c.fields_are_valid.ensures in
+    c.is_legal.ensures c.requires.continues c.fields_are_valid.ensures in
     appended a is (c.append.ensures.any_moment c.requires.going_on tells s.issuer _ holds.file)
 
 pub returns-in-Err-DiskFault-clause-any_moment : goal.returns-in-Err-DiskFault-clause-any_moment
@@ -61,14 +61,14 @@ returns-in-Err-DiskFault-clause-any_moment g c tells =
     let holds = c.requires.ready.holds refl tells in
     let a =
     adding s (end_of c.args.self.now.journal) (g.D.Disk.told (disk_of c.args.self.now.journal)) entry c.what_continues_fits_its_bytes.ensures c.a_legal_history_goes_on.ensures holds
-    c.history-legal.ensures.legal c.requires.continues c.fields_are_valid.ensures in
+    c.is_legal.ensures c.requires.continues c.fields_are_valid.ensures in
     appended a is (c.append.ensures.any_moment c.requires.going_on tells s.issuer _ holds.file)
 
 pub returns-in-Ok-append-clause-acknowledged : goal.returns-in-Ok-append-clause-acknowledged
 returns-in-Ok-append-clause-acknowledged g c tells =
     let s = c.args.self.now.state in
     let entry = c.args.entry in
-    let next = c.a_legal_history_goes_on.ensures s.issuer s.entries entry c.history-legal.ensures.legal c.requires.continues in
+    let next = c.a_legal_history_goes_on.ensures s.issuer s.entries entry c.is_legal.ensures c.requires.continues in
     let new : c.apply.new.self ≡ record { issuer = s.issuer; entries = s.entries ++ entry ∷ []; room = None } =
     c.apply.ensures ∙ ap (λ (h : History). record { issuer = h.issuer; entries = h.entries ++ entry ∷ []; room = None }) c.in-Ok-reserve.ensures.ok in
     let legal : Legal c.apply.new.self.issuer c.apply.new.self.entries = subst (λ (h : History). Legal h.issuer h.entries) (sym new) next in

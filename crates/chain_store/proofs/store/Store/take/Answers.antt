@@ -13,7 +13,7 @@ use Rattle.chain_store.proofs.store.Store.take.Goals as goal
 pub returns-in-Err-clause-takes : goal.returns-in-Err-clause-takes
 returns-in-Err-clause-takes g c going_on =
     not_made c.args.self.now.state c.args.ask.now _ _ g.D.Disk.tells _ (Err StoreFault.NoMemory) c.now-seconds.result c.now-seconds.ensures.told c.now-seconds.ensures.moved refl
-    (λ tells. untouched c.args.self.now.state (end_of c.args.self.now.journal) _ (c.requires.holds going_on tells) c.history-legal.ensures.legal)
+    (λ tells. untouched c.args.self.now.state (end_of c.args.self.now.journal) _ (c.requires.holds going_on tells) c.is_legal.ensures)
 
 pub returns-in-Ok-Again-clause-takes : goal.returns-in-Ok-Again-clause-takes
 returns-in-Ok-Again-clause-takes g c going_on =
@@ -21,11 +21,11 @@ returns-in-Ok-Again-clause-takes g c going_on =
     let planned = answer s.issuer s.entries c.args.ask.now c.now-seconds.result in
     not_made s c.args.ask.now _ _ g.D.Disk.tells _ (Ok (reply.Again c.in-Ok-Again.receipt)) c.now-seconds.result c.now-seconds.ensures.told c.now-seconds.ensures.moved
     (told_again s.issuer s.entries planned c.in-Ok-Again.receipt (sym c.in-Ok-Again.ensures.answer ∙ c.in-Ok-Again.field-0-is))
-    (λ tells. untouched s (end_of c.args.self.now.journal) _ (c.requires.holds going_on tells) c.history-legal.ensures.legal)
+    (λ tells. untouched s (end_of c.args.self.now.journal) _ (c.requires.holds going_on tells) c.is_legal.ensures)
 
 pub returns-in-Ok-Again-clause-acknowledged : goal.returns-in-Ok-Again-clause-acknowledged
 returns-in-Ok-Again-clause-acknowledged g c tells =
-    on_disk c.args.self.now.state (end_of c.args.self.now.journal) _ (c.requires.holds (sym c.in_default.ensures) tells) c.history-legal.ensures.legal
+    on_disk c.args.self.now.state (end_of c.args.self.now.journal) _ (c.requires.holds (sym c.in_default.ensures) tells) c.is_legal.ensures
 
 pub returns-in-Ok-Refused-clause-takes : goal.returns-in-Ok-Refused-clause-takes
 returns-in-Ok-Refused-clause-takes g c going_on =
@@ -33,11 +33,11 @@ returns-in-Ok-Refused-clause-takes g c going_on =
     let planned = answer s.issuer s.entries c.args.ask.now c.now-seconds.result in
     not_made s c.args.ask.now _ _ g.D.Disk.tells _ (Ok (reply.Refused c.in-Ok-Refused.why)) c.now-seconds.result c.now-seconds.ensures.told c.now-seconds.ensures.moved
     (told_refused s.issuer s.entries planned c.in-Ok-Refused.why (sym c.in-Ok-Refused.ensures.answer ∙ c.in-Ok-Refused.field-0-is))
-    (λ tells. untouched s (end_of c.args.self.now.journal) _ (c.requires.holds going_on tells) c.history-legal.ensures.legal)
+    (λ tells. untouched s (end_of c.args.self.now.journal) _ (c.requires.holds going_on tells) c.is_legal.ensures)
 
 pub returns-in-Ok-Refused-clause-acknowledged : goal.returns-in-Ok-Refused-clause-acknowledged
 returns-in-Ok-Refused-clause-acknowledged g c tells =
-    on_disk c.args.self.now.state (end_of c.args.self.now.journal) _ (c.requires.holds (sym c.in_default.ensures) tells) c.history-legal.ensures.legal
+    on_disk c.args.self.now.state (end_of c.args.self.now.journal) _ (c.requires.holds (sym c.in_default.ensures) tells) c.is_legal.ensures
 
 pub returns-in-Ok-Made-clause-takes : goal.returns-in-Ok-Made-clause-takes
 returns-in-Ok-Made-clause-takes g c going_on =

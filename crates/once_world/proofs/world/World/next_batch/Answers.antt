@@ -6,7 +6,7 @@ use Rattle.once_world.proofs.world.World.next_batch.Goals as goal
 pub cut-requires : goal.cut-requires
 cut-requires c =
     let w = c.args.self.now in
-    next_linked c.a_run_of_a_history_is_linked.ensures w.state.issuer w.state.entries c.args.count c.deref.result.now c.history-legal.ensures.legal (c.deref.ensures.value ∙ c.in_ok-records.ensures)
+    next_linked c.a_run_of_a_history_is_linked.ensures w.state.issuer w.state.entries c.args.count c.deref.result.now c.is_legal.ensures (c.deref.ensures.value ∙ c.in_ok-records.ensures)
 
 pub returns : goal.returns
 returns c =
