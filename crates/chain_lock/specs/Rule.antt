@@ -1,5 +1,5 @@
 -- The rule of the lock's table, and what each step tells.
-use Rattle.std.specs.Prelude.{◌≡◌, ◌≢◌, ℕ, ◌<◌, ◌≤◌, true, false, List, [], ◌∷◌, ◌++◌, length, take, drop, Option, Some, None}
+use Rattle.std.specs.Prelude.{◌≡◌, ◌≢◌, ℕ, ◌<◌, ◌≤◌, true, false, List, [], ◌∷◌, ◌++◌, length, take, drop, max, Option, Some, None}
 use Rattle.std.specs.List.{enumerate_from}
 use mathlib.Core.Option.{some, none}
 use lib.ListN.{get_elem?}
@@ -68,6 +68,14 @@ module _ {I R : Type 0} where
 
   abbrev pub joined : View I R → View I R → View I R
   joined d e = record d { numbers = d.numbers ++ e.numbers; met = d.met ++ (e.seen ∷ e.met); least = larger d.least e.least; own = d.own ++ e.own }
+
+  -- a pass's knowledge alone, without numbers and items
+  abbrev pub note_of : View I R → View I R
+  note_of d = record { turning = false; numbers = []; seen = d.seen; met = []; least = d.least; own = []; root = None }
+
+  -- it knows of as many items as the note does
+  abbrev pub raised : View I R → View I R → View I R
+  raised d note = record d { least = max d.least note.least }
 
   abbrev pub spent_view : View I R
   spent_view = record { turning = false; numbers = []; seen = []; met = []; least = 0; own = []; root = None }

@@ -1,4 +1,4 @@
-ghost use Rattle.std.specs.Prelude.{◌≡◌, ◌≤◌, ◌<◌, ◌^◌, ◌++◌, [], ◌∷◌, false, true, length, Some, None};
+ghost use Rattle.std.specs.Prelude.{◌≡◌, ◌≤◌, ◌<◌, ◌^◌, ◌++◌, [], ◌∷◌, false, true, length, max, Some, None};
 ghost use Rattle.std.specs.Bool.{OnTrue, OnFalse};
 ghost use Rattle.chain_lock.specs.Known.{Turns, KnowsOfSeen};
 ghost use Rattle.chain_lock.specs.Lists.{MayAdd};
@@ -6,7 +6,7 @@ ghost use Rattle.chain_lock.specs.Rule.{Counted, HasTurn, IsAtRest, known_of, wi
 
 use crate::act::{Act, Recorded};
 use crate::pass::{Pass, RestingPlace};
-use crate::plays::{Added, Free, Glance, Mark, Try};
+use crate::plays::{Added, Free, Glance, Learn, Mark, Note, Try};
 use crate::view::{Board, Place};
 use std::hint::spin_loop;
 use std::marker::Brand;
@@ -41,6 +41,19 @@ impl<V: Recorded> ChainLock<V> {
         ensures raised { known pass.new ≡ record (known pass.old) { least = result } }
     {
         self.board.shared.load::<Glance>(&mut pass.seat.place, 0)
+    }
+
+    /// One pass tells another of how many items it knows. It is two loads, and waits for nobody.
+    pub fn inform(&self, from: &mut Pass<V>, to: &mut Pass<V>)
+        requires own { (pass_lock from.old ≡ lock_id self.now) × (pass_lock to.old ≡ lock_id self.now) }
+        ensures lock { (pass_lock from.new ≡ pass_lock from.old) × (pass_lock to.new ≡ pass_lock to.old) }
+        ensures same { known from.new ≡ known from.old }
+        ensures raised { known to.new ≡ record (known to.old) { least = max (known to.old).least (known from.old).least } }
+    {
+        let note = self.board.shared.split_seat::<Note>(&mut from.seat.place);
+        self.board
+            .shared
+            .join_seat::<Learn>(&mut to.seat.place, note);
     }
 
     // Swaps 1 into the turn's word. Where 0 was there, the pass has the turn.
