@@ -5,6 +5,10 @@ use ports::NoMemory;
 use std::alloc::Global;
 use std::marker::Model;
 
+/// The most records in a batch, lines in one entry of notes, and Huellas in a consultation, by the tax agency's description of
+/// the submission service.
+pub const BATCH: u16 = 1000;
+
 /// Why the agency refused a record.
 #[derive(Clone, Copy, Debug, PartialEq, Eq)]
 pub enum Cause {
