@@ -11,8 +11,8 @@ use Rattle.atomic_table.specs.Table.{State, Me, keeps, takes, gives, step, stepp
 use Rattle.atomic_table.proofs.Lists.{at_set, set_else, at_snoc, at_longer}
 use Rattle.chain_lock.specs.declared.view.View.{View}
 use Rattle.chain_lock.specs.Lists.{MayAdd, StartsWith, times, placed, total}
-use Rattle.chain_lock.specs.Rule.{first_view, Knows, Kept, glanced, tried, marked, freed, with_turn, with_added, split_left, split_right, joined, spent_view, known_of, Counted, FitsAll}
-use Rattle.chain_lock.specs.Known.{Fits}
+use Rattle.chain_lock.specs.Rule.{first_view, Knows, Kept, glanced, tried, marked, freed, with_turn, with_added, split_left, split_right, joined, spent_view, known_of, Counted, FitsAll, HasTurn}
+use Rattle.chain_lock.specs.Known.{Fits, Turns}
 use Rattle.chain_lock.proofs.Lists.{total_set, total_snoc, total_two, total_only, times_append, times_cut, placed_append, placed_one, no_times, times_up, set_at, not_true, true_false, cut_lengths, starts_self, starts_trans, starts_length, each_trans, each_append, get_here, stand_starts, each_split, each_all}
 
 module _ {I R : Type 0} where
@@ -59,6 +59,22 @@ module _ {I R : Type 0} where
   pub counts_none : (d : View I R) (after : List I) → d.least ≡ length d.seen → MayAdd d.seen after → length after ≡ length d.seen → Counted d after d
   counts_none d after least (inl e) same = ([], omega arith, e ∙ sym (append-nil d.seen), adds_none d least)
   counts_none d after least (inr (x, e)) same = absurd (omega (arith, ap length e, length-append d.seen (x ∷ [])))
+
+-- the pass got the turn, counted what its act added, and gave the turn back
+pub turned : {V I R : Type 0} (items : V → List I) (root : V → R) (P : R → List I → List I → Type 0) (d t e w f : View I R) (y : V) (m : Me (Option V) (View I R)) (after : List I) → HasTurn items root d y m → t ≡ m.0
+    → Counted t after e → w ≡ e → f ≡ record w { turning = false } → P (root y) (items y) after → Turns P (known_of d) (known_of f)
+turned items root P d t e w f y m after turn taken counted put freed related =
+    let (added, short, list, view) : Counted (with_turn d (items y)) after e = subst (λ (z : View _ _). Counted z after e) (taken ∙ turn.view) counted in record {
+      before = items y;
+      added = added;
+      home = root y;
+      root = turn.root_is;
+      begins = turn.begins;
+      at_least = turn.at_least;
+      at_most_one = short;
+      related = subst (P (root y) (items y)) list related;
+      after = ap known_of freed ∙ ap (λ (z : View _ _). known_of (record z { turning = false })) (put ∙ view);
+    }
 
 module _ {V I R : Type 0} (items : V → List I) (root : V → R) (base : List I) (home : R) (count : ℕ) where
   abbrev D : Type 0

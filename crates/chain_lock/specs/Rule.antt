@@ -43,9 +43,9 @@ pub record Kept {V I R : Type 0} (items : V → List I) (root : V → R) (base :
   pub places : (k : ℕ) → (k < length base → total (λ (d : View I R). placed k d.own) s.views ≡ 0) × (length base ≤ k → k < length log → total (λ (d : View I R). placed k d.own) s.views ≡ 1) × (length log ≤ k → total (λ (d : View I R). placed k d.own) s.views ≡ 0)
 
 module _ {V I R : Type 0} where
-  -- a pass between two calls: it is not spent, and holds no slot
+  -- a pass between two calls: it is not spent, holds no slot, and knows of as many items as it has seen
   abbrev pub IsAtRest : Me (Option V) (View I R) → Type 0
-  IsAtRest m = (m.1 ≡ []) × (m.0.turning ≡ false) × (0 < length m.0.numbers)
+  IsAtRest m = (m.1 ≡ []) × (m.0.turning ≡ false) × (0 < length m.0.numbers) × (length m.0.seen ≤ m.0.least)
 
   abbrev pub glanced : Step (Option V) → Me (Option V) (View I R) → ℕ → Me (Option V) (View I R) → Type 0
   glanced st m n m' = (m.0.least ≤ n) × (m'.0 ≡ record m.0 { least = n }) × (m'.1 ≡ m.1)

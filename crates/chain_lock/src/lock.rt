@@ -1,6 +1,6 @@
 ghost use Rattle.std.specs.Prelude.{◌≡◌, ◌≤◌, ◌<◌, ◌^◌, ◌++◌, [], ◌∷◌, false, true, length, Some, None};
 ghost use Rattle.std.specs.Bool.{OnTrue, OnFalse};
-ghost use Rattle.chain_lock.specs.Known.{Turns};
+ghost use Rattle.chain_lock.specs.Known.{Turns, KnowsOfSeen};
 ghost use Rattle.chain_lock.specs.Lists.{MayAdd};
 ghost use Rattle.chain_lock.specs.Rule.{Counted, HasTurn, IsAtRest, known_of, with_added};
 
@@ -37,6 +37,7 @@ impl<V: Recorded> ChainLock<V> {
         requires { pass_lock pass.old ≡ lock_id self.now }
         ensures lock { pass_lock pass.new ≡ pass_lock pass.old }
         ensures at_least { (known pass.old).least ≤ result }
+        ensures seen { KnowsOfSeen (known pass.new) }
         ensures raised { known pass.new ≡ record (known pass.old) { least = result } }
     {
         self.board.shared.load::<Glance>(&mut pass.seat.place, 0)
@@ -187,6 +188,7 @@ impl<V: Recorded> ChainLock<V> {
         requires { pass_lock pass.old ≡ lock_id self.now }
         ensures lock { pass_lock pass.new ≡ pass_lock pass.old }
         ensures turn { Turns (λ home before after. A.relates act.old home before act.new after) (known pass.old) (known pass.new) }
+        ensures seen { KnowsOfSeen (known pass.new) }
     {
         self.turn_at(rt, &mut pass.seat, act);
         self.wake();
