@@ -4,11 +4,13 @@
 
 mod indexes;
 mod judging;
+mod laws;
 mod pairs;
 mod plans;
 #[cfg(test)]
 mod tests;
 
 pub use judging::{Past, judge};
+pub use laws::{deliveries_join, only_what_came_comes_again};
 pub use pairs::{Delivered, Pairs};
 pub use plans::{Fate, Fates, Plan, PlannedFate, PlannedVerdict, Verdict, Verdicts};

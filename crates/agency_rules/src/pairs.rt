@@ -2,7 +2,7 @@
 ghost use Rattle.std.specs.Prelude.{◌≡◌, ◌≤◌, ◌+◌, ◌-◌, ◌^◌, ◌<◌, [], ◌∷◌, ◌++◌, length, take, true, false, IfOk, OnOk, OnErr};
 ghost use Rattle.record_fields.specs.Records.{id_of};
 ghost use Rattle.agency_rules.specs.Judgement as spec;
-ghost use Rattle.agency_rules.specs.Delivery.{line_of, delivered_record, after_record, delivered};
+ghost use Rattle.agency_rules.specs.Delivery.{line_of, delivered_record, after_record, delivered, DeliversFront};
 ghost use Rattle.agency_rules.specs.Indexes.{line_at};
 
 use crate::indexes::{Pasts, Places};
@@ -149,7 +149,7 @@ impl Pairs {
         Ok(Delivered::First(line))
     }
 
-    /// A batch arrives, its records in order. Without memory a front of it may have been added.
+    /// A batch arrives, its records in order. Without memory a front of it has arrived, and no record behind it.
     pub fn deliver(
         &mut self,
         alloc: Global,
@@ -157,6 +157,7 @@ impl Pairs {
         batch: &[Sealed],
     ) -> Result<(), NoMemory>
         ensures ok { OnOk result (self.new ≡ delivered verdicts.now self.old batch.now) }
+        ensures err { OnErr result (DeliversFront verdicts.now self.old self.new batch.now) }
         ensures front { take (length self.old) self.new ≡ self.old }
     {
         for i in 0..batch.len() {
