@@ -4,6 +4,7 @@
 mod agency;
 mod answers;
 mod delivering;
+mod laws;
 mod messages;
 mod practice;
 mod reply;
@@ -16,6 +17,10 @@ mod turns;
 
 pub use agency::Agency;
 pub use answers::{AgencyFault, ReplyLine, ReplyLines, Seen, SeenList, State3};
+pub use laws::{
+    a_record_may_go_unless_dark, a_session_follows_its_begin, only_what_came_is_duplicado,
+    the_last_named_reply_is_kept,
+};
 pub use messages::{Logged, Message};
 pub use practice::PracticeAgency;
 pub use reply::Reply;

@@ -19,10 +19,12 @@ MeetingsJoin = (verdicts : List PlannedVerdict) (processed : List (Sealed × Lin
 -- a record comes again exactly where its Huella stood in the list or earlier in the batch
 abbrev pub AgainWhereItCame : Type 0
 AgainWhereItCame = (verdicts : List PlannedVerdict) (processed : List (Sealed × Line)) (before after : List Sealed) (s : Sealed) →
-    option_map is_again (slice_get (meetings verdicts processed (before ++ s ∷ after)) (length before)) ≡ Some (has_come processed before s.huella)
+    option_map is_again (slice_get (meetings verdicts processed (before ++ s ∷ after)) (length before))
+    ≡ Some (has_come processed before s.huella)
 
 -- where no Huella of a batch stands in the list, and all differ, each record is new
 abbrev pub AllNewWhereNoneCame : Type 0
 AllNewWhereNoneCame = (verdicts : List PlannedVerdict) (processed : List (Sealed × Line)) (batch : List Sealed) →
-    AllByRecursion (λ (s : Sealed). line_of processed s.huella ≡ None) batch → IsDistinct bytes_eq (map (λ (s : Sealed). s.huella) batch) →
+    AllByRecursion (λ (s : Sealed). line_of processed s.huella ≡ None) batch →
+    IsDistinct bytes_eq (map (λ (s : Sealed). s.huella) batch) →
     (lines : List Line) × (meetings verdicts processed batch ≡ map First lines)

@@ -22,7 +22,10 @@ pub enum Delivered {
     Again(Line),
 }
 
-/// The processed records with their lines, in order, fewer than 2^32 - 1 of them.
+/// The most pairs that a list holds, so that one more can still be counted.
+pub const MAX_PAIRS: u32 = 4_294_967_294;
+
+/// The processed records with their lines, in order, at most `MAX_PAIRS`.
 #[derive(Drop)]
 pub struct Pairs {
     list: Vec<(Sealed, Line)>,
@@ -113,7 +116,7 @@ impl Pairs {
         ensures err { OnErr result (self.new ≡ self.old) }
     {
         let place = self.len();
-        if place >= MOST {
+        if place >= MAX_PAIRS {
             return Err(NoMemory);
         }
         let id = sealed.body.id();
@@ -200,9 +203,6 @@ fn line_at(pairs: &[(Sealed, Line)], place: Option<usize>, huella: &[u8; 32]) ->
         None
     }
 }
-
-// The most pairs that a list holds.
-const MOST: u32 = 4_294_967_294;
 
 // What these pairs say of an invoice.
 fn past_in(pairs: &[(Sealed, Line)], id: &InvoiceId) -> Past
