@@ -21,7 +21,8 @@ SessionFollowsItsBegin = (past session : List Message) (plan : Plan) (pairs : �
 
 -- any other message goes on with the session
 abbrev pub SessionGoesOn : Type 0
-SessionGoesOn = (messages : List Message) (m : Message) → is_begin m ≡ false → session_of (messages ++ m ∷ []) ≡ session_of messages ++ m ∷ []
+SessionGoesOn = (messages : List Message) (m : Message) → is_begin m ≡ false →
+    session_of (messages ++ m ∷ []) ≡ session_of messages ++ m ∷ []
 
 -- the session stands last among the messages
 abbrev pub SessionStandsLast : Type 0
@@ -35,7 +36,8 @@ abbrev pub KeptIsTheLastNamed : Type 0
 KeptIsTheLastNamed = (messages : List Message) (reply : Replied) → (kept_reply messages ≡ Some reply) ↔ IsKept messages reply
 
 abbrev pub KeptByOneMore : Type 0
-KeptByOneMore = (messages : List Message) (m : Message) → kept_reply (messages ++ m ∷ []) ≡ unwrap_or (keeps m) (kept_reply messages)
+KeptByOneMore = (messages : List Message) (m : Message) →
+    kept_reply (messages ++ m ∷ []) ≡ unwrap_or (keeps m) (kept_reply messages)
 
 -- two batches in one are answered as one after the other
 abbrev pub AnswersJoin : Type 0

@@ -116,7 +116,11 @@ processed_after a batch = delivered_all a.plan.verdicts (processed_before a) (ow
 
 -- the reply to a batch that comes
 abbrev pub reply_by : Plan → List (Sealed × Line) → List Sealed → Replied
-reply_by plan processed batch = record { huellas = huellas_of batch; lines = answers plan.verdicts processed batch; wait = plan.wait }
+reply_by plan processed batch = record {
+  huellas = huellas_of batch;
+  lines = answers plan.verdicts processed batch;
+  wait = plan.wait;
+}
 
 abbrev pub ok_of : Result Replied AgencyFault → Option Replied
 ok_of (Ok reply) = Some reply
@@ -171,7 +175,10 @@ abbrev pub submitted : Practice → List Sealed → Practice
 submitted a batch = record {
   plan = a.plan;
   processed = processed_after a batch;
-  log = a.log ++ record { message = Submitted batch (submission_answer a batch); comes = comes_at (fate_of a) (number a.log) } ∷ [];
+  log = a.log ++ record {
+    message = Submitted batch (submission_answer a batch);
+    comes = comes_at (fate_of a) (number a.log);
+  } ∷ [];
   faults = faults_by (fate_of a) a.faults;
 }
 

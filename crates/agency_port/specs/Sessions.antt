@@ -35,7 +35,8 @@ is_unseen (Was line) = false
 
 -- the answers to these Huellas say of this one that it wasn't seen
 abbrev pub says_unseen : List (List ℕ) → List Seen → List ℕ → Bool
-says_unseen huellas seen huella = list_any (λ (answer : List ℕ × Seen). is_unseen answer.1 && bytes_eq answer.0 huella) (zip huellas seen)
+says_unseen huellas seen huella =
+    list_any (λ (answer : List ℕ × Seen). is_unseen answer.1 && bytes_eq answer.0 huella) (zip huellas seen)
 
 -- a consultation after the last submission that named the Huella answered NotSeen for it
 pub record AnsweredSince (huella : List ℕ) (messages : List Message) : Type 0 where

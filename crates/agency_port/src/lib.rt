@@ -1,4 +1,7 @@
-//! The tax agency as the sender sees it: what is handed to it, what it answers, and two forms of it in memory.
+//! The tax agency as its sender sees it: what is handed to it, what it answers, and two forms of it in memory. `Agency` says
+//! what every agency does, and more where agencies of a type tell their lists or keep the rules. A batch whose answer was lost
+//! may have come, may come later, or never: only a consultation tells. The laws say what the list of messages tells of its
+//! session, of the records that may be handed over, and of the last reply.
 #![tactic(auto)]
 
 mod agency;

@@ -245,18 +245,15 @@ impl Agency for PracticeAgency {
         alloc: Global,
         plan: &Plan,
         noted: &[(Sealed, Line)],
-    ) -> Result<(), NoMemory>
-    {
+    ) -> Result<(), NoMemory> {
         self.open(alloc, plan, noted)
     }
 
-    fn submit(&mut self, alloc: Global, batch: &Batch) -> Result<Reply, AgencyFault>
-    {
+    fn submit(&mut self, alloc: Global, batch: &Batch) -> Result<Reply, AgencyFault> {
         self.submission(alloc, batch)
     }
 
-    fn consult(&mut self, alloc: Global, huellas: &Huellas) -> Result<SeenList, AgencyFault>
-    {
+    fn consult(&mut self, alloc: Global, huellas: &Huellas) -> Result<SeenList, AgencyFault> {
         self.consultation(alloc, huellas)
     }
 }

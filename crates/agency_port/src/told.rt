@@ -37,12 +37,14 @@ impl Model for ToldAnswers {
 }
 
 impl ToldAnswers {
+    /// The list of these answers.
     pub fn of(list: Vec<ToldAnswer>) -> ToldAnswers
         ensures { result ≡ list.items }
     {
         ToldAnswers { list }
     }
 
+    /// The answers, in order.
     pub fn as_slice(&self) -> &[ToldAnswer]
         ensures { result.now ≡ self.now }
     {
@@ -111,7 +113,8 @@ impl ToldAgency {
     }
 
     fn submission(&mut self, alloc: Global, batch: &Batch) -> Result<Reply, AgencyFault>
-        ensures { IsRow result (telling.submission_answer self.old.answers batch.now) self.old self.new (telling.submitted self.old batch.now) }
+        ensures { IsRow result (telling.submission_answer self.old.answers batch.now) self.old self.new
+            (telling.submitted self.old batch.now) }
     {
         let answer = next_reply(alloc, &self.answers.as_slice()[self.at..], batch)?;
         let message = Message::Submitted {
@@ -125,7 +128,8 @@ impl ToldAgency {
     }
 
     fn consultation(&mut self, alloc: Global, huellas: &Huellas) -> Result<SeenList, AgencyFault>
-        ensures { IsRow result (telling.consultation_answer self.old.answers huellas.now) self.old self.new (telling.consulted self.old huellas.now) }
+        ensures { IsRow result (telling.consultation_answer self.old.answers huellas.now) self.old self.new
+            (telling.consulted self.old huellas.now) }
     {
         let answer = next_seen(alloc, &self.answers.as_slice()[self.at..], huellas)?;
         let message = Message::Consulted {
@@ -181,21 +185,18 @@ impl Agency for ToldAgency {
         alloc: Global,
         plan: &Plan,
         noted: &[(Sealed, Line)],
-    ) -> Result<(), NoMemory>
-    {
+    ) -> Result<(), NoMemory> {
         self.say(Message::Begun {
             plan: plan.copied(alloc)?,
             pairs: noted.len() as u64,
         })
     }
 
-    fn submit(&mut self, alloc: Global, batch: &Batch) -> Result<Reply, AgencyFault>
-    {
+    fn submit(&mut self, alloc: Global, batch: &Batch) -> Result<Reply, AgencyFault> {
         self.submission(alloc, batch)
     }
 
-    fn consult(&mut self, alloc: Global, huellas: &Huellas) -> Result<SeenList, AgencyFault>
-    {
+    fn consult(&mut self, alloc: Global, huellas: &Huellas) -> Result<SeenList, AgencyFault> {
         self.consultation(alloc, huellas)
     }
 }

@@ -92,7 +92,12 @@ fn replies_are_sorted(rt: HostRuntime) -> Result<(), Fail> {
     let new = ReplyLine::First(Line::Correcto);
     let warned = ReplyLine::First(Line::ConErrores(2001));
     let again = ReplyLine::Duplicado(State3::Incorrecto);
-    sorts(&rt, 0, &[new, warned, new], "[Correcto, ConErrores(2001), Correcto]")?;
+    sorts(
+        &rt,
+        0,
+        &[new, warned, new],
+        "[Correcto, ConErrores(2001), Correcto]",
+    )?;
     sorts(&rt, 0, &[new, again, again], "doubt 1")?;
     sorts(&rt, 0, &[again, new, new], "doubt 0")?;
     sorts(&rt, 1, &[again, again], "stale")?;

@@ -103,8 +103,9 @@ all_new verdicts processed (s ∷ batch) none distinct =
     let line = judgement verdicts processed s.body in
     let met_first : delivered_record verdicts processed s ≡ First line = ap (λ (o : Option Line). met o line) none.0 in
     let then : after_record verdicts processed s ≡ processed ++ (s, line) ∷ [] = ap (λ (m : Delivered). with_record processed s m) met_first in
-    let rest = all_new verdicts (processed ++ (s, line) ∷ []) batch (none_of processed s line batch distinct.0 none.1) distinct.1 in
-    (line ∷ rest.0,
-     ap (λ (m : Delivered). m ∷ meetings verdicts (after_record verdicts processed s) batch) met_first
-     ∙ ap (λ (ps : List (Sealed × Line)). First line ∷ meetings verdicts ps batch) then
-     ∙ ap (λ (ms : List Delivered). First line ∷ ms) rest.1)
+    let rest = all_new verdicts (processed ++ (s, line) ∷ []) batch (none_of processed s line batch distinct.0 none.1) distinct.1 in (
+      line ∷ rest.0,
+      ap (λ (m : Delivered). m ∷ meetings verdicts (after_record verdicts processed s) batch) met_first
+          ∙ ap (λ (ps : List (Sealed × Line)). First line ∷ meetings verdicts ps batch) then
+          ∙ ap (λ (ms : List Delivered). First line ∷ ms) rest.1,
+    )

@@ -5,11 +5,7 @@ use std::fmt::Write;
 use std::process::Abort;
 use std::test::Fail;
 
-fn sorts(
-    rt: &(impl Abort + AllocGlobal),
-    answers: &[Seen],
-    expected: &str,
-) -> Result<(), Fail> {
+fn sorts(rt: &(impl Abort + AllocGlobal), answers: &[Seen], expected: &str) -> Result<(), Fail> {
     let alloc = rt.alloc();
     let mut text = String::new(alloc);
     match sort_seen(alloc, answers) {
