@@ -8,8 +8,8 @@ use Rattle.record_codec.specs.Bytes.{entry_bytes}
 use Rattle.record_codec.specs.Fields.{IsEncoding}
 use Rattle.record_codec.specs.Laws.{EncodingsAreApart}
 use Rattle.record_codec.specs.declared.entries.Entry.{Entry}
-use Rattle.chain_store.specs.Laws.{StopsAt, OneStop, StopsAtItsGate}
-use Rattle.chain_store.specs.Stands.{IsSoundUpTo, AreEncoded, bodies_of}
+use Rattle.shop_core.specs.FileLaws.{StopsAt, OneStop, StopsAtItsGate}
+use Rattle.shop_core.specs.Files.{IsSoundUpTo, AreEncoded, bodies_of}
 
 -- a counted frame's gate is 1
 pub not_both : (bytes body : List ℕ) → IsClosed bytes → IsCounted bytes body → ⊥

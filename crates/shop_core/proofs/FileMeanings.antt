@@ -10,10 +10,10 @@ use Rattle.record_codec.specs.Fields.{IsEncoding}
 use Rattle.record_codec.specs.Laws.{EncodingsAreApart}
 use Rattle.record_codec.specs.declared.entries.Entry.{Entry}
 use Rattle.shop_core.specs.Legal.{Continues}
-use Rattle.chain_store.specs.Laws.{StopsAt, OneStop, StopsAtItsGate, OneHistory, OneDamage, SoundOrDamaged, NotBegunIsNeither}
-use Rattle.chain_store.specs.Stands.{IsDamagedFile, bodies_of}
-use Rattle.chain_store.specs.Stands.IsDamagedFile.{in_header, no_frame, no_entry, not_next}
-use Rattle.chain_store.proofs.Stops.{not_both, same_entry}
+use Rattle.shop_core.specs.FileLaws.{StopsAt, OneStop, StopsAtItsGate, OneHistory, OneDamage, SoundOrDamaged, NotBegunIsNeither}
+use Rattle.shop_core.specs.Files.{IsDamagedFile, bodies_of}
+use Rattle.shop_core.specs.Files.IsDamagedFile.{in_header, no_frame, no_entry, not_next}
+use Rattle.shop_core.proofs.FileStops.{not_both, same_entry}
 
 -- a damage behind the header: the file stops there, and its gate isn't closed
 record Behind (file : List ℕ) (at : ℕ) : Type 0 where

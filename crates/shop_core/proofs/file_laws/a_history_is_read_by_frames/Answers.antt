@@ -1,5 +1,5 @@
-use Rattle.chain_store.proofs.Loads.{sound_begins, sound_goes_on, sound_ends}
-use Rattle.chain_store.proofs.laws.a_history_is_read_by_frames.Goals as goal
+use Rattle.shop_core.proofs.FileFrames.{sound_begins, sound_goes_on, sound_ends}
+use Rattle.shop_core.proofs.file_laws.a_history_is_read_by_frames.Goals as goal
 
 pub returns-clause-begins : goal.returns-clause-begins
 returns-clause-begins c = sound_begins c.a_file_is_walked.ensures.begins

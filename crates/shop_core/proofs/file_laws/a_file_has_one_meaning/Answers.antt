@@ -1,5 +1,5 @@
-use Rattle.chain_store.proofs.Meanings.{one_history, one_damage, sound_or_damaged, not_begun_is_neither}
-use Rattle.chain_store.proofs.laws.a_file_has_one_meaning.Goals as goal
+use Rattle.shop_core.proofs.FileMeanings.{one_history, one_damage, sound_or_damaged, not_begun_is_neither}
+use Rattle.shop_core.proofs.file_laws.a_file_has_one_meaning.Goals as goal
 
 pub returns-clause-history : goal.returns-clause-history
 returns-clause-history c = one_history c.a_file_stops_at_one_place.ensures.one c.a_file_stops_at_one_place.ensures.sound

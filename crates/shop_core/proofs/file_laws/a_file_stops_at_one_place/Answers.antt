@@ -1,5 +1,5 @@
-use Rattle.chain_store.proofs.Stops.{one_stop, stops_at_its_gate}
-use Rattle.chain_store.proofs.laws.a_file_stops_at_one_place.Goals as goal
+use Rattle.shop_core.proofs.FileStops.{one_stop, stops_at_its_gate}
+use Rattle.shop_core.proofs.file_laws.a_file_stops_at_one_place.Goals as goal
 
 pub returns-clause-one : goal.returns-clause-one
 returns-clause-one c = one_stop c.encodings_are_apart.ensures c.walks_over_a_file_agree.ensures

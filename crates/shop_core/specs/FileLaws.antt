@@ -6,7 +6,7 @@ use Rattle.journal.specs.Header.{IsBegun}
 use Rattle.record_codec.specs.Fields.{IsEncoding}
 use Rattle.record_codec.specs.declared.entries.Entry.{Entry}
 use Rattle.shop_core.specs.Legal.{Continues}
-use Rattle.chain_store.specs.Stands.{StandsFor, IsSoundUpTo, IsDamagedFile, bodies_of}
+use Rattle.shop_core.specs.Files.{StandsFor, IsSoundUpTo, IsDamagedFile, bodies_of}
 
 -- a file stands for at most one history
 abbrev pub OneHistory : Type 0

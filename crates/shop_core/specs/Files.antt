@@ -1,5 +1,5 @@
 -- What the bytes of a file stand for: nothing yet, the legal history of an issuer, or a damage at a byte.
-use Rattle.std.specs.Prelude.{◌⊎◌, ℕ, List, ◌∷◌, [], ◌++◌, map, drop}
+use Rattle.std.specs.Prelude.{◌⊎◌, ◌+◌, ◌*◌, ℕ, List, ◌∷◌, [], ◌++◌, length, map, drop}
 use Rattle.std.specs.List.{AllByRecursion}
 use Rattle.frames.specs.Frames.{IsCounted, IsDamaged}
 use Rattle.journal.specs.File.{IsFile}
@@ -15,6 +15,10 @@ use Rattle.shop_core.specs.declared.answers.Planned.TheVariants.{Again, Refused,
 -- the bodies of the frames that keep these entries
 abbrev pub bodies_of : List Entry → List (List ℕ)
 bodies_of entries = map entry_bytes entries
+
+-- the longest file of so many entries ends here: a header of 19 bytes, and 4101 a frame at most
+abbrev pub furthest_gate : List Entry → ℕ
+furthest_gate entries = 19 + 4101 * length entries
 
 -- each entry is this issuer's, and its fields are in the ranges of their bytes
 abbrev pub AreEncoded : List ℕ → List Entry → Type 0

@@ -1,19 +1,15 @@
--- Where a load stops, and how it goes on.
+-- How the frames of a file make a history.
 use Rattle.std.proofs.Common.{◌≡◌, ℕ, ◌+◌, List, [], ◌∷◌, ◌++◌, length, drop, sym, ◌∙◌, ap, subst}
 use Rattle.std.proofs.lemmas.List.{map-append}
-use Rattle.frames.specs.Frames.{IsCounted, IsClosed, IsDamaged}
+use Rattle.frames.specs.Frames.{IsCounted, IsClosed}
 use Rattle.journal.specs.Laws.{WalkBegins, WalkGoesOn, WalkEnds}
 use Rattle.journal.specs.Walk.{AreFrames}
-use Rattle.journal.specs.Step.{IsStep, IsNext}
-use Rattle.journal.specs.declared.reading.Step.{Step}
-use Rattle.journal.specs.declared.reading.Step.TheVariants.{Counted, Damaged}
 use Rattle.record_codec.specs.Bytes.{entry_bytes}
 use Rattle.record_codec.specs.Fields.{IsEncoding}
 use Rattle.record_codec.specs.declared.entries.Entry.{Entry}
-use Rattle.record_codec.specs.declared.faults.BadEntry.{BadEntry}
 use Rattle.shop_core.specs.Legal.{Legal, GoesOn}
-use Rattle.chain_store.specs.Laws.{SoundBegins, SoundGoesOn, SoundEnds}
-use Rattle.chain_store.specs.Stands.{IsSoundUpTo, AreEncoded, bodies_of}
+use Rattle.shop_core.specs.FileLaws.{SoundBegins, SoundGoesOn, SoundEnds}
+use Rattle.shop_core.specs.Files.{IsSoundUpTo, AreEncoded, bodies_of}
 
 pub encoded_more : (issuer : List ℕ) (entries : List Entry) (entry : Entry) → AreEncoded issuer entries → IsEncoding issuer entry (entry_bytes entry) → AreEncoded issuer (entries ++ entry ∷ [])
 encoded_more issuer [] entry all is = (is, tt)
@@ -34,19 +30,6 @@ sound_more goes_on issuer entries at file body entry legal sound counted encodin
       encoded = encoded_more issuer entries entry sound.encoded (subst (λ (b : List ℕ). IsEncoding issuer entry b) encoding.bytes encoding);
       legal = legal;
     }
-
-pub counted_step : (bytes body : List ℕ) (step : Step) (next : ℕ) → step ≡ Counted next → IsStep bytes step body → IsCounted bytes body
-counted_step bytes body step next e h = subst (λ (s : Step). IsStep bytes s body) e h
-
-pub damaged_step : (bytes body : List ℕ) (step : Step) → step ≡ Damaged → IsStep bytes step body → IsDamaged bytes
-damaged_step bytes body step e h = subst (λ (s : Step). IsStep bytes s body) e h
-
-pub next_step : (at next : ℕ) (body : List ℕ) (step : Step) → step ≡ Counted next → IsNext at step body → next ≡ at + 5 + length body
-next_step at next body step e h = (subst (λ (s : Step). IsNext at s body) e h).1
-
--- a fault of the bytes is no want of memory
-pub unread : (entry : Entry) (fault : BadEntry) (at : ℕ) → fault ≡ BadEntry.At at → fault ≡ BadEntry.NoMemory → ⊥
-unread entry fault at e h = absurd cc
 
 nothing_legal : (issuer : List ℕ) → Legal issuer []
 nothing_legal issuer [] after entry is = absurd cc

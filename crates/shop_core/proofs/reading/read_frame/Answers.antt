@@ -4,13 +4,13 @@ use Rattle.record_codec.specs.Fields.{IsEncoding}
 use Rattle.record_codec.specs.declared.entries.Entry.{Entry}
 use Rattle.shop_core.specs.Breaks.{IsBreak}
 use Rattle.shop_core.specs.Legal.{Continues}
-use Rattle.shop_core.specs.declared.audits.AuditEnd.TheVariants.{Broken}
+use Rattle.shop_core.specs.declared.reading.FileRead.TheVariants.{Broken}
 use Rattle.shop_core.specs.declared.audits.What.{What}
-use Rattle.chain_store.specs.Stands.{IsSoundUpTo}
-use Rattle.audit.specs.Verdict.{IsVerdict, next_place}
-use Rattle.audit.specs.Verdict.IsVerdict.{no_frame, no_entry, not_next}
-use Rattle.audit.proofs.Gates.{counted_step, damaged_step, next_step, unread}
-use Rattle.audit.proofs.auditing.audit_frame.Goals as goal
+use Rattle.shop_core.specs.Files.{IsSoundUpTo}
+use Rattle.shop_core.specs.Reading.{IsRead, next_place}
+use Rattle.shop_core.specs.Reading.IsRead.{no_frame, no_entry, not_next}
+use Rattle.shop_core.proofs.FileReadings.{counted_step, damaged_step, next_step, unread}
+use Rattle.shop_core.proofs.reading.read_frame.Goals as goal
 
 pub returns-in-Ok-Damaged-clause-seen : goal.returns-in-Ok-Damaged-clause-seen
 returns-in-Ok-Damaged-clause-seen g c tells =
@@ -30,8 +30,8 @@ returns-in-Err-At-clause-seen g c tells =
     (subst (λ (b : List ℕ). IsEncoding c.issuer.result.now entry b) (sym read) (subst (λ (n : List ℕ). IsEncoding n entry body) (sym c.issuer.ensures) encoding))) in
     no_entry s.issuer s.entries c.args.at body (c.requires.sound tells) counted none
 
-pub returns-in-None-clause-seen : goal.returns-in-None-clause-seen
-returns-in-None-clause-seen g c tells =
+pub returns-in-Ok-None-clause-seen : goal.returns-in-Ok-None-clause-seen
+returns-in-Ok-None-clause-seen g c tells =
     let s = c.args.state.now in
     let body = c.scan.new.body in
     let file = (g.D.Disk.told c.args.disk.now).content in
@@ -43,14 +43,14 @@ returns-in-None-clause-seen g c tells =
     (subst (λ (b : List ℕ). IsEncoding c.issuer.result.now c.in-Ok.entry b) c.as_slice.ensures.value c.in-Ok.ensures.found) in
     let new = c.add_entry.new.state in
     let added : Continues s.issuer s.entries c.in-Ok.entry × (new.issuer ≡ s.issuer) × (new.entries ≡ s.entries ++ c.in-Ok.entry ∷ []) =
-    rw c.in-None.is at c.in_ok-add_entry-in-Ok-Counted.ensures.added in
+    rw c.in-Ok-None.field-0-is at c.in-Ok-None.ensures.added in
     let more = c.a_history_is_read_by_frames.ensures.goes_on s.issuer s.entries c.args.at file body c.in-Ok.entry (c.requires.sound tells) counted encoding added.0 in
     subst (λ (n : List ℕ). IsSoundUpTo n new.entries c.in-Ok-Counted.next file) (sym added.1)
     (subst (λ (es : List Entry). IsSoundUpTo s.issuer es c.in-Ok-Counted.next file) (sym added.2)
     (subst (λ (k : ℕ). IsSoundUpTo s.issuer (s.entries ++ c.in-Ok.entry ∷ []) k file) (sym next) more))
 
-pub returns-in-Some-clause-seen : goal.returns-in-Some-clause-seen
-returns-in-Some-clause-seen g c tells =
+pub returns-in-Ok-Some-clause-seen : goal.returns-in-Ok-Some-clause-seen
+returns-in-Ok-Some-clause-seen g c tells =
     let s = c.args.state.now in
     let body = c.scan.new.body in
     let file = (g.D.Disk.told c.args.disk.now).content in
@@ -59,7 +59,7 @@ returns-in-Some-clause-seen g c tells =
     let encoding : IsEncoding s.issuer c.in-Ok.entry body =
     subst (λ (n : List ℕ). IsEncoding n c.in-Ok.entry body) c.issuer.ensures
     (subst (λ (b : List ℕ). IsEncoding c.issuer.result.now c.in-Ok.entry b) c.as_slice.ensures.value c.in-Ok.ensures.found) in
-    let why : (c.add_entry.new.state ≡ s) × (Continues s.issuer s.entries c.in-Ok.entry → ⊥) × IsBreak s.issuer s.entries c.in-Ok.entry (Some c.in-Some.why) =
-    rw c.in-Some.is at c.in_ok-add_entry-in-Ok-Counted.ensures.broken in
-    subst (λ (w : What). IsVerdict file (Broken (next_place s.entries) c.args.at w)) (sym c.word_of.ensures)
-    (not_next s.issuer s.entries c.args.at body c.in-Ok.entry c.in-Some.why (c.requires.sound tells) counted encoding why.1 why.2)
+    let why : (c.add_entry.new.state ≡ s) × (Continues s.issuer s.entries c.in-Ok.entry → ⊥) × IsBreak s.issuer s.entries c.in-Ok.entry (Some c.in-Ok-Some.why) =
+    rw c.in-Ok-Some.field-0-is at c.in-Ok-Some.ensures.broken in
+    subst (λ (w : What). IsRead file (Broken (next_place s.entries) c.args.at w)) (sym c.word_of.ensures)
+    (not_next s.issuer s.entries c.args.at body c.in-Ok.entry c.in-Ok-Some.why (c.requires.sound tells) counted encoding why.1 why.2)
