@@ -13,8 +13,8 @@ use Rattle.shop_core.specs.declared.answers.Reply.{Reply}
 use Rattle.shop_core.specs.declared.answers.Reply.TheVariants.{Taken, Again, Refused}
 use Rattle.shop_core.specs.Legal.{Continues}
 use Rattle.shop_core.specs.declared.answers.Planned.TheVariants.{Made}
-use Rattle.chain_store.specs.Loading.{furthest_gate}
-use Rattle.chain_store.specs.Stands.{AreEncoded, bodies_of, StandsAround, StandsBeforeOrWith}
+use Rattle.shop_core.specs.Files.{furthest_gate}
+use Rattle.shop_core.specs.Files.{AreEncoded, bodies_of, StandsAround, StandsBeforeOrWith}
 
 -- the disk reads as this history's file, with nothing pending, and its closing gate is at this place
 pub record Holds (history : History) (gate : ℕ) (t : Told) : Type 0 where

@@ -7,7 +7,7 @@ ghost use Rattle.shop_core.specs.Runs.{IsTaken};
 ghost use Rattle.record_codec.specs.declared.entries.Entry.TheVariants.{Notes};
 ghost use Rattle.std.specs.Int.{IsInRange};
 ghost use Rattle.shop_core.specs.Legal.{Continues};
-ghost use Rattle.chain_store.specs.Stands.{StandsFor, StandsBeforeOrWith};
+ghost use Rattle.shop_core.specs.Files.{StandsFor, StandsBeforeOrWith};
 ghost use Rattle.chain_store.specs.Ready.{IfNothingTaken, IsReady, Takes, Tears};
 
 use chain_disk::Disk;

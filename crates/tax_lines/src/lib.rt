@@ -4,12 +4,14 @@
 mod breakdown;
 mod classes;
 mod faults;
+mod laws;
 mod lines;
 #[cfg(test)]
 mod tests;
 mod totals;
 
-pub use breakdown::Breakdown;
+pub use breakdown::{Breakdown, MAX_LINES};
 pub use classes::LineKey;
 pub use faults::LinesFault;
-pub use lines::TaxLine;
+pub use laws::totals_are_small;
+pub use lines::{MAX_BASE, TaxLine};

@@ -1,10 +1,7 @@
-use Rattle.std.proofs.Common.{◌∙◌, ap}
+use Rattle.std.proofs.Common.{◌≡◌, ◌∙◌, ap, Err}
 use Rattle.std.specs.Prelude.{IsTrue}
-use Rattle.chain_disk.specs.Told.{Told}
-use Rattle.recovery.proofs.Opens.{others_before}
+use Rattle.chain_disk.specs.Told.{Told, synced}
+use Rattle.chain_store.specs.declared.causes.LoadFault.{LoadFault}
+use Rattle.recovery.specs.Opening.IsDiskLost.{not_synced}
+use Rattle.recovery.proofs.Opens.{left_begun, left_held, left_unloaded}
 use Rattle.recovery.proofs.opening.open_store.Goals as goal
-
-pub returns-in-Ok-load-clause-other : goal.returns-in-Ok-load-clause-other
-returns-in-Ok-load-clause-other g c =
-    others_before (λ f. f.cause) (λ f. g.D.Disk.told f.disk) (IsTrue g.D.Disk.tells) c.args.issuer.now (g.D.Disk.told c.args.disk) (g.D.Disk.told c.load.new.disk) c.open_loaded.result
-    (λ tells. ap (λ (t : Told). t.content) (c.load.ensures.same ∙ c.in-Ok.ensures.ok tells)) c.open_loaded.ensures.other
