@@ -1,11 +1,10 @@
 -- A store is ready at the history that its file was found to stand for.
-use Rattle.std.proofs.Common.{◌≡◌, ℕ, ◌≤◌, List, [], sym, subst, arith, Bool, IsTrue, Option, None, length}
+use Rattle.std.proofs.Common.{◌≡◌, ℕ, ◌≤◌, List, [], sym, subst, arith, Bool, IsTrue, Option, None}
 use Rattle.chain_disk.specs.Told.{Told, IsSettled}
 use Rattle.journal.specs.File.{IsAt, closing_gate}
 use Rattle.shop_core.specs.Files.{StandsFor, bodies_of, furthest_gate}
-use Rattle.record_codec.specs.declared.entries.Entry.{Entry}
 use Rattle.shop_core.specs.History.{History}
-use Rattle.chain_store.specs.Ready.{IsReady, Holds}
+use Rattle.chain_store.specs.Ready.{IsReady}
 
 -- of a file that was begun
 pub ready_empty : (tells : Bool) (issuer : List ℕ) (history : History) (stopped : Option ℕ) (gate : ℕ) (t : Told) → history ≡ record { issuer = issuer; entries = []; room = None } →

@@ -10,6 +10,7 @@ use Rattle.std.proofs.Common.{refl, None}
 use Rattle.chain_store.specs.Ready.{IsReady}
 use Rattle.journal.specs.Journal.{end_of, stopped_of}
 use Rattle.recovery.proofs.Readies.{ready_held}
+use Rattle.chain_store.specs.declared.causes.OpenCause.TheVariants as cause
 use Rattle.recovery.proofs.opening.open_held.Goals as goal
 
 pub at-requires : goal.at-requires
@@ -45,7 +46,9 @@ returns-clause-any_moment g c tells =
     (holds_on c.args.state.issuer c.args.state.entries old h.0.0 h.1)))
 
 pub returns-then-ne-clause-other : goal.returns-then-ne-clause-other
-returns-then-ne-clause-other g c = let apart : c.args.state.issuer ≡ c.args.issuer.now → ⊥ = search rules in (refl, apart, refl, refl)
+returns-then-ne-clause-other g c =
+    let apart : c.args.state.issuer ≡ c.args.issuer.now → ⊥ = search rules in
+    (ap (λ (n : List ℕ). cause.OtherIssuer n) c.issuer.ensures, apart, refl, refl)
 
 pub of-requires-clause-ready : goal.of-requires-clause-ready
 of-requires-clause-ready g c =
