@@ -24,6 +24,7 @@ pub struct PlainOutbox {
 }
 
 impl PlainOutbox {
+    /// The outbox of this history, which added nothing of its own yet.
     pub fn new(alloc: Global, state: State) -> PlainOutbox
         ensures state { result.state ≡ state }
         ensures own { result.own.items ≡ [] }
@@ -34,12 +35,14 @@ impl PlainOutbox {
         }
     }
 
+    /// The history as it is now.
     pub fn state(&self) -> &State
         ensures { result.now ≡ self.now.state }
     {
         &self.state
     }
 
+    /// Gives the history back.
     pub fn into_state(self) -> State
         ensures { result ≡ self.state }
     {
