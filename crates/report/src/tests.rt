@@ -3,7 +3,7 @@ use crate::{
     AnswerLine, Answers, Detail, answers_text, fault_text, listing_text, status_of, turns_text,
     verdict_text,
 };
-use agency_port::{Told, Turns};
+use agency_port::{Evidence, ReplyLine, Told, Turns};
 use amounts::Cents;
 use invoice_kinds::Kind;
 use journal::StoreFault;
@@ -277,6 +277,18 @@ fn ends_have_texts(rt: HostRuntime) -> Result<(), Fail> {
         fault: Word::TooMany,
     };
     let held = issuer()?;
+    let undelivered = Detail::Undelivered {
+        noted: 7,
+        records: 1_000_000,
+    };
+    let hole = Evidence::Hole {
+        unseen: 12,
+        seen: 13,
+    };
+    let forgotten = Evidence::Forgotten {
+        place: 1_000_000,
+        said: ReplyLine::First(Line::Correcto),
+    };
     let rows = [
         (Detail::Done, 0, ""),
         (Detail::Usage, 2, "verifactu: usage\n"),
@@ -292,6 +304,17 @@ fn ends_have_texts(rt: HostRuntime) -> Result<(), Fail> {
             },
             9,
             "verifactu: broken 1 seal\n",
+        ),
+        (undelivered, 8, "verifactu: undelivered 7 of 1000000\n"),
+        (
+            Detail::Contradiction(hole),
+            11,
+            "verifactu: contradiction at 12\n",
+        ),
+        (
+            Detail::Contradiction(forgotten),
+            11,
+            "verifactu: contradiction at 1000000\n",
         ),
         (Detail::NoMemory, 10, "verifactu: no memory\n"),
         (Detail::TooBig, 12, "verifactu: input too big\n"),
