@@ -1,11 +1,14 @@
 -- Lines of a script, read one after another.
 use mathlib.Core.Path.{fun_ext}
-use Rattle.std.proofs.Common.{◌≡◌, ◌∙◌, ℕ, ◌+◌, ◌≤◌, ◌<◌, List, [], ◌∷◌, ◌++◌, length, map, filter_map, count_by, refl, sym, ap, subst, append_assoc, length-append, arith, Option, Some, None, is_some, Bool, true, false, not, ◌==◌, nat_le, cond, if◌then◌else◌, get_or, codes, bytes_eq, Result, Ok, Err, IfOk, Vec, Global, IsUtf8}
+use Rattle.std.proofs.Common.{◌≡◌, ◌∙◌, ℕ, ◌+◌, ◌≤◌, ◌<◌, List, [], ◌∷◌, ◌++◌, length, map, filter_map, count_by, refl, sym, ap, subst, append_assoc, length-append, arith, Option, Some, None, is_some, Bool, true, false, not, ◌==◌, nat_le, cond, if◌then◌else◌, get_or, codes, bytes_eq, Result, Ok, Err, IfOk, IfSome, inl, inr, ◌&&◌, Vec, Global, IsUtf8}
 use Rattle.std.specs.BTreeMap.{btree_map_len}
-use Rattle.std.specs.Option.{option_or}
+use Rattle.std.specs.Int.{IsInRange}
+use Rattle.std.specs.Option.{ok_or, option_or}
 use Rattle.std.specs.Str.{is_utf8}
+use Rattle.std.specs.Str.Parse.{digits_value}
+use Rattle.amounts.specs.Text.{whole_text}
 use Rattle.std.specs.Str.Lines.{strip_carriage_return}
-use Rattle.std.proofs.lemmas.Bool.{both_ways}
+use Rattle.std.proofs.lemmas.Bool.{and_parts, both_ways, cases_Bool, leb-true}
 use Rattle.std.proofs.lemmas.Bool.Decides.{nat_tests}
 use Rattle.std.proofs.lemmas.List.{append-nil}
 use Rattle.std.proofs.lemmas.List.Elements.{filter_map-append}
@@ -15,6 +18,7 @@ use Rattle.std.proofs.lemmas.Str.{is_utf8-from_IsUtf8, IsUtf8-from_is_utf8}
 use Rattle.agency_rules.specs.Judgement.{verdict_for}
 use Rattle.agency_rules.specs.Plans.{fate_at}
 use Rattle.agency_rules.specs.declared.plans.Fate.{Fate}
+use Rattle.agency_rules.specs.declared.plans.Fate.TheVariants.{Lost, Taken, Stale, Again, Late}
 use Rattle.agency_rules.specs.declared.plans.PlannedFate.{PlannedFate}
 use Rattle.agency_rules.specs.declared.plans.PlannedVerdict.{PlannedVerdict}
 use Rattle.parties.specs.declared.name.Party.{Party}
@@ -24,18 +28,19 @@ use Rattle.shop_core.specs.declared.requests.Request.{Request}
 use Rattle.shop_core.specs.declared.words.Word.{Word}
 use Rattle.shop_core.specs.declared.words.Word.TheVariants as word
 use Rattle.script.specs.Cuts.{parts_of}
-use Rattle.script.specs.Fields.{and_then, word_or, unless_any, field_at, past, is_left, such}
+use Rattle.script.specs.Fields.{and_then, word_or, unless_any, first_field, field_at, past, is_left, such}
 use Rattle.script.specs.Numbers.{number_in}
 use Rattle.series.specs.Numbers.{is_num_serie}
-use Rattle.script.specs.Readings.{is_key, is_nif}
+use Rattle.script.specs.Planned.{IsPlannedVerdict, IsPlannedFate, IsPlannedCall}
+use Rattle.script.specs.Readings.{is_key, is_nif, fate_of}
 use Rattle.script.specs.Kept.{Answers, IsNew, IsRead, known, party_of}
-use Rattle.script.specs.Lines.{Above, above_of, said, line_said, fields_said, form_said, clock_said, customer_said, command_said, request_said, name_said, has_commands, is_skipped, verdict_of, verdict_said, wait_said, fate_said, link_said, planned_said, clock_in, ask_in, party_in, verdict_in, wait_in, fate_in, is_command, is_customer}
+use Rattle.script.specs.Lines.{Above, above_of, said, line_said, fields_said, form_said, clock_said, customer_said, command_said, request_said, name_said, has_commands, is_skipped, verdict_of, verdict_said, wait_said, late_said, fate_said, link_said, planned_said, clock_in, ask_in, party_in, verdict_in, wait_in, fate_in, is_command, is_customer}
 use Rattle.script.specs.Script.{EachSays, IsFirstBad}
 use Rattle.script.specs.declared.customers.Customers.{Customers}
 use Rattle.script.specs.declared.faults.Fault.{Fault}
 use Rattle.script.specs.declared.faults.Fault.TheVariants as fault
 use Rattle.script.specs.declared.forms.Form.{Form}
-use Rattle.script.specs.declared.limits.TheConstants.{MAX_START, MAX_STEP, MAX_CUSTOMERS, MAX_COMMANDS, MAX_NTH, MAX_CODE, MAX_WAIT, MAX_CALL}
+use Rattle.script.specs.declared.limits.TheConstants.{MAX_START, MAX_STEP, MAX_CUSTOMERS, MAX_COMMANDS, MAX_NTH, MAX_CODE, MAX_WAIT, MAX_CALL, MAX_LATE}
 use Rattle.script.specs.declared.lines.Line.{Line}
 use Rattle.script.specs.declared.lines.Line.TheVariants as line
 use Rattle.script.specs.declared.planning.Judging.{Judging}
@@ -83,14 +88,14 @@ worded_gives P None answer h = h
 worded_gives P (Some w) answer h = tt
 
 -- what holds of each line that may stand below these
-record Gives (form : Form) (above : Above) (P : Line → Type 0) : Type 0 where
-  skip : P line.Skip
-  clock : (start step : ℕ) → above.clock ≡ None → P (line.Clock start step)
-  customer : (key : List ℕ) (party : Party) → above.party key ≡ None → P (line.Customer key party)
-  command : (ask : Asked) → has_commands form ≡ true → above.commands < MAX_COMMANDS → P (line.Command ask)
-  verdict : (verdict : PlannedVerdict) → P (line.Verdict verdict)
-  wait : (seconds : ℕ) → above.wait ≡ None → P (line.Wait seconds)
-  link : (fate : PlannedFate) → P (line.Link fate)
+pub record Gives (form : Form) (above : Above) (P : Line → Type 0) : Type 0 where
+  pub skip : P line.Skip
+  pub clock : (start step : ℕ) → above.clock ≡ None → P (line.Clock start step)
+  pub customer : (key : List ℕ) (party : Party) → above.party key ≡ None → P (line.Customer key party)
+  pub command : (ask : Asked) → has_commands form ≡ true → above.commands < MAX_COMMANDS → P (line.Command ask)
+  pub verdict : (verdict : PlannedVerdict) → IsPlannedVerdict verdict → verdict_for above.verdicts verdict.num verdict.n ≡ None → P (line.Verdict verdict)
+  pub wait : (seconds : ℕ) → seconds ≤ MAX_WAIT → above.wait ≡ None → P (line.Wait seconds)
+  pub link : (fate : PlannedFate) → IsPlannedCall fate → fate_at above.fates fate.call ≡ None → P (line.Link fate)
 
 clock_shape : (P : Line → Type 0) (above : Above) (a b : Result ℕ Word) (o : Option Word) → ((start step : ℕ) → above.clock ≡ None → P (line.Clock start step))
     → IfOk (and_then a (λ start. and_then b (λ step. word_or o (unless_any (when (is_some above.clock) word.Twice ∷ []) (Ok (line.Clock start step)))))) P
@@ -121,28 +126,90 @@ command_shape P true false (Ok till) (Err w) r h = tt
 command_shape P true false (Ok till) (Ok serial) (Err w) h = tt
 command_shape P true false (Ok till) (Ok serial) (Ok request) h = h (record { till = till; serial = serial; request = request }) refl refl
 
-verdict_shape : (P : Line → Type 0) (judging : Judging) (a : Result (List ℕ) Word) (b d : Result ℕ Word) (o : Option Word) (twice : List ℕ → ℕ → Option Word)
-    → ((verdict : PlannedVerdict) → P (line.Verdict verdict))
-    → IfOk (and_then a (λ num. and_then b (λ n. and_then d (λ code. word_or o (word_or (twice num n) (Ok (line.Verdict (record { num = num; n = n; verdict = verdict_of judging code })))))))) P
-verdict_shape P judging (Err w) b d o twice h = tt
-verdict_shape P judging (Ok num) (Err w) d o twice h = tt
-verdict_shape P judging (Ok num) (Ok n) (Err w) o twice h = tt
-verdict_shape P judging (Ok num) (Ok n) (Ok code) (Some w) twice h = tt
-verdict_shape P judging (Ok num) (Ok n) (Ok code) None twice h =
-    let verdict : PlannedVerdict = record { num = num; n = n; verdict = verdict_of judging code } in worded_gives P (twice num n) (Ok (line.Verdict verdict)) (h verdict)
+-- a number is in the range that it was read for
 
-wait_shape : (P : Line → Type 0) (above : Above) (a : Result ℕ Word) (o : Option Word) → ((seconds : ℕ) → above.wait ≡ None → P (line.Wait seconds))
+ranged : (low high n : ℕ) (whole : Bool) → IfSome (when (whole && nat_le low n && nat_le n high) n) (IsInRange low high)
+ranged low high n whole =
+    elim (cases_Bool (whole && nat_le low n && nat_le n high)) [
+      | inl yes ↦
+          let outer = and_parts (whole && nat_le low n) (nat_le n high) yes in
+          let inner = and_parts whole (nat_le low n) outer.0 in
+          let fits : IsInRange low high n = (leb-true low n inner.1, leb-true n high outer.1) in
+          rw yes fits
+      | inr no ↦ rw no tt
+    ]
+
+found : {A : Type 0} (Q : A → Type 0) (o : Option A) (w : Word) → IfSome o Q → IfOk (ok_or o w) Q
+found Q None w h = tt
+found Q (Some x) w h = h
+
+first_range : (low high : ℕ) (fields : List (List ℕ)) (w : Word) → IfOk (first_field fields (number_in low high) w) (IsInRange low high)
+first_range low high [] w = tt
+first_range low high (field ∷ fields) w =
+    let n = digits_value 10 field in
+    found (IsInRange low high) (number_in low high field) w (ranged low high n (bytes_eq field (whole_text n)))
+
+late_shape : (a : Result ℕ Word) (o : Option Word) → IfOk a (IsInRange 1 MAX_LATE) → IfOk (and_then a (λ calls. word_or o (Ok (Late calls)))) IsPlannedFate
+late_shape (Err w) o h = tt
+late_shape (Ok calls) (Some w) h = tt
+late_shape (Ok calls) None h = h
+
+word_shape : (a : Result Fate Word) (o : Option Word) → IfOk a IsPlannedFate → IfOk (and_then a (λ fate. word_or o (Ok fate))) IsPlannedFate
+word_shape (Err w) o h = tt
+word_shape (Ok fate) (Some w) h = tt
+word_shape (Ok fate) None h = h
+
+one_word : (a b c d : Bool) → IfSome (first_of (when a Lost ∷ when b Taken ∷ when c Stale ∷ when d Again ∷ [])) IsPlannedFate
+one_word true b c d = tt
+one_word false true c d = tt
+one_word false false true d = tt
+one_word false false false true = tt
+one_word false false false false = tt
+
+fate_choice : (b : Bool) (one other : Result Fate Word) → IfOk one IsPlannedFate → IfOk other IsPlannedFate → IfOk (if b then one else other) IsPlannedFate
+fate_choice true one other h k = h
+fate_choice false one other h k = k
+
+fate_fits : (fields : List (List ℕ)) → IfOk (fate_said fields) IsPlannedFate
+fate_fits [] = tt
+fate_fits (field ∷ fields) =
+    let left : Option Word = first_of (when (is_left fields) word.Fields ∷ []) in
+    fate_choice (bytes_eq field (codes "late")) (late_said fields) (and_then (ok_or (fate_of field) word.Fate) (λ (fate : Fate). word_or left (Ok fate)))
+    (late_shape (field_at 0 fields (number_in 1 MAX_LATE) word.Number) (first_of (when (is_left (past 1 fields)) word.Fields ∷ [])) (first_range 1 MAX_LATE fields word.Number))
+    (word_shape (ok_or (fate_of field) word.Fate) left
+    (found IsPlannedFate (fate_of field) word.Fate (one_word (bytes_eq field (codes "lost")) (bytes_eq field (codes "taken")) (bytes_eq field (codes "stale")) (bytes_eq field (codes "again")))))
+
+verdict_fits : (judging : Judging) (num : List ℕ) (n code : ℕ) → IsInRange 1 MAX_NTH n → IsInRange 1 MAX_CODE code
+    → IsPlannedVerdict (record { num = num; n = n; verdict = verdict_of judging code })
+verdict_fits judging.Vet num n code h k = (h, k)
+verdict_fits judging.Warn num n code h k = (h, k)
+
+verdict_shape : (P : Line → Type 0) (judging : Judging) (above : Above) (a : Result (List ℕ) Word) (b d : Result ℕ Word) (o : Option Word)
+    → IfOk b (IsInRange 1 MAX_NTH) → IfOk d (IsInRange 1 MAX_CODE)
+    → ((verdict : PlannedVerdict) → IsPlannedVerdict verdict → verdict_for above.verdicts verdict.num verdict.n ≡ None → P (line.Verdict verdict))
+    → IfOk (and_then a (λ num. and_then b (λ n. and_then d (λ code. word_or o (unless_any (when (is_some (verdict_for above.verdicts num n)) word.Twice ∷ []) (Ok (line.Verdict (record { num = num; n = n; verdict = verdict_of judging code })))))))) P
+verdict_shape P judging above (Err w) b d o nth coded h = tt
+verdict_shape P judging above (Ok num) (Err w) d o nth coded h = tt
+verdict_shape P judging above (Ok num) (Ok n) (Err w) o nth coded h = tt
+verdict_shape P judging above (Ok num) (Ok n) (Ok code) (Some w) nth coded h = tt
+verdict_shape P judging above (Ok num) (Ok n) (Ok code) None nth coded h =
+    let verdict : PlannedVerdict = record { num = num; n = n; verdict = verdict_of judging code } in
+    once P (verdict_for above.verdicts num n) (line.Verdict verdict) (h verdict (verdict_fits judging num n code nth coded))
+
+wait_shape : (P : Line → Type 0) (above : Above) (a : Result ℕ Word) (o : Option Word) → IfOk a (IsInRange 0 MAX_WAIT)
+    → ((seconds : ℕ) → seconds ≤ MAX_WAIT → above.wait ≡ None → P (line.Wait seconds))
     → IfOk (and_then a (λ seconds. word_or o (unless_any (when (is_some above.wait) word.Twice ∷ []) (Ok (line.Wait seconds))))) P
-wait_shape P above (Err w) o h = tt
-wait_shape P above (Ok seconds) (Some w) h = tt
-wait_shape P above (Ok seconds) None h = once P above.wait (line.Wait seconds) (h seconds)
+wait_shape P above (Err w) o range h = tt
+wait_shape P above (Ok seconds) (Some w) range h = tt
+wait_shape P above (Ok seconds) None range h = once P above.wait (line.Wait seconds) (h seconds range.1)
 
-link_shape : (P : Line → Type 0) (a : Result ℕ Word) (b : Result Fate Word) (twice : ℕ → Option Word) → ((fate : PlannedFate) → P (line.Link fate))
-    → IfOk (and_then a (λ call. and_then b (λ fate. word_or (twice call) (Ok (line.Link (record { call = call; fate = fate })))))) P
-link_shape P (Err w) b twice h = tt
-link_shape P (Ok call) (Err w) twice h = tt
-link_shape P (Ok call) (Ok fate) twice h =
-    let planned : PlannedFate = record { call = call; fate = fate } in worded_gives P (twice call) (Ok (line.Link planned)) (h planned)
+link_shape : (P : Line → Type 0) (above : Above) (a : Result ℕ Word) (b : Result Fate Word) → IfOk a (IsInRange 1 MAX_CALL) → IfOk b IsPlannedFate
+    → ((fate : PlannedFate) → IsPlannedCall fate → fate_at above.fates fate.call ≡ None → P (line.Link fate))
+    → IfOk (and_then a (λ call. and_then b (λ fate. unless_any (when (is_some (fate_at above.fates call)) word.Twice ∷ []) (Ok (line.Link (record { call = call; fate = fate })))))) P
+link_shape P above (Err w) b range fits h = tt
+link_shape P above (Ok call) (Err w) range fits h = tt
+link_shape P above (Ok call) (Ok fate) range fits h =
+    let planned : PlannedFate = record { call = call; fate = fate } in once P (fate_at above.fates call) (line.Link planned) (h planned (range, fits))
 
 command_gives : (form : Form) (above : Above) (P : Line → Type 0) → Gives form above P → (command : Command) (fields : List (List ℕ)) → IfOk (command_said form above command fields) P
 command_gives form above P g command fields =
@@ -151,9 +218,9 @@ command_gives form above P g command fields =
 
 verdict_gives : (form : Form) (above : Above) (P : Line → Type 0) → Gives form above P → (judging : Judging) (fields : List (List ℕ)) → IfOk (verdict_said judging above fields) P
 verdict_gives form above P g judging fields =
-    verdict_shape P judging (field_at 0 fields (such is_num_serie) word.Num) (field_at 1 fields (number_in 1 MAX_NTH) word.Number)
+    verdict_shape P judging above (field_at 0 fields (such is_num_serie) word.Num) (field_at 1 fields (number_in 1 MAX_NTH) word.Number)
     (field_at 2 fields (number_in 1 MAX_CODE) word.Number) (first_of (when (is_left (past 3 fields)) word.Fields ∷ []))
-    (λ num n. first_of (when (is_some (verdict_for above.verdicts num n)) word.Twice ∷ [])) g.verdict
+    (first_range 1 MAX_NTH (past 1 fields) word.Number) (first_range 1 MAX_CODE (past 2 fields) word.Number) g.verdict
 
 choice : (P : Line → Type 0) (b : Bool) (one other : Result Line Word) → IfOk one P → IfOk other P → IfOk (if b then one else other) P
 choice P true one other h k = h
@@ -167,10 +234,11 @@ planned_gives form above P g verb fields =
     choice P (bytes_eq verb (codes "vet")) (verdict_said judging.Vet above fields) warned (verdict_gives form above P g judging.Vet fields)
     (choice P (bytes_eq verb (codes "warn")) (verdict_said judging.Warn above fields) waited (verdict_gives form above P g judging.Warn fields)
     (choice P (bytes_eq verb (codes "wait")) (wait_said above fields) linked
-    (wait_shape P above (field_at 0 fields (number_in 0 MAX_WAIT) word.Number) (first_of (when (is_left (past 1 fields)) word.Fields ∷ [])) g.wait)
+    (wait_shape P above (field_at 0 fields (number_in 0 MAX_WAIT) word.Number) (first_of (when (is_left (past 1 fields)) word.Fields ∷ []))
+    (first_range 0 MAX_WAIT fields word.Number) g.wait)
     (choice P (bytes_eq verb (codes "link")) (link_said above fields) (Err word.Verb)
-    (link_shape P (field_at 0 fields (number_in 1 MAX_CALL) word.Number) (fate_said (past 1 fields))
-    (λ call. first_of (when (is_some (fate_at above.fates call)) word.Twice ∷ [])) g.link) tt)))
+    (link_shape P above (field_at 0 fields (number_in 1 MAX_CALL) word.Number) (fate_said (past 1 fields))
+    (first_range 1 MAX_CALL fields word.Number) (fate_fits (past 1 fields)) g.link) tt)))
 
 form_gives : (form : Form) (above : Above) (P : Line → Type 0) → Gives form above P → (verb : List ℕ) (fields : List (List ℕ)) → IfOk (form_said form above verb fields) P
 form_gives form above P g verb fields =
@@ -196,7 +264,7 @@ fields_give : (form : Form) (above : Above) (P : Line → Type 0) → Gives form
 fields_give form above P g [] = tt
 fields_give form above P g (verb ∷ fields) = form_gives form above P g verb fields
 
-line_gives : (form : Form) (above : Above) (P : Line → Type 0) → Gives form above P → (text : List ℕ) (meaning : Line) → line_said form above text ≡ Ok meaning → P meaning
+pub line_gives : (form : Form) (above : Above) (P : Line → Type 0) → Gives form above P → (text : List ℕ) (meaning : Line) → line_said form above text ≡ Ok meaning → P meaning
 line_gives form above P g text meaning e =
     let fields = fields_said form above (parts_of 32 text) in
     let utf8 = first_of (when (not (is_utf8 text)) word.Utf8 ∷ []) in
@@ -210,9 +278,9 @@ said_is_new form above text meaning e =
       clock = λ start step none. none;
       customer = λ key party none. none;
       command = λ ask full few. few;
-      verdict = λ verdict. tt;
-      wait = λ seconds none. none;
-      link = λ fate. tt;
+      verdict = λ verdict fits none. tt;
+      wait = λ seconds few none. none;
+      link = λ fate fits none. tt;
     }) text meaning e
 
 -- without commands no line asks for anything
@@ -224,9 +292,9 @@ no_ask form above text meaning none e =
       clock = λ start step first. refl;
       customer = λ key party first. refl;
       command = λ ask full few. absurd (both_ways _ none full);
-      verdict = λ verdict. refl;
-      wait = λ seconds first. refl;
-      link = λ fate. refl;
+      verdict = λ verdict fits first. refl;
+      wait = λ seconds few first. refl;
+      link = λ fate fits first. refl;
     }) text meaning e
 
 skipped : (meaning : Line) (meanings : List Line) → ask_in meaning ≡ None → filter_map ask_in meanings ≡ [] → filter_map ask_in (meaning ∷ meanings) ≡ []
@@ -242,7 +310,7 @@ no_asks form before (l ∷ ls) (m ∷ ms) none h =
 
 -- what is above one line more
 
-abbrev with_line : Above → Line → Above
+abbrev pub with_line : Above → Line → Above
 with_line above meaning = record {
   clock = option_or above.clock (clock_in meaning);
   commands = above.commands + count_by is_command (meaning ∷ []);
@@ -267,7 +335,7 @@ same_above : (one other : Above) → IsSame one other → one ≡ other
 same_above one other s =
     let party : one.party ≡ other.party = fun_ext s.party in rw (s.clock, s.commands, s.customers, party, s.verdicts, s.wait, s.fates) refl
 
-above_more : (before : List Line) (meaning : Line) → above_of (before ++ meaning ∷ []) ≡ with_line (above_of before) meaning
+pub above_more : (before : List Line) (meaning : Line) → above_of (before ++ meaning ∷ []) ≡ with_line (above_of before) meaning
 above_more before meaning =
     same_above (above_of (before ++ meaning ∷ [])) (with_line (above_of before) meaning) (record {
       clock = first_more clock_in before meaning;

@@ -1,6 +1,7 @@
 // Scripts: what their lines say, or the first bad line.
 ghost use Rattle.std.specs.Prelude.{◌≡◌, ◌≤◌, ◌<◌, IfOk, ◌++◌, ◌∷◌, [], List, length};
 ghost use Rattle.script.specs.Kept.{IsRead, IsNew, Reads, known, script_kept};
+ghost use Rattle.script.specs.Planned.{IsPlanned};
 ghost use Rattle.script.specs.Script.{IsScript};
 ghost use Rattle.script.specs.declared.forms.Form.TheVariants.{NoCommands};
 ghost use Rattle.script.specs.declared.limits.TheConstants.{MAX_COMMANDS};
@@ -133,6 +134,7 @@ pub fn read_script(alloc: Global, bytes: &[u8], form: Form) -> Result<Script, Sc
     requires { length bytes.now < 4_294_967_295 }
     ensures script { IsScript form bytes.now result }
     ensures few { IfOk result (λ script. length script.asks ≤ MAX_COMMANDS) }
+    ensures plan { IfOk result (λ script. IsPlanned script.plan) }
     ensures commands { form ≡ NoCommands → IfOk result (λ script. script.asks ≡ []) }
 {
     let mut lines = Parts::of(bytes, b'\n');

@@ -1,4 +1,4 @@
-use Rattle.std.proofs.Common.{◌∙◌, ◌++◌, ◌∷◌, ◌≤◌, refl, sym, ap, subst, arith, length, List, ℕ, [], ◌==◌, unwrap_or}
+use Rattle.std.proofs.Common.{◌∙◌, ◌++◌, ◌∷◌, ◌≤◌, refl, sym, ap, subst, arith, length, List, ◌≡◌, ℕ, [], ◌==◌, unwrap_or}
 use Rattle.std.proofs.lemmas.List.Splits.{length-slice_split}
 use Rattle.std.proofs.lemmas.List.Sums.{count_by-le-length}
 use Rattle.std.specs.Str.Lines.{strip_carriage_return}
@@ -7,8 +7,10 @@ use Rattle.pacing.specs.declared.pace.TheConstants.{FIRST_WAIT}
 use Rattle.script.specs.Cuts.{lines_of}
 use Rattle.script.specs.Kept.{known}
 use Rattle.script.specs.Lines.{Above, has_commands}
-use Rattle.script.specs.Script.{EachSays}
+use Rattle.script.specs.Script.{EachSays, plan_of}
 use Rattle.script.specs.declared.scripts.Script.{Script}
+use Rattle.script.specs.Planned.{IsPlanned}
+use Rattle.script.proofs.Planning.{plan_sound}
 use Rattle.script.proofs.Reading.{to_come, said_is_new, next_line, all_read, no_asks}
 use Rattle.script.proofs.scripts.read_script.Goals as goal
 
@@ -68,3 +70,9 @@ returns-clause-commands c = λ none.
     let inv = c.loop-text.invariant in
     ap (λ (script : Script). script.asks) c.into_script.ensures ∙ inv.partway.good.asks
     ∙ no_asks c.args.form [] inv.front inv.meanings (ap has_commands none) inv.partway.each
+
+pub returns-clause-plan : goal.returns-clause-plan
+returns-clause-plan c =
+    let inv = c.loop-text.invariant in
+    let is : (planned_above (known c.loop-text.read)) ≡ plan_of inv.meanings = ap planned_above inv.partway.good.above in
+    rw (c.into_script.ensures) (subst IsPlanned (sym is) (plan_sound c.args.form inv.front inv.meanings inv.partway.each))
