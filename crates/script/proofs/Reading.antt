@@ -131,12 +131,12 @@ command_shape P true false (Ok till) (Ok serial) (Ok request) h = h (record { ti
 ranged : (low high n : ℕ) (whole : Bool) → IfSome (when (whole && nat_le low n && nat_le n high) n) (IsInRange low high)
 ranged low high n whole =
     elim (cases_Bool (whole && nat_le low n && nat_le n high)) [
-      | inl yes ↦
-          let outer = and_parts (whole && nat_le low n) (nat_le n high) yes in
+      | inl holds ↦
+          let outer = and_parts (whole && nat_le low n) (nat_le n high) holds in
           let inner = and_parts whole (nat_le low n) outer.0 in
           let fits : IsInRange low high n = (leb-true low n inner.1, leb-true n high outer.1) in
-          rw yes fits
-      | inr no ↦ rw no tt
+          rw holds fits
+      | inr fails ↦ rw fails tt
     ]
 
 found : {A : Type 0} (Q : A → Type 0) (o : Option A) (w : Word) → IfSome o Q → IfOk (ok_or o w) Q

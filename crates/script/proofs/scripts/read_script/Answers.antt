@@ -10,7 +10,7 @@ use Rattle.script.specs.Lines.{Above, has_commands}
 use Rattle.script.specs.Script.{EachSays, plan_of}
 use Rattle.script.specs.declared.scripts.Script.{Script}
 use Rattle.script.specs.Planned.{IsPlanned}
-use Rattle.script.proofs.Planning.{plan_sound}
+use Rattle.script.proofs.Plans.{plan_sound}
 use Rattle.script.proofs.Reading.{to_come, said_is_new, next_line, all_read, no_asks}
 use Rattle.script.proofs.scripts.read_script.Goals as goal
 
@@ -74,5 +74,6 @@ returns-clause-commands c = λ none.
 pub returns-clause-plan : goal.returns-clause-plan
 returns-clause-plan c =
     let inv = c.loop-text.invariant in
-    let is : (planned_above (known c.loop-text.read)) ≡ plan_of inv.meanings = ap planned_above inv.partway.good.above in
-    rw (c.into_script.ensures) (subst IsPlanned (sym is) (plan_sound c.args.form inv.front inv.meanings inv.partway.each))
+    let is : c.into_script.result.plan ≡ plan_of inv.meanings =
+    ap (λ (script : Script). script.plan) c.into_script.ensures ∙ ap planned_above inv.partway.good.above in
+    subst IsPlanned (sym is) (plan_sound c.args.form inv.front inv.meanings inv.partway.each)

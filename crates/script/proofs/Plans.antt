@@ -1,7 +1,7 @@
 -- What the lines plan is in its ranges, and stands once.
-use Rattle.std.proofs.Common.{◌≡◌, ◌∙◌, ℕ, ◌+◌, ◌≤◌, List, [], ◌∷◌, ◌++◌, count_by, filter_map, refl, sym, ap, subst, arith, inl, inr, Option, Some, None, Bool, true, false, ◌&&◌, ◌==◌, bytes_eq, cond, find, option_map, unwrap_or, Ok}
+use Rattle.std.proofs.Common.{◌≡◌, ◌∙◌, ℕ, ◌+◌, ◌≤◌, List, [], ◌∷◌, ◌++◌, count_by, filter_map, refl, sym, ap, subst, arith, inl, inr, Option, Some, None, Bool, true, false, ◌&&◌, ◌==◌, bytes_eq, cond, find, option_map, unwrap_or, Ok, append_assoc, IfSome}
 use Rattle.std.specs.List.{AllByRecursion}
-use Rattle.std.specs.Option.{ForSome, option_or}
+use Rattle.std.specs.Option.{option_or}
 use Rattle.std.proofs.lemmas.Bool.{and_parts, cases_Bool, eqb-true}
 use Rattle.std.proofs.lemmas.List.{append-nil}
 use Rattle.std.proofs.lemmas.List.Sums.{sum_by-append}
@@ -24,7 +24,7 @@ use Rattle.script.proofs.Reading.{Gives, line_gives, with_line, above_more}
 record Sound (verdicts : List PlannedVerdict) (wait : Option ℕ) (fates : List PlannedFate) : Type 0 where
   verdicts_fit : AllByRecursion IsPlannedVerdict verdicts
   fates_fit : AllByRecursion IsPlannedCall fates
-  wait_fits : ForSome wait (λ seconds. seconds ≤ MAX_WAIT)
+  wait_fits : IfSome wait (λ seconds. seconds ≤ MAX_WAIT)
   one_verdict : (num : List ℕ) (n : ℕ) → count_by (is_on num n) verdicts ≤ 1
   one_fate : (call : ℕ) → count_by (is_of call) fates ≤ 1
 
@@ -43,14 +43,16 @@ none_counted p f [] e = refl
 none_counted {A} {B} p f (x ∷ xs) e =
     let no = found_none p f (p x) x xs e in
     let rest : option_map f (find p xs) ≡ None = subst (λ (b : Bool). option_map f (cond b (Some x) (find p xs)) ≡ None) no e in
-    ap (λ b. cond b 1 0 + count_by p xs) no ∙ none_counted p f xs rest
+    let zero : cond (p x) 1 0 ≡ 0 = ap (λ b. cond b 1 0) no in
+    let whole : cond (p x) 1 0 + count_by p xs ≡ 0 = omega (arith, zero, none_counted p f xs rest) in
+    whole
 
 one_more : {A : Type 0} (p : A → Bool) (xs : List A) (x : A) → count_by p xs ≤ 1 → (p x ≡ true → count_by p xs ≡ 0) → count_by p (xs ++ x ∷ []) ≤ 1
 one_more {A} p xs x few none =
-    let sum = sum_by-append (λ (y : A). cond (p y) 1 0) xs (x ∷ []) in
+    let sum : count_by p (xs ++ x ∷ []) ≡ count_by p xs + (cond (p x) 1 0 + 0) = sum_by-append (λ (y : A). cond (p y) 1 0) xs (x ∷ []) in
     elim (cases_Bool (p x)) [
-      | inl yes ↦ let one : cond (p x) 1 0 ≡ 1 = ap (λ b. cond b 1 0) yes in omega (arith, sum, one, none yes)
-      | inr no ↦ let zero : cond (p x) 1 0 ≡ 0 = ap (λ b. cond b 1 0) no in omega (arith, sum, zero, few)
+      | inl holds ↦ let one : cond (p x) 1 0 ≡ 1 = ap (λ b. cond b 1 0) holds in omega (arith, sum, one, none holds)
+      | inr fails ↦ let zero : cond (p x) 1 0 ≡ 0 = ap (λ b. cond b 1 0) fails in omega (arith, sum, zero, few)
     ]
 
 unplanned : (verdicts : List PlannedVerdict) (wait : Option ℕ) (fates : List PlannedFate) → Sound verdicts wait fates
@@ -125,7 +127,7 @@ all_sound form before (l ∷ ls) (m ∷ ms) h s =
     let one : IsSound (above_of (before ++ m ∷ [])) = subst IsSound (sym (above_more before m)) (said_sound form (above_of before) l m h.0 s) in
     subst (λ (b : List Line). IsSound (above_of b)) (append_assoc before (m ∷ []) ms) (all_sound form (before ++ m ∷ []) ls ms h.1 one)
 
-waits : (o : Option ℕ) → ForSome o (λ seconds. seconds ≤ MAX_WAIT) → unwrap_or o FIRST_WAIT ≤ MAX_WAIT
+waits : (o : Option ℕ) → IfSome o (λ seconds. seconds ≤ MAX_WAIT) → unwrap_or o FIRST_WAIT ≤ MAX_WAIT
 waits None h = omega arith
 waits (Some seconds) h = h
 
