@@ -43,16 +43,16 @@ none_counted p f [] e = refl
 none_counted {A} {B} p f (x ∷ xs) e =
     let no = found_none p f (p x) x xs e in
     let rest : option_map f (find p xs) ≡ None = subst (λ (b : Bool). option_map f (cond b (Some x) (find p xs)) ≡ None) no e in
-    let zero : cond (p x) 1 0 ≡ 0 = ap (λ b. cond b 1 0) no in
-    let whole : cond (p x) 1 0 + count_by p xs ≡ 0 = omega (arith, zero, none_counted p f xs rest) in
-    whole
+    let zero : ◌≡◌ {A = ℕ} (cond (p x) 1 0) 0 = ap (λ (b : Bool). cond {A = ℕ} b 1 0) no in
+    let parts : count_by p (x ∷ xs) ≡ (0 + cond (p x) 1 0) + count_by p xs = sum_by-append (λ (y : A). cond (p y) 1 0) (x ∷ []) xs in
+    omega (arith, parts, zero, none_counted p f xs rest)
 
 one_more : {A : Type 0} (p : A → Bool) (xs : List A) (x : A) → count_by p xs ≤ 1 → (p x ≡ true → count_by p xs ≡ 0) → count_by p (xs ++ x ∷ []) ≤ 1
 one_more {A} p xs x few none =
-    let sum : count_by p (xs ++ x ∷ []) ≡ count_by p xs + (cond (p x) 1 0 + 0) = sum_by-append (λ (y : A). cond (p y) 1 0) xs (x ∷ []) in
+    let sum : count_by p (xs ++ x ∷ []) ≡ count_by p xs + (0 + cond (p x) 1 0) = sum_by-append (λ (y : A). cond (p y) 1 0) xs (x ∷ []) in
     elim (cases_Bool (p x)) [
-      | inl holds ↦ let one : cond (p x) 1 0 ≡ 1 = ap (λ b. cond b 1 0) holds in omega (arith, sum, one, none holds)
-      | inr fails ↦ let zero : cond (p x) 1 0 ≡ 0 = ap (λ b. cond b 1 0) fails in omega (arith, sum, zero, few)
+      | inl holds ↦ let one : ◌≡◌ {A = ℕ} (cond (p x) 1 0) 1 = ap (λ (b : Bool). cond {A = ℕ} b 1 0) holds in omega (arith, sum, one, none holds)
+      | inr fails ↦ let zero : ◌≡◌ {A = ℕ} (cond (p x) 1 0) 0 = ap (λ (b : Bool). cond {A = ℕ} b 1 0) fails in omega (arith, sum, zero, few)
     ]
 
 unplanned : (verdicts : List PlannedVerdict) (wait : Option ℕ) (fates : List PlannedFate) → Sound verdicts wait fates

@@ -6,6 +6,7 @@ use shop_core::Word;
 
 /// Why a line, or a part of it, says nothing.
 ghost use Rattle.script.specs.Kept.{Answers};
+
 #[derive(Clone, Copy, Drop)]
 pub enum Fault {
     /// What is wrong in it.

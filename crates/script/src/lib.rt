@@ -23,6 +23,7 @@ mod tests;
 
 pub use forms::Form;
 pub use limits::{
-    MAX_CALL, MAX_CODE, MAX_COMMANDS, MAX_CUSTOMERS, MAX_LATE, MAX_NTH, MAX_SCRIPT, MAX_START, MAX_STEP, MAX_WAIT,
+    MAX_CALL, MAX_CODE, MAX_COMMANDS, MAX_CUSTOMERS, MAX_LATE, MAX_NTH, MAX_SCRIPT, MAX_START,
+    MAX_STEP, MAX_WAIT,
 };
 pub use scripts::{Asks, Script, ScriptFault, read_script};

@@ -19,7 +19,11 @@ pub fn number_in(low: u64, high: u64, text: &[u8]) -> Option<u64>
     ensures range { IfSome result (λ n. IsInRange low high n) }
 {
     let n = read_whole(text)?;
-    if is_within(low, high, n) { Some(n) } else { None }
+    if is_within(low, high, n) {
+        Some(n)
+    } else {
+        None
+    }
 }
 
 /// Cents within the limit of amounts, with a minus in front where they are negative.
