@@ -3,7 +3,7 @@ ghost use Rattle.once_world.specs.Laws as law;
 
 use shop_core::{
     a_history_notes_its_records, a_legal_history_goes_on, a_sale_has_a_new_number,
-    legal_is_chained, what_is_made_is_a_record,
+    legal_is_chained, what_is_made_continues, what_is_made_is_a_record,
 };
 
 /// Where agreement begins, what keeps it, and that each record then stands once among the processed ones.

@@ -34,7 +34,9 @@ impl Pace {
     /// Whether a submission is due at this second, with so many records waiting. Refused exactly where fewer than
     /// `FULL_BATCH` wait and the waiting time hasn't passed, with the second at which it will have passed.
     pub fn due(&self, now: u64, waiting: u32) -> Result<(), WaitUntil>
-        ensures { MatchResult result (λ _. is_due self.now now waiting ≡ true) (λ w. (is_due self.now now waiting ≡ false) × (w.0 ≡ due_at self.now)) }
+        ensures { MatchResult result
+            (λ _. is_due self.now now waiting ≡ true)
+            (λ w. (is_due self.now now waiting ≡ false) × (w.0 ≡ due_at self.now)) }
     {
         let at = self.last.saturating_add(self.wait);
         if waiting < FULL_BATCH && now < at {

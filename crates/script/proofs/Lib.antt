@@ -2,6 +2,7 @@ pub mod Cutting
 pub mod Digits
 pub mod Named
 pub mod Reading
+pub mod Plans
 pub mod Drafting
 pub mod Gathering
 pub mod Parties

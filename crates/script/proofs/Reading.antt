@@ -1,10 +1,14 @@
 -- Lines of a script, read one after another.
 use mathlib.Core.Path.{fun_ext}
-use Rattle.std.proofs.Common.{◌≡◌, ◌∙◌, ℕ, ◌+◌, ◌≤◌, ◌<◌, List, [], ◌∷◌, ◌++◌, length, map, filter_map, count_by, refl, sym, ap, subst, append_assoc, length-append, arith, Option, Some, None, is_some, Bool, true, false, not, ◌==◌, nat_le, cond, if◌then◌else◌, get_or, codes, bytes_eq, Result, Ok, Err, IfOk, Vec, Global, IsUtf8}
+use Rattle.std.proofs.Common.{◌≡◌, ◌∙◌, ℕ, ◌+◌, ◌≤◌, ◌<◌, List, [], ◌∷◌, ◌++◌, length, map, filter_map, count_by, refl, sym, ap, subst, append_assoc, length-append, arith, Option, Some, None, is_some, Bool, true, false, not, ◌==◌, nat_le, cond, if◌then◌else◌, get_or, codes, bytes_eq, Result, Ok, Err, IfOk, IfSome, inl, inr, ◌&&◌, Vec, Global, IsUtf8}
 use Rattle.std.specs.BTreeMap.{btree_map_len}
-use Rattle.std.specs.Option.{option_or}
+use Rattle.std.specs.Int.{IsInRange}
+use Rattle.std.specs.Option.{ok_or, option_or}
 use Rattle.std.specs.Str.{is_utf8}
+use Rattle.std.specs.Str.Parse.{digits_value}
+use Rattle.amounts.specs.Text.{whole_text}
 use Rattle.std.specs.Str.Lines.{strip_carriage_return}
+use Rattle.std.proofs.lemmas.Bool.{and_parts, both_ways, cases_Bool, leb-true}
 use Rattle.std.proofs.lemmas.Bool.Decides.{nat_tests}
 use Rattle.std.proofs.lemmas.List.{append-nil}
 use Rattle.std.proofs.lemmas.List.Elements.{filter_map-append}
@@ -14,6 +18,7 @@ use Rattle.std.proofs.lemmas.Str.{is_utf8-from_IsUtf8, IsUtf8-from_is_utf8}
 use Rattle.agency_rules.specs.Judgement.{verdict_for}
 use Rattle.agency_rules.specs.Plans.{fate_at}
 use Rattle.agency_rules.specs.declared.plans.Fate.{Fate}
+use Rattle.agency_rules.specs.declared.plans.Fate.TheVariants.{Lost, Taken, Stale, Again, Late}
 use Rattle.agency_rules.specs.declared.plans.PlannedFate.{PlannedFate}
 use Rattle.agency_rules.specs.declared.plans.PlannedVerdict.{PlannedVerdict}
 use Rattle.parties.specs.declared.name.Party.{Party}
@@ -23,17 +28,19 @@ use Rattle.shop_core.specs.declared.requests.Request.{Request}
 use Rattle.shop_core.specs.declared.words.Word.{Word}
 use Rattle.shop_core.specs.declared.words.Word.TheVariants as word
 use Rattle.script.specs.Cuts.{parts_of}
-use Rattle.script.specs.Fields.{and_then, word_or, unless_any, field_at, past, is_left, such}
+use Rattle.script.specs.Fields.{and_then, word_or, unless_any, first_field, field_at, past, is_left, such}
 use Rattle.script.specs.Numbers.{number_in}
 use Rattle.series.specs.Numbers.{is_num_serie}
-use Rattle.script.specs.Readings.{is_key, is_nif}
+use Rattle.script.specs.Planned.{IsPlannedVerdict, IsPlannedFate, IsPlannedCall}
+use Rattle.script.specs.Readings.{is_key, is_nif, fate_of}
 use Rattle.script.specs.Kept.{Answers, IsNew, IsRead, known, party_of}
-use Rattle.script.specs.Lines.{Above, above_of, said, line_said, fields_said, form_said, clock_said, customer_said, command_said, request_said, name_said, has_commands, is_skipped, verdict_of, verdict_said, wait_said, fate_said, link_said, planned_said, clock_in, ask_in, party_in, verdict_in, wait_in, fate_in, is_command, is_customer}
+use Rattle.script.specs.Lines.{Above, above_of, said, line_said, fields_said, form_said, clock_said, customer_said, command_said, request_said, name_said, has_commands, is_skipped, verdict_of, verdict_said, wait_said, late_said, fate_said, link_said, planned_said, clock_in, ask_in, party_in, verdict_in, wait_in, fate_in, is_command, is_customer}
 use Rattle.script.specs.Script.{EachSays, IsFirstBad}
 use Rattle.script.specs.declared.customers.Customers.{Customers}
 use Rattle.script.specs.declared.faults.Fault.{Fault}
 use Rattle.script.specs.declared.faults.Fault.TheVariants as fault
 use Rattle.script.specs.declared.forms.Form.{Form}
+use Rattle.script.specs.declared.limits.TheConstants.{MAX_START, MAX_STEP, MAX_CUSTOMERS, MAX_COMMANDS, MAX_NTH, MAX_CODE, MAX_WAIT, MAX_CALL, MAX_LATE}
 use Rattle.script.specs.declared.lines.Line.{Line}
 use Rattle.script.specs.declared.lines.Line.TheVariants as line
 use Rattle.script.specs.declared.planning.Judging.{Judging}
@@ -69,111 +76,172 @@ pub no_text : (form : Form) (above : Above) (text : List ℕ) → (length text =
     → line_said form above text ≡ Err word.Utf8
 no_text form above text some hash utf8 = rw (some, other_than (get_or text 0 0) 35 hash, not_utf8 text (is_utf8 text) refl utf8) refl
 
--- a clock and a customer are new
+-- what a line that says something says
 
 once : {A : Type 0} (P : Line → Type 0) (o : Option A) (meaning : Line) → (o ≡ None → P meaning)
     → IfOk (unless_any (when (is_some o) word.Twice ∷ []) (Ok meaning)) P
 once P None meaning h = h refl
 once P (Some x) meaning h = tt
 
-worded_new : (P : Line → Type 0) (o : Option Word) (answer : Result Line Word) → IfOk answer P → IfOk (word_or o answer) P
-worded_new P None answer h = h
-worded_new P (Some w) answer h = tt
+worded_gives : (P : Line → Type 0) (o : Option Word) (answer : Result Line Word) → IfOk answer P → IfOk (word_or o answer) P
+worded_gives P None answer h = h
+worded_gives P (Some w) answer h = tt
 
-clock_shape : (above : Above) (a b : Result ℕ Word) (o : Option Word)
-    → IfOk (and_then a (λ start. and_then b (λ step. word_or o (unless_any (when (is_some above.clock) word.Twice ∷ []) (Ok (line.Clock start step)))))) (IsNew above)
-clock_shape above (Err w) b o = tt
-clock_shape above (Ok start) (Err w) o = tt
-clock_shape above (Ok start) (Ok step) (Some w) = tt
-clock_shape above (Ok start) (Ok step) None = once (IsNew above) above.clock (line.Clock start step) (λ e. e)
+-- what holds of each line that may stand below these
+pub record Gives (form : Form) (above : Above) (P : Line → Type 0) : Type 0 where
+  pub skip : P line.Skip
+  pub clock : (start step : ℕ) → above.clock ≡ None → P (line.Clock start step)
+  pub customer : (key : List ℕ) (party : Party) → above.party key ≡ None → P (line.Customer key party)
+  pub command : (ask : Asked) → has_commands form ≡ true → above.commands < MAX_COMMANDS → P (line.Command ask)
+  pub verdict : (verdict : PlannedVerdict) → IsPlannedVerdict verdict → verdict_for above.verdicts verdict.num verdict.n ≡ None → P (line.Verdict verdict)
+  pub wait : (seconds : ℕ) → seconds ≤ MAX_WAIT → above.wait ≡ None → P (line.Wait seconds)
+  pub link : (fate : PlannedFate) → IsPlannedCall fate → fate_at above.fates fate.call ≡ None → P (line.Link fate)
 
-customer_shape : (above : Above) (o : Option Word) (a b n : Result (List ℕ) Word)
-    → IfOk (word_or o (and_then a (λ key. and_then b (λ nif. and_then n (λ name. unless_any (when (is_some (above.party key)) word.Twice ∷ []) (Ok (line.Customer key (record { nif = nif; name = name })))))))) (IsNew above)
-customer_shape above (Some w) a b n = tt
-customer_shape above None (Err w) b n = tt
-customer_shape above None (Ok key) (Err w) n = tt
-customer_shape above None (Ok key) (Ok nif) (Err w) = tt
-customer_shape above None (Ok key) (Ok nif) (Ok name) = once (IsNew above) (above.party key) (line.Customer key (record { nif = nif; name = name })) (λ e. e)
+clock_shape : (P : Line → Type 0) (above : Above) (a b : Result ℕ Word) (o : Option Word) → ((start step : ℕ) → above.clock ≡ None → P (line.Clock start step))
+    → IfOk (and_then a (λ start. and_then b (λ step. word_or o (unless_any (when (is_some above.clock) word.Twice ∷ []) (Ok (line.Clock start step)))))) P
+clock_shape P above (Err w) b o h = tt
+clock_shape P above (Ok start) (Err w) o h = tt
+clock_shape P above (Ok start) (Ok step) (Some w) h = tt
+clock_shape P above (Ok start) (Ok step) None h = once P above.clock (line.Clock start step) (h start step)
 
-room : (n : ℕ) → nat_le 100_000 n ≡ false → n < 100_000
+customer_shape : (P : Line → Type 0) (above : Above) (o : Option Word) (a b n : Result (List ℕ) Word) → ((key : List ℕ) (party : Party) → above.party key ≡ None → P (line.Customer key party))
+    → IfOk (word_or o (and_then a (λ key. and_then b (λ nif. and_then n (λ name. unless_any (when (is_some (above.party key)) word.Twice ∷ []) (Ok (line.Customer key (record { nif = nif; name = name })))))))) P
+customer_shape P above (Some w) a b n h = tt
+customer_shape P above None (Err w) b n h = tt
+customer_shape P above None (Ok key) (Err w) n h = tt
+customer_shape P above None (Ok key) (Ok nif) (Err w) h = tt
+customer_shape P above None (Ok key) (Ok nif) (Ok name) h =
+    let party : Party = record { nif = nif; name = name } in once P (above.party key) (line.Customer key party) (h key party)
+
+room : (n : ℕ) → nat_le MAX_COMMANDS n ≡ false → n < MAX_COMMANDS
 room n h = grind (arith, nat_tests)
 
 -- in a script with commands, below so many of them
-command_shape : (above : Above) (commands many : Bool) (a b : Result ℕ Word) (r : Result Request Word) → (many ≡ false → above.commands < 100_000)
-    → IfOk (unless_any (when (not commands) word.Command ∷ when many word.TooMany ∷ []) (and_then a (λ till. and_then b (λ serial. and_then r (λ request. Ok (line.Command (record { till = till; serial = serial; request = request }))))))) (IsNew above)
-command_shape above false many a b r h = tt
-command_shape above true true a b r h = tt
-command_shape above true false (Err w) b r h = tt
-command_shape above true false (Ok till) (Err w) r h = tt
-command_shape above true false (Ok till) (Ok serial) (Err w) h = tt
-command_shape above true false (Ok till) (Ok serial) (Ok request) h = h refl
+command_shape : (P : Line → Type 0) (commands many : Bool) (a b : Result ℕ Word) (r : Result Request Word) → ((ask : Asked) → commands ≡ true → many ≡ false → P (line.Command ask))
+    → IfOk (unless_any (when (not commands) word.Command ∷ when many word.TooMany ∷ []) (and_then a (λ till. and_then b (λ serial. and_then r (λ request. Ok (line.Command (record { till = till; serial = serial; request = request }))))))) P
+command_shape P false many a b r h = tt
+command_shape P true true a b r h = tt
+command_shape P true false (Err w) b r h = tt
+command_shape P true false (Ok till) (Err w) r h = tt
+command_shape P true false (Ok till) (Ok serial) (Err w) h = tt
+command_shape P true false (Ok till) (Ok serial) (Ok request) h = h (record { till = till; serial = serial; request = request }) refl refl
 
-clock_new : (above : Above) (fields : List (List ℕ)) → IfOk (clock_said above fields) (IsNew above)
-clock_new above fields =
-    clock_shape above (field_at 0 fields (number_in 0 1_000_000_000_000) word.Number) (field_at 1 fields (number_in 0 1_000_000) word.Number)
-    (first_of (when (is_left (past 2 fields)) word.Fields ∷ []))
+-- a number is in the range that it was read for
 
-customer_new : (above : Above) (fields : List (List ℕ)) → IfOk (customer_said above fields) (IsNew above)
-customer_new above fields =
-    customer_shape above (first_of (when (nat_le 10_000 above.customers) word.TooMany ∷ [])) (field_at 0 fields (such is_key) word.Customer)
-    (field_at 1 fields (such is_nif) word.Nif) (name_said (past 2 fields))
+ranged : (low high n : ℕ) (whole : Bool) → IfSome (when (whole && nat_le low n && nat_le n high) n) (IsInRange low high)
+ranged low high n whole =
+    elim (cases_Bool (whole && nat_le low n && nat_le n high)) [
+      | inl holds ↦
+          let outer = and_parts (whole && nat_le low n) (nat_le n high) holds in
+          let inner = and_parts whole (nat_le low n) outer.0 in
+          let fits : IsInRange low high n = (leb-true low n inner.1, leb-true n high outer.1) in
+          rw holds fits
+      | inr fails ↦ rw fails tt
+    ]
 
-command_new : (form : Form) (above : Above) (command : Command) (fields : List (List ℕ)) → IfOk (command_said form above command fields) (IsNew above)
-command_new form above command fields =
-    command_shape above (has_commands form) (nat_le 100_000 above.commands) (field_at 0 fields (number_in 1 64) word.Till) (field_at 1 fields (number_in 1 4_294_967_295) word.Number)
-    (request_said command above.party (past 2 fields)) (room above.commands)
+found : {A : Type 0} (Q : A → Type 0) (o : Option A) (w : Word) → IfSome o Q → IfOk (ok_or o w) Q
+found Q None w h = tt
+found Q (Some x) w h = h
 
-verdict_shape : (judging : Judging) (above : Above) (a : Result (List ℕ) Word) (b d : Result ℕ Word) (o : Option Word) (twice : List ℕ → ℕ → Option Word)
-    → IfOk (and_then a (λ num. and_then b (λ n. and_then d (λ code. word_or o (word_or (twice num n) (Ok (line.Verdict (record { num = num; n = n; verdict = verdict_of judging code })))))))) (IsNew above)
-verdict_shape judging above (Err w) b d o twice = tt
-verdict_shape judging above (Ok num) (Err w) d o twice = tt
-verdict_shape judging above (Ok num) (Ok n) (Err w) o twice = tt
-verdict_shape judging above (Ok num) (Ok n) (Ok code) (Some w) twice = tt
-verdict_shape judging above (Ok num) (Ok n) (Ok code) None twice = worded_new (IsNew above) (twice num n) (Ok (line.Verdict (record { num = num; n = n; verdict = verdict_of judging code }))) tt
+first_range : (low high : ℕ) (fields : List (List ℕ)) (w : Word) → IfOk (first_field fields (number_in low high) w) (IsInRange low high)
+first_range low high [] w = tt
+first_range low high (field ∷ fields) w =
+    let n = digits_value 10 field in
+    found (IsInRange low high) (number_in low high field) w (ranged low high n (bytes_eq field (whole_text n)))
 
-wait_shape : (above : Above) (a : Result ℕ Word) (o : Option Word)
-    → IfOk (and_then a (λ seconds. word_or o (unless_any (when (is_some above.wait) word.Twice ∷ []) (Ok (line.Wait seconds))))) (IsNew above)
-wait_shape above (Err w) o = tt
-wait_shape above (Ok seconds) (Some w) = tt
-wait_shape above (Ok seconds) None = once (IsNew above) above.wait (line.Wait seconds) (λ e. e)
+late_shape : (a : Result ℕ Word) (o : Option Word) → IfOk a (IsInRange 1 MAX_LATE) → IfOk (and_then a (λ calls. word_or o (Ok (Late calls)))) IsPlannedFate
+late_shape (Err w) o h = tt
+late_shape (Ok calls) (Some w) h = tt
+late_shape (Ok calls) None h = h
 
-link_shape : (above : Above) (a : Result ℕ Word) (b : Result Fate Word) (twice : ℕ → Option Word)
-    → IfOk (and_then a (λ call. and_then b (λ fate. word_or (twice call) (Ok (line.Link (record { call = call; fate = fate })))))) (IsNew above)
-link_shape above (Err w) b twice = tt
-link_shape above (Ok call) (Err w) twice = tt
-link_shape above (Ok call) (Ok fate) twice = worded_new (IsNew above) (twice call) (Ok (line.Link (record { call = call; fate = fate }))) tt
+word_shape : (a : Result Fate Word) (o : Option Word) → IfOk a IsPlannedFate → IfOk (and_then a (λ fate. word_or o (Ok fate))) IsPlannedFate
+word_shape (Err w) o h = tt
+word_shape (Ok fate) (Some w) h = tt
+word_shape (Ok fate) None h = h
 
-verdict_new : (judging : Judging) (above : Above) (fields : List (List ℕ)) → IfOk (verdict_said judging above fields) (IsNew above)
-verdict_new judging above fields =
-    verdict_shape judging above (field_at 0 fields (such is_num_serie) word.Num) (field_at 1 fields (number_in 1 1000) word.Number)
-    (field_at 2 fields (number_in 1 65_535) word.Number) (first_of (when (is_left (past 3 fields)) word.Fields ∷ []))
-    (λ num n. first_of (when (is_some (verdict_for above.verdicts num n)) word.Twice ∷ []))
+one_word : (a b c d : Bool) → IfSome (first_of (when a Lost ∷ when b Taken ∷ when c Stale ∷ when d Again ∷ [])) IsPlannedFate
+one_word true b c d = tt
+one_word false true c d = tt
+one_word false false true d = tt
+one_word false false false true = tt
+one_word false false false false = tt
 
-wait_new : (above : Above) (fields : List (List ℕ)) → IfOk (wait_said above fields) (IsNew above)
-wait_new above fields =
-    wait_shape above (field_at 0 fields (number_in 0 86_400) word.Number) (first_of (when (is_left (past 1 fields)) word.Fields ∷ []))
+fate_choice : (b : Bool) (one other : Result Fate Word) → IfOk one IsPlannedFate → IfOk other IsPlannedFate → IfOk (if b then one else other) IsPlannedFate
+fate_choice true one other h k = h
+fate_choice false one other h k = k
 
-link_new : (above : Above) (fields : List (List ℕ)) → IfOk (link_said above fields) (IsNew above)
-link_new above fields =
-    link_shape above (field_at 0 fields (number_in 1 1_000_000) word.Number) (fate_said (past 1 fields))
-    (λ call. first_of (when (is_some (fate_at above.fates call)) word.Twice ∷ []))
+fate_fits : (fields : List (List ℕ)) → IfOk (fate_said fields) IsPlannedFate
+fate_fits [] = tt
+fate_fits (field ∷ fields) =
+    let left : Option Word = first_of (when (is_left fields) word.Fields ∷ []) in
+    fate_choice (bytes_eq field (codes "late")) (late_said fields) (and_then (ok_or (fate_of field) word.Fate) (λ (fate : Fate). word_or left (Ok fate)))
+    (late_shape (field_at 0 fields (number_in 1 MAX_LATE) word.Number) (first_of (when (is_left (past 1 fields)) word.Fields ∷ [])) (first_range 1 MAX_LATE fields word.Number))
+    (word_shape (ok_or (fate_of field) word.Fate) left
+    (found IsPlannedFate (fate_of field) word.Fate (one_word (bytes_eq field (codes "lost")) (bytes_eq field (codes "taken")) (bytes_eq field (codes "stale")) (bytes_eq field (codes "again")))))
 
-choice_new : (P : Line → Type 0) (b : Bool) (one other : Result Line Word) → IfOk one P → IfOk other P → IfOk (if b then one else other) P
-choice_new P true one other h k = h
-choice_new P false one other h k = k
+verdict_fits : (judging : Judging) (num : List ℕ) (n code : ℕ) → IsInRange 1 MAX_NTH n → IsInRange 1 MAX_CODE code
+    → IsPlannedVerdict (record { num = num; n = n; verdict = verdict_of judging code })
+verdict_fits judging.Vet num n code h k = (h, k)
+verdict_fits judging.Warn num n code h k = (h, k)
 
-planned_new : (above : Above) (verb : List ℕ) (fields : List (List ℕ)) → IfOk (planned_said above verb fields) (IsNew above)
-planned_new above verb fields =
+verdict_shape : (P : Line → Type 0) (judging : Judging) (above : Above) (a : Result (List ℕ) Word) (b d : Result ℕ Word) (o : Option Word)
+    → IfOk b (IsInRange 1 MAX_NTH) → IfOk d (IsInRange 1 MAX_CODE)
+    → ((verdict : PlannedVerdict) → IsPlannedVerdict verdict → verdict_for above.verdicts verdict.num verdict.n ≡ None → P (line.Verdict verdict))
+    → IfOk (and_then a (λ num. and_then b (λ n. and_then d (λ code. word_or o (unless_any (when (is_some (verdict_for above.verdicts num n)) word.Twice ∷ []) (Ok (line.Verdict (record { num = num; n = n; verdict = verdict_of judging code })))))))) P
+verdict_shape P judging above (Err w) b d o nth coded h = tt
+verdict_shape P judging above (Ok num) (Err w) d o nth coded h = tt
+verdict_shape P judging above (Ok num) (Ok n) (Err w) o nth coded h = tt
+verdict_shape P judging above (Ok num) (Ok n) (Ok code) (Some w) nth coded h = tt
+verdict_shape P judging above (Ok num) (Ok n) (Ok code) None nth coded h =
+    let verdict : PlannedVerdict = record { num = num; n = n; verdict = verdict_of judging code } in
+    once P (verdict_for above.verdicts num n) (line.Verdict verdict) (h verdict (verdict_fits judging num n code nth coded))
+
+wait_shape : (P : Line → Type 0) (above : Above) (a : Result ℕ Word) (o : Option Word) → IfOk a (IsInRange 0 MAX_WAIT)
+    → ((seconds : ℕ) → seconds ≤ MAX_WAIT → above.wait ≡ None → P (line.Wait seconds))
+    → IfOk (and_then a (λ seconds. word_or o (unless_any (when (is_some above.wait) word.Twice ∷ []) (Ok (line.Wait seconds))))) P
+wait_shape P above (Err w) o range h = tt
+wait_shape P above (Ok seconds) (Some w) range h = tt
+wait_shape P above (Ok seconds) None range h = once P above.wait (line.Wait seconds) (h seconds range.1)
+
+link_shape : (P : Line → Type 0) (above : Above) (a : Result ℕ Word) (b : Result Fate Word) → IfOk a (IsInRange 1 MAX_CALL) → IfOk b IsPlannedFate
+    → ((fate : PlannedFate) → IsPlannedCall fate → fate_at above.fates fate.call ≡ None → P (line.Link fate))
+    → IfOk (and_then a (λ call. and_then b (λ fate. unless_any (when (is_some (fate_at above.fates call)) word.Twice ∷ []) (Ok (line.Link (record { call = call; fate = fate })))))) P
+link_shape P above (Err w) b range fits h = tt
+link_shape P above (Ok call) (Err w) range fits h = tt
+link_shape P above (Ok call) (Ok fate) range fits h =
+    let planned : PlannedFate = record { call = call; fate = fate } in once P (fate_at above.fates call) (line.Link planned) (h planned (range, fits))
+
+command_gives : (form : Form) (above : Above) (P : Line → Type 0) → Gives form above P → (command : Command) (fields : List (List ℕ)) → IfOk (command_said form above command fields) P
+command_gives form above P g command fields =
+    command_shape P (has_commands form) (nat_le MAX_COMMANDS above.commands) (field_at 0 fields (number_in 1 64) word.Till) (field_at 1 fields (number_in 1 4_294_967_295) word.Number)
+    (request_said command above.party (past 2 fields)) (λ ask full few. g.command ask full (room above.commands few))
+
+verdict_gives : (form : Form) (above : Above) (P : Line → Type 0) → Gives form above P → (judging : Judging) (fields : List (List ℕ)) → IfOk (verdict_said judging above fields) P
+verdict_gives form above P g judging fields =
+    verdict_shape P judging above (field_at 0 fields (such is_num_serie) word.Num) (field_at 1 fields (number_in 1 MAX_NTH) word.Number)
+    (field_at 2 fields (number_in 1 MAX_CODE) word.Number) (first_of (when (is_left (past 3 fields)) word.Fields ∷ []))
+    (first_range 1 MAX_NTH (past 1 fields) word.Number) (first_range 1 MAX_CODE (past 2 fields) word.Number) g.verdict
+
+choice : (P : Line → Type 0) (b : Bool) (one other : Result Line Word) → IfOk one P → IfOk other P → IfOk (if b then one else other) P
+choice P true one other h k = h
+choice P false one other h k = k
+
+planned_gives : (form : Form) (above : Above) (P : Line → Type 0) → Gives form above P → (verb : List ℕ) (fields : List (List ℕ)) → IfOk (planned_said above verb fields) P
+planned_gives form above P g verb fields =
     let linked = if bytes_eq verb (codes "link") then link_said above fields else Err word.Verb in
     let waited = if bytes_eq verb (codes "wait") then wait_said above fields else linked in
     let warned = if bytes_eq verb (codes "warn") then verdict_said judging.Warn above fields else waited in
-    choice_new (IsNew above) (bytes_eq verb (codes "vet")) (verdict_said judging.Vet above fields) warned (verdict_new judging.Vet above fields)
-    (choice_new (IsNew above) (bytes_eq verb (codes "warn")) (verdict_said judging.Warn above fields) waited (verdict_new judging.Warn above fields)
-    (choice_new (IsNew above) (bytes_eq verb (codes "wait")) (wait_said above fields) linked (wait_new above fields)
-    (choice_new (IsNew above) (bytes_eq verb (codes "link")) (link_said above fields) (Err word.Verb) (link_new above fields) tt)))
+    choice P (bytes_eq verb (codes "vet")) (verdict_said judging.Vet above fields) warned (verdict_gives form above P g judging.Vet fields)
+    (choice P (bytes_eq verb (codes "warn")) (verdict_said judging.Warn above fields) waited (verdict_gives form above P g judging.Warn fields)
+    (choice P (bytes_eq verb (codes "wait")) (wait_said above fields) linked
+    (wait_shape P above (field_at 0 fields (number_in 0 MAX_WAIT) word.Number) (first_of (when (is_left (past 1 fields)) word.Fields ∷ []))
+    (first_range 0 MAX_WAIT fields word.Number) g.wait)
+    (choice P (bytes_eq verb (codes "link")) (link_said above fields) (Err word.Verb)
+    (link_shape P above (field_at 0 fields (number_in 1 MAX_CALL) word.Number) (fate_said (past 1 fields))
+    (first_range 1 MAX_CALL fields word.Number) (fate_fits (past 1 fields)) g.link) tt)))
 
-form_new : (form : Form) (above : Above) (verb : List ℕ) (fields : List (List ℕ)) → IfOk (form_said form above verb fields) (IsNew above)
-form_new form above verb fields =
+form_gives : (form : Form) (above : Above) (P : Line → Type 0) → Gives form above P → (verb : List ℕ) (fields : List (List ℕ)) → IfOk (form_said form above verb fields) P
+form_gives form above P g verb fields =
     let cancelled = command_said form above command.Cancel fields in
     let fixed = command_said form above command.Fix fields in
     let sold = command_said form above command.Sale fields in
@@ -182,28 +250,67 @@ form_new form above verb fields =
     let third = if bytes_eq verb (codes "fix") then fixed else last in
     let second = if bytes_eq verb (codes "sale") then sold else third in
     let first = if bytes_eq verb (codes "customer") then customer_said above fields else second in
-    choice_new (IsNew above) (bytes_eq verb (codes "clock")) (clock_said above fields) first (clock_new above fields)
-    (choice_new (IsNew above) (bytes_eq verb (codes "customer")) (customer_said above fields) second (customer_new above fields)
-    (choice_new (IsNew above) (bytes_eq verb (codes "sale")) sold third (command_new form above command.Sale fields)
-    (choice_new (IsNew above) (bytes_eq verb (codes "fix")) fixed last (command_new form above command.Fix fields)
-    (choice_new (IsNew above) (bytes_eq verb (codes "cancel")) cancelled planned (command_new form above command.Cancel fields) (planned_new above verb fields)))))
+    choice P (bytes_eq verb (codes "clock")) (clock_said above fields) first
+    (clock_shape P above (field_at 0 fields (number_in 0 MAX_START) word.Number) (field_at 1 fields (number_in 0 MAX_STEP) word.Number)
+    (first_of (when (is_left (past 2 fields)) word.Fields ∷ [])) g.clock)
+    (choice P (bytes_eq verb (codes "customer")) (customer_said above fields) second
+    (customer_shape P above (first_of (when (nat_le MAX_CUSTOMERS above.customers) word.TooMany ∷ [])) (field_at 0 fields (such is_key) word.Customer)
+    (field_at 1 fields (such is_nif) word.Nif) (name_said (past 2 fields)) g.customer)
+    (choice P (bytes_eq verb (codes "sale")) sold third (command_gives form above P g command.Sale fields)
+    (choice P (bytes_eq verb (codes "fix")) fixed last (command_gives form above P g command.Fix fields)
+    (choice P (bytes_eq verb (codes "cancel")) cancelled planned (command_gives form above P g command.Cancel fields) (planned_gives form above P g verb fields)))))
 
-fields_new : (form : Form) (above : Above) (fields : List (List ℕ)) → IfOk (fields_said form above fields) (IsNew above)
-fields_new form above [] = tt
-fields_new form above (verb ∷ fields) = form_new form above verb fields
+fields_give : (form : Form) (above : Above) (P : Line → Type 0) → Gives form above P → (fields : List (List ℕ)) → IfOk (fields_said form above fields) P
+fields_give form above P g [] = tt
+fields_give form above P g (verb ∷ fields) = form_gives form above P g verb fields
 
-line_new : (form : Form) (above : Above) (text : List ℕ) → IfOk (line_said form above text) (IsNew above)
-line_new form above text =
+pub line_gives : (form : Form) (above : Above) (P : Line → Type 0) → Gives form above P → (text : List ℕ) (meaning : Line) → line_said form above text ≡ Ok meaning → P meaning
+line_gives form above P g text meaning e =
     let fields = fields_said form above (parts_of 32 text) in
     let utf8 = first_of (when (not (is_utf8 text)) word.Utf8 ∷ []) in
-    choice_new (IsNew above) (is_skipped text) (Ok line.Skip) (word_or utf8 fields) tt (worded_new (IsNew above) utf8 fields (fields_new form above (parts_of 32 text)))
+    subst (λ (r : Result Line Word). IfOk r P) e
+    (choice P (is_skipped text) (Ok line.Skip) (word_or utf8 fields) g.skip (worded_gives P utf8 fields (fields_give form above P g (parts_of 32 text))))
 
 pub said_is_new : (form : Form) (above : Above) (text : List ℕ) (meaning : Line) → line_said form above text ≡ Ok meaning → IsNew above meaning
-said_is_new form above text meaning e = subst (λ (r : Result Line Word). IfOk r (IsNew above)) e (line_new form above text)
+said_is_new form above text meaning e =
+    line_gives form above (IsNew above) (record {
+      skip = tt;
+      clock = λ start step none. none;
+      customer = λ key party none. none;
+      command = λ ask full few. few;
+      verdict = λ verdict fits none. tt;
+      wait = λ seconds few none. none;
+      link = λ fate fits none. tt;
+    }) text meaning e
+
+-- without commands no line asks for anything
+
+no_ask : (form : Form) (above : Above) (text : List ℕ) (meaning : Line) → has_commands form ≡ false → line_said form above text ≡ Ok meaning → ask_in meaning ≡ None
+no_ask form above text meaning none e =
+    line_gives form above (λ (m : Line). ask_in m ≡ None) (record {
+      skip = refl;
+      clock = λ start step first. refl;
+      customer = λ key party first. refl;
+      command = λ ask full few. absurd (both_ways _ none full);
+      verdict = λ verdict fits first. refl;
+      wait = λ seconds few first. refl;
+      link = λ fate fits first. refl;
+    }) text meaning e
+
+skipped : (meaning : Line) (meanings : List Line) → ask_in meaning ≡ None → filter_map ask_in meanings ≡ [] → filter_map ask_in (meaning ∷ meanings) ≡ []
+skipped meaning meanings none rest = rw none rest
+
+pub no_asks : (form : Form) (before : List Line) (lines : List (List ℕ)) (meanings : List Line) → has_commands form ≡ false → EachSays form before lines meanings
+    → filter_map ask_in meanings ≡ []
+no_asks form before [] [] none h = refl
+no_asks form before [] (m ∷ ms) none h = absurd h
+no_asks form before (l ∷ ls) [] none h = absurd h
+no_asks form before (l ∷ ls) (m ∷ ms) none h =
+    skipped m ms (no_ask form (above_of before) l m none h.0) (no_asks form (before ++ m ∷ []) ls ms none h.1)
 
 -- what is above one line more
 
-abbrev with_line : Above → Line → Above
+abbrev pub with_line : Above → Line → Above
 with_line above meaning = record {
   clock = option_or above.clock (clock_in meaning);
   commands = above.commands + count_by is_command (meaning ∷ []);
@@ -228,7 +335,7 @@ same_above : (one other : Above) → IsSame one other → one ≡ other
 same_above one other s =
     let party : one.party ≡ other.party = fun_ext s.party in rw (s.clock, s.commands, s.customers, party, s.verdicts, s.wait, s.fates) refl
 
-above_more : (before : List Line) (meaning : Line) → above_of (before ++ meaning ∷ []) ≡ with_line (above_of before) meaning
+pub above_more : (before : List Line) (meaning : Line) → above_of (before ++ meaning ∷ []) ≡ with_line (above_of before) meaning
 above_more before meaning =
     same_above (above_of (before ++ meaning ∷ [])) (with_line (above_of before) meaning) (record {
       clock = first_more clock_in before meaning;
@@ -242,7 +349,7 @@ above_more before meaning =
 
 -- one line more was read
 read_more : (before : List Line) (meaning : Line) (old new : SoFar) → IsRead before old → IsSame (known new) (with_line (known old) meaning)
-    → new.asks.items ≡ old.asks.items ++ filter_map ask_in (meaning ∷ []) → length new.asks.items ≤ 100_000 → IsRead (before ++ meaning ∷ []) new
+    → new.asks.items ≡ old.asks.items ++ filter_map ask_in (meaning ∷ []) → length new.asks.items ≤ MAX_COMMANDS → IsRead (before ++ meaning ∷ []) new
 read_more before meaning old new r same asks few = record {
   above = same_above (known new) (with_line (known old) meaning) same ∙ ap (λ (above : Above). with_line above meaning) r.above ∙ sym (above_more before meaning);
   asks = rw (filter_map-append ask_in before (meaning ∷ []), ← r.asks) asks;
@@ -304,7 +411,7 @@ read_customer before read customers key party r none count found =
     })
     (sym (append-nil _)) r.few
 
-pub read_command : (before : List Line) (read : SoFar) (ask : Asked) (asks : Vec Asked Global) → IsRead before read → length read.asks.items < 100_000 → asks.items ≡ read.asks.items ++ ask ∷ []
+pub read_command : (before : List Line) (read : SoFar) (ask : Asked) (asks : Vec Asked Global) → IsRead before read → length read.asks.items < MAX_COMMANDS → asks.items ≡ read.asks.items ++ ask ∷ []
     → IsRead (before ++ line.Command ask ∷ []) (record read { asks = asks })
 read_command before read ask asks r less e =
     let more = ap length e ∙ length-append read.asks.items (ask ∷ []) in

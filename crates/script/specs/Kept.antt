@@ -1,6 +1,7 @@
 -- What readers answer, and what is kept of the lines above.
 use Rattle.std.specs.Prelude.{◌≡◌, ◌≤◌, ◌<◌, ℕ, List, length, filter_map, unwrap_or, Option, None, Result, Ok, Err}
 use Rattle.std.specs.BTreeMap.{btree_map_len, get_by_text}
+use Rattle.pacing.specs.declared.pace.TheConstants.{FIRST_WAIT}
 use Rattle.ports.specs.declared.faults.NoMemory.{NoMemory as NoRoom}
 use Rattle.parties.specs.declared.name.Party.{Party}
 use Rattle.shop_core.specs.declared.words.Word.{Word}
@@ -8,6 +9,7 @@ use Rattle.script.specs.Lines.{Above, above_of, ask_in}
 use Rattle.script.specs.declared.customers.Customers.{Customers}
 use Rattle.script.specs.declared.faults.Fault.{Fault}
 use Rattle.script.specs.declared.faults.Fault.TheVariants.{Bad, NoMemory}
+use Rattle.script.specs.declared.limits.TheConstants.{MAX_COMMANDS}
 use Rattle.script.specs.declared.lines.Line.{Line}
 use Rattle.script.specs.declared.lines.Line.TheVariants as line
 use Rattle.script.specs.declared.scripts.Script.{Script}
@@ -40,14 +42,14 @@ abbrev pub script_kept : SoFar → Script
 script_kept read = record {
   clock = read.clock;
   asks = read.asks.items;
-  plan = record { verdicts = read.verdicts; wait = unwrap_or read.wait 60; fates = read.fates };
+  plan = record { verdicts = read.verdicts; wait = unwrap_or read.wait FIRST_WAIT; fates = read.fates };
 }
 
 -- these meanings were read
 pub record IsRead (meanings : List Line) (read : SoFar) : Type 0 where
   pub above : known read ≡ above_of meanings
   pub asks : read.asks.items ≡ filter_map ask_in meanings
-  pub few : length read.asks.items ≤ 100_000
+  pub few : length read.asks.items ≤ MAX_COMMANDS
 
 -- they were read, unless there was no memory
 abbrev pub Reads : List Line → SoFar → Result (Unit {0}) NoRoom → Type 0
@@ -59,7 +61,7 @@ abbrev pub IsNew : Above → Line → Type 0
 IsNew above line.Skip = Unit {0}
 IsNew above (line.Clock start step) = above.clock ≡ None
 IsNew above (line.Customer key party) = above.party key ≡ None
-IsNew above (line.Command ask) = above.commands < 100_000
+IsNew above (line.Command ask) = above.commands < MAX_COMMANDS
 IsNew above (line.Verdict verdict) = Unit {0}
 IsNew above (line.Wait seconds) = above.wait ≡ None
 IsNew above (line.Link fate) = Unit {0}

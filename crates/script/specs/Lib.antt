@@ -8,3 +8,4 @@ pub mod Script
 pub mod Kept
 pub mod Gathered
 pub mod Tables
+pub mod Planned

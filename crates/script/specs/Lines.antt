@@ -32,6 +32,7 @@ use Rattle.script.specs.declared.planning.Judging.{Judging}
 use Rattle.script.specs.declared.planning.Judging.TheVariants as judging
 use Rattle.script.specs.declared.requests.Command.{Command}
 use Rattle.script.specs.declared.requests.Command.TheVariants as command
+use Rattle.script.specs.declared.limits.TheConstants.{MAX_START, MAX_STEP, MAX_CUSTOMERS, MAX_COMMANDS, MAX_NTH, MAX_CODE, MAX_WAIT, MAX_CALL, MAX_LATE}
 use Rattle.script.specs.declared.lines.Line.{Line}
 use Rattle.script.specs.declared.lines.Line.TheVariants as line
 
@@ -132,8 +133,8 @@ above_of before = record {
 -- `clock START STEP`, behind its first field
 abbrev pub clock_said : Above → List (List ℕ) → Result Line Word
 clock_said above fields =
-    and_then (field_at 0 fields (number_in 0 1_000_000_000_000) word.Number) (λ (start : ℕ).
-    and_then (field_at 1 fields (number_in 0 1_000_000) word.Number) (λ (step : ℕ).
+    and_then (field_at 0 fields (number_in 0 MAX_START) word.Number) (λ (start : ℕ).
+    and_then (field_at 1 fields (number_in 0 MAX_STEP) word.Number) (λ (step : ℕ).
     ends_at 2 fields (unless_any (when (is_some above.clock) word.Twice ∷ []) (Ok (line.Clock start step)))))
 
 -- the name of a party is the rest of its line
@@ -144,7 +145,7 @@ name_said (field ∷ fields) = ok_or (such is_name (join_with_byte 32 (field ∷
 -- `customer KEY NIF NAME`
 abbrev pub customer_said : Above → List (List ℕ) → Result Line Word
 customer_said above fields =
-    unless_any (when (nat_le 10_000 above.customers) word.TooMany ∷ []) (
+    unless_any (when (nat_le MAX_CUSTOMERS above.customers) word.TooMany ∷ []) (
     and_then (field_at 0 fields (such is_key) word.Customer) (λ (key : List ℕ).
     and_then (field_at 1 fields (such is_nif) word.Nif) (λ (nif : List ℕ).
     and_then (name_said (past 2 fields)) (λ (name : List ℕ).
@@ -178,7 +179,7 @@ request_said command.Cancel party_of fields = cancel_said fields
 -- a command, `TILL SERIAL` and then what it asks for
 abbrev pub command_said : Form → Above → Command → List (List ℕ) → Result Line Word
 command_said form above command fields =
-    unless_any (when (not (has_commands form)) word.Command ∷ when (nat_le 100_000 above.commands) word.TooMany ∷ []) (
+    unless_any (when (not (has_commands form)) word.Command ∷ when (nat_le MAX_COMMANDS above.commands) word.TooMany ∷ []) (
     and_then (field_at 0 fields (number_in 1 64) word.Till) (λ (till : ℕ).
     and_then (field_at 1 fields (number_in 1 4_294_967_295) word.Number) (λ (serial : ℕ).
     and_then (request_said command above.party (past 2 fields)) (λ (request : Request).
@@ -193,20 +194,20 @@ verdict_of judging.Warn code = Warn code
 abbrev pub verdict_said : Judging → Above → List (List ℕ) → Result Line Word
 verdict_said judging above fields =
     and_then (field_at 0 fields (such is_num_serie) word.Num) (λ (num : List ℕ).
-    and_then (field_at 1 fields (number_in 1 1000) word.Number) (λ (n : ℕ).
-    and_then (field_at 2 fields (number_in 1 65_535) word.Number) (λ (code : ℕ).
+    and_then (field_at 1 fields (number_in 1 MAX_NTH) word.Number) (λ (n : ℕ).
+    and_then (field_at 2 fields (number_in 1 MAX_CODE) word.Number) (λ (code : ℕ).
     ends_at 3 fields (unless_any (when (is_some (verdict_for above.verdicts num n)) word.Twice ∷ []) (
     Ok (line.Verdict (record { num = num; n = n; verdict = verdict_of judging code })))))))
 
 -- `wait SECONDS`: the pause that the agency asks for after each answer
 abbrev pub wait_said : Above → List (List ℕ) → Result Line Word
 wait_said above fields =
-    and_then (field_at 0 fields (number_in 0 86_400) word.Number) (λ (seconds : ℕ).
+    and_then (field_at 0 fields (number_in 0 MAX_WAIT) word.Number) (λ (seconds : ℕ).
     ends_at 1 fields (unless_any (when (is_some above.wait) word.Twice ∷ []) (Ok (line.Wait seconds))))
 
 -- `late D`, behind its word: D calls later
 abbrev pub late_said : List (List ℕ) → Result Fate Word
-late_said fields = and_then (field_at 0 fields (number_in 1 1000) word.Number) (λ (calls : ℕ). ends_at 1 fields (Ok (Late calls)))
+late_said fields = and_then (field_at 0 fields (number_in 1 MAX_LATE) word.Number) (λ (calls : ℕ). ends_at 1 fields (Ok (Late calls)))
 
 -- `lost`, `taken`, `stale`, `again` or `late D`, and nothing behind it
 abbrev pub fate_said : List (List ℕ) → Result Fate Word
@@ -218,7 +219,7 @@ fate_said (field ∷ fields) =
 -- `link CALL FATE`: what befalls the call of this number
 abbrev pub link_said : Above → List (List ℕ) → Result Line Word
 link_said above fields =
-    and_then (field_at 0 fields (number_in 1 1_000_000) word.Number) (λ (call : ℕ).
+    and_then (field_at 0 fields (number_in 1 MAX_CALL) word.Number) (λ (call : ℕ).
     and_then (fate_said (past 1 fields)) (λ (fate : Fate).
     unless_any (when (is_some (fate_at above.fates call)) word.Twice ∷ []) (Ok (line.Link (record { call = call; fate = fate })))))
 

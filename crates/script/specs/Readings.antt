@@ -15,6 +15,7 @@ use Rattle.record_fields.specs.Picks.{first_of, when}
 use Rattle.stamps.specs.Text.{date_text_of}
 use Rattle.tax_lines.specs.Breakdown.{is_past}
 use Rattle.tax_lines.specs.Classes.{key_text}
+use Rattle.tax_lines.specs.declared.breakdown.TheConstants.{MAX_LINES}
 use Rattle.tax_lines.specs.declared.classes.LineKey.{LineKey}
 use Rattle.tax_lines.specs.declared.classes.LineKey.TheVariants.{General, Reduced, SuperReduced, Zero, GeneralSurcharge, ReducedSurcharge, SuperReducedSurcharge, S2, N1, N2, E1, E2, E3, E4, E5, E6}
 use Rattle.tax_lines.specs.declared.lines.TaxLine.{TaxLine}
@@ -75,6 +76,6 @@ is_name text =
     nat_le 1 (length text) && nat_le (length text) 120 && not (is_some (position is_control text))
     && not ((slice_index text 0 == 32) || (slice_index text (length text - 1) == 32))
 
--- the lines of an invoice: 1 to 12, and no base past 99,999,999.99
+-- the lines of an invoice: one or more and within their limit, and no base past its limit
 unfoldable pub is_breakdown : List TaxLine → Bool
-is_breakdown lines = nat_le 1 (length lines) && nat_le (length lines) 12 && not (is_some (position is_past lines))
+is_breakdown lines = nat_le 1 (length lines) && nat_le (length lines) MAX_LINES && not (is_some (position is_past lines))

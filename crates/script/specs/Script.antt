@@ -1,6 +1,7 @@
 -- A script: what its lines say, or the first line that says nothing.
 use Rattle.std.specs.Prelude.{◌≡◌, ℕ, ◌+◌, List, [], ◌∷◌, ◌++◌, length, map, filter_map, unwrap_or, Result, Ok, Err}
 use Rattle.agency_rules.specs.declared.plans.Plan.{Plan}
+use Rattle.pacing.specs.declared.pace.TheConstants.{FIRST_WAIT}
 use Rattle.record_fields.specs.Picks.{first_of}
 use Rattle.shop_core.specs.declared.words.Word.{Word}
 use Rattle.script.specs.Cuts.{lines_of}
@@ -19,11 +20,12 @@ EachSays form before (line ∷ lines) [] = ⊥
 EachSays form before (line ∷ lines) (meaning ∷ meanings) =
     (said form before line ≡ Ok meaning) × EachSays form (before ++ meaning ∷ []) lines meanings
 
--- what these lines plan: their verdicts and fates in order, and the pause of the line that says one, else a minute
+-- what these lines plan: their verdicts and fates in order, and the pause of the line that says one, else the
+-- agency's first waiting time
 abbrev pub plan_of : List Line → Plan
 plan_of meanings = record {
   verdicts = filter_map verdict_in meanings;
-  wait = unwrap_or (first_of (map wait_in meanings)) 60;
+  wait = unwrap_or (first_of (map wait_in meanings)) FIRST_WAIT;
   fates = filter_map fate_in meanings;
 }
 

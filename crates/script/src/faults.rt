@@ -1,9 +1,12 @@
 // Why a line, or a part of it, says nothing.
+ghost use Rattle.script.specs.Kept.{Answers};
 
 use ports::NoMemory;
 use shop_core::Word;
 
 /// Why a line, or a part of it, says nothing.
+ghost use Rattle.script.specs.Kept.{Answers};
+
 #[derive(Clone, Copy, Drop)]
 pub enum Fault {
     /// What is wrong in it.
@@ -31,5 +34,15 @@ impl From<NoMemory> for Fault {
 
     fn from(_: NoMemory) -> Self {
         Fault::NoMemory
+    }
+}
+
+/// The same answer, where want of memory may come too.
+pub fn worded<T>(said: Result<T, Word>) -> Result<T, Fault>
+    ensures { Answers said result }
+{
+    match said {
+        Ok(said) => Ok(said),
+        Err(word) => Err(Fault::Bad(word)),
     }
 }

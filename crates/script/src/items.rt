@@ -4,7 +4,7 @@ ghost use Rattle.script.specs.Items as spec;
 ghost use Rattle.script.specs.Kept.{Answers, party_of};
 
 use crate::customers::Customers;
-use crate::faults::Fault;
+use crate::faults::{Fault, worded};
 use crate::fields::{at_colon, at_equals, at_sign};
 use crate::numbers::cents_of;
 use crate::readings::{class_of, day_of, rect_of};
@@ -157,15 +157,6 @@ fn option_item(
         return worded(ref_item(value));
     }
     Err(Fault::Bad(Word::Option))
-}
-
-fn worded(item: Result<Item, Word>) -> Result<Item, Fault>
-    ensures { Answers item result }
-{
-    match item {
-        Ok(item) => Ok(item),
-        Err(word) => Err(Fault::Bad(word)),
-    }
 }
 
 /// What a field says after those in which that was seen.

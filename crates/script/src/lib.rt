@@ -9,6 +9,7 @@ mod fields;
 mod forms;
 mod items;
 mod keys;
+mod limits;
 mod lines;
 mod numbers;
 mod planned;
@@ -21,4 +22,8 @@ mod scripts;
 mod tests;
 
 pub use forms::Form;
+pub use limits::{
+    MAX_CALL, MAX_CODE, MAX_COMMANDS, MAX_CUSTOMERS, MAX_LATE, MAX_NTH, MAX_SCRIPT, MAX_START,
+    MAX_STEP, MAX_WAIT,
+};
 pub use scripts::{Asks, Script, ScriptFault, read_script};

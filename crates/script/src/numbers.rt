@@ -1,66 +1,42 @@
 // Numbers as a script writes them: decimal digits without leading zeros.
-ghost use Rattle.std.specs.Prelude.{◌≡◌, ◌≤◌, IfSome, unsigned_abs};
-ghost use Rattle.std.specs.Char.{is_ascii_digit};
+ghost use Rattle.std.specs.Prelude.{◌≡◌, ◌≤◌, ◌&&◌, nat_le, IfSome, unsigned_abs};
 ghost use Rattle.std.specs.Int.{IsInRange};
-ghost use Rattle.std.specs.List.{list_all};
+ghost use Rattle.amounts.specs.declared.cents.TheConstants.{MAX_CENTS};
 ghost use Rattle.script.specs.Numbers as spec;
 
-fn all_digits(text: &[u8]) -> bool
-    ensures { result ≡ list_all is_ascii_digit text.now }
-{
-    text.iter().all(|c| c.is_ascii_digit())
-}
+use amounts::{MAX_CENTS, read_whole};
 
-fn is_number(text: &[u8]) -> bool
-    ensures { result ≡ spec.is_number text.now }
+fn is_within(low: u64, high: u64, n: u64) -> bool
+    ensures { result ≡ (nat_le low n && nat_le n high) }
 {
-    if text.is_empty() || !all_digits(text) {
-        return false;
-    }
-    text.len() == 1 || text[0] != b'0'
-}
-
-// The number that digits write, where it is at most `high`.
-fn value_up_to(high: u64, digits: &[u8]) -> Option<u64>
-    requires { high ≤ 9_999_999_999_999 }
-    ensures { result ≡ spec.value_up_to high digits.now }
-{
-    let mut value = 0;
-    for c in digits {
-        value = value * 10 + u64::from(c.saturating_sub(b'0'));
-        if value > high {
-            return None;
-        }
-    }
-    Some(value)
+    low <= n && n <= high
 }
 
 /// The number that a text writes, where it lies from `low` to `high`.
 pub fn number_in(low: u64, high: u64, text: &[u8]) -> Option<u64>
-    requires { high ≤ 9_999_999_999_999 }
+    requires { high ≤ MAX_CENTS }
     ensures value { result ≡ spec.number_in low high text.now }
     ensures range { IfSome result (λ n. IsInRange low high n) }
 {
-    if !is_number(text) {
-        return None;
-    }
-    match value_up_to(high, text) {
-        Some(n) if n >= low => Some(n),
-        _ => None,
+    let n = read_whole(text)?;
+    if is_within(low, high, n) {
+        Some(n)
+    } else {
+        None
     }
 }
 
-/// Cents of at most 13 digits, with a minus in front where they are negative.
+/// Cents within the limit of amounts, with a minus in front where they are negative.
 pub fn cents_of(text: &[u8]) -> Option<i64>
     ensures value { result ≡ spec.cents_of text.now }
-    ensures range { IfSome result (λ z. unsigned_abs z ≤ 9_999_999_999_999) }
+    ensures range { IfSome result (λ z. unsigned_abs z ≤ MAX_CENTS) }
 {
     match text {
-        [b'-', digits @ ..] => match number_in(1, 9_999_999_999_999, digits) {
+        [b'-', digits @ ..] => match number_in(1, MAX_CENTS, digits) {
             Some(n) => Some(-(n as i64)),
             None => None,
         },
-        _ => match number_in(0, 9_999_999_999_999, text) {
+        _ => match number_in(0, MAX_CENTS, text) {
             Some(n) => Some(n as i64),
             None => None,
         },

@@ -6,6 +6,7 @@ ghost use Rattle.script.specs.Lines as spec;
 
 use crate::fields::Fields;
 use crate::items::is_word;
+use crate::limits::{MAX_CALL, MAX_CODE, MAX_LATE, MAX_NTH, MAX_WAIT};
 use crate::lines::Line;
 use crate::readings::{fate_of, num, number};
 use crate::scripts::SoFar;
@@ -35,8 +36,8 @@ fn verdict(read: &SoFar, judging: Judging, fields: &mut Fields) -> Result<Line, 
     ensures { result ≡ spec.verdict_said judging (known read.now) fields.old }
 {
     let num = num(fields)?;
-    let n = number(fields, 1, 1000, Word::Number)?;
-    let code = number(fields, 1, 65_535, Word::Number)?;
+    let n = number(fields, 1, MAX_NTH, Word::Number)?;
+    let code = number(fields, 1, MAX_CODE, Word::Number)?;
     fields.end()?;
     if read.verdicts.has(num, n as u32) {
         return Err(Word::Twice);
@@ -52,7 +53,7 @@ fn verdict(read: &SoFar, judging: Judging, fields: &mut Fields) -> Result<Line, 
 fn wait(read: &SoFar, fields: &mut Fields) -> Result<Line, Word>
     ensures { result ≡ spec.wait_said (known read.now) fields.old }
 {
-    let seconds = number(fields, 0, 86_400, Word::Number)?;
+    let seconds = number(fields, 0, MAX_WAIT, Word::Number)?;
     fields.end()?;
     if read.wait.is_some() {
         return Err(Word::Twice);
@@ -66,7 +67,7 @@ fn wait(read: &SoFar, fields: &mut Fields) -> Result<Line, Word>
 fn late(fields: &mut Fields) -> Result<Fate, Word>
     ensures { result ≡ spec.late_said fields.old }
 {
-    let calls = number(fields, 1, 1000, Word::Number)?;
+    let calls = number(fields, 1, MAX_LATE, Word::Number)?;
     fields.end()?;
     Ok(Fate::Late(calls as u32))
 }
@@ -90,7 +91,7 @@ fn fate(fields: &mut Fields) -> Result<Fate, Word>
 fn link(read: &SoFar, fields: &mut Fields) -> Result<Line, Word>
     ensures { result ≡ spec.link_said (known read.now) fields.old }
 {
-    let call = number(fields, 1, 1_000_000, Word::Number)?;
+    let call = number(fields, 1, MAX_CALL, Word::Number)?;
     let fate = fate(fields)?;
     if read.fates.has(call as u32) {
         return Err(Word::Twice);

@@ -1,6 +1,7 @@
 // The fields of a line as they are read, each with its own word.
 ghost use Rattle.std.specs.Prelude.{◌≡◌, ◌≤◌, ℕ, drop, IfOk, OnOk, IfSome};
 ghost use Rattle.std.specs.Int.{IsInRange};
+ghost use Rattle.amounts.specs.declared.cents.TheConstants.{MAX_CENTS};
 ghost use Rattle.parties.specs.declared.nif.Nif.{Nif as AnyNif};
 ghost use Rattle.series.specs.Numbers.{is_series, is_num_serie};
 ghost use Rattle.shop_core.specs.declared.words.Word.TheVariants as word;
@@ -21,7 +22,7 @@ use tax_lines::LineKey;
 
 /// A number of this range.
 pub fn number(fields: &mut Fields, low: u64, high: u64, word: Word) -> Result<u64, Word>
-    requires { high ≤ 9_999_999_999_999 }
+    requires { high ≤ MAX_CENTS }
     ensures value { result ≡ first_field fields.old (numbers.number_in low high) word }
     ensures rest { OnOk result (fields.new ≡ drop 1 fields.old) }
     ensures range { IfOk result (λ n. IsInRange low high n) }

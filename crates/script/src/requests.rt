@@ -5,7 +5,7 @@ ghost use Rattle.script.specs.Lines as spec;
 
 use crate::customers::Customers;
 use crate::drafts::draft;
-use crate::faults::Fault;
+use crate::faults::{Fault, worded};
 use crate::fields::Fields;
 use crate::readings::{kind, num, series};
 use shop_core::{Request, Word};
@@ -60,9 +60,6 @@ pub fn request(
     match command {
         Command::Sale => sale(alloc, customers, fields),
         Command::Fix => fix(alloc, customers, fields),
-        Command::Cancel => match cancel(fields) {
-            Ok(request) => Ok(request),
-            Err(word) => Err(Fault::Bad(word)),
-        },
+        Command::Cancel => worded(cancel(fields)),
     }
 }

@@ -4,11 +4,12 @@ ghost use Rattle.script.specs.Cuts.{parts_of};
 ghost use Rattle.script.specs.Kept.{Answers, known};
 ghost use Rattle.script.specs.Lines as spec;
 
-use crate::faults::Fault;
+use crate::faults::{Fault, worded};
 use crate::fields::Fields;
 use crate::forms::Form;
 use crate::items::is_word;
 use crate::keys::Key;
+use crate::limits::{MAX_COMMANDS, MAX_CUSTOMERS, MAX_START, MAX_STEP};
 use crate::lines::Line;
 use crate::planning::planned_line;
 use crate::readings::{key, nif, number};
@@ -22,8 +23,8 @@ use std::alloc::Global;
 fn clock(read: &SoFar, fields: &mut Fields) -> Result<Line, Word>
     ensures { result ≡ spec.clock_said (known read.now) fields.old }
 {
-    let start = number(fields, 0, 1_000_000_000_000, Word::Number)?;
-    let step = number(fields, 0, 1_000_000, Word::Number)?;
+    let start = number(fields, 0, MAX_START, Word::Number)?;
+    let step = number(fields, 0, MAX_STEP, Word::Number)?;
     fields.end()?;
     if read.clock.is_some() {
         return Err(Word::Twice);
@@ -51,7 +52,7 @@ fn name(alloc: Global, fields: &mut Fields) -> Result<Name, Fault>
 fn customer(alloc: Global, read: &SoFar, fields: &mut Fields) -> Result<Line, Fault>
     ensures { Answers (spec.customer_said (known read.now) fields.old) result }
 {
-    if read.customers.len() >= 10_000 {
+    if read.customers.len() >= MAX_CUSTOMERS {
         return Err(Fault::Bad(Word::TooMany));
     }
     let key = key(fields)?;
@@ -80,7 +81,7 @@ fn command(
     if form == Form::NoCommands {
         return Err(Fault::Bad(Word::Command));
     }
-    if read.asks.len() >= 100_000 {
+    if read.asks.len() >= MAX_COMMANDS {
         return Err(Fault::Bad(Word::TooMany));
     }
     let till = number(fields, 1, 64, Word::Till)?;
@@ -88,15 +89,6 @@ fn command(
     match request(alloc, &read.customers, command, fields) {
         Ok(request) => Ok(Line::Command(Ask::new(till as u8, serial as u32, request))),
         Err(fault) => Err(fault),
-    }
-}
-
-fn worded(line: Result<Line, Word>) -> Result<Line, Fault>
-    ensures { Answers line result }
-{
-    match line {
-        Ok(line) => Ok(line),
-        Err(word) => Err(Fault::Bad(word)),
     }
 }
 

@@ -1,7 +1,10 @@
 // Scripts: what their lines say, or the first bad line.
 ghost use Rattle.std.specs.Prelude.{◌≡◌, ◌≤◌, ◌<◌, IfOk, ◌++◌, ◌∷◌, [], List, length};
 ghost use Rattle.script.specs.Kept.{IsRead, IsNew, Reads, known, script_kept};
+ghost use Rattle.script.specs.Planned.{IsPlanned};
 ghost use Rattle.script.specs.Script.{IsScript};
+ghost use Rattle.script.specs.declared.forms.Form.TheVariants.{NoCommands};
+ghost use Rattle.script.specs.declared.limits.TheConstants.{MAX_COMMANDS};
 ghost use Rattle.script.specs.declared.lines.Line.{Line as AnyLine};
 
 use crate::customers::Customers;
@@ -12,41 +15,14 @@ use crate::lines::Line;
 use crate::planned::{LinkLines, VerdictLines};
 use crate::saying::line;
 use agency_rules::Plan;
+use pacing::FIRST_WAIT;
 use ports::NoMemory;
+use record_fields::ListOf;
 use shop_core::{Ask, Word};
 use std::alloc::Global;
-use std::marker::Model;
 
 /// The asks of a script, in line order.
-#[derive(Drop)]
-pub struct Asks {
-    list: Vec<Ask>,
-}
-
-impl Model for Asks {
-    ghost use Rattle.std.specs.Prelude.{List};
-    ghost use Rattle.shop_core.specs.Asked.{Asked};
-
-    ghost Value = { List Asked };
-
-    ghost view = { λ a. a.list.items };
-}
-
-impl Asks {
-    /// The list of these asks.
-    pub fn of(list: Vec<Ask>) -> Asks
-        ensures { result ≡ list.items }
-    {
-        Asks { list }
-    }
-
-    /// The asks, in their order.
-    pub fn as_slice(&self) -> &[Ask]
-        ensures { result.now ≡ self.now }
-    {
-        &self.list
-    }
-}
+pub type Asks = ListOf<Ask>;
 
 /// A script: START and STEP of its clock line, where it has one, its asks, and the plan of the practice agency.
 #[derive(Drop)]
@@ -135,7 +111,7 @@ impl SoFar {
         }
     }
 
-    // The script of these lines. The agency's own service begins with a pause of 60 seconds.
+    // The script of these lines. Where none says a pause it is the agency's first.
     fn into_script(self) -> Script
         ensures { result ≡ script_kept self }
     {
@@ -144,7 +120,7 @@ impl SoFar {
             asks: Asks::of(self.asks),
             plan: Plan {
                 verdicts: self.verdicts.into_verdicts(),
-                wait: self.wait.unwrap_or(60),
+                wait: self.wait.unwrap_or(FIRST_WAIT),
                 fates: self.fates.into_fates(),
             },
         }
@@ -157,7 +133,9 @@ impl SoFar {
 pub fn read_script(alloc: Global, bytes: &[u8], form: Form) -> Result<Script, ScriptFault>
     requires { length bytes.now < 4_294_967_295 }
     ensures script { IsScript form bytes.now result }
-    ensures few { IfOk result (λ script. length script.asks ≤ 100_000) }
+    ensures few { IfOk result (λ script. length script.asks ≤ MAX_COMMANDS) }
+    ensures plan { IfOk result (λ script. IsPlanned script.plan) }
+    ensures commands { form ≡ NoCommands → IfOk result (λ script. script.asks ≡ []) }
 {
     let mut lines = Parts::of(bytes, b'\n');
     let mut read = SoFar::nothing(alloc);

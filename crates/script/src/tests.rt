@@ -1,11 +1,11 @@
-use crate::{Form, ScriptFault, read_script};
+use crate::{Form, MAX_SCRIPT, ScriptFault, read_script};
 use agency_rules::{Fate, Verdict};
 use shop_core::{Request, Word};
 use std::alloc::{AllocError, Global};
 use std::test::Fail;
 
 fn bad_line(alloc: Global, bytes: &[u8], form: Form) -> Option<(u32, Word)> {
-    if bytes.len() > 16_777_216 {
+    if bytes.len() > MAX_SCRIPT {
         return None;
     }
     match read_script(alloc, bytes, form) {
@@ -256,7 +256,7 @@ fn a_plan_is_that_of_its_lines(rt: HostRuntime) -> Result<(), Fail> {
 }
 
 fn commands(alloc: Global, bytes: &[u8]) -> Option<usize> {
-    if bytes.len() > 16_777_216 {
+    if bytes.len() > MAX_SCRIPT {
         return None;
     }
     match read_script(alloc, bytes, Form::Full) {

@@ -1,19 +1,22 @@
-use Rattle.std.proofs.Common.{◌∙◌, ◌++◌, ◌∷◌, ◌≤◌, refl, sym, ap, subst, arith, length, List, ℕ, [], ◌==◌, unwrap_or}
+use Rattle.std.proofs.Common.{◌∙◌, ◌++◌, ◌∷◌, ◌≤◌, refl, sym, ap, subst, arith, length, List, ◌≡◌, ℕ, [], ◌==◌, unwrap_or}
 use Rattle.std.proofs.lemmas.List.Splits.{length-slice_split}
 use Rattle.std.proofs.lemmas.List.Sums.{count_by-le-length}
 use Rattle.std.specs.Str.Lines.{strip_carriage_return}
 use Rattle.agency_rules.specs.declared.plans.Plan.{Plan}
+use Rattle.pacing.specs.declared.pace.TheConstants.{FIRST_WAIT}
 use Rattle.script.specs.Cuts.{lines_of}
 use Rattle.script.specs.Kept.{known}
-use Rattle.script.specs.Lines.{Above}
-use Rattle.script.specs.Script.{EachSays}
+use Rattle.script.specs.Lines.{Above, has_commands}
+use Rattle.script.specs.Script.{EachSays, plan_of}
 use Rattle.script.specs.declared.scripts.Script.{Script}
-use Rattle.script.proofs.Reading.{to_come, said_is_new, next_line, all_read}
+use Rattle.script.specs.Planned.{IsPlanned}
+use Rattle.script.proofs.Plans.{plan_sound}
+use Rattle.script.proofs.Reading.{to_come, said_is_new, next_line, all_read, no_asks}
 use Rattle.script.proofs.scripts.read_script.Goals as goal
 
 -- what the lines above plan
 abbrev planned_above : Above → Plan
-planned_above above = record { verdicts = above.verdicts; wait = unwrap_or above.wait 60; fates = above.fates }
+planned_above above = record { verdicts = above.verdicts; wait = unwrap_or above.wait FIRST_WAIT; fates = above.fates }
 
 pub loop-text-init : goal.loop-text-init
 loop-text-init c =
@@ -61,3 +64,16 @@ returns-clause-script c =
 
 pub returns-clause-few : goal.returns-clause-few
 returns-clause-few c = rw c.into_script.ensures c.loop-text.invariant.partway.good.few
+
+pub returns-clause-commands : goal.returns-clause-commands
+returns-clause-commands c = λ none.
+    let inv = c.loop-text.invariant in
+    ap (λ (script : Script). script.asks) c.into_script.ensures ∙ inv.partway.good.asks
+    ∙ no_asks c.args.form [] inv.front inv.meanings (ap has_commands none) inv.partway.each
+
+pub returns-clause-plan : goal.returns-clause-plan
+returns-clause-plan c =
+    let inv = c.loop-text.invariant in
+    let is : c.into_script.result.plan ≡ plan_of inv.meanings =
+    ap (λ (script : Script). script.plan) c.into_script.ensures ∙ ap planned_above inv.partway.good.above in
+    subst IsPlanned (sym is) (plan_sound c.args.form inv.front inv.meanings inv.partway.each)
