@@ -1,5 +1,5 @@
 -- What is loaded of what is read.
-use Rattle.std.proofs.Common.{◌≡◌, ℕ, List}
+use Rattle.std.proofs.Common.{ℕ, List}
 use Rattle.shop_core.specs.History.{History}
 use Rattle.shop_core.specs.Reading.{IsRead}
 use Rattle.shop_core.specs.Reading.IsRead.{not_begun, stands}
