@@ -1,6 +1,6 @@
-pub mod Output
+pub mod Sinks
 pub mod Disks
-pub mod LastAlta
-pub mod Commands
-pub mod Ends
-pub mod Opened
+pub mod Output
+pub mod Auditing
+pub mod Linking
+pub mod Ended

@@ -1,9 +1,19 @@
-// The end that the cause of a failed opening comes to.
+// What a command comes to: its end with the status, and the end of a file that couldn't be opened.
 ghost use Rattle.std.specs.Prelude.{◌≡◌};
-ghost use Rattle.file_commands.specs.Opened as spec;
+ghost use Rattle.report.specs.Statuses.{status_of};
+ghost use Rattle.file_commands.specs.Ended as spec;
 
 use chain_store::OpenCause;
-use report::Detail;
+use report::{Detail, Ended, status_of};
+
+/// An end with its status.
+pub fn ended(detail: Detail) -> Ended
+    ensures status { result.status ≡ status_of detail }
+    ensures detail { result.detail ≡ detail }
+{
+    let status = status_of(&detail);
+    Ended { status, detail }
+}
 
 /// The end of a call whose file couldn't be opened for this cause.
 pub fn detail_of(cause: &OpenCause) -> Detail
