@@ -8,3 +8,4 @@ pub mod Fill
 pub mod Props
 pub mod Image
 pub mod File
+pub mod Disks

@@ -3,3 +3,5 @@ pub mod Given
 pub mod Memory
 pub mod Readings
 pub mod Counting
+pub mod Sinks
+pub mod Sources
