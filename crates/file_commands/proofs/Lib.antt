@@ -1,3 +1,2 @@
 pub mod Bytewise
-pub mod FileEnding
-pub mod LastAltas
+pub mod Lasts

@@ -1,7 +1,7 @@
 -- How `audit` ends.
 use Rattle.std.specs.Prelude.{ℕ, IsTrue}
-use Rattle.file_commands.specs.Disks.{Disks, DiskRose}
-use Rattle.file_commands.specs.Sinks.{Sinks, WroteNothing}
+use Rattle.chain_disk.specs.Disks.{Disks, DiskRose}
+use Rattle.ports.specs.Sinks.{Sinks, WroteNothing}
 use Rattle.shop_core.specs.declared.audits.AuditEnd.{AuditEnd}
 use Rattle.shop_core.specs.declared.audits.AuditEnd.TheVariants.{Sound, Broken}
 use Rattle.audit.specs.Verdict.{IsVerdict}
@@ -21,6 +21,7 @@ verdict_end (Broken place at what) = detail.Broken place what
 
 -- the verdict was printed, sound or broken; or why it wasn't
 pub data AuditEnds {D : Type 0} (s : Sinks) (k : Disks D) : Detail → Type 0 where
-  reached : (verdict : AuditEnd) (end : Detail) → IsVerdictOn k verdict → PrintEnds (verdict_text verdict) (verdict_end verdict) s end → AuditEnds s k end
+  reached : (verdict : AuditEnd) (end : Detail) → IsVerdictOn k verdict →
+      PrintEnds (verdict_text verdict) (verdict_end verdict) s end → AuditEnds s k end
   disk_fault : DiskRose k → WroteNothing s → AuditEnds s k detail.DiskFault
   no_memory : WroteNothing s → AuditEnds s k detail.NoMemory

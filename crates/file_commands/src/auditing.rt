@@ -1,11 +1,11 @@
 // The command `audit`: prints the verdict on a file.
 ghost use Rattle.std.specs.Prelude.{◌≡◌};
-ghost use Rattle.file_commands.specs.Disks.{this_disk};
-ghost use Rattle.file_commands.specs.Sinks.{this_sink};
+ghost use Rattle.chain_disk.specs.Disks.{this_disk};
+ghost use Rattle.ports.specs.Sinks.{this_sink};
 ghost use Rattle.report.specs.Statuses.{status_of};
 ghost use Rattle.file_commands.specs.Auditing.{AuditEnds, verdict_end};
 
-use crate::ended::ended;
+use crate::ends::ended_as;
 use crate::output::print;
 use audit::{AuditFault, audit};
 use chain_disk::Disk;
@@ -18,17 +18,19 @@ use std::alloc::Global;
 /// there is sound and is left missing. A write fault comes before a broken file.
 pub fn audit_cmd<K: Sink, D: Disk>(alloc: Global, sink: &mut K, disk: D) -> (Ended, D)
     ensures status { result.0.status ≡ status_of result.0.detail }
-    ensures ends { AuditEnds (this_sink K.taken K.faults sink.old sink.new) (this_disk D.tells D.told D.faults disk result.1) result.0.detail }
+    ensures ends { AuditEnds (this_sink K.taken K.faults sink.old sink.new)
+        (this_disk D.tells D.told D.faults disk result.1) result.0.detail }
     ensures same { D.told result.1 ≡ D.told disk }
 {
     let mut disk = disk;
     let detail = audited(alloc, sink, &mut disk);
-    (ended(detail), disk)
+    (ended_as(detail), disk)
 }
 
 // Looks at the file and prints the verdict.
 fn audited<K: Sink, D: Disk>(alloc: Global, sink: &mut K, disk: &mut D) -> Detail
-    ensures ends { AuditEnds (this_sink K.taken K.faults sink.old sink.new) (this_disk D.tells D.told D.faults disk.old disk.new) result }
+    ensures ends { AuditEnds (this_sink K.taken K.faults sink.old sink.new)
+        (this_disk D.tells D.told D.faults disk.old disk.new) result }
     ensures same { D.told disk.new ≡ D.told disk.old }
 {
     let verdict = match audit(alloc, disk) {

@@ -3,11 +3,11 @@
 #![tactic(auto)]
 
 mod auditing;
-mod ended;
+mod ends;
 mod linking;
 mod output;
 
 pub use auditing::audit_cmd;
-pub use ended::{detail_of, ended};
+pub use ends::{detail_of, ended_as};
 pub use linking::link_cmd;
-pub use output::{print, write_text, write_texts};
+pub use output::{print, write_texts};

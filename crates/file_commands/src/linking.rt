@@ -1,18 +1,82 @@
 // The command `link`: prints the verification link of an invoice.
 ghost use Rattle.std.specs.Prelude.{◌≡◌};
-ghost use Rattle.file_commands.specs.Disks.{this_disk};
-ghost use Rattle.file_commands.specs.Sinks.{this_sink};
+ghost use Rattle.chain_disk.specs.Disks.{this_disk};
+ghost use Rattle.ports.specs.Sinks.{this_sink};
 ghost use Rattle.report.specs.Statuses.{status_of};
-ghost use Rattle.file_commands.specs.Linking.{LinkEnds, LinkEndsIn, last_alta_of, entries_of};
+ghost use Rattle.file_commands.specs.Linking.{LinkEnds, LinkedFrom};
 
-use crate::ended::{detail_of, ended};
-use crate::output::print;
+use crate::ends::{detail_of, ended_as};
+use crate::output::print_line;
 use chain_disk::Disk;
 use chain_store::load;
 use ports::{NoMemory, Sink};
-use record_fields::{Alta, Record};
+use record_fields::Record;
 use report::{Detail, Ended};
 use series::NumSerie;
 use shop_core::State;
 use std::alloc::Global;
 use verify_link::{Host, link_of};
+
+/// Prints the link of the last alta of this number, refused or not, at this host: status 14 where the chain has none. The
+/// file is only read; one that isn't there has no invoice and is left missing.
+pub fn link_cmd<K: Sink, D: Disk>(
+    alloc: Global,
+    num: &NumSerie,
+    host: Host,
+    sink: &mut K,
+    disk: D,
+) -> (Ended, D)
+    ensures status { result.0.status ≡ status_of result.0.detail }
+    ensures ends { LinkEnds num.now host (this_sink K.taken K.faults sink.old sink.new)
+        (this_disk D.tells D.told D.faults disk result.1) result.0.detail }
+    ensures same { D.told result.1 ≡ D.told disk }
+{
+    let mut disk = disk;
+    let detail = linked(alloc, num, host, sink, &mut disk);
+    (ended_as(detail), disk)
+}
+
+// Reads the history and prints the link.
+fn linked<K: Sink, D: Disk>(
+    alloc: Global,
+    num: &NumSerie,
+    host: Host,
+    sink: &mut K,
+    disk: &mut D,
+) -> Detail
+    ensures ends { LinkEnds num.now host (this_sink K.taken K.faults sink.old sink.new)
+        (this_disk D.tells D.told D.faults disk.old disk.new) result }
+    ensures same { D.told disk.new ≡ D.told disk.old }
+{
+    match load(alloc, disk) {
+        Err(cause) => detail_of(&cause),
+        Ok(loaded) => match &loaded.state {
+            None => Detail::Unknown,
+            Some(state) => link_in(alloc, state, num, host, sink),
+        },
+    }
+}
+
+// Prints the link of the last alta of this number in the history.
+fn link_in<K: Sink>(
+    alloc: Global,
+    state: &State,
+    num: &NumSerie,
+    host: Host,
+    sink: &mut K,
+) -> Detail
+    ensures { LinkedFrom state.now.entries num.now host (this_sink K.taken K.faults sink.old sink.new) result }
+{
+    let sealed = match state.last_alta(alloc, num) {
+        Ok(Some(sealed)) => sealed,
+        Ok(None) => return Detail::Unknown,
+        Err(NoMemory) => return Detail::NoMemory,
+    };
+    let Record::Alta(alta) = &sealed.body else {
+        unreachable!()
+    };
+    match link_of(alloc, alta, host) {
+        Ok(text) => print_line(text.as_slice(), sink),
+        Err(_) => Detail::NoMemory,
+    }
+}

@@ -23,15 +23,21 @@ use Rattle.shop_core.specs.Runs.{ChainRun}
 use Rattle.shop_core.specs.Runs.ChainRun.{begun, replied}
 use Rattle.shop_core.specs.declared.answers.Reply.{Reply}
 use Rattle.verifactu.specs.Crashes.{Kept, StandsBetween}
-use Rattle.file_commands.specs.Opened.{detail_of}
-use Rattle.file_commands.specs.Output.{OutputIs}
+use Rattle.file_commands.specs.Ends.{detail_of}
 use Rattle.verifactu.specs.Printed.{printed}
-use Rattle.verifactu.specs.Readings.{IsComing, IsAsked, readings, readings_of, LeavesClock}
+use Rattle.verifactu.specs.Readings.{IsComing, IsAsked, readings}
 use Rattle.verifactu.specs.Replies.{AllGoOn, AllReplied, StopsAt, StopsOnce, is_disk_fault, is_no_memory}
-use Rattle.file_commands.specs.Output.{FailedIn, Sinks, Wrote}
-use Rattle.file_commands.specs.Disks.{DiskRose, Disks}
-use Rattle.verifactu.specs.Run.{ChainEnds, Devices, IsGoodScript, LeftMeaning, NotOpened, OpeningEnds, Played, RunEnds, ScriptEnds}
-use Rattle.verifactu.specs.Stages.{Answers, Span, StoreEnds}
+use Rattle.ports.specs.Sinks.{FailedIn, OutputIs, Sinks, Wrote}
+use Rattle.chain_disk.specs.Disks.{DiskRose, Disks}
+use Rattle.verifactu.specs.Chain.{ChainEnds, LeftMeaning, NotOpened, OpeningEnds, Played, ReadAndRan, ScriptEnds, ScriptIs, no_script_end}
+use Rattle.verifactu.specs.Chain.OpeningEnds.{disk_fault, damaged, other_issuer, no_memory}
+use Rattle.verifactu.specs.Chain.ChainEnds.{ran, bad_line, read_fault, too_big, no_memory as unread_memory}
+use Rattle.verifactu.specs.Commands.{Answers, Stores}
+use Rattle.verifactu.specs.Devices.{Clocks, Devices, LeftClock, Untouched}
+use Rattle.verifactu.specs.Ending.{RunEnds}
+use Rattle.verifactu.specs.Ending.RunEnds.{done, write_fault, disk_fault as disk_failed, no_memory as lacks_memory}
+use Rattle.verifactu.specs.declared.chain.NoScript.{NoScript}
+use Rattle.verifactu.specs.declared.chain.NoScript.TheVariants as none
 use Rattle.verifactu.proofs.Finishing.{kept_since}
 
 -- no reply is want of memory, and none a fault of the disk
@@ -50,27 +56,29 @@ went_on (Err NoMemory ∷ replies) all = went_on replies all.1
 went_on (Err DiskFault ∷ replies) all = absurd all.0
 went_on (Err (Stopped count) ∷ replies) all = absurd all.0
 
-pub written_whole : (text : List ℕ) (s : Sinks) (w : Result (Unit {0}) Failed) (u : Unit {0}) → w ≡ Ok u → OutputIs s.taken s.taken_after s.faults s.faults_after text w → Wrote s text
-written_whole text s w u is h = subst (λ (r : Result (Unit {0}) Failed). OutputIs s.taken s.taken_after s.faults s.faults_after text r) is h
+pub written_whole : (text : List ℕ) (s : Sinks) (w : Result (Unit {0}) Failed) (u : Unit {0}) → w ≡ Ok u → OutputIs s text w → Wrote s text
+written_whole text s w u is h = subst (λ (r : Result (Unit {0}) Failed). OutputIs s text r) is h
 
-pub written_part : (text : List ℕ) (s : Sinks) (w : Result (Unit {0}) Failed) (e : Failed) → w ≡ Err e → OutputIs s.taken s.taken_after s.faults s.faults_after text w → FailedIn s text
-written_part text s w e is h =
-    let failed = subst (λ (r : Result (Unit {0}) Failed). OutputIs s.taken s.taken_after s.faults s.faults_after text r) is h in
-    record { risen = failed.0; part = failed.1 }
+pub written_part : (text : List ℕ) (s : Sinks) (w : Result (Unit {0}) Failed) (e : Failed) → w ≡ Err e → OutputIs s text w → FailedIn s text
+written_part text s w e is h = subst (λ (r : Result (Unit {0}) Failed). OutputIs s text r) is h
+
+pub written_either : (text : List ℕ) (s : Sinks) (w : Result (Unit {0}) Failed) → OutputIs s text w → Wrote s text ⊎ FailedIn s text
+written_either text s (Ok u) h = inl h
+written_either text s (Err e) h = inr h
 
 -- the end of an opening that failed has its cause
 pub opening_ends : {D : Type 0} (c : OpenCause) (issuer : List ℕ) (k : Disks D) → (c ≡ cause.DiskFault → DiskRose k) →
     ((at : ℕ) → c ≡ cause.Damaged at → IsTrue k.tells → IsDamagedFile (k.told k.disk).content at × ReadsAlike (k.told k.disk) (k.told k.disk_after)) →
     ((held : List ℕ) → c ≡ cause.OtherIssuer held → IsTrue k.tells → IsOthers issuer held (k.told k.disk).content × ReadsAlike (k.told k.disk) (k.told k.disk_after)) →
     LeftMeaning issuer k → OpeningEnds issuer k (detail_of c)
-opening_ends cause.DiskFault issuer k fault damaged other left = (fault refl, left)
-opening_ends (cause.Damaged at) issuer k fault damaged other left = damaged at refl
-opening_ends (cause.OtherIssuer held) issuer k fault damaged other left = other held refl
-opening_ends cause.NoMemory issuer k fault damaged other left = left
+opening_ends cause.DiskFault issuer k fault bad other left = disk_fault (fault refl) left
+opening_ends (cause.Damaged at) issuer k fault bad other left = damaged at (bad at refl)
+opening_ends (cause.OtherIssuer held) issuer k fault bad other left = other_issuer held (other held refl)
+opening_ends cause.NoMemory issuer k fault bad other left = no_memory left
 
-pub not_asked : {C : Type 0} (coming : C → ℕ → Option ℕ) (clock after : C) → after ≡ clock → IsAsked coming 0 clock after
-not_asked coming clock after same = record {
-  moved = λ k. let e : k ≡ 0 + k = omega arith in ap (λ c. coming c k) same ∙ ap (coming clock) e;
+pub not_asked : {C : Type 0} (t : Clocks C) → LeftClock t → IsAsked t 0
+not_asked t same = record {
+  moved = λ k. let e : k ≡ 0 + k = omega arith in ap (λ c. t.coming c k) same ∙ ap (t.coming t.clock) e;
   untouched = λ none. same;
 }
 
@@ -86,11 +94,11 @@ stops_from first before after replies later (inr h) = inr (record {
 })
 
 -- a run of a store is one of its file, from its opening on
-pub ran : {D C : Type 0} (issuer : List ℕ) (asks : List Asked) (replies : List (Result Reply StoreFault)) (s : Span C) (sink : Sinks) (k : Disks D) (end : Detail) → s.issuer ≡ issuer → s.tells ≡ k.tells →
-    s.faults_after ≡ k.faults k.disk_after → s.now ≡ k.told k.disk_after → k.faults k.disk ≤ s.faults → (IsTrue k.tells → IsFound issuer s.start (k.told k.disk).content) →
+pub store_ran : {D C : Type 0} (issuer : List ℕ) (asks : List Asked) (replies : List (Result Reply StoreFault)) (s : Stores C) (sink : Sinks) (k : Disks D) (end : Detail) → s.issuer ≡ issuer →
+    s.tells ≡ k.tells → s.faults_after ≡ k.faults k.disk_after → s.now ≡ k.told k.disk_after → k.faults k.disk ≤ s.faults → (IsTrue k.tells → IsFound issuer s.start (k.told k.disk).content) →
     (IsTrue k.tells → LeavesOnly (synced (k.told k.disk)) s.since (IsFound issuer s.start)) → Answers asks replies s →
-    RunEnds replies (printed asks replies s.end) sink end → ScriptEnds issuer asks (s.coming s.clock) (λ rs. IsAsked s.coming (readings rs) s.clock s.clock_after) sink k end
-ran issuer asks replies s sink k end own tells faults_after now later found any h ends =
+    RunEnds replies (printed asks replies s.end) sink end → ScriptEnds issuer asks (s.clock.coming s.clock.clock) (λ rs. IsAsked s.clock (readings rs)) sink k end
+store_ran issuer asks replies s sink k end own tells faults_after now later found any h ends =
     let kept_here : IsTrue k.tells → Kept (StandsBetween issuer s.start s.end) issuer s.end replies s.since (k.told k.disk_after) = λ says.
     subst (λ (t : Told). Kept (StandsBetween issuer s.start s.end) issuer s.end replies s.since t) now
     (subst (λ (n : List ℕ). Kept (StandsBetween n s.start s.end) n s.end replies s.since s.now) own (h.kept (subst (λ (b : Bool). IsTrue b) (sym tells) says))) in
@@ -100,7 +108,7 @@ ran issuer asks replies s sink k end own tells faults_after now later found any 
         replies = replies;
         end = s.end;
         found = found;
-        run = subst (λ (n : List ℕ). ChainRun n (IsComing (s.coming s.clock)) s.start asks replies s.end) own h.run;
+        run = subst (λ (n : List ℕ). ChainRun n (IsComing (s.clock.coming s.clock.clock)) s.start asks replies s.end) own h.run;
         begins = h.begins;
         legal = subst (λ (n : List ℕ). Legal n s.end) own h.legal;
         linked = subst (λ (n : List ℕ). Linked n (recs s.end)) own h.linked;
@@ -147,30 +155,31 @@ rose_of : (faults after : ℕ) (replies : List (Result Reply StoreFault)) → St
 rose_of faults after replies (inl all) some = let none = went_on replies all in absurd cc
 rose_of faults after replies (inr stop) some = stop.risen
 
-disk_rose : {D : Type 0} (issuer : List ℕ) (asks : List Asked) (coming : ℕ → Option ℕ) (Leaves : List (Result Reply StoreFault) → Type 0) (s : Sinks) (k : Disks D) →
-    ScriptEnds issuer asks coming Leaves s k detail.DiskFault → DiskRose k
-disk_rose issuer asks coming Leaves s k (inl h) = h.cause.0
-disk_rose issuer asks coming Leaves s k (inr h) = rose_of (k.faults k.disk) (k.faults k.disk_after) h.0.replies h.0.stops h.1.1
+rose_ran : {D : Type 0} (issuer : List ℕ) (asks : List Asked) (coming : ℕ → Option ℕ) (Leaves : List (Result Reply StoreFault) → Type 0) (s : Sinks) (k : Disks D) (end : Detail) →
+    (p : Played issuer asks coming Leaves k) → RunEnds p.replies (printed asks p.replies p.end) s end → end ≡ detail.DiskFault → DiskRose k
+rose_ran issuer asks coming Leaves s k end p (disk_failed memory some wrote) is = rose_of (k.faults k.disk) (k.faults k.disk_after) p.replies p.stops some
+rose_ran issuer asks coming Leaves s k end p (done all wrote) is = absurd cc
+rose_ran issuer asks coming Leaves s k end p (write_fault all wrote) is = absurd cc
+rose_ran issuer asks coming Leaves s k end p (lacks_memory wrote) is = absurd cc
+
+rose_opening : {D : Type 0} (issuer : List ℕ) (k : Disks D) (end : Detail) → OpeningEnds issuer k end → end ≡ detail.DiskFault → DiskRose k
+rose_opening issuer k end (disk_fault rose left) is = rose
+rose_opening issuer k end (damaged at h) is = absurd cc
+rose_opening issuer k end (other_issuer held h) is = absurd cc
+rose_opening issuer k end (no_memory left) is = absurd cc
+
+disk_rose : {D : Type 0} (issuer : List ℕ) (asks : List Asked) (coming : ℕ → Option ℕ) (Leaves : List (Result Reply StoreFault) → Type 0) (s : Sinks) (k : Disks D) (end : Detail) →
+    ScriptEnds issuer asks coming Leaves s k end → end ≡ detail.DiskFault → DiskRose k
+disk_rose issuer asks coming Leaves s k end (inl h) is = rose_opening issuer k end h.cause is
+disk_rose issuer asks coming Leaves s k end (inr h) is = rose_ran issuer asks coming Leaves s k end h.0 h.1 is
 
 -- the end of a command that read its script is that of its run
-pub chain_ends : {D C : Type 0} (issuer : List ℕ) (d : Devices D C) (script : Script) (end : Detail) → IsGoodScript d.left d.left_after script →
-    ScriptEnds issuer script.asks (readings_of script.clock (d.coming d.clock)) (LeavesClock d.coming script.clock d.clock d.clock_after) d.sink d.disk end → ChainEnds issuer d end
-chain_ends issuer d script detail.Done good h = (script, good, h)
-chain_ends issuer d script detail.WriteFault good h = (script, good, h)
-chain_ends issuer d script detail.DiskFault good h =
-    ((script, good, h), disk_rose issuer script.asks (readings_of script.clock (d.coming d.clock)) (LeavesClock d.coming script.clock d.clock d.clock_after) d.sink d.disk h)
-chain_ends issuer d script (detail.Damaged at) good h = (script, good, h)
-chain_ends issuer d script (detail.OtherIssuer held) good h = (script, good, h)
-chain_ends issuer d script detail.NoMemory good h = inr (script, good, h)
-chain_ends issuer d script detail.Usage good (inl h) = absurd h.cause
-chain_ends issuer d script detail.Usage good (inr h) = absurd h.1
-chain_ends issuer d script (detail.Script line fault) good (inl h) = absurd h.cause
-chain_ends issuer d script (detail.Script line fault) good (inr h) = absurd h.1
-chain_ends issuer d script detail.ReadFault good (inl h) = absurd h.cause
-chain_ends issuer d script detail.ReadFault good (inr h) = absurd h.1
-chain_ends issuer d script (detail.Broken place what) good (inl h) = absurd h.cause
-chain_ends issuer d script (detail.Broken place what) good (inr h) = absurd h.1
-chain_ends issuer d script detail.Unknown good (inl h) = absurd h.cause
-chain_ends issuer d script detail.Unknown good (inr h) = absurd h.1
-chain_ends issuer d script detail.TooBig good (inl h) = absurd h.cause
-chain_ends issuer d script detail.TooBig good (inr h) = absurd h.1
+pub chain_ran : {D C : Type 0} (issuer : List ℕ) (d : Devices D C) (end : Detail) → ReadAndRan issuer d end → ChainEnds issuer d end
+chain_ran issuer d end h = ran end h (disk_rose issuer h.0.asks _ _ d.sink d.disk end h.1.1)
+
+-- the end of a command whose source is no script
+pub chain_unread : {D C : Type 0} (issuer : List ℕ) (d : Devices D C) (fault : NoScript) → ScriptIs d.source (Err fault) → Untouched d → ChainEnds issuer d (no_script_end fault)
+chain_unread issuer d none.ReadFault is left = read_fault is left
+chain_unread issuer d none.TooBig is left = too_big is left
+chain_unread issuer d (none.BadLine line fault) is left = bad_line line fault is left
+chain_unread issuer d none.NoMemory is left = unread_memory left

@@ -16,8 +16,9 @@ mod tests;
 mod words;
 
 use chain_disk::FileDisk;
+use file_commands::ended_as;
 use ports::{NoMemory, StdSink, StdSource, SystemClock};
-use report::{Detail, Ended, fault_text, status_of};
+use report::{Detail, Ended, fault_text};
 use run::run;
 use std::env;
 use std::io::{ErrorKind, Write};
@@ -40,13 +41,6 @@ fn file_of(rt: &HostRuntime, words: &[String]) -> Result<String, NoMemory> {
     match words.get(1) {
         Some(file) => Ok(String::from_str(rt.alloc(), file.as_str())?),
         None => Ok(String::new(rt.alloc())),
-    }
-}
-
-fn ended_as(detail: Detail) -> Ended {
-    Ended {
-        status: status_of(&detail),
-        detail,
     }
 }
 

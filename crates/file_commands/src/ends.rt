@@ -1,13 +1,13 @@
 // What a command comes to: its end with the status, and the end of a file that couldn't be opened.
 ghost use Rattle.std.specs.Prelude.{◌≡◌};
 ghost use Rattle.report.specs.Statuses.{status_of};
-ghost use Rattle.file_commands.specs.Ended as spec;
+ghost use Rattle.file_commands.specs.Ends as spec;
 
 use chain_store::OpenCause;
 use report::{Detail, Ended, status_of};
 
 /// An end with its status.
-pub fn ended(detail: Detail) -> Ended
+pub fn ended_as(detail: Detail) -> Ended
     ensures status { result.status ≡ status_of detail }
     ensures detail { result.detail ≡ detail }
 {
