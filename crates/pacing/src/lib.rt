@@ -5,4 +5,4 @@ mod pace;
 #[cfg(test)]
 mod tests;
 
-pub use pace::{Pace, WaitUntil};
+pub use pace::{FIRST_WAIT, FULL_BATCH, Pace, WaitUntil};

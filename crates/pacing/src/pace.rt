@@ -1,6 +1,13 @@
 // The waiting time between submissions, by the tax agency's description of the submission service.
 ghost use Rattle.std.specs.Prelude.{◌≡◌, MatchResult, true, false};
 ghost use Rattle.pacing.specs.Due.{is_due, due_at};
+ghost use Rattle.pacing.specs.declared.pace.TheConstants.{FIRST_WAIT};
+
+/// The agency's first waiting time, in seconds: it holds until a reply sets another.
+pub const FIRST_WAIT: u32 = 60;
+
+/// So many waiting records make a submission due at once: the most records in a batch.
+pub const FULL_BATCH: u32 = 1000;
 
 /// No submission is due before this second.
 #[derive(Clone, Copy, Debug, PartialEq, Eq)]
@@ -14,20 +21,23 @@ pub struct Pace {
 }
 
 impl Pace {
-    /// Before the first submission: none was made, and the agency's first waiting time is 60 seconds.
+    /// Before the first submission: none was made, and the next one waits `FIRST_WAIT` seconds.
     pub fn start() -> Pace
-        ensures { result ≡ record { last = 0; wait = 60 } }
+        ensures { result ≡ record { last = 0; wait = FIRST_WAIT } }
     {
-        Pace { last: 0, wait: 60 }
+        Pace {
+            last: 0,
+            wait: u64::from(FIRST_WAIT),
+        }
     }
 
-    /// Whether a submission is due at this second, with so many records waiting. Refused exactly where fewer than 1000 wait
-    /// and the waiting time hasn't passed, with the second at which it will have passed.
+    /// Whether a submission is due at this second, with so many records waiting. Refused exactly where fewer than
+    /// `FULL_BATCH` wait and the waiting time hasn't passed, with the second at which it will have passed.
     pub fn due(&self, now: u64, waiting: u32) -> Result<(), WaitUntil>
         ensures { MatchResult result (λ _. is_due self.now now waiting ≡ true) (λ w. (is_due self.now now waiting ≡ false) × (w.0 ≡ due_at self.now)) }
     {
         let at = self.last.saturating_add(self.wait);
-        if waiting < 1000 && now < at {
+        if waiting < FULL_BATCH && now < at {
             return Err(WaitUntil(at));
         }
         Ok(())

@@ -5,3 +5,4 @@ pub mod Readings
 pub mod Counting
 pub mod Sinks
 pub mod Sources
+pub mod Reasons

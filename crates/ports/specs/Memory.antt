@@ -12,6 +12,10 @@ pub record Held : Type 0 where
 abbrev pub counted_up : ℕ → ℕ
 counted_up n = min (n + 1) (2 ^ 64 - 1)
 
+-- the count of failures, which a u64 holds
+abbrev pub counted : Held → ℕ
+counted held = min held.faults (2 ^ 64 - 1)
+
 -- the coming call is one of those that fail
 abbrev pub IsListed : Held → Type 0
 IsListed held = Contains held.failing (counted_up held.calls)

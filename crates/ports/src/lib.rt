@@ -1,20 +1,29 @@
-//! What reaches the outside: a source of bytes, a sink of bytes and a clock, with their forms in memory and their adapters.
+//! What reaches the outside: a source of bytes, a sink of bytes, a clock, a sleeper and a gate. Each is a trait with
+//! its forms in memory, of which contracts say what they hold, and an adapter over the real thing, of which they
+//! say nothing but its count of faults. A call that fails answers `Failed` and raises the count, which stands still
+//! at the greatest u64; where a fault has a cause, it is that the count of a device that was handed in rose.
 #![tactic(auto)]
 
-ghost use Rattle.std.specs.Prelude.{◌≡◌, ◌+◌, ◌≤◌, ℕ, List, Option};
+ghost use Rattle.std.specs.Prelude.{◌≡◌, ◌+◌, ◌-◌, ◌^◌, ◌≤◌, ℕ, List, Option};
 ghost use Rattle.ports.specs.Causes.{HasCause};
 ghost use Rattle.ports.specs.Given.{Reads, Writes, IsWithin};
 ghost use Rattle.ports.specs.Readings.{IsTold, MovedBy};
 
 mod adapters;
 mod faults;
+mod gate;
 mod memory;
+mod reasons;
+mod sleeper;
 #[cfg(test)]
 mod tests;
 
 pub use adapters::{StdSink, StdSource, SystemClock};
 pub use faults::{Failed, NoMemory};
+pub use gate::{Gate, OpenGate};
 pub use memory::{CountingClock, ListClock, MemSink, MemSource};
+pub use reasons::{Faults, reason_of};
+pub use sleeper::{LeapSleeper, REST, Sleeper, ThreadSleeper};
 
 /// Gives bytes, in order, each once.
 pub trait Source {
@@ -30,6 +39,9 @@ pub trait Source {
         ensures within { IsWithin result buf.new }
         ensures bytes { Reads (left self.old) (left self.new) result buf.new }
         ensures cause { HasCause (faults self.old) (faults self.new) result };
+
+    /// The count of faults is one that a u64 holds.
+    ghost few_faults: { (source : Self) → faults source ≤ 2 ^ 64 - 1 };
 }
 
 /// Takes bytes, in order.
@@ -45,6 +57,9 @@ pub trait Sink {
         ensures within { IsWithin result bytes.now }
         ensures bytes { Writes (taken self.old) (taken self.new) result bytes.now }
         ensures cause { HasCause (faults self.old) (faults self.new) result };
+
+    /// The count of faults is one that a u64 holds.
+    ghost few_faults: { (sink : Self) → faults sink ≤ 2 ^ 64 - 1 };
 }
 
 /// Tells the time of day, which may go back.

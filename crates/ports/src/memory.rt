@@ -2,7 +2,8 @@
 ghost use Rattle.std.specs.Prelude.{◌≡◌, ℕ, ◌+◌, ◌*◌, ◌-◌, ◌^◌, ◌<◌, ◌≤◌, ◌↔◌, [], drop, take, length, min, vec_len, Some, slice_index, IsErr, IfOk};
 ghost use Rattle.ports.specs.Causes.{HasCause};
 ghost use Rattle.ports.specs.Given.{Reads, Writes, IsWithin};
-ghost use Rattle.ports.specs.Memory.{Held, IsListed, IsOneCall};
+ghost use Rattle.ports.specs.Memory.{Held, counted, IsListed, IsOneCall};
+ghost use Rattle.std.proofs.Common.{rules, arith};
 
 use crate::faults::fault;
 use crate::{Clock, Failed, Sink, Source};
@@ -59,13 +60,15 @@ fn copy_front(from: &[u8], buf: &mut [u8]) -> usize
 impl Source for MemSource {
     ghost left = { λ s. Some s.bytes };
 
-    ghost faults = { λ s. s.faults };
+    ghost faults = { counted };
+
+    ghost few_faults = { Prim.search (rules, arith) };
 
     /// Gives as many bytes as there are and fit.
     fn read(&mut self, buf: &mut [u8]) -> Result<usize, Failed>
         ensures within { IsWithin result buf.new }
         ensures bytes { Reads (Some self.old.bytes) (Some self.new.bytes) result buf.new }
-        ensures cause { HasCause self.old.faults self.new.faults result }
+        ensures cause { HasCause (counted self.old) (counted self.new) result }
         ensures fails { IsErr result ↔ IsListed self.old }
         ensures call { IsOneCall self.old self.new result }
         ensures all_that_fit { IfOk result (λ n. n ≡ min (length buf.old) (length self.old.bytes)) }
@@ -122,13 +125,15 @@ impl MemSink {
 impl Sink for MemSink {
     ghost taken = { λ s. Some s.bytes };
 
-    ghost faults = { λ s. s.faults };
+    ghost faults = { counted };
+
+    ghost few_faults = { Prim.search (rules, arith) };
 
     /// Takes all of the bytes or none. Want of memory is a fault as any other.
     fn write(&mut self, bytes: &[u8]) -> Result<usize, Failed>
         ensures within { IsWithin result bytes.now }
         ensures bytes { Writes (Some self.old.bytes) (Some self.new.bytes) result bytes.now }
-        ensures cause { HasCause self.old.faults self.new.faults result }
+        ensures cause { HasCause (counted self.old) (counted self.new) result }
         ensures fails { IsListed self.old → IsErr result }
         ensures call { IsOneCall self.old self.new result }
         ensures all_of_them { IfOk result (λ n. n ≡ length bytes.now) }

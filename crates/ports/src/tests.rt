@@ -1,7 +1,10 @@
 use crate::{
-    Clock, CountingClock, Failed, ListClock, MemSink, MemSource, Sink, Source, SystemClock,
+    Clock, CountingClock, Failed, Gate, LeapSleeper, ListClock, MemSink, MemSource, OpenGate, Sink,
+    Sleeper, Source, StdSink, StdSource, SystemClock, ThreadSleeper, reason_of,
 };
 use std::alloc::Global;
+use std::io::ErrorKind;
+use std::sync::Wait;
 use std::test::Fail;
 
 fn read_once<S: Source>(source: &mut S, room: usize) -> Result<([u8; 8], usize), Failed> {
@@ -99,4 +102,52 @@ fn the_system_clock_tells_this_machines_time(rt: HostRuntime) {
         readings[0] <= readings[3] && readings[3] < 4102444800,
         "{readings:?}"
     );
+}
+
+// Its seconds at first, after a rest, and after waiting for a second that many seconds from the first.
+fn waited<Z: Sleeper, R: Wait>(sleeper: &mut Z, rt: &R, more: u64) -> [u64; 3] {
+    let first = sleeper.now();
+    sleeper.rest(rt);
+    let rested = sleeper.now();
+    sleeper.wait_until(rt, first.saturating_add(more));
+    [first, rested, sleeper.now()]
+}
+
+#[test]
+fn a_sleeper_reaches_the_second_that_it_waited_for(rt: HostRuntime) {
+    let leaps = waited(&mut LeapSleeper::new(1735722000), &rt, 86400);
+    assert_eq!(rt; leaps, [1735722000, 1735722000, 1735808400]);
+    let [first, rested, then] = waited(&mut ThreadSleeper::new(&rt), &rt, 1);
+    assert!(rt; 1767225600 < first && first <= rested, "{first}, {rested}");
+    assert!(rt; then > first && then < 4102444800, "{first}, {then}");
+}
+
+fn pass<T: Gate, R: Wait>(gate: &T, rt: &R) {
+    gate.before(rt, 1, 1);
+    gate.after(rt, 1, 1);
+    gate.noted(rt, 1);
+}
+
+#[test]
+fn an_open_gate_holds_nobody(rt: HostRuntime) {
+    pass(&OpenGate, &rt);
+}
+
+#[test]
+fn an_adapter_without_a_fault_has_no_reason(rt: HostRuntime) {
+    assert_eq!(rt; StdSource::new(&rt).reason(), None);
+    let mut sink = StdSink::new(&rt);
+    assert_eq!(rt; write_once(&mut sink, b""), Ok(0));
+    assert_eq!(rt; sink.reason(), None);
+    let rows = [
+        (ErrorKind::PermissionDenied, "permission denied"),
+        (ErrorKind::StorageFull, "no space left"),
+        (ErrorKind::BrokenPipe, "broken pipe"),
+        (ErrorKind::NotFound, "no such file"),
+        (ErrorKind::IsADirectory, "is a folder"),
+        (ErrorKind::TimedOut, "input or output error"),
+    ];
+    for (kind, text) in rows {
+        assert_eq!(rt; reason_of(kind), text);
+    }
 }

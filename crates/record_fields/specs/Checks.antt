@@ -1,13 +1,12 @@
--- What a draft needs, in the order in which it is looked for. The table of needs and the limit of 3000.00 euros are this project's own.
-use Rattle.std.specs.Prelude.{ℕ, ◌∷◌, [], length, is_some, not, nat_lt, ◌&&◌, ◌||◌, Bool, true, false, Option, ℤ, unsigned_abs}
-use Rattle.invoice_kinds.specs.Kinds.{needs_of}
-use Rattle.invoice_kinds.specs.declared.kind.Kind.{Kind}
-use Rattle.invoice_kinds.specs.declared.kind.Kind.TheVariants as kind
+-- What a draft needs, in the order in which it is looked for. The table of needs is this project's own.
+use Rattle.std.specs.Prelude.{ℕ, ◌∷◌, [], length, is_some, not, nat_lt, ◌&&◌, Bool, true, false, Option, unsigned_abs}
+use Rattle.invoice_kinds.specs.Kinds.{needs_of, is_simplified}
 use Rattle.invoice_kinds.specs.declared.need.Need.{Need}
 use Rattle.invoice_kinds.specs.declared.need.Need.TheVariants.{Must, May, Never}
 use Rattle.tax_lines.specs.Totals.{total}
 use Rattle.record_fields.specs.Picks.{first_of, when}
 use Rattle.record_fields.specs.declared.drafts.Draft.{Draft}
+use Rattle.record_fields.specs.declared.checks.TheConstants.{MAX_REFS, SIMPLIFIED_LIMIT}
 use Rattle.record_fields.specs.declared.checks.DraftFault.{DraftFault}
 use Rattle.record_fields.specs.declared.checks.DraftFault.TheVariants.{CustomerMissing, CustomerUnwanted, RectMissing, RectUnwanted, RefsMissing, RefsUnwanted, TooManyRefs, OverSimplified}
 
@@ -23,17 +22,6 @@ is_unwanted Must there = false
 is_unwanted May there = false
 is_unwanted Never there = there
 
--- the simplified invoices
-abbrev pub is_simplified : Kind → Bool
-is_simplified kind.F1 = false
-is_simplified kind.F2 = true
-is_simplified kind.F3 = false
-is_simplified kind.R1 = false
-is_simplified kind.R2 = false
-is_simplified kind.R3 = false
-is_simplified kind.R4 = false
-is_simplified kind.R5 = true
-
 abbrev pub has_refs : Draft → Bool
 has_refs draft = nat_lt 0 (length draft.refs)
 
@@ -46,6 +34,6 @@ draft_fault draft = let needs = needs_of draft.kind in first_of (
     ∷ when (is_unwanted needs.rect (is_some draft.rect)) RectUnwanted
     ∷ when (is_missing needs.refs (has_refs draft)) RefsMissing
     ∷ when (is_unwanted needs.refs (has_refs draft)) RefsUnwanted
-    ∷ when (nat_lt 8 (length draft.refs)) (TooManyRefs (length draft.refs))
-    ∷ when (is_simplified draft.kind && nat_lt 300000 (unsigned_abs (total draft.lines))) (OverSimplified (total draft.lines))
+    ∷ when (nat_lt MAX_REFS (length draft.refs)) (TooManyRefs (length draft.refs))
+    ∷ when (is_simplified draft.kind && nat_lt SIMPLIFIED_LIMIT (unsigned_abs (total draft.lines))) (OverSimplified (total draft.lines))
     ∷ [])

@@ -9,8 +9,8 @@ mod records;
 #[cfg(test)]
 mod tests;
 
-pub use checks::{DraftFault, check_draft};
+pub use checks::{DraftFault, MAX_REFS, SIMPLIFIED_LIMIT, check_draft};
 pub use drafts::{Draft, Refs};
-pub use lines::{Cause, Line, Lines};
-pub use lists::{Bytes, SealedList, Text};
+pub use lines::{BATCH, Cause, Line, Lines};
+pub use lists::{Bytes, ListOf, SealedList, Text};
 pub use records::{Alta, Anulacion, Link, Previo, Record, Sealed};

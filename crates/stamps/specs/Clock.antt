@@ -3,6 +3,7 @@ use Rattle.std.specs.Prelude.{ℕ, ◌+◌, ◌-◌, ◌*◌, ◌/◌, ◌%◌, 
 use Rattle.std.specs.Int.{IsInRange}
 use Rattle.jiff.specs.Words.{days_in_month}
 use Rattle.stamps.specs.Civil.{date_at, day_number}
+use Rattle.stamps.specs.declared.stamp.TheConstants.{CLOCK_FROM, CLOCK_TO}
 
 -- the last Sunday of a month: from its last day back by as many days as that day is after a Sunday.
 -- Day 0 was a Thursday, the fourth day after a Sunday
@@ -30,7 +31,7 @@ offset_at t = if is_summer t then 120 else 60
 
 -- the moments from 2024 to 2099
 abbrev pub IsStampSeconds : ℕ → Type 0
-IsStampSeconds t = IsInRange 1_704_067_200 4_102_444_799 t
+IsStampSeconds t = IsInRange CLOCK_FROM CLOCK_TO t
 
 -- an hour ahead of UTC or two
 abbrev pub IsStampOffset : ℤ → Type 0

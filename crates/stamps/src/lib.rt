@@ -13,4 +13,4 @@ pub use civil::CivilDate;
 pub use clock::{last_sunday, zone};
 pub use day::{Day, date_text};
 pub use laws::{text_determines_day, text_determines_moment};
-pub use stamp::{ClockRange, Stamp, civil_day, moment_text, stamp_at};
+pub use stamp::{CLOCK_FROM, CLOCK_TO, ClockRange, Stamp, civil_day, moment_text, stamp_at};

@@ -8,8 +8,14 @@ use crate::clock;
 use crate::day::{Day, two_digits};
 use std::marker::Model;
 
-/// A moment from 2024 to 2099, in seconds since 1970 began at UTC (1,704,067,200 to 4,102,444,799), and how many minutes
-/// the local clock is ahead of UTC: 60 or 120. A moment that comes from elsewhere may carry either offset.
+/// The first second of the clock, in seconds since 1970 began at UTC: 2024 begins.
+pub const CLOCK_FROM: u64 = 1_704_067_200;
+
+/// The last second of the clock, in seconds since 1970 began at UTC: 2099 ends.
+pub const CLOCK_TO: u64 = 4_102_444_799;
+
+/// A moment from 2024 to 2099, in seconds since 1970 began at UTC (`CLOCK_FROM` to `CLOCK_TO`), and how many minutes the
+/// local clock is ahead of UTC: 60 or 120. A moment that comes from elsewhere may carry either offset.
 #[derive(Clone, Copy, Debug, PartialEq, Eq, Hash)]
 pub struct Stamp {
     pub seconds: u64,
@@ -36,7 +42,7 @@ pub struct ClockRange;
 fn is_stamp_seconds(seconds: u64) -> bool
     ensures { IsTrue result ↔ IsStampSeconds seconds }
 {
-    1_704_067_200 <= seconds && seconds <= 4_102_444_799
+    CLOCK_FROM <= seconds && seconds <= CLOCK_TO
 }
 
 fn is_stamp_offset(minutes: i16) -> bool
@@ -46,7 +52,7 @@ fn is_stamp_offset(minutes: i16) -> bool
 }
 
 /// The moment so many seconds after 1970 began at UTC, with the offset that the peninsular clock has there. Refused exactly
-/// outside 1,704,067,200 to 4,102,444,799.
+/// outside `CLOCK_FROM` to `CLOCK_TO`.
 pub fn stamp_at(seconds: u64) -> Result<Stamp, ClockRange>
     ensures range { IsOk result ↔ IsStampSeconds seconds }
     ensures value { IfOk result (λ s. s ≡ spec.moment_at seconds) }

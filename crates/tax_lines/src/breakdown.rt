@@ -9,7 +9,10 @@ use amounts::Cents;
 use std::alloc::{AllocError, Global};
 use std::marker::Model;
 
-/// The lines of an invoice, 1 to 12 of them, with their totals. A class may repeat.
+/// The most lines of an invoice. The limit is this project's own.
+pub const MAX_LINES: usize = 12;
+
+/// The lines of an invoice, 1 to `MAX_LINES` of them, with their totals. A class may repeat.
 #[derive(Debug, Drop)]
 pub struct Breakdown {
     lines: Vec<TaxLine>,
@@ -29,7 +32,7 @@ impl Model for Breakdown {
     ghost invariant = { λ b. IsKept b.lines.items b.kept_cuota b.kept_total };
 }
 
-// The place of the first line with a base past 9,999,999,999 cents in absolute value.
+// The place of the first line with a base past `MAX_BASE` in absolute value.
 fn first_past(lines: &[TaxLine]) -> Option<usize>
     ensures { result ≡ position is_past lines.now }
 {
@@ -37,8 +40,8 @@ fn first_past(lines: &[TaxLine]) -> Option<usize>
 }
 
 impl Breakdown {
-    /// The breakdown of the lines. The three refusals of the lines come in this order: no line, more than 12, and the first
-    /// base past 9,999,999,999 cents in absolute value.
+    /// The breakdown of the lines. The three refusals of the lines come in this order: no line, more than `MAX_LINES`, and
+    /// the first base past `MAX_BASE` in absolute value.
     pub fn of(alloc: Global, lines: &[TaxLine]) -> Result<Breakdown, LinesFault>
         ensures { IsBreakdownOf lines.now result }
     {
@@ -46,7 +49,7 @@ impl Breakdown {
             return Err(LinesFault::NoLines);
         }
         let n = lines.len();
-        if n > 12 {
+        if n > MAX_LINES {
             return Err(LinesFault::TooMany { n });
         }
         if let Some(i) = first_past(lines) {

@@ -9,7 +9,7 @@ mod lines;
 mod tests;
 mod totals;
 
-pub use breakdown::Breakdown;
+pub use breakdown::{Breakdown, MAX_LINES};
 pub use classes::LineKey;
 pub use faults::LinesFault;
-pub use lines::TaxLine;
+pub use lines::{MAX_BASE, TaxLine};

@@ -4,6 +4,9 @@ ghost use Rattle.std.specs.Prelude.{◌≡◌, nat_lt, unsigned_abs};
 use crate::LineKey;
 use amounts::{Cents, tax_of};
 
+/// The greatest base of a line in absolute value, in cents: 99,999,999.99 euros. The limit is this project's own.
+pub const MAX_BASE: u64 = 9_999_999_999;
+
 /// One line: a base, which may be negative, and its class.
 #[derive(Clone, Copy, Debug, PartialEq, Eq)]
 pub struct TaxLine {
@@ -22,10 +25,10 @@ impl TaxLine {
         tax_of(self.base, self.key.rate()) + tax_of(self.base, self.key.surcharge())
     }
 
-    // The base is past 9,999,999,999 cents in absolute value.
+    // The base is past `MAX_BASE` in absolute value.
     pub(crate) fn is_past(self) -> bool
         ensures { result ≡ is_past self }
     {
-        self.base.get().unsigned_abs() > 9_999_999_999
+        self.base.get().unsigned_abs() > MAX_BASE
     }
 }

@@ -1,0 +1,9 @@
+//! What holds of every tax number.
+ghost use Rattle.std.specs.Prelude.{◌≡◌, ℕ, List, length, IsAscii};
+ghost use Rattle.parties.specs.Nif.{IsNif};
+
+/// A tax number is nine bytes of ASCII.
+pub fn a_nif_is_nine_bytes()
+    ensures nine { (nif : List ℕ) → IsNif nif → length nif ≡ 9 }
+    ensures ascii { (nif : List ℕ) → IsNif nif → IsAscii nif }
+{}

@@ -1,0 +1,106 @@
+// A clock that waits, in memory and over the system's.
+ghost use Rattle.std.specs.Prelude.{◌≡◌, ◌≤◌, ℕ, Bool, IsTrue, max};
+
+use crate::adapters::seconds_of;
+use std::rt::Clock as SystemTimeSource;
+use std::sync::Wait;
+use std::thread;
+use std::time::Duration;
+
+/// How long the system's sleeper rests, in milliseconds.
+pub const REST: u64 = 50;
+
+/// Tells the second, and waits for one.
+pub trait Sleeper {
+    /// Whether what it answers is its moment.
+    ghost tells: { Bool };
+
+    /// Its moment, in seconds since 1970-01-01T00:00:00Z. What it answers is never below it.
+    ghost moment: { Self → ℕ };
+
+    /// Seconds since 1970-01-01T00:00:00Z.
+    fn now(&mut self) -> u64
+        ensures later { moment self.old ≤ result }
+        ensures told { IsTrue tells → result ≡ moment self.old }
+        ensures same { moment self.new ≡ moment self.old };
+
+    /// Waits until this second. After it the moment is at least this second.
+    fn wait_until<R: Wait>(&mut self, rt: &R, at: u64)
+        ensures { moment self.new ≡ max (moment self.old) at };
+
+    /// Waits a short while.
+    fn rest<R: Wait>(&mut self, rt: &R)
+        ensures { moment self.new ≡ moment self.old };
+}
+
+/// A sleeper that never waits: it leaps to the second for which it is asked to wait.
+#[derive(Drop)]
+pub struct LeapSleeper {
+    at: u64,
+}
+
+impl LeapSleeper {
+    /// A sleeper at this second.
+    pub fn new(at: u64) -> Self
+        ensures { ⟦<LeapSleeper as Sleeper>⟧.moment result ≡ at }
+    {
+        LeapSleeper { at }
+    }
+}
+
+impl Sleeper for LeapSleeper {
+    ghost use Rattle.std.specs.Prelude.{true};
+
+    ghost tells = { true };
+
+    ghost moment = { λ s. s.at };
+
+    fn now(&mut self) -> u64 {
+        self.at
+    }
+
+    fn wait_until<R: Wait>(&mut self, _rt: &R, at: u64) {
+        self.at = self.at.max(at);
+    }
+
+    fn rest<R: Wait>(&mut self, _rt: &R) {}
+}
+
+/// The system's clock, and waiting that sleeps. It answers no second below one for which it has waited, and 0 where
+/// the clock can't be read.
+#[derive(Drop)]
+pub struct ThreadSleeper<R> {
+    rt: R,
+    reached: u64,
+}
+
+impl<R: SystemTimeSource> ThreadSleeper<R> {
+    /// The sleeper of a runtime, which is given by reference.
+    pub fn new(rt: R) -> Self
+        ensures { ⟦<ThreadSleeper<R> as Sleeper>⟧.moment result ≡ 0 }
+    {
+        ThreadSleeper { rt, reached: 0 }
+    }
+}
+
+impl<R: SystemTimeSource> Sleeper for ThreadSleeper<R> {
+    ghost use Rattle.std.specs.Prelude.{false};
+
+    ghost tells = { false };
+
+    ghost moment = { λ s. s.reached };
+
+    fn now(&mut self) -> u64 {
+        seconds_of(&self.rt).max(self.reached)
+    }
+
+    fn wait_until<W: Wait>(&mut self, _rt: &W, at: u64) {
+        let left = at.saturating_sub(seconds_of(&self.rt));
+        thread::sleep(&self.rt, Duration::from_secs(left));
+        self.reached = self.reached.max(at);
+    }
+
+    fn rest<W: Wait>(&mut self, _rt: &W) {
+        thread::sleep(&self.rt, Duration::from_millis(REST));
+    }
+}
