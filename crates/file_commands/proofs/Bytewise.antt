@@ -1,10 +1,10 @@
 -- Texts written on from where they stand.
-use Rattle.std.proofs.Common.{◌≡◌, ℕ, ◌+◌, ◌-◌, ◌≤◌, min, List, ◌++◌, length, take, drop, arith, length-drop, length-take, Option, Result, Ok, Err}
+use Rattle.std.proofs.Common.{◌≡◌, ℕ, ◌+◌, ◌-◌, ◌≤◌, min, List, [], ◌++◌, append-nil, sym, length, take, drop, arith, length-drop, length-take, Option, Some, None, Result, Ok, Err}
 use Rattle.std.proofs.KnownBytes.{Appends-trans}
 use Rattle.std.proofs.lemmas.List.{take_all, take_min, take-append-le}
 use Rattle.std.proofs.Math.Seq.{take-add, take-append-add}
 use Rattle.std.specs.Io.KnownBytes.{Appends}
-use Rattle.ports.specs.declared.Failed.{Failed}
+use Rattle.ports.specs.declared.faults.Failed.{Failed}
 use Rattle.ports.specs.Sinks.{Sinks, FailedIn, OutputIs}
 
 pub take_on : (text : List ℕ) (done n : ℕ) → take (done + n) text ≡ take done text ++ take n (take (length text - done) (drop done text))
@@ -35,3 +35,8 @@ wrote_both taken mid taken_after faults between faults_after first second (Err e
   risen = λ below. let risen = h.risen below in omega (arith, risen);
   part = (length first + h.part.0, rw (take-append-add first second h.part.0) (Appends-trans taken mid taken_after first (take h.part.0 second) a h.part.1));
 }
+
+-- a sink that wasn't written to took nothing
+pub took_nothing : (taken : Option (List ℕ)) → Appends taken taken []
+took_nothing None = tt
+took_nothing (Some bytes) = sym (append-nil bytes)

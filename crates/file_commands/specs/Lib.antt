@@ -1,4 +1,3 @@
 pub mod Output
 pub mod Auditing
 pub mod Linking
-pub mod Ends

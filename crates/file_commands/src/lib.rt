@@ -8,6 +8,6 @@ mod linking;
 mod output;
 
 pub use auditing::audit_cmd;
-pub use ends::{detail_of, ended_as};
+pub use ends::ended_as;
 pub use linking::link_cmd;
 pub use output::{print, write_texts};

@@ -5,15 +5,14 @@ ghost use Rattle.ports.specs.Sinks.{this_sink};
 ghost use Rattle.report.specs.Statuses.{status_of};
 ghost use Rattle.file_commands.specs.Linking.{LinkEnds, LinkedFrom};
 
-use crate::ends::{detail_of, ended_as};
+use crate::ends::ended_as;
 use crate::output::print_line;
 use chain_disk::Disk;
-use chain_store::load;
 use ports::{NoMemory, Sink};
 use record_fields::Record;
 use report::{Detail, Ended};
 use series::NumSerie;
-use shop_core::State;
+use shop_core::{FileRead, ReadFault, State, a_broken_file_is_damaged, read_file};
 use std::alloc::Global;
 use verify_link::{Host, link_of};
 
@@ -48,12 +47,13 @@ fn linked<K: Sink, D: Disk>(
         (this_disk D.tells D.told D.faults disk.old disk.new) result }
     ensures same { D.told disk.new ≡ D.told disk.old }
 {
-    match load(alloc, disk) {
-        Err(cause) => detail_of(&cause),
-        Ok(loaded) => match &loaded.state {
-            None => Detail::Unknown,
-            Some(state) => link_in(alloc, state, num, host, sink),
-        },
+    a_broken_file_is_damaged();
+    match read_file(alloc, disk) {
+        Ok(FileRead::Sound { state, .. }) => link_in(alloc, &state, num, host, sink),
+        Ok(FileRead::NotBegun) => Detail::Unknown,
+        Ok(FileRead::Broken { at, .. }) => Detail::Damaged { at },
+        Err(ReadFault::DiskFault) => Detail::DiskFault,
+        Err(ReadFault::NoMemory) => Detail::NoMemory,
     }
 }
 

@@ -5,7 +5,7 @@ use Rattle.std.proofs.lemmas.List.{append-nil}
 use Rattle.chain_disk.specs.Told.{Told, IsImage, IsSettled, LeavesNow, LeavesOnly}
 use Rattle.chain_disk.specs.Runs.{leaves_now, started_settled, follows}
 use Rattle.chain_store.specs.Ready.{Holds}
-use Rattle.chain_store.specs.Stands.{StandsFor}
+use Rattle.shop_core.specs.Files.{StandsFor}
 use Rattle.huella.specs.Linked.{Linked}
 use Rattle.journal.specs.declared.faults.StoreFault.{StoreFault}
 use Rattle.journal.specs.declared.faults.StoreFault.TheVariants.{DiskFault}

@@ -1,17 +1,19 @@
 -- How a run ends, and what its clause says of the whole call.
 use Rattle.std.proofs.Common.{◌≡◌, inl, inr, ◌⊎◌, ℕ, ◌+◌, ◌≤◌, List, [], ◌∷◌, ◌++◌, sym, ◌∙◌, ap, subst, refl, arith, Bool, true, false, IsTrue, Option, Some, None, Result, Ok, Err}
 use Rattle.std.specs.List.{list_any}
+use Rattle.chain_disk.specs.Runs.{started_settled, weaker}
 use Rattle.chain_disk.specs.Told.{Told, LeavesOnly, synced}
-use Rattle.chain_store.specs.Stands.{IsDamagedFile}
+use Rattle.journal.specs.File.{IsNotBegun, IsNotBegunOrEmpty}
 use Rattle.chain_store.specs.declared.causes.OpenCause.{OpenCause}
 use Rattle.chain_store.specs.declared.causes.OpenCause.TheVariants as cause
 use Rattle.journal.specs.declared.faults.StoreFault.{StoreFault}
 use Rattle.journal.specs.declared.faults.StoreFault.TheVariants.{DiskFault, Stopped, NoMemory}
 use Rattle.ports.specs.Causes.{Rose}
 use Rattle.ports.specs.Readings.{IsTold}
-use Rattle.ports.specs.declared.Failed.{Failed}
+use Rattle.ports.specs.declared.faults.Failed.{Failed}
 use Rattle.record_codec.specs.declared.entries.Entry.{Entry}
-use Rattle.recovery.specs.Opening.{IsFound, IsOthers, KeepsMeaning, ReadsAlike}
+use Rattle.recovery.specs.Opening.{IsDiskLost, IsFound, IsLeftUnopened}
+use Rattle.recovery.specs.Opening.IsDiskLost.{not_synced, not_read, in_part}
 use Rattle.report.specs.declared.ended.Detail.{Detail}
 use Rattle.report.specs.declared.ended.Detail.TheVariants as detail
 use Rattle.script.specs.declared.scripts.Script.{Script}
@@ -22,20 +24,18 @@ use Rattle.shop_core.specs.Legal.{Legal}
 use Rattle.shop_core.specs.Runs.{ChainRun}
 use Rattle.shop_core.specs.Runs.ChainRun.{begun, replied}
 use Rattle.shop_core.specs.declared.answers.Reply.{Reply}
-use Rattle.verifactu.specs.Crashes.{Kept, StandsBetween}
-use Rattle.file_commands.specs.Ends.{detail_of}
+use Rattle.verifactu.specs.Crashes.{Kept, KeepsFile, StandsBetween}
 use Rattle.verifactu.specs.Printed.{printed}
 use Rattle.verifactu.specs.Readings.{IsComing, IsAsked, readings}
 use Rattle.verifactu.specs.Replies.{AllGoOn, AllReplied, StopsAt, StopsOnce, is_disk_fault, is_no_memory}
 use Rattle.ports.specs.Sinks.{FailedIn, OutputIs, Sinks, Wrote}
 use Rattle.chain_disk.specs.Disks.{DiskRose, Disks}
-use Rattle.verifactu.specs.Chain.{ChainEnds, LeftMeaning, NotOpened, OpeningEnds, Played, ReadAndRan, ScriptEnds, ScriptIs, no_script_end}
-use Rattle.verifactu.specs.Chain.OpeningEnds.{disk_fault, damaged, other_issuer, no_memory}
+use Rattle.verifactu.specs.Chain.{ChainEnds, NotOpened, Played, ReadAndRan, ScriptEnds, ScriptIs, no_script_end, opening_end}
 use Rattle.verifactu.specs.Chain.ChainEnds.{ran, bad_line, read_fault, too_big, no_memory as unread_memory}
 use Rattle.verifactu.specs.Commands.{Answers, Stores}
 use Rattle.verifactu.specs.Devices.{Clocks, Devices, LeftClock, Untouched}
 use Rattle.verifactu.specs.Ending.{RunEnds}
-use Rattle.verifactu.specs.Ending.RunEnds.{done, write_fault, disk_fault as disk_failed, no_memory as lacks_memory}
+use Rattle.verifactu.specs.Ending.RunEnds.{done, write_fault, disk_fault, no_memory}
 use Rattle.verifactu.specs.declared.chain.NoScript.{NoScript}
 use Rattle.verifactu.specs.declared.chain.NoScript.TheVariants as none
 use Rattle.verifactu.proofs.Finishing.{kept_since}
@@ -66,15 +66,23 @@ pub written_either : (text : List ℕ) (s : Sinks) (w : Result (Unit {0}) Failed
 written_either text s (Ok u) h = inl h
 written_either text s (Err e) h = inr h
 
--- the end of an opening that failed has its cause
-pub opening_ends : {D : Type 0} (c : OpenCause) (issuer : List ℕ) (k : Disks D) → (c ≡ cause.DiskFault → DiskRose k) →
-    ((at : ℕ) → c ≡ cause.Damaged at → IsTrue k.tells → IsDamagedFile (k.told k.disk).content at × ReadsAlike (k.told k.disk) (k.told k.disk_after)) →
-    ((held : List ℕ) → c ≡ cause.OtherIssuer held → IsTrue k.tells → IsOthers issuer held (k.told k.disk).content × ReadsAlike (k.told k.disk) (k.told k.disk_after)) →
-    LeftMeaning issuer k → OpeningEnds issuer k (detail_of c)
-opening_ends cause.DiskFault issuer k fault bad other left = disk_fault (fault refl) left
-opening_ends (cause.Damaged at) issuer k fault bad other left = damaged at (bad at refl)
-opening_ends (cause.OtherIssuer held) issuer k fault bad other left = other_issuer held (other held refl)
-opening_ends cause.NoMemory issuer k fault bad other left = no_memory left
+as_it_stood : (issuer : List ℕ) (old new : Told) → new ≡ synced old → KeepsFile issuer old new
+as_it_stood issuer old new is =
+    let P : List ℕ → Type 0 = λ c. (c ≡ old.content) ⊎ (IsNotBegun old.content × IsNotBegunOrEmpty issuer c) in
+    inr (subst (λ (t : Told). LeavesOnly (synced old) t P) (sym is) (started_settled (synced old) P refl (inl refl)))
+
+disk_lost : (issuer : List ℕ) (old new : Told) → IsDiskLost issuer old new → KeepsFile issuer old new
+disk_lost issuer old new (not_synced failed) = inl failed
+disk_lost issuer old new (not_read is) = as_it_stood issuer old new is
+disk_lost issuer old new (in_part h) =
+    inr (weaker (synced old) new (IsNotBegunOrEmpty issuer) (λ c. (c ≡ old.content) ⊎ (IsNotBegun old.content × IsNotBegunOrEmpty issuer c)) h.any_moment (λ c empty. inr (h.not_begun, empty)))
+
+-- what an opening that failed leaves keeps the file
+pub keeps_file : (issuer : List ℕ) (why : OpenCause) (old new : Told) → IsLeftUnopened issuer why old new → KeepsFile issuer old new
+keeps_file issuer cause.DiskFault old new h = disk_lost issuer old new h
+keeps_file issuer (cause.Damaged at) old new h = as_it_stood issuer old new h.1
+keeps_file issuer (cause.OtherIssuer held) old new h = as_it_stood issuer old new h.1
+keeps_file issuer cause.NoMemory old new h = as_it_stood issuer old new h
 
 pub not_asked : {C : Type 0} (t : Clocks C) → LeftClock t → IsAsked t 0
 not_asked t same = record {
@@ -130,7 +138,15 @@ run_by issuer R Q start each (replied asks replies entries ask told gained run s
 -- the same end, said of other readings and of another clock
 pub script_by : {D : Type 0} (issuer : List ℕ) (asks : List Asked) (old new : ℕ → Option ℕ) (Leaves Left : List (Result Reply StoreFault) → Type 0) (s : Sinks) (k : Disks D) (end : Detail) →
     ((i : ℕ) → old i ≡ new i) → ((replies : List (Result Reply StoreFault)) → Leaves replies → Left replies) → ScriptEnds issuer asks old Leaves s k end → ScriptEnds issuer asks new Left s k end
-script_by issuer asks old new Leaves Left s k end same leaves (inl h) = inl (record { cause = h.cause; wrote = h.wrote; clock = leaves [] h.clock })
+script_by issuer asks old new Leaves Left s k end same leaves (inl h) = inl (record {
+  why = h.why;
+  ends = h.ends;
+  risen = h.risen;
+  left = h.left;
+  every_crash = h.every_crash;
+  wrote = h.wrote;
+  clock = leaves [] h.clock;
+})
 script_by issuer asks old new Leaves Left s k end same leaves (inr h) =
     let p = h.0 in
     inr (
@@ -157,20 +173,20 @@ rose_of faults after replies (inr stop) some = stop.risen
 
 rose_ran : {D : Type 0} (issuer : List ℕ) (asks : List Asked) (coming : ℕ → Option ℕ) (Leaves : List (Result Reply StoreFault) → Type 0) (s : Sinks) (k : Disks D) (end : Detail) →
     (p : Played issuer asks coming Leaves k) → RunEnds p.replies (printed asks p.replies p.end) s end → end ≡ detail.DiskFault → DiskRose k
-rose_ran issuer asks coming Leaves s k end p (disk_failed memory some wrote) is = rose_of (k.faults k.disk) (k.faults k.disk_after) p.replies p.stops some
+rose_ran issuer asks coming Leaves s k end p (disk_fault memory some wrote) is = rose_of (k.faults k.disk) (k.faults k.disk_after) p.replies p.stops some
 rose_ran issuer asks coming Leaves s k end p (done all wrote) is = absurd cc
 rose_ran issuer asks coming Leaves s k end p (write_fault all wrote) is = absurd cc
-rose_ran issuer asks coming Leaves s k end p (lacks_memory wrote) is = absurd cc
+rose_ran issuer asks coming Leaves s k end p (no_memory wrote) is = absurd cc
 
-rose_opening : {D : Type 0} (issuer : List ℕ) (k : Disks D) (end : Detail) → OpeningEnds issuer k end → end ≡ detail.DiskFault → DiskRose k
-rose_opening issuer k end (disk_fault rose left) is = rose
-rose_opening issuer k end (damaged at h) is = absurd cc
-rose_opening issuer k end (other_issuer held h) is = absurd cc
-rose_opening issuer k end (no_memory left) is = absurd cc
+rose_opening : {D : Type 0} (why : OpenCause) (k : Disks D) → (why ≡ cause.DiskFault → DiskRose k) → opening_end why ≡ detail.DiskFault → DiskRose k
+rose_opening cause.DiskFault k risen is = risen refl
+rose_opening (cause.Damaged at) k risen is = absurd cc
+rose_opening (cause.OtherIssuer held) k risen is = absurd cc
+rose_opening cause.NoMemory k risen is = absurd cc
 
 disk_rose : {D : Type 0} (issuer : List ℕ) (asks : List Asked) (coming : ℕ → Option ℕ) (Leaves : List (Result Reply StoreFault) → Type 0) (s : Sinks) (k : Disks D) (end : Detail) →
     ScriptEnds issuer asks coming Leaves s k end → end ≡ detail.DiskFault → DiskRose k
-disk_rose issuer asks coming Leaves s k end (inl h) is = rose_opening issuer k end h.cause is
+disk_rose issuer asks coming Leaves s k end (inl h) is = rose_opening h.why k h.risen (sym h.ends ∙ is)
 disk_rose issuer asks coming Leaves s k end (inr h) is = rose_ran issuer asks coming Leaves s k end h.0 h.1 is
 
 -- the end of a command that read its script is that of its run

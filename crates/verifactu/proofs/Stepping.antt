@@ -6,7 +6,7 @@ use Rattle.std.proofs.lemmas.List.Sums.{sum_by-append}
 use Rattle.chain_disk.specs.Told.{Told, LeavesOnly, LeavesNow, IsLeft, moment}
 use Rattle.chain_disk.specs.Runs.{follows, weaker}
 use Rattle.chain_store.specs.Ready.{Takes}
-use Rattle.chain_store.specs.Stands.{StandsFor, StandsAround}
+use Rattle.shop_core.specs.Files.{StandsFor, StandsAround}
 use Rattle.journal.specs.declared.faults.StoreFault.{StoreFault}
 use Rattle.journal.specs.declared.faults.StoreFault.TheVariants.{DiskFault, Stopped, NoMemory}
 use Rattle.ports.specs.Causes.{Rose}

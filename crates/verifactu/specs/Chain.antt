@@ -16,12 +16,13 @@ use Rattle.script.specs.Script.{IsScript}
 use Rattle.script.specs.declared.forms.Form.TheVariants.{Full}
 use Rattle.script.specs.declared.scripts.Script.{Script}
 use Rattle.script.specs.declared.scripts.ScriptFault.TheVariants as script_fault
-use Rattle.chain_store.specs.Stands.{IsDamagedFile}
-use Rattle.recovery.specs.Opening.{IsFound, IsOthers, KeepsMeaning, ReadsAlike}
+use Rattle.chain_store.specs.declared.causes.OpenCause.{OpenCause}
+use Rattle.chain_store.specs.declared.causes.OpenCause.TheVariants as cause
+use Rattle.recovery.specs.Opening.{IsFound, IsLeftUnopened}
 use Rattle.report.specs.declared.ended.Detail.{Detail}
 use Rattle.report.specs.declared.ended.Detail.TheVariants as detail
 use Rattle.verifactu.specs.Commands.{Answers, Stores}
-use Rattle.verifactu.specs.Crashes.{IsPrefix, Kept, StandsSince}
+use Rattle.verifactu.specs.Crashes.{IsPrefix, Kept, KeepsFile, StandsSince}
 use Rattle.verifactu.specs.Devices.{Clocks, Devices, Untouched}
 use Rattle.verifactu.specs.Ending.{RunEnds}
 use Rattle.verifactu.specs.Input.{ReadAll, ReadPast, ReadFailed}
@@ -57,25 +58,19 @@ no_script_end TooBig = detail.TooBig
 no_script_end (BadLine line fault) = detail.Script line fault
 no_script_end NoMemory = detail.NoMemory
 
--- the file stands for what it stood for
-abbrev pub LeftMeaning : {D : Type 0} → List ℕ → Disks D → Type 0
-LeftMeaning issuer k = IsTrue k.tells → KeepsMeaning issuer (k.told k.disk) (synced (k.told k.disk)) (k.told k.disk_after)
-
--- why the file couldn't be opened
-pub data OpeningEnds {D : Type 0} (issuer : List ℕ) (k : Disks D) : Detail → Type 0 where
-  disk_fault : DiskRose k → LeftMeaning issuer k → OpeningEnds issuer k detail.DiskFault
-  damaged : (at : ℕ) →
-      (IsTrue k.tells → IsDamagedFile (k.told k.disk).content at × ReadsAlike (k.told k.disk) (k.told k.disk_after)) →
-      OpeningEnds issuer k (detail.Damaged at)
-  other_issuer : (held : List ℕ) →
-      (IsTrue k.tells → IsOthers issuer held (k.told k.disk).content × ReadsAlike (k.told k.disk) (k.told k.disk_after)) →
-      OpeningEnds issuer k (detail.OtherIssuer held)
-  no_memory : LeftMeaning issuer k → OpeningEnds issuer k detail.NoMemory
+abbrev pub opening_end : OpenCause → Detail
+opening_end cause.DiskFault = detail.DiskFault
+opening_end (cause.Damaged at) = detail.Damaged at
+opening_end (cause.OtherIssuer held) = detail.OtherIssuer held
+opening_end cause.NoMemory = detail.NoMemory
 
 -- the file wasn't opened, nothing was printed, and the clock wasn't read
-pub record NotOpened {D : Type 0} (issuer : List ℕ) (Leaves : Replies → Type 0) (s : Sinks) (k : Disks D)
-    (end : Detail) : Type 0 where
-  pub cause : OpeningEnds issuer k end
+pub record NotOpened {D : Type 0} (issuer : List ℕ) (Leaves : Replies → Type 0) (s : Sinks) (k : Disks D) (end : Detail) : Type 0 where
+  pub why : OpenCause
+  pub ends : end ≡ opening_end why
+  pub risen : why ≡ cause.DiskFault → DiskRose k
+  pub left : IsTrue k.tells → IsLeftUnopened issuer why (k.told k.disk) (k.told k.disk_after)
+  pub every_crash : IsTrue k.tells → KeepsFile issuer (k.told k.disk) (k.told k.disk_after)
   pub wrote : WroteNothing s
   pub clock : Leaves []
 

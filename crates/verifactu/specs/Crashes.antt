@@ -1,9 +1,9 @@
 -- What a crash leaves of a run.
 use Rattle.std.specs.Prelude.{◌≡◌, ◌⊎◌, ◌≤◌, ℕ, List, [], ◌++◌, length}
-use Rattle.chain_disk.specs.Told.{Told, LeavesOnly, LeavesNow}
-use Rattle.journal.specs.File.{IsNotBegun}
+use Rattle.chain_disk.specs.Told.{Told, IsSyncFailed, LeavesOnly, LeavesNow, synced}
+use Rattle.journal.specs.File.{IsNotBegun, IsNotBegunOrEmpty}
 use Rattle.record_codec.specs.declared.entries.Entry.{Entry}
-use Rattle.chain_store.specs.Stands.{StandsFor}
+use Rattle.shop_core.specs.Files.{StandsFor}
 use Rattle.verifactu.specs.Replies.{Replies, AllGoOn}
 
 -- one history is a front of the other
@@ -37,3 +37,10 @@ pub record Kept (P : List Entry → List ℕ → Type 0) (issuer : List ℕ) (en
   pub each_moment : LeavesOnly since now (P torn)
   pub every_crash : LeavesNow now (StandsForEnd issuer end torn)
   pub reads : StandsForEnd issuer end torn now.content
+
+-- What an opening that failed keeps of the file. The sync at the start failed; or since it each crash leaves the bytes that
+-- stood there, or, where they were no begun file, one that isn't begun or is begun and empty.
+abbrev pub KeepsFile : List ℕ → Told → Told → Type 0
+KeepsFile issuer old new =
+    IsSyncFailed old new
+    ⊎ LeavesOnly (synced old) new (λ c. (c ≡ old.content) ⊎ (IsNotBegun old.content × IsNotBegunOrEmpty issuer c))

@@ -6,7 +6,8 @@ ghost use Rattle.chain_disk.specs.Disks.{this_disk};
 ghost use Rattle.journal.specs.Journal.{stopped_of};
 ghost use Rattle.chain_store.specs.Store.{Ready, journal_of, state_of};
 ghost use Rattle.report.specs.Statuses.{status_of};
-ghost use Rattle.verifactu.specs.Chain.{ChainEnds, ScriptEnds, ScriptIs, StoreEnds, no_script_end};
+ghost use Rattle.verifactu.specs.Chain.{ChainEnds, ScriptEnds, ScriptIs, StoreEnds};
+ghost use Rattle.verifactu.specs.Chain as spec;
 ghost use Rattle.verifactu.specs.Commands.{this_store};
 ghost use Rattle.verifactu.specs.Devices.{this_clock};
 ghost use Rattle.verifactu.specs.Readings.{IsAsked, LeavesClock, readings, readings_of};
@@ -16,8 +17,8 @@ use crate::ending::end_of;
 use crate::input::{InputFault, read_input};
 use crate::printed::told_of;
 use chain_disk::Disk;
-use chain_store::Store;
-use file_commands::{detail_of, ended_as, write_texts};
+use chain_store::{OpenCause, Store};
+use file_commands::{ended_as, write_texts};
 use journal::StoreFault;
 use parties::Nif;
 use ports::{Clock, CountingClock, Sink, Source};
@@ -38,7 +39,7 @@ pub enum NoScript {
 
 impl NoScript {
     fn detail(self) -> Detail
-        ensures { result ≡ no_script_end self }
+        ensures { result ≡ spec.no_script_end self }
     {
         match self {
             NoScript::ReadFault => Detail::ReadFault,
@@ -68,11 +69,29 @@ pub fn chain_cmd<S: Source, K: Sink, D: Disk, C: Clock>(
         clock = this_clock C.coming clock result.2;
     }) result.0.detail }
 {
-    let (detail, disk, clock) = match read_commands(alloc, source) {
+    let (detail, disk, clock) = chain(alloc, issuer, source, sink, disk, clock);
+    (ended_as(detail), disk, clock)
+}
+
+fn chain<S: Source, K: Sink, D: Disk, C: Clock>(
+    alloc: Global,
+    issuer: &Nif,
+    source: &mut S,
+    sink: &mut K,
+    disk: D,
+    clock: C,
+) -> (Detail, D, C)
+    ensures { ChainEnds issuer.now (record {
+        source = this_source S.left S.faults source.old source.new;
+        sink = this_sink K.taken K.faults sink.old sink.new;
+        disk = this_disk D.tells D.told D.faults disk result.1;
+        clock = this_clock C.coming clock result.2;
+    }) result.0 }
+{
+    match read_commands(alloc, source) {
         Err(fault) => (fault.detail(), disk, clock),
         Ok(script) => run_script(alloc, issuer, &script, sink, disk, clock),
-    };
-    (ended_as(detail), disk, clock)
+    }
 }
 
 fn read_commands<S: Source>(alloc: Global, source: &mut S) -> Result<Script, NoScript>
@@ -88,6 +107,18 @@ fn read_commands<S: Source>(alloc: Global, source: &mut S) -> Result<Script, NoS
         Ok(script) => Ok(script),
         Err(ScriptFault::BadLine { line, fault }) => Err(NoScript::BadLine { line, fault }),
         Err(ScriptFault::NoMemory) => Err(NoScript::NoMemory),
+    }
+}
+
+// The end of a call whose file couldn't be opened for this cause.
+fn opening_end(cause: &OpenCause) -> Detail
+    ensures { result ≡ spec.opening_end cause.now }
+{
+    match cause {
+        OpenCause::DiskFault => Detail::DiskFault,
+        OpenCause::Damaged { at } => Detail::Damaged { at: *at },
+        OpenCause::OtherIssuer { held } => Detail::OtherIssuer { held: *held },
+        OpenCause::NoMemory => Detail::NoMemory,
     }
 }
 
@@ -138,7 +169,7 @@ fn run_asks<K: Sink, D: Disk, C: Clock>(
         return (Detail::NoMemory, disk, clock);
     }
     match open_store(alloc, disk, clock, issuer) {
-        Err(fault) => (detail_of(&fault.cause), fault.disk, fault.clock),
+        Err(fault) => (opening_end(&fault.cause), fault.disk, fault.clock),
         Ok(mut store) => {
             let detail = play(alloc, asks, sink, &mut store, replies);
             let (_, disk, clock) = store.into_parts();

@@ -1,10 +1,13 @@
 // The program: one call does all that it does.
-ghost use Rattle.std.specs.Prelude.{map, string_bytes};
+ghost use Rattle.std.specs.Prelude.{◌≡◌, map, string_bytes};
 ghost use Rattle.ports.specs.Sinks.{this_sink};
 ghost use Rattle.ports.specs.Sources.{this_source};
 ghost use Rattle.chain_disk.specs.Disks.{this_disk};
 ghost use Rattle.verifactu.specs.Devices.{this_clock};
-ghost use Rattle.verifactu.specs.Run.{EndsAs};
+ghost use Rattle.report.specs.Statuses.{status_of};
+ghost use Rattle.report.specs.declared.ended.Detail.TheVariants as detail;
+ghost use Rattle.file_commands.specs.Output.{PrintEnds};
+ghost use Rattle.verifactu.specs.Run.{CommandEnds, EndsAs};
 
 use crate::chain::chain_cmd;
 use crate::help::{help_text, version_text};
@@ -35,16 +38,44 @@ pub fn run<S: Source, K: Sink, D: Disk, C: Clock>(
 {
     match command_of(words) {
         None => (ended_as(Detail::Usage), disk, clock),
-        Some(Command::Chain(issuer)) => chain_cmd(alloc, &issuer, source, sink, disk, clock),
-        Some(Command::Audit) => {
+        Some(command) => obey(alloc, command, source, sink, disk, clock),
+    }
+}
+
+fn obey<S: Source, K: Sink, D: Disk, C: Clock>(
+    alloc: Global,
+    command: Command,
+    source: &mut S,
+    sink: &mut K,
+    disk: D,
+    clock: C,
+) -> (Ended, D, C)
+    ensures status { result.0.status ≡ status_of result.0.detail }
+    ensures ends { CommandEnds command (record {
+        source = this_source S.left S.faults source.old source.new;
+        sink = this_sink K.taken K.faults sink.old sink.new;
+        disk = this_disk D.tells D.told D.faults disk result.1;
+        clock = this_clock C.coming clock result.2;
+    }) result.0.detail }
+{
+    match command {
+        Command::Chain(issuer) => chain_cmd(alloc, &issuer, source, sink, disk, clock),
+        Command::Audit => {
             let (ended, disk) = audit_cmd(alloc, sink, disk);
             (ended, disk, clock)
         }
-        Some(Command::Link(num, host)) => {
+        Command::Link(num, host) => {
             let (ended, disk) = link_cmd(alloc, &num, host, sink, disk);
             (ended, disk, clock)
         }
-        Some(Command::Help) => (ended_as(print(help_text(), Detail::Done, sink)), disk, clock),
-        Some(Command::Version) => (ended_as(print(version_text(), Detail::Done, sink)), disk, clock),
+        Command::Help => (print_text(help_text(), sink), disk, clock),
+        Command::Version => (print_text(version_text(), sink), disk, clock),
     }
+}
+
+fn print_text<K: Sink>(text: &[u8], sink: &mut K) -> Ended
+    ensures status { result.status ≡ status_of result.detail }
+    ensures ends { PrintEnds text.now detail.Done (this_sink K.taken K.faults sink.old sink.new) result.detail }
+{
+    ended_as(print(text, Detail::Done, sink))
 }
