@@ -26,7 +26,7 @@ use Rattle.shop_core.specs.Runs.ChainRun.{begun, replied}
 use Rattle.shop_core.specs.declared.answers.Reply.{Reply}
 use Rattle.verifactu.specs.Crashes.{Kept, KeepsFile, StandsBetween}
 use Rattle.verifactu.specs.Printed.{printed}
-use Rattle.verifactu.specs.Readings.{IsComing, IsAsked, readings}
+use Rattle.verifactu.specs.Readings.{IsComing, IsAsked, LeavesClock, readings, readings_of}
 use Rattle.verifactu.specs.Replies.{AllGoOn, AllReplied, StopsAt, StopsOnce, is_disk_fault, is_no_memory}
 use Rattle.ports.specs.Sinks.{FailedIn, OutputIs, Sinks, Wrote}
 use Rattle.chain_disk.specs.Disks.{DiskRose, Disks}
@@ -37,7 +37,7 @@ use Rattle.verifactu.specs.Devices.{Clocks, Devices, LeftClock, Untouched}
 use Rattle.verifactu.specs.Ending.{RunEnds}
 use Rattle.verifactu.specs.Ending.RunEnds.{done, write_fault, disk_fault, no_memory}
 use Rattle.verifactu.specs.declared.chain.NoScript.{NoScript}
-use Rattle.verifactu.specs.declared.chain.NoScript.TheVariants as none
+use Rattle.verifactu.specs.declared.chain.NoScript.TheVariants as unread
 use Rattle.verifactu.proofs.Finishing.{kept_since}
 
 -- no reply is want of memory, and none a fault of the disk
@@ -191,11 +191,11 @@ disk_rose issuer asks coming Leaves s k end (inr h) is = rose_ran issuer asks co
 
 -- the end of a command that read its script is that of its run
 pub chain_ran : {D C : Type 0} (issuer : List ℕ) (d : Devices D C) (end : Detail) → ReadAndRan issuer d end → ChainEnds issuer d end
-chain_ran issuer d end h = ran end h (disk_rose issuer h.0.asks _ _ d.sink d.disk end h.1.1)
+chain_ran issuer d end h = ran end h (disk_rose issuer h.0.asks (readings_of h.0.clock (d.clock.coming d.clock.clock)) (LeavesClock d.clock h.0.clock) d.sink d.disk end h.1.1)
 
 -- the end of a command whose source is no script
 pub chain_unread : {D C : Type 0} (issuer : List ℕ) (d : Devices D C) (fault : NoScript) → ScriptIs d.source (Err fault) → Untouched d → ChainEnds issuer d (no_script_end fault)
-chain_unread issuer d none.ReadFault is left = read_fault is left
-chain_unread issuer d none.TooBig is left = too_big is left
-chain_unread issuer d (none.BadLine line fault) is left = bad_line line fault is left
-chain_unread issuer d none.NoMemory is left = unread_memory left
+chain_unread issuer d unread.ReadFault is left = read_fault is left
+chain_unread issuer d unread.TooBig is left = too_big is left
+chain_unread issuer d (unread.BadLine line fault) is left = bad_line line fault is left
+chain_unread issuer d unread.NoMemory is left = unread_memory left

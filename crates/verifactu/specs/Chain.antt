@@ -65,7 +65,8 @@ opening_end (cause.OtherIssuer held) = detail.OtherIssuer held
 opening_end cause.NoMemory = detail.NoMemory
 
 -- the file wasn't opened, nothing was printed, and the clock wasn't read
-pub record NotOpened {D : Type 0} (issuer : List ℕ) (Leaves : Replies → Type 0) (s : Sinks) (k : Disks D) (end : Detail) : Type 0 where
+pub record NotOpened {D : Type 0} (issuer : List ℕ) (Leaves : Replies → Type 0) (s : Sinks) (k : Disks D)
+    (end : Detail) : Type 0 where
   pub why : OpenCause
   pub ends : end ≡ opening_end why
   pub risen : why ≡ cause.DiskFault → DiskRose k
@@ -88,12 +89,13 @@ pub record Played {D : Type 0} (issuer : List ℕ) (asks : List Asked) (coming :
   pub linked : Linked issuer (recs end)
   pub rising : (till : ℕ) → SerialsRise end till
   pub stops : StopsOnce (k.faults k.disk) (k.faults k.disk_after) replies
-  pub kept : IsTrue k.tells → Kept (StandsSince issuer start end) issuer end replies (synced (k.told k.disk)) (k.told k.disk_after)
+  pub kept : IsTrue k.tells →
+      Kept (StandsSince issuer start end) issuer end replies (synced (k.told k.disk)) (k.told k.disk_after)
   pub clock : Leaves replies
 
 -- the file couldn't be opened; or the commands were run, and this is how the run ended
-abbrev pub ScriptEnds : {D : Type 0} → List ℕ → List Asked → (ℕ → Option ℕ) → (Replies → Type 0) → Sinks → Disks D → Detail →
-    Type 0
+abbrev pub ScriptEnds : {D : Type 0} → List ℕ → List Asked → (ℕ → Option ℕ) → (Replies → Type 0) → Sinks → Disks D →
+    Detail → Type 0
 ScriptEnds issuer asks coming Leaves s k end =
     NotOpened issuer Leaves s k end
     ⊎ ((p : Played issuer asks coming Leaves k) × RunEnds p.replies (printed asks p.replies p.end) s end)
