@@ -1,3 +1,2 @@
 mod Verdicts
-mod Gates
 mod Tellings

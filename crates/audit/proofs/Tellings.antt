@@ -1,13 +1,17 @@
 -- What a verdict tells of a file.
-use Rattle.std.proofs.Common.{inl, inr, refl}
-use Rattle.chain_store.specs.Stands.IsDamagedFile.{in_header as damaged_header, no_frame as damaged_frame, no_entry as damaged_body, not_next as damaged_entry}
-use Rattle.audit.specs.Verdict.IsVerdict.{not_begun, stands, in_header, no_frame, no_entry, not_next}
-use Rattle.audit.specs.Laws.{VerdictTells}
+use Rattle.std.proofs.Common.{inl, inr, refl, sym, subst, List, ℕ}
+use Rattle.shop_core.specs.Reading.{BrokenIsDamaged, IsRead}
+use Rattle.shop_core.specs.Reading.IsRead.{not_begun, stands}
+use Rattle.shop_core.specs.declared.audits.AuditEnd.{AuditEnd}
+use Rattle.shop_core.specs.declared.reading.FileRead.{FileRead}
+use Rattle.shop_core.specs.declared.reading.FileRead.TheVariants.{NotBegun, Sound, Broken}
+use Rattle.audit.specs.Verdict.{verdict_of}
+use Rattle.audit.specs.Laws.{IsSoundOrDamaged, VerdictTells}
 
-pub tells : VerdictTells
-tells file end (not_begun none) = inl none
-tells file end (stands issuer entries is) = inr (issuer, entries, is, refl)
-tells file end (in_header at damage) = damaged_header at damage
-tells file end (no_frame issuer entries at sound shape) = damaged_frame issuer entries at sound shape
-tells file end (no_entry issuer entries at body sound counted none) = damaged_body issuer entries at body sound counted none
-tells file end (not_next issuer entries at body entry why sound counted encoding never broken) = damaged_entry issuer entries at body entry sound counted encoding never
+read_tells : BrokenIsDamaged → (file : List ℕ) (read : FileRead) → IsRead file read → IsSoundOrDamaged file (verdict_of read)
+read_tells damaged file NotBegun (not_begun none) = inl none
+read_tells damaged file (Sound history end) (stands _ _ is place) = inr (history.issuer, history.entries, is, refl)
+read_tells damaged file (Broken place at what) is = damaged file place at what is
+
+pub tells : BrokenIsDamaged → VerdictTells
+tells damaged file end is = subst (λ (e : AuditEnd). IsSoundOrDamaged file e) (sym is.verdict_is) (read_tells damaged file is.read is.is_read)

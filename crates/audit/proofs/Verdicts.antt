@@ -18,10 +18,12 @@ use Rattle.shop_core.specs.declared.audits.AuditEnd.TheVariants.{Sound, Broken}
 use Rattle.shop_core.specs.declared.audits.What.TheVariants as what
 use Rattle.shop_core.specs.declared.breaks.Break.{Break}
 use Rattle.shop_core.specs.declared.breaks.Break.TheVariants.{Notes, Link, Seal, Rule}
-use Rattle.chain_store.specs.Laws.{StopsAt, OneStop, StopsAtItsGate}
-use Rattle.chain_store.specs.Stands.{bodies_of}
-use Rattle.audit.specs.Verdict.{IsVerdict, sound_end, next_place, word_of}
-use Rattle.audit.specs.Verdict.IsVerdict.{not_begun, stands, in_header, no_frame, no_entry, not_next}
+use Rattle.shop_core.specs.FileLaws.{StopsAt, OneStop, StopsAtItsGate}
+use Rattle.shop_core.specs.Files.{bodies_of}
+use Rattle.shop_core.specs.Reading.{IsRead, next_place, word_of}
+use Rattle.shop_core.specs.Reading.IsRead.{not_begun, stands, in_header, no_frame, no_entry, not_next}
+use Rattle.shop_core.specs.declared.reading.FileRead.{FileRead}
+use Rattle.audit.specs.Verdict.{sound_end, verdict_of}
 use Rattle.audit.specs.Laws.{OneVerdict}
 
 -- the verdict of a stop, by what stands there
@@ -104,22 +106,28 @@ module _ (one_frame : OneFrame) (apart : EncodingsAreApart) (headers : OneHeader
       let one = stops x.issuer y.issuer x.entries y.entries x.at y.at file x.stop y.stop in
       one_end x.issuer x.entries x.at file a b x.ends (moved file b x.issuer y.issuer x.entries y.entries x.at y.at one.0 one.1 one.2 y.ends)
 
-  -- a verdict speaks of a file that isn't begun, of its header, or of where it stops
-  placed : (file : List ℕ) (end : AuditEnd) → IsVerdict file end →
-      (IsNotBegun file × (end ≡ Sound 0 0 None)) ⊎ (((at : ℕ) × IsHeaderDamaged file at × (end ≡ Broken 1 at what.Header)) ⊎ Stop file end)
-  placed file end (not_begun none) = inl (none, refl)
-  placed file end (stands issuer entries is) =
-      let gate = gates issuer entries file is in
-      inr (inr (record { issuer = issuer; entries = entries; at = closing_gate (bodies_of entries); stop = gate.0; ends = at_closed gate.1 }))
-  placed file end (in_header at damage) = inr (inl (at, damage, refl))
-  placed file end (no_frame issuer entries at sound damaged) = inr (inr (record {
+  -- a reading speaks of a file that isn't begun, of its header, or of where it stops
+  placed : (file : List ℕ) (read : FileRead) → IsRead file read →
+      (IsNotBegun file × (verdict_of read ≡ Sound 0 0 None)) ⊎ (((at : ℕ) × IsHeaderDamaged file at × (verdict_of read ≡ Broken 1 at what.Header)) ⊎ Stop file (verdict_of read))
+  placed file read (not_begun none) = inl (none, refl)
+  placed file read (stands history _ is place) =
+      let gate = gates history.issuer history.entries file is in
+      inr (inr (record {
+        issuer = history.issuer;
+        entries = history.entries;
+        at = closing_gate (bodies_of history.entries);
+        stop = gate.0;
+        ends = at_closed gate.1;
+      }))
+  placed file read (in_header at damage) = inr (inl (at, damage, refl))
+  placed file read (no_frame issuer entries at sound damaged) = inr (inr (record {
     issuer = issuer;
     entries = entries;
     at = at;
     stop = record { sound = sound; ends = λ entry bytes counted encoding cont. damaged.not_counted bytes counted };
     ends = at_frame damaged;
   }))
-  placed file end (no_entry issuer entries at bytes sound counted none) = inr (inr (record {
+  placed file read (no_entry issuer entries at bytes sound counted none) = inr (inr (record {
     issuer = issuer;
     entries = entries;
     at = at;
@@ -129,7 +137,7 @@ module _ (one_frame : OneFrame) (apart : EncodingsAreApart) (headers : OneHeader
     };
     ends = at_body bytes counted none;
   }))
-  placed file end (not_next issuer entries at bytes entry why sound counted encoding never broken) = inr (inr (record {
+  placed file read (not_next issuer entries at bytes entry why sound counted encoding never broken) = inr (inr (record {
     issuer = issuer;
     entries = entries;
     at = at;
@@ -168,4 +176,5 @@ module _ (one_frame : OneFrame) (apart : EncodingsAreApart) (headers : OneHeader
   one_place file a b (inr (inr x)) (inr (inr y)) = same_stop file a b x y
 
   pub one_verdict : OneVerdict
-  one_verdict file a b is is' = one_place file a b (placed file a is) (placed file b is')
+  one_verdict file a b is is' =
+      is.verdict_is ∙ one_place file (verdict_of is.read) (verdict_of is'.read) (placed file is.read is.is_read) (placed file is'.read is'.is_read) ∙ sym is'.verdict_is

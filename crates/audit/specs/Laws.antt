@@ -4,7 +4,7 @@ use Rattle.journal.specs.File.{IsNotBegun}
 use Rattle.record_codec.specs.declared.entries.Entry.{Entry}
 use Rattle.shop_core.specs.declared.audits.AuditEnd.{AuditEnd}
 use Rattle.shop_core.specs.declared.audits.AuditEnd.TheVariants.{Sound, Broken}
-use Rattle.chain_store.specs.Stands.{StandsFor, IsDamagedFile}
+use Rattle.shop_core.specs.Files.{StandsFor, IsDamagedFile}
 use Rattle.audit.specs.Verdict.{IsVerdict, sound_end}
 
 -- a file has at most one verdict

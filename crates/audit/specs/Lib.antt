@@ -1,4 +1,2 @@
-pub mod Faults
 pub mod Verdict
-pub mod Seen
 pub mod Laws

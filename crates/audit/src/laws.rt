@@ -1,10 +1,10 @@
 // What holds of verdicts by their definition alone.
 ghost use Rattle.audit.specs.Laws.{OneVerdict, VerdictTells};
 
-use chain_store::a_file_stops_at_one_place;
 use frames::bytes_begin_with_one_frame;
 use journal::a_file_has_one_header;
 use record_codec::encodings_are_apart;
+use shop_core::{a_broken_file_is_damaged, a_file_stops_at_one_place};
 
 /// A file has one verdict.
 pub fn a_file_has_one_verdict()
@@ -19,4 +19,6 @@ pub fn a_file_has_one_verdict()
 /// What a verdict tells: a sound file isn't begun or stands for a history, a broken one is damaged at that byte.
 pub fn a_verdict_tells_what_a_file_is()
     ensures { VerdictTells }
-{}
+{
+    a_broken_file_is_damaged();
+}

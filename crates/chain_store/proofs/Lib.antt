@@ -1,5 +1,3 @@
 mod Loads
 mod Stores
 mod Taking
-mod Stops
-mod Meanings

@@ -1,73 +1,14 @@
--- Where a load stops, and how it goes on.
-use Rattle.std.proofs.Common.{◌≡◌, ℕ, ◌+◌, List, [], ◌∷◌, ◌++◌, length, drop, sym, ◌∙◌, ap, subst}
-use Rattle.std.proofs.lemmas.List.{map-append}
-use Rattle.frames.specs.Frames.{IsCounted, IsClosed, IsDamaged}
-use Rattle.journal.specs.Laws.{WalkBegins, WalkGoesOn, WalkEnds}
-use Rattle.journal.specs.Walk.{AreFrames}
-use Rattle.journal.specs.Step.{IsStep, IsNext}
-use Rattle.journal.specs.declared.reading.Step.{Step}
-use Rattle.journal.specs.declared.reading.Step.TheVariants.{Counted, Damaged}
-use Rattle.record_codec.specs.Bytes.{entry_bytes}
-use Rattle.record_codec.specs.Fields.{IsEncoding}
-use Rattle.record_codec.specs.declared.entries.Entry.{Entry}
-use Rattle.record_codec.specs.declared.faults.BadEntry.{BadEntry}
-use Rattle.shop_core.specs.Legal.{Legal, GoesOn}
-use Rattle.chain_store.specs.Laws.{SoundBegins, SoundGoesOn, SoundEnds}
-use Rattle.chain_store.specs.Stands.{IsSoundUpTo, AreEncoded, bodies_of}
+-- What is loaded of what is read.
+use Rattle.std.proofs.Common.{◌≡◌, ℕ, List}
+use Rattle.shop_core.specs.History.{History}
+use Rattle.shop_core.specs.Reading.{IsRead}
+use Rattle.shop_core.specs.Reading.IsRead.{not_begun, stands}
+use Rattle.shop_core.specs.declared.reading.FileRead.TheVariants as read
+use Rattle.chain_store.specs.Loading.{IsLoaded}
+use Rattle.chain_store.specs.declared.loading.Loaded.TheVariants.{NotBegun, Begun}
 
-pub encoded_more : (issuer : List ℕ) (entries : List Entry) (entry : Entry) → AreEncoded issuer entries → IsEncoding issuer entry (entry_bytes entry) → AreEncoded issuer (entries ++ entry ∷ [])
-encoded_more issuer [] entry all is = (is, tt)
-encoded_more issuer (e ∷ entries) entry all is = (all.0, encoded_more issuer entries entry all.1 is)
+pub loaded_none : (file : List ℕ) → IsRead file read.NotBegun → IsLoaded file NotBegun
+loaded_none file (not_begun none) = none
 
-pub bodies_more : (entries : List Entry) (entry : Entry) → bodies_of (entries ++ entry ∷ []) ≡ bodies_of entries ++ entry_bytes entry ∷ []
-bodies_more entries entry = map-append entry_bytes entries (entry ∷ [])
-
--- a counted frame of an entry that continues the history is sound too
-pub sound_more : WalkGoesOn → (issuer : List ℕ) (entries : List Entry) (at : ℕ) (file body : List ℕ) (entry : Entry) → Legal issuer (entries ++ entry ∷ []) →
-    IsSoundUpTo issuer entries at file → IsCounted (drop at file) body → IsEncoding issuer entry body → IsSoundUpTo issuer (entries ++ entry ∷ []) (at + 5 + length body) file
-sound_more goes_on issuer entries at file body entry legal sound counted encoding =
-    let walk : AreFrames file (bodies_of entries ++ body ∷ []) (at + 5 + length body) = goes_on file (bodies_of entries) at body sound.frames counted in
-    let same : bodies_of entries ++ body ∷ [] ≡ bodies_of (entries ++ entry ∷ []) = ap (λ (b : List ℕ). bodies_of entries ++ b ∷ []) encoding.bytes ∙ sym (bodies_more entries entry) in
-    record {
-      header = sound.header;
-      frames = subst (λ (bs : List (List ℕ)). AreFrames file bs (at + 5 + length body)) same walk;
-      encoded = encoded_more issuer entries entry sound.encoded (subst (λ (b : List ℕ). IsEncoding issuer entry b) encoding.bytes encoding);
-      legal = legal;
-    }
-
-pub counted_step : (bytes body : List ℕ) (step : Step) (next : ℕ) → step ≡ Counted next → IsStep bytes step body → IsCounted bytes body
-counted_step bytes body step next e h = subst (λ (s : Step). IsStep bytes s body) e h
-
-pub damaged_step : (bytes body : List ℕ) (step : Step) → step ≡ Damaged → IsStep bytes step body → IsDamaged bytes
-damaged_step bytes body step e h = subst (λ (s : Step). IsStep bytes s body) e h
-
-pub next_step : (at next : ℕ) (body : List ℕ) (step : Step) → step ≡ Counted next → IsNext at step body → next ≡ at + 5 + length body
-next_step at next body step e h = (subst (λ (s : Step). IsNext at s body) e h).1
-
--- a fault of the bytes is no want of memory
-pub unread : (entry : Entry) (fault : BadEntry) (at : ℕ) → fault ≡ BadEntry.At at → fault ≡ BadEntry.NoMemory → ⊥
-unread entry fault at e h = absurd cc
-
-nothing_legal : (issuer : List ℕ) → Legal issuer []
-nothing_legal issuer [] after entry is = absurd cc
-nothing_legal issuer (x ∷ before) after entry is = absurd cc
-
-pub sound_begins : WalkBegins → SoundBegins
-sound_begins begins issuer file header = record { header = header; frames = begins file; encoded = tt; legal = nothing_legal issuer }
-
-pub sound_goes_on : WalkGoesOn → GoesOn → SoundGoesOn
-sound_goes_on walk goes_on issuer entries at file body entry sound counted encoding next =
-    sound_more walk issuer entries at file body entry (goes_on issuer entries entry sound.legal next) sound counted encoding
-
-pub sound_ends : WalkEnds → SoundEnds
-sound_ends ends issuer entries at file sound closed =
-    let place = sound.frames.place in
-    record {
-      frames = (ends issuer (bodies_of entries) file).1 (
-        sound.header,
-        subst (λ (k : ℕ). AreFrames file (bodies_of entries) k) place sound.frames,
-        subst (λ (k : ℕ). IsClosed (drop k file)) place closed,
-      );
-      encoded = sound.encoded;
-      legal = sound.legal;
-    }
+pub loaded_sound : (file : List ℕ) (history : History) (end : ℕ) → IsRead file (read.Sound history end) → IsLoaded file (Begun history end)
+loaded_sound file history end (stands _ _ is place) = (is, place)

@@ -1,5 +1,6 @@
 -- What an append makes of a store's file.
 use Rattle.std.proofs.Common.{◌≡◌, inl, inr, ℕ, ◌+◌, ◌≤◌, List, [], ◌∷◌, ◌++◌, length, length-append, arith, refl, sym, subst, Bool, Option, Some}
+use Rattle.std.proofs.lemmas.List.{map-append}
 use Rattle.chain_disk.specs.Told.{Told, LeavesNow, LeavesOnly}
 use Rattle.chain_disk.specs.Runs.{leaves_now, started_settled, weaker}
 use Rattle.frames.specs.Frames.{IsBody}
@@ -10,10 +11,17 @@ use Rattle.record_codec.specs.declared.entries.Entry.{Entry}
 use Rattle.shop_core.specs.History.{History}
 use Rattle.shop_core.specs.Legal.{Continues, GoesOn, Legal}
 use Rattle.shop_core.specs.Ranges.{FitsItsBytes}
-use Rattle.chain_store.specs.Loading.{furthest_gate}
+use Rattle.shop_core.specs.Files.{furthest_gate}
 use Rattle.chain_store.specs.Ready.{Holds, IsReady}
-use Rattle.chain_store.specs.Stands.{StandsFor, StandsBeforeOrWith, AreEncoded, bodies_of}
-use Rattle.chain_store.proofs.Loads.{encoded_more, bodies_more}
+use Rattle.shop_core.specs.Files.{StandsFor, StandsBeforeOrWith, AreEncoded, bodies_of}
+
+encoded_more : (issuer : List ℕ) (entries : List Entry) (entry : Entry) → AreEncoded issuer entries → IsEncoding issuer entry (entry_bytes entry) →
+    AreEncoded issuer (entries ++ entry ∷ [])
+encoded_more issuer [] entry all is = (is, tt)
+encoded_more issuer (e ∷ entries) entry all is = (all.0, encoded_more issuer entries entry all.1 is)
+
+bodies_more : (entries : List Entry) (entry : Entry) → bodies_of (entries ++ entry ∷ []) ≡ bodies_of entries ++ entry_bytes entry ∷ []
+bodies_more entries entry = map-append entry_bytes entries (entry ∷ [])
 
 pub encoding_of : (issuer : List ℕ) (entry : Entry) → HasIssuer issuer entry → AreFields entry → IsEncoding issuer entry (entry_bytes entry)
 encoding_of issuer entry own fields = record { issuer = own; fields = fields; bytes = refl }

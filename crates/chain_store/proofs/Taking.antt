@@ -17,7 +17,7 @@ use Rattle.shop_core.specs.declared.answers.Reply.TheVariants as reply_of
 use Rattle.shop_core.specs.declared.answers.Refusal.{Refusal}
 use Rattle.shop_core.specs.declared.receipts.Receipt.{Receipt}
 use Rattle.chain_store.specs.Ready.{Takes}
-use Rattle.chain_store.specs.Stands.{StandsFor, StandsAround, StandsBeforeOrWith}
+use Rattle.shop_core.specs.Files.{StandsFor, StandsAround, StandsBeforeOrWith}
 
 stands_around : (issuer : List ℕ) (entries : List Entry) (planned : Planned) (file : List ℕ) → StandsFor issuer entries file → StandsAround issuer entries planned file
 stands_around issuer entries (Again receipt) file s = s

@@ -1,24 +1,26 @@
--- What is read of a file.
-use Rattle.std.specs.Prelude.{◌≡◌, ◌≤◌, ◌+◌, ◌*◌, ℕ, List, length, Option, Some, None}
+-- What a sound file is loaded as.
+use Rattle.std.specs.Prelude.{◌≡◌, ◌≤◌, ℕ, List}
 use Rattle.journal.specs.File.{IsNotBegun, closing_gate}
-use Rattle.record_codec.specs.declared.entries.Entry.{Entry}
-use Rattle.shop_core.specs.History.{History}
-use Rattle.chain_store.specs.Stands.{StandsFor, bodies_of}
+use Rattle.shop_core.specs.Files.{StandsFor, bodies_of, furthest_gate}
+use Rattle.chain_store.specs.declared.causes.LoadFault.{LoadFault}
+use Rattle.chain_store.specs.declared.causes.LoadFault.TheVariants.{DiskFault, Damaged, NoMemory}
+use Rattle.chain_store.specs.declared.causes.OpenCause.{OpenCause}
+use Rattle.chain_store.specs.declared.causes.OpenCause.TheVariants as cause
+use Rattle.chain_store.specs.declared.loading.Loaded.{Loaded}
+use Rattle.chain_store.specs.declared.loading.Loaded.TheVariants.{NotBegun, Begun}
 
--- the longest file of so many entries ends here
-abbrev pub furthest_gate : List Entry → ℕ
-furthest_gate entries = 19 + 4101 * length entries
+-- the file isn't begun, or it stands for this history, with its closing gate at this byte
+abbrev pub IsLoaded : List ℕ → Loaded → Type 0
+IsLoaded file NotBegun = IsNotBegun file
+IsLoaded file (Begun history end) = StandsFor history.issuer history.entries file × (end ≡ closing_gate (bodies_of history.entries))
 
--- no issuer and no history where the file isn't begun; else both
-abbrev pub IsShaped : Option (List ℕ) → Option History → ℕ → Type 0
-IsShaped None None end = end ≡ 0
-IsShaped (Some issuer) (Some history) end = (history.issuer ≡ issuer) × (end ≤ furthest_gate history.entries)
-IsShaped None (Some history) end = ⊥
-IsShaped (Some issuer) None end = ⊥
+-- the closing gate stands no further than so many entries can be long
+abbrev pub HasNearGate : Loaded → Type 0
+HasNearGate NotBegun = Unit {0}
+HasNearGate (Begun history end) = end ≤ furthest_gate history.entries
 
--- and the file stands for them, with its closing gate at this place
-abbrev pub IsLoaded : List ℕ → Option (List ℕ) → Option History → ℕ → Type 0
-IsLoaded file None None end = IsNotBegun file
-IsLoaded file (Some issuer) (Some history) end = StandsFor issuer history.entries file × (end ≡ closing_gate (bodies_of history.entries))
-IsLoaded file None (Some history) end = ⊥
-IsLoaded file (Some issuer) None end = ⊥
+-- why a file that gives no history can't be opened
+abbrev pub open_cause : LoadFault → OpenCause
+open_cause DiskFault = cause.DiskFault
+open_cause (Damaged at) = cause.Damaged at
+open_cause NoMemory = cause.NoMemory

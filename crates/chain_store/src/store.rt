@@ -4,11 +4,10 @@ ghost use Rattle.ports.specs.Causes.{Rose};
 ghost use Rattle.chain_disk.specs.Told.{LeavesOnly, LeavesNow};
 ghost use Rattle.shop_core.specs.History.{recs, noted, is_record};
 ghost use Rattle.shop_core.specs.Runs.{IsTaken};
-ghost use Rattle.record_codec.specs.declared.entries.Entry.TheVariants.{Notes};
 ghost use Rattle.std.specs.Int.{IsInRange};
 ghost use Rattle.shop_core.specs.Legal.{Continues};
-ghost use Rattle.chain_store.specs.Stands.{StandsFor, StandsBeforeOrWith};
-ghost use Rattle.chain_store.specs.Ready.{IfNothingTaken, IsReady, Takes, Tears};
+ghost use Rattle.shop_core.specs.Files.{StandsFor, StandsBeforeOrWith};
+ghost use Rattle.chain_store.specs.Ready.{IfNothingTaken, IsReady, Takes, Tears, TearsLines, noted_next};
 
 use chain_disk::Disk;
 use journal::{Journal, JournalFault, StoreFault};
@@ -28,7 +27,7 @@ pub struct Store<D: Disk, C: Clock> {
     state: State,
     journal: Journal<D>,
     clock: C,
-    // The entry whose append failed.
+    // The entry whose append failed. It may be on the disk.
     torn: Option<Snapshot<Entry>>,
 }
 
@@ -41,6 +40,7 @@ impl<D: Disk, C: Clock> Store<D, C> {
         requires going_on { stopped_of journal ≡ None }
         requires ready { IsReady D.tells state None (end_of journal) (D.told (disk_of journal)) }
         ensures parts { (result.state ≡ state) × (result.journal ≡ journal) × (result.clock ≡ clock) }
+        ensures no_torn { torn_of result ≡ None }
     {
         Store {
             state,
@@ -93,7 +93,7 @@ impl<D: Disk, C: Clock> Store<D, C> {
         // A fault of the disk stops the journal for good. From then on nothing is asked of the disk or the clock.
         ensures fault { IsErrOf result StoreFault.DiskFault → Rose (D.faults (disk_of self.old.journal)) (D.faults (disk_of self.new.journal))
             × (stopped_of self.new.journal ≡ Some (D.faults (disk_of self.new.journal))) }
-        ensures torn { IsErrOf result StoreFault.DiskFault → Tears self.old.state ask.now (C.coming self.old.clock) D.tells
+        ensures torn { IsErrOf result StoreFault.DiskFault → Tears self.old.state self.new.state ask.now (C.coming self.old.clock) D.tells
             (D.told (disk_of self.old.journal)) (D.told (disk_of self.new.journal)) (torn_of self.new) }
         ensures stopped { (faults : ℕ) → IsErrOf result (StoreFault.Stopped faults) ↔ (stopped_of self.old.journal ≡ Some faults) }
         ensures untouched { IsSome (stopped_of self.old.journal) → self.new ≡ self.old }
@@ -133,6 +133,7 @@ impl<D: Disk, C: Clock> Store<D, C> {
         ensures fault { IsErrOf result StoreFault.DiskFault → Rose (D.faults (disk_of self.old.journal)) (D.faults (disk_of self.new.journal))
             × (stopped_of self.new.journal ≡ Some (D.faults (disk_of self.new.journal))) }
         ensures torn { IsErrOf result StoreFault.DiskFault → torn_of self.new ≡ Some entry }
+        ensures room { IsErrOf result StoreFault.DiskFault → self.new.state.room ≡ Some entry }
         ensures not_stopped { (faults : ℕ) → IsErrOf result (StoreFault.Stopped faults) → ⊥ }
         ensures later { D.faults (disk_of self.old.journal) ≤ D.faults (disk_of self.new.journal) }
     {
@@ -153,20 +154,21 @@ impl<D: Disk, C: Clock> Store<D, C> {
         requires within { length (noted self.old.state.entries) + length lines.now ≤ length (recs self.old.state.entries) }
         ensures ready { Ready D.tells D.told self.new }
         ensures issuer { self.new.state.issuer ≡ self.old.state.issuer }
-        ensures noted { OnOk result (self.new.state.entries ≡ self.old.state.entries ++ Notes (length (noted self.old.state.entries)) lines.now ∷ []) }
+        ensures noted { OnOk result (self.new.state.entries ≡ self.old.state.entries ++ noted_next self.old.state.entries lines.now ∷ []) }
         ensures same { OnErr result (self.new.state.entries ≡ self.old.state.entries) }
         ensures clock { self.new.clock ≡ self.old.clock }
 
         // A crash at any moment of the call leaves the history before it, or that with these lines.
         ensures any_moment { stopped_of self.old.journal ≡ None → IsTrue D.tells → LeavesOnly (D.told (disk_of self.old.journal)) (D.told (disk_of self.new.journal))
-            (StandsBeforeOrWith self.old.state.issuer self.old.state.entries (Notes (length (noted self.old.state.entries)) lines.now)) }
+            (StandsBeforeOrWith self.old.state.issuer self.old.state.entries (noted_next self.old.state.entries lines.now)) }
         ensures acknowledged { OnOk result (IsTrue D.tells →
             LeavesNow (D.told (disk_of self.new.journal)) (StandsFor self.new.state.issuer self.new.state.entries)) }
         ensures going_on { OnOk result ((stopped_of self.old.journal ≡ None) × (stopped_of self.new.journal ≡ None)) }
         ensures no_memory { IsErrOf result StoreFault.NoMemory → self.new.journal ≡ self.old.journal }
         ensures fault { IsErrOf result StoreFault.DiskFault → Rose (D.faults (disk_of self.old.journal)) (D.faults (disk_of self.new.journal))
             × (stopped_of self.new.journal ≡ Some (D.faults (disk_of self.new.journal))) }
-        ensures torn { IsErrOf result StoreFault.DiskFault → torn_of self.new ≡ Some (Notes (length (noted self.old.state.entries)) lines.now) }
+        ensures torn { IsErrOf result StoreFault.DiskFault → TearsLines self.old.state self.new.state lines.now D.tells
+            (D.told (disk_of self.old.journal)) (D.told (disk_of self.new.journal)) (torn_of self.new) }
         ensures stopped { (faults : ℕ) → IsErrOf result (StoreFault.Stopped faults) ↔ (stopped_of self.old.journal ≡ Some faults) }
         ensures untouched { IsSome (stopped_of self.old.journal) → self.new ≡ self.old }
         ensures later { D.faults (disk_of self.old.journal) ≤ D.faults (disk_of self.new.journal) }
@@ -219,6 +221,7 @@ impl<D: Disk, C: Clock> Store<D, C> {
         ensures fault { IsErrOf result StoreFault.DiskFault → Rose (D.faults (disk_of self.old.journal)) (D.faults (disk_of self.new.journal))
             × (stopped_of self.new.journal ≡ Some (D.faults (disk_of self.new.journal))) }
         ensures torn { IsErrOf result StoreFault.DiskFault → torn_of self.new ≡ Some entry }
+        ensures room { IsErrOf result StoreFault.DiskFault → self.new.state.room ≡ Some entry }
         ensures not_stopped { (faults : ℕ) → IsErrOf result (StoreFault.Stopped faults) → ⊥ }
         ensures later { D.faults (disk_of self.old.journal) ≤ D.faults (disk_of self.new.journal) }
         ensures acknowledged { OnOk result (IsTrue D.tells →

@@ -1,17 +1,15 @@
 -- What an opening finds.
 use Rattle.std.specs.Prelude.{◌≡◌, ◌≢◌, ◌⊎◌, ℕ, List, []}
-use Rattle.chain_disk.specs.Told.{Told, LeavesOnly}
+use Rattle.chain_disk.specs.Told.{Told, IsSyncFailed, LeavesOnly, synced}
 use Rattle.journal.specs.File.{IsNotBegun, IsNotBegunOrEmpty}
 use Rattle.record_codec.specs.declared.entries.Entry.{Entry}
-use Rattle.chain_store.specs.Stands.{StandsFor}
+use Rattle.shop_core.specs.Files.{IsDamagedFile, StandsFor}
+use Rattle.chain_store.specs.declared.causes.OpenCause.{OpenCause}
+use Rattle.chain_store.specs.declared.causes.OpenCause.TheVariants.{DiskFault, Damaged, OtherIssuer, NoMemory}
 
 -- the file isn't begun, and then the history is empty; or it stands for this history of this issuer
 abbrev pub IsFound : List ℕ → List Entry → List ℕ → Type 0
 IsFound issuer entries file = (IsNotBegun file × (entries ≡ [])) ⊎ StandsFor issuer entries file
-
--- nothing was written: the disk reads as it did
-abbrev pub ReadsAlike : Told → Told → Type 0
-ReadsAlike old new = new.content ≡ old.content
 
 -- a file that wasn't begun is still none, or is begun and empty; so is each that a crash since this moment may leave
 pub record IsBegunInPart (issuer : List ℕ) (settled new : Told) : Type 0 where
@@ -19,12 +17,23 @@ pub record IsBegunInPart (issuer : List ℕ) (settled new : Told) : Type 0 where
   pub reads : IsNotBegunOrEmpty issuer new.content
   pub any_moment : LeavesOnly settled new (IsNotBegunOrEmpty issuer)
 
--- the file stands for what it stood for: it reads as it did, or the empty history was begun in part
-abbrev pub KeepsMeaning : List ℕ → Told → Told → Told → Type 0
-KeepsMeaning issuer old settled new = ReadsAlike old new ⊎ IsBegunInPart issuer settled new
-
 -- the file stands for a chain of another issuer
 pub record IsOthers (issuer held file : List ℕ) : Type 0 where
   pub other : held ≢ issuer
   pub entries : List Entry
   pub stands : StandsFor held entries file
+
+-- What is left where the disk failed: by the sync at the start, which then did nothing or left all pending; by a reading,
+-- after that sync; or while the file was begun.
+pub data IsDiskLost (issuer : List ℕ) (old new : Told) : Type 0 where
+  not_synced : IsSyncFailed old new → IsDiskLost issuer old new
+  not_read : new ≡ synced old → IsDiskLost issuer old new
+  in_part : IsBegunInPart issuer (synced old) new → IsDiskLost issuer old new
+
+-- What an opening that failed says of the file, and leaves of it: what the sync at the start left, and nothing more, unless
+-- the disk failed.
+abbrev pub IsLeftUnopened : List ℕ → OpenCause → Told → Told → Type 0
+IsLeftUnopened issuer DiskFault old new = IsDiskLost issuer old new
+IsLeftUnopened issuer (Damaged at) old new = IsDamagedFile old.content at × (new ≡ synced old)
+IsLeftUnopened issuer (OtherIssuer held) old new = IsOthers issuer held old.content × (new ≡ synced old)
+IsLeftUnopened issuer NoMemory old new = new ≡ synced old

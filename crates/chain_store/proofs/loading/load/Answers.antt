@@ -1,13 +1,25 @@
 use Rattle.std.proofs.Common.{◌≡◌, ℕ, subst}
-use Rattle.journal.specs.Header.{IsHeader, IsHeaderDamaged}
-use Rattle.journal.specs.declared.reading.Header.{Header}
-use Rattle.chain_store.specs.Stands.{IsDamagedFile}
-use Rattle.chain_store.specs.Stands.IsDamagedFile.{in_header}
+use Rattle.shop_core.specs.Files.{IsDamagedFile}
+use Rattle.shop_core.specs.Reading.{HasNearGate, IsRead}
+use Rattle.shop_core.specs.declared.reading.FileRead.{FileRead}
+use Rattle.chain_store.proofs.Loads.{loaded_none, loaded_sound}
 use Rattle.chain_store.proofs.loading.load.Goals as goal
 
-pub returns-in-Damaged-clause-damaged : goal.returns-in-Damaged-clause-damaged
-returns-in-Damaged-clause-damaged g c byte is tells =
+pub returns-in-Ok-NotBegun-clause-content : goal.returns-in-Ok-NotBegun-clause-content
+returns-in-Ok-NotBegun-clause-content g c tells =
     let file = (g.D.Disk.told c.args.disk.now).content in
-    let at : c.in-Damaged.at ≡ byte = cc in
-    let damage : IsHeaderDamaged file c.in-Damaged.at = subst (λ (h : Header). IsHeader file h) c.in-Damaged.is (c.in-Ok.ensures.header tells) in
-    subst (λ (b : ℕ). IsDamagedFile file b) at (in_header c.in-Damaged.at damage)
+    loaded_none file (subst (λ (r : FileRead). IsRead file r) c.in-Ok-NotBegun.field-0-is (c.in-Ok-NotBegun.ensures.read tells))
+
+pub returns-in-Ok-Sound-clause-content : goal.returns-in-Ok-Sound-clause-content
+returns-in-Ok-Sound-clause-content g c tells =
+    let file = (g.D.Disk.told c.args.disk.now).content in
+    loaded_sound file c.in-Ok-Sound.state c.in-Ok-Sound.end
+    (subst (λ (r : FileRead). IsRead file r) c.in-Ok-Sound.field-0-is (c.in-Ok-Sound.ensures.read tells))
+
+pub returns-in-Ok-Broken-clause-damaged : goal.returns-in-Ok-Broken-clause-damaged
+returns-in-Ok-Broken-clause-damaged g c byte is tells =
+    let file = (g.D.Disk.told c.args.disk.now).content in
+    let at : c.in-Ok-Broken.at ≡ byte = cc in
+    subst (λ (b : ℕ). IsDamagedFile file b) at
+    (c.a_broken_file_is_damaged.ensures file _ c.in-Ok-Broken.at _
+    (subst (λ (r : FileRead). IsRead file r) c.in-Ok-Broken.field-0-is (c.in-Ok-Broken.ensures.read tells)))

@@ -4,7 +4,7 @@ use Rattle.journal.specs.Journal.{disk_of}
 use Rattle.record_codec.specs.declared.entries.Entry.{Entry}
 use Rattle.shop_core.specs.History.{History}
 use Rattle.shop_core.specs.Legal.{Legal}
-use Rattle.chain_store.specs.Stands.{StandsFor}
+use Rattle.shop_core.specs.Files.{StandsFor}
 use Rattle.recovery.specs.Opening.{IsFound}
 use Rattle.recovery.proofs.Opens.{begun, begins}
 use Rattle.chain_store.specs.Ready.{IsReady}

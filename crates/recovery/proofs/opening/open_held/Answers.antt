@@ -3,56 +3,59 @@ use Rattle.chain_disk.specs.Told.{Told, LeavesNow, LeavesOnly}
 use Rattle.journal.specs.Journal.{disk_of}
 use Rattle.record_codec.specs.declared.entries.Entry.{Entry}
 use Rattle.shop_core.specs.History.{History}
-use Rattle.chain_store.specs.Stands.{StandsFor}
+use Rattle.shop_core.specs.Files.{StandsFor}
 use Rattle.recovery.specs.Opening.{IsFound}
 use Rattle.recovery.proofs.Opens.{at_some, stays, holds_on}
 use Rattle.std.proofs.Common.{refl, None}
 use Rattle.chain_store.specs.Ready.{IsReady}
 use Rattle.journal.specs.Journal.{end_of, stopped_of}
 use Rattle.recovery.proofs.Readies.{ready_held}
+use Rattle.chain_store.specs.declared.causes.OpenCause.TheVariants as cause
 use Rattle.recovery.proofs.opening.open_held.Goals as goal
 
 pub at-requires : goal.at-requires
 at-requires g c tells =
     let h = c.requires.holds tells in
-    at_some c.args.held c.args.state.entries c.args.end _ h.0.0 h.0.1 h.1
+    at_some c.args.state.issuer c.args.state.entries c.args.end _ h.0.0 h.0.1 h.1
 
 pub returns-clause-every_crash : goal.returns-clause-every_crash
 returns-clause-every_crash g c tells =
     let h = c.requires.holds tells in
     let parts = c.of.ensures.parts in
-    let own : c.args.held ≡ c.args.issuer.now = search rules in
+    let own : c.args.state.issuer ≡ c.args.issuer.now = search rules in
     let same : c.of.result.state.entries ≡ c.args.state.entries = ap (λ (s : History). s.entries) parts.0 in
     let disk = ap (λ j. disk_of j) parts.1 ∙ c.at.ensures.parts.0 in
     let told = ap (λ d. g.D.Disk.told d) disk in
     subst (λ (t : Told). LeavesNow t (StandsFor c.args.issuer.now c.of.result.state.entries)) (sym told)
     (subst (λ (es : List Entry). LeavesNow (g.D.Disk.told c.args.disk) (StandsFor c.args.issuer.now es)) (sym same)
     (subst (λ (n : List ℕ). LeavesNow (g.D.Disk.told c.args.disk) (StandsFor n c.args.state.entries)) own
-    (stays c.args.held c.args.state.entries (g.D.Disk.told c.args.disk) h.0.0 h.1)))
+    (stays c.args.state.issuer c.args.state.entries (g.D.Disk.told c.args.disk) h.0.0 h.1)))
 
 pub returns-clause-any_moment : goal.returns-clause-any_moment
 returns-clause-any_moment g c tells =
     let h = c.requires.holds tells in
     let parts = c.of.ensures.parts in
     let old = g.D.Disk.told c.args.disk in
-    let own : c.args.held ≡ c.args.issuer.now = search rules in
+    let own : c.args.state.issuer ≡ c.args.issuer.now = search rules in
     let same : c.of.result.state.entries ≡ c.args.state.entries = ap (λ (s : History). s.entries) parts.0 in
     let disk = ap (λ j. disk_of j) parts.1 ∙ c.at.ensures.parts.0 in
     let told = ap (λ d. g.D.Disk.told d) disk in
     subst (λ (t : Told). LeavesOnly old t (IsFound c.args.issuer.now c.of.result.state.entries)) (sym told)
     (subst (λ (es : List Entry). LeavesOnly old old (IsFound c.args.issuer.now es)) (sym same)
     (subst (λ (n : List ℕ). LeavesOnly old old (IsFound n c.args.state.entries)) own
-    (holds_on c.args.held c.args.state.entries old h.0.0 h.1)))
+    (holds_on c.args.state.issuer c.args.state.entries old h.0.0 h.1)))
 
 pub returns-then-ne-clause-other : goal.returns-then-ne-clause-other
-returns-then-ne-clause-other g c = let apart : c.args.held ≡ c.args.issuer.now → ⊥ = search rules in (refl, apart, refl, refl)
+returns-then-ne-clause-other g c =
+    let apart : c.args.state.issuer ≡ c.args.issuer.now → ⊥ = search rules in
+    (ap (λ (n : List ℕ). cause.OtherIssuer n) c.issuer.ensures, apart, refl, refl)
 
 pub of-requires-clause-ready : goal.of-requires-clause-ready
 of-requires-clause-ready g c =
     let parts = c.at.ensures.parts in
     subst (λ (d : _). IsReady g.D.Disk.tells c.args.state None (end_of c.at.result) (g.D.Disk.told d)) (sym parts.0)
     (subst (λ (n : ℕ). IsReady g.D.Disk.tells c.args.state None n (g.D.Disk.told c.args.disk)) (sym parts.1)
-    (ready_held g.D.Disk.tells c.args.held c.args.state None c.args.end (g.D.Disk.told c.args.disk) c.requires.place.0 c.requires.place.1 c.requires.holds))
+    (ready_held g.D.Disk.tells c.args.state None c.args.end (g.D.Disk.told c.args.disk) c.requires.near c.requires.holds))
 
 pub returns-clause-ready : goal.returns-clause-ready
 returns-clause-ready g c =
@@ -62,10 +65,10 @@ returns-clause-ready g c =
     (subst (λ (h : History). IsReady g.D.Disk.tells h (stopped_of c.at.result) (end_of c.at.result) (g.D.Disk.told (disk_of c.at.result))) (sym made.0)
     (subst (λ (d : _). IsReady g.D.Disk.tells c.args.state (stopped_of c.at.result) (end_of c.at.result) (g.D.Disk.told d)) (sym parts.0)
     (subst (λ (n : ℕ). IsReady g.D.Disk.tells c.args.state (stopped_of c.at.result) n (g.D.Disk.told c.args.disk)) (sym parts.1)
-    (ready_held g.D.Disk.tells c.args.held c.args.state (stopped_of c.at.result) c.args.end (g.D.Disk.told c.args.disk) c.requires.place.0 c.requires.place.1 c.requires.holds))))
+    (ready_held g.D.Disk.tells c.args.state (stopped_of c.at.result) c.args.end (g.D.Disk.told c.args.disk) c.requires.near c.requires.holds))))
 
 pub returns-clause-same : goal.returns-clause-same
 returns-clause-same g c =
     let made = c.of.ensures.parts in
-    let own : c.args.held ≡ c.args.issuer.now = search rules in
+    let own : c.args.state.issuer ≡ c.args.issuer.now = search rules in
     (own, made.0, made.2, ap (λ j. disk_of j) made.1 ∙ c.at.ensures.parts.0)

@@ -1,0 +1,40 @@
+// What holds of the file's definitions alone.
+ghost use Rattle.shop_core.specs.FileLaws.{OneHistory, OneDamage, SoundOrDamaged, NotBegunIsNeither, OneStop, StopsAtItsGate, SoundBegins, SoundGoesOn, SoundEnds};
+
+use frames::bytes_begin_with_one_frame;
+use journal::{a_file_has_one_header, a_file_is_walked, walks_over_a_file_agree};
+use record_codec::encodings_are_apart;
+use crate::a_legal_history_goes_on;
+
+/// A file has one meaning: it stands for one history, or is damaged at one byte, or isn't begun.
+pub fn a_file_has_one_meaning()
+    ensures history { OneHistory }
+    ensures damage { OneDamage }
+    ensures sound { SoundOrDamaged }
+    ensures not_begun { NotBegunIsNeither }
+{
+    bytes_begin_with_one_frame();
+    encodings_are_apart();
+    a_file_has_one_header();
+    a_file_stops_at_one_place();
+}
+
+/// A reader of the frames stops at one place: where no entry that continues the history follows.
+pub fn a_file_stops_at_one_place()
+    ensures one { OneStop }
+    ensures sound { StopsAtItsGate }
+{
+    encodings_are_apart();
+    a_file_is_walked();
+    walks_over_a_file_agree();
+}
+
+/// How a history is read frame by frame: where that begins, goes on and ends.
+pub fn a_history_is_read_by_frames()
+    ensures begins { SoundBegins }
+    ensures goes_on { SoundGoesOn }
+    ensures ends { SoundEnds }
+{
+    a_legal_history_goes_on();
+    a_file_is_walked();
+}
