@@ -7,7 +7,7 @@ use Rattle.record_fields.specs.declared.records.Sealed.{Sealed}
 use Rattle.agency_rules.specs.Delivery.{delivered_all, line_of}
 use Rattle.agency_rules.specs.declared.plans.Plan.{Plan}
 use Rattle.agency_port.specs.Answers.{looked, seen_of}
-use Rattle.agency_port.specs.Ledger.{HasCause, IsAsked, Consults, Begins}
+use Rattle.agency_port.specs.Ledger.{counted, HasCause, IsAsked, Consults, Begins}
 use Rattle.agency_port.specs.Rules.{ConsultKeeps}
 use Rattle.agency_port.specs.Practice.{Practice, messages_of, sent_in, ledger_of, fate_of, is_faulty, processed_before, consultation_answer, faults_by, consulted, opened, IsRow}
 use Rattle.agency_port.specs.declared.answers.Seen.{Seen}
@@ -40,18 +40,18 @@ seen_is a huellas seen e = ok_by (is_faulty (fate_of a)) seen (looked (processed
 faults_are : (a new : Practice) (huellas : List (List ℕ)) → new ≡ consulted a huellas → new.faults ≡ faults_by (fate_of a) a.faults
 faults_are a new huellas is = ap (λ (x : Practice). x.faults) is
 
-later_count : (a new : Practice) (huellas : List (List ℕ)) → a.faults < 2 ^ 64 → new ≡ consulted a huellas → a.faults ≤ new.faults
-later_count a new huellas small is = subst (λ (m : ℕ). a.faults ≤ m) (sym (faults_are a new huellas is)) (faults_later (fate_of a) a.faults small)
+later_count : (a new : Practice) (huellas : List (List ℕ)) → new ≡ consulted a huellas → counted a.faults ≤ counted new.faults
+later_count a new huellas is = subst (λ (m : ℕ). counted a.faults ≤ counted m) (sym (faults_are a new huellas is)) (faults_later (fate_of a) a.faults)
 
-pub consult_cause : (a : Practice) (huellas : List (List ℕ)) (r : Result (List Seen) AgencyFault) (new : Practice) → a.faults < 2 ^ 64 →
-    IsRow r (consultation_answer a huellas) a new (consulted a huellas) → HasCause a.faults new.faults r
-consult_cause a huellas (Ok seen) new small row = record { later = later_count a new huellas small row.1; failed = tt }
-consult_cause a huellas (Err Failed) new small row = record {
-  later = later_count a new huellas small row.1;
-  failed = subst (λ (m : ℕ). Rose a.faults m) (sym (faults_are a new huellas row.1))
+pub consult_cause : (a : Practice) (huellas : List (List ℕ)) (r : Result (List Seen) AgencyFault) (new : Practice) →
+    IsRow r (consultation_answer a huellas) a new (consulted a huellas) → HasCause (counted a.faults) (counted new.faults) r
+consult_cause a huellas (Ok seen) new row = record { later = later_count a new huellas row.1; failed = tt }
+consult_cause a huellas (Err Failed) new row = record {
+  later = later_count a new huellas row.1;
+  failed = subst (λ (m : ℕ). Rose (counted a.faults) (counted m)) (sym (faults_are a new huellas row.1))
       (faults_rose (fate_of a) a.faults (failed_by (is_faulty (fate_of a)) (looked (processed_before a) huellas) row.0));
 }
-consult_cause a huellas (Err NoMemory) new small row = record { later = (let e : new.faults ≡ a.faults = ap (λ (x : Practice). x.faults) row in omega arith); failed = tt }
+consult_cause a huellas (Err NoMemory) new row = record { later = (let e : counted new.faults ≡ counted a.faults = ap (λ (x : Practice). counted x.faults) row in omega arith); failed = tt }
 
 pub consult_count : (a : Practice) (huellas : List (List ℕ)) (r : Result (List Seen) AgencyFault) (new : Practice) →
     IsRow r (consultation_answer a huellas) a new (consulted a huellas) → IfOk r (λ (seen : List Seen). length seen ≡ length huellas)
@@ -71,7 +71,7 @@ pub consult_lists : (a : Practice) (huellas : List (List ℕ)) (r : Result (List
     IsRow r (consultation_answer a huellas) a new (consulted a huellas) → Consults (ledger_of a) (ledger_of new) huellas r
 consult_lists a huellas (Ok seen) new row = asked a new huellas (Ok seen) row.0 row.1
 consult_lists a huellas (Err Failed) new row = asked a new huellas (Err Failed) row.0 row.1
-consult_lists a huellas (Err NoMemory) new row = inl (record { sent = ap (λ (x : Practice). sent_in x.log) row; messages = ap (λ (x : Practice). messages_of x.log) row })
+consult_lists a huellas (Err NoMemory) new row = ap ledger_of row
 
 processed_is : (a new : Practice) (huellas : List (List ℕ)) → new ≡ consulted a huellas → new.processed ≡ delivered_all a.plan.verdicts a.processed (before_of a)
 processed_is a new huellas is = ap (λ (x : Practice). x.processed) is ∙ before_is a

@@ -4,23 +4,24 @@ use Rattle.ports.specs.Causes.{Rose}
 use Rattle.ports.specs.Memory.{counted_up}
 use Rattle.agency_rules.specs.declared.plans.Fate.{Fate}
 use Rattle.agency_rules.specs.declared.plans.Fate.TheVariants.{Lost, Taken, Stale, Again, Late}
+use Rattle.agency_port.specs.Ledger.{counted}
 use Rattle.agency_port.specs.Practice.{is_faulty, faults_by}
 
-pub counted_later : (n : ℕ) → n < 2 ^ 64 → n ≤ counted_up n
-counted_later n small = omega arith
+pub counted_later : (n : ℕ) → counted n ≤ counted (counted_up n)
+counted_later n = omega arith
 
-pub counted_rose : (n : ℕ) → Rose n (counted_up n)
+pub counted_rose : (n : ℕ) → Rose (counted n) (counted (counted_up n))
 counted_rose n below = omega arith
 
-pub faults_later : (fate : Option Fate) (n : ℕ) → n < 2 ^ 64 → n ≤ faults_by fate n
-faults_later None n small = omega arith
-faults_later (Some Lost) n small = counted_later n small
-faults_later (Some Taken) n small = counted_later n small
-faults_later (Some Stale) n small = counted_later n small
-faults_later (Some Again) n small = omega arith
-faults_later (Some (Late calls)) n small = counted_later n small
+pub faults_later : (fate : Option Fate) (n : ℕ) → counted n ≤ counted (faults_by fate n)
+faults_later None n = omega arith
+faults_later (Some Lost) n = counted_later n
+faults_later (Some Taken) n = counted_later n
+faults_later (Some Stale) n = counted_later n
+faults_later (Some Again) n = omega arith
+faults_later (Some (Late calls)) n = counted_later n
 
-pub faults_rose : (fate : Option Fate) (n : ℕ) → is_faulty fate ≡ true → Rose n (faults_by fate n)
+pub faults_rose : (fate : Option Fate) (n : ℕ) → is_faulty fate ≡ true → Rose (counted n) (counted (faults_by fate n))
 faults_rose None n e = absurd cc
 faults_rose (Some Lost) n e = counted_rose n
 faults_rose (Some Taken) n e = counted_rose n

@@ -6,3 +6,6 @@ pub mod Amongs
 pub mod Submissions
 pub mod Consultations
 pub mod Tellings
+pub mod Sessions
+pub mod Kept
+pub mod Duplicados

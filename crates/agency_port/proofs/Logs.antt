@@ -9,7 +9,7 @@ use Rattle.agency_port.specs.Messages.{batch_in, batches_in}
 use Rattle.agency_port.specs.Practice.{messages_of, sent_in, late_in, late_for, reply_in, last_reply}
 use Rattle.agency_port.specs.declared.messages.Logged.{Logged}
 
-one_of : {A B : Type 0} (f : A → Option B) (x : A) (o : Option B) → f x ≡ o → filter_map f (x ∷ []) ≡ option_to_list o
+pub one_of : {A B : Type 0} (f : A → Option B) (x : A) (o : Option B) → f x ≡ o → filter_map f (x ∷ []) ≡ option_to_list o
 one_of f x None e = rw e refl
 one_of f x (Some y) e = rw e refl
 
@@ -34,7 +34,7 @@ late_more call log i l within is =
     ap (late_for call) (next_of log i l within is) ∙ filter_map-append (late_in call) (take i log) (l ∷ [])
     ∙ ap (λ (bs : List (List Sealed)). late_for call (take i log) ++ bs) (one_of (late_in call) l (late_in call l) refl)
 
-get_last : {A : Type 0} (xs : List A) (x : A) → last_of (xs ++ x ∷ []) ≡ Some x
+pub get_last : {A : Type 0} (xs : List A) (x : A) → last_of (xs ++ x ∷ []) ≡ Some x
 get_last xs x = rw (length_after xs x) (get_end xs x)
   where
     length_after : {A : Type 0} (xs : List A) (x : A) → length (xs ++ x ∷ []) - 1 ≡ length xs

@@ -10,7 +10,7 @@ use Rattle.agency_rules.specs.declared.plans.Fate.{Fate}
 use Rattle.agency_rules.specs.declared.plans.Fate.TheVariants.{Lost, Taken, Stale, Again, Late}
 use Rattle.agency_port.specs.Replied.{Replied}
 use Rattle.agency_port.specs.Answers.{answers}
-use Rattle.agency_port.specs.Ledger.{HasCause, StaleShows, Names, HandsOver, Submits}
+use Rattle.agency_port.specs.Ledger.{counted, HasCause, StaleShows, Names, HandsOver, Submits}
 use Rattle.agency_port.specs.Rules.{AreAmong, DeliversThis, SubmitKeeps}
 use Rattle.agency_port.specs.Practice.{Practice, messages_of, sent_in, ledger_of, is_call, number, late_for, fate_of, again_before, is_faulty, comes_at, own_of, processed_before, reply_by, last_reply, empty_reply, is_reply_to, answer_by, submission_answer, faults_by, submitted, IsRow, IsCutShort, cut}
 use Rattle.agency_port.specs.declared.answers.AgencyFault.{AgencyFault}
@@ -114,23 +114,23 @@ ok_stale (Some (Late calls)) plan processed log batch reply e other = refl
 faults_are : (a new : Practice) (batch : List Sealed) → new ≡ submitted a batch → new.faults ≡ faults_by (fate_of a) a.faults
 faults_are a new batch is = ap (λ (x : Practice). x.faults) is
 
-later_count : (a new : Practice) (batch : List Sealed) → a.faults < 2 ^ 64 → new ≡ submitted a batch → a.faults ≤ new.faults
-later_count a new batch small is = subst (λ (m : ℕ). a.faults ≤ m) (sym (faults_are a new batch is)) (faults_later (fate_of a) a.faults small)
+later_count : (a new : Practice) (batch : List Sealed) → new ≡ submitted a batch → counted a.faults ≤ counted new.faults
+later_count a new batch is = subst (λ (m : ℕ). counted a.faults ≤ counted m) (sym (faults_are a new batch is)) (faults_later (fate_of a) a.faults)
 
-risen_count : (a new : Practice) (batch : List Sealed) → new ≡ submitted a batch → is_faulty (fate_of a) ≡ true → Rose a.faults new.faults
-risen_count a new batch is e = subst (λ (m : ℕ). Rose a.faults m) (sym (faults_are a new batch is)) (faults_rose (fate_of a) a.faults e)
+risen_count : (a new : Practice) (batch : List Sealed) → new ≡ submitted a batch → is_faulty (fate_of a) ≡ true → Rose (counted a.faults) (counted new.faults)
+risen_count a new batch is e = subst (λ (m : ℕ). Rose (counted a.faults) (counted m)) (sym (faults_are a new batch is)) (faults_rose (fate_of a) a.faults e)
 
-pub submit_cause : (a : Practice) (batch : List Sealed) (r : Result Replied AgencyFault) (new : Practice) → a.faults < 2 ^ 64 →
-    IsRow r (submission_answer a batch) a new (submitted a batch) → HasCause a.faults new.faults r
-submit_cause a batch (Ok reply) new small row = record { later = later_count a new batch small row.1; failed = tt }
-submit_cause a batch (Err Failed) new small row = record {
-  later = later_count a new batch small row.1;
+pub submit_cause : (a : Practice) (batch : List Sealed) (r : Result Replied AgencyFault) (new : Practice) →
+    IsRow r (submission_answer a batch) a new (submitted a batch) → HasCause (counted a.faults) (counted new.faults) r
+submit_cause a batch (Ok reply) new row = record { later = later_count a new batch row.1; failed = tt }
+submit_cause a batch (Err Failed) new row = record {
+  later = later_count a new batch row.1;
   failed = risen_count a new batch row.1 (failed_faulty (fate_of a) a.plan (processed_before a) a.log batch row.0);
 }
-submit_cause a batch (Err NoMemory) new small row = record { later = (let e : new.faults ≡ a.faults = ap (λ (x : Practice). x.faults) row in omega arith); failed = tt }
+submit_cause a batch (Err NoMemory) new row = record { later = (let e : counted new.faults ≡ counted a.faults = ap (λ (x : Practice). counted x.faults) row in omega arith); failed = tt }
 
 pub submit_stale : (a : Practice) (batch : List Sealed) (r : Result Replied AgencyFault) (new : Practice) →
-    IsRow r (submission_answer a batch) a new (submitted a batch) → StaleShows a.faults new.faults batch r
+    IsRow r (submission_answer a batch) a new (submitted a batch) → StaleShows (counted a.faults) (counted new.faults) batch r
 submit_stale a batch (Ok reply) new row = λ other. risen_count a new batch row.1 (ok_stale (fate_of a) a.plan (processed_before a) a.log batch reply row.0 other)
 submit_stale a batch (Err why) new row = tt
 

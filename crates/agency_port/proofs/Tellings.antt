@@ -7,7 +7,7 @@ use Rattle.record_fields.specs.declared.records.Sealed.{Sealed}
 use Rattle.agency_rules.specs.declared.plans.Plan.{Plan}
 use Rattle.agency_port.specs.Replied.{Replied}
 use Rattle.agency_port.specs.Messages.{batch_in, batches_in}
-use Rattle.agency_port.specs.Ledger.{HasCause, StaleShows, Names, HandsOver, Submits, IsAsked, Consults, Begins}
+use Rattle.agency_port.specs.Ledger.{counted, HasCause, StaleShows, Names, HandsOver, Submits, IsAsked, Consults, Begins}
 use Rattle.agency_port.specs.Practice.{is_reply_to, IsRow}
 use Rattle.agency_port.specs.Telling.{Telling, ledger_of, submission_answer, consultation_answer, faults_after, submitted, consulted, opened, used_up}
 use Rattle.agency_port.specs.declared.answers.Seen.{Seen}
@@ -27,9 +27,9 @@ sent_then messages m = filter_map-append batch_in messages (m ∷ [])
 pub left_after : (answers : List ToldAnswer) (at : ℕ) → drop (at + 1) answers ≡ drop 1 (drop at answers)
 left_after answers at = sym (drop-drop 1 at answers)
 
-count_later : {A : Type 0} (r : Result A AgencyFault) (n : ℕ) → n < 2 ^ 64 → n ≤ faults_after r n
-count_later (Ok value) n small = omega arith
-count_later (Err why) n small = counted_later n small
+count_later : {A : Type 0} (r : Result A AgencyFault) (n : ℕ) → counted n ≤ counted (faults_after r n)
+count_later (Ok value) n = omega arith
+count_later (Err why) n = counted_later n
 
 fits_by : (t : Bool) (kept reply : Replied) → Ok reply ≡ cond t (Ok kept) (Err Failed) → (reply ≡ kept) × (t ≡ true)
 fits_by true kept reply e = let s : reply ≡ kept = cc in (s, refl)
@@ -53,22 +53,22 @@ ok_counted (told.Submitted reply ∷ rest) huellas seen e = absurd cc
 ok_counted (told.Consulted kept ∷ rest) huellas seen e = counts_by (length kept == length huellas) (length kept) (length huellas) kept seen refl refl e
 
 -- the count after an answer
-count_cause : {A : Type 0} (r answer : Result A AgencyFault) (n m : ℕ) → n < 2 ^ 64 → r ≡ answer → m ≡ faults_after answer n → HasCause n m r
-count_cause (Ok value) answer n m small e is = record { later = subst (λ (k : ℕ). n ≤ k) (sym is) (count_later answer n small); failed = tt }
-count_cause (Err Failed) answer n m small e is = record {
-  later = subst (λ (k : ℕ). n ≤ k) (sym is) (count_later answer n small);
-  failed = subst (λ (k : ℕ). Rose n k) (ap (λ (x : Result _ AgencyFault). faults_after x n) e ∙ sym is) (counted_rose n);
+count_cause : {A : Type 0} (r answer : Result A AgencyFault) (n m : ℕ) → r ≡ answer → m ≡ faults_after answer n → HasCause (counted n) (counted m) r
+count_cause (Ok value) answer n m e is = record { later = subst (λ (k : ℕ). counted n ≤ counted k) (sym is) (count_later answer n); failed = tt }
+count_cause (Err Failed) answer n m e is = record {
+  later = subst (λ (k : ℕ). counted n ≤ counted k) (sym is) (count_later answer n);
+  failed = subst (λ (k : ℕ). Rose (counted n) (counted k)) (ap (λ (x : Result _ AgencyFault). faults_after x n) e ∙ sym is) (counted_rose n);
 }
-count_cause (Err NoMemory) answer n m small e is = record { later = subst (λ (k : ℕ). n ≤ k) (sym is) (count_later answer n small); failed = tt }
+count_cause (Err NoMemory) answer n m e is = record { later = subst (λ (k : ℕ). counted n ≤ counted k) (sym is) (count_later answer n); failed = tt }
 
-pub submit_cause : (a : Telling) (batch : List Sealed) (r : Result Replied AgencyFault) (new : Telling) → a.faults < 2 ^ 64 →
-    IsRow r (submission_answer a.answers batch) a new (submitted a batch) → HasCause a.faults new.faults r
-submit_cause a batch (Ok reply) new small row = count_cause (Ok reply) (submission_answer a.answers batch) a.faults new.faults small row.0 (ap (λ (x : Telling). x.faults) row.1)
-submit_cause a batch (Err Failed) new small row = count_cause (Err Failed) (submission_answer a.answers batch) a.faults new.faults small row.0 (ap (λ (x : Telling). x.faults) row.1)
-submit_cause a batch (Err NoMemory) new small row = record { later = (let e : new.faults ≡ a.faults = ap (λ (x : Telling). x.faults) row in omega arith); failed = tt }
+pub submit_cause : (a : Telling) (batch : List Sealed) (r : Result Replied AgencyFault) (new : Telling) →
+    IsRow r (submission_answer a.answers batch) a new (submitted a batch) → HasCause (counted a.faults) (counted new.faults) r
+submit_cause a batch (Ok reply) new row = count_cause (Ok reply) (submission_answer a.answers batch) a.faults new.faults row.0 (ap (λ (x : Telling). x.faults) row.1)
+submit_cause a batch (Err Failed) new row = count_cause (Err Failed) (submission_answer a.answers batch) a.faults new.faults row.0 (ap (λ (x : Telling). x.faults) row.1)
+submit_cause a batch (Err NoMemory) new row = record { later = (let e : counted new.faults ≡ counted a.faults = ap (λ (x : Telling). counted x.faults) row in omega arith); failed = tt }
 
 pub submit_stale : (a : Telling) (batch : List Sealed) (r : Result Replied AgencyFault) (new : Telling) →
-    IsRow r (submission_answer a.answers batch) a new (submitted a batch) → StaleShows a.faults new.faults batch r
+    IsRow r (submission_answer a.answers batch) a new (submitted a batch) → StaleShows (counted a.faults) (counted new.faults) batch r
 submit_stale a batch (Ok reply) new row = λ other. absurd (other (ok_named a.answers batch reply row.0))
 submit_stale a batch (Err why) new row = tt
 
@@ -84,11 +84,11 @@ submit_lists a batch (Ok reply) new row = handed a new batch (Ok reply) row.0 ro
 submit_lists a batch (Err Failed) new row = handed a new batch (Err Failed) row.0 row.1
 submit_lists a batch (Err NoMemory) new row = inl (record { sent = ap (λ (x : Telling). batches_in x.messages) row; messages = ap (λ (x : Telling). x.messages) row })
 
-pub consult_cause : (a : Telling) (huellas : List (List ℕ)) (r : Result (List Seen) AgencyFault) (new : Telling) → a.faults < 2 ^ 64 →
-    IsRow r (consultation_answer a.answers huellas) a new (consulted a huellas) → HasCause a.faults new.faults r
-consult_cause a huellas (Ok seen) new small row = count_cause (Ok seen) (consultation_answer a.answers huellas) a.faults new.faults small row.0 (ap (λ (x : Telling). x.faults) row.1)
-consult_cause a huellas (Err Failed) new small row = count_cause (Err Failed) (consultation_answer a.answers huellas) a.faults new.faults small row.0 (ap (λ (x : Telling). x.faults) row.1)
-consult_cause a huellas (Err NoMemory) new small row = record { later = (let e : new.faults ≡ a.faults = ap (λ (x : Telling). x.faults) row in omega arith); failed = tt }
+pub consult_cause : (a : Telling) (huellas : List (List ℕ)) (r : Result (List Seen) AgencyFault) (new : Telling) →
+    IsRow r (consultation_answer a.answers huellas) a new (consulted a huellas) → HasCause (counted a.faults) (counted new.faults) r
+consult_cause a huellas (Ok seen) new row = count_cause (Ok seen) (consultation_answer a.answers huellas) a.faults new.faults row.0 (ap (λ (x : Telling). x.faults) row.1)
+consult_cause a huellas (Err Failed) new row = count_cause (Err Failed) (consultation_answer a.answers huellas) a.faults new.faults row.0 (ap (λ (x : Telling). x.faults) row.1)
+consult_cause a huellas (Err NoMemory) new row = record { later = (let e : counted new.faults ≡ counted a.faults = ap (λ (x : Telling). counted x.faults) row in omega arith); failed = tt }
 
 pub consult_count : (a : Telling) (huellas : List (List ℕ)) (r : Result (List Seen) AgencyFault) (new : Telling) →
     IsRow r (consultation_answer a.answers huellas) a new (consulted a huellas) → IfOk r (λ (seen : List Seen). length seen ≡ length huellas)
@@ -105,7 +105,7 @@ pub consult_lists : (a : Telling) (huellas : List (List ℕ)) (r : Result (List 
     IsRow r (consultation_answer a.answers huellas) a new (consulted a huellas) → Consults (ledger_of a) (ledger_of new) huellas r
 consult_lists a huellas (Ok seen) new row = asked a new huellas (Ok seen) row.0 row.1
 consult_lists a huellas (Err Failed) new row = asked a new huellas (Err Failed) row.0 row.1
-consult_lists a huellas (Err NoMemory) new row = inl (record { sent = ap (λ (x : Telling). batches_in x.messages) row; messages = ap (λ (x : Telling). x.messages) row })
+consult_lists a huellas (Err NoMemory) new row = ap ledger_of row
 
 pub begin_lists : (a new : Telling) (plan : Plan) (pairs : ℕ) → new ≡ opened a plan pairs → Begins (ledger_of a) (ledger_of new) plan pairs
 begin_lists a new plan pairs is = record {

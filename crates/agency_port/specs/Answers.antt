@@ -1,6 +1,6 @@
 -- What the agency answers, by what it has processed. The three states, and that a refused record that comes again is
 -- answered Duplicado too, are this project's own.
-use Rattle.std.specs.Prelude.{ℕ, List, map, Option, Some, None}
+use Rattle.std.specs.Prelude.{ℕ, List, map, Option, Some, None, Bool, true, false}
 use Rattle.record_fields.specs.declared.records.Sealed.{Sealed}
 use Rattle.record_fields.specs.declared.lines.Line.{Line}
 use Rattle.record_fields.specs.declared.lines.Line.TheVariants as line_of_kind
@@ -23,6 +23,10 @@ state_of (line_of_kind.Incorrecto why) = Incorrecto
 abbrev pub reply_line : Delivered → ReplyLine
 reply_line (delivered_as.First line) = First line
 reply_line (delivered_as.Again line) = Duplicado (state_of line)
+
+abbrev pub is_duplicado : ReplyLine → Bool
+is_duplicado (First line) = false
+is_duplicado (Duplicado state) = true
 
 -- the answers to a batch, by what its records meet
 abbrev pub answers : List PlannedVerdict → List (Sealed × Line) → List Sealed → List ReplyLine

@@ -1,5 +1,5 @@
 -- What an agency tells, and what each call adds to it.
-use Rattle.std.specs.Prelude.{◌≡◌, ◌⊎◌, ℕ, ◌≤◌, List, [], ◌∷◌, ◌++◌, ⊤, Result, Ok, Err, IfOk}
+use Rattle.std.specs.Prelude.{◌≡◌, ◌⊎◌, ℕ, ◌≤◌, ◌-◌, ◌^◌, min, List, [], ◌∷◌, ◌++◌, ⊤, Result, Ok, Err, IfOk}
 use Rattle.ports.specs.Causes.{Rose}
 use Rattle.record_fields.specs.declared.records.Sealed.{Sealed}
 use Rattle.record_fields.specs.declared.lines.Line.{Line}
@@ -19,6 +19,10 @@ pub record Ledger : Type 0 where
   pub sent : List (List Sealed)
   pub verdicts : List PlannedVerdict
   pub messages : List Message
+
+-- a count of faults as a u64 holds it
+abbrev pub counted : ℕ → ℕ
+counted faults = min faults (2 ^ 64 - 1)
 
 -- the fact holds where the answer is Failed
 abbrev pub OnFailed : {T : Type 0} → Result T AgencyFault → Type 0 → Type 0
@@ -65,7 +69,8 @@ pub record IsAsked (old new : Ledger) (huellas : List (List ℕ)) (answer : Resu
   pub sent : new.sent ≡ old.sent
   pub messages : new.messages ≡ old.messages ++ Consulted huellas answer ∷ []
 
+-- a consultation for which memory was wanting changes nothing
 abbrev pub Consults : Ledger → Ledger → List (List ℕ) → Result (List Seen) AgencyFault → Type 0
 Consults old new huellas (Ok seen) = IsAsked old new huellas (Ok seen)
 Consults old new huellas (Err Failed) = IsAsked old new huellas (Err Failed)
-Consults old new huellas (Err NoMemory) = IsSilent old new ⊎ IsAsked old new huellas (Err NoMemory)
+Consults old new huellas (Err NoMemory) = new ≡ old

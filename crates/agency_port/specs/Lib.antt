@@ -5,3 +5,5 @@ pub mod Ledger
 pub mod Rules
 pub mod Practice
 pub mod Telling
+pub mod Sessions
+pub mod Laws

@@ -1,8 +1,9 @@
 -- The practice agency: what each of its calls delivers and answers.
-use Rattle.std.specs.Prelude.{◌≡◌, ℕ, ◌+◌, List, [], ◌∷◌, ◌++◌, length, map, take, filter_map, max, Option, Some, None, unwrap_or, Result, Ok, Err, Bool, true, false, ◌==◌, bytes_eq, count_by, if◌then◌else◌}
+use Rattle.std.specs.Prelude.{◌≡◌, ℕ, ◌+◌, List, [], ◌∷◌, ◌++◌, length, map, take, filter_map, max, Option, Some, None, unwrap_or, Result, Ok, Err, ⊤, Bool, true, false, ◌==◌, bytes_eq, count_by, if◌then◌else◌}
 use Rattle.std.specs.Option.{option_map_or}
 use Rattle.std.specs.Cmp.Lexicographic.{pointwise}
 use Rattle.ports.specs.Memory.{counted_up}
+use Rattle.ports.specs.declared.faults.NoMemory.{NoMemory as NoMemoryAt}
 use Rattle.record_fields.specs.Picks.{last_of}
 use Rattle.record_fields.specs.declared.records.Sealed.{Sealed}
 use Rattle.record_fields.specs.declared.lines.Line.{Line}
@@ -115,7 +116,11 @@ processed_after a batch = delivered_all a.plan.verdicts (processed_before a) (ow
 
 -- the reply to a batch that comes
 abbrev pub reply_by : Plan → List (Sealed × Line) → List Sealed → Replied
-reply_by plan processed batch = record { huellas = huellas_of batch; lines = answers plan.verdicts processed batch; wait = plan.wait }
+reply_by plan processed batch = record {
+  huellas = huellas_of batch;
+  lines = answers plan.verdicts processed batch;
+  wait = plan.wait;
+}
 
 abbrev pub ok_of : Result Replied AgencyFault → Option Replied
 ok_of (Ok reply) = Some reply
@@ -170,7 +175,10 @@ abbrev pub submitted : Practice → List Sealed → Practice
 submitted a batch = record {
   plan = a.plan;
   processed = processed_after a batch;
-  log = a.log ++ record { message = Submitted batch (submission_answer a batch); comes = comes_at (fate_of a) (number a.log) } ∷ [];
+  log = a.log ++ record {
+    message = Submitted batch (submission_answer a batch);
+    comes = comes_at (fate_of a) (number a.log);
+  } ∷ [];
   faults = faults_by (fate_of a) a.faults;
 }
 
@@ -214,6 +222,11 @@ pub record IsCutShort (old new : Practice) : Type 0 where
   pub log : new.log ≡ old.log
   pub faults : new.faults ≡ old.faults
   pub front : take (length old.processed) new.processed ≡ old.processed
+
+-- A session is open. Want of memory leaves all as it was.
+abbrev pub IsOpened : {S : Type 0} → Result ⊤ NoMemoryAt → S → S → S → Type 0
+IsOpened (Ok done) old new next = new ≡ next
+IsOpened (Err why) old new next = new ≡ old
 
 -- the first pairs alone
 abbrev pub cut : Practice → ℕ → Practice

@@ -25,7 +25,8 @@ pub record Delivers (verdicts : List PlannedVerdict) (sent : List (List Sealed))
   pub is : new ≡ delivered_all verdicts old batches
 
 -- the batch itself came too, and the lines are what its delivery answered
-pub record DeliversThis (verdicts : List PlannedVerdict) (sent : List (List Sealed)) (old new : List (Sealed × Line)) (batch : List Sealed) (lines : List ReplyLine) : Type 0 where
+pub record DeliversThis (verdicts : List PlannedVerdict) (sent : List (List Sealed)) (old new : List (Sealed × Line))
+    (batch : List Sealed) (lines : List ReplyLine) : Type 0 where
   pub before : List (List Sealed)
   pub after : List (List Sealed)
   pub among_before : AreAmong sent before
@@ -36,10 +37,12 @@ pub record DeliversThis (verdicts : List PlannedVerdict) (sent : List (List Seal
 pub record SubmitKeeps (old new : Ledger) (batch : List Sealed) (result : Result Replied AgencyFault) : Type 0 where
   pub verdicts : new.verdicts ≡ old.verdicts
   pub delivers : Delivers old.verdicts new.sent old.processed new.processed
-  pub answered : IfOk result (λ (reply : Replied). Names reply batch → DeliversThis old.verdicts new.sent old.processed new.processed batch reply.lines)
+  pub answered : IfOk result (λ (reply : Replied). Names reply batch →
+      DeliversThis old.verdicts new.sent old.processed new.processed batch reply.lines)
 
 -- each Huella is answered by the list as it is at a moment of the call
-pub record LooksUp (verdicts : List PlannedVerdict) (sent : List (List Sealed)) (old new : List (Sealed × Line)) (huellas : List (List ℕ)) (seen : List Seen) : Type 0 where
+pub record LooksUp (verdicts : List PlannedVerdict) (sent : List (List Sealed)) (old new : List (Sealed × Line))
+    (huellas : List (List ℕ)) (seen : List Seen) : Type 0 where
   pub before : List (List Sealed)
   pub after : List (List Sealed)
   pub among_before : AreAmong sent before

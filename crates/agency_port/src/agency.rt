@@ -1,8 +1,14 @@
 // The trait of an agency.
-ghost use Rattle.std.specs.Prelude.{◌≡◌, ◌≤◌, ℕ, List, Bool, IsTrue, length, IfOk, OnOk, OnErr};
+ghost use Rattle.std.specs.Prelude.{◌≡◌, ◌≤◌, ◌-◌, ◌^◌, ℕ, List, Bool, IsTrue, length, Result, IfOk, OnOk, OnErr, ⊤};
 ghost use Rattle.record_fields.specs.declared.records.Sealed.{Sealed as AnySealed};
 ghost use Rattle.record_fields.specs.declared.lines.Line.{Line as AnyLine};
+ghost use Rattle.ports.specs.declared.faults.NoMemory.{NoMemory as AnyNoMemory};
+ghost use Rattle.agency_rules.specs.declared.plans.Plan.{Plan as AnyPlan};
+ghost use Rattle.agency_port.specs.declared.answers.AgencyFault.{AgencyFault as AnyFault};
+ghost use Rattle.agency_port.specs.declared.answers.Seen.{Seen as AnySeen};
+ghost use Rattle.agency_port.specs.Replied.{Replied};
 ghost use Rattle.agency_port.specs.Ledger.{Ledger, HasCause, StaleShows, Begins, Submits, Consults};
+ghost use Rattle.agency_port.specs.Messages.{batches_in};
 ghost use Rattle.agency_port.specs.Rules.{SubmitKeeps, ConsultKeeps};
 
 use crate::{AgencyFault, Reply, SeenList};
@@ -29,6 +35,14 @@ pub trait Agency {
     /// What has been processed once a session is open, by what had been and the noted records.
     ghost begun: { List (AnySealed × AnyLine) → List (AnySealed × AnyLine) → List (AnySealed × AnyLine) };
 
+    /// What agencies of this type say of their calls beyond what every agency does: of the opening of a session, of a
+    /// submission and of a consultation.
+    ghost opening: { Self → Self → AnyPlan → List (AnySealed × AnyLine) → Result ⊤ AnyNoMemory → Type 0 } = { λ _ _ _ _ _. ⊤ };
+
+    ghost submission: { Self → Self → List AnySealed → Result Replied AnyFault → Type 0 } = { λ _ _ _ _. ⊤ };
+
+    ghost consultation: { Self → Self → List (List ℕ) → Result (List AnySeen) AnyFault → Type 0 } = { λ _ _ _ _. ⊤ };
+
     /// Opens a session. Want of memory changes nothing.
     fn begin(
         &mut self,
@@ -40,7 +54,8 @@ pub trait Agency {
         ensures lists { OnOk result (IsTrue tells → Begins (ledger self.old) (ledger self.new) plan.now (length noted.now)) }
         ensures rules { OnOk result (IsTrue keeps_rules →
             (ledger self.new).processed ≡ begun (ledger self.old).processed noted.now) }
-        ensures err { OnErr result (IsTrue tells → ledger self.new ≡ ledger self.old) };
+        ensures err { OnErr result (IsTrue tells → ledger self.new ≡ ledger self.old) }
+        ensures row { opening self.old self.new plan.now noted.now result };
 
     /// Hands a batch over. A reply that doesn't name the batch comes only where the count of faults rose. After `Failed` the
     /// batch counts as handed over.
@@ -48,17 +63,25 @@ pub trait Agency {
         ensures cause { HasCause (faults self.old) (faults self.new) result }
         ensures stale { StaleShows (faults self.old) (faults self.new) batch.now result }
         ensures lists { IsTrue tells → Submits (ledger self.old) (ledger self.new) batch.now result }
-        ensures rules { IsTrue keeps_rules → SubmitKeeps (ledger self.old) (ledger self.new) batch.now result };
+        ensures rules { IsTrue keeps_rules → SubmitKeeps (ledger self.old) (ledger self.new) batch.now result }
+        ensures row { submission self.old self.new batch.now result };
 
-    /// Asks what stands under 1 to 1000 Huellas; one answer for each, in order.
+    /// Asks what stands under 1 to 1000 Huellas; one answer for each, in order. Want of memory changes nothing that is told.
     fn consult(&mut self, alloc: Global, huellas: &Huellas) -> Result<SeenList, AgencyFault>
         requires some { 1 ≤ length huellas.now }
         requires few { length huellas.now ≤ 1000 }
         ensures count { IfOk result (λ seen. length seen ≡ length huellas.now) }
         ensures cause { HasCause (faults self.old) (faults self.new) result }
         ensures lists { IsTrue tells → Consults (ledger self.old) (ledger self.new) huellas.now result }
-        ensures rules { IsTrue keeps_rules → ConsultKeeps (ledger self.old) (ledger self.new) huellas.now result };
+        ensures rules { IsTrue keeps_rules → ConsultKeeps (ledger self.old) (ledger self.new) huellas.now result }
+        ensures row { consultation self.old self.new huellas.now result };
 
     /// Who keeps the rules tells what was said.
     ghost keeps_and_tells: { IsTrue keeps_rules → IsTrue tells };
+
+    /// The count of faults is one that a u64 holds.
+    ghost few_faults: { (agency : Self) → faults agency ≤ 2 ^ 64 - 1 };
+
+    /// The batches that were ever handed over are those of the messages, in order.
+    ghost sent_is: { (agency : Self) → IsTrue tells → (ledger agency).sent ≡ batches_in (ledger agency).messages };
 }

@@ -100,12 +100,14 @@ impl Model for ReplyLines {
 }
 
 impl ReplyLines {
+    /// The list of these answers.
     pub fn of(list: Vec<ReplyLine>) -> ReplyLines
         ensures { result ≡ list.items }
     {
         ReplyLines { list }
     }
 
+    /// The answers, in order.
     pub fn as_slice(&self) -> &[ReplyLine]
         ensures { result.now ≡ self.now }
     {
@@ -138,12 +140,14 @@ impl Model for SeenList {
 }
 
 impl SeenList {
+    /// The list of these answers.
     pub fn of(list: Vec<Seen>) -> SeenList
         ensures { result ≡ list.items }
     {
         SeenList { list }
     }
 
+    /// The answers, in order.
     pub fn as_slice(&self) -> &[Seen]
         ensures { result.now ≡ self.now }
     {

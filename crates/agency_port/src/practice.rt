@@ -1,8 +1,9 @@
 // The agency that a shop practises with.
 ghost use Rattle.std.specs.Prelude.{◌≡◌, ◌<◌, ◌≤◌, ◌^◌, [], true, length, IsTrue, IfOk, OnOk, OnErr};
-ghost use Rattle.agency_port.specs.Ledger.{HasCause, StaleShows, Begins, Submits, Consults};
-ghost use Rattle.agency_port.specs.Rules.{SubmitKeeps, ConsultKeeps};
-ghost use Rattle.agency_port.specs.Practice.{IsRow, IsCutShort, cut, ledger_of, begun, opened, submission_answer, submitted, consultation_answer, consulted};
+ghost use Rattle.std.proofs.Common.{rules, arith};
+ghost use Rattle.agency_port.specs.Ledger.{counted};
+ghost use Rattle.agency_port.specs.Practice.{IsRow, IsOpened, IsCutShort, cut, opened, submission_answer, submitted};
+ghost use Rattle.agency_port.specs.Practice.{consultation_answer, consulted};
 
 use crate::rows::{
     answer_to, comes_at, copied_reply, copied_seen, deliver_before, faults_after, seen_by,
@@ -212,6 +213,7 @@ impl PracticeAgency {
 }
 
 impl Agency for PracticeAgency {
+    ghost use Rattle.std.specs.Prelude.{refl};
     ghost use Rattle.agency_port.specs.Practice as rows;
 
     ghost tells = { true };
@@ -220,11 +222,22 @@ impl Agency for PracticeAgency {
 
     ghost ledger = { rows.ledger_of };
 
-    ghost faults = { λ a. a.faults };
+    ghost faults = { λ a. counted a.faults };
 
     ghost begun = { rows.begun };
 
+    ghost opening = { λ old new plan noted result. IsOpened result old new (opened old plan noted) };
+
+    ghost submission = { λ old new batch result. IsRow result (submission_answer old batch) old new (submitted old batch) };
+
+    ghost consultation = { λ old new huellas result.
+        IsRow result (consultation_answer old huellas) old new (consulted old huellas) };
+
     ghost keeps_and_tells = { λ keeps. keeps };
+
+    ghost few_faults = { Prim.search (rules, arith) };
+
+    ghost sent_is = { λ agency tells. refl };
 
     /// Where nothing was processed the noted records are; the plan is the agency's from now on.
     fn begin(
@@ -232,38 +245,15 @@ impl Agency for PracticeAgency {
         alloc: Global,
         plan: &Plan,
         noted: &[(Sealed, Line)],
-    ) -> Result<(), NoMemory>
-        ensures same { self.new.faults ≡ self.old.faults }
-        ensures lists { OnOk result (IsTrue true → Begins (ledger_of self.old) (ledger_of self.new) plan.now (length noted.now)) }
-        ensures rules { OnOk result (IsTrue true → (ledger_of self.new).processed ≡ begun (ledger_of self.old).processed noted.now) }
-        ensures err { OnErr result (IsTrue true → ledger_of self.new ≡ ledger_of self.old) }
-        ensures row { OnOk result (self.new ≡ opened self.old plan.now noted.now) }
-        ensures unchanged { OnErr result (self.new ≡ self.old) }
-    {
+    ) -> Result<(), NoMemory> {
         self.open(alloc, plan, noted)
     }
 
-    fn submit(&mut self, alloc: Global, batch: &Batch) -> Result<Reply, AgencyFault>
-        ensures cause { HasCause self.old.faults self.new.faults result }
-        ensures stale { StaleShows self.old.faults self.new.faults batch.now result }
-        ensures lists { IsTrue true → Submits (ledger_of self.old) (ledger_of self.new) batch.now result }
-        ensures rules { IsTrue true → SubmitKeeps (ledger_of self.old) (ledger_of self.new) batch.now result }
-        ensures row { IsRow result (submission_answer self.old batch.now) self.old self.new (submitted self.old batch.now) }
-    {
-        let _count = self.faults();
+    fn submit(&mut self, alloc: Global, batch: &Batch) -> Result<Reply, AgencyFault> {
         self.submission(alloc, batch)
     }
 
-    fn consult(&mut self, alloc: Global, huellas: &Huellas) -> Result<SeenList, AgencyFault>
-        requires some { 1 ≤ length huellas.now }
-        requires few { length huellas.now ≤ 1000 }
-        ensures count { IfOk result (λ seen. length seen ≡ length huellas.now) }
-        ensures cause { HasCause self.old.faults self.new.faults result }
-        ensures lists { IsTrue true → Consults (ledger_of self.old) (ledger_of self.new) huellas.now result }
-        ensures rules { IsTrue true → ConsultKeeps (ledger_of self.old) (ledger_of self.new) huellas.now result }
-        ensures row { IsRow result (consultation_answer self.old huellas.now) self.old self.new (consulted self.old huellas.now) }
-    {
-        let _count = self.faults();
+    fn consult(&mut self, alloc: Global, huellas: &Huellas) -> Result<SeenList, AgencyFault> {
         self.consultation(alloc, huellas)
     }
 }

@@ -27,6 +27,7 @@ impl Model for Reply {
 }
 
 impl Reply {
+    /// The reply with these lines, as many as Huellas.
     pub fn of(huellas: Huellas, lines: ReplyLines, wait: u32) -> Reply
         requires { length lines ≡ length huellas }
         ensures { result ≡ record { huellas = huellas; lines = lines; wait = wait } }
@@ -38,13 +39,14 @@ impl Reply {
         }
     }
 
+    /// The Huellas that it answers for, in order.
     pub fn huellas(&self) -> &Huellas
         ensures { result.now ≡ self.now.huellas }
     {
         &self.huellas
     }
 
-    /// As many as Huellas.
+    /// The line of each Huella, in order.
     pub fn lines(&self) -> &ReplyLines
         ensures value { result.now ≡ self.now.lines }
         ensures matched { length result.now ≡ length self.now.huellas }
@@ -52,6 +54,7 @@ impl Reply {
         &self.lines
     }
 
+    /// The seconds to wait before the next submission.
     pub fn wait(&self) -> u32
         ensures { result ≡ self.now.wait }
     {

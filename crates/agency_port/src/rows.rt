@@ -40,7 +40,8 @@ pub(crate) fn deliver_before(
     call: u64,
     fate: Option<Fate>,
 ) -> Result<(), NoMemory>
-    ensures ok { OnOk result (pairs.new ≡ delivered_all verdicts.now (delivered_all verdicts.now pairs.old (rows.late_for call log.now))
+    ensures ok { OnOk result (pairs.new ≡ delivered_all verdicts.now
+        (delivered_all verdicts.now pairs.old (rows.late_for call log.now))
         (rows.again_before fate (rows.sent_in log.now))) }
     ensures front { take (length pairs.old) pairs.new ≡ pairs.old }
 {

@@ -5,7 +5,6 @@ use crate::{
 use agency_rules::{Fate, Fates, Plan, PlannedFate, PlannedVerdict, Verdict, Verdicts};
 use amounts::Cents;
 use batches::{Batch, Huellas, are_linked};
-use huella::seal;
 use invoice_kinds::Kind;
 use parties::Nif;
 use record_fields::{Alta, Draft, Line, Link, Previo, Record, Refs, Sealed};
@@ -17,7 +16,7 @@ use std::process::Abort;
 use std::test::Fail;
 use tax_lines::{Breakdown, LineKey, TaxLine};
 
-fn sale(alloc: Global, id: InvoiceId, link: Link) -> Result<Sealed, Fail> {
+fn sale(alloc: Global, id: InvoiceId, link: Link, huella: [u8; 32]) -> Result<Sealed, Fail> {
     let Ok(issuer) = Nif::read("89890001K") else {
         return Err(Fail::from("a tax number"));
     };
@@ -38,7 +37,7 @@ fn sale(alloc: Global, id: InvoiceId, link: Link) -> Result<Sealed, Fail> {
         refs: Refs::of(Vec::new(alloc)),
         lines,
     };
-    Ok(seal(Record::Alta(Alta {
+    let body = Record::Alta(Alta {
         issuer,
         id,
         draft,
@@ -46,10 +45,11 @@ fn sale(alloc: Global, id: InvoiceId, link: Link) -> Result<Sealed, Fail> {
         rechazo: Previo::N,
         link,
         moment,
-    })))
+    });
+    Ok(Sealed { body, huella })
 }
 
-// The sales A-1, A-2 and so on of one chain.
+// The sales A-1, A-2 and so on of one chain, at most 255; their digests are given by hand.
 fn chain(alloc: Global, count: u32) -> Result<Vec<Sealed>, Fail> {
     let series = SeriesName::read("A").ok_or("a series")?;
     let day = Day::read("01-01-2025").ok_or("a day")?;
@@ -63,7 +63,7 @@ fn chain(alloc: Global, count: u32) -> Result<Vec<Sealed>, Fail> {
             num: number(&series, n),
             day,
         };
-        let sealed = sale(alloc, id, link)?;
+        let sealed = sale(alloc, id, link, [(n % 256) as u8; 32])?;
         link = Link::After {
             id: sealed.body.id(),
             huella: sealed.huella,

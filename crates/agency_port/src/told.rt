@@ -1,8 +1,8 @@
 // An agency that was told its answers.
 ghost use Rattle.std.specs.Prelude.{◌≡◌, ◌<◌, ◌≤◌, ◌^◌, [], true, false, length, IsTrue, IfOk, OnOk, OnErr};
-ghost use Rattle.agency_port.specs.Ledger.{HasCause, StaleShows, Begins, Submits, Consults};
-ghost use Rattle.agency_port.specs.Rules.{SubmitKeeps, ConsultKeeps};
-ghost use Rattle.agency_port.specs.Practice.{IsRow};
+ghost use Rattle.std.proofs.Common.{rules, arith};
+ghost use Rattle.agency_port.specs.Ledger.{counted};
+ghost use Rattle.agency_port.specs.Practice.{IsRow, IsOpened};
 
 use crate::rows::{copied_reply, copied_seen};
 use crate::telling::{faults_after, next_reply, next_seen};
@@ -37,12 +37,14 @@ impl Model for ToldAnswers {
 }
 
 impl ToldAnswers {
+    /// The list of these answers.
     pub fn of(list: Vec<ToldAnswer>) -> ToldAnswers
         ensures { result ≡ list.items }
     {
         ToldAnswers { list }
     }
 
+    /// The answers, in order.
     pub fn as_slice(&self) -> &[ToldAnswer]
         ensures { result.now ≡ self.now }
     {
@@ -111,7 +113,8 @@ impl ToldAgency {
     }
 
     fn submission(&mut self, alloc: Global, batch: &Batch) -> Result<Reply, AgencyFault>
-        ensures { IsRow result (telling.submission_answer self.old.answers batch.now) self.old self.new (telling.submitted self.old batch.now) }
+        ensures { IsRow result (telling.submission_answer self.old.answers batch.now) self.old self.new
+            (telling.submitted self.old batch.now) }
     {
         let answer = next_reply(alloc, &self.answers.as_slice()[self.at..], batch)?;
         let message = Message::Submitted {
@@ -125,7 +128,8 @@ impl ToldAgency {
     }
 
     fn consultation(&mut self, alloc: Global, huellas: &Huellas) -> Result<SeenList, AgencyFault>
-        ensures { IsRow result (telling.consultation_answer self.old.answers huellas.now) self.old self.new (telling.consulted self.old huellas.now) }
+        ensures { IsRow result (telling.consultation_answer self.old.answers huellas.now) self.old self.new
+            (telling.consulted self.old huellas.now) }
     {
         let answer = next_seen(alloc, &self.answers.as_slice()[self.at..], huellas)?;
         let message = Message::Consulted {
@@ -158,52 +162,41 @@ impl Agency for ToldAgency {
 
     ghost ledger = { telling.ledger_of };
 
-    ghost faults = { λ a. a.faults };
+    ghost faults = { λ a. counted a.faults };
 
     ghost begun = { λ processed _. processed };
 
+    ghost opening = { λ old new plan noted result. IsOpened result old new (telling.opened old plan (length noted)) };
+
+    ghost submission = { λ old new batch result.
+        IsRow result (telling.submission_answer old.answers batch) old new (telling.submitted old batch) };
+
+    ghost consultation = { λ old new huellas result.
+        IsRow result (telling.consultation_answer old.answers huellas) old new (telling.consulted old huellas) };
+
     ghost keeps_and_tells = { λ keeps. refl };
+
+    ghost few_faults = { Prim.search (rules, arith) };
+
+    ghost sent_is = { λ agency tells. refl };
 
     fn begin(
         &mut self,
         alloc: Global,
         plan: &Plan,
         noted: &[(Sealed, Line)],
-    ) -> Result<(), NoMemory>
-        ensures same { self.new.faults ≡ self.old.faults }
-        ensures lists { OnOk result (IsTrue true → Begins (telling.ledger_of self.old) (telling.ledger_of self.new) plan.now (length noted.now)) }
-        ensures rules { OnOk result (IsTrue false → (telling.ledger_of self.new).processed ≡ (telling.ledger_of self.old).processed) }
-        ensures err { OnErr result (IsTrue true → telling.ledger_of self.new ≡ telling.ledger_of self.old) }
-        ensures row { OnOk result (self.new ≡ telling.opened self.old plan.now (length noted.now)) }
-        ensures unchanged { OnErr result (self.new ≡ self.old) }
-    {
+    ) -> Result<(), NoMemory> {
         self.say(Message::Begun {
             plan: plan.copied(alloc)?,
             pairs: noted.len() as u64,
         })
     }
 
-    fn submit(&mut self, alloc: Global, batch: &Batch) -> Result<Reply, AgencyFault>
-        ensures cause { HasCause self.old.faults self.new.faults result }
-        ensures stale { StaleShows self.old.faults self.new.faults batch.now result }
-        ensures lists { IsTrue true → Submits (telling.ledger_of self.old) (telling.ledger_of self.new) batch.now result }
-        ensures rules { IsTrue false → SubmitKeeps (telling.ledger_of self.old) (telling.ledger_of self.new) batch.now result }
-        ensures row { IsRow result (telling.submission_answer self.old.answers batch.now) self.old self.new (telling.submitted self.old batch.now) }
-    {
-        let _count = self.faults();
+    fn submit(&mut self, alloc: Global, batch: &Batch) -> Result<Reply, AgencyFault> {
         self.submission(alloc, batch)
     }
 
-    fn consult(&mut self, alloc: Global, huellas: &Huellas) -> Result<SeenList, AgencyFault>
-        requires some { 1 ≤ length huellas.now }
-        requires few { length huellas.now ≤ 1000 }
-        ensures count { IfOk result (λ seen. length seen ≡ length huellas.now) }
-        ensures cause { HasCause self.old.faults self.new.faults result }
-        ensures lists { IsTrue true → Consults (telling.ledger_of self.old) (telling.ledger_of self.new) huellas.now result }
-        ensures rules { IsTrue false → ConsultKeeps (telling.ledger_of self.old) (telling.ledger_of self.new) huellas.now result }
-        ensures row { IsRow result (telling.consultation_answer self.old.answers huellas.now) self.old self.new (telling.consulted self.old huellas.now) }
-    {
-        let _count = self.faults();
+    fn consult(&mut self, alloc: Global, huellas: &Huellas) -> Result<SeenList, AgencyFault> {
         self.consultation(alloc, huellas)
     }
 }

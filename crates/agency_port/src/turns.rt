@@ -45,6 +45,7 @@ impl Model for Turns {
 }
 
 impl Turns {
+    /// The list of these turns.
     pub fn of(list: Vec<Told>) -> Turns
         ensures { result ≡ list.items }
     {
@@ -60,6 +61,7 @@ impl Turns {
         }
     }
 
+    /// The turns, in order.
     pub fn as_slice(&self) -> &[Told]
         ensures { result.now ≡ self.now }
     {

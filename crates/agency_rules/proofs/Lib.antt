@@ -3,3 +3,4 @@ pub mod Judgements
 pub mod Tables
 pub mod Deliveries
 pub mod Indexing
+pub mod Comings

@@ -1,5 +1,6 @@
 -- What a delivered batch adds to the agency's list of processed records and their lines.
-use Rattle.std.specs.Prelude.{ℕ, List, [], ◌∷◌, ◌++◌, find, Option, Some, None, option_map, bytes_eq}
+use Rattle.std.specs.Prelude.{◌≡◌, ℕ, List, [], ◌∷◌, ◌++◌, find, Option, Some, None, option_map, is_some, Bool, true, false, ◌||◌, bytes_eq}
+use Rattle.std.specs.List.{list_any}
 use Rattle.record_fields.specs.declared.records.Sealed.{Sealed}
 use Rattle.record_fields.specs.declared.lines.Line.{Line}
 use Rattle.agency_rules.specs.declared.plans.PlannedVerdict.{PlannedVerdict}
@@ -33,6 +34,13 @@ abbrev pub delivered : List PlannedVerdict → List (Sealed × Line) → List Se
 delivered verdicts processed [] = processed
 delivered verdicts processed (s ∷ batch) = delivered verdicts (after_record verdicts processed s) batch
 
+-- the records of a front of the batch came, and no others
+pub record DeliversFront (verdicts : List PlannedVerdict) (old new : List (Sealed × Line)) (batch : List Sealed) : Type 0 where
+  pub front : List Sealed
+  pub rest : List Sealed
+  pub is : batch ≡ front ++ rest
+  pub came : new ≡ delivered verdicts old front
+
 -- what the records of a batch meet, in order
 abbrev pub meetings : List PlannedVerdict → List (Sealed × Line) → List Sealed → List Delivered
 meetings verdicts processed [] = []
@@ -43,3 +51,15 @@ meetings verdicts processed (s ∷ batch) =
 abbrev pub delivered_all : List PlannedVerdict → List (Sealed × Line) → List (List Sealed) → List (Sealed × Line)
 delivered_all verdicts processed [] = processed
 delivered_all verdicts processed (batch ∷ batches) = delivered_all verdicts (delivered verdicts processed batch) batches
+
+-- the batch has a record with this Huella
+abbrev pub names : List Sealed → List ℕ → Bool
+names batch huella = list_any (λ (s : Sealed). bytes_eq s.huella huella) batch
+
+-- the Huella stands in the list, or is that of a record that came after it was so
+abbrev pub has_come : List (Sealed × Line) → List Sealed → List ℕ → Bool
+has_come processed before huella = is_some (line_of processed huella) || names before huella
+
+abbrev pub is_again : Delivered → Bool
+is_again (First line) = false
+is_again (Again line) = true

@@ -1,5 +1,5 @@
 -- What the indexes over the list of processed records say.
-use Rattle.std.specs.Prelude.{◌≡◌, ℕ, ◌<◌, ◌-◌, ◌^◌, List, length, Option, None, Some, false, bytes_eq, slice_get, unwrap_or, if◌then◌else◌}
+use Rattle.std.specs.Prelude.{◌≡◌, ℕ, ◌<◌, ◌≤◌, List, length, Option, None, Some, false, bytes_eq, slice_get, unwrap_or, if◌then◌else◌}
 use Rattle.std.specs.List.{position_or_len}
 use Rattle.std.specs.Map.{lookup}
 use Rattle.series.specs.declared.numbers.InvoiceId.{InvoiceId}
@@ -7,6 +7,7 @@ use Rattle.record_fields.specs.declared.lines.Line.{Line}
 use Rattle.record_fields.specs.declared.records.Sealed.{Sealed}
 use Rattle.agency_rules.specs.Judgement.{same_id, past_of}
 use Rattle.agency_rules.specs.declared.judging.Past.{Past}
+use Rattle.agency_rules.specs.declared.pairs.TheConstants.{MAX_PAIRS}
 use Rattle.agency_rules.specs.declared.indexes.Places.{Places}
 use Rattle.agency_rules.specs.declared.indexes.Pasts.{Pasts}
 
@@ -37,6 +38,7 @@ past_at pasts id = unwrap_or (lookup (same_id id) pasts.by_id.entries) no_past
 
 -- Each Huella of a pair is noted with its first place, others with any or none. Each invoice has its past.
 pub record IsIndexed (processed : List (Sealed × Line)) (places : Places) (pasts : Pasts) : Type 0 where
-  pub few : length processed < 2 ^ 32 - 1
-  pub places_are : (huella : List ℕ) → place_of processed huella < length processed → place_at places huella ≡ Some (place_of processed huella)
+  pub few : length processed ≤ MAX_PAIRS
+  pub places_are : (huella : List ℕ) → place_of processed huella < length processed →
+      place_at places huella ≡ Some (place_of processed huella)
   pub pasts_are : (id : InvoiceId) → past_at pasts id ≡ past_of processed id

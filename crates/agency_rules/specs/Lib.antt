@@ -3,3 +3,4 @@ pub mod Judgement
 pub mod Clashes
 pub mod Delivery
 pub mod Indexes
+pub mod Laws

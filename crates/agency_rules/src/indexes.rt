@@ -40,7 +40,9 @@ impl Places {
         place: usize,
     ) -> Result<(), NoMemory>
         ensures ok { OnOk result ((other : List ℕ) → place_at self.new other ≡
-            (if known then place_at self.old other else if bytes_eq huella.now other then Some place else place_at self.old other)) }
+            (if known then place_at self.old other
+            else if bytes_eq huella.now other then Some place
+            else place_at self.old other)) }
         ensures err { OnErr result ((other : List ℕ) → place_at self.new other ≡ place_at self.old other) }
     {
         if !known {
@@ -79,7 +81,8 @@ impl Pasts {
 
     /// Without memory all stays as it was.
     pub fn note(&mut self, id: InvoiceId, past: Past) -> Result<(), NoMemory>
-        ensures ok { OnOk result ((other : AnyId) → past_at self.new other ≡ (if same_id id other then past else past_at self.old other)) }
+        ensures ok { OnOk result ((other : AnyId) → past_at self.new other ≡
+            (if same_id id other then past else past_at self.old other)) }
         ensures err { OnErr result ((other : AnyId) → past_at self.new other ≡ past_at self.old other) }
     {
         self.by_id.insert(id, past)?;

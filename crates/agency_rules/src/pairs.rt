@@ -2,7 +2,7 @@
 ghost use Rattle.std.specs.Prelude.{◌≡◌, ◌≤◌, ◌+◌, ◌-◌, ◌^◌, ◌<◌, [], ◌∷◌, ◌++◌, length, take, true, false, IfOk, OnOk, OnErr};
 ghost use Rattle.record_fields.specs.Records.{id_of};
 ghost use Rattle.agency_rules.specs.Judgement as spec;
-ghost use Rattle.agency_rules.specs.Delivery.{line_of, delivered_record, after_record, delivered};
+ghost use Rattle.agency_rules.specs.Delivery.{line_of, delivered_record, after_record, delivered, DeliversFront};
 ghost use Rattle.agency_rules.specs.Indexes.{line_at};
 
 use crate::indexes::{Pasts, Places};
@@ -22,7 +22,10 @@ pub enum Delivered {
     Again(Line),
 }
 
-/// The processed records with their lines, in order, fewer than 2^32 - 1 of them.
+/// The most pairs that a list holds, so that one more can still be counted.
+pub const MAX_PAIRS: u32 = 4_294_967_294;
+
+/// The processed records with their lines, in order, at most `MAX_PAIRS`.
 #[derive(Drop)]
 pub struct Pairs {
     list: Vec<(Sealed, Line)>,
@@ -113,7 +116,7 @@ impl Pairs {
         ensures err { OnErr result (self.new ≡ self.old) }
     {
         let place = self.len();
-        if place >= MOST {
+        if place >= MAX_PAIRS {
             return Err(NoMemory);
         }
         let id = sealed.body.id();
@@ -149,7 +152,7 @@ impl Pairs {
         Ok(Delivered::First(line))
     }
 
-    /// A batch arrives, its records in order. Without memory a front of it may have been added.
+    /// A batch arrives, its records in order. Without memory a front of it has arrived, and no record behind it.
     pub fn deliver(
         &mut self,
         alloc: Global,
@@ -157,6 +160,7 @@ impl Pairs {
         batch: &[Sealed],
     ) -> Result<(), NoMemory>
         ensures ok { OnOk result (self.new ≡ delivered verdicts.now self.old batch.now) }
+        ensures err { OnErr result (DeliversFront verdicts.now self.old self.new batch.now) }
         ensures front { take (length self.old) self.new ≡ self.old }
     {
         for i in 0..batch.len() {
@@ -199,9 +203,6 @@ fn line_at(pairs: &[(Sealed, Line)], place: Option<usize>, huella: &[u8; 32]) ->
         None
     }
 }
-
-// The most pairs that a list holds.
-const MOST: u32 = 4_294_967_294;
 
 // What these pairs say of an invoice.
 fn past_in(pairs: &[(Sealed, Line)], id: &InvoiceId) -> Past

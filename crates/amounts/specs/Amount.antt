@@ -1,10 +1,11 @@
 -- Amounts in cents, rates in hundredths of a percent, and the tax of a base. The limits and the rounding are this project's
 -- own.
 use Rattle.std.specs.Prelude.{◌≡◌, ◌⊎◌, ℕ, ◌+◌, ◌*◌, ◌/◌, ◌≤◌, ℤ, pos, negsuc, neg_ℤ, unsigned_abs}
+use Rattle.amounts.specs.declared.cents.TheConstants.{MAX_CENTS}
 
--- an amount of at most 99,999,999,999.99 in absolute value
+-- an amount within the limit, either way
 abbrev pub IsCents : ℤ → Type 0
-IsCents v = unsigned_abs v ≤ 9_999_999_999_999
+IsCents v = unsigned_abs v ≤ MAX_CENTS
 
 -- a rate of at most 25 percent
 abbrev pub IsRate : ℕ → Type 0

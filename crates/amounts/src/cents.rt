@@ -1,11 +1,15 @@
 //! Amounts of money.
 ghost use Rattle.std.specs.Prelude.{◌≡◌, ℤ, ◌↔◌, ◌≤◌, pos, ◌+ℤ◌, neg_ℤ, unsigned_abs, int_lt, IsSome, IfSome};
 ghost use Rattle.amounts.specs.Amount.{IsCents};
+ghost use Rattle.amounts.specs.declared.cents.TheConstants.{MAX_CENTS};
 
 use std::marker::Model;
 use std::ops::{Add, Neg};
 
-/// Whole cents of a euro, at most 9,999,999,999,999 of them in absolute value. The limit is this project's own.
+/// The most cents of an amount in absolute value: 99,999,999,999.99 euros. The limit is this project's own.
+pub const MAX_CENTS: u64 = 9_999_999_999_999;
+
+/// Whole cents of a euro, at most `MAX_CENTS` of them in absolute value.
 #[derive(Clone, Copy, Debug, PartialEq, Eq, PartialOrd, Ord, Hash)]
 pub struct Cents {
     cents: i64,
@@ -21,15 +25,13 @@ impl Model for Cents {
     ghost inverse = { λ v. record { cents = v } };
 }
 
-const MOST: u64 = 9_999_999_999_999;
-
 impl Cents {
-    /// So many cents, `None` exactly where they are more than 9,999,999,999,999 in absolute value.
+    /// So many cents, `None` exactly where they are more than `MAX_CENTS` in absolute value.
     pub fn new(v: i64) -> Option<Cents>
         ensures valid { IsSome result ↔ IsCents v }
         ensures value { IfSome result (λ c. c ≡ v) }
     {
-        if v.unsigned_abs() <= MOST {
+        if v.unsigned_abs() <= MAX_CENTS {
             Some(Cents { cents: v })
         } else {
             None
@@ -54,7 +56,7 @@ impl Cents {
 
     // So many cents, none of them owed.
     pub(crate) fn of_size(size: u64) -> Cents
-        requires { size ≤ 9_999_999_999_999 }
+        requires { size ≤ MAX_CENTS }
         ensures { result ≡ pos size }
     {
         Cents { cents: size as i64 }
@@ -63,7 +65,7 @@ impl Cents {
     // The absolute value.
     pub(crate) fn size(self) -> u64
         ensures value { result ≡ unsigned_abs self }
-        ensures bound { result ≤ 9_999_999_999_999 }
+        ensures bound { result ≤ MAX_CENTS }
     {
         self.cents.unsigned_abs()
     }

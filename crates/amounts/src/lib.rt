@@ -9,10 +9,12 @@ mod tax;
 #[cfg(test)]
 mod tests;
 mod text;
+mod whole;
 
-pub use cents::Cents;
+pub use cents::{Cents, MAX_CENTS};
 pub use laws::{tax_of_negated_base, text_determines_amount};
 pub use rate::Rate;
 pub use read::{AmountFault, read_cents};
 pub use tax::tax_of;
 pub use text::{AmountText, text_of};
+pub use whole::{WHOLE_LIMIT, read_whole};

@@ -1,38 +1,10 @@
 //! Reading an amount.
-ghost use Rattle.std.specs.Prelude.{◌≡◌, ℕ, ◌≤◌, ◌≢◌, ◌⊎◌, min, IfSome, IfNone, IsTrue, ◌↔◌, ◌<◌, length, slice_index, ℤ, Ok};
-ghost use Rattle.std.specs.Str.Parse.{digits_value};
-ghost use Rattle.amounts.specs.Text.{whole_text, cents_text, amount_text};
+ghost use Rattle.std.specs.Prelude.{◌≡◌, ℕ, ◌≢◌, IfSome, IfNone, ℤ, Ok};
+ghost use Rattle.amounts.specs.Text.{cents_text, amount_text};
 ghost use Rattle.amounts.specs.Amount.{IsSize, IsCents};
 ghost use Rattle.amounts.specs.Reading.{IsReading, IsPositiveReading, IsNegativeReading};
 
-use crate::Cents;
-
-// Something stands there, and no zero leads more bytes.
-fn is_led(bytes: &[u8]) -> bool
-    ensures { IsTrue result
-        ↔ ((0 < length bytes.now) × (slice_index bytes.now 0 ≡ 48 → length bytes.now ≡ 1)) }
-{
-    !bytes.is_empty() && (bytes[0] != b'0' || bytes.len() == 1)
-}
-
-// The number that decimal digits without leading zeros write, or 10^11 where it is more.
-fn read_whole(bytes: &[u8]) -> Option<u64>
-    ensures text { IfSome result (λ _. whole_text (digits_value 10 bytes.now) ≡ bytes.now) }
-    ensures value { IfSome result (λ n. n ≡ min (digits_value 10 bytes.now) 100_000_000_000) }
-    ensures none { IfNone result ((v : ℕ) → bytes.now ≢ whole_text v) }
-{
-    if !is_led(bytes) {
-        return None;
-    }
-    let mut value: u64 = 0;
-    for b in bytes {
-        if !b.is_ascii_digit() {
-            return None;
-        }
-        value = (value * 10 + (*b - b'0') as u64).min(100_000_000_000);
-    }
-    Some(value)
-}
+use crate::{Cents, MAX_CENTS, read_whole};
 
 // The cents of a text with no minus, or some number from 10^13 on where they are as many.
 fn read_size(bytes: &[u8]) -> Option<u64>
@@ -67,7 +39,7 @@ fn read_size(bytes: &[u8]) -> Option<u64>
 pub enum AmountFault {
     /// The text doesn't have the form in which amounts are written.
     Shape,
-    /// It has, and the amount is more than 9,999,999,999,999 cents in absolute value.
+    /// It has, and the amount is more than `MAX_CENTS` in absolute value.
     Range,
 }
 
@@ -91,7 +63,7 @@ fn read_positive(bytes: &[u8]) -> Result<Cents, AmountFault>
     ensures { IsPositiveReading bytes.now result }
 {
     match read_size(bytes) {
-        Some(size) if size <= 9_999_999_999_999 => Ok(Cents::of_size(size)),
+        Some(size) if size <= MAX_CENTS => Ok(Cents::of_size(size)),
         Some(_) => Err(AmountFault::Range),
         None => Err(AmountFault::Shape),
     }
@@ -103,7 +75,7 @@ fn read_negative(bytes: &[u8]) -> Result<Cents, AmountFault>
 {
     match read_size(bytes) {
         Some(0) => Err(AmountFault::Shape),
-        Some(size) if size <= 9_999_999_999_999 => Ok(-Cents::of_size(size)),
+        Some(size) if size <= MAX_CENTS => Ok(-Cents::of_size(size)),
         Some(_) => Err(AmountFault::Range),
         None => Err(AmountFault::Shape),
     }

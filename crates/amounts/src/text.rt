@@ -2,6 +2,7 @@
 ghost use Rattle.std.specs.Prelude.{◌≡◌, ℕ, ◌≤◌, List, drop};
 ghost use Rattle.std.specs.Int.{IsInRange};
 ghost use Rattle.amounts.specs.Text.{cents_text, amount_text};
+ghost use Rattle.amounts.specs.declared.cents.TheConstants.{MAX_CENTS};
 
 use crate::Cents;
 use itoa::write_digits;
@@ -33,7 +34,7 @@ impl AmountText {
 
 // Writes so many cents to the end of the buffer, and returns where the text starts.
 fn write_cents(size: u64, bytes: &mut [u8; 15]) -> usize
-    requires { size ≤ 9_999_999_999_999 }
+    requires { size ≤ MAX_CENTS }
     ensures start { IsInRange 1 12 result }
     ensures written { drop result bytes.new ≡ cents_text size }
 {

@@ -1,4 +1,5 @@
--- Batches as the agency takes them: at most 1000 records (Orden HAC/1177/2024, the size of a submission), in the order of their chain.
+-- Batches as the agency takes them: at most 1000 records (Orden HAC/1177/2024, the size of a submission), in the order of
+-- their chain.
 use Rattle.std.specs.Prelude.{ℕ, ◌≤◌, List, length, map}
 use Rattle.record_fields.specs.declared.records.Sealed.{Sealed}
 use Rattle.record_fields.specs.Links.{LinkedRun}

@@ -1,4 +1,5 @@
-//! What is sent to the agency: batches of linked records, and the Huellas that a consultation asks for.
+//! What is sent to the agency: batches of linked records, and the Huellas that a consultation asks for. Whoever cuts a batch
+//! has to know that its records are linked: those of one chain are, and `are_linked` is the test.
 #![tactic(auto)]
 
 mod batch;

@@ -1,6 +1,5 @@
 use crate::{Batch, Batches, Huellas, are_linked};
 use amounts::Cents;
-use huella::seal;
 use invoice_kinds::Kind;
 use parties::Nif;
 use record_fields::{Alta, Draft, Link, Previo, Record, Refs, Sealed};
@@ -10,7 +9,15 @@ use std::alloc::Global;
 use std::test::Fail;
 use tax_lines::{Breakdown, LineKey, TaxLine};
 
-fn sale(alloc: Global, id: InvoiceId, link: Link) -> Result<Sealed, Fail> {
+// The digest of the n-th sale, given by hand.
+fn digest(n: u32) -> [u8; 32] {
+    let mut huella = [0; 32];
+    huella[0] = (n / 256 % 256) as u8;
+    huella[1] = (n % 256) as u8;
+    huella
+}
+
+fn sale(alloc: Global, id: InvoiceId, link: Link, huella: [u8; 32]) -> Result<Sealed, Fail> {
     let Ok(issuer) = Nif::read("89890001K") else {
         return Err(Fail::from("a tax number"));
     };
@@ -31,7 +38,7 @@ fn sale(alloc: Global, id: InvoiceId, link: Link) -> Result<Sealed, Fail> {
         refs: Refs::of(Vec::new(alloc)),
         lines,
     };
-    Ok(seal(Record::Alta(Alta {
+    let body = Record::Alta(Alta {
         issuer,
         id,
         draft,
@@ -39,7 +46,8 @@ fn sale(alloc: Global, id: InvoiceId, link: Link) -> Result<Sealed, Fail> {
         rechazo: Previo::N,
         link,
         moment,
-    })))
+    });
+    Ok(Sealed { body, huella })
 }
 
 // The sales A-1, A-2 and so on of one chain.
@@ -56,7 +64,7 @@ fn chain(alloc: Global, count: u32) -> Result<Vec<Sealed>, Fail> {
             num: number(&series, n),
             day,
         };
-        let sealed = sale(alloc, id, link)?;
+        let sealed = sale(alloc, id, link, digest(n))?;
         link = Link::After {
             id: sealed.body.id(),
             huella: sealed.huella,

@@ -1,7 +1,9 @@
 -- What contracts see of a disk in memory.
-use Rattle.std.specs.Prelude.{◌≡◌, ◌≤◌, ℕ, List, [], take, Contains}
+use Rattle.std.specs.Prelude.{◌≡◌, ◌≤◌, ℕ, List, [], take, Contains, Result, MatchResult}
+use Rattle.ports.specs.Memory.{counted_up}
+use Rattle.ports.specs.Reasons.{count_of}
 use Rattle.chain_disk.specs.Told.{Told, IsLeft, moment}
-use Rattle.chain_disk.specs.Memory.{told_by, next_call, fresh}
+use Rattle.chain_disk.specs.Memory.{told_by, fresh}
 use Rattle.chain_disk.specs.Fill.{IsFilled}
 use Rattle.chain_disk.specs.declared.image.Fill.{Fill}
 use Rattle.chain_disk.specs.declared.memory.MemDisk.{MemDisk}
@@ -24,16 +26,17 @@ calls_of disk = disk.calls
 
 -- the coming call is one of those that fail
 abbrev pub FailsNext : MemDisk → Type 0
-FailsNext disk = Contains (failing_of disk) (next_call (calls_of disk))
-
--- one call more was made
-pub record IsCounted (old new : MemDisk) : Type 0 where
-  pub calls : calls_of new ≡ next_call (calls_of old)
-  pub failing : failing_of new ≡ failing_of old
+FailsNext disk = Contains (failing_of disk) (counted_up (calls_of disk))
 
 -- how often it has failed
 abbrev pub faults_of : MemDisk → ℕ
-faults_of disk = disk.faults
+faults_of disk = count_of disk.faults
+
+-- one call was made, which is a fault exactly where it failed
+pub record IsOneCall {T E : Type 0} (old new : MemDisk) (result : Result T E) : Type 0 where
+  pub failing : failing_of new ≡ failing_of old
+  pub calls : calls_of new ≡ counted_up (calls_of old)
+  pub faults : MatchResult result (λ _. faults_of new ≡ faults_of old) (λ _. faults_of new ≡ counted_up (faults_of old))
 
 -- the moment of now
 abbrev pub latest : MemDisk → ℕ

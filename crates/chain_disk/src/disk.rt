@@ -1,5 +1,5 @@
 // The trait of a disk.
-ghost use Rattle.std.specs.Prelude.{◌≡◌, ◌≤◌, ℕ, Bool, IsTrue, length, IfOk, OnOk, OnErr};
+ghost use Rattle.std.specs.Prelude.{◌≡◌, ◌≤◌, ◌-◌, ◌^◌, ℕ, Bool, IsTrue, length, IfOk, OnOk, OnErr};
 ghost use Rattle.ports.specs.Causes.{HasCause};
 ghost use Rattle.chain_disk.specs.Told.{Told, written, synced, IsWriteFailed, IsSyncFailed, IsRead, IsImage};
 
@@ -58,4 +58,7 @@ pub trait Disk {
 
     /// The disk as it reads is one of its images of now.
     ghost reads_an_image: { (disk : Self) → IsTrue tells → IsImage (told disk).now (told disk).content };
+
+    /// The count of faults is one that a u64 holds.
+    ghost few_faults: { (disk : Self) → faults disk ≤ 2 ^ 64 - 1 };
 }

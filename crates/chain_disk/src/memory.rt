@@ -1,16 +1,22 @@
 // A disk in memory. It keeps a record of its writes and syncs, so that it answers for every moment.
 ghost use Rattle.std.specs.Prelude.{◌≡◌, ◌<◌, ◌≤◌, ◌+◌, [], ◌∷◌, ◌++◌, true, MatchOption, vec_len, vec_capacity, IsTrue, IsErr, Contains, ◌↔◌, length, IfOk, OnOk, OnErr};
-ghost use Rattle.ports.specs.Causes.{Rose, HasCause};
+ghost use Rattle.ports.specs.Causes.{HasCause};
 ghost use Rattle.chain_disk.specs.Told.{pasted, IsRead, synced, written, IsSyncFailed, IsWriteFailed};
-ghost use Rattle.chain_disk.specs.Memory.{told_by, content_of, fresh, next_call};
+ghost use Rattle.chain_disk.specs.Memory.{told_by, content_of, fresh};
+ghost use Rattle.ports.specs.Memory.{counted_up};
 ghost use Rattle.chain_disk.specs.MemoryReads.{memory_reads};
 ghost use Rattle.chain_disk.specs.declared.event.Event.TheVariants.{Wrote};
 
 use crate::event::Event;
 use crate::image::image_of;
 use crate::{Disk, Fill};
-use ports::{Failed, NoMemory};
+use ports::{Failed, Faults, NoMemory};
 use std::alloc::{AllocError, Global};
+
+// Why a call fails: its number is listed, or what it would record finds no room.
+const LISTED: &str = "the call is listed";
+
+const NO_ROOM: &str = "no memory";
 
 /// A disk in memory. It tells what it holds and what a crash at each moment since it was made may
 /// leave. Moment 0 is before its first write or sync, and each one that it records is one moment more.
@@ -22,7 +28,7 @@ pub struct MemDisk {
     events: Vec<Event>,
     failing: Vec<u64>,
     calls: u64,
-    faults: u64,
+    faults: Faults,
     ghost content: { content_of first.items current ≡ (told_by first.items events.items).content },
 }
 
@@ -43,7 +49,7 @@ impl MemDisk {
             events: Vec::new(alloc),
             failing,
             calls: 0,
-            faults: 0,
+            faults: Faults::none(),
         }
     }
 
@@ -65,17 +71,10 @@ impl MemDisk {
 // Whether this call fails, which it counts.
 fn next_fails(calls: &mut u64, failing: &[u64]) -> bool
     ensures fails { IsTrue result ↔ Contains failing.now calls.new }
-    ensures counted { calls.new ≡ next_call calls.old }
+    ensures counted { calls.new ≡ counted_up calls.old }
 {
     *calls = calls.saturating_add(1);
     failing.contains(calls)
-}
-
-pub(crate) fn raise(faults: &mut u64)
-    ensures later { faults.old ≤ faults.new }
-    ensures rose { Rose faults.old faults.new }
-{
-    *faults = faults.saturating_add(1);
 }
 
 // The bytes of what is there now.
@@ -155,7 +154,7 @@ fn fill(content: &[u8], at: u64, buf: &mut [u8]) -> usize
 }
 
 impl Disk for MemDisk {
-    ghost use Rattle.chain_disk.specs.MemDisk.{told_of, faults_of, FailsNext, IsCounted};
+    ghost use Rattle.chain_disk.specs.MemDisk.{told_of, faults_of, FailsNext, IsOneCall};
 
     ghost tells = { true };
 
@@ -165,16 +164,17 @@ impl Disk for MemDisk {
 
     ghost reads_an_image = { λ m tells. memory_reads m.first.items m.events.items };
 
+    ghost few_faults = { λ m. m.faults.few };
+
     fn len(&mut self) -> Result<u64, Failed>
         ensures same { told_of self.new ≡ told_of self.old }
         ensures length { IfOk result (λ n. IsTrue true → n ≡ length (told_of self.old).content) }
         ensures cause { HasCause (faults_of self.old) (faults_of self.new) result }
         ensures exactly { IsErr result ↔ FailsNext self.old }
-        ensures counted { IsCounted self.old self.new }
+        ensures call { IsOneCall self.old self.new result }
     {
         if next_fails(&mut self.calls, &self.failing) {
-            raise(&mut self.faults);
-            return Err(Failed);
+            return Err(self.faults.raise(LISTED));
         }
         Ok(bytes_of(&self.first, &self.current).len() as u64)
     }
@@ -186,11 +186,10 @@ impl Disk for MemDisk {
             IsRead (told_of self.old).content at n buf.old buf.new) }
         ensures cause { HasCause (faults_of self.old) (faults_of self.new) result }
         ensures exactly { IsErr result ↔ FailsNext self.old }
-        ensures counted { IsCounted self.old self.new }
+        ensures call { IsOneCall self.old self.new result }
     {
         if next_fails(&mut self.calls, &self.failing) {
-            raise(&mut self.faults);
-            return Err(Failed);
+            return Err(self.faults.raise(LISTED));
         }
         Ok(fill(bytes_of(&self.first, &self.current), at, buf))
     }
@@ -206,18 +205,12 @@ impl Disk for MemDisk {
         // Want of memory changes nothing but the counts.
         ensures no_room { (FailsNext self.old → ⊥) →
             OnErr result (told_of self.new ≡ told_of self.old) }
-        ensures counted { IsCounted self.old self.new }
+        ensures call { IsOneCall self.old self.new result }
     {
         if next_fails(&mut self.calls, &self.failing) {
-            raise(&mut self.faults);
-            let _ = note(
-                &mut self.events,
-                Event::Tore {
-                    at,
-                    count: bytes.len() as u64,
-                },
-            );
-            return Err(Failed);
+            let count = bytes.len() as u64;
+            let _ = note(&mut self.events, Event::Tore { at, count });
+            return Err(self.faults.raise(LISTED));
         }
         match note_write(
             self.alloc,
@@ -228,10 +221,7 @@ impl Disk for MemDisk {
             bytes,
         ) {
             Ok(()) => Ok(()),
-            Err(_) => {
-                raise(&mut self.faults);
-                Err(Failed)
-            }
+            Err(_) => Err(self.faults.raise(NO_ROOM)),
         }
     }
 
@@ -243,23 +233,19 @@ impl Disk for MemDisk {
         // Want of memory changes nothing but the counts.
         ensures no_room { (FailsNext self.old → ⊥) →
             OnErr result (told_of self.new ≡ told_of self.old) }
-        ensures counted { IsCounted self.old self.new }
+        ensures call { IsOneCall self.old self.new result }
     {
         if next_fails(&mut self.calls, &self.failing) {
-            raise(&mut self.faults);
             let _ = note(&mut self.events, Event::Unsynced);
-            return Err(Failed);
+            return Err(self.faults.raise(LISTED));
         }
         match note(&mut self.events, Event::Synced) {
             Ok(()) => Ok(()),
-            Err(_) => {
-                raise(&mut self.faults);
-                Err(Failed)
-            }
+            Err(_) => Err(self.faults.raise(NO_ROOM)),
         }
     }
 
     fn faults(&self) -> u64 {
-        self.faults
+        self.faults.count()
     }
 }

@@ -73,17 +73,44 @@ fn a_file_is_made_at_its_first_write(rt: HostRuntime) -> Result<(), Fail> {
 #[test]
 fn each_error_of_a_file_raises_the_count(rt: HostRuntime) -> Result<(), Fail> {
     let alloc = rt.alloc();
-    // No folder to make the file in, a folder in the file's place, and a device that is always full.
-    // The first and the last read as length 0.
-    for (path, reads) in [("no/such.chain", true), (".", false), ("/dev/full", true)] {
+    // No folder to make the file in, a folder in the file's place, and a device. The first reads as length 0.
+    let rows = [
+        ("no/such.chain", Ok(0), "no such file"),
+        (".", Err(Failed), "is a folder"),
+        ("/dev/full", Err(Failed), "not a file"),
+    ];
+    for (path, len, reason) in rows {
         let mut disk = FileDisk::at(&rt, String::from_str(alloc, path)?);
-        let len = disk.len();
-        assert_eq!(rt; len, if reads { Ok(0) } else { Err(Failed) }, "{path}");
+        assert_eq!(rt; disk.len(), len, "{path}");
+        assert_eq!(rt; disk.missing(), len.is_ok(), "{path}");
         let before = disk.faults();
         assert_eq!(rt; disk.write_at(0, b"abc"), Err(Failed), "{path}");
         assert_eq!(rt; disk.sync(), Err(Failed), "{path}");
         assert_eq!(rt; disk.faults(), before.saturating_add(2), "{path}");
+        assert_eq!(rt; disk.reason(), Some(reason), "{path}");
     }
     assert!(rt; !fs::exists(&rt, "no")?);
+    Ok(())
+}
+
+#[test]
+fn one_disk_at_a_time_writes_to_a_file(rt: HostRuntime) -> Result<(), Fail> {
+    let alloc = rt.alloc();
+    let mut writer = FileDisk::at(&rt, String::from_str(alloc, "two.chain")?);
+    writer.write_at(0, b"abc")?;
+    writer.sync()?;
+    let mut other = FileDisk::at(&rt, String::from_str(alloc, "two.chain")?);
+    assert!(rt; reads_as(&mut other, b"abc")?);
+    assert_eq!(rt; (other.missing(), other.reason()), (false, None));
+    assert_eq!(rt; other.sync(), Err(Failed));
+    assert_eq!(rt; other.write_at(0, b"X"), Err(Failed));
+    assert_eq!(rt; other.faults(), 2);
+    assert_eq!(rt; other.reason(), Some("in use by another program"));
+    assert!(rt; reads_as(&mut other, b"abc")?);
+    writer.write_at(3, b"d")?;
+    drop(writer);
+    assert_eq!(rt; other.write_at(4, b"e"), Ok(()));
+    assert!(rt; reads_as(&mut other, b"abcde")?);
+    fs::remove_file(&rt, "two.chain")?;
     Ok(())
 }

@@ -11,8 +11,8 @@ use Rattle.atomic_table.specs.Table.{State, Me, keeps, takes, gives, step, stepp
 use Rattle.atomic_table.proofs.Lists.{at_set, set_else, at_snoc, at_longer}
 use Rattle.chain_lock.specs.declared.view.View.{View}
 use Rattle.chain_lock.specs.Lists.{MayAdd, StartsWith, times, placed, total}
-use Rattle.chain_lock.specs.Rule.{first_view, Knows, Kept, glanced, tried, marked, freed, with_turn, with_added, split_left, split_right, joined, spent_view, known_of, Counted, FitsAll}
-use Rattle.chain_lock.specs.Known.{Fits}
+use Rattle.chain_lock.specs.Rule.{first_view, Knows, Kept, glanced, tried, marked, freed, with_turn, with_added, split_left, split_right, joined, note_of, raised, spent_view, known_of, Counted, FitsAll, HasTurn}
+use Rattle.chain_lock.specs.Known.{Fits, Turns}
 use Rattle.chain_lock.proofs.Lists.{total_set, total_snoc, total_two, total_only, times_append, times_cut, placed_append, placed_one, no_times, times_up, set_at, not_true, true_false, cut_lengths, starts_self, starts_trans, starts_length, each_trans, each_append, get_here, stand_starts, each_split, each_all}
 
 module _ {I R : Type 0} where
@@ -59,6 +59,22 @@ module _ {I R : Type 0} where
   pub counts_none : (d : View I R) (after : List I) → d.least ≡ length d.seen → MayAdd d.seen after → length after ≡ length d.seen → Counted d after d
   counts_none d after least (inl e) same = ([], omega arith, e ∙ sym (append-nil d.seen), adds_none d least)
   counts_none d after least (inr (x, e)) same = absurd (omega (arith, ap length e, length-append d.seen (x ∷ [])))
+
+-- the pass got the turn, counted what its act added, and gave the turn back
+pub turned : {V I R : Type 0} (items : V → List I) (root : V → R) (P : R → List I → List I → Type 0) (d t e w f : View I R) (y : V) (m : Me (Option V) (View I R)) (after : List I) → HasTurn items root d y m → t ≡ m.0
+    → Counted t after e → w ≡ e → f ≡ record w { turning = false } → P (root y) (items y) after → Turns P (known_of d) (known_of f)
+turned items root P d t e w f y m after turn taken counted put freed related =
+    let (added, short, list, view) : Counted (with_turn d (items y)) after e = subst (λ (z : View _ _). Counted z after e) (taken ∙ turn.view) counted in record {
+      before = items y;
+      added = added;
+      home = root y;
+      root = turn.root_is;
+      begins = turn.begins;
+      at_least = turn.at_least;
+      at_most_one = short;
+      related = subst (P (root y) (items y)) list related;
+      after = ap known_of freed ∙ ap (λ (z : View _ _). known_of (record z { turning = false })) (put ∙ view);
+    }
 
 module _ {V I R : Type 0} (items : V → List I) (root : V → R) (base : List I) (home : R) (count : ℕ) where
   abbrev D : Type 0
@@ -292,6 +308,31 @@ module _ {V I R : Type 0} (items : V → List I) (root : V → R) (base : List I
       (λ h. still_there vs other r.holder e spent_view at' (sym idle') (still_there s.views id r.holder d both at refl h))
       (λ j. let a = total_set (λ (d : D). times j d.numbers) vs other e spent_view at' in let b = total_set (λ (d : D). times j d.numbers) s.views id d both at in let c = times_append j d.numbers e.numbers in omega arith)
       (λ j. let a = total_set (λ (d : D). placed j d.own) vs other e spent_view at' in let b = total_set (λ (d : D). placed j d.own) s.views id d both at in let c = placed_append j d.own e.own in omega arith)
+
+  -- a note of what a pass knows
+  pub notes : (id : ℕ) (d : D) → Splits Rule id d d (note_of d)
+  notes id d s r at = let note : D = note_of d in let k = r.each id d at in
+      let new : (j : ℕ) → Knows r.log home r.turn r.holder j note = λ j.
+      record { seen = k.seen; met = tt; least = k.least; root = λ z. absurd (omega arith); spent = λ _. (refl, refl); turns = λ z. absurd cc; stand = tt } in
+      seats_change s r (set s.views id d ++ note ∷ [])
+      (λ j e there. ⊎_elim (each_set (Knows r.log home r.turn r.holder) s.views id d k (λ i f _. r.each i f) j e) (λ (q : note ≡ e). subst (λ (z : D). Knows r.log home r.turn r.holder j z) q (new j)) (at_snoc (set s.views id d) note e j there))
+      (λ h. let (e, there, turns) = still_there s.views id r.holder d d at refl h in (e, at_longer (set s.views id d) (note ∷ []) r.holder e there, turns))
+      (λ j. let a = total_snoc (λ (d : D). times j d.numbers) (set s.views id d) note in let b = total_set (λ (d : D). times j d.numbers) s.views id d d at in omega arith)
+      (λ j. let a = total_snoc (λ (d : D). placed j d.own) (set s.views id d) note in let b = total_set (λ (d : D). placed j d.own) s.views id d d at in omega arith)
+
+  -- a pass that takes a note in
+  pub learns : (id other : ℕ) (d e : D) → e.turning ≡ false → e.numbers ≡ [] → e.own ≡ [] → Joins Rule id d other e (raised d e) spent_view
+  learns id other d e idle spent bare s r at ne at' = let both : D = raised d e in let vs : List D = set s.views id both in
+      let there' : get_elem? s.views other ≡ some e = sym (set_else s.views id other both ne) ∙ at' in let k = r.each id d at in let k' = r.each other e there' in
+      let least = k.least in let least' = k'.least in
+      let known : Knows r.log home r.turn r.holder id both = record { seen = k.seen; met = k.met; least = (omega arith, omega arith); root = k.root; spent = k.spent; turns = k.turns; stand = k.stand } in
+      let gone : Knows r.log home r.turn r.holder other spent_view =
+      record { seen = (r.log, refl); met = tt; least = (omega arith, omega arith); root = λ z. absurd (omega arith); spent = λ _. (refl, refl); turns = λ z. absurd cc; stand = tt } in
+      seats_change s r (set vs other spent_view)
+      (each_set (Knows r.log home r.turn r.holder) vs other spent_view gone (λ i f _. each_set (Knows r.log home r.turn r.holder) s.views id both known (λ j g _. r.each j g) i f))
+      (λ h. still_there vs other r.holder e spent_view at' (sym idle) (still_there s.views id r.holder d both at refl h))
+      (λ j. let a = total_set (λ (d : D). times j d.numbers) vs other e spent_view at' in let b = total_set (λ (d : D). times j d.numbers) s.views id d both at in let c = ap (times j) spent in omega arith)
+      (λ j. let a = total_set (λ (d : D). placed j d.own) vs other e spent_view at' in let b = total_set (λ (d : D). placed j d.own) s.views id d both at in let c = ap (placed j) bare in omega arith)
 
   pub opens : (value : V) → 0 < count → items value ≡ base → root value ≡ home → Rule (opening (length base ∷ 0 ∷ []) (Some value ∷ []) (first_view base home count))
   opens value some_passes list root_is = let view : D = first_view base home count in record {

@@ -32,6 +32,10 @@ module _ {I R : Type 0} where
   abbrev pub owners : ℕ → List (Known I R) → ℕ
   owners n ks = sum_by (times_owned n) ks
 
+  -- a pass knows of as many items as it has seen, or of more
+  abbrev pub KnowsOfSeen : Known I R → Type 0
+  KnowsOfSeen k = length k.seen ≤ k.least
+
   -- a pass that has taken no turn yet
   pub record IsNew (items : List I) (root : R) (k : Known I R) : Type 0 where
     pub seen : k.seen ≡ items

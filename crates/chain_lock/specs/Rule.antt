@@ -1,5 +1,5 @@
 -- The rule of the lock's table, and what each step tells.
-use Rattle.std.specs.Prelude.{◌≡◌, ◌≢◌, ℕ, ◌<◌, ◌≤◌, true, false, List, [], ◌∷◌, ◌++◌, length, take, drop, Option, Some, None}
+use Rattle.std.specs.Prelude.{◌≡◌, ◌≢◌, ℕ, ◌<◌, ◌≤◌, true, false, List, [], ◌∷◌, ◌++◌, length, take, drop, max, Option, Some, None}
 use Rattle.std.specs.List.{enumerate_from}
 use mathlib.Core.Option.{some, none}
 use lib.ListN.{get_elem?}
@@ -43,9 +43,9 @@ pub record Kept {V I R : Type 0} (items : V → List I) (root : V → R) (base :
   pub places : (k : ℕ) → (k < length base → total (λ (d : View I R). placed k d.own) s.views ≡ 0) × (length base ≤ k → k < length log → total (λ (d : View I R). placed k d.own) s.views ≡ 1) × (length log ≤ k → total (λ (d : View I R). placed k d.own) s.views ≡ 0)
 
 module _ {V I R : Type 0} where
-  -- a pass between two calls: it is not spent, and holds no slot
+  -- a pass between two calls: it is not spent, holds no slot, and knows of as many items as it has seen
   abbrev pub IsAtRest : Me (Option V) (View I R) → Type 0
-  IsAtRest m = (m.1 ≡ []) × (m.0.turning ≡ false) × (0 < length m.0.numbers)
+  IsAtRest m = (m.1 ≡ []) × (m.0.turning ≡ false) × (0 < length m.0.numbers) × (length m.0.seen ≤ m.0.least)
 
   abbrev pub glanced : Step (Option V) → Me (Option V) (View I R) → ℕ → Me (Option V) (View I R) → Type 0
   glanced st m n m' = (m.0.least ≤ n) × (m'.0 ≡ record m.0 { least = n }) × (m'.1 ≡ m.1)
@@ -68,6 +68,14 @@ module _ {I R : Type 0} where
 
   abbrev pub joined : View I R → View I R → View I R
   joined d e = record d { numbers = d.numbers ++ e.numbers; met = d.met ++ (e.seen ∷ e.met); least = larger d.least e.least; own = d.own ++ e.own }
+
+  -- a pass's knowledge alone, without numbers and items
+  abbrev pub note_of : View I R → View I R
+  note_of d = record { turning = false; numbers = []; seen = d.seen; met = []; least = d.least; own = []; root = None }
+
+  -- it knows of as many items as the note does
+  abbrev pub raised : View I R → View I R → View I R
+  raised d note = record d { least = max d.least note.least }
 
   abbrev pub spent_view : View I R
   spent_view = record { turning = false; numbers = []; seen = []; met = []; least = 0; own = []; root = None }

@@ -1,12 +1,12 @@
-ghost use Rattle.std.specs.Prelude.{◌≡◌, ◌≤◌, ◌<◌, ◌^◌, ◌++◌, [], ◌∷◌, false, true, length, Some, None};
+ghost use Rattle.std.specs.Prelude.{◌≡◌, ◌≤◌, ◌<◌, ◌^◌, ◌++◌, [], ◌∷◌, false, true, length, max, Some, None};
 ghost use Rattle.std.specs.Bool.{OnTrue, OnFalse};
-ghost use Rattle.chain_lock.specs.Known.{Turns};
+ghost use Rattle.chain_lock.specs.Known.{Turns, KnowsOfSeen};
 ghost use Rattle.chain_lock.specs.Lists.{MayAdd};
 ghost use Rattle.chain_lock.specs.Rule.{Counted, HasTurn, IsAtRest, known_of, with_added};
 
 use crate::act::{Act, Recorded};
 use crate::pass::{Pass, RestingPlace};
-use crate::plays::{Added, Free, Glance, Mark, Try};
+use crate::plays::{Added, Free, Glance, Learn, Mark, Note, Try};
 use crate::view::{Board, Place};
 use std::hint::spin_loop;
 use std::marker::Brand;
@@ -37,9 +37,23 @@ impl<V: Recorded> ChainLock<V> {
         requires { pass_lock pass.old ≡ lock_id self.now }
         ensures lock { pass_lock pass.new ≡ pass_lock pass.old }
         ensures at_least { (known pass.old).least ≤ result }
+        ensures seen { KnowsOfSeen (known pass.new) }
         ensures raised { known pass.new ≡ record (known pass.old) { least = result } }
     {
         self.board.shared.load::<Glance>(&mut pass.seat.place, 0)
+    }
+
+    /// One pass tells another of how many items it knows. It is two loads, and waits for nobody.
+    pub fn inform(&self, from: &mut Pass<V>, to: &mut Pass<V>)
+        requires own { (pass_lock from.old ≡ lock_id self.now) × (pass_lock to.old ≡ lock_id self.now) }
+        ensures lock { (pass_lock from.new ≡ pass_lock from.old) × (pass_lock to.new ≡ pass_lock to.old) }
+        ensures same { known from.new ≡ known from.old }
+        ensures raised { known to.new ≡ record (known to.old) { least = max (known to.old).least (known from.old).least } }
+    {
+        let note = self.board.shared.split_seat::<Note>(&mut from.seat.place);
+        self.board
+            .shared
+            .join_seat::<Learn>(&mut to.seat.place, note);
     }
 
     // Swaps 1 into the turn's word. Where 0 was there, the pass has the turn.
@@ -187,6 +201,7 @@ impl<V: Recorded> ChainLock<V> {
         requires { pass_lock pass.old ≡ lock_id self.now }
         ensures lock { pass_lock pass.new ≡ pass_lock pass.old }
         ensures turn { Turns (λ home before after. A.relates act.old home before act.new after) (known pass.old) (known pass.new) }
+        ensures seen { KnowsOfSeen (known pass.new) }
     {
         self.turn_at(rt, &mut pass.seat, act);
         self.wake();

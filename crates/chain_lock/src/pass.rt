@@ -43,12 +43,14 @@ pub struct Refused<V> {
 }
 
 impl<V: Recorded> Passes<V> {
+    ghost use Rattle.chain_lock.specs.Known.{KnowsOfSeen};
     ghost use Rattle.chain_lock.specs.Words.{all_known, known, pass_lock, passes_lock, room_of};
 
     /// Takes the last pass out. `None` exactly where there is none.
     pub fn pull(&mut self) -> Option<Pass<V>>
         ensures some { IfSome result (λ p. all_known self.old ≡ all_known self.new ++ known p ∷ []) }
         ensures own { IfSome result (λ p. pass_lock p ≡ passes_lock self.old) }
+        ensures seen { IfSome result (λ p. KnowsOfSeen (known p)) }
         ensures none { IsNone result ↔ (all_known self.old ≡ []) }
         ensures same { IfNone result (all_known self.new ≡ all_known self.old) }
         ensures lock { passes_lock self.new ≡ passes_lock self.old }

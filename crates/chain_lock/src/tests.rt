@@ -194,3 +194,22 @@ fn two_threads_add_and_a_third_glances(rt: HostRuntime) -> Result<(), Fail> {
         }
     }
 }
+
+#[test]
+fn a_pass_tells_another_of_how_many_items_it_knows(rt: HostRuntime) -> Result<(), Fail> {
+    let items = Vec::with_capacity(rt.alloc(), 1)?;
+    let Ok((lock, mut passes)) = ChainLock::new(rt.alloc(), Ledger { name: 7, items }, 2) else {
+        return Err(Fail::from(AllocError));
+    };
+    let (Some(mut from), Some(mut to)) = (passes.pull(), passes.pull()) else {
+        return Err(Fail::from("no pass"));
+    };
+    let mut add = Add {
+        item: 5,
+        place: None,
+    };
+    lock.turn(&rt, &mut from, &mut add);
+    lock.inform(&mut from, &mut to);
+    assert_eq!(rt; (add.place, lock.glance(&mut to)), (Some(0), 1));
+    Ok(())
+}

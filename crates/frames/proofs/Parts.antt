@@ -2,6 +2,7 @@
 use Rattle.std.proofs.Common.{◌≡◌, ◌<◌, ◌≤◌, ◌+◌, ℕ, List, [], ◌∷◌, ◌++◌, length, get_or, take, drop, refl, sym, ◌∙◌, ap, arith, append_assoc, length-append, take-append-drop}
 use Rattle.std.proofs.lemmas.List.{length-take-le, length-drop}
 use Rattle.std.specs.Int.{w32, from_be_bytes}
+use Rattle.frames.specs.declared.TheConstants.{FRAME}
 use Rattle.frames.specs.Frames.{length_bytes, frame, IsCounted, IsClosed, IsDamaged, IsFrame}
 use Rattle.frames.specs.Lengths.{length-length_bytes, length_read, length_of, same_length, same_front}
 use Rattle.frames.specs.Laws.{ReadsAsWritten, IsFiveLonger, OneFrame}
@@ -16,7 +17,7 @@ counted_parts head rest body four counted =
     let n : from_be_bytes w32 head ≡ length body = ap (λ (l : List ℕ). from_be_bytes w32 l) parts.0 ∙ length_read (length body) counted.size.1 in
     (sym n, omega (arith, counted.followed, ap length parts.1, length-append body counted.rest))
 
-pub not_counted : (head rest : List ℕ) (len : ℕ) → length head ≡ 4 → len ≡ from_be_bytes w32 head → (1 ≤ len → len ≤ 4096 → len < length rest → ⊥) → IsDamaged ((1 ∷ head) ++ rest)
+pub not_counted : (head rest : List ℕ) (len : ℕ) → length head ≡ 4 → len ≡ from_be_bytes w32 head → (1 ≤ len → len ≤ FRAME → len < length rest → ⊥) → IsDamaged ((1 ∷ head) ++ rest)
 not_counted head rest len four is none = record {
   not_counted = λ body counted.
       let parts = counted_parts head rest body four counted in
@@ -25,7 +26,7 @@ not_counted head rest len four is none = record {
   not_closed = λ closed. closed.shut (cc closed.parts);
 }
 
-pub is_counted : (head rest : List ℕ) (len : ℕ) → length head ≡ 4 → ((i : ℕ) → get_or head i 0 < 256) → len ≡ from_be_bytes w32 head → 1 ≤ len → len ≤ 4096 → len < length rest
+pub is_counted : (head rest : List ℕ) (len : ℕ) → length head ≡ 4 → ((i : ℕ) → get_or head i 0 < 256) → len ≡ from_be_bytes w32 head → 1 ≤ len → len ≤ FRAME → len < length rest
     → (body : List ℕ) × (length body ≡ len) × IsCounted ((1 ∷ head) ++ rest) body
 is_counted head rest len four bytes is low high fits =
     let body = take len rest in

@@ -3,13 +3,14 @@ use Rattle.std.specs.Prelude.{◌≡◌, ◌<◌, ◌≤◌, ℕ, List, [], ◌�
 use Rattle.std.proofs.Common.{sym, ◌∙◌, ap, arith}
 use Rattle.std.proofs.lemmas.Nat.{be_bytes_4, from_be_bytes-to_be_bytes_4}
 use Rattle.std.specs.Int.{w32, from_be_bytes}
+use Rattle.frames.specs.declared.TheConstants.{FRAME}
 use Rattle.frames.specs.Frames.{length_bytes}
 
 pub length-length_bytes : (n : ℕ) → length (length_bytes n) ≡ 4
 unfolding length_bytes
 length-length_bytes n = refl
 
-pub length_read : (n : ℕ) → n ≤ 4096 → from_be_bytes w32 (length_bytes n) ≡ n
+pub length_read : (n : ℕ) → n ≤ FRAME → from_be_bytes w32 (length_bytes n) ≡ n
 unfolding length_bytes
 length_read n small = from_be_bytes-to_be_bytes_4 n (omega arith)
 
@@ -18,7 +19,7 @@ unfolding length_bytes
 length_of head n four bytes is = be_bytes_4 head n four bytes is
 
 -- two lengths with the same bytes are one
-pub same_length : (m n : ℕ) → m ≤ 4096 → n ≤ 4096 → length_bytes m ≡ length_bytes n → m ≡ n
+pub same_length : (m n : ℕ) → m ≤ FRAME → n ≤ FRAME → length_bytes m ≡ length_bytes n → m ≡ n
 same_length m n small small' same = sym (length_read m small) ∙ ap (λ (l : List ℕ). from_be_bytes w32 l) same ∙ length_read n small'
 
 -- equal parts in front are equal, and so is what follows

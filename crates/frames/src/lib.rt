@@ -1,14 +1,23 @@
-//! The frames of a journal's file. A frame is a gate byte, the length of its body as a u32, big end
-//! first, and the body of 1 to 4096 bytes. It counts where its gate is 1.
+//! The frames of a journal's file. A frame is a gate byte, the length of its body as a u32, big end first, and the body
+//! of 1 to 4096 bytes. It counts where its gate is 1, and the next gate stands behind it. `frame_bytes` writes what
+//! follows a gate, with the next one closed; `read_frame` says what stands at a gate, of a window that is the file from
+//! there on. Neither touches a disk.
 #![tactic(auto)]
 
 ghost use Rattle.std.specs.Prelude.{◌≡◌, ◌<◌, ◌≤◌, ◌+◌, List, ℕ, [], ◌∷◌, ◌++◌, length, take};
 ghost use Rattle.frames.specs.Frames.{IsFrame, IsWithin, IsBody, frame};
+ghost use Rattle.frames.specs.declared.TheConstants.{WINDOW};
 
 mod laws;
 
 pub use laws::{a_frame_is_five_longer, a_frame_reads_as_written, bytes_begin_with_one_frame};
 use std::marker::Model;
+
+/// How many bytes a body has at most. The least is 1.
+pub const FRAME: usize = 4096;
+
+/// How many bytes the longest frame has with its gate and the next one: a window of the file need not be longer.
+pub const WINDOW: usize = FRAME + 6;
 
 /// What stands at a gate.
 #[derive(Clone, Copy, Debug, PartialEq, Eq)]
@@ -17,15 +26,14 @@ pub enum Frame {
     Counted { len: u16 },
     /// The gate isn't 1. What follows has no meaning.
     Closed,
-    /// There is no gate; or it is 1, and the length is outside 1 to 4096, or the body and the next
-    /// gate don't fit.
+    /// There is no gate; or it is 1, and the length is outside 1 to 4096, or the body and the next gate don't fit.
     Damaged,
 }
 
-/// A buffer of fixed room for 4102 bytes: the longest frame with its gate and the next one.
+/// A buffer of fixed room for a window, 4102 bytes.
 #[derive(Drop)]
 pub struct FrameBuf {
-    bytes: [u8; 4102],
+    bytes: [u8; WINDOW],
     len: usize,
 }
 
@@ -34,15 +42,16 @@ impl Model for FrameBuf {
 
     ghost view = { λ f. take f.len f.bytes };
 
-    ghost invariant = { λ f. f.len ≤ 4102 };
+    ghost invariant = { λ f. f.len ≤ WINDOW };
 }
 
 impl FrameBuf {
+    /// A buffer that holds nothing.
     pub fn new() -> FrameBuf
         ensures { result ≡ [] }
     {
         FrameBuf {
-            bytes: [0; 4102],
+            bytes: [0; WINDOW],
             len: 0,
         }
     }
@@ -50,14 +59,14 @@ impl FrameBuf {
     /// The bytes that it holds.
     pub fn as_slice(&self) -> &[u8]
         ensures value { result.now ≡ self.now }
-        ensures fits { length self.now ≤ 4102 }
+        ensures fits { length self.now ≤ WINDOW }
     {
         &self.bytes[..self.len]
     }
 
     /// Makes it hold exactly these bytes.
     pub fn fill(&mut self, bytes: &[u8])
-        requires { length bytes.now ≤ 4102 }
+        requires { length bytes.now ≤ WINDOW }
         ensures { self.new ≡ bytes.now }
     {
         put_all(&mut self.bytes, bytes);
@@ -98,7 +107,7 @@ fn put_at(room: &mut [u8], at: usize, bytes: &[u8])
     room[at..at + bytes.len()].copy_from_slice(bytes);
 }
 
-/// What stands at a gate. The window is the file from the gate on, cut after 4102 bytes.
+/// What stands at a gate. The window is the file from the gate on, cut after `WINDOW` bytes.
 pub fn read_frame(window: &[u8]) -> Frame
     ensures frame { IsFrame window.now result }
     ensures within { IsWithin window.now result }
@@ -120,7 +129,7 @@ fn counted(head: [u8; 4], rest: &[u8]) -> Frame
     ensures within { IsWithin ((1 ∷ head) ++ rest.now) result }
 {
     let len = u32::from_be_bytes(head);
-    if len >= 1 && len <= 4096 && rest.len() > len as usize {
+    if len >= 1 && len <= FRAME as u32 && rest.len() > len as usize {
         return Frame::Counted { len: len as u16 };
     }
     Frame::Damaged

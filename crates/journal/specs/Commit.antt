@@ -1,6 +1,7 @@
 -- Bytes written behind a gate byte, and then the gate opened.
 use Rattle.std.specs.Prelude.{◌≡◌, ◌⊎◌, ◌+◌, ◌≤◌, max, ℕ, List, ◌∷◌, ◌++◌, length, take, drop}
 use Rattle.chain_disk.specs.Told.{Told, IsSettled}
+use Rattle.journal.specs.declared.TheConstants.{HEADER}
 
 -- the content with this gate byte and these bytes behind it
 abbrev pub gated : List ℕ → ℕ → ℕ → List ℕ → List ℕ
@@ -26,5 +27,5 @@ pub record IsShut (t : Told) : Type 0 where
   pub rest : List ℕ
   pub content : t.content ≡ gate ∷ rest
   pub shut : gate ≡ 1 → ⊥
-  pub short : length rest ≤ 19
+  pub short : length rest ≤ HEADER
   pub nothing_pending : IsSettled t

@@ -3,6 +3,7 @@ use Rattle.std.specs.Prelude.{◌≡◌, ◌⊎◌, ◌≤◌, ◌+◌, ℕ, Lis
 use Rattle.chain_disk.specs.Told.{Told, IsSettled}
 use Rattle.frames.specs.Frames.{length_bytes, IsBody}
 use Rattle.parties.specs.Nif.{IsNif}
+use Rattle.journal.specs.declared.TheConstants.{HEADER}
 
 -- the bytes 1 to 18: a mark, the version and the issuer's NIF
 abbrev pub header : List ℕ → List ℕ
@@ -29,7 +30,7 @@ pub record IsFile (issuer : List ℕ) (bodies : List (List ℕ)) (file : List �
 -- a file that isn't begun
 abbrev pub IsNotBegun : List ℕ → Type 0
 IsNotBegun [] = Unit {0}
-IsNotBegun (first ∷ rest) = (length rest ≡ 0) ⊎ ((first ≡ 1 → ⊥) × (length rest ≤ 19))
+IsNotBegun (first ∷ rest) = (length rest ≡ 0) ⊎ ((first ≡ 1 → ⊥) × (length rest ≤ HEADER))
 
 -- the file as before the append, or with this body
 abbrev pub IsBeforeOrAfter : List ℕ → List (List ℕ) → List ℕ → List ℕ → Type 0
@@ -41,7 +42,7 @@ IsNotBegunOrEmpty issuer file = IsNotBegun file ⊎ IsFile issuer [] file
 
 -- the place of the closing gate
 abbrev pub closing_gate : List (List ℕ) → ℕ
-closing_gate bodies = 19 + length (framed bodies)
+closing_gate bodies = HEADER + length (framed bodies)
 
 -- the disk reads as such a file, nothing is pending, and the closing gate is at this place
 pub record IsAt (issuer : List ℕ) (bodies : List (List ℕ)) (gate : ℕ) (t : Told) : Type 0 where

@@ -1,7 +1,8 @@
 -- What the first bytes of a file stand for.
-use Rattle.std.specs.Prelude.{◌≡◌, ◌<◌, ◌≤◌, ℕ, List, length, codes, slice_index, slice_range}
+use Rattle.std.specs.Prelude.{◌≡◌, ◌<◌, ◌≤◌, ◌+◌, ℕ, List, length, codes, slice_index, slice_range}
 use Rattle.parties.specs.Nif.{IsNif}
 use Rattle.journal.specs.File.{IsNotBegun}
+use Rattle.journal.specs.declared.TheConstants.{HEADER}
 use Rattle.journal.specs.declared.reading.Header.{Header}
 use Rattle.journal.specs.declared.reading.Header.TheVariants.{NotBegun, Begun, Damaged}
 
@@ -18,18 +19,18 @@ pub record HasVersion (file : List ℕ) : Type 0 where
 
 -- The rows of the table that name a damage in the header, each where none above it holds.
 pub data IsHeaderDamaged (file : List ℕ) : ℕ → Type 0 where
-  closed : 20 < length file → (slice_index file 0 ≡ 1 → ⊥) → IsHeaderDamaged file 0
+  closed : HEADER + 1 < length file → (slice_index file 0 ≡ 1 → ⊥) → IsHeaderDamaged file 0
   cut_in_mark : slice_index file 0 ≡ 1 → 2 ≤ length file → length file ≤ 9 → IsHeaderDamaged file (length file)
   no_mark : 10 ≤ length file → slice_index file 0 ≡ 1 → (slice_range file 1 9 ≡ codes "VFCHAIN1" → ⊥) → IsHeaderDamaged file 1
   other_version : HasMark file → (slice_index file 9 ≡ 1 → ⊥) → IsHeaderDamaged file 9
-  cut_in_issuer : HasVersion file → length file < 19 → IsHeaderDamaged file (length file)
-  no_nif : HasVersion file → 19 ≤ length file → (IsNif (slice_range file 10 19) → ⊥) → IsHeaderDamaged file 10
+  cut_in_issuer : HasVersion file → length file < HEADER → IsHeaderDamaged file (length file)
+  no_nif : HasVersion file → HEADER ≤ length file → (IsNif (slice_range file 10 HEADER) → ⊥) → IsHeaderDamaged file 10
 
 -- a sound header of this issuer
 pub record IsBegun (issuer file : List ℕ) : Type 0 where
   pub versioned : HasVersion file
-  pub long : 19 ≤ length file
-  pub issuer_is : slice_range file 10 19 ≡ issuer
+  pub long : HEADER ≤ length file
+  pub issuer_is : slice_range file 10 HEADER ≡ issuer
   pub nif : IsNif issuer
 
 abbrev pub IsHeader : List ℕ → Header → Type 0

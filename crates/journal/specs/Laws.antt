@@ -1,6 +1,7 @@
 -- Laws of the journal's file.
 use Rattle.std.specs.Prelude.{◌≡◌, ◌+◌, ◌⊎◌, ◌↔◌, ℕ, List, [], ◌∷◌, ◌++◌, length, drop}
 use Rattle.frames.specs.Frames.{IsCounted, IsClosed}
+use Rattle.journal.specs.declared.TheConstants.{HEADER}
 use Rattle.journal.specs.File.{IsFile, IsNotBegun, closing_gate}
 use Rattle.journal.specs.Header.{IsBegun, IsHeader}
 use Rattle.journal.specs.Walk.{AreFrames, GoOn}
@@ -20,9 +21,9 @@ NoChain = (issuer : List ℕ) (bodies : List (List ℕ)) (file : List ℕ) → I
 abbrev pub OneHeader : Type 0
 OneHeader = (file : List ℕ) (a b : Header) → IsHeader file a → IsHeader file b → a ≡ b
 
--- a walk over the frames begins at byte 19 with none
+-- a walk over the frames begins behind the header with none
 abbrev pub WalkBegins : Type 0
-WalkBegins = (file : List ℕ) → AreFrames file [] 19
+WalkBegins = (file : List ℕ) → AreFrames file [] HEADER
 
 -- and goes on by each counted frame, past its body
 abbrev pub WalkGoesOn : Type 0

@@ -4,19 +4,21 @@ ghost use Rattle.ports.specs.Causes.{HasCause};
 ghost use Rattle.chain_disk.specs.Told.{LeavesOnly, IsSettled};
 ghost use Rattle.parties.specs.Nif.{IsNif};
 ghost use Rattle.journal.specs.Commit.{IsShut};
+ghost use Rattle.journal.specs.declared.TheConstants.{HEADER};
 ghost use Rattle.journal.specs.File.{header, IsNotBegun, IsNotBegunOrEmpty, IsAt};
 
+use crate::HEADER;
 use crate::commit::commit;
 use chain_disk::Disk;
 use parties::Nif;
 use ports::Failed;
 
 // The header and a closed gate.
-fn header_bytes(issuer: &Nif) -> [u8; 19]
+fn header_bytes(issuer: &Nif) -> [u8; HEADER]
     ensures bytes { result ≡ header issuer.now ++ 0 ∷ [] }
     ensures nif { IsNif issuer.now }
 {
-    let mut bytes = [0; 19];
+    let mut bytes = [0; HEADER];
     bytes[..9].copy_from_slice(b"VFCHAIN1\x01");
     bytes[9..18].copy_from_slice(&issuer.bytes());
     bytes
@@ -39,7 +41,7 @@ fn shut_first<D: Disk>(disk: &mut D) -> Result<(), Failed>
 
 pub(crate) fn set_up<D: Disk>(disk: &mut D, issuer: &Nif) -> Result<(), Failed>
     requires { IsTrue D.tells → IsNotBegun (D.told disk.old).content × IsSettled (D.told disk.old) }
-    ensures ok { OnOk result (IsTrue D.tells → IsAt issuer.now [] 19 (D.told disk.new)) }
+    ensures ok { OnOk result (IsTrue D.tells → IsAt issuer.now [] HEADER (D.told disk.new)) }
     ensures any_moment { IsTrue D.tells →
         LeavesOnly (D.told disk.old) (D.told disk.new) (IsNotBegunOrEmpty issuer.now) }
     ensures cause { HasCause (D.faults disk.old) (D.faults disk.new) result }

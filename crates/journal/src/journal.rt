@@ -5,6 +5,7 @@ ghost use Rattle.chain_disk.specs.Told.{LeavesOnly, LeavesNow, IsSettled};
 ghost use Rattle.frames.specs.Frames.{IsBody, frame};
 ghost use Rattle.journal.specs.File.{IsAt, IsAtSome, IsFile, IsBeforeOrAfter, IsNotBegun, IsNotBegunOrEmpty};
 
+use crate::HEADER;
 use crate::commit::commit;
 use crate::creation::set_up;
 use chain_disk::Disk;
@@ -37,6 +38,7 @@ pub struct Lost<D: Disk> {
 }
 
 impl<D: Disk> Journal<D> {
+    ghost use Rattle.journal.specs.declared.TheConstants.{HEADER};
     ghost use Rattle.journal.specs.Journal.{disk_of, end_of, stopped_of};
 
     /// A journal of this issuer on a file that isn't begun. First a closed byte 0 is made sure of, then
@@ -48,7 +50,7 @@ impl<D: Disk> Journal<D> {
             IsAt issuer.now [] (end_of journal) (D.told (disk_of journal))) }
         ensures every_crash { IfOk result (λ journal. IsTrue D.tells →
             LeavesNow (D.told (disk_of journal)) (IsFile issuer.now [])) }
-        ensures place { IfOk result (λ journal. end_of journal ≡ 19) }
+        ensures place { IfOk result (λ journal. end_of journal ≡ HEADER) }
         ensures going_on { IfOk result (λ journal. stopped_of journal ≡ None) }
 
         // A crash at any moment of the call leaves a file that isn't begun, or is begun and empty.
@@ -67,7 +69,7 @@ impl<D: Disk> Journal<D> {
         match set_up(&mut disk, issuer) {
             Ok(()) => Ok(Journal {
                 disk,
-                end: 19,
+                end: HEADER as u64,
                 stopped: None,
             }),
             Err(_) => Err(Lost { disk }),

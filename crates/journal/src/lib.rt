@@ -1,4 +1,6 @@
-//! The journal's file: its header, its creation, and frames appended one by one.
+//! The journal's file: its header, its creation, and frames appended one by one. A frame that was answered `Ok` is there
+//! after every crash; one that wasn't may be there or not. A fault of the disk stops a journal for good, and its file
+//! is then read anew. A body may be any bytes: what they stand for is for the layers above.
 //!
 //! | Bytes | Content |
 //! |---|---|
@@ -8,6 +10,9 @@
 //! | 10 to 18 | the issuer's NIF |
 //! | 19 on | frames, up to the first whose gate byte isn't 1 |
 #![tactic(auto)]
+
+/// How many bytes a file begins with, up to its first frame's gate.
+pub const HEADER: usize = 19;
 
 mod commit;
 mod creation;

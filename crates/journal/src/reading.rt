@@ -5,8 +5,9 @@ ghost use Rattle.parties.specs.Nif.{IsNif};
 ghost use Rattle.journal.specs.Step.{IsStep, IsNext, KeepsBuffer};
 ghost use Rattle.journal.specs.Header.{IsHeader};
 
+use crate::HEADER;
 use chain_disk::Disk;
-use frames::{Frame, FrameBuf, read_frame};
+use frames::{Frame, FrameBuf, WINDOW, read_frame};
 use parties::Nif;
 use ports::Failed;
 use std::str;
@@ -33,13 +34,16 @@ pub enum Header {
     Damaged { at: u64 },
 }
 
+// How many bytes of a file tell its header: one more than the longest file that may not be begun.
+const LOOK: usize = HEADER + 2;
+
 /// What the first bytes of the file stand for. It reads at most 21 of them.
 pub fn read_header<D: Disk>(disk: &mut D) -> Result<Header, Failed>
     ensures header { IfOk result (λ header. IsTrue D.tells → IsHeader (D.told disk.old).content header) }
     ensures same { D.told disk.new ≡ D.told disk.old }
     ensures cause { HasCause (D.faults disk.old) (D.faults disk.new) result }
 {
-    let mut room = [0; 21];
+    let mut room = [0; LOOK];
     let n = disk.read_at(0, &mut room)?;
     Ok(header_in(&room[..n]))
 }
@@ -51,7 +55,7 @@ fn header_in(file: &[u8]) -> Header
         return Header::NotBegun;
     }
     if file[0] != 1 {
-        if file.len() <= 20 {
+        if file.len() <= HEADER + 1 {
             return Header::NotBegun;
         }
         return Header::Damaged { at: 0 };
@@ -96,12 +100,12 @@ fn header_behind(file: &[u8]) -> Header
     if file[9] != 1 {
         return Header::Damaged { at: 9 };
     }
-    if file.len() < 19 {
+    if file.len() < HEADER {
         return Header::Damaged {
             at: file.len() as u64,
         };
     }
-    match issuer_in(&file[10..19]) {
+    match issuer_in(&file[10..HEADER]) {
         Some(issuer) => Header::Begun { issuer, version: 1 },
         None => Header::Damaged { at: 10 },
     }
@@ -119,7 +123,7 @@ pub fn scan<D: Disk>(disk: &mut D, at: u64, body: &mut FrameBuf) -> Result<Step,
     ensures same { D.told disk.new ≡ D.told disk.old }
     ensures cause { HasCause (D.faults disk.old) (D.faults disk.new) result }
 {
-    let mut room = [0; 4102];
+    let mut room = [0; WINDOW];
     let n = disk.read_at(at, &mut room)?;
     Ok(step_in(&room[..n], at, body))
 }

@@ -1,10 +1,10 @@
 -- Totals grow by one line after another, and stay far within the range of amounts.
-use Rattle.std.proofs.Common.{◌≡◌, inl, inr, ℕ, ◌+◌, ◌*◌, ◌/◌, ◌<◌, ◌≤◌, List, length, get_or, take, refl, sym, ap, subst, ◌∙◌, arith, map, ℤ, pos, negsuc, ◌+ℤ◌, unsigned_abs}
+use Rattle.std.proofs.Common.{◌≡◌, inl, inr, ℕ, zero, suc, [], ◌∷◌, ◌+◌, ◌*◌, ◌/◌, ◌<◌, ◌≤◌, List, length, get_or, take, refl, sym, ap, subst, ◌∙◌, arith, map, ℤ, pos, negsuc, ◌+ℤ◌, unsigned_abs}
 use Rattle.std.specs.Prelude.{position, Some, None}
 use Rattle.std.specs.List.{position_or_len}
 use Rattle.std.proofs.Math.Nat.{mul-le-mul}
 use Rattle.std.proofs.lemmas.Int.{ints}
-use Rattle.std.proofs.lemmas.List.{map_more}
+use Rattle.std.proofs.lemmas.List.{map_more, take_all}
 use Rattle.std.proofs.lemmas.List.Sums.{fold-append, fails_before_first}
 use Rattle.std.proofs.lemmas.Bool.{ltb-false, lt-ltb, cases_lt}
 use Rattle.amounts.specs.Amount.{tax, with_sign_of}
@@ -12,7 +12,7 @@ use Rattle.tax_lines.specs.declared.lines.TaxLine.{TaxLine}
 use Rattle.tax_lines.specs.declared.classes.LineKey.{LineKey}
 use Rattle.tax_lines.specs.declared.classes.LineKey.TheVariants.{General, Reduced, SuperReduced, GeneralSurcharge, ReducedSurcharge, SuperReducedSurcharge}
 use Rattle.tax_lines.specs.Classes.{rate_of, surcharge_of}
-use Rattle.tax_lines.specs.Totals.{line_tax, sum_of, cuota, bases}
+use Rattle.tax_lines.specs.Totals.{line_tax, sum_of, cuota, bases, TotalsAreSmall}
 use Rattle.tax_lines.specs.Breakdown.{is_past, IsBreakdown}
 
 sum_of_more : (f : TaxLine → ℤ) (lines : List TaxLine) (i : ℕ) (d : TaxLine) → i < length lines
@@ -93,3 +93,34 @@ pub bases_step : (lines : List TaxLine) (i : ℕ) (line : TaxLine) (sum : ℤ) �
     → sum ≡ bases (take i lines) → sum +ℤ line.base ≡ bases (take (i + 1) lines)
 bases_step lines i line sum h e so_far =
     rw so_far (ap (λ (l : TaxLine). bases (take i lines) +ℤ l.base) e ∙ sym (bases_more lines i line h))
+
+bases_within : (lines : List TaxLine) (d : TaxLine) → IsBreakdown lines → (i : ℕ) → i ≤ length lines → unsigned_abs (bases (take i lines)) ≤ 9_999_999_999 * i
+unfolding bases
+bases_within lines d is zero h = omega arith
+bases_within lines d is (suc i) h =
+    let so_far = bases_within lines d is i (omega (arith, h)) in
+    let next = base_bound lines i d is (omega (arith, h)) in
+    let both = abs_sum (bases (take i lines)) (get_or lines i d).base (9_999_999_999 * i) 9_999_999_999 so_far next in
+    let z : suc i ≡ i + 1 = omega arith in
+    rw z (rw (bases_more lines i d (omega (arith, h))) (omega (arith, both)))
+
+cuota_within : (lines : List TaxLine) (d : TaxLine) → IsBreakdown lines → (i : ℕ) → i ≤ length lines → unsigned_abs (cuota (take i lines)) ≤ 5_000_000_002 * i
+unfolding cuota
+cuota_within lines d is zero h = omega arith
+cuota_within lines d is (suc i) h =
+    let so_far = cuota_within lines d is i (omega (arith, h)) in
+    let next = line_tax_bound (get_or lines i d) (base_bound lines i d is (omega (arith, h))) in
+    let both = abs_sum (cuota (take i lines)) (line_tax (get_or lines i d)) (5_000_000_002 * i) 5_000_000_002 so_far next in
+    let z : suc i ≡ i + 1 = omega arith in
+    rw z (rw (cuota_more lines i d (omega (arith, h))) (omega (arith, both)))
+
+-- the totals of a breakdown are those of its lines, of which there are 1 to 12
+pub totals_small : TotalsAreSmall
+totals_small [] is = absurd (let some = is.few.0 in omega arith)
+totals_small (line ∷ lines) is =
+    let few = is.few.1 in
+    let n = length (line ∷ lines) in
+    let all : take n (line ∷ lines) ≡ line ∷ lines = take_all n (line ∷ lines) (omega arith) in
+    let of_bases : unsigned_abs (bases (line ∷ lines)) ≤ 9_999_999_999 * n = subst (λ (ls : List TaxLine). unsigned_abs (bases ls) ≤ 9_999_999_999 * n) all (bases_within (line ∷ lines) line is n (omega arith)) in
+    let of_cuota : unsigned_abs (cuota (line ∷ lines)) ≤ 5_000_000_002 * n = subst (λ (ls : List TaxLine). unsigned_abs (cuota ls) ≤ 5_000_000_002 * n) all (cuota_within (line ∷ lines) line is n (omega arith)) in
+    (omega (arith, few, of_bases), omega (arith, few, of_cuota))

@@ -1,8 +1,9 @@
 -- The totals of an invoice's lines, `CuotaTotal` and `ImporteTotal` of the record.
-use Rattle.std.specs.Prelude.{List, map, fold, ℤ, pos, ◌+ℤ◌}
+use Rattle.std.specs.Prelude.{◌≤◌, List, map, fold, ℤ, pos, ◌+ℤ◌, unsigned_abs}
 use Rattle.amounts.specs.Amount.{tax}
 use Rattle.tax_lines.specs.declared.lines.TaxLine.{TaxLine}
 use Rattle.tax_lines.specs.Classes.{rate_of, surcharge_of}
+use Rattle.tax_lines.specs.Breakdown.{IsBreakdown}
 
 -- the tax of a line: that at the rate and that at the surcharge, each rounded by itself
 abbrev pub line_tax : TaxLine → ℤ
@@ -23,3 +24,7 @@ bases lines = sum_of (map (λ (line : TaxLine). line.base) lines)
 -- what is to be paid
 abbrev pub total : List TaxLine → ℤ
 total lines = bases lines +ℤ cuota lines
+
+-- how large the totals of a breakdown get
+abbrev pub TotalsAreSmall : Type 0
+TotalsAreSmall = (lines : List TaxLine) → IsBreakdown lines → (unsigned_abs (bases lines) ≤ 120_000_000_000) × (unsigned_abs (cuota lines) ≤ 100_000_000_000)

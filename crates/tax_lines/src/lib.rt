@@ -4,6 +4,7 @@
 mod breakdown;
 mod classes;
 mod faults;
+mod laws;
 mod lines;
 #[cfg(test)]
 mod tests;
@@ -12,4 +13,5 @@ mod totals;
 pub use breakdown::{Breakdown, MAX_LINES};
 pub use classes::LineKey;
 pub use faults::LinesFault;
+pub use laws::totals_are_small;
 pub use lines::{MAX_BASE, TaxLine};

@@ -2,7 +2,7 @@
 use Rattle.std.proofs.Common.{◌≡◌, ℕ, ◌/◌, ◌%◌, ◌<◌, ◌&&◌, Bool, true, false, ltb, List, [], ◌∷◌, ◌++◌, refl, arith, inl, inr, IsAscii, codes}
 use Rattle.std.specs.Fmt.{digit_glyph}
 use Rattle.std.specs.List.{list_all}
-use Rattle.std.proofs.lemmas.Bool.{cases_Bool, ltb-true}
+use Rattle.std.proofs.lemmas.Bool.{and_parts, cases_Bool, ltb-true}
 use Rattle.std.proofs.lemmas.Bool.Decides.{nat_tests}
 use Rattle.std.proofs.lemmas.Str.{IsAscii-append}
 use Rattle.std.proofs.lemmas.Str.Ascii.{IsAscii-nil, IsAscii-cons}
@@ -32,15 +32,11 @@ encoded_ascii (b ∷ bs) =
           (IsAscii-cons low (encoded bs) (glyph_low (b % 16) (omega arith)) (encoded_ascii bs)))))
     ]
 
-both : (a b : Bool) → (a && b) ≡ true → (a ≡ true) × (b ≡ true)
-both true b e = (refl, e)
-both false b e = cc
-
 -- a text whose bytes pass the test
 low : (text : List ℕ) → list_all (λ c. ltb c 128) text ≡ true → IsAscii text
 low [] all = IsAscii-nil
 low (c ∷ rest) all =
-    let parts = both (ltb c 128) (list_all (λ c. ltb c 128) rest) all in
+    let parts = and_parts (ltb c 128) (list_all (λ c. ltb c 128) rest) all in
     IsAscii-cons c rest (ltb-true c 128 parts.0) (low rest parts.1)
 
 beginning_low : (host : Host) → list_all (λ c. ltb c 128) (beginning host) ≡ true

@@ -1,14 +1,20 @@
 -- Texts with their escapes in capitals: how they join and part.
-use Rattle.std.proofs.Common.{◌≡◌, ℕ, ◌+◌, ◌-◌, ◌/◌, ◌%◌, ◌<◌, ◌≤◌, Bool, true, false, not, ◌&&◌, cond, eqb, List, [], ◌∷◌, ◌++◌, length, take, drop, refl, sym, ap, ◌∙◌, arith, inl, inr, length-append, take-append-drop}
+use Rattle.std.proofs.Common.{◌≡◌, ℕ, ◌+◌, ◌-◌, ◌/◌, ◌%◌, ◌<◌, ◌≤◌, Bool, true, false, not, ◌&&◌, cond, eqb, List, [], ◌∷◌, ◌++◌, length, take, drop, get_or, zero, suc, ◌||◌, refl, sym, ap, ◌∙◌, arith, inl, inr, length-append, take-append-drop}
 use Rattle.std.specs.Char.{to_ascii_uppercase}
 use Rattle.std.specs.Fmt.{digit_glyph}
 use Rattle.std.specs.List.{list_all}
 use Rattle.std.proofs.Math.Seq.{take-append_seam, drop-append_seam}
 use Rattle.std.proofs.lemmas.List.{length-take-le}
-use Rattle.std.proofs.lemmas.Bool.{cases_Bool}
+use Rattle.std.proofs.lemmas.Bool.{and_parts, cases_Bool, le-leb, eqb-true, eq-eqb}
 use Rattle.std.proofs.lemmas.Bool.Decides.{nat_tests}
-use Rattle.verify_link.specs.Encoding.{is_plain, encoded, capitals}
+use Rattle.std.proofs.lemmas.List.{ext_get_or}
+use Rattle.verify_link.specs.Encoding.{is_plain, encoded, is_behind_percent, agrees_at, AgreeButInCase}
 use Rattle.verify_link.proofs.EncodingLemmas.{encoded-nil, encoded-plain, encoded-escaped}
+
+-- the text with the two bytes after each `%` as capitals, and as many of its own first bytes as are still due
+unfoldable pub capitals : ℕ → List ℕ → List ℕ
+capitals due [] = []
+capitals due (b ∷ rest) = cond (eqb due 0) b (to_ascii_uppercase b) ∷ capitals (cond (eqb b 37) 2 (due - 1)) rest
 
 -- how many bytes are due after this one
 abbrev pub due_past : ℕ → ℕ → ℕ
@@ -146,10 +152,6 @@ has_no_percent text = list_all (λ b. not (eqb b 37)) text
 cons_from : (b c : ℕ) (bs cs : List ℕ) → b ∷ bs ≡ c ∷ cs → (b ≡ c) × (bs ≡ cs)
 cons_from b c bs cs e = (cc, cc)
 
-both : (a b : Bool) → (a && b) ≡ true → (a ≡ true) × (b ≡ true)
-both true b e = (refl, e)
-both false b e = cc
-
 no_cons : (b : ℕ) (bs : List ℕ) → b ∷ bs ≡ [] → ⊥
 no_cons b bs e = cc
 
@@ -163,7 +165,7 @@ unchanged [] shown_text is plain = sym (capitals-nil 0) ∙ is
 unchanged (b ∷ rest) [] is plain = absurd (no_cons _ _ (sym (capitals-cons 0 b rest) ∙ is))
 unchanged (b ∷ rest) (c ∷ cs) is plain =
     let heads = cons_from b c (capitals (due_past 0 b) rest) cs (sym (capitals-cons 0 b rest) ∙ is) in
-    let tests = both (not (eqb c 37)) (has_no_percent cs) plain in
+    let tests = and_parts (not (eqb c 37)) (has_no_percent cs) plain in
     let none : eqb b 37 ≡ false = ap (λ x. eqb x 37) heads.0 ∙ not_true (eqb c 37) tests.0 in
     let tail : capitals 0 rest ≡ cs = ap (λ e. capitals (cond e 2 0) rest) (sym none) ∙ heads.1 in
     rw (heads.0, unchanged rest cs tail tests.1) refl
@@ -171,5 +173,83 @@ unchanged (b ∷ rest) (c ∷ cs) is plain =
 pub capitals-plain : (text : List ℕ) → has_no_percent text ≡ true → capitals 0 text ≡ text
 capitals-plain [] plain = capitals-nil 0
 capitals-plain (b ∷ rest) plain =
-    let tests = both (not (eqb b 37)) (has_no_percent rest) plain in
+    let tests = and_parts (not (eqb b 37)) (has_no_percent rest) plain in
     capitals-cons 0 b rest ∙ ap (λ e. b ∷ capitals (cond e 2 0) rest) (not_true (eqb b 37) tests.0) ∙ ap (λ x. b ∷ x) (capitals-plain rest tests.1)
+
+-- ---- texts that agree but in the case of their escapes
+
+capital_at : (due : ℕ) (text : List ℕ) (k : ℕ) → k < length text
+    → get_or (capitals due text) k 0 ≡ shown (due_after due (take k text)) (get_or text k 0)
+unfolding capitals due_after
+capital_at due [] k within = absurd (omega arith)
+capital_at due (b ∷ rest) zero within = refl
+capital_at due (b ∷ rest) (suc k) within = capital_at (due_past due b) rest k (omega arith)
+
+due_next : (due : ℕ) (text : List ℕ) (k : ℕ) → k < length text
+    → due_after due (take (suc k) text) ≡ due_past (due_after due (take k text)) (get_or text k 0)
+unfolding due_after
+due_next due [] k within = absurd (omega arith)
+due_next due (b ∷ rest) zero within = refl
+due_next due (b ∷ rest) (suc k) within = due_next (due_past due b) rest k (omega arith)
+
+few_past : (due b : ℕ) → due ≤ 2 → due_past due b ≤ 2
+few_past due b few = grind (arith, nat_tests)
+
+few_due : (due : ℕ) (text : List ℕ) → due ≤ 2 → due_after due text ≤ 2
+unfolding due_after
+few_due due [] few = few
+few_due due (b ∷ rest) few = few_due (due_past due b) rest (few_past due b few)
+
+one_step : (percent : Bool) → eqb (cond percent 2 0) 0 ≡ not (percent || false)
+one_step true = refl
+one_step false = refl
+
+two_steps : (near far : Bool) (due : ℕ) → due ≤ 2 → eqb (cond near 2 (cond far 2 (due - 1) - 1)) 0 ≡ not (near || far)
+two_steps true far due few = refl
+two_steps false true due few = refl
+two_steps false false due few = let none : due - 1 - 1 ≡ 0 = omega arith in rw none refl
+
+behind_later : (text : List ℕ) (k : ℕ) → is_behind_percent text (suc (suc k)) ≡ (eqb (get_or text (suc k) 0) 37 || eqb (get_or text k 0) 37)
+behind_later text k =
+    let near : suc (suc k) - 1 ≡ suc k = omega arith in
+    let far : suc (suc k) - 2 ≡ k = omega arith in
+    rw (near, far, le-leb 1 (suc (suc k)) (omega arith), le-leb 2 (suc (suc k)) (omega arith)) refl
+
+-- something is due exactly behind a `%`
+none_due : (text : List ℕ) (k : ℕ) → k < length text → eqb (due_after 0 (take k text)) 0 ≡ not (is_behind_percent text k)
+unfolding due_after
+none_due text zero within = refl
+none_due text (suc zero) within =
+    let e = due_next 0 text 0 (omega arith) in rw e (one_step (eqb (get_or text 0 0) 37))
+none_due text (suc (suc k)) within =
+    let due = due_after 0 (take k text) in
+    let e = due_next 0 text (suc k) (omega arith) in
+    let f = due_next 0 text k (omega arith) in
+    rw (e, f, behind_later text k) (two_steps (eqb (get_or text (suc k) 0) 37) (eqb (get_or text k 0) 37) due (few_due 0 (take k text) (omega arith)))
+
+-- what the text has there in capitals
+abbrev capital_byte : List ℕ → ℕ → ℕ
+capital_byte text k = cond (is_behind_percent text k) (to_ascii_uppercase (get_or text k 0)) (get_or text k 0)
+
+turned : (b : Bool) (x y : ℕ) → cond (not b) x y ≡ cond b y x
+turned true x y = refl
+turned false x y = refl
+
+capital_is : (text : List ℕ) (k : ℕ) → k < length text → get_or (capitals 0 text) k 0 ≡ capital_byte text k
+capital_is text k within =
+    let b = get_or text k 0 in
+    capital_at 0 text k within ∙ ap (λ e. cond e b (to_ascii_uppercase b)) (none_due text k within)
+    ∙ turned (is_behind_percent text k) b (to_ascii_uppercase b)
+
+pub capitals_from : (text written : List ℕ) → AgreeButInCase text written → capitals 0 text ≡ written
+capitals_from text written agree =
+    ext_get_or 0 (capitals 0 text) written (length-capitals 0 text ∙ agree.long)
+    (λ k within.
+      let fits : k < length text = omega (arith, length-capitals 0 text, within) in
+      capital_is text k fits ∙ eqb-true (capital_byte text k) (get_or written k 0) (agree.bytes k fits))
+
+pub agree_from : (text written : List ℕ) → capitals 0 text ≡ written → AgreeButInCase text written
+agree_from text written is = record {
+  long = sym (length-capitals 0 text) ∙ ap length is;
+  bytes = λ k within. eq-eqb (capital_byte text k) (get_or written k 0) (sym (capital_is text k within) ∙ ap (λ x. get_or x k 0) is);
+}

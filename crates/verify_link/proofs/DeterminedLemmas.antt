@@ -5,9 +5,10 @@ use Rattle.verify_link.specs.declared.parts.Host.{Host}
 use Rattle.verify_link.specs.declared.parts.LinkParts.{LinkParts}
 use Rattle.verify_link.specs.declared.parts.LinkFault.{LinkFault}
 use Rattle.verify_link.specs.declared.parts.LinkFault.TheVariants.{Prefix, Field, Escape, NoMemory}
-use Rattle.verify_link.specs.Encoding.{capitals, IsFirstBadEscape}
+use Rattle.verify_link.specs.Encoding.{encoded, AgreeButInCase, IsFirstBadEscape}
 use Rattle.verify_link.specs.Link.{beginning, link_text, IsLinkParts}
 use Rattle.verify_link.specs.Reading.{Begins, name_of, value_of, IsFieldValue, IsField, HasPlace, after_beginning, after_field, IsWrongField, unnamed, no_value, HasBadEscape, IsFieldFault, IsFirstFault, IsLinkReading}
+use Rattle.verify_link.proofs.CapitalLemmas.{capitals_from}
 use Rattle.verify_link.proofs.DecodingLemmas.{none_bad}
 use Rattle.verify_link.proofs.LinkLemmas.{same_host, read_back, DaysDiffer, AmountsDiffer}
 
@@ -76,7 +77,7 @@ no_fault : (text : List ℕ) (i place : ℕ) (said : List ℕ) (fault : LinkFaul
 no_fault text i place said Prefix valid right is = absurd is
 no_fault text i place said (Field j) valid right is = absurd (right_or_wrong text i place said valid right is.1)
 no_fault text i place said (Escape at) valid right is =
-    let bad = is.2 in absurd (both_ways _ (none_bad said (value_of i (drop place text)) bad.in_value right.value) bad.first.bad)
+    let bad = is.2 in absurd (both_ways _ (none_bad said (value_of i (drop place text)) bad.in_value (capitals_from (value_of i (drop place text)) (encoded said) right.value)) bad.first.bad)
 no_fault text i place said NoMemory valid right is = refl
 
 one_bad : (text : List ℕ) (k j : ℕ) → IsFirstBadEscape text k → IsFirstBadEscape text j → k ≡ j
@@ -161,10 +162,10 @@ read parts = Ok parts
 err_differs : (a b : LinkFault) → a ≡ b → failed a ≡ failed b
 err_differs a b same = ap failed same
 
-of_link : DaysDiffer → AmountsDiffer → (text : List ℕ) (p : LinkParts) → IsLinkParts p × (capitals 0 text ≡ link_text p)
+of_link : DaysDiffer → AmountsDiffer → (text : List ℕ) (p : LinkParts) → IsLinkParts p × AgreeButInCase text (link_text p)
     → (r : Result LinkParts LinkFault) → IsLinkReading text r → r ≢ Err NoMemory → r ≡ Ok p
-of_link days amounts text p link (Ok q) is some = ap read (read_back days amounts text p link.0 link.1 (Ok q) is)
-of_link days amounts text p link (Err fault) is some = absurd (some (err_differs fault NoMemory (read_back days amounts text p link.0 link.1 (Err fault) is)))
+of_link days amounts text p link (Ok q) is some = ap read (read_back days amounts text p link.0 (capitals_from text (link_text p) link.1) (Ok q) is)
+of_link days amounts text p link (Err fault) is some = absurd (some (err_differs fault NoMemory (read_back days amounts text p link.0 (capitals_from text (link_text p) link.1) (Err fault) is)))
 
 pub one_reading : DaysDiffer → AmountsDiffer → (text : List ℕ) (r s : Result LinkParts LinkFault) → IsLinkReading text r → IsLinkReading text s
     → r ≢ Err NoMemory → s ≢ Err NoMemory → r ≡ s

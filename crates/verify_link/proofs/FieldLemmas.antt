@@ -6,9 +6,10 @@ use Rattle.std.proofs.lemmas.List.{drop-drop, length-take}
 use Rattle.std.proofs.lemmas.List.Prefix.{front_fits}
 use Rattle.std.proofs.lemmas.Bool.{cond_both}
 use Rattle.percent_encoding.specs.Percent.{percent_decode}
-use Rattle.verify_link.specs.Encoding.{encoded, with_capital_escapes, is_bad_escape, IsFirstBadEscape}
+use Rattle.verify_link.specs.Encoding.{encoded, AgreeButInCase, is_bad_escape, IsFirstBadEscape}
 use Rattle.verify_link.specs.Reading.{Begins, name_of, is_ampersand, value_in, value_of, IsFieldValue, IsWrongField, HasBadEscape, IsWholeField, IsFieldAt, unnamed, no_value}
 use Rattle.verify_link.proofs.BeginsLemmas.{begins_from, begins_not}
+use Rattle.verify_link.proofs.CapitalLemmas.{capitals_from}
 use Rattle.verify_link.proofs.DecodingLemmas.{decoded}
 use Rattle.verify_link.proofs.ValueLemmas.{value_ascii}
 
@@ -48,10 +49,10 @@ bad_field i at k text name value name_is named is first = (
 
 pub other_value : (i at : ℕ) (text value : List ℕ) → Begins (name_of i) (drop at text)
     → value ≡ value_of i (drop at text) → ((k : ℕ) → is_bad_escape value k ≡ false)
-    → ((said : List ℕ) → IsAscii said → with_capital_escapes value ≢ encoded said) → IsWrongField i (drop at text)
+    → ((said : List ℕ) → IsAscii said → ¬ (AgreeButInCase value (encoded said))) → IsWrongField i (drop at text)
 other_value i at text value named is whole none =
     no_value named (λ k. subst (λ (v : List ℕ). is_bad_escape v k ≡ false) is (whole k))
-    (λ said valid same. none said (value_ascii i said valid) (ap with_capital_escapes is ∙ same))
+    (λ said valid same. none said (value_ascii i said valid) (subst (λ (v : List ℕ). AgreeButInCase v (encoded said)) (sym is) same))
 
 -- a value is no longer than what it is taken from
 length-value_in : (i : ℕ) (after : List ℕ) → length (value_in i after) ≤ length after
@@ -61,14 +62,14 @@ length-value_in i after =
 
 pub whole_field : (i at : ℕ) (text name value said : List ℕ) → name ≡ name_of i → Begins (name_of i) (drop at text)
     → value ≡ value_of i (drop at text) → ((k : ℕ) → is_bad_escape value k ≡ false)
-    → (said ≡ percent_decode value) × (with_capital_escapes value ≡ encoded said) → at ≤ length text
+    → (said ≡ percent_decode value) × AgreeButInCase value (encoded said) → at ≤ length text
     → IsWholeField i text at said (at + length name + length value)
 whole_field i at text name value said name_is named is whole same within =
     let name_fits = front_fits (drop at text) (name_of i) (drop (length (name_of i)) (drop at text)) named in
     let value_fits : length value ≤ length (drop at text) - length (name_of i) =
     omega (arith, ap length is, length-value_in i (drop (length (name_of i)) (drop at text)), length-drop (length (name_of i)) (drop at text)) in
     record {
-      field = record { named = named; value = ap with_capital_escapes (sym is) ∙ same.1 };
+      field = record { named = named; value = subst (λ (v : List ℕ). AgreeButInCase v (encoded said)) is same.1 };
       decoded = same.0 ∙ ap percent_decode is;
       whole = λ k. subst (λ (v : List ℕ). is_bad_escape v k ≡ false) is (whole k);
       ends = omega (arith, ap length name_is, ap length is);
@@ -80,14 +81,14 @@ pub wrong_value : (i at end : ℕ) (text said : List ℕ) → IsWholeField i tex
     → ((other : List ℕ) → IsFieldValue i other → said ≢ other) → IsWrongField i (drop at text)
 wrong_value i at end text said it none =
     no_value it.field.named it.whole
-    (λ other valid same. none other valid (it.decoded ∙ decoded other (value_of i (drop at text)) (value_ascii i other valid) same))
+    (λ other valid same. none other valid (it.decoded ∙ decoded other (value_of i (drop at text)) (value_ascii i other valid) (capitals_from (value_of i (drop at text)) (encoded other) same)))
 
 -- and one whose value says what it may
 pub right_value : (i at end : ℕ) (text said valid : List ℕ) → IsWholeField i text at said end → IsFieldValue i valid → said ≡ valid
     → IsFieldAt i text at valid end
 right_value i at end text said valid it is same = record {
   valid = is;
-  field = record { named = it.field.named; value = it.field.value ∙ ap encoded same };
+  field = record { named = it.field.named; value = subst (λ (x : List ℕ). AgreeButInCase (value_of i (drop at text)) (encoded x)) same it.field.value };
   ends = it.ends;
   within = it.within;
 }

@@ -12,11 +12,11 @@ use Rattle.verify_link.specs.declared.parts.Host.TheVariants.{Real, Practice}
 use Rattle.verify_link.specs.declared.parts.LinkParts.{LinkParts}
 use Rattle.verify_link.specs.declared.parts.LinkFault.{LinkFault}
 use Rattle.verify_link.specs.declared.parts.LinkFault.TheVariants.{Prefix, Field, Escape, NoMemory}
-use Rattle.verify_link.specs.Encoding.{is_plain, encoded, capitals}
+use Rattle.verify_link.specs.Encoding.{is_plain, encoded}
 use Rattle.verify_link.specs.Link.{beginning, link_text, IsLinkParts}
 use Rattle.verify_link.specs.Reading.{Begins, name_of, value_in, value_of, is_ampersand, IsFieldValue, HasPlace, after_beginning, after_field, IsWrongField, unnamed, no_value, IsLinkReading}
 use Rattle.verify_link.proofs.EncodingLemmas.{encoded-nil, encoded-plain, encoded-escaped}
-use Rattle.verify_link.proofs.CapitalLemmas.{due_past, shown, due_after, due_after-encoded, capitals-nil, capitals-cons, capitals-encoded, length-capitals, capitals-plain, joined, parts_of, unchanged, same_parts, has_no_percent}
+use Rattle.verify_link.proofs.CapitalLemmas.{capitals, capitals_from, agree_from, due_past, shown, due_after, due_after-encoded, capitals-nil, capitals-cons, capitals-encoded, length-capitals, capitals-plain, joined, parts_of, unchanged, same_parts, has_no_percent}
 use Rattle.verify_link.proofs.DecodingLemmas.{decoded, none_bad}
 use Rattle.verify_link.proofs.ValueLemmas.{value_ascii}
 use Rattle.verify_link.proofs.PlaceLemmas.{name_plain, name_due, beginning_plain, beginning_due, link_of_fields}
@@ -197,7 +197,7 @@ in_place text p is i at within (after_field j place said placed valid right) =
 
 not_wrong : (i at : ℕ) (text : List ℕ) (p : LinkParts) → IsLinkParts p → Found i at text p → ¬ (IsWrongField i (drop at text))
 not_wrong i at text p valid it (unnamed none) = none it.named
-not_wrong i at text p valid it (no_value named good none) = none (said_by i p) (said_valid i p valid) it.value
+not_wrong i at text p valid it (no_value named good none) = none (said_by i p) (said_valid i p valid) (agree_from (value_of i (drop at text)) (encoded (said_by i p)) it.value)
 
 -- ---- no other parts
 
@@ -246,7 +246,7 @@ same_link days amounts q p valid_q valid_p is =
 
 pub read_back : DaysDiffer → AmountsDiffer → (text : List ℕ) (p : LinkParts) → IsLinkParts p → capitals 0 text ≡ link_text p
     → (r : Result LinkParts LinkFault) → IsLinkReading text r → MatchResult r (λ (q : LinkParts). q ≡ p) (λ (fault : LinkFault). fault ≡ NoMemory)
-read_back days amounts text p valid is (Ok q) reading = same_link days amounts q p reading.0 valid (sym reading.1 ∙ is)
+read_back days amounts text p valid is (Ok q) reading = same_link days amounts q p reading.0 valid (sym (capitals_from text (link_text q) reading.1) ∙ is)
 read_back days amounts text p valid is (Err Prefix) reading =
     absurd (reading p.host (begins_with (beginning p.host) text (tail 0 p) (is ∙ whole p) (beginning_plain p.host) (beginning_due p.host)))
 read_back days amounts text p valid is (Err (Field j)) reading =

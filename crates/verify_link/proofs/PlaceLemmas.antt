@@ -12,10 +12,10 @@ use Rattle.verify_link.specs.declared.parts.Host.TheVariants.{Real, Practice}
 use Rattle.verify_link.specs.declared.parts.LinkParts.{LinkParts}
 use Rattle.verify_link.specs.declared.parts.LinkFault.{LinkFault}
 use Rattle.verify_link.specs.declared.parts.LinkFault.TheVariants.{Prefix, Field, Escape, NoMemory}
-use Rattle.verify_link.specs.Encoding.{encoded, capitals}
+use Rattle.verify_link.specs.Encoding.{encoded}
 use Rattle.verify_link.specs.Link.{beginning, joined_link, link_text}
 use Rattle.verify_link.specs.Reading.{Begins, name_of, value_in, is_ampersand, IsFieldAt, HasPlace, after_field, IsFieldFault, IsLinkReading}
-use Rattle.verify_link.proofs.CapitalLemmas.{due_after, due_after-encoded, capitals-nil, capitals-plain, has_no_percent, joined}
+use Rattle.verify_link.proofs.CapitalLemmas.{capitals, capitals_from, due_after, due_after-encoded, capitals-nil, capitals-plain, has_no_percent, joined}
 
 pub place_next : (i at end : ℕ) (text said : List ℕ) → HasPlace text i at → IsFieldAt i text at said end → HasPlace text (suc i) end
 place_next i at end text said placed it = subst (λ (e : ℕ). HasPlace text (suc i) e) (sym it.ends) (after_field i at said placed it.valid it.field)
@@ -72,7 +72,7 @@ field_text i at end text said it =
     ap (capitals 0) it.field.named ∙ joined name after name (capitals-plain name (name_plain i)) (name_due i)
     ∙ ap (λ x. name ++ x) (
     ap (capitals 0) (sym (parted i after))
-    ∙ joined value (drop (length value) after) (encoded said) it.field.value (due_after-encoded said)
+    ∙ joined value (drop (length value) after) (encoded said) (capitals_from value (encoded said) it.field.value) (due_after-encoded said)
     ∙ ap (λ x. encoded said ++ capitals 0 x) rest)
     ∙ sym (append_assoc name (encoded said) (capitals 0 (drop end text)))
 

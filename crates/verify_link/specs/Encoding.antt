@@ -1,6 +1,6 @@
 -- How a link's values are percent-encoded, after RFC 3986, section 2. That exactly its unreserved characters stay as they are
 -- is this project's own.
-use Rattle.std.specs.Prelude.{◌≡◌, ℕ, ◌+◌, ◌-◌, ◌<◌, List, [], ◌∷◌, Bool, true, false, ◌&&◌, ◌||◌, not, nat_le, ◌==◌, if◌then◌else◌, slice_index}
+use Rattle.std.specs.Prelude.{◌≡◌, ℕ, ◌+◌, ◌-◌, ◌<◌, List, [], ◌∷◌, length, Bool, true, false, ◌&&◌, ◌||◌, not, nat_le, ◌==◌, if◌then◌else◌, slice_index}
 use Rattle.std.specs.Char.{is_digit, to_ascii_uppercase}
 use Rattle.std.specs.List.{flat_map}
 use Rattle.percent_encoding.specs.Percent.{percent_encode_byte}
@@ -19,15 +19,20 @@ encoded_byte b = if is_plain b then b ∷ [] else percent_encode_byte b
 unfoldable pub encoded : List ℕ → List ℕ
 encoded bytes = flat_map encoded_byte bytes
 
--- the text with the two bytes after each `%` as capitals, and as many of its own first bytes as are still due
-unfoldable pub capitals : ℕ → List ℕ → List ℕ
-capitals due [] = []
-capitals due (b ∷ rest) =
-    (if due == 0 then b else to_ascii_uppercase b) ∷ capitals (if b == 37 then 2 else due - 1) rest
+-- the byte is one of the two behind a `%`
+abbrev pub is_behind_percent : List ℕ → ℕ → Bool
+is_behind_percent text k =
+    (nat_le 1 k && (slice_index text (k - 1) == 37)) || (nat_le 2 k && (slice_index text (k - 2) == 37))
 
--- the text with the digits of its escapes as capitals
-abbrev pub with_capital_escapes : List ℕ → List ℕ
-with_capital_escapes text = capitals 0 text
+-- the two texts have the same byte there; behind a `%` the first may have the small letter of the second's capital
+abbrev pub agrees_at : List ℕ → List ℕ → ℕ → Bool
+agrees_at text written k =
+    (if is_behind_percent text k then to_ascii_uppercase (slice_index text k) else slice_index text k) == slice_index written k
+
+-- the texts agree but in the case of the two characters behind a `%`, which are capitals in the second
+pub record AgreeButInCase (text written : List ℕ) : Type 0 where
+  pub long : length text ≡ length written
+  pub bytes : (k : ℕ) → k < length text → agrees_at text written k ≡ true
 
 -- `%` without two hexadecimal digits after it stands at that byte
 abbrev pub is_bad_escape : List ℕ → ℕ → Bool

@@ -1,5 +1,5 @@
 -- What the reading of a link gives. A link has four fields, counted from 0: nif, numserie, fecha and importe.
-use Rattle.std.specs.Prelude.{◌≡◌, ◌≢◌, ⊤, ℕ, zero, suc, ◌+◌, ◌<◌, ◌≤◌, List, ◌++◌, length, drop, codes, Bool, false, ◌==◌, if◌then◌else◌, IsTrue, ℤ, Result, Ok, Err}
+use Rattle.std.specs.Prelude.{◌≡◌, ⊤, ℕ, zero, suc, ◌+◌, ◌<◌, ◌≤◌, List, ◌++◌, length, drop, codes, Bool, false, ◌==◌, if◌then◌else◌, IsTrue, ℤ, Result, Ok, Err}
 use Rattle.std.specs.List.{before_first}
 use Rattle.amounts.specs.Amount.{IsCents}
 use Rattle.amounts.specs.Text.{amount_text}
@@ -12,7 +12,7 @@ use Rattle.verify_link.specs.declared.parts.Host.{Host}
 use Rattle.verify_link.specs.declared.parts.LinkParts.{LinkParts}
 use Rattle.verify_link.specs.declared.parts.LinkFault.{LinkFault}
 use Rattle.verify_link.specs.declared.parts.LinkFault.TheVariants.{Prefix, Field, Escape, NoMemory}
-use Rattle.verify_link.specs.Encoding.{encoded, with_capital_escapes, is_bad_escape, IsFirstBadEscape}
+use Rattle.verify_link.specs.Encoding.{encoded, AgreeButInCase, is_bad_escape, IsFirstBadEscape}
 use Rattle.verify_link.specs.Link.{beginning, link_text, IsLinkParts}
 
 -- the front stands at the text's front
@@ -47,7 +47,7 @@ value_of i rest = value_in i (drop (length (name_of i)) rest)
 -- the field stands there, and its value is the encoding of what it says, the case of escape digits aside
 pub record IsField (i : ℕ) (rest said : List ℕ) : Type 0 where
   pub named : Begins (name_of i) rest
-  pub value : with_capital_escapes (value_of i rest) ≡ encoded said
+  pub value : AgreeButInCase (value_of i rest) (encoded said)
 
 -- field i has its place at this byte of the text: the fields before it are right
 pub data HasPlace (text : List ℕ) : ℕ → ℕ → Type 0 where
@@ -59,7 +59,7 @@ pub data HasPlace (text : List ℕ) : ℕ → ℕ → Type 0 where
 pub data IsWrongField (i : ℕ) (rest : List ℕ) : Type 0 where
   unnamed : ¬ (Begins (name_of i) rest) → IsWrongField i rest
   no_value : Begins (name_of i) rest → ((k : ℕ) → is_bad_escape (value_of i rest) k ≡ false)
-      → ((said : List ℕ) → IsFieldValue i said → with_capital_escapes (value_of i rest) ≢ encoded said)
+      → ((said : List ℕ) → IsFieldValue i said → ¬ (AgreeButInCase (value_of i rest) (encoded said)))
       → IsWrongField i rest
 
 -- the field is there, and the first bad escape of its value stands that many bytes after the field's place
@@ -86,7 +86,7 @@ pub record IsFirstFault (text : List ℕ) (fault : LinkFault) : Type 0 where
 
 -- Ok exactly where the text is the link of valid parts, the case of escape digits aside
 abbrev pub IsLinkReading : List ℕ → Result LinkParts LinkFault → Type 0
-IsLinkReading text (Ok parts) = IsLinkParts parts × (with_capital_escapes text ≡ link_text parts)
+IsLinkReading text (Ok parts) = IsLinkParts parts × AgreeButInCase text (link_text parts)
 IsLinkReading text (Err Prefix) = (host : Host) → ¬ (Begins (beginning host) text)
 IsLinkReading text (Err (Field i)) = IsFirstFault text (Field i)
 IsLinkReading text (Err (Escape at)) = IsFirstFault text (Escape at)

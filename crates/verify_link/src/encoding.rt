@@ -1,7 +1,7 @@
 // Values of a link, percent-encoded and read.
-ghost use Rattle.std.specs.Prelude.{◌≡◌, ◌≢◌, ℕ, List, ◌++◌, IfOk, OnOk, MatchOption, IfSome, IfNone, IsAscii, ◌<◌, length, false, slice_index, ◌==◌, ◌-◌, if◌then◌else◌};
+ghost use Rattle.std.specs.Prelude.{◌≡◌, ℕ, List, ◌++◌, IfOk, OnOk, MatchBool, MatchOption, IfSome, IfNone, IsAscii, ◌<◌, length, false, slice_index};
 ghost use Rattle.std.specs.String.{string_bytes};
-ghost use Rattle.std.specs.Char.{is_digit, to_ascii_uppercase};
+ghost use Rattle.std.specs.Char.{is_digit};
 ghost use Rattle.percent_encoding.specs.Percent.{percent_decode as decoded_bytes};
 ghost use Rattle.verify_link.specs.Encoding as spec;
 
@@ -29,46 +29,51 @@ pub(crate) fn encode_onto(value: &[u8], text: &mut String) -> Result<(), NoMemor
 /// The bytes whose encoding the value is, the case of escape digits aside. None where it's that of no ASCII text.
 pub(crate) fn decode(alloc: Global, value: &[u8]) -> Result<Option<Vec<u8>>, NoMemory>
     ensures { IfOk result (λ found. MatchOption found
-        ((said : List ℕ) → IsAscii said → spec.with_capital_escapes value.now ≢ spec.encoded said)
-        (λ bytes. (bytes.items ≡ decoded_bytes value.now)
-        × (spec.with_capital_escapes value.now ≡ spec.encoded bytes.items))) }
+        ((said : List ℕ) → IsAscii said → ¬ (spec.AgreeButInCase value.now (spec.encoded said)))
+        (λ bytes. (bytes.items ≡ decoded_bytes value.now) × spec.AgreeButInCase value.now (spec.encoded bytes.items))) }
 {
     let mut bytes = Vec::new(alloc);
     percent_decode(value).append_to(&mut bytes)?;
     let mut again = String::new(alloc);
     encode_onto(&bytes, &mut again)?;
-    let capitals = with_capital_escapes(alloc, value)?;
-    if capitals.as_slice() == again.as_bytes() {
+    if agree_but_in_case(value, again.as_bytes()) {
         Ok(Some(bytes))
     } else {
         Ok(None)
     }
 }
 
-fn with_capital_escapes(alloc: Global, value: &[u8]) -> Result<Vec<u8>, NoMemory>
-    ensures { IfOk result (λ text. text.items ≡ spec.with_capital_escapes value.now) }
+fn agree_but_in_case(text: &[u8], written: &[u8]) -> bool
+    ensures { MatchBool result (spec.AgreeButInCase text.now written.now) (¬ (spec.AgreeButInCase text.now written.now)) }
 {
-    let mut text = Vec::new(alloc);
-    let mut due: usize = 0;
-    for b in value {
-        text.push(shown(due, *b))?;
-        due = due_past(due, *b);
+    if text.len() != written.len() {
+        return false;
     }
-    Ok(text)
+    for (k, _) in text.iter().enumerate() {
+        if !agrees_at(text, written, k) {
+            return false;
+        }
+    }
+    true
 }
 
-// The byte where `due` bytes are to be capitals.
-fn shown(due: usize, b: u8) -> u8
-    ensures { result ≡ (if due == 0 then b else to_ascii_uppercase b) }
+fn agrees_at(text: &[u8], written: &[u8], k: usize) -> bool
+    requires text { k < length text.now }
+    requires written { k < length written.now }
+    ensures { result ≡ spec.agrees_at text.now written.now k }
 {
-    if due == 0 { b } else { b.to_ascii_uppercase() }
+    if is_behind_percent(text, k) {
+        text[k].to_ascii_uppercase() == written[k]
+    } else {
+        text[k] == written[k]
+    }
 }
 
-// How many are to be after it.
-fn due_past(due: usize, b: u8) -> usize
-    ensures { result ≡ (if b == 37 then 2 else due - 1) }
+fn is_behind_percent(text: &[u8], k: usize) -> bool
+    requires { k < length text.now }
+    ensures { result ≡ spec.is_behind_percent text.now k }
 {
-    if b == b'%' { 2 } else { due.saturating_sub(1) }
+    (k >= 1 && text[k - 1] == b'%') || (k >= 2 && text[k - 2] == b'%')
 }
 
 /// The place of the value's first `%` without two hexadecimal digits after it.

@@ -4,7 +4,7 @@ ghost use Rattle.amounts.specs.Text.{amount_text};
 ghost use Rattle.amounts.specs.Amount.{IsCents};
 ghost use Rattle.stamps.specs.Civil.{last_day};
 ghost use Rattle.stamps.specs.Text.{date_text_of};
-ghost use Rattle.verify_link.specs.Encoding.{with_capital_escapes};
+ghost use Rattle.verify_link.specs.Encoding.{AgreeButInCase};
 ghost use Rattle.verify_link.specs.Link.{beginning, link_text, IsLinkParts};
 ghost use Rattle.verify_link.specs.Reading as spec;
 ghost use Rattle.verify_link.specs.declared.parts.Host.{Host as AnyHost};
@@ -26,7 +26,7 @@ pub fn read_link(alloc: Global, text: &str) -> Result<LinkParts, LinkFault>
     ensures reading { spec.IsLinkReading text.now result }
 
     // Only want of memory keeps a link from being read.
-    ensures read_back { (parts : AnyParts) → IsLinkParts parts → with_capital_escapes text.now ≡ link_text parts
+    ensures read_back { (parts : AnyParts) → IsLinkParts parts → AgreeButInCase text.now (link_text parts)
         → MatchResult result (λ read. read ≡ parts) (λ fault. fault ≡ link_fault.NoMemory) }
 
     // Reading undoes writing.

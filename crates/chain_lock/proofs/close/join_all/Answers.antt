@@ -24,6 +24,7 @@ loop-seat-preserved g c = let v = c.loop-seat.invariant in let s = c.join_seat.e
         ap (λ m. m.1) s.2 ∙ v.rest.0,
         ap (λ m. m.0.turning) s.2 ∙ v.rest.1,
         (let a = ap (λ m. length m.0.numbers) s.2 in let b = length-append d.numbers f.numbers in let h = v.rest.2 in omega arith),
+        (let a = ap (λ m. length m.0.seen) s.2 in let b = ap (λ m. m.0.least) s.2 in let h = v.rest.3 in omega arith),
       );
       list = own.0;
       fits = λ log h.

@@ -7,8 +7,8 @@ returns-then-not-is_mark c = no_mark c.requires.long c.requires.first (λ is. le
 pub returns-then-file-ne1 : goal.returns-then-file-ne1
 returns-then-file-ne1 c = other_version (record { long = c.requires.long; first = c.requires.first; mark = c.is_mark.ensures.0 c.if-not-is_mark.false }) c.if-file-ne1.true
 
-pub returns-then-file-lt19 : goal.returns-then-file-lt19
-returns-then-file-lt19 c = cut_in_issuer (record { marked = record { long = c.requires.long; first = c.requires.first; mark = c.is_mark.ensures.0 c.if-not-is_mark.false }; version = c.if-file-ne1.false }) c.if-file-lt19.true
+pub returns-then-file-lt-HEADER : goal.returns-then-file-lt-HEADER
+returns-then-file-lt-HEADER c = cut_in_issuer (record { marked = record { long = c.requires.long; first = c.requires.first; mark = c.is_mark.ensures.0 c.if-not-is_mark.false }; version = c.if-file-ne1.false }) c.if-file-lt-HEADER.true
 
 pub returns-in-None : goal.returns-in-None
-returns-in-None c = no_nif (record { marked = record { long = c.requires.long; first = c.requires.first; mark = c.is_mark.ensures.0 c.if-not-is_mark.false }; version = c.if-file-ne1.false }) c.if-file-lt19.false c.in-None.ensures.none
+returns-in-None c = no_nif (record { marked = record { long = c.requires.long; first = c.requires.first; mark = c.is_mark.ensures.0 c.if-not-is_mark.false }; version = c.if-file-ne1.false }) c.if-file-lt-HEADER.false c.in-None.ensures.none

@@ -3,8 +3,9 @@ use Rattle.std.proofs.lemmas.Result.{err_from_is_err_and}
 use Rattle.stamps.specs.Text.{date_text_of}
 use Rattle.verify_link.specs.declared.parts.Host.{Host}
 use Rattle.verify_link.specs.declared.parts.LinkParts.{LinkParts}
-use Rattle.verify_link.specs.Link.{beginning}
+use Rattle.verify_link.specs.Link.{beginning, link_text}
 use Rattle.verify_link.specs.Reading.{Begins, HasPlace, after_beginning, IsFieldAt}
+use Rattle.verify_link.proofs.CapitalLemmas.{agree_from}
 use Rattle.verify_link.proofs.PlaceLemmas.{place_next, fault_reading, whole_link}
 use Rattle.verify_link.proofs.reading.read_fields.Goals as goal
 
@@ -50,5 +51,5 @@ returns c =
     let parts : LinkParts = record { host = c.args.host; nif = c.in_ok-nif.nif; num = c.in_ok-num.num; day = c.in_ok-day.day; total = c.in_ok-total.total } in
     let nif = subst (λ (n : ℕ). IsFieldAt 0 text n c.in_ok-nif.nif c.in_ok-nif.at) (ap length c.beginning.ensures) c.in_ok-nif.ensures.ok in (
       record { nif = nif.valid; num = c.in_ok-num.ensures.ok.valid; day = c.in_ok-day.ensures.day; total = c.in_ok-total.ensures.total },
-      whole_link text parts c.in_ok-nif.at c.in_ok-num.at c.in_ok-day.at c.requires nif c.in_ok-num.ensures.ok c.in_ok-day.ensures.ok c.in_ok-total.ensures.ok,
+      agree_from text (link_text parts) (whole_link text parts c.in_ok-nif.at c.in_ok-num.at c.in_ok-day.at c.requires nif c.in_ok-num.ensures.ok c.in_ok-day.ensures.ok c.in_ok-total.ensures.ok),
     )

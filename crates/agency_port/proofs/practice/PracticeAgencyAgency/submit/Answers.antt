@@ -2,7 +2,7 @@ use Rattle.agency_port.proofs.Submissions.{submit_cause, submit_stale, submit_li
 use Rattle.agency_port.proofs.practice.PracticeAgencyAgency.submit.Goals as goal
 
 pub returns-clause-cause : goal.returns-clause-cause
-returns-clause-cause c = submit_cause c.args.self.now c.args.batch.now c.submission.result c.submission.new.self c.faults-count.ensures.small c.submission.ensures
+returns-clause-cause c = submit_cause c.args.self.now c.args.batch.now c.submission.result c.submission.new.self c.submission.ensures
 
 pub returns-clause-stale : goal.returns-clause-stale
 returns-clause-stale c = submit_stale c.args.self.now c.args.batch.now c.submission.result c.submission.new.self c.submission.ensures

@@ -25,7 +25,7 @@ invariant_of-self-in_err-note c =
 pub invariant_of-self-2 : goal.invariant_of-self-2
 invariant_of-self-2 c =
     let s = c.self.inside in
-    let few : length s.list.items < 2 ^ 32 - 2 = omega (arith, c.if-place-ge-MOST.false, c.len-place.ensures, ap length c.self.view_is) in
+    let few : length s.list.items < 2 ^ 32 - 2 = omega (arith, c.if-place-ge-MAX_PAIRS.false, c.len-place.ensures, ap length c.self.view_is) in
     indexed_more s.list.items c.push.new.self.items s.places c.note_first.new.self s.pasts c.note.new.self c.args.sealed c.args.line
     (c.in-Ok.ensures.items ∙ ap (λ (xs : List (Sealed × Line)). xs ++ (c.args.sealed, c.args.line) ∷ []) c.in_ok-reserve.ensures.items)
     few c.self.invariant
