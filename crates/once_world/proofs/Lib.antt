@@ -6,3 +6,5 @@ mod Replying
 mod Worlds
 mod Sending
 mod Sights
+mod Owns
+mod Sound

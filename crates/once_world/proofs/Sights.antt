@@ -1,14 +1,15 @@
 -- What is seen of a history in memory.
-use Rattle.std.proofs.Common.{◌≡◌, ℕ, List, [], ◌∷◌, ◌++◌, refl, sym, ◌∙◌, ap, subst, length, map, take, ◌≤◌, arith, append-nil}
+use Rattle.std.proofs.Common.{◌≡◌, ℕ, List, [], ◌∷◌, ◌++◌, refl, sym, ◌∙◌, ap, subst, length, map, take, ◌≤◌, ◌<◌, ◌+◌, All, arith, append-nil, length-append, slice_index_or}
 use Rattle.std.proofs.lemmas.List.{map-append, length-drop, length-map}
+use Rattle.std.proofs.lemmas.List.Elements.{All-append}
 use Rattle.record_fields.specs.declared.lines.Line.{Line}
 use Rattle.record_codec.specs.declared.entries.Entry.{Entry}
 use Rattle.record_codec.specs.declared.entries.Entry.TheVariants.{Notes}
 use Rattle.shop_core.specs.History.{recs, noted, waiting}
-use Rattle.shop_core.specs.Items.{Item, entry, entries_of}
+use Rattle.shop_core.specs.Items.{Item, entry, stop, entries_of}
 use Rattle.shop_core.specs.Legal.{Legal, AreNext}
 use Rattle.shop_core.specs.declared.waiting.Waiting.{Waiting}
-use Rattle.once_world.specs.Outbox.{Grows, AddsOwn, ShowsWaiting, notes_behind, plain_sight}
+use Rattle.once_world.specs.Outbox.{Sight, Grows, OwnWithin, HasNoStop, AddsOwn, HasStopped, ShowsWaiting, notes_behind, plain_sight}
 
 -- the entries of the items are the history
 pub entries_plain : (entries : List Entry) → entries_of (map entry entries) ≡ entries
@@ -33,6 +34,37 @@ pub grows_same : (issuer issuer_then : List ℕ) (entries entries_then : List En
 grows_same issuer issuer_then entries entries_then own own_then same e legal =
     grows_by issuer issuer_then entries entries_then [] own own_then same (e ∙ sym (append-nil entries)) legal
 
+-- the places of its own notes are below the count of entries
+pub within_plain : (issuer : List ℕ) (entries : List Entry) (own : List ℕ) → All (λ (p : ℕ). p < length entries) own → OwnWithin (plain_sight issuer entries own)
+within_plain issuer entries own h = subst (λ (n : ℕ). All (λ (p : ℕ). p < n) own) (sym (length-map entries entry)) h
+
+all_below : (n m : ℕ) (own : List ℕ) → n ≤ m → All (λ (p : ℕ). p < n) own → All (λ (p : ℕ). p < m) own
+all_below n m own le h = λ k d lt. let one = h k d lt in omega (arith, one, le)
+
+alone : (n m : ℕ) → n < m → All (λ (p : ℕ). p < m) (n ∷ [])
+alone n m lt = λ k d within. let z : k ≡ 0 = omega arith in subst (λ (j : ℕ). slice_index_or (n ∷ []) j d < m) (sym z) lt
+
+-- one place more
+pub within_more : (entries : List Entry) (e : Entry) (own : List ℕ) → All (λ (p : ℕ). p < length entries) own → All (λ (p : ℕ). p < length (entries ++ e ∷ [])) (own ++ length entries ∷ [])
+within_more entries e own h =
+    let n = length (entries ++ e ∷ []) in
+    let more : length entries < n = let sum = length-append entries (e ∷ []) in omega (arith, sum) in
+    All-append (λ (p : ℕ). p < n) own (length entries ∷ []) (all_below (length entries) n own (omega (arith, more)) h) (alone (length entries) n more)
+
+-- nothing has stopped it, and no stop is its last item
+no_stop : (entries : List Entry) → HasNoStop (map entry entries)
+no_stop [] = tt
+no_stop (e ∷ entries) = (tt, no_stop entries)
+
+ends_in_none : (entries : List Entry) (before : List Item) (faults : ℕ) (torn : Entry) → map entry entries ≡ before ++ stop faults torn ∷ [] → ⊥
+ends_in_none [] [] faults torn e = absurd cc
+ends_in_none [] (x ∷ before) faults torn e = absurd cc
+ends_in_none (x ∷ entries) [] faults torn e = absurd cc
+ends_in_none (x ∷ entries) (y ∷ before) faults torn e = let rest : map entry entries ≡ before ++ stop faults torn ∷ [] = cc in ends_in_none entries before faults torn rest
+
+pub never_stopped : (old : Sight) (issuer : List ℕ) (entries : List Entry) (own : List ℕ) (faults : ℕ) → HasStopped old (plain_sight issuer entries own) faults → ⊥
+never_stopped old issuer entries own faults h = ends_in_none entries h.before faults h.torn h.items
+
 -- notes of these lines were
 pub adds_notes : (issuer issuer_then : List ℕ) (entries entries_then : List Entry) (own own_then : List ℕ) (lines : List Line) →
     entries_then ≡ entries ++ Notes (length (noted entries)) lines ∷ [] → own_then ≡ own ++ length entries ∷ [] →
@@ -47,6 +79,7 @@ adds_notes issuer issuer_then entries entries_then own own_then lines is own_is 
     let at : length entries ≡ length (items ++ []) = sym (length-map entries entry) ∙ ap length none in
     record {
       others = [];
+      going_on = subst HasNoStop none (no_stop entries);
       items = subst (λ (xs : List Item). map entry entries_then ≡ xs ++ entry (notes_behind xs lines) ∷ []) none alone;
       own = own_is ∙ ap (λ (k : ℕ). own ++ k ∷ []) at;
     }

@@ -1,19 +1,29 @@
 -- What holds of a shop's legal history and an agency that agree.
-use Rattle.std.specs.Prelude.{◌≡◌, ℕ, ◌≤◌, List, [], ◌∷◌, ◌++◌, length, map, take, zip, Some, true, IsSome}
+use Rattle.std.specs.Prelude.{◌≡◌, ℕ, ◌≤◌, List, [], ◌∷◌, ◌++◌, length, map, take, zip, Some, true, IsSome, ⊤}
 use Rattle.std.specs.List.{AllByRecursion, Contains}
 use Rattle.record_fields.specs.declared.records.Sealed.{Sealed}
 use Rattle.record_fields.specs.declared.lines.Line.{Line}
 use Rattle.record_codec.specs.declared.entries.Entry.{Entry}
 use Rattle.record_codec.specs.declared.entries.Entry.TheVariants.{Notes}
 use Rattle.shop_core.specs.History.{recs, noted, is_record, waiting}
-use Rattle.shop_core.specs.Legal.{Legal}
+use Rattle.shop_core.specs.Answer.{answer}
+use Rattle.shop_core.specs.Asked.{Asked, IsAsked}
+use Rattle.shop_core.specs.Items.{Item, entries_of}
+use Rattle.shop_core.specs.Legal.{Legal, Continues}
+use Rattle.shop_core.specs.declared.answers.Planned.TheVariants.{Made}
 use Rattle.agency_rules.specs.Delivery.{delivered, delivered_all, line_of}
+use Rattle.agency_rules.specs.declared.plans.Plan.{Plan}
 use Rattle.agency_rules.specs.declared.plans.PlannedVerdict.{PlannedVerdict}
 use Rattle.agency_port.specs.Answers.{answers}
 use Rattle.agency_port.specs.Rules.{AreAmong}
 use Rattle.agency_port.specs.declared.answers.ReplyLine.TheVariants.{First}
-use Rattle.once_world.specs.Agreement.{IsPrefix, Agree, AreNextLines, AddsNoRefusedSale, AreOnce, lines_of}
+use Rattle.once_world.specs.Agreement.{IsPrefix, Agree, AreNextLines, IsLearnt, AddsNoRefusedSale, HasNoRefusedSale, AreOnce, lines_of}
 use Rattle.once_world.specs.Looks.{answers_for, lines_in_front, HasNoHole}
+use Rattle.once_world.specs.Outbox.{Sight, Grows, AddsOwn, GainsOwnNotes}
+use Rattle.once_world.specs.World.{world}
+use Rattle.once_world.specs.declared.events.Event.{Event}
+use Rattle.once_world.specs.declared.events.Event.TheVariants as event
+use Rattle.once_world.specs.declared.world.World.{World}
 
 abbrev pub AreRecords : List Entry → Type 0
 AreRecords more = AllByRecursion (λ (entry : Entry). is_record entry ≡ true) more
@@ -85,3 +95,44 @@ DeliveredAreSeen = (verdicts : List PlannedVerdict) (processed : List (Sealed ×
 abbrev pub SeenStays : Type 0
 SeenStays = (verdicts : List PlannedVerdict) (processed : List (Sealed × Line)) (batches : List (List Sealed)) (huella : List ℕ) (line : Line) →
     line_of processed huella ≡ Some line → line_of (delivered_all verdicts processed batches) huella ≡ Some line
+
+-- the ask of an event, where it has one, is in its ranges
+abbrev pub IsEvent : Event → Type 0
+IsEvent (event.Append ask seconds) = IsAsked ask
+IsEvent (event.Send count) = ⊤
+IsEvent (event.Deliver index) = ⊤
+IsEvent event.Look = ⊤
+IsEvent event.Note = ⊤
+IsEvent (event.Tear ask seconds kept) = IsAsked ask
+IsEvent (event.TearNote kept) = ⊤
+IsEvent event.Reopen = ⊤
+
+-- The history is legal and agrees with the agency, and what was learnt are the agency's next lines. So each record stands once
+-- among the processed ones, and no sale is refused because the register says otherwise.
+pub record IsSound (issuer : List ℕ) (w : World) : Type 0 where
+  pub legal : Legal issuer w.state.entries
+  pub agree : Agree w.state.entries w.processed w.sent
+  pub learnt : IsLearnt w.state.entries w.processed w.learnt
+  pub once : AreOnce w.processed
+  pub sales : HasNoRefusedSale w.processed
+
+-- what an answer makes for an ask in its ranges continues the history
+abbrev pub MadeContinues : Type 0
+MadeContinues =
+    (issuer : List ℕ) (entries : List Entry) (ask : Asked) (seconds : ℕ) (entry : Entry) → Legal issuer entries → IsAsked ask
+    → answer issuer entries ask seconds ≡ Made entry → Continues issuer entries entry
+
+-- whatever the issuer, the plan and the events
+abbrev pub EveryWorldIsSound : Type 0
+EveryWorldIsSound = (issuer : List ℕ) (plan : Plan) (events : List Event) → AllByRecursion IsEvent events → IsSound issuer (world issuer plan events)
+
+-- Where a shop gained no notes but its outbox's own, and nothing was its own, records alone came: before the look, and from
+-- there on.
+abbrev pub CameQuietly : Type 0
+CameQuietly = (before look after : Sight) (came : Grows before look) → look.own ≡ before.own → (then : Grows look after) → after.own ≡ look.own → GainsOwnNotes before after →
+    AreRecords (entries_of came.items.rest) × AreRecords (entries_of then.items.rest)
+
+-- the same, where one item of its own came last
+abbrev pub CameBesideOwn : Type 0
+CameBesideOwn = (before look after : Sight) (item : List Item → Item) (came : Grows before look) → look.own ≡ before.own → (adds : AddsOwn look after item) → GainsOwnNotes before after →
+    AreRecords (entries_of came.items.rest) × AreRecords (entries_of adds.others)

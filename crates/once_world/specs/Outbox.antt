@@ -1,8 +1,9 @@
 -- What the sender sees of a shop: the items that it has seen so far, and which of them its own notes added.
-use Rattle.std.specs.Prelude.{◌≡◌, ℕ, List, [], ◌∷◌, ◌++◌, length, take, map, Result, Ok, Err}
+use Rattle.std.specs.Prelude.{◌≡◌, ℕ, ◌+◌, ◌<◌, List, [], ◌∷◌, ◌++◌, length, take, drop, map, Result, Ok, Err, ⊤, All, Contains}
+use Rattle.std.specs.List.{AllByRecursion}
 use Rattle.record_fields.specs.declared.lines.Line.{Line}
 use Rattle.record_codec.specs.declared.entries.Entry.{Entry}
-use Rattle.record_codec.specs.declared.entries.Entry.TheVariants.{Notes}
+use Rattle.record_codec.specs.declared.entries.Entry.TheVariants.{Rec, Notes}
 use Rattle.journal.specs.declared.faults.StoreFault.{StoreFault}
 use Rattle.journal.specs.declared.faults.StoreFault.TheVariants.{DiskFault, Stopped, NoMemory}
 use Rattle.shop_core.specs.History.{recs, noted, waiting}
@@ -20,6 +21,10 @@ pub record Sight : Type 0 where
 abbrev pub history_of : Sight → List Entry
 history_of s = entries_of s.items
 
+-- each place of its own is that of an item which was seen
+abbrev pub OwnWithin : Sight → Type 0
+OwnWithin s = All (λ (place : ℕ). place < length s.items) s.own
+
 -- what is seen grows, and is a legal history of the one issuer
 pub record Grows (old new : Sight) : Type 0 where
   pub issuer : new.issuer ≡ old.issuer
@@ -36,9 +41,18 @@ pub record ShowsWaiting (seen : Sight) (max : ℕ) (shown : Waiting) : Type 0 wh
 abbrev pub notes_behind : List Item → List Line → Entry
 notes_behind items lines = Notes (length (noted (entries_of items))) lines
 
--- one item more, its own, behind those that others added
+-- nothing has stopped the shop
+abbrev pub IsEntry : Item → Type 0
+IsEntry (entry e) = ⊤
+IsEntry (stop faults torn) = ⊥
+
+abbrev pub HasNoStop : List Item → Type 0
+HasNoStop items = AllByRecursion IsEntry items
+
+-- one item more, its own, behind those that others added; nothing had stopped the shop before
 pub record AddsOwn (old new : Sight) (item : List Item → Item) : Type 0 where
   pub others : List Item
+  pub going_on : HasNoStop (old.items ++ others)
   pub items : new.items ≡ (old.items ++ others) ++ item (old.items ++ others) ∷ []
   pub own : new.own ≡ old.own ++ length (old.items ++ others) ∷ []
 
@@ -47,7 +61,7 @@ pub record StopsHere (old new : Sight) (lines : List Line) : Type 0 where
   pub faults : ℕ
   pub adds : AddsOwn old new (λ items. stop faults (notes_behind items lines))
 
--- the last item is a stop with this count, of an earlier call
+-- the last item is a stop with this count, which an earlier call recorded: this one added nothing
 pub record HasStopped (old new : Sight) (faults : ℕ) : Type 0 where
   pub before : List Item
   pub torn : Entry
@@ -64,3 +78,14 @@ NotedBy old new lines (Err NoMemory) = new.own ≡ old.own
 -- what is seen of a history without a stop
 abbrev pub plain_sight : List ℕ → List Entry → List ℕ → Sight
 plain_sight issuer entries own = record { issuer = issuer; items = map entry entries; own = own }
+
+-- the notes among these items, the first of which stands at this place, stand at places of its own
+abbrev pub AreOwnNotes : List ℕ → ℕ → List Item → Type 0
+AreOwnNotes own at [] = ⊤
+AreOwnNotes own at (entry (Rec till serial sealed) ∷ items) = AreOwnNotes own (at + 1) items
+AreOwnNotes own at (entry (Notes first lines) ∷ items) = Contains own at × AreOwnNotes own (at + 1) items
+AreOwnNotes own at (stop faults torn ∷ items) = AreOwnNotes own (at + 1) items
+
+-- the shop gained no notes but its outbox's own
+abbrev pub GainsOwnNotes : Sight → Sight → Type 0
+GainsOwnNotes before after = AreOwnNotes (drop (length before.own) after.own) (length before.items) (drop (length before.items) after.items)

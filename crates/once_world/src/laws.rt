@@ -1,7 +1,10 @@
-// What holds of every shop and agency that agree.
+// What holds of every shop and agency that agree, and of every world of theirs.
 ghost use Rattle.once_world.specs.Laws as law;
 
-use shop_core::{a_history_notes_its_records, a_sale_has_a_new_number, legal_is_chained};
+use shop_core::{
+    a_history_notes_its_records, a_legal_history_goes_on, a_sale_has_a_new_number,
+    legal_is_chained, what_is_made_is_a_record,
+};
 
 /// Where agreement begins, what keeps it, and that each record then stands once among the processed ones.
 pub fn agreement_is_kept()
@@ -44,3 +47,21 @@ pub fn what_came_is_seen()
     ensures delivered { law.DeliveredAreSeen }
     ensures stays { law.SeenStays }
 {}
+
+/// What came to a shop that gained no notes but its outbox's own: records, beside what the outbox added.
+pub fn what_came_beside_is_records()
+    ensures quiet { law.CameQuietly }
+    ensures own { law.CameBesideOwn }
+{}
+
+/// The world of every issuer, plan and list of events is sound: its history is legal, it agrees with its agency, what is
+/// learnt are the agency's next lines, each record is processed once, and no sale is refused because the register says
+/// otherwise.
+pub fn every_world_is_sound()
+    ensures { law.MadeContinues → law.EveryWorldIsSound }
+{
+    legal_is_chained();
+    a_sale_has_a_new_number();
+    what_is_made_is_a_record();
+    a_legal_history_goes_on();
+}

@@ -1,7 +1,7 @@
 // What the sender sees of a shop, and how it notes.
-ghost use Rattle.std.specs.Prelude.{◌≡◌, ◌≤◌, length, IfOk};
+ghost use Rattle.std.specs.Prelude.{◌≡◌, ◌≤◌, ◌↔◌, ℕ, length, IfOk, IsErrOf};
 ghost use Rattle.shop_core.specs.History as history;
-ghost use Rattle.once_world.specs.Outbox.{Sight, Grows, ShowsWaiting, NotedBy, history_of};
+ghost use Rattle.once_world.specs.Outbox.{Sight, Grows, OwnWithin, HasStopped, ShowsWaiting, NotedBy, history_of};
 
 use journal::StoreFault;
 use ports::NoMemory;
@@ -21,20 +21,23 @@ pub trait Outbox {
     ghost sight: { Self → Sight };
 
     /// The counts, and at most so many of the first records that have no noted line.
-    fn waiting<R: Wait>(&mut self, alloc: Global, rt: &R, max: u16) -> Result<Waiting, NoMemory>
+    fn waiting<R: Wait>(&mut self, rt: &R, alloc: Global, max: u16) -> Result<Waiting, NoMemory>
         ensures fixed { fixed self.new ≡ fixed self.old }
         ensures grows { Grows (sight self.old) (sight self.new) }
         ensures own { (sight self.new).own ≡ (sight self.old).own }
+        ensures within { OwnWithin (sight self.new) }
         ensures shows { IfOk result (ShowsWaiting (sight self.new) max) };
 
     /// Notes the lines of the next records, 1 to 1000 and no more than wait in what was seen. After `DiskFault` the shop has
     /// stopped, and these lines may stand in its file. `Stopped` comes exactly where an earlier call stopped it. Where notes
     /// of others came in between and the lines fit no more, nothing is added, as without memory.
-    fn note<R: Wait>(&mut self, alloc: Global, rt: &R, lines: &[Line]) -> Result<(), StoreFault>
+    fn note<R: Wait>(&mut self, rt: &R, alloc: Global, lines: &[Line]) -> Result<(), StoreFault>
         requires some { 1 ≤ length lines.now }
         requires few { length lines.now ≤ 1000 }
         requires fits { length lines.now ≤ length (history.waiting (history_of (sight self.old))) }
         ensures fixed { fixed self.new ≡ fixed self.old }
         ensures grows { Grows (sight self.old) (sight self.new) }
-        ensures noted { NotedBy (sight self.old) (sight self.new) lines.now result };
+        ensures within { OwnWithin (sight self.new) }
+        ensures noted { NotedBy (sight self.old) (sight self.new) lines.now result }
+        ensures stopped { (faults : ℕ) → IsErrOf result (StoreFault.Stopped faults) ↔ HasStopped (sight self.old) (sight self.new) faults };
 }

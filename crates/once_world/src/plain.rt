@@ -1,5 +1,5 @@
 // A shop in memory alone, as its sender sees it.
-ghost use Rattle.std.specs.Prelude.{◌≡◌, ◌++◌, ◌∷◌, [], length, IfOk, OnOk, OnErr};
+ghost use Rattle.std.specs.Prelude.{◌≡◌, ◌++◌, ◌∷◌, [], length, IfOk, OnOk, OnErr, ℕ, ◌<◌, All};
 ghost use Rattle.record_codec.specs.declared.entries.Entry.TheVariants.{Notes};
 ghost use Rattle.shop_core.specs.History.{noted};
 ghost use Rattle.shop_core.specs.Legal.{AreNext, Continues};
@@ -19,9 +19,12 @@ use std::sync::Wait;
 pub struct PlainOutbox {
     state: State,
     own: Vec<u64>,
+    // Each place of its own notes is that of an entry.
+    ghost within: { All (λ (place : ℕ). place < length state.entries) own.items },
 }
 
 impl PlainOutbox {
+    /// The outbox of this history, which added nothing of its own yet.
     pub fn new(alloc: Global, state: State) -> PlainOutbox
         ensures state { result.state ≡ state }
         ensures own { result.own.items ≡ [] }
@@ -32,12 +35,14 @@ impl PlainOutbox {
         }
     }
 
+    /// The history as it is now.
     pub fn state(&self) -> &State
         ensures { result.now ≡ self.now.state }
     {
         &self.state
     }
 
+    /// Gives the history back.
     pub fn into_state(self) -> State
         ensures { result ≡ self.state }
     {
@@ -94,7 +99,7 @@ impl Outbox for PlainOutbox {
 
     ghost sight = { λ o. plain_sight o.state.issuer o.state.entries o.own.items };
 
-    fn waiting<R: Wait>(&mut self, alloc: Global, _rt: &R, max: u16) -> Result<Waiting, NoMemory> {
+    fn waiting<R: Wait>(&mut self, _rt: &R, alloc: Global, max: u16) -> Result<Waiting, NoMemory> {
         self.state.is_legal();
         let list = self.state.waiting_records(alloc, max)?;
         Ok(Waiting {
@@ -104,7 +109,7 @@ impl Outbox for PlainOutbox {
         })
     }
 
-    fn note<R: Wait>(&mut self, alloc: Global, _rt: &R, lines: &[Line]) -> Result<(), StoreFault> {
+    fn note<R: Wait>(&mut self, _rt: &R, alloc: Global, lines: &[Line]) -> Result<(), StoreFault> {
         match self.add_notes(alloc, lines) {
             Ok(()) => {
                 self.state.is_legal();

@@ -198,7 +198,7 @@ fn an_outbox_in_memory(rt: HostRuntime) -> Result<(), Fail> {
     let alloc = rt.alloc();
     let world = after(alloc, &[Append(1), Append(2)])?;
     let mut outbox = PlainOutbox::new(alloc, world.state);
-    let Ok(shown) = outbox.waiting(alloc, &rt, 1) else {
+    let Ok(shown) = outbox.waiting(&rt, alloc, 1) else {
         return Err(Fail::from("memory"));
     };
     assert_eq!(rt; (shown.noted, shown.records), (0, 2));
@@ -206,7 +206,7 @@ fn an_outbox_in_memory(rt: HostRuntime) -> Result<(), Fail> {
     if shown.list.as_slice().is_empty() {
         return Err(Fail::from("a waiting record"));
     }
-    assert!(rt; outbox.note(alloc, &rt, &[Line::Correcto]).is_ok());
+    assert!(rt; outbox.note(&rt, alloc, &[Line::Correcto]).is_ok());
     assert_eq!(rt; outbox.state().noted(), 1);
     assert_eq!(rt; outbox.into_state().line(1), Some(Line::Correcto));
     Ok(())

@@ -24,8 +24,11 @@ use std::alloc::Global;
 /// A shop's history, what its agency has processed, and the batches that were ever sent from the one to the other.
 #[derive(Drop)]
 pub struct World {
+    /// The shop's history.
     pub state: State,
+    /// The records that the agency has processed, each with its line, in order.
     pub processed: Pairs,
+    /// The batches that were ever sent, in order.
     pub sent: Batches,
     /// Whether the shop is open.
     pub up: bool,

@@ -1,7 +1,7 @@
 use Rattle.std.proofs.Common.{◌∷◌, [], length}
 use Rattle.record_codec.specs.declared.entries.Entry.TheVariants.{Notes}
 use Rattle.shop_core.specs.History.{noted}
-use Rattle.once_world.proofs.Sights.{grows_by, grows_same, adds_notes, next_plain}
+use Rattle.once_world.proofs.Sights.{grows_by, grows_same, adds_notes, next_plain, never_stopped}
 use Rattle.once_world.proofs.plain.PlainOutboxOutbox.note.Goals as goal
 
 pub add_notes-requires : goal.add_notes-requires
@@ -25,3 +25,8 @@ returns-in-Err-clause-grows g c =
     let old = c.args.self.now in
     let new = c.add_notes.new.self in
     grows_same old.state.issuer new.state.issuer old.state.entries new.state.entries old.own.items new.own.items c.in-Err.ensures.issuer c.in-Err.ensures.err.0 c.is_legal-in-Err.ensures
+
+pub returns-in-Err-clause-stopped : goal.returns-in-Err-clause-stopped
+returns-in-Err-clause-stopped g c = λ faults.
+    let new = c.add_notes.new.self in
+    ((λ told. absurd cc), (λ stopped. absurd (never_stopped _ new.state.issuer new.state.entries new.own.items faults stopped)))
