@@ -5,6 +5,5 @@ pub mod Creations
 pub mod Windows
 pub mod Headers
 pub mod Unique
-pub mod Nifs
 pub mod Walks
 pub mod OneHeader

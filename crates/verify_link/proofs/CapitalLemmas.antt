@@ -245,8 +245,8 @@ pub capitals_from : (text written : List ℕ) → AgreeButInCase text written �
 capitals_from text written agree =
     ext_get_or 0 (capitals 0 text) written (length-capitals 0 text ∙ agree.long)
     (λ k within.
-      let fits : k < length text = omega (arith, length-capitals 0 text, within) in
-      capital_is text k fits ∙ eqb-true (capital_byte text k) (get_or written k 0) (agree.bytes k fits))
+    let fits : k < length text = omega (arith, length-capitals 0 text, within) in
+    capital_is text k fits ∙ eqb-true (capital_byte text k) (get_or written k 0) (agree.bytes k fits))
 
 pub agree_from : (text written : List ℕ) → capitals 0 text ≡ written → AgreeButInCase text written
 agree_from text written is = record {

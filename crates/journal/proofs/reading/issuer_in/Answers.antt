@@ -1,4 +1,4 @@
-use Rattle.journal.proofs.Nifs.{nif_text}
+use Rattle.parties.proofs.NifLemmas.{nif_text}
 use Rattle.journal.proofs.reading.issuer_in.Goals as goal
 
 pub returns-in-Err-clause-none : goal.returns-in-Err-clause-none
