@@ -110,7 +110,7 @@ abbrev pub ReadAndRan : {D C : Type 0} → List ℕ → Devices D C → Detail �
 ReadAndRan issuer d end =
     (script : Script) × IsGoodScript d.source script
     × ScriptEnds issuer script.asks (readings_of script.clock (d.clock.coming d.clock.clock)) (LeavesClock d.clock script.clock)
-        d.sink d.disk end
+    d.sink d.disk end
 
 -- what `chain` did, and how it ended
 pub data ChainEnds {D C : Type 0} (issuer : List ℕ) (d : Devices D C) : Detail → Type 0 where

@@ -63,10 +63,10 @@ pub fn chain_cmd<S: Source, K: Sink, D: Disk, C: Clock>(
 ) -> (Ended, D, C)
     ensures status { result.0.status ≡ status_of result.0.detail }
     ensures ends { ChainEnds issuer.now (record {
-        source = this_source S.left S.faults source.old source.new;
-        sink = this_sink K.taken K.faults sink.old sink.new;
-        disk = this_disk D.tells D.told D.faults disk result.1;
-        clock = this_clock C.coming clock result.2;
+      source = this_source S.left S.faults source.old source.new;
+      sink = this_sink K.taken K.faults sink.old sink.new;
+      disk = this_disk D.tells D.told D.faults disk result.1;
+      clock = this_clock C.coming clock result.2;
     }) result.0.detail }
 {
     let (detail, disk, clock) = chain(alloc, issuer, source, sink, disk, clock);
@@ -82,10 +82,10 @@ fn chain<S: Source, K: Sink, D: Disk, C: Clock>(
     clock: C,
 ) -> (Detail, D, C)
     ensures { ChainEnds issuer.now (record {
-        source = this_source S.left S.faults source.old source.new;
-        sink = this_sink K.taken K.faults sink.old sink.new;
-        disk = this_disk D.tells D.told D.faults disk result.1;
-        clock = this_clock C.coming clock result.2;
+      source = this_source S.left S.faults source.old source.new;
+      sink = this_sink K.taken K.faults sink.old sink.new;
+      disk = this_disk D.tells D.told D.faults disk result.1;
+      clock = this_clock C.coming clock result.2;
     }) result.0 }
 {
     match read_commands(alloc, source) {

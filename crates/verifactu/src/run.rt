@@ -30,10 +30,10 @@ pub fn run<S: Source, K: Sink, D: Disk, C: Clock>(
     clock: C,
 ) -> (Ended, D, C)
     ensures { EndsAs (map string_bytes words.now) (record {
-        source = this_source S.left S.faults source.old source.new;
-        sink = this_sink K.taken K.faults sink.old sink.new;
-        disk = this_disk D.tells D.told D.faults disk result.1;
-        clock = this_clock C.coming clock result.2;
+      source = this_source S.left S.faults source.old source.new;
+      sink = this_sink K.taken K.faults sink.old sink.new;
+      disk = this_disk D.tells D.told D.faults disk result.1;
+      clock = this_clock C.coming clock result.2;
     }) result.0 }
 {
     match command_of(words) {
@@ -52,10 +52,10 @@ fn obey<S: Source, K: Sink, D: Disk, C: Clock>(
 ) -> (Ended, D, C)
     ensures status { result.0.status ≡ status_of result.0.detail }
     ensures ends { CommandEnds command (record {
-        source = this_source S.left S.faults source.old source.new;
-        sink = this_sink K.taken K.faults sink.old sink.new;
-        disk = this_disk D.tells D.told D.faults disk result.1;
-        clock = this_clock C.coming clock result.2;
+      source = this_source S.left S.faults source.old source.new;
+      sink = this_sink K.taken K.faults sink.old sink.new;
+      disk = this_disk D.tells D.told D.faults disk result.1;
+      clock = this_clock C.coming clock result.2;
     }) result.0.detail }
 {
     match command {
