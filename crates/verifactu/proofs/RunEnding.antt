@@ -110,7 +110,7 @@ store_ran issuer asks replies s sink k end own tells faults_after now later foun
     let kept_here : IsTrue k.tells → Kept (StandsBetween issuer s.start s.end) issuer s.end replies s.since (k.told k.disk_after) = λ says.
     subst (λ (t : Told). Kept (StandsBetween issuer s.start s.end) issuer s.end replies s.since t) now
     (subst (λ (n : List ℕ). Kept (StandsBetween n s.start s.end) n s.end replies s.since s.now) own (h.kept (subst (λ (b : Bool). IsTrue b) (sym tells) says))) in
-    inr (
+    inr (inr (
       record {
         start = s.start;
         replies = replies;
@@ -126,7 +126,7 @@ store_ran issuer asks replies s sink k end own tells faults_after now later foun
         clock = h.asked;
       },
       ends,
-    )
+    ))
 
 -- a run by readings of one kind is one by readings of another kind, where each of the first is one of the second
 run_by : (issuer : List ℕ) (R Q : List (Result Reply StoreFault) → ℕ → Type 0) (start : List Entry) → ((replies : List (Result Reply StoreFault)) (seconds : ℕ) → R replies seconds → Q replies seconds) →
@@ -138,7 +138,8 @@ run_by issuer R Q start each (replied asks replies entries ask told gained run s
 -- the same end, said of other readings and of another clock
 pub script_by : {D : Type 0} (issuer : List ℕ) (asks : List Asked) (old new : ℕ → Option ℕ) (Leaves Left : List (Result Reply StoreFault) → Type 0) (s : Sinks) (k : Disks D) (end : Detail) →
     ((i : ℕ) → old i ≡ new i) → ((replies : List (Result Reply StoreFault)) → Leaves replies → Left replies) → ScriptEnds issuer asks old Leaves s k end → ScriptEnds issuer asks new Left s k end
-script_by issuer asks old new Leaves Left s k end same leaves (inl h) = inl (record {
+script_by issuer asks old new Leaves Left s k end same leaves (inl h) = inl (record { ends = h.ends; wrote = h.wrote; disk = h.disk; clock = leaves [] h.clock })
+script_by issuer asks old new Leaves Left s k end same leaves (inr (inl h)) = inr (inl (record {
   why = h.why;
   ends = h.ends;
   risen = h.risen;
@@ -146,10 +147,10 @@ script_by issuer asks old new Leaves Left s k end same leaves (inl h) = inl (rec
   every_crash = h.every_crash;
   wrote = h.wrote;
   clock = leaves [] h.clock;
-})
-script_by issuer asks old new Leaves Left s k end same leaves (inr h) =
+}))
+script_by issuer asks old new Leaves Left s k end same leaves (inr (inr h)) =
     let p = h.0 in
-    inr (
+    inr (inr (
       record {
         start = p.start;
         replies = p.replies;
@@ -165,7 +166,7 @@ script_by issuer asks old new Leaves Left s k end same leaves (inr h) =
         clock = leaves p.replies p.clock;
       },
       h.1,
-    )
+    ))
 
 rose_of : (faults after : ℕ) (replies : List (Result Reply StoreFault)) → StopsOnce faults after replies → list_any is_disk_fault replies ≡ true → Rose faults after
 rose_of faults after replies (inl all) some = let none = went_on replies all in absurd cc
@@ -186,12 +187,13 @@ rose_opening cause.NoMemory k risen is = absurd cc
 
 disk_rose : {D : Type 0} (issuer : List ℕ) (asks : List Asked) (coming : ℕ → Option ℕ) (Leaves : List (Result Reply StoreFault) → Type 0) (s : Sinks) (k : Disks D) (end : Detail) →
     ScriptEnds issuer asks coming Leaves s k end → end ≡ detail.DiskFault → DiskRose k
-disk_rose issuer asks coming Leaves s k end (inl h) is = rose_opening h.why k h.risen (sym h.ends ∙ is)
-disk_rose issuer asks coming Leaves s k end (inr h) is = rose_ran issuer asks coming Leaves s k end h.0 h.1 is
+disk_rose issuer asks coming Leaves s k end (inl h) is = let none = sym h.ends ∙ is in absurd cc
+disk_rose issuer asks coming Leaves s k end (inr (inl h)) is = rose_opening h.why k h.risen (sym h.ends ∙ is)
+disk_rose issuer asks coming Leaves s k end (inr (inr h)) is = rose_ran issuer asks coming Leaves s k end h.0 h.1 is
 
 -- the end of a command that read its script is that of its run
 pub chain_ran : {D C : Type 0} (issuer : List ℕ) (d : Devices D C) (end : Detail) → ReadAndRan issuer d end → ChainEnds issuer d end
-chain_ran issuer d end h = ran end h (disk_rose issuer h.0.asks (readings_of h.0.clock (d.clock.coming d.clock.clock)) (LeavesClock d.clock h.0.clock) d.sink d.disk end h.1.1)
+chain_ran issuer d end h = ran end h (disk_rose issuer h.0.asks (readings_of h.0.clock (d.clock.coming d.clock.clock)) (LeavesClock d.clock h.0.clock) d.sink d.disk end h.2)
 
 -- the end of a command whose source is no script
 pub chain_unread : {D C : Type 0} (issuer : List ℕ) (d : Devices D C) (fault : NoScript) → ScriptIs d.source (Err fault) → Untouched d → ChainEnds issuer d (no_script_end fault)

@@ -3,7 +3,7 @@ use Rattle.std.specs.Prelude.{◌≡◌, ◌⊎◌, ℕ, List, [], IsTrue, Optio
 use Rattle.ports.specs.Sinks.{Sinks, WroteNothing}
 use Rattle.ports.specs.Sources.{Sources}
 use Rattle.chain_disk.specs.Told.{synced}
-use Rattle.chain_disk.specs.Disks.{Disks, DiskRose}
+use Rattle.chain_disk.specs.Disks.{Disks, DiskRose, LeftDisk}
 use Rattle.huella.specs.Linked.{Linked}
 use Rattle.record_codec.specs.declared.entries.Entry.{Entry}
 use Rattle.shop_core.specs.Asked.{Asked}
@@ -64,6 +64,13 @@ opening_end (cause.Damaged at) = detail.Damaged at
 opening_end (cause.OtherIssuer held) = detail.OtherIssuer held
 opening_end cause.NoMemory = detail.NoMemory
 
+-- there was no room for the replies: nothing was printed, and neither the file nor the clock was touched
+pub record NoRoom {D : Type 0} (Leaves : Replies → Type 0) (s : Sinks) (k : Disks D) (end : Detail) : Type 0 where
+  pub ends : end ≡ detail.NoMemory
+  pub wrote : WroteNothing s
+  pub disk : LeftDisk k
+  pub clock : Leaves []
+
 -- the file wasn't opened, nothing was printed, and the clock wasn't read
 pub record NotOpened {D : Type 0} (issuer : List ℕ) (Leaves : Replies → Type 0) (s : Sinks) (k : Disks D)
     (end : Detail) : Type 0 where
@@ -93,11 +100,12 @@ pub record Played {D : Type 0} (issuer : List ℕ) (asks : List Asked) (coming :
       Kept (StandsSince issuer start end) issuer end replies (synced (k.told k.disk)) (k.told k.disk_after)
   pub clock : Leaves replies
 
--- the file couldn't be opened; or the commands were run, and this is how the run ended
+-- nothing was done for want of memory; the file couldn't be opened; or the commands were run, and this is how the run ended
 abbrev pub ScriptEnds : {D : Type 0} → List ℕ → List Asked → (ℕ → Option ℕ) → (Replies → Type 0) → Sinks → Disks D →
     Detail → Type 0
 ScriptEnds issuer asks coming Leaves s k end =
-    NotOpened issuer Leaves s k end
+    NoRoom Leaves s k end
+    ⊎ NotOpened issuer Leaves s k end
     ⊎ ((p : Played issuer asks coming Leaves k) × RunEnds p.replies (printed asks p.replies p.end) s end)
 
 -- the commands were run on an opened store, and this is how the run ended

@@ -1,10 +1,11 @@
 // The command `chain`: reads a script, opens the file, runs the commands on its history, and prints the replies and the chain.
-ghost use Rattle.std.specs.Prelude.{◌≡◌, ◌≤◌, [], None, length, vec_capacity};
+ghost use Rattle.std.specs.Prelude.{◌≡◌, ◌≤◌, [], None, List, length, vec_capacity};
 ghost use Rattle.ports.specs.Sinks.{this_sink};
 ghost use Rattle.ports.specs.Sources.{this_source};
 ghost use Rattle.chain_disk.specs.Disks.{this_disk};
-ghost use Rattle.journal.specs.Journal.{stopped_of};
-ghost use Rattle.chain_store.specs.Store.{Ready, journal_of, state_of};
+ghost use Rattle.journal.specs.Journal.{disk_of, stopped_of};
+ghost use Rattle.record_codec.specs.declared.entries.Entry.{Entry};
+ghost use Rattle.chain_store.specs.Store.{Ready, clock_of, journal_of, state_of};
 ghost use Rattle.report.specs.Statuses.{status_of};
 ghost use Rattle.verifactu.specs.Chain.{ChainEnds, ScriptEnds, ScriptIs, StoreEnds};
 ghost use Rattle.verifactu.specs.Chain as spec;
@@ -170,12 +171,45 @@ fn run_asks<K: Sink, D: Disk, C: Clock>(
     }
     match open_store(alloc, disk, clock, issuer) {
         Err(fault) => (opening_end(&fault.cause), fault.disk, fault.clock),
-        Ok(mut store) => {
-            let detail = play(alloc, asks, sink, &mut store, replies);
-            let (_, disk, clock) = store.into_parts();
-            (detail, disk, clock)
-        }
+        Ok(store) => run_opened(alloc, asks, sink, store, replies),
     }
+}
+
+// Runs the commands on an opened file, and gives its disk and the clock back.
+fn run_opened<K: Sink, D: Disk, C: Clock>(
+    alloc: Global,
+    asks: &[Ask],
+    sink: &mut K,
+    store: Store<D, C>,
+    replies: Vec<Result<Reply, StoreFault>>,
+) -> (Detail, D, C)
+    requires ready { Ready D.tells D.told store }
+    requires going_on { stopped_of (journal_of store) ≡ None }
+    requires none { replies.items ≡ [] }
+    requires room { length asks.now ≤ vec_capacity replies }
+    ensures { (end : List Entry) × StoreEnds asks.now (record {
+        issuer = (state_of store).issuer;
+        start = (state_of store).entries;
+        end = end;
+        tells = D.tells;
+        since = D.told (disk_of (journal_of store));
+        now = D.told result.1;
+        faults = D.faults (disk_of (journal_of store));
+        faults_after = D.faults result.1;
+        clock = this_clock C.coming (clock_of store) result.2;
+    }) (this_sink K.taken K.faults sink.old sink.new) result.0 }
+{
+    let mut store = store;
+    let detail = play(alloc, asks, sink, &mut store, replies);
+    let (disk, clock) = devices_of(store);
+    (detail, disk, clock)
+}
+
+fn devices_of<D: Disk, C: Clock>(store: Store<D, C>) -> (D, C)
+    ensures { (result.0 ≡ disk_of (journal_of store)) × (result.1 ≡ clock_of store) }
+{
+    let (_, disk, clock) = store.into_parts();
+    (disk, clock)
 }
 
 // Runs the commands on a store, and prints the replies and the history.

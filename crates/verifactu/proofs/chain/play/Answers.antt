@@ -1,13 +1,19 @@
 use Rattle.std.proofs.Common.{◌≡◌, ◌∙◌, ◌++◌, ℕ, List, sym, ap, subst, Result}
 use Rattle.chain_store.specs.Store.{state_of}
 use Rattle.journal.specs.declared.faults.StoreFault.{StoreFault}
+use Rattle.file_commands.proofs.Bytewise.{took_nothing}
 use Rattle.ports.specs.Sinks.{this_sink}
 use Rattle.record_codec.specs.declared.entries.Entry.{Entry}
 use Rattle.shop_core.specs.History.{History}
 use Rattle.shop_core.specs.declared.answers.Reply.{Reply}
 use Rattle.verifactu.specs.Ending.{RunEnds}
+use Rattle.verifactu.specs.Ending.RunEnds.{no_memory}
 use Rattle.verifactu.specs.Printed.{printed}
 use Rattle.verifactu.proofs.chain.play.Goals as goal
+
+pub returns-in_default-clause-end : goal.returns-in_default-clause-end
+returns-in_default-clause-end g c =
+    (c.run_commands.new.replies.items, c.run_commands.ensures.answers, no_memory (0, took_nothing (g.K.Sink.taken c.args.sink.now)))
 
 pub returns-clause-end : goal.returns-clause-end
 returns-clause-end g c =
