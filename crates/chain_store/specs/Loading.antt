@@ -12,7 +12,8 @@ use Rattle.chain_store.specs.declared.loading.Loaded.TheVariants.{NotBegun, Begu
 -- the file isn't begun, or it stands for this history, with its closing gate at this byte
 abbrev pub IsLoaded : List ℕ → Loaded → Type 0
 IsLoaded file NotBegun = IsNotBegun file
-IsLoaded file (Begun history end) = StandsFor history.issuer history.entries file × (end ≡ closing_gate (bodies_of history.entries))
+IsLoaded file (Begun history end) =
+    StandsFor history.issuer history.entries file × (end ≡ closing_gate (bodies_of history.entries))
 
 -- the closing gate stands no further than so many entries can be long
 abbrev pub HasNearGate : Loaded → Type 0

@@ -29,7 +29,8 @@ pub record IsReady (tells : Bool) (history : History) (stopped : Option ℕ) (ga
 
 -- One ask at a journal that goes on. The clock is read once. The reply is the answer at that reading, the history gains
 -- what it makes, and a crash at any moment of the call leaves the history before it, or that with the entry made.
-pub record Takes (old new : History) (ask : Asked) (coming coming_after : ℕ → Option ℕ) (tells : Bool) (t u : Told) (told : Result Reply StoreFault) : Type 0 where
+pub record Takes (old new : History) (ask : Asked) (coming coming_after : ℕ → Option ℕ) (tells : Bool) (t u : Told)
+    (told : Result Reply StoreFault) : Type 0 where
   pub seconds : ℕ
   pub reading : IsTold (coming 0) seconds
   pub moved : MovedBy 1 coming coming_after
@@ -41,7 +42,8 @@ pub record Takes (old new : History) (ask : Asked) (coming coming_after : ℕ �
 
 -- One ask that the disk's failure cut off. Its entry was made at the history and a reading of the clock, room was made for it,
 -- and it may be on the disk.
-pub record Tears (old new : History) (ask : Asked) (coming : ℕ → Option ℕ) (tells : Bool) (t u : Told) (torn : Option Entry) : Type 0 where
+pub record Tears (old new : History) (ask : Asked) (coming : ℕ → Option ℕ) (tells : Bool) (t u : Told)
+    (torn : Option Entry) : Type 0 where
   pub entry : Entry
   pub entry_is : torn ≡ Some entry
   pub seconds : ℕ

@@ -27,4 +27,5 @@ torn_of store = option_map (λ s. s.value) store.torn
 
 -- where its journal isn't stopped and its disk tells what it holds, that is its history
 abbrev pub Ready : {D C : Type 0} {g : Ghosts D} → Bool → (D → Told) → Store D C g → Type 0
-Ready tells told store = IsReady tells store.state (stopped_of store.journal) (end_of store.journal) (told (disk_of store.journal))
+Ready tells told store =
+    IsReady tells store.state (stopped_of store.journal) (end_of store.journal) (told (disk_of store.journal))

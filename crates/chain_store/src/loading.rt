@@ -22,7 +22,8 @@ pub enum Loaded {
 pub fn load<D: Disk>(alloc: Global, disk: &mut D) -> Result<Loaded, LoadFault>
     ensures content { IfOk result (λ loaded. IsTrue D.tells → IsLoaded (D.told disk.old).content loaded) }
     ensures near { IfOk result HasNearGate }
-    ensures damaged { (at : ℕ) → IsErrOf result (LoadFault.Damaged at) → IsTrue D.tells → IsDamagedFile (D.told disk.old).content at }
+    ensures damaged { (at : ℕ) → IsErrOf result (LoadFault.Damaged at) → IsTrue D.tells →
+        IsDamagedFile (D.told disk.old).content at }
     ensures fault { IsErrOf result LoadFault.DiskFault → Rose (D.faults disk.old) (D.faults disk.new) }
     ensures same { D.told disk.new ≡ D.told disk.old }
     ensures later { D.faults disk.old ≤ D.faults disk.new }

@@ -1,5 +1,6 @@
 // A history on disk: the state, the journal that keeps it, and the clock that dates its records.
-ghost use Rattle.std.specs.Prelude.{◌≡◌, ◌≤◌, ◌+◌, ◌++◌, ◌∷◌, [], ◌↔◌, true, ℕ, List, length, take, drop, IsTrue, IfOk, OnOk, OnErr, IsErrOf, IsSome, None, Some};
+ghost use Rattle.std.specs.Prelude.{◌≡◌, ◌≤◌, ◌+◌, ◌++◌, ◌∷◌, [], ◌↔◌, true, ℕ, List, length, take, drop};
+ghost use Rattle.std.specs.Prelude.{IsTrue, IfOk, OnOk, OnErr, IsErrOf, IsSome, None, Some};
 ghost use Rattle.ports.specs.Causes.{Rose};
 ghost use Rattle.chain_disk.specs.Told.{LeavesOnly, LeavesNow};
 ghost use Rattle.shop_core.specs.History.{recs, noted, is_record};
@@ -80,7 +81,8 @@ impl<D: Disk, C: Clock> Store<D, C> {
     pub fn take(&mut self, alloc: Global, ask: &Ask) -> Result<Reply, StoreFault>
         requires { Ready D.tells D.told self.old }
         ensures ready { Ready D.tells D.told self.new }
-        ensures takes { stopped_of self.old.journal ≡ None → Takes self.old.state self.new.state ask.now (C.coming self.old.clock) (C.coming self.new.clock)
+        ensures takes { stopped_of self.old.journal ≡ None →
+            Takes self.old.state self.new.state ask.now (C.coming self.old.clock) (C.coming self.new.clock)
             D.tells (D.told (disk_of self.old.journal)) (D.told (disk_of self.new.journal)) result }
 
         // After Ok every crash leaves the whole history.
@@ -91,11 +93,14 @@ impl<D: Disk, C: Clock> Store<D, C> {
         ensures no_memory { IsErrOf result StoreFault.NoMemory → self.new.journal ≡ self.old.journal }
 
         // A fault of the disk stops the journal for good. From then on nothing is asked of the disk or the clock.
-        ensures fault { IsErrOf result StoreFault.DiskFault → Rose (D.faults (disk_of self.old.journal)) (D.faults (disk_of self.new.journal))
+        ensures fault { IsErrOf result StoreFault.DiskFault →
+            Rose (D.faults (disk_of self.old.journal)) (D.faults (disk_of self.new.journal))
             × (stopped_of self.new.journal ≡ Some (D.faults (disk_of self.new.journal))) }
-        ensures torn { IsErrOf result StoreFault.DiskFault → Tears self.old.state self.new.state ask.now (C.coming self.old.clock) D.tells
+        ensures torn { IsErrOf result StoreFault.DiskFault →
+            Tears self.old.state self.new.state ask.now (C.coming self.old.clock) D.tells
             (D.told (disk_of self.old.journal)) (D.told (disk_of self.new.journal)) (torn_of self.new) }
-        ensures stopped { (faults : ℕ) → IsErrOf result (StoreFault.Stopped faults) ↔ (stopped_of self.old.journal ≡ Some faults) }
+        ensures stopped { (faults : ℕ) →
+            IsErrOf result (StoreFault.Stopped faults) ↔ (stopped_of self.old.journal ≡ Some faults) }
         ensures untouched { IsSome (stopped_of self.old.journal) → self.new ≡ self.old }
         ensures later { D.faults (disk_of self.old.journal) ≤ D.faults (disk_of self.new.journal) }
     {
@@ -130,7 +135,8 @@ impl<D: Disk, C: Clock> Store<D, C> {
         ensures acknowledged { OnOk result (IsTrue D.tells →
             LeavesNow (D.told (disk_of self.new.journal)) (StandsFor self.new.state.issuer self.new.state.entries)) }
         ensures no_memory { IsErrOf result StoreFault.NoMemory → self.new.journal ≡ self.old.journal }
-        ensures fault { IsErrOf result StoreFault.DiskFault → Rose (D.faults (disk_of self.old.journal)) (D.faults (disk_of self.new.journal))
+        ensures fault { IsErrOf result StoreFault.DiskFault →
+            Rose (D.faults (disk_of self.old.journal)) (D.faults (disk_of self.new.journal))
             × (stopped_of self.new.journal ≡ Some (D.faults (disk_of self.new.journal))) }
         ensures torn { IsErrOf result StoreFault.DiskFault → torn_of self.new ≡ Some entry }
         ensures room { IsErrOf result StoreFault.DiskFault → self.new.state.room ≡ Some entry }
@@ -159,17 +165,20 @@ impl<D: Disk, C: Clock> Store<D, C> {
         ensures clock { self.new.clock ≡ self.old.clock }
 
         // A crash at any moment of the call leaves the history before it, or that with these lines.
-        ensures any_moment { stopped_of self.old.journal ≡ None → IsTrue D.tells → LeavesOnly (D.told (disk_of self.old.journal)) (D.told (disk_of self.new.journal))
+        ensures any_moment { stopped_of self.old.journal ≡ None → IsTrue D.tells →
+            LeavesOnly (D.told (disk_of self.old.journal)) (D.told (disk_of self.new.journal))
             (StandsBeforeOrWith self.old.state.issuer self.old.state.entries (noted_next self.old.state.entries lines.now)) }
         ensures acknowledged { OnOk result (IsTrue D.tells →
             LeavesNow (D.told (disk_of self.new.journal)) (StandsFor self.new.state.issuer self.new.state.entries)) }
         ensures going_on { OnOk result ((stopped_of self.old.journal ≡ None) × (stopped_of self.new.journal ≡ None)) }
         ensures no_memory { IsErrOf result StoreFault.NoMemory → self.new.journal ≡ self.old.journal }
-        ensures fault { IsErrOf result StoreFault.DiskFault → Rose (D.faults (disk_of self.old.journal)) (D.faults (disk_of self.new.journal))
+        ensures fault { IsErrOf result StoreFault.DiskFault →
+            Rose (D.faults (disk_of self.old.journal)) (D.faults (disk_of self.new.journal))
             × (stopped_of self.new.journal ≡ Some (D.faults (disk_of self.new.journal))) }
         ensures torn { IsErrOf result StoreFault.DiskFault → TearsLines self.old.state self.new.state lines.now D.tells
             (D.told (disk_of self.old.journal)) (D.told (disk_of self.new.journal)) (torn_of self.new) }
-        ensures stopped { (faults : ℕ) → IsErrOf result (StoreFault.Stopped faults) ↔ (stopped_of self.old.journal ≡ Some faults) }
+        ensures stopped { (faults : ℕ) →
+            IsErrOf result (StoreFault.Stopped faults) ↔ (stopped_of self.old.journal ≡ Some faults) }
         ensures untouched { IsSome (stopped_of self.old.journal) → self.new ≡ self.old }
         ensures later { D.faults (disk_of self.old.journal) ≤ D.faults (disk_of self.new.journal) }
     {
@@ -192,7 +201,8 @@ impl<D: Disk, C: Clock> Store<D, C> {
 
     /// The counts of the history, and at most so many of the first records that have no noted line.
     pub fn waiting(&self, alloc: Global, max: u16) -> Result<Waiting, NoMemory>
-        ensures { IfOk result (λ waiting. (waiting.noted ≡ length (noted self.now.state.entries)) × (waiting.records ≡ length (recs self.now.state.entries))
+        ensures { IfOk result (λ waiting. (waiting.noted ≡ length (noted self.now.state.entries))
+            × (waiting.records ≡ length (recs self.now.state.entries))
             × (waiting.list ≡ take max (drop (length (noted self.now.state.entries)) (recs self.now.state.entries)))) }
     {
         let records = self.state.waiting_records(alloc, max)?;
@@ -218,7 +228,8 @@ impl<D: Disk, C: Clock> Store<D, C> {
         ensures any_moment { IsTrue D.tells → LeavesOnly (D.told (disk_of self.old.journal)) (D.told (disk_of self.new.journal))
             (StandsBeforeOrWith self.old.state.issuer self.old.state.entries entry) }
         ensures no_memory { IsErrOf result StoreFault.NoMemory → self.new.journal ≡ self.old.journal }
-        ensures fault { IsErrOf result StoreFault.DiskFault → Rose (D.faults (disk_of self.old.journal)) (D.faults (disk_of self.new.journal))
+        ensures fault { IsErrOf result StoreFault.DiskFault →
+            Rose (D.faults (disk_of self.old.journal)) (D.faults (disk_of self.new.journal))
             × (stopped_of self.new.journal ≡ Some (D.faults (disk_of self.new.journal))) }
         ensures torn { IsErrOf result StoreFault.DiskFault → torn_of self.new ≡ Some entry }
         ensures room { IsErrOf result StoreFault.DiskFault → self.new.state.room ≡ Some entry }

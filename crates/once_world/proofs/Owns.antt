@@ -7,7 +7,9 @@ use Rattle.std.specs.List.{AllByRecursion}
 use Rattle.record_codec.specs.declared.entries.Entry.{Entry}
 use Rattle.record_codec.specs.declared.entries.Entry.TheVariants.{Rec, Notes}
 use Rattle.shop_core.specs.History.{is_record}
-use Rattle.shop_core.specs.Items.{Item, entry, stop, entry_in, entries_of}
+use Rattle.shop_core.specs.Items.{entry_in, entries_of}
+use Rattle.shop_core.specs.declared.items.Item.{Item}
+use Rattle.shop_core.specs.declared.items.Item.TheVariants as recorded
 use Rattle.once_world.specs.Laws.{AreRecords, CameQuietly, CameBesideOwn}
 use Rattle.once_world.specs.Outbox.{Sight, AreOwnNotes}
 use Rattle.once_world.proofs.Lists.{all_front, all_back}
@@ -18,9 +20,9 @@ entries_both xs ys = filter_map-append entry_in xs ys
 -- no places, no notes
 own_none : (at : ℕ) (items : List Item) → AreOwnNotes [] at items → AreRecords (entries_of items)
 own_none at [] own = tt
-own_none at (entry (Rec till serial sealed) ∷ items) own = (refl, own_none (at + 1) items own)
-own_none at (entry (Notes first lines) ∷ items) own = absurd (let lt = own.0.1 in omega arith)
-own_none at (stop faults torn ∷ items) own = own_none (at + 1) items own
+own_none at (recorded.Entry (Rec till serial sealed) ∷ items) own = (refl, own_none (at + 1) items own)
+own_none at (recorded.Entry (Notes first lines) ∷ items) own = absurd (let lt = own.0.1 in omega arith)
+own_none at (recorded.Stop faults torn ∷ items) own = own_none (at + 1) items own
 
 one_place : (p at : ℕ) → Contains (p ∷ []) at → p ≡ at
 one_place p at (k, lt, is) = let z : k ≡ 0 = omega arith in subst (λ (j : ℕ). get_or (p ∷ []) j at ≡ at) z is
@@ -28,9 +30,9 @@ one_place p at (k, lt, is) = let z : k ≡ 0 = omega arith in subst (λ (j : ℕ
 -- one place behind them
 own_before : (p at : ℕ) (items last : List Item) → p ≡ at + length items → AreOwnNotes (p ∷ []) at (items ++ last) → AreRecords (entries_of items)
 own_before p at [] last e own = tt
-own_before p at (entry (Rec till serial sealed) ∷ items) last e own = (refl, own_before p (at + 1) items last (omega arith) own)
-own_before p at (entry (Notes first lines) ∷ items) last e own = absurd (let same = one_place p at own.0 in omega arith)
-own_before p at (stop faults torn ∷ items) last e own = own_before p (at + 1) items last (omega arith) own
+own_before p at (recorded.Entry (Rec till serial sealed) ∷ items) last e own = (refl, own_before p (at + 1) items last (omega arith) own)
+own_before p at (recorded.Entry (Notes first lines) ∷ items) last e own = absurd (let same = one_place p at own.0 in omega arith)
+own_before p at (recorded.Stop faults torn ∷ items) last e own = own_before p (at + 1) items last (omega arith) own
 
 past_none : (own : List ℕ) → drop (length own) own ≡ []
 past_none own = drop-length own

@@ -8,12 +8,12 @@ use Rattle.record_codec.specs.declared.entries.Entry.TheVariants.{Notes}
 use Rattle.shop_core.specs.Answer.{answer, MakesRecords}
 use Rattle.shop_core.specs.Asked.{Asked, IsAsked}
 use Rattle.shop_core.specs.History.{noted}
-use Rattle.shop_core.specs.Legal.{Legal, GoesOn}
+use Rattle.shop_core.specs.Legal.{Legal, GoesOn, MadeContinues}
 use Rattle.shop_core.specs.Sales.{SalesAreNew}
 use Rattle.shop_core.specs.declared.answers.Planned.{Planned}
 use Rattle.shop_core.specs.declared.answers.Planned.TheVariants.{Again, Refused, Made}
 use Rattle.agency_rules.specs.declared.plans.Plan.{Plan}
-use Rattle.once_world.specs.Laws.{IsEvent, IsSound, MadeContinues, EveryWorldIsSound}
+use Rattle.once_world.specs.Laws.{IsEvent, IsSound, EveryWorldIsSound}
 use Rattle.once_world.specs.World.{empty, appended, torn, may_send, after_send, after_delivery, after_look, after_note, torn_note, reopened, happens, happen, world}
 use Rattle.once_world.specs.declared.events.Event.{Event}
 use Rattle.once_world.specs.declared.events.Event.TheVariants as event

@@ -6,11 +6,10 @@ use Rattle.record_fields.specs.declared.lines.Line.{Line}
 use Rattle.record_codec.specs.declared.entries.Entry.{Entry}
 use Rattle.record_codec.specs.declared.entries.Entry.TheVariants.{Notes}
 use Rattle.shop_core.specs.History.{recs, noted, is_record, waiting}
-use Rattle.shop_core.specs.Answer.{answer}
-use Rattle.shop_core.specs.Asked.{Asked, IsAsked}
-use Rattle.shop_core.specs.Items.{Item, entries_of}
-use Rattle.shop_core.specs.Legal.{Legal, Continues}
-use Rattle.shop_core.specs.declared.answers.Planned.TheVariants.{Made}
+use Rattle.shop_core.specs.Asked.{IsAsked}
+use Rattle.shop_core.specs.Items.{entries_of}
+use Rattle.shop_core.specs.declared.items.Item.{Item}
+use Rattle.shop_core.specs.Legal.{Legal}
 use Rattle.agency_rules.specs.Delivery.{delivered, delivered_all, line_of}
 use Rattle.agency_rules.specs.declared.plans.Plan.{Plan}
 use Rattle.agency_rules.specs.declared.plans.PlannedVerdict.{PlannedVerdict}
@@ -115,12 +114,6 @@ pub record IsSound (issuer : List ℕ) (w : World) : Type 0 where
   pub learnt : IsLearnt w.state.entries w.processed w.learnt
   pub once : AreOnce w.processed
   pub sales : HasNoRefusedSale w.processed
-
--- what an answer makes for an ask in its ranges continues the history
-abbrev pub MadeContinues : Type 0
-MadeContinues =
-    (issuer : List ℕ) (entries : List Entry) (ask : Asked) (seconds : ℕ) (entry : Entry) → Legal issuer entries → IsAsked ask
-    → answer issuer entries ask seconds ≡ Made entry → Continues issuer entries entry
 
 -- whatever the issuer, the plan and the events
 abbrev pub EveryWorldIsSound : Type 0

@@ -7,7 +7,9 @@ use Rattle.record_codec.specs.declared.entries.Entry.TheVariants.{Rec, Notes}
 use Rattle.journal.specs.declared.faults.StoreFault.{StoreFault}
 use Rattle.journal.specs.declared.faults.StoreFault.TheVariants.{DiskFault, Stopped, NoMemory}
 use Rattle.shop_core.specs.History.{recs, noted, waiting}
-use Rattle.shop_core.specs.Items.{Item, entry, stop, entries_of}
+use Rattle.shop_core.specs.Items.{entries_of}
+use Rattle.shop_core.specs.declared.items.Item.{Item}
+use Rattle.shop_core.specs.declared.items.Item.TheVariants as recorded
 use Rattle.shop_core.specs.Legal.{Legal}
 use Rattle.shop_core.specs.declared.waiting.Waiting.{Waiting}
 use Rattle.once_world.specs.Agreement.{IsPrefix}
@@ -43,8 +45,8 @@ notes_behind items lines = Notes (length (noted (entries_of items))) lines
 
 -- nothing has stopped the shop
 abbrev pub IsEntry : Item → Type 0
-IsEntry (entry e) = ⊤
-IsEntry (stop faults torn) = ⊥
+IsEntry (recorded.Entry e) = ⊤
+IsEntry (recorded.Stop faults torn) = ⊥
 
 abbrev pub HasNoStop : List Item → Type 0
 HasNoStop items = AllByRecursion IsEntry items
@@ -59,32 +61,32 @@ pub record AddsOwn (old new : Sight) (item : List Item → Item) : Type 0 where
 -- the stop that this call recorded, with the notes that may be in the file
 pub record StopsHere (old new : Sight) (lines : List Line) : Type 0 where
   pub faults : ℕ
-  pub adds : AddsOwn old new (λ items. stop faults (notes_behind items lines))
+  pub adds : AddsOwn old new (λ items. recorded.Stop faults (notes_behind items lines))
 
 -- the last item is a stop with this count, which an earlier call recorded: this one added nothing
 pub record HasStopped (old new : Sight) (faults : ℕ) : Type 0 where
   pub before : List Item
   pub torn : Entry
-  pub items : new.items ≡ before ++ stop faults torn ∷ []
+  pub items : new.items ≡ before ++ recorded.Stop faults torn ∷ []
   pub own : new.own ≡ old.own
 
 -- what a note of these lines adds
 abbrev pub NotedBy : Sight → Sight → List Line → Result (Unit {0}) StoreFault → Type 0
-NotedBy old new lines (Ok done) = AddsOwn old new (λ items. entry (notes_behind items lines))
+NotedBy old new lines (Ok done) = AddsOwn old new (λ items. recorded.Entry (notes_behind items lines))
 NotedBy old new lines (Err DiskFault) = StopsHere old new lines
 NotedBy old new lines (Err (Stopped faults)) = HasStopped old new faults
 NotedBy old new lines (Err NoMemory) = new.own ≡ old.own
 
 -- what is seen of a history without a stop
 abbrev pub plain_sight : List ℕ → List Entry → List ℕ → Sight
-plain_sight issuer entries own = record { issuer = issuer; items = map entry entries; own = own }
+plain_sight issuer entries own = record { issuer = issuer; items = map recorded.Entry entries; own = own }
 
 -- the notes among these items, the first of which stands at this place, stand at places of its own
 abbrev pub AreOwnNotes : List ℕ → ℕ → List Item → Type 0
 AreOwnNotes own at [] = ⊤
-AreOwnNotes own at (entry (Rec till serial sealed) ∷ items) = AreOwnNotes own (at + 1) items
-AreOwnNotes own at (entry (Notes first lines) ∷ items) = Contains own at × AreOwnNotes own (at + 1) items
-AreOwnNotes own at (stop faults torn ∷ items) = AreOwnNotes own (at + 1) items
+AreOwnNotes own at (recorded.Entry (Rec till serial sealed) ∷ items) = AreOwnNotes own (at + 1) items
+AreOwnNotes own at (recorded.Entry (Notes first lines) ∷ items) = Contains own at × AreOwnNotes own (at + 1) items
+AreOwnNotes own at (recorded.Stop faults torn ∷ items) = AreOwnNotes own (at + 1) items
 
 -- the shop gained no notes but its outbox's own
 abbrev pub GainsOwnNotes : Sight → Sight → Type 0

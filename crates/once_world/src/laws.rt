@@ -58,10 +58,11 @@ pub fn what_came_beside_is_records()
 /// learnt are the agency's next lines, each record is processed once, and no sale is refused because the register says
 /// otherwise.
 pub fn every_world_is_sound()
-    ensures { law.MadeContinues → law.EveryWorldIsSound }
+    ensures { law.EveryWorldIsSound }
 {
     legal_is_chained();
     a_sale_has_a_new_number();
     what_is_made_is_a_record();
     a_legal_history_goes_on();
+    what_is_made_continues();
 }

@@ -50,7 +50,8 @@ pub fn open_store<D: Disk, C: Clock>(
     ensures later { IfOk result (λ store. D.faults disk ≤ D.faults (disk_of (journal_of store))) }
 
     // What the file is, by the cause, and what the calls of the disk left of it.
-    ensures left { IfErr result (λ fault. IsTrue D.tells → IsLeftUnopened issuer.now fault.cause (D.told disk) (D.told fault.disk)) }
+    ensures left { IfErr result (λ fault. IsTrue D.tells →
+        IsLeftUnopened issuer.now fault.cause (D.told disk) (D.told fault.disk)) }
     ensures disk_fault { IfErr result (λ fault. fault.cause ≡ cause.DiskFault → Rose (D.faults disk) (D.faults fault.disk)) }
     ensures clock_err { IfErr result (λ fault. fault.clock ≡ clock) }
     ensures later_err { IfErr result (λ fault. D.faults disk ≤ D.faults fault.disk) }
@@ -119,13 +120,15 @@ fn begin<D: Disk, C: Clock>(
     ensures ready { IfOk result (λ store. Ready D.tells D.told store) }
     ensures going_on { IfOk result (λ store. stopped_of (journal_of store) ≡ None) }
     ensures no_torn { IfOk result (λ store. torn_of store ≡ None) }
-    ensures empty { IfOk result (λ store. ((state_of store).issuer ≡ issuer.now) × ((state_of store).entries ≡ []) × (clock_of store ≡ clock)) }
+    ensures empty { IfOk result (λ store. ((state_of store).issuer ≡ issuer.now) × ((state_of store).entries ≡ [])
+        × (clock_of store ≡ clock)) }
     ensures every_crash { IfOk result (λ store. IsTrue D.tells →
         LeavesNow (D.told (disk_of (journal_of store))) (StandsFor issuer.now (state_of store).entries)) }
     ensures any_moment { IfOk result (λ store. IsTrue D.tells →
         LeavesOnly (D.told disk) (D.told (disk_of (journal_of store))) (IsFound issuer.now (state_of store).entries)) }
     ensures in_part { IfErr result (λ fault. IsTrue D.tells → IsBegunInPart issuer.now (D.told disk) (D.told fault.disk)) }
-    ensures lost { IfErr result (λ fault. (fault.cause ≡ cause.DiskFault) × Rose (D.faults disk) (D.faults fault.disk) × (fault.clock ≡ clock)) }
+    ensures lost { IfErr result (λ fault. (fault.cause ≡ cause.DiskFault) × Rose (D.faults disk) (D.faults fault.disk)
+        × (fault.clock ≡ clock)) }
     ensures later { IfOk result (λ store. D.faults disk ≤ D.faults (disk_of (journal_of store))) }
     ensures later_err { IfErr result (λ fault. D.faults disk ≤ D.faults fault.disk) }
 {

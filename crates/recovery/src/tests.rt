@@ -313,14 +313,6 @@ fn files_that_are_damaged_or_of_another(rt: HostRuntime) -> Result<(), Fail> {
     // The header, a frame of five bytes and 73 bytes of body, and the closing gate.
     assert_eq!(rt; len, 98);
     assert_eq!(rt; cause_of(alloc, front(&room, 98)?)?, None);
-    assert_eq!(rt;
-        cause_of(alloc, front(&room, 19)?)?,
-        Some(OpenCause::Damaged { at: 19 })
-    );
-    assert_eq!(rt;
-        cause_of(alloc, &[0; 21])?,
-        Some(OpenCause::Damaged { at: 0 })
-    );
     assert_eq!(rt; cause_of(alloc, &[0; 20])?, None);
     let held = issuer("89890001K")?;
     let other = issuer("12345678Z")?;

@@ -16,7 +16,7 @@ else_part : {A : Type 0} (b : Bool) (x y : A) → b ≡ false → cond b x y ≡
 else_part true x y e = absurd cc
 else_part false x y e = refl
 
-at_next : {A : Type 0} (xs : List A) (k : ℕ) → at_place xs (k + 1) ≡ slice_get xs k
+pub at_next : {A : Type 0} (xs : List A) (k : ℕ) → at_place xs (k + 1) ≡ slice_get xs k
 at_next xs k = else_part (eqb (k + 1) 0) None (slice_get xs (k + 1 - 1)) (not_zero (k + 1) (omega arith)) ∙ (let e : k + 1 - 1 ≡ k = omega arith in ap (slice_get xs) e)
 
 same_some : {A : Type 0} (x y : A) → ◌≡◌ {A = Option A} (Some x) (Some y) → x ≡ y

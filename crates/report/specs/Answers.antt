@@ -12,7 +12,7 @@ use Rattle.shop_core.specs.declared.answers.Refusal.TheVariants.{Passed, BadDraf
 use Rattle.shop_core.specs.declared.answers.Reply.{Reply}
 use Rattle.shop_core.specs.declared.answers.Reply.TheVariants.{Taken, Again, Refused}
 use Rattle.report.specs.declared.answers.AnswerLine.{AnswerLine}
-use Rattle.report.specs.declared.answers.AnswerLine.TheVariants.{Answered}
+use Rattle.report.specs.declared.answers.AnswerLine.TheVariants.{Answered, Saw}
 
 -- PLACE NUM HUELLA
 abbrev pub receipt_text : Receipt → List ℕ
@@ -52,10 +52,11 @@ abbrev pub told_text : Result Reply StoreFault → List ℕ
 told_text (Ok reply) = reply_text reply
 told_text (Err fault) = codes "fault " ++ store_fault_text fault
 
--- till T serial S ANSWER
+-- till T serial S ANSWER, or till T saw N
 abbrev pub answer_line : AnswerLine → List ℕ
 answer_line (Answered till serial told) =
     codes "till " ++ decimal till ++ codes " serial " ++ decimal serial ++ codes " " ++ told_text told ++ codes "\n"
+answer_line (Saw till count) = codes "till " ++ decimal till ++ codes " saw " ++ decimal count ++ codes "\n"
 
 -- a line for each answer, in order
 abbrev pub answers_text : List AnswerLine → List ℕ

@@ -1,5 +1,7 @@
 -- What is said on standard error of each end. The texts are this project's own.
 use Rattle.std.specs.Prelude.{ℕ, List, [], ◌++◌, codes, decimal}
+use Rattle.agency_port.specs.declared.turns.Evidence.{Evidence}
+use Rattle.agency_port.specs.declared.turns.Evidence.TheVariants.{Hole, Forgotten}
 use Rattle.shop_core.specs.declared.words.Word.{Word}
 use Rattle.shop_core.specs.declared.words.Word.TheVariants as word
 use Rattle.shop_core.specs.declared.audits.What.{What}
@@ -36,6 +38,19 @@ bad_line_text line fault = decimal line ++ codes " " ++ word_text fault ++ codes
 abbrev pub damage_text : ℕ → List ℕ
 damage_text at = codes "verifactu: damaged at " ++ decimal at ++ codes "\n"
 
+-- NOTED of RECORDS
+abbrev pub counts_text : ℕ → ℕ → List ℕ
+counts_text noted records = decimal noted ++ codes " of " ++ decimal records ++ codes "\n"
+
+-- the place of the record that the agency says it hasn't seen
+abbrev pub unseen_place : Evidence → ℕ
+unseen_place (Hole unseen seen) = unseen
+unseen_place (Forgotten place said) = place
+
+-- PLACE
+abbrev pub place_text : ℕ → List ℕ
+place_text place = decimal place ++ codes "\n"
+
 -- PLACE WHAT
 abbrev pub break_text : ℕ → What → List ℕ
 break_text place what = decimal place ++ codes " " ++ what_text what ++ codes "\n"
@@ -53,8 +68,10 @@ fault_text detail.ReadFault = codes "verifactu: read fault\n"
 fault_text detail.WriteFault = codes "verifactu: write fault\n"
 fault_text detail.DiskFault = codes "verifactu: disk fault\n"
 fault_text (detail.Damaged at) = damage_text at
+fault_text (detail.Undelivered noted records) = codes "verifactu: undelivered " ++ counts_text noted records
 fault_text (detail.Broken place what) = codes "verifactu: broken " ++ break_text place what
 fault_text detail.NoMemory = codes "verifactu: no memory\n"
+fault_text (detail.Contradiction evidence) = codes "verifactu: contradiction at " ++ place_text (unseen_place evidence)
 fault_text detail.TooBig = codes "verifactu: input too big\n"
 fault_text (detail.OtherIssuer held) = codes "verifactu: file of " ++ nif_line held
 fault_text detail.Unknown = codes "verifactu: no such invoice\n"

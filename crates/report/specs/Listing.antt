@@ -20,6 +20,7 @@ use Rattle.record_fields.specs.declared.records.Sealed.{Sealed}
 use Rattle.huella.specs.FieldText.{huella_text}
 use Rattle.record_codec.specs.declared.entries.Entry.{Entry}
 use Rattle.shop_core.specs.History.{recs, noted, line_at}
+use Rattle.report.specs.Chain.{chain_line}
 
 abbrev pub flag_text : Bool → List ℕ
 flag_text true = codes "S"
@@ -75,10 +76,6 @@ record_line place s line =
 abbrev pub listing : List Entry → List ℕ
 listing entries = flat_map (λ (p : ℕ × Sealed). record_line p.0 p.1 (line_at entries p.0)) (enumerate_from 1 (recs entries))
 
--- chain RECORDS noted NOTED
-abbrev pub chain_line : List Entry → List ℕ
-chain_line entries = codes "chain " ++ decimal (length (recs entries)) ++ codes " noted " ++ decimal (length (noted entries)) ++ codes "\n"
-
 -- the listing and the chain line
 abbrev pub listing_text : List Entry → List ℕ
-listing_text entries = listing entries ++ chain_line entries
+listing_text entries = listing entries ++ chain_line (length (recs entries)) (length (noted entries))

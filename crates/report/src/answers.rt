@@ -19,6 +19,11 @@ pub enum AnswerLine {
         serial: u32,
         reply: Result<Reply, StoreFault>,
     },
+    /// How many items of the shop's list a till had seen when its commands were done.
+    Saw {
+        till: u8,
+        count: u64,
+    },
 }
 
 /// Answers, in the order in which they are printed.
@@ -147,6 +152,11 @@ fn put_answer(text: &mut Vec<u8>, answer: &AnswerLine) -> Result<(), AllocError>
             put_counted(text, b" serial ", u64::from(*serial))?;
             put(text, b" ")?;
             put_told(text, reply)?;
+            put(text, b"\n")
+        }
+        AnswerLine::Saw { till, count } => {
+            put_counted(text, b"till ", u64::from(*till))?;
+            put_counted(text, b" saw ", *count)?;
             put(text, b"\n")
         }
     }

@@ -2,6 +2,7 @@
 ghost use Rattle.std.specs.Prelude.{◌≡◌};
 ghost use Rattle.report.specs.Statuses.{status_of};
 
+use agency_port::Evidence;
 use parties::Nif;
 use shop_core::{What, Word};
 
@@ -22,10 +23,14 @@ pub enum Detail {
     DiskFault,
     /// The file is damaged at this byte.
     Damaged { at: u64 },
+    /// The sender gave up: so many lines are noted, of so many records.
+    Undelivered { noted: u32, records: u32 },
     /// The file is broken at this place, counted from 1, and this is the first thing that is wrong there.
     Broken { place: u32, what: What },
     /// A growth was refused.
     NoMemory,
+    /// The agency contradicts itself.
+    Contradiction(Evidence),
     /// The source gave more than 16,777,216 bytes.
     TooBig,
     /// The file holds the chain of another issuer, this one.
@@ -53,8 +58,10 @@ pub fn status_of(detail: &Detail) -> u8
         Detail::WriteFault => 5,
         Detail::DiskFault => 6,
         Detail::Damaged { .. } => 7,
+        Detail::Undelivered { .. } => 8,
         Detail::Broken { .. } => 9,
         Detail::NoMemory => 10,
+        Detail::Contradiction(_) => 11,
         Detail::TooBig => 12,
         Detail::OtherIssuer { .. } => 13,
         Detail::Unknown => 14,

@@ -5,6 +5,7 @@ ghost use Rattle.report.specs.Faults as spec;
 use crate::Detail;
 use crate::pieces::{put, put_counted, put_number};
 use crate::verdicts::what_text;
+use agency_port::Evidence;
 use parties::Nif;
 use ports::NoMemory;
 use record_fields::Text;
@@ -53,6 +54,31 @@ fn put_damage(text: &mut Vec<u8>, at: u64) -> Result<(), AllocError>
     put(text, b"\n")
 }
 
+fn put_counts(text: &mut Vec<u8>, noted: u32, records: u32) -> Result<(), AllocError>
+    ensures { OnOk result (text.new.items ≡ text.old.items ++ spec.counts_text noted records) }
+{
+    put_number(text, u64::from(noted))?;
+    put(text, b" of ")?;
+    put_number(text, u64::from(records))?;
+    put(text, b"\n")
+}
+
+fn unseen_place(evidence: Evidence) -> u32
+    ensures { result ≡ spec.unseen_place evidence }
+{
+    match evidence {
+        Evidence::Hole { unseen, .. } => unseen,
+        Evidence::Forgotten { place, .. } => place,
+    }
+}
+
+fn put_place(text: &mut Vec<u8>, evidence: Evidence) -> Result<(), AllocError>
+    ensures { OnOk result (text.new.items ≡ text.old.items ++ spec.place_text (spec.unseen_place evidence)) }
+{
+    put_number(text, u64::from(unseen_place(evidence)))?;
+    put(text, b"\n")
+}
+
 fn put_broken(text: &mut Vec<u8>, place: u32, what: What) -> Result<(), AllocError>
     ensures { OnOk result (text.new.items ≡ text.old.items ++ spec.break_text place what) }
 {
@@ -83,11 +109,19 @@ fn put_fault(text: &mut Vec<u8>, detail: &Detail) -> Result<(), AllocError>
         Detail::WriteFault => put(text, b"verifactu: write fault\n"),
         Detail::DiskFault => put(text, b"verifactu: disk fault\n"),
         Detail::Damaged { at } => put_damage(text, *at),
+        Detail::Undelivered { noted, records } => {
+            put(text, b"verifactu: undelivered ")?;
+            put_counts(text, *noted, *records)
+        }
         Detail::Broken { place, what } => {
             put(text, b"verifactu: broken ")?;
             put_broken(text, *place, *what)
         }
         Detail::NoMemory => put(text, b"verifactu: no memory\n"),
+        Detail::Contradiction(evidence) => {
+            put(text, b"verifactu: contradiction at ")?;
+            put_place(text, *evidence)
+        }
         Detail::TooBig => put(text, b"verifactu: input too big\n"),
         Detail::OtherIssuer { held } => {
             put(text, b"verifactu: file of ")?;

@@ -2,12 +2,12 @@
 ghost use Rattle.std.specs.Prelude.{◌≡◌, ◌++◌, OnOk, IfOk};
 ghost use Rattle.report.specs.Listing as spec;
 
-use crate::pieces::{put, put_number};
+use crate::pieces::put_chain_line;
 use crate::records::put_record;
 use ports::NoMemory;
 use record_fields::Text;
 use shop_core::State;
-use std::alloc::{AllocError, Global};
+use std::alloc::Global;
 
 fn put_listing(alloc: Global, text: &mut Vec<u8>, state: &State) -> Result<(), NoMemory>
     ensures { OnOk result (text.new.items ≡ text.old.items ++ spec.listing state.now.entries) }
@@ -22,22 +22,12 @@ fn put_listing(alloc: Global, text: &mut Vec<u8>, state: &State) -> Result<(), N
     Ok(())
 }
 
-fn put_chain_line(text: &mut Vec<u8>, state: &State) -> Result<(), AllocError>
-    ensures { OnOk result (text.new.items ≡ text.old.items ++ spec.chain_line state.now.entries) }
-{
-    put(text, b"chain ")?;
-    put_number(text, u64::from(state.records()))?;
-    put(text, b" noted ")?;
-    put_number(text, u64::from(state.noted()))?;
-    put(text, b"\n")
-}
-
 /// A line for each record, in order of their places, and the chain line.
 pub fn listing_text(alloc: Global, state: &State) -> Result<Text, NoMemory>
     ensures { IfOk result (λ text. text ≡ spec.listing_text state.now.entries) }
 {
     let mut text = Vec::new(alloc);
     put_listing(alloc, &mut text, state)?;
-    put_chain_line(&mut text, state)?;
+    put_chain_line(&mut text, state.records(), state.noted())?;
     Ok(Text::of(text))
 }

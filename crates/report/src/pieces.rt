@@ -2,6 +2,7 @@
 ghost use Rattle.std.specs.Prelude.{◌≡◌, ◌++◌, OnOk, decimal};
 ghost use Rattle.std.specs.Fmt.{signed_decimal};
 ghost use Rattle.huella.specs.FieldText.{huella_text};
+ghost use Rattle.report.specs.Chain.{chain_line, chain_text};
 
 use huella::huella_text;
 use itoa::Buffer;
@@ -41,4 +42,20 @@ pub fn put_huella(text: &mut Vec<u8>, huella: &[u8; 32]) -> Result<(), AllocErro
     ensures { OnOk result (text.new.items ≡ text.old.items ++ huella_text huella.now) }
 {
     text.extend_from_slice(huella_text(huella).as_slice())
+}
+
+/// How many records and noted lines there are.
+pub fn put_chain(text: &mut Vec<u8>, records: u32, noted: u32) -> Result<(), AllocError>
+    ensures { OnOk result (text.new.items ≡ text.old.items ++ chain_text records noted) }
+{
+    put_counted(text, b"chain ", u64::from(records))?;
+    put_counted(text, b" noted ", u64::from(noted))
+}
+
+/// The same as a line.
+pub fn put_chain_line(text: &mut Vec<u8>, records: u32, noted: u32) -> Result<(), AllocError>
+    ensures { OnOk result (text.new.items ≡ text.old.items ++ chain_line records noted) }
+{
+    put_chain(text, records, noted)?;
+    put(text, b"\n")
 }

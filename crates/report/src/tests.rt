@@ -1,7 +1,9 @@
 // The Huellas of the listing are SHA-256, by another program, of the field texts of these records.
 use crate::{
-    AnswerLine, Answers, Detail, answers_text, fault_text, listing_text, status_of, verdict_text,
+    AnswerLine, Answers, Detail, answers_text, fault_text, listing_text, status_of, turns_text,
+    verdict_text,
 };
+use agency_port::{Evidence, ReplyLine, Told, Turns};
 use amounts::Cents;
 use invoice_kinds::Kind;
 use journal::StoreFault;
@@ -51,7 +53,20 @@ till 64 serial 4294967295 refused clock 1704067199\n\
 till 64 serial 4294967295 refused twice 12\n\
 till 64 serial 4294967295 fault disk\n\
 till 64 serial 4294967295 fault stopped 18446744073709551615\n\
-till 64 serial 4294967295 fault memory\n";
+till 64 serial 4294967295 fault memory\n\
+till 64 saw 18446744073709551615\n";
+
+const TURNS: &str = "\
+wait 18446744073709551615\n\
+noted 1000\n\
+cleared\n\
+doubt 1000000\n\
+link\n\
+contradiction\n\
+fault disk\n\
+fault stopped 18446744073709551615\n\
+fault memory\n\
+chain 1000000 noted 7\n";
 
 fn issuer() -> Result<Nif, Fail> {
     match Nif::read("89890001K") {
@@ -220,6 +235,10 @@ fn answers_have_lines(rt: HostRuntime) -> Result<(), Fail> {
         answered(Err(StoreFault::DiskFault)),
         answered(Err(StoreFault::Stopped { faults: u64::MAX })),
         answered(Err(StoreFault::NoMemory)),
+        AnswerLine::Saw {
+            till: 64,
+            count: u64::MAX,
+        },
     ];
     let answers = Answers::of(Vec::from_slice(alloc, &lines)?);
     let text = answers_text(alloc, &answers)?;
@@ -230,12 +249,46 @@ fn answers_have_lines(rt: HostRuntime) -> Result<(), Fail> {
 }
 
 #[test]
+fn turns_have_lines(rt: HostRuntime) -> Result<(), Fail> {
+    let alloc = rt.alloc();
+    let told = [
+        Told::Wait(u64::MAX),
+        Told::Noted(1000),
+        Told::Cleared,
+        Told::Doubt(1_000_000),
+        Told::Link,
+        Told::Contradiction,
+        Told::Disk,
+        Told::Stopped(u64::MAX),
+        Told::Memory,
+    ];
+    let turns = Turns::of(Vec::from_slice(alloc, &told)?);
+    let text = turns_text(alloc, &turns, 1_000_000, 7)?;
+    assert_eq!(rt; text.as_slice(), TURNS.as_bytes());
+    let none = turns_text(alloc, &Turns::new(alloc), 0, 0)?;
+    assert_eq!(rt; none.as_slice(), b"chain 0 noted 0\n".as_slice());
+    Ok(())
+}
+
+#[test]
 fn ends_have_texts(rt: HostRuntime) -> Result<(), Fail> {
     let bad_line = Detail::Script {
         line: 16_777_217,
         fault: Word::TooMany,
     };
     let held = issuer()?;
+    let undelivered = Detail::Undelivered {
+        noted: 7,
+        records: 1_000_000,
+    };
+    let hole = Evidence::Hole {
+        unseen: 12,
+        seen: 13,
+    };
+    let forgotten = Evidence::Forgotten {
+        place: 1_000_000,
+        said: ReplyLine::First(Line::Correcto),
+    };
     let rows = [
         (Detail::Done, 0, ""),
         (Detail::Usage, 2, "verifactu: usage\n"),
@@ -251,6 +304,17 @@ fn ends_have_texts(rt: HostRuntime) -> Result<(), Fail> {
             },
             9,
             "verifactu: broken 1 seal\n",
+        ),
+        (undelivered, 8, "verifactu: undelivered 7 of 1000000\n"),
+        (
+            Detail::Contradiction(hole),
+            11,
+            "verifactu: contradiction at 12\n",
+        ),
+        (
+            Detail::Contradiction(forgotten),
+            11,
+            "verifactu: contradiction at 1000000\n",
         ),
         (Detail::NoMemory, 10, "verifactu: no memory\n"),
         (Detail::TooBig, 12, "verifactu: input too big\n"),

@@ -20,7 +20,9 @@ OneDamage = (file : List ℕ) (at place : ℕ) → IsDamagedFile file at → IsD
 
 -- a file that stands for a history is not damaged
 abbrev pub SoundOrDamaged : Type 0
-SoundOrDamaged = (issuer : List ℕ) (entries : List Entry) (file : List ℕ) (at : ℕ) → StandsFor issuer entries file → IsDamagedFile file at → ⊥
+SoundOrDamaged =
+    (issuer : List ℕ) (entries : List Entry) (file : List ℕ) (at : ℕ) →
+    StandsFor issuer entries file → IsDamagedFile file at → ⊥
 
 -- a file that isn't begun stands for no history and is not damaged
 abbrev pub NotBegunIsNeither : Type 0
@@ -31,7 +33,8 @@ NotBegunIsNeither =
 -- a file is sound up to this place, and no entry that continues its history follows there
 pub record StopsAt (issuer : List ℕ) (entries : List Entry) (at : ℕ) (file : List ℕ) : Type 0 where
   pub sound : IsSoundUpTo issuer entries at file
-  pub ends : (entry : Entry) (body : List ℕ) → IsCounted (drop at file) body → IsEncoding issuer entry body → Continues issuer entries entry → ⊥
+  pub ends : (entry : Entry) (body : List ℕ) →
+      IsCounted (drop at file) body → IsEncoding issuer entry body → Continues issuer entries entry → ⊥
 
 -- a file stops at one place
 abbrev pub OneStop : Type 0
@@ -53,10 +56,12 @@ SoundBegins = (issuer file : List ℕ) → IsBegun issuer file → IsSoundUpTo i
 abbrev pub SoundGoesOn : Type 0
 SoundGoesOn =
     (issuer : List ℕ) (entries : List Entry) (at : ℕ) (file body : List ℕ) (entry : Entry) →
-    IsSoundUpTo issuer entries at file → IsCounted (drop at file) body → IsEncoding issuer entry body → Continues issuer entries entry →
+    IsSoundUpTo issuer entries at file → IsCounted (drop at file) body → IsEncoding issuer entry body →
+    Continues issuer entries entry →
     IsSoundUpTo issuer (entries ++ entry ∷ []) (at + 5 + length body) file
 
 -- and it stands for the history where a closed gate follows
 abbrev pub SoundEnds : Type 0
 SoundEnds =
-    (issuer : List ℕ) (entries : List Entry) (at : ℕ) (file : List ℕ) → IsSoundUpTo issuer entries at file → IsClosed (drop at file) → StandsFor issuer entries file
+    (issuer : List ℕ) (entries : List Entry) (at : ℕ) (file : List ℕ) →
+    IsSoundUpTo issuer entries at file → IsClosed (drop at file) → StandsFor issuer entries file

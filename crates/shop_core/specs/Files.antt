@@ -41,11 +41,12 @@ pub record IsSoundUpTo (issuer : List ℕ) (entries : List Entry) (at : ℕ) (fi
 -- entry, or whose entry doesn't continue the history before it.
 pub data IsDamagedFile (file : List ℕ) : ℕ → Type 0 where
   in_header : (at : ℕ) → IsHeaderDamaged file at → IsDamagedFile file at
-  no_frame : (issuer : List ℕ) (entries : List Entry) (at : ℕ) → IsSoundUpTo issuer entries at file → IsDamaged (drop at file) → IsDamagedFile file at
+  no_frame : (issuer : List ℕ) (entries : List Entry) (at : ℕ) → IsSoundUpTo issuer entries at file → IsDamaged (drop at file) →
+      IsDamagedFile file at
   no_entry : (issuer : List ℕ) (entries : List Entry) (at : ℕ) (body : List ℕ) → IsSoundUpTo issuer entries at file →
       IsCounted (drop at file) body → ((entry : Entry) → IsEncoding issuer entry body → ⊥) → IsDamagedFile file at
-  not_next : (issuer : List ℕ) (entries : List Entry) (at : ℕ) (body : List ℕ) (entry : Entry) → IsSoundUpTo issuer entries at file →
-      IsCounted (drop at file) body → IsEncoding issuer entry body → (Continues issuer entries entry → ⊥) → IsDamagedFile file at
+  not_next : (issuer : List ℕ) (entries : List Entry) (at : ℕ) (body : List ℕ) (entry : Entry) →
+      IsSoundUpTo issuer entries at file → IsCounted (drop at file) body → IsEncoding issuer entry body → (Continues issuer entries entry → ⊥) → IsDamagedFile file at
 
 -- the file stands for the history from before, or for that with this entry
 abbrev pub StandsBeforeOrWith : List ℕ → List Entry → Entry → List ℕ → Type 0

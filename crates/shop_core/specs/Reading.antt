@@ -33,16 +33,18 @@ word_of break.Rule = what.Rule
 -- gate of the first frame that is none, whose body is no encoding of an entry, or whose entry doesn't continue the history.
 pub data IsRead (file : List ℕ) : FileRead → Type 0 where
   not_begun : IsNotBegun file → IsRead file NotBegun
-  stands : (history : History) (end : ℕ) → StandsFor history.issuer history.entries file → end ≡ closing_gate (bodies_of history.entries) →
-      IsRead file (Sound history end)
+  stands : (history : History) (end : ℕ) → StandsFor history.issuer history.entries file →
+      end ≡ closing_gate (bodies_of history.entries) → IsRead file (Sound history end)
   in_header : (at : ℕ) → IsHeaderDamaged file at → IsRead file (Broken 1 at what.Header)
   no_frame : (issuer : List ℕ) (entries : List Entry) (at : ℕ) → IsSoundUpTo issuer entries at file → IsDamaged (drop at file) →
       IsRead file (Broken (next_place entries) at what.Frame)
   no_entry : (issuer : List ℕ) (entries : List Entry) (at : ℕ) (body : List ℕ) → IsSoundUpTo issuer entries at file →
-      IsCounted (drop at file) body → ((entry : Entry) → IsEncoding issuer entry body → ⊥) → IsRead file (Broken (next_place entries) at what.Body)
+      IsCounted (drop at file) body → ((entry : Entry) → IsEncoding issuer entry body → ⊥) →
+      IsRead file (Broken (next_place entries) at what.Body)
   not_next : (issuer : List ℕ) (entries : List Entry) (at : ℕ) (body : List ℕ) (entry : Entry) (why : Break) →
       IsSoundUpTo issuer entries at file → IsCounted (drop at file) body → IsEncoding issuer entry body →
-      (Continues issuer entries entry → ⊥) → IsBreak issuer entries entry (Some why) → IsRead file (Broken (next_place entries) at (word_of why))
+      (Continues issuer entries entry → ⊥) → IsBreak issuer entries entry (Some why) →
+      IsRead file (Broken (next_place entries) at (word_of why))
 
 -- a file that is read as broken is damaged at that byte
 abbrev pub BrokenIsDamaged : Type 0

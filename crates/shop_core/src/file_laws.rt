@@ -1,10 +1,11 @@
 // What holds of the file's definitions alone.
-ghost use Rattle.shop_core.specs.FileLaws.{OneHistory, OneDamage, SoundOrDamaged, NotBegunIsNeither, OneStop, StopsAtItsGate, SoundBegins, SoundGoesOn, SoundEnds};
+ghost use Rattle.shop_core.specs.FileLaws.{NotBegunIsNeither, OneDamage, OneHistory, OneStop, SoundOrDamaged, StopsAtItsGate};
+ghost use Rattle.shop_core.specs.FileLaws.{SoundBegins, SoundEnds, SoundGoesOn};
 
+use crate::a_legal_history_goes_on;
 use frames::bytes_begin_with_one_frame;
 use journal::{a_file_has_one_header, a_file_is_walked, walks_over_a_file_agree};
 use record_codec::encodings_are_apart;
-use crate::a_legal_history_goes_on;
 
 /// A file has one meaning: it stands for one history, or is damaged at one byte, or isn't begun.
 pub fn a_file_has_one_meaning()

@@ -30,6 +30,7 @@ pub enum FileRead {
 /// Why a file was not read to its end or its first break.
 #[derive(Clone, Copy, Debug, PartialEq, Eq)]
 pub enum ReadFault {
+    /// The disk's count of faults rose in this call.
     DiskFault,
     NoMemory,
 }
@@ -62,11 +63,7 @@ pub fn a_broken_file_is_damaged()
 {}
 
 // Reads the frames behind a sound header of this issuer.
-fn read_frames<D: Disk>(
-    alloc: Global,
-    disk: &mut D,
-    issuer: &Nif,
-) -> Result<FileRead, ReadFault>
+fn read_frames<D: Disk>(alloc: Global, disk: &mut D, issuer: &Nif) -> Result<FileRead, ReadFault>
     requires header { IsTrue D.tells → IsBegun issuer.now (D.told disk.old).content }
     ensures read { IfOk result (λ read. IsTrue D.tells → IsRead (D.told disk.old).content read) }
     ensures near { IfOk result HasNearGate }
@@ -158,7 +155,8 @@ fn add_entry(alloc: Global, state: &mut State, entry: Entry) -> Result<Option<Br
     ensures added { IfOk result (λ found. IfNone found (Continues state.old.issuer state.old.entries entry
         × (state.new.issuer ≡ state.old.issuer) × (state.new.entries ≡ state.old.entries ++ entry ∷ []))) }
     ensures broken { IfOk result (λ found. IfSome found (λ why. (state.new ≡ state.old)
-        × (Continues state.old.issuer state.old.entries entry → ⊥) × IsBreak state.old.issuer state.old.entries entry (Some why))) }
+        × (Continues state.old.issuer state.old.entries entry → ⊥)
+        × IsBreak state.old.issuer state.old.entries entry (Some why))) }
     ensures err { OnErr result (state.new ≡ state.old) }
 {
     if let Some(why) = next_fault(alloc, state, &entry)? {
