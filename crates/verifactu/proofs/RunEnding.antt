@@ -1,5 +1,5 @@
 -- How a run ends, and what its clause says of the whole call.
-use Rattle.std.proofs.Common.{◌≡◌, inl, inr, ◌⊎◌, ℕ, ◌+◌, ◌≤◌, List, [], ◌∷◌, ◌++◌, sym, ◌∙◌, ap, subst, refl, arith, Bool, true, false, IsTrue, Option, Some, None, Result, Ok, Err}
+use Rattle.std.proofs.Common.{◌≡◌, inl, inr, ◌⊎◌, ℕ, ◌+◌, ◌≤◌, List, [], ◌∷◌, sym, ◌∙◌, ap, subst, refl, arith, Bool, true, false, IsTrue, Option, Result, Ok, Err}
 use Rattle.std.specs.List.{list_any}
 use Rattle.chain_disk.specs.Runs.{started_settled, weaker}
 use Rattle.chain_disk.specs.Told.{Told, LeavesOnly, synced}
@@ -16,7 +16,6 @@ use Rattle.recovery.specs.Opening.{IsDiskLost, IsFound, IsLeftUnopened}
 use Rattle.recovery.specs.Opening.IsDiskLost.{not_synced, not_read, in_part}
 use Rattle.report.specs.declared.ended.Detail.{Detail}
 use Rattle.report.specs.declared.ended.Detail.TheVariants as detail
-use Rattle.script.specs.declared.scripts.Script.{Script}
 use Rattle.shop_core.specs.Asked.{Asked}
 use Rattle.huella.specs.Linked.{Linked}
 use Rattle.shop_core.specs.History.{recs}
@@ -27,10 +26,10 @@ use Rattle.shop_core.specs.declared.answers.Reply.{Reply}
 use Rattle.verifactu.specs.Crashes.{Kept, KeepsFile, StandsBetween}
 use Rattle.verifactu.specs.Printed.{printed}
 use Rattle.verifactu.specs.Readings.{IsComing, IsAsked, LeavesClock, readings, readings_of}
-use Rattle.verifactu.specs.Replies.{AllGoOn, AllReplied, StopsAt, StopsOnce, is_disk_fault, is_no_memory}
+use Rattle.verifactu.specs.Replies.{AllGoOn, AllReplied, StopsOnce, is_disk_fault, is_no_memory}
 use Rattle.ports.specs.Sinks.{FailedIn, OutputIs, Sinks, Wrote}
 use Rattle.chain_disk.specs.Disks.{DiskRose, Disks}
-use Rattle.verifactu.specs.Chain.{ChainEnds, NotOpened, Played, ReadAndRan, ScriptEnds, ScriptIs, no_script_end, opening_end}
+use Rattle.verifactu.specs.Chain.{ChainEnds, Played, ReadAndRan, ScriptEnds, ScriptIs, no_script_end, opening_end}
 use Rattle.verifactu.specs.Chain.ChainEnds.{ran, bad_line, read_fault, too_big, no_memory as unread_memory}
 use Rattle.verifactu.specs.Commands.{Answers, Stores}
 use Rattle.verifactu.specs.Devices.{Clocks, Devices, LeftClock, Untouched}

@@ -23,7 +23,7 @@ use Rattle.report.specs.declared.ended.Detail.{Detail}
 use Rattle.report.specs.declared.ended.Detail.TheVariants as detail
 use Rattle.verifactu.specs.Commands.{Answers, Stores}
 use Rattle.verifactu.specs.Crashes.{IsPrefix, Kept, KeepsFile, StandsSince}
-use Rattle.verifactu.specs.Devices.{Clocks, Devices, Untouched}
+use Rattle.verifactu.specs.Devices.{Devices, Untouched}
 use Rattle.verifactu.specs.Ending.{RunEnds}
 use Rattle.verifactu.specs.Input.{ReadAll, ReadPast, ReadFailed}
 use Rattle.verifactu.specs.Printed.{printed}

@@ -1,5 +1,5 @@
 -- The readings of the clock that a run's commands are answered by.
-use Rattle.std.specs.Prelude.{◌≡◌, ℕ, List, count_by, Bool, true, false, Option, Some, None, Result, Ok, Err}
+use Rattle.std.specs.Prelude.{◌≡◌, ℕ, count_by, Bool, true, false, Option, Some, None, Result, Ok, Err}
 use Rattle.ports.specs.Counting.{counting}
 use Rattle.ports.specs.Readings.{IsTold, MovedBy}
 use Rattle.journal.specs.declared.faults.StoreFault.{StoreFault}

@@ -188,15 +188,15 @@ fn run_opened<K: Sink, D: Disk, C: Clock>(
     requires none { replies.items ≡ [] }
     requires room { length asks.now ≤ vec_capacity replies }
     ensures { (end : List Entry) × StoreEnds asks.now (record {
-        issuer = (state_of store).issuer;
-        start = (state_of store).entries;
-        end = end;
-        tells = D.tells;
-        since = D.told (disk_of (journal_of store));
-        now = D.told result.1;
-        faults = D.faults (disk_of (journal_of store));
-        faults_after = D.faults result.1;
-        clock = this_clock C.coming (clock_of store) result.2;
+      issuer = (state_of store).issuer;
+      start = (state_of store).entries;
+      end = end;
+      tells = D.tells;
+      since = D.told (disk_of (journal_of store));
+      now = D.told result.1;
+      faults = D.faults (disk_of (journal_of store));
+      faults_after = D.faults result.1;
+      clock = this_clock C.coming (clock_of store) result.2;
     }) (this_sink K.taken K.faults sink.old sink.new) result.0 }
 {
     let mut store = store;

@@ -1,10 +1,10 @@
-use Rattle.std.proofs.Common.{rules, ◌≡◌, inl, inr, ℕ, List, [], sym, ap, subst, refl, IsTrue}
+use Rattle.std.proofs.Common.{rules, inl, inr, subst, refl}
 use Rattle.chain_disk.specs.Disks.{this_disk}
 use Rattle.chain_store.specs.Store.{state_of, journal_of, clock_of}
 use Rattle.file_commands.proofs.Bytewise.{took_nothing}
 use Rattle.journal.specs.Journal.{disk_of}
 use Rattle.ports.specs.Sinks.{this_sink}
-use Rattle.verifactu.specs.Chain.{NotOpened, ScriptEnds}
+use Rattle.verifactu.specs.Chain.{ScriptEnds}
 use Rattle.verifactu.specs.Commands.{Stores}
 use Rattle.verifactu.specs.Devices.{this_clock}
 use Rattle.verifactu.specs.Readings.{IsAsked, readings}

@@ -1,4 +1,4 @@
-use Rattle.std.proofs.Common.{◌≡◌, ℕ, List, sym, ap, subst, refl, Some, None, Option}
+use Rattle.std.proofs.Common.{ℕ, List, sym, subst, refl, Some, Option}
 use Rattle.chain_disk.specs.Disks.{this_disk}
 use Rattle.ports.specs.Counting.{counting}
 use Rattle.ports.specs.Sinks.{this_sink}
