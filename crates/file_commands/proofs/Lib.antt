@@ -1,3 +1,3 @@
 pub mod Bytewise
-pub mod FileEnding
-pub mod LastAltas
+pub mod Lasts
+pub mod FileReads

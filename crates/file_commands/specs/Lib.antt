@@ -1,6 +1,3 @@
 pub mod Output
-pub mod Disks
-pub mod LastAlta
-pub mod Commands
-pub mod Ends
-pub mod Opened
+pub mod Auditing
+pub mod Linking

@@ -1,12 +1,13 @@
-//! The commands that only read a shop's file, and the writing of a text to a sink.
+//! The commands that only read a shop's file, and the printing of a text. A command reads its file through the disk and prints
+//! to the sink that it is handed; it answers its end with the status, and gives the disk back.
 #![tactic(auto)]
 
 mod auditing;
+mod ends;
 mod linking;
-mod opened;
 mod output;
 
 pub use auditing::audit_cmd;
+pub use ends::ended_as;
 pub use linking::link_cmd;
-pub use opened::detail_of;
-pub use output::{write_text, write_texts};
+pub use output::{print, write_texts};

@@ -1,18 +1,18 @@
 // The command `link`: prints the verification link of an invoice.
-ghost use Rattle.std.specs.Prelude.{◌≡◌, ◌≤◌, IsTrue};
-ghost use Rattle.file_commands.specs.Commands.{LinkEnds, link_line};
-ghost use Rattle.file_commands.specs.Ends.{HistoryEnds, PrintEnds, entries_of};
+ghost use Rattle.std.specs.Prelude.{◌≡◌};
+ghost use Rattle.chain_disk.specs.Disks.{this_disk};
+ghost use Rattle.ports.specs.Sinks.{this_sink};
 ghost use Rattle.report.specs.Statuses.{status_of};
+ghost use Rattle.file_commands.specs.Linking.{LinkEnds, LinkedFrom};
 
-use crate::opened::detail_of;
-use crate::output::write_texts;
+use crate::ends::ended_as;
+use crate::output::print_line;
 use chain_disk::Disk;
-use chain_store::load;
 use ports::{NoMemory, Sink};
-use record_fields::{Alta, Record};
-use report::{Detail, Ended, status_of};
+use record_fields::Record;
+use report::{Detail, Ended};
 use series::NumSerie;
-use shop_core::State;
+use shop_core::{FileRead, ReadFault, State, a_broken_file_is_damaged, read_file};
 use std::alloc::Global;
 use verify_link::{Host, link_of};
 
@@ -26,14 +26,13 @@ pub fn link_cmd<K: Sink, D: Disk>(
     disk: D,
 ) -> (Ended, D)
     ensures status { result.0.status ≡ status_of result.0.detail }
-    ensures ends { LinkEnds num.now host (record { taken = K.taken sink.old; taken_after = K.taken sink.new; faults = K.faults sink.old; faults_after = K.faults sink.new })
-        (record { tells = D.tells; told = D.told; faults = D.faults; disk = disk; disk_after = result.1 }) result.0.detail }
+    ensures ends { LinkEnds num.now host (this_sink K.taken K.faults sink.old sink.new)
+        (this_disk D.tells D.told D.faults disk result.1) result.0.detail }
     ensures same { D.told result.1 ≡ D.told disk }
 {
     let mut disk = disk;
     let detail = linked(alloc, num, host, sink, &mut disk);
-    let status = status_of(&detail);
-    (Ended { status, detail }, disk)
+    (ended_as(detail), disk)
 }
 
 // Reads the history and prints the link.
@@ -44,48 +43,40 @@ fn linked<K: Sink, D: Disk>(
     sink: &mut K,
     disk: &mut D,
 ) -> Detail
-    ensures ends { LinkEnds num.now host (record { taken = K.taken sink.old; taken_after = K.taken sink.new; faults = K.faults sink.old; faults_after = K.faults sink.new })
-        (record { tells = D.tells; told = D.told; faults = D.faults; disk = disk.old; disk_after = disk.new }) result }
+    ensures ends { LinkEnds num.now host (this_sink K.taken K.faults sink.old sink.new)
+        (this_disk D.tells D.told D.faults disk.old disk.new) result }
     ensures same { D.told disk.new ≡ D.told disk.old }
 {
-    match load(alloc, disk) {
-        Err(cause) => detail_of(&cause),
-        Ok(loaded) => link_in(alloc, &loaded.state, num, host, sink),
+    a_broken_file_is_damaged();
+    match read_file(alloc, disk) {
+        Ok(FileRead::Sound { state, .. }) => link_in(alloc, &state, num, host, sink),
+        Ok(FileRead::NotBegun) => Detail::Unknown,
+        Ok(FileRead::Broken { at, .. }) => Detail::Damaged { at },
+        Err(ReadFault::DiskFault) => Detail::DiskFault,
+        Err(ReadFault::NoMemory) => Detail::NoMemory,
     }
 }
 
-// Prints the link of the last alta of this number in what was loaded.
+// Prints the link of the last alta of this number in the history.
 fn link_in<K: Sink>(
     alloc: Global,
-    state: &Option<State>,
+    state: &State,
     num: &NumSerie,
     host: Host,
     sink: &mut K,
 ) -> Detail
-    ensures { HistoryEnds (entries_of state.now) num.now host
-        (record { taken = K.taken sink.old; taken_after = K.taken sink.new; faults = K.faults sink.old; faults_after = K.faults sink.new }) result }
+    ensures { LinkedFrom state.now.entries num.now host (this_sink K.taken K.faults sink.old sink.new) result }
 {
-    let Some(state) = state else {
-        return Detail::Unknown;
+    let sealed = match state.last_alta(alloc, num) {
+        Ok(Some(sealed)) => sealed,
+        Ok(None) => return Detail::Unknown,
+        Err(NoMemory) => return Detail::NoMemory,
     };
-    match state.last_alta(alloc, num) {
-        Err(NoMemory) => Detail::NoMemory,
-        Ok(None) => Detail::Unknown,
-        Ok(Some(sealed)) => match &sealed.body {
-            Record::Alta(alta) => print_link(alloc, alta, host, sink),
-            Record::Anulacion(_) => unreachable!(),
-        },
-    }
-}
-
-fn print_link<K: Sink>(alloc: Global, alta: &Alta, host: Host, sink: &mut K) -> Detail
-    ensures { PrintEnds (link_line alta.now host) (record { taken = K.taken sink.old; taken_after = K.taken sink.new; faults = K.faults sink.old; faults_after = K.faults sink.new }) result }
-{
-    let Ok(text) = link_of(alloc, alta, host) else {
-        return Detail::NoMemory;
+    let Record::Alta(alta) = &sealed.body else {
+        unreachable!()
     };
-    match write_texts(sink, text.as_slice(), b"\n") {
-        Ok(()) => Detail::Done,
-        Err(_) => Detail::WriteFault,
+    match link_of(alloc, alta, host) {
+        Ok(text) => print_line(text.as_slice(), sink),
+        Err(_) => Detail::NoMemory,
     }
 }

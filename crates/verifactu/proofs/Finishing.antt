@@ -1,28 +1,25 @@
 -- Where a run of a store begins, and what it comes to.
-use Rattle.std.proofs.Common.{◌≡◌, inl, inr, ℕ, ◌+◌, ◌≤◌, List, [], ◌∷◌, ◌++◌, length, append_assoc, sym, ◌∙◌, ap, subst, refl, arith, Bool, IsTrue, Option, Some, None, Result, Ok, Err}
+use Rattle.std.proofs.Common.{◌≡◌, inl, inr, ℕ, ◌+◌, List, [], ◌∷◌, ◌++◌, append_assoc, sym, ◌∙◌, ap, subst, refl, arith, IsTrue, Option, Some, None, Result, Err}
 use Rattle.std.specs.List.{AllByRecursion}
 use Rattle.std.proofs.lemmas.List.{append-nil}
-use Rattle.chain_disk.specs.Told.{Told, IsImage, IsSettled, LeavesNow, LeavesOnly}
+use Rattle.chain_disk.specs.Told.{Told, IsImage, LeavesOnly}
 use Rattle.chain_disk.specs.Runs.{leaves_now, started_settled, follows}
 use Rattle.chain_store.specs.Ready.{Holds}
-use Rattle.chain_store.specs.Stands.{StandsFor}
-use Rattle.huella.specs.Linked.{Linked}
+use Rattle.shop_core.specs.Files.{StandsFor}
 use Rattle.journal.specs.declared.faults.StoreFault.{StoreFault}
 use Rattle.journal.specs.declared.faults.StoreFault.TheVariants.{DiskFault}
-use Rattle.ports.specs.Readings.{MovedBy}
 use Rattle.record_codec.specs.declared.entries.Entry.{Entry}
 use Rattle.recovery.specs.Opening.{IsFound}
 use Rattle.shop_core.specs.Asked.{Asked}
-use Rattle.shop_core.specs.History.{History, recs}
+use Rattle.shop_core.specs.History.{History}
 use Rattle.shop_core.specs.Legal.{Legal}
-use Rattle.shop_core.specs.Rising.{SerialsRise}
 use Rattle.shop_core.specs.Runs.{ChainRun}
 use Rattle.shop_core.specs.Runs.ChainRun.{begun}
 use Rattle.shop_core.specs.declared.answers.Reply.{Reply}
 use Rattle.verifactu.specs.Crashes.{IsPrefix, Kept, StandsBetween, StandsForEnd, StandsSince}
 use Rattle.verifactu.specs.Readings.{IsComing}
 use Rattle.verifactu.specs.Replies.{AllGoOn, IsGoingOn, StopsAt, StopsOnce}
-use Rattle.verifactu.proofs.Progress.{Origin, Point, GoingOn, Halted, Progress, SoFar}
+use Rattle.verifactu.proofs.Progress.{Origin, Point, Progress, SoFar}
 
 -- a store that holds its history stands for it
 pub stands : (history : History) (gate : ℕ) (t : Told) → Holds history gate t → Legal history.issuer history.entries → StandsFor history.issuer history.entries t.content

@@ -1,5 +1,5 @@
 -- How far a run of a store has come.
-use Rattle.std.proofs.Common.{◌≡◌, ℕ, ◌+◌, ◌≤◌, List, [], ◌∷◌, ◌++◌, length, Bool, IsTrue, IsSome, OnOk, Option, Some, None, Result, Ok, Err, ◌↔◌}
+use Rattle.std.proofs.Common.{◌≡◌, ℕ, ◌≤◌, List, [], length, Bool, IsTrue, IsSome, OnOk, Option, Some, None, Result, Err, ◌↔◌}
 use Rattle.chain_disk.specs.Told.{Told, LeavesOnly, LeavesNow}
 use Rattle.chain_disk.specs.declared.disk.Disk.{Ghosts}
 use Rattle.chain_store.specs.Ready.{Takes}

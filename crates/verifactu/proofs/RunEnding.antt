@@ -1,20 +1,21 @@
 -- How a run ends, and what its clause says of the whole call.
-use Rattle.std.proofs.Common.{◌≡◌, inl, inr, ◌⊎◌, ℕ, ◌+◌, ◌≤◌, List, [], ◌∷◌, ◌++◌, sym, ◌∙◌, ap, subst, refl, arith, Bool, true, false, IsTrue, Option, Some, None, Result, Ok, Err}
+use Rattle.std.proofs.Common.{◌≡◌, inl, inr, ◌⊎◌, ℕ, ◌+◌, ◌≤◌, List, [], ◌∷◌, sym, ◌∙◌, ap, subst, refl, arith, Bool, true, false, IsTrue, Option, Result, Ok, Err}
 use Rattle.std.specs.List.{list_any}
+use Rattle.chain_disk.specs.Runs.{started_settled, weaker}
 use Rattle.chain_disk.specs.Told.{Told, LeavesOnly, synced}
-use Rattle.chain_store.specs.Stands.{IsDamagedFile}
+use Rattle.journal.specs.File.{IsNotBegun, IsNotBegunOrEmpty}
 use Rattle.chain_store.specs.declared.causes.OpenCause.{OpenCause}
 use Rattle.chain_store.specs.declared.causes.OpenCause.TheVariants as cause
 use Rattle.journal.specs.declared.faults.StoreFault.{StoreFault}
 use Rattle.journal.specs.declared.faults.StoreFault.TheVariants.{DiskFault, Stopped, NoMemory}
 use Rattle.ports.specs.Causes.{Rose}
 use Rattle.ports.specs.Readings.{IsTold}
-use Rattle.ports.specs.declared.Failed.{Failed}
+use Rattle.ports.specs.declared.faults.Failed.{Failed}
 use Rattle.record_codec.specs.declared.entries.Entry.{Entry}
-use Rattle.recovery.specs.Opening.{IsFound, IsOthers, KeepsMeaning, ReadsAlike}
+use Rattle.recovery.specs.Opening.{IsDiskLost, IsFound, IsLeftUnopened}
+use Rattle.recovery.specs.Opening.IsDiskLost.{not_synced, not_read, in_part}
 use Rattle.report.specs.declared.ended.Detail.{Detail}
 use Rattle.report.specs.declared.ended.Detail.TheVariants as detail
-use Rattle.script.specs.declared.scripts.Script.{Script}
 use Rattle.shop_core.specs.Asked.{Asked}
 use Rattle.huella.specs.Linked.{Linked}
 use Rattle.shop_core.specs.History.{recs}
@@ -22,16 +23,20 @@ use Rattle.shop_core.specs.Legal.{Legal}
 use Rattle.shop_core.specs.Runs.{ChainRun}
 use Rattle.shop_core.specs.Runs.ChainRun.{begun, replied}
 use Rattle.shop_core.specs.declared.answers.Reply.{Reply}
-use Rattle.verifactu.specs.Crashes.{Kept, StandsBetween}
-use Rattle.file_commands.specs.Opened.{detail_of}
-use Rattle.file_commands.specs.Output.{OutputIs}
+use Rattle.verifactu.specs.Crashes.{Kept, KeepsFile, StandsBetween}
 use Rattle.verifactu.specs.Printed.{printed}
-use Rattle.verifactu.specs.Readings.{IsComing, IsAsked, readings, readings_of, LeavesClock}
-use Rattle.verifactu.specs.Replies.{AllGoOn, AllReplied, StopsAt, StopsOnce, is_disk_fault, is_no_memory}
-use Rattle.file_commands.specs.Output.{FailedIn, Sinks, Wrote}
-use Rattle.file_commands.specs.Disks.{DiskRose, Disks}
-use Rattle.verifactu.specs.Run.{ChainEnds, Devices, IsGoodScript, LeftMeaning, NotOpened, OpeningEnds, Played, RunEnds, ScriptEnds}
-use Rattle.verifactu.specs.Stages.{Answers, Span, StoreEnds}
+use Rattle.verifactu.specs.Readings.{IsComing, IsAsked, LeavesClock, readings, readings_of}
+use Rattle.verifactu.specs.Replies.{AllGoOn, AllReplied, StopsOnce, is_disk_fault, is_no_memory}
+use Rattle.ports.specs.Sinks.{FailedIn, OutputIs, Sinks, Wrote}
+use Rattle.chain_disk.specs.Disks.{DiskRose, Disks}
+use Rattle.verifactu.specs.Chain.{ChainEnds, Played, ReadAndRan, ScriptEnds, ScriptIs, no_script_end, opening_end}
+use Rattle.verifactu.specs.Chain.ChainEnds.{ran, bad_line, read_fault, too_big, no_memory as unread_memory}
+use Rattle.verifactu.specs.Commands.{Answers, Stores}
+use Rattle.verifactu.specs.Devices.{Clocks, Devices, LeftClock, Untouched}
+use Rattle.verifactu.specs.Ending.{RunEnds}
+use Rattle.verifactu.specs.Ending.RunEnds.{done, write_fault, disk_fault, no_memory}
+use Rattle.verifactu.specs.declared.chain.NoScript.{NoScript}
+use Rattle.verifactu.specs.declared.chain.NoScript.TheVariants as unread
 use Rattle.verifactu.proofs.Finishing.{kept_since}
 
 -- no reply is want of memory, and none a fault of the disk
@@ -50,27 +55,37 @@ went_on (Err NoMemory ∷ replies) all = went_on replies all.1
 went_on (Err DiskFault ∷ replies) all = absurd all.0
 went_on (Err (Stopped count) ∷ replies) all = absurd all.0
 
-pub written_whole : (text : List ℕ) (s : Sinks) (w : Result (Unit {0}) Failed) (u : Unit {0}) → w ≡ Ok u → OutputIs s.taken s.taken_after s.faults s.faults_after text w → Wrote s text
-written_whole text s w u is h = subst (λ (r : Result (Unit {0}) Failed). OutputIs s.taken s.taken_after s.faults s.faults_after text r) is h
+pub written_whole : (text : List ℕ) (s : Sinks) (w : Result (Unit {0}) Failed) (u : Unit {0}) → w ≡ Ok u → OutputIs s text w → Wrote s text
+written_whole text s w u is h = subst (λ (r : Result (Unit {0}) Failed). OutputIs s text r) is h
 
-pub written_part : (text : List ℕ) (s : Sinks) (w : Result (Unit {0}) Failed) (e : Failed) → w ≡ Err e → OutputIs s.taken s.taken_after s.faults s.faults_after text w → FailedIn s text
-written_part text s w e is h =
-    let failed = subst (λ (r : Result (Unit {0}) Failed). OutputIs s.taken s.taken_after s.faults s.faults_after text r) is h in
-    record { risen = failed.0; part = failed.1 }
+pub written_part : (text : List ℕ) (s : Sinks) (w : Result (Unit {0}) Failed) (e : Failed) → w ≡ Err e → OutputIs s text w → FailedIn s text
+written_part text s w e is h = subst (λ (r : Result (Unit {0}) Failed). OutputIs s text r) is h
 
--- the end of an opening that failed has its cause
-pub opening_ends : {D : Type 0} (c : OpenCause) (issuer : List ℕ) (k : Disks D) → (c ≡ cause.DiskFault → DiskRose k) →
-    ((at : ℕ) → c ≡ cause.Damaged at → IsTrue k.tells → IsDamagedFile (k.told k.disk).content at × ReadsAlike (k.told k.disk) (k.told k.disk_after)) →
-    ((held : List ℕ) → c ≡ cause.OtherIssuer held → IsTrue k.tells → IsOthers issuer held (k.told k.disk).content × ReadsAlike (k.told k.disk) (k.told k.disk_after)) →
-    LeftMeaning issuer k → OpeningEnds issuer k (detail_of c)
-opening_ends cause.DiskFault issuer k fault damaged other left = (fault refl, left)
-opening_ends (cause.Damaged at) issuer k fault damaged other left = damaged at refl
-opening_ends (cause.OtherIssuer held) issuer k fault damaged other left = other held refl
-opening_ends cause.NoMemory issuer k fault damaged other left = left
+pub written_either : (text : List ℕ) (s : Sinks) (w : Result (Unit {0}) Failed) → OutputIs s text w → Wrote s text ⊎ FailedIn s text
+written_either text s (Ok u) h = inl h
+written_either text s (Err e) h = inr h
 
-pub not_asked : {C : Type 0} (coming : C → ℕ → Option ℕ) (clock after : C) → after ≡ clock → IsAsked coming 0 clock after
-not_asked coming clock after same = record {
-  moved = λ k. let e : k ≡ 0 + k = omega arith in ap (λ c. coming c k) same ∙ ap (coming clock) e;
+as_it_stood : (issuer : List ℕ) (old new : Told) → new ≡ synced old → KeepsFile issuer old new
+as_it_stood issuer old new is =
+    let P : List ℕ → Type 0 = λ c. (c ≡ old.content) ⊎ (IsNotBegun old.content × IsNotBegunOrEmpty issuer c) in
+    inr (subst (λ (t : Told). LeavesOnly (synced old) t P) (sym is) (started_settled (synced old) P refl (inl refl)))
+
+disk_lost : (issuer : List ℕ) (old new : Told) → IsDiskLost issuer old new → KeepsFile issuer old new
+disk_lost issuer old new (not_synced failed) = inl failed
+disk_lost issuer old new (not_read is) = as_it_stood issuer old new is
+disk_lost issuer old new (in_part h) =
+    inr (weaker (synced old) new (IsNotBegunOrEmpty issuer) (λ c. (c ≡ old.content) ⊎ (IsNotBegun old.content × IsNotBegunOrEmpty issuer c)) h.any_moment (λ c empty. inr (h.not_begun, empty)))
+
+-- what an opening that failed leaves keeps the file
+pub keeps_file : (issuer : List ℕ) (why : OpenCause) (old new : Told) → IsLeftUnopened issuer why old new → KeepsFile issuer old new
+keeps_file issuer cause.DiskFault old new h = disk_lost issuer old new h
+keeps_file issuer (cause.Damaged at) old new h = as_it_stood issuer old new h.1
+keeps_file issuer (cause.OtherIssuer held) old new h = as_it_stood issuer old new h.1
+keeps_file issuer cause.NoMemory old new h = as_it_stood issuer old new h
+
+pub not_asked : {C : Type 0} (t : Clocks C) → LeftClock t → IsAsked t 0
+not_asked t same = record {
+  moved = λ k. let e : k ≡ 0 + k = omega arith in ap (λ c. t.coming c k) same ∙ ap (t.coming t.clock) e;
   untouched = λ none. same;
 }
 
@@ -86,21 +101,21 @@ stops_from first before after replies later (inr h) = inr (record {
 })
 
 -- a run of a store is one of its file, from its opening on
-pub ran : {D C : Type 0} (issuer : List ℕ) (asks : List Asked) (replies : List (Result Reply StoreFault)) (s : Span C) (sink : Sinks) (k : Disks D) (end : Detail) → s.issuer ≡ issuer → s.tells ≡ k.tells →
-    s.faults_after ≡ k.faults k.disk_after → s.now ≡ k.told k.disk_after → k.faults k.disk ≤ s.faults → (IsTrue k.tells → IsFound issuer s.start (k.told k.disk).content) →
+pub store_ran : {D C : Type 0} (issuer : List ℕ) (asks : List Asked) (replies : List (Result Reply StoreFault)) (s : Stores C) (sink : Sinks) (k : Disks D) (end : Detail) → s.issuer ≡ issuer →
+    s.tells ≡ k.tells → s.faults_after ≡ k.faults k.disk_after → s.now ≡ k.told k.disk_after → k.faults k.disk ≤ s.faults → (IsTrue k.tells → IsFound issuer s.start (k.told k.disk).content) →
     (IsTrue k.tells → LeavesOnly (synced (k.told k.disk)) s.since (IsFound issuer s.start)) → Answers asks replies s →
-    RunEnds replies (printed asks replies s.end) sink end → ScriptEnds issuer asks (s.coming s.clock) (λ rs. IsAsked s.coming (readings rs) s.clock s.clock_after) sink k end
-ran issuer asks replies s sink k end own tells faults_after now later found any h ends =
+    RunEnds replies (printed asks replies s.end) sink end → ScriptEnds issuer asks (s.clock.coming s.clock.clock) (λ rs. IsAsked s.clock (readings rs)) sink k end
+store_ran issuer asks replies s sink k end own tells faults_after now later found any h ends =
     let kept_here : IsTrue k.tells → Kept (StandsBetween issuer s.start s.end) issuer s.end replies s.since (k.told k.disk_after) = λ says.
     subst (λ (t : Told). Kept (StandsBetween issuer s.start s.end) issuer s.end replies s.since t) now
     (subst (λ (n : List ℕ). Kept (StandsBetween n s.start s.end) n s.end replies s.since s.now) own (h.kept (subst (λ (b : Bool). IsTrue b) (sym tells) says))) in
-    inr (
+    inr (inr (
       record {
         start = s.start;
         replies = replies;
         end = s.end;
         found = found;
-        run = subst (λ (n : List ℕ). ChainRun n (IsComing (s.coming s.clock)) s.start asks replies s.end) own h.run;
+        run = subst (λ (n : List ℕ). ChainRun n (IsComing (s.clock.coming s.clock.clock)) s.start asks replies s.end) own h.run;
         begins = h.begins;
         legal = subst (λ (n : List ℕ). Legal n s.end) own h.legal;
         linked = subst (λ (n : List ℕ). Linked n (recs s.end)) own h.linked;
@@ -110,7 +125,7 @@ ran issuer asks replies s sink k end own tells faults_after now later found any 
         clock = h.asked;
       },
       ends,
-    )
+    ))
 
 -- a run by readings of one kind is one by readings of another kind, where each of the first is one of the second
 run_by : (issuer : List ℕ) (R Q : List (Result Reply StoreFault) → ℕ → Type 0) (start : List Entry) → ((replies : List (Result Reply StoreFault)) (seconds : ℕ) → R replies seconds → Q replies seconds) →
@@ -122,10 +137,19 @@ run_by issuer R Q start each (replied asks replies entries ask told gained run s
 -- the same end, said of other readings and of another clock
 pub script_by : {D : Type 0} (issuer : List ℕ) (asks : List Asked) (old new : ℕ → Option ℕ) (Leaves Left : List (Result Reply StoreFault) → Type 0) (s : Sinks) (k : Disks D) (end : Detail) →
     ((i : ℕ) → old i ≡ new i) → ((replies : List (Result Reply StoreFault)) → Leaves replies → Left replies) → ScriptEnds issuer asks old Leaves s k end → ScriptEnds issuer asks new Left s k end
-script_by issuer asks old new Leaves Left s k end same leaves (inl h) = inl (record { cause = h.cause; wrote = h.wrote; clock = leaves [] h.clock })
-script_by issuer asks old new Leaves Left s k end same leaves (inr h) =
+script_by issuer asks old new Leaves Left s k end same leaves (inl h) = inl (record { ends = h.ends; wrote = h.wrote; disk = h.disk; clock = leaves [] h.clock })
+script_by issuer asks old new Leaves Left s k end same leaves (inr (inl h)) = inr (inl (record {
+  why = h.why;
+  ends = h.ends;
+  risen = h.risen;
+  left = h.left;
+  every_crash = h.every_crash;
+  wrote = h.wrote;
+  clock = leaves [] h.clock;
+}))
+script_by issuer asks old new Leaves Left s k end same leaves (inr (inr h)) =
     let p = h.0 in
-    inr (
+    inr (inr (
       record {
         start = p.start;
         replies = p.replies;
@@ -141,36 +165,38 @@ script_by issuer asks old new Leaves Left s k end same leaves (inr h) =
         clock = leaves p.replies p.clock;
       },
       h.1,
-    )
+    ))
 
 rose_of : (faults after : ℕ) (replies : List (Result Reply StoreFault)) → StopsOnce faults after replies → list_any is_disk_fault replies ≡ true → Rose faults after
 rose_of faults after replies (inl all) some = let none = went_on replies all in absurd cc
 rose_of faults after replies (inr stop) some = stop.risen
 
-disk_rose : {D : Type 0} (issuer : List ℕ) (asks : List Asked) (coming : ℕ → Option ℕ) (Leaves : List (Result Reply StoreFault) → Type 0) (s : Sinks) (k : Disks D) →
-    ScriptEnds issuer asks coming Leaves s k detail.DiskFault → DiskRose k
-disk_rose issuer asks coming Leaves s k (inl h) = h.cause.0
-disk_rose issuer asks coming Leaves s k (inr h) = rose_of (k.faults k.disk) (k.faults k.disk_after) h.0.replies h.0.stops h.1.1
+rose_ran : {D : Type 0} (issuer : List ℕ) (asks : List Asked) (coming : ℕ → Option ℕ) (Leaves : List (Result Reply StoreFault) → Type 0) (s : Sinks) (k : Disks D) (end : Detail) →
+    (p : Played issuer asks coming Leaves k) → RunEnds p.replies (printed asks p.replies p.end) s end → end ≡ detail.DiskFault → DiskRose k
+rose_ran issuer asks coming Leaves s k end p (disk_fault memory some wrote) is = rose_of (k.faults k.disk) (k.faults k.disk_after) p.replies p.stops some
+rose_ran issuer asks coming Leaves s k end p (done all wrote) is = absurd cc
+rose_ran issuer asks coming Leaves s k end p (write_fault all wrote) is = absurd cc
+rose_ran issuer asks coming Leaves s k end p (no_memory wrote) is = absurd cc
+
+rose_opening : {D : Type 0} (why : OpenCause) (k : Disks D) → (why ≡ cause.DiskFault → DiskRose k) → opening_end why ≡ detail.DiskFault → DiskRose k
+rose_opening cause.DiskFault k risen is = risen refl
+rose_opening (cause.Damaged at) k risen is = absurd cc
+rose_opening (cause.OtherIssuer held) k risen is = absurd cc
+rose_opening cause.NoMemory k risen is = absurd cc
+
+disk_rose : {D : Type 0} (issuer : List ℕ) (asks : List Asked) (coming : ℕ → Option ℕ) (Leaves : List (Result Reply StoreFault) → Type 0) (s : Sinks) (k : Disks D) (end : Detail) →
+    ScriptEnds issuer asks coming Leaves s k end → end ≡ detail.DiskFault → DiskRose k
+disk_rose issuer asks coming Leaves s k end (inl h) is = let none = sym h.ends ∙ is in absurd cc
+disk_rose issuer asks coming Leaves s k end (inr (inl h)) is = rose_opening h.why k h.risen (sym h.ends ∙ is)
+disk_rose issuer asks coming Leaves s k end (inr (inr h)) is = rose_ran issuer asks coming Leaves s k end h.0 h.1 is
 
 -- the end of a command that read its script is that of its run
-pub chain_ends : {D C : Type 0} (issuer : List ℕ) (d : Devices D C) (script : Script) (end : Detail) → IsGoodScript d.left d.left_after script →
-    ScriptEnds issuer script.asks (readings_of script.clock (d.coming d.clock)) (LeavesClock d.coming script.clock d.clock d.clock_after) d.sink d.disk end → ChainEnds issuer d end
-chain_ends issuer d script detail.Done good h = (script, good, h)
-chain_ends issuer d script detail.WriteFault good h = (script, good, h)
-chain_ends issuer d script detail.DiskFault good h =
-    ((script, good, h), disk_rose issuer script.asks (readings_of script.clock (d.coming d.clock)) (LeavesClock d.coming script.clock d.clock d.clock_after) d.sink d.disk h)
-chain_ends issuer d script (detail.Damaged at) good h = (script, good, h)
-chain_ends issuer d script (detail.OtherIssuer held) good h = (script, good, h)
-chain_ends issuer d script detail.NoMemory good h = inr (script, good, h)
-chain_ends issuer d script detail.Usage good (inl h) = absurd h.cause
-chain_ends issuer d script detail.Usage good (inr h) = absurd h.1
-chain_ends issuer d script (detail.Script line fault) good (inl h) = absurd h.cause
-chain_ends issuer d script (detail.Script line fault) good (inr h) = absurd h.1
-chain_ends issuer d script detail.ReadFault good (inl h) = absurd h.cause
-chain_ends issuer d script detail.ReadFault good (inr h) = absurd h.1
-chain_ends issuer d script (detail.Broken place what) good (inl h) = absurd h.cause
-chain_ends issuer d script (detail.Broken place what) good (inr h) = absurd h.1
-chain_ends issuer d script detail.Unknown good (inl h) = absurd h.cause
-chain_ends issuer d script detail.Unknown good (inr h) = absurd h.1
-chain_ends issuer d script detail.TooBig good (inl h) = absurd h.cause
-chain_ends issuer d script detail.TooBig good (inr h) = absurd h.1
+pub chain_ran : {D C : Type 0} (issuer : List ℕ) (d : Devices D C) (end : Detail) → ReadAndRan issuer d end → ChainEnds issuer d end
+chain_ran issuer d end h = ran end h (disk_rose issuer h.0.asks (readings_of h.0.clock (d.clock.coming d.clock.clock)) (LeavesClock d.clock h.0.clock) d.sink d.disk end h.2)
+
+-- the end of a command whose source is no script
+pub chain_unread : {D C : Type 0} (issuer : List ℕ) (d : Devices D C) (fault : NoScript) → ScriptIs d.source (Err fault) → Untouched d → ChainEnds issuer d (no_script_end fault)
+chain_unread issuer d unread.ReadFault is left = read_fault is left
+chain_unread issuer d unread.TooBig is left = too_big is left
+chain_unread issuer d (unread.BadLine line fault) is left = bad_line line fault is left
+chain_unread issuer d unread.NoMemory is left = unread_memory left

@@ -1,12 +1,12 @@
 -- A run of a store goes on by one more reply.
-use Rattle.std.proofs.Common.{◌≡◌, inl, inr, ℕ, ◌+◌, ◌≤◌, ◌<◌, List, [], ◌∷◌, ◌++◌, length, length-append, append_assoc, sym, ◌∙◌, ap, subst, refl, arith, add_assoc, add-zero, Bool, true, false, cond, IsTrue, IsSome, Option, Some, None, Result, Ok, Err}
+use Rattle.std.proofs.Common.{◌≡◌, inl, inr, ℕ, ◌+◌, ◌≤◌, List, [], ◌∷◌, ◌++◌, length, append_assoc, sym, ◌∙◌, ap, subst, refl, arith, add_assoc, add-zero, Bool, true, cond, IsTrue, IsSome, Option, Some, None, Result, Ok, Err}
 use Rattle.std.specs.List.{AllByRecursion}
 use Rattle.std.proofs.lemmas.List.{append-nil}
 use Rattle.std.proofs.lemmas.List.Sums.{sum_by-append}
-use Rattle.chain_disk.specs.Told.{Told, LeavesOnly, LeavesNow, IsLeft, moment}
+use Rattle.chain_disk.specs.Told.{Told, LeavesOnly, LeavesNow, moment}
 use Rattle.chain_disk.specs.Runs.{follows, weaker}
 use Rattle.chain_store.specs.Ready.{Takes}
-use Rattle.chain_store.specs.Stands.{StandsFor, StandsAround}
+use Rattle.shop_core.specs.Files.{StandsFor, StandsAround}
 use Rattle.journal.specs.declared.faults.StoreFault.{StoreFault}
 use Rattle.journal.specs.declared.faults.StoreFault.TheVariants.{DiskFault, Stopped, NoMemory}
 use Rattle.ports.specs.Causes.{Rose}
@@ -14,15 +14,14 @@ use Rattle.ports.specs.Readings.{IsTold, MovedBy}
 use Rattle.record_codec.specs.declared.entries.Entry.{Entry}
 use Rattle.shop_core.specs.Answer.{answer}
 use Rattle.shop_core.specs.Asked.{Asked}
-use Rattle.shop_core.specs.History.{History}
 use Rattle.shop_core.specs.Runs.{ChainRun, IsReply, Tells}
-use Rattle.shop_core.specs.Runs.ChainRun.{begun, replied}
+use Rattle.shop_core.specs.Runs.ChainRun.{replied}
 use Rattle.shop_core.specs.declared.answers.Planned.{Planned}
 use Rattle.shop_core.specs.declared.answers.Planned.TheVariants.{Again, Refused, Made}
 use Rattle.shop_core.specs.declared.answers.Reply.{Reply}
 use Rattle.verifactu.specs.Crashes.{IsPrefix, StandsBetween, StandsForEnd}
 use Rattle.verifactu.specs.Readings.{IsComing, has_read, readings}
-use Rattle.verifactu.specs.Replies.{AllGoOn, IsGoingOn, IsStopped, StopsAt}
+use Rattle.verifactu.specs.Replies.{IsGoingOn, IsStopped, StopsAt}
 use Rattle.verifactu.proofs.Progress.{Origin, Point, GoingOn, Torn, Halted, Progress, SoFar, Step}
 
 abbrev Told_reply : Type 0

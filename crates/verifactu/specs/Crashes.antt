@@ -1,12 +1,10 @@
 -- What a crash leaves of a run.
-use Rattle.std.specs.Prelude.{◌≡◌, ◌⊎◌, ◌≤◌, ℕ, List, [], ◌++◌, length, Result}
-use Rattle.chain_disk.specs.Told.{Told, LeavesOnly, LeavesNow}
-use Rattle.journal.specs.File.{IsNotBegun}
-use Rattle.journal.specs.declared.faults.StoreFault.{StoreFault}
+use Rattle.std.specs.Prelude.{◌≡◌, ◌⊎◌, ◌≤◌, ℕ, List, [], ◌++◌, length}
+use Rattle.chain_disk.specs.Told.{Told, IsSyncFailed, LeavesOnly, LeavesNow, synced}
+use Rattle.journal.specs.File.{IsNotBegun, IsNotBegunOrEmpty}
 use Rattle.record_codec.specs.declared.entries.Entry.{Entry}
-use Rattle.shop_core.specs.declared.answers.Reply.{Reply}
-use Rattle.chain_store.specs.Stands.{StandsFor}
-use Rattle.verifactu.specs.Replies.{AllGoOn}
+use Rattle.shop_core.specs.Files.{StandsFor}
+use Rattle.verifactu.specs.Replies.{Replies, AllGoOn}
 
 -- one history is a front of the other
 pub record IsPrefix (front whole : List Entry) : Type 0 where
@@ -31,10 +29,18 @@ StandsForEnd issuer end torn file = StandsFor issuer end file ⊎ StandsFor issu
 
 -- Since some moment each crash leaves a file with P; now it leaves the history at the end, or that with the torn entry, and so
 -- reads the disk. An entry is torn only where the disk failed while it was added.
-pub record Kept (P : List Entry → List ℕ → Type 0) (issuer : List ℕ) (end : List Entry) (replies : List (Result Reply StoreFault)) (since now : Told) : Type 0 where
+pub record Kept (P : List Entry → List ℕ → Type 0) (issuer : List ℕ) (end : List Entry) (replies : Replies)
+    (since now : Told) : Type 0 where
   pub torn : List Entry
   pub at_most_one : length torn ≤ 1
   pub by_a_fault : AllGoOn replies → torn ≡ []
   pub each_moment : LeavesOnly since now (P torn)
   pub every_crash : LeavesNow now (StandsForEnd issuer end torn)
   pub reads : StandsForEnd issuer end torn now.content
+
+-- What an opening that failed keeps of the file. The sync at the start failed; or since it each crash leaves the bytes that
+-- stood there, or, where they were no begun file, one that isn't begun or is begun and empty.
+abbrev pub KeepsFile : List ℕ → Told → Told → Type 0
+KeepsFile issuer old new =
+    IsSyncFailed old new
+    ⊎ LeavesOnly (synced old) new (λ c. (c ≡ old.content) ⊎ (IsNotBegun old.content × IsNotBegunOrEmpty issuer c))

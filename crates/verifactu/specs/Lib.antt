@@ -1,9 +1,12 @@
 pub mod Words
 pub mod Help
-pub mod Inputs
+pub mod Input
 pub mod Printed
+pub mod Devices
 pub mod Readings
 pub mod Replies
 pub mod Crashes
+pub mod Commands
+pub mod Ending
+pub mod Chain
 pub mod Run
-pub mod Stages

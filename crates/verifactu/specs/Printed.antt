@@ -8,15 +8,16 @@ use Rattle.report.specs.Answers.{answers_text}
 use Rattle.report.specs.Listing.{listing_text}
 use Rattle.report.specs.declared.answers.AnswerLine.{AnswerLine}
 use Rattle.report.specs.declared.answers.AnswerLine.TheVariants.{Answered}
+use Rattle.verifactu.specs.Replies.{Replies}
 
 -- an ask's answer
 abbrev pub answered : Asked × Result Reply StoreFault → AnswerLine
 answered a = Answered a.0.till a.0.serial a.1
 
 -- the answers to these asks, in line order
-abbrev pub answers : List Asked → List (Result Reply StoreFault) → List AnswerLine
+abbrev pub answers : List Asked → Replies → List AnswerLine
 answers asks replies = map answered (zip asks replies)
 
 -- the answers in line order, the listing and the chain line
-abbrev pub printed : List Asked → List (Result Reply StoreFault) → List Entry → List ℕ
+abbrev pub printed : List Asked → Replies → List Entry → List ℕ
 printed asks replies entries = answers_text (answers asks replies) ++ listing_text entries

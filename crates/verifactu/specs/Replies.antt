@@ -6,8 +6,12 @@ use Rattle.journal.specs.declared.faults.StoreFault.{StoreFault}
 use Rattle.journal.specs.declared.faults.StoreFault.TheVariants.{DiskFault, Stopped, NoMemory}
 use Rattle.shop_core.specs.declared.answers.Reply.{Reply}
 
+-- the replies of a run, one an ask
+abbrev pub Replies : Type 0
+Replies = List (Result Reply StoreFault)
+
 -- no reply is a fault
-abbrev pub AllReplied : List (Result Reply StoreFault) → Type 0
+abbrev pub AllReplied : Replies → Type 0
 AllReplied replies = AllByRecursion (λ (r : Result Reply StoreFault). IsOk r) replies
 
 -- an answer, or want of memory
@@ -25,21 +29,21 @@ IsStopped count (Err (Stopped faults)) = faults ≡ count
 IsStopped count (Err NoMemory) = Unit {0}
 
 -- the disk didn't fail
-abbrev pub AllGoOn : List (Result Reply StoreFault) → Type 0
+abbrev pub AllGoOn : Replies → Type 0
 AllGoOn replies = AllByRecursion IsGoingOn replies
 
 -- the first fault of the disk is told as such, its count of faults having risen to this one; each reply behind it tells that
 -- the journal stopped there
-pub record StopsAt (faults count : ℕ) (replies : List (Result Reply StoreFault)) : Type 0 where
-  pub before : List (Result Reply StoreFault)
-  pub behind : List (Result Reply StoreFault)
+pub record StopsAt (faults count : ℕ) (replies : Replies) : Type 0 where
+  pub before : Replies
+  pub behind : Replies
   pub parts : replies ≡ before ++ (Err DiskFault ∷ behind)
   pub go_on : AllGoOn before
   pub stopped : AllByRecursion (IsStopped count) behind
   pub risen : Rose faults count
 
 -- the disk didn't fail, or the journal stopped at the first fault; the counts of faults are those before the run and after it
-abbrev pub StopsOnce : ℕ → ℕ → List (Result Reply StoreFault) → Type 0
+abbrev pub StopsOnce : ℕ → ℕ → Replies → Type 0
 StopsOnce faults faults_after replies = AllGoOn replies ⊎ StopsAt faults faults_after replies
 
 abbrev pub is_no_memory : Result Reply StoreFault → Bool

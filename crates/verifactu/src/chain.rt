@@ -1,30 +1,80 @@
 // The command `chain`: reads a script, opens the file, runs the commands on its history, and prints the replies and the chain.
 ghost use Rattle.std.specs.Prelude.{◌≡◌, ◌≤◌, [], None, List, length, vec_capacity};
+ghost use Rattle.ports.specs.Sinks.{this_sink};
+ghost use Rattle.ports.specs.Sources.{this_source};
+ghost use Rattle.chain_disk.specs.Disks.{this_disk};
 ghost use Rattle.journal.specs.Journal.{disk_of, stopped_of};
 ghost use Rattle.record_codec.specs.declared.entries.Entry.{Entry};
 ghost use Rattle.chain_store.specs.Store.{Ready, clock_of, journal_of, state_of};
+ghost use Rattle.report.specs.Statuses.{status_of};
+ghost use Rattle.verifactu.specs.Chain.{ChainEnds, ScriptEnds, ScriptIs, StoreEnds};
+ghost use Rattle.verifactu.specs.Chain as spec;
+ghost use Rattle.verifactu.specs.Commands.{this_store};
+ghost use Rattle.verifactu.specs.Devices.{this_clock};
 ghost use Rattle.verifactu.specs.Readings.{IsAsked, LeavesClock, readings, readings_of};
-ghost use Rattle.verifactu.specs.Run.{ChainEnds, ScriptEnds};
-ghost use Rattle.verifactu.specs.Stages.{ReadStage, StoreEnds};
 
 use crate::commands::run_commands;
 use crate::ending::end_of;
 use crate::input::{InputFault, read_input};
 use crate::printed::told_of;
 use chain_disk::Disk;
-use chain_store::Store;
-use file_commands::{detail_of, write_texts};
+use chain_store::{OpenCause, Store};
+use file_commands::{ended_as, write_texts};
 use journal::StoreFault;
 use parties::Nif;
 use ports::{Clock, CountingClock, Sink, Source};
 use recovery::open_store;
-use report::Detail;
+use report::{Detail, Ended};
 use script::{Form, Script, ScriptFault, read_script};
-use shop_core::{Ask, Reply};
+use shop_core::{Ask, Reply, Word};
 use std::alloc::Global;
 
-/// Runs `chain` for an issuer.
-pub fn chain<S: Source, K: Sink, D: Disk, C: Clock>(
+/// Why a source gave no script.
+#[derive(Clone, Copy, Debug, PartialEq, Eq)]
+pub enum NoScript {
+    ReadFault,
+    TooBig,
+    BadLine { line: u32, fault: Word },
+    NoMemory,
+}
+
+impl NoScript {
+    fn detail(self) -> Detail
+        ensures { result ≡ spec.no_script_end self }
+    {
+        match self {
+            NoScript::ReadFault => Detail::ReadFault,
+            NoScript::TooBig => Detail::TooBig,
+            NoScript::BadLine { line, fault } => Detail::Script { line, fault },
+            NoScript::NoMemory => Detail::NoMemory,
+        }
+    }
+}
+
+/// Reads a script from the source, opens the disk for this issuer, runs the commands on the history that it holds, keeps each
+/// entry on the disk before the next command, and prints the replies and the chain to the sink. The clock is asked once a
+/// command, where the script has no clock line, and no more once the disk has failed.
+pub fn chain_cmd<S: Source, K: Sink, D: Disk, C: Clock>(
+    alloc: Global,
+    issuer: &Nif,
+    source: &mut S,
+    sink: &mut K,
+    disk: D,
+    clock: C,
+) -> (Ended, D, C)
+    ensures status { result.0.status ≡ status_of result.0.detail }
+    ensures ends { ChainEnds issuer.now (record {
+      source = this_source S.left S.faults source.old source.new;
+      sink = this_sink K.taken K.faults sink.old sink.new;
+      disk = this_disk D.tells D.told D.faults disk result.1;
+      clock = this_clock C.coming clock result.2;
+    }) result.0.detail }
+{
+    let (detail, disk, clock) = chain(alloc, issuer, source, sink, disk, clock);
+    (ended_as(detail), disk, clock)
+}
+
+fn chain<S: Source, K: Sink, D: Disk, C: Clock>(
     alloc: Global,
     issuer: &Nif,
     source: &mut S,
@@ -33,36 +83,43 @@ pub fn chain<S: Source, K: Sink, D: Disk, C: Clock>(
     clock: C,
 ) -> (Detail, D, C)
     ensures { ChainEnds issuer.now (record {
-      left = S.left source.old;
-      left_after = S.left source.new;
-      read_faults = S.faults source.old;
-      read_faults_after = S.faults source.new;
-      sink = record { taken = K.taken sink.old; taken_after = K.taken sink.new; faults = K.faults sink.old; faults_after = K.faults sink.new };
-      disk = record { tells = D.tells; told = D.told; faults = D.faults; disk = disk; disk_after = result.1 };
-      coming = C.coming;
-      clock = clock;
-      clock_after = result.2;
+      source = this_source S.left S.faults source.old source.new;
+      sink = this_sink K.taken K.faults sink.old sink.new;
+      disk = this_disk D.tells D.told D.faults disk result.1;
+      clock = this_clock C.coming clock result.2;
     }) result.0 }
 {
     match read_commands(alloc, source) {
-        Err(detail) => (detail, disk, clock),
+        Err(fault) => (fault.detail(), disk, clock),
         Ok(script) => run_script(alloc, issuer, &script, sink, disk, clock),
     }
 }
 
-fn read_commands<S: Source>(alloc: Global, source: &mut S) -> Result<Script, Detail>
-    ensures { ReadStage (S.left source.old) (S.left source.new) (S.faults source.old) (S.faults source.new) result }
+fn read_commands<S: Source>(alloc: Global, source: &mut S) -> Result<Script, NoScript>
+    ensures { ScriptIs (this_source S.left S.faults source.old source.new) result }
 {
     let bytes = match read_input(alloc, source) {
         Ok(bytes) => bytes,
-        Err(InputFault::ReadFault) => return Err(Detail::ReadFault),
-        Err(InputFault::TooBig) => return Err(Detail::TooBig),
-        Err(InputFault::NoMemory) => return Err(Detail::NoMemory),
+        Err(InputFault::ReadFault) => return Err(NoScript::ReadFault),
+        Err(InputFault::TooBig) => return Err(NoScript::TooBig),
+        Err(InputFault::NoMemory) => return Err(NoScript::NoMemory),
     };
     match read_script(alloc, &bytes, Form::Full) {
         Ok(script) => Ok(script),
-        Err(ScriptFault::BadLine { line, fault }) => Err(Detail::Script { line, fault }),
-        Err(ScriptFault::NoMemory) => Err(Detail::NoMemory),
+        Err(ScriptFault::BadLine { line, fault }) => Err(NoScript::BadLine { line, fault }),
+        Err(ScriptFault::NoMemory) => Err(NoScript::NoMemory),
+    }
+}
+
+// The end of a call whose file couldn't be opened for this cause.
+fn opening_end(cause: &OpenCause) -> Detail
+    ensures { result ≡ spec.opening_end cause.now }
+{
+    match cause {
+        OpenCause::DiskFault => Detail::DiskFault,
+        OpenCause::Damaged { at } => Detail::Damaged { at: *at },
+        OpenCause::OtherIssuer { held } => Detail::OtherIssuer { held: *held },
+        OpenCause::NoMemory => Detail::NoMemory,
     }
 }
 
@@ -74,9 +131,9 @@ fn run_script<K: Sink, D: Disk, C: Clock>(
     disk: D,
     clock: C,
 ) -> (Detail, D, C)
-    ensures { ScriptEnds issuer.now script.now.asks (readings_of script.now.clock (C.coming clock)) (LeavesClock C.coming script.now.clock clock result.2)
-        (record { taken = K.taken sink.old; taken_after = K.taken sink.new; faults = K.faults sink.old; faults_after = K.faults sink.new })
-        (record { tells = D.tells; told = D.told; faults = D.faults; disk = disk; disk_after = result.1 }) result.0 }
+    ensures { ScriptEnds issuer.now script.now.asks (readings_of script.now.clock (C.coming clock))
+        (LeavesClock (this_clock C.coming clock result.2) script.now.clock)
+        (this_sink K.taken K.faults sink.old sink.new) (this_disk D.tells D.told D.faults disk result.1) result.0 }
 {
     match script.clock {
         Some((start, step)) => {
@@ -104,16 +161,16 @@ fn run_asks<K: Sink, D: Disk, C: Clock>(
     disk: D,
     clock: C,
 ) -> (Detail, D, C)
-    ensures { ScriptEnds issuer.now asks.now (C.coming clock) (λ replies. IsAsked C.coming (readings replies) clock result.2)
-        (record { taken = K.taken sink.old; taken_after = K.taken sink.new; faults = K.faults sink.old; faults_after = K.faults sink.new })
-        (record { tells = D.tells; told = D.told; faults = D.faults; disk = disk; disk_after = result.1 }) result.0 }
+    ensures { ScriptEnds issuer.now asks.now (C.coming clock)
+        (λ replies. IsAsked (this_clock C.coming clock result.2) (readings replies))
+        (this_sink K.taken K.faults sink.old sink.new) (this_disk D.tells D.told D.faults disk result.1) result.0 }
 {
     let mut replies = Vec::new(alloc);
     if replies.reserve(asks.len()).is_err() {
         return (Detail::NoMemory, disk, clock);
     }
     match open_store(alloc, disk, clock, issuer) {
-        Err(fault) => (detail_of(&fault.cause), fault.disk, fault.clock),
+        Err(fault) => (opening_end(&fault.cause), fault.disk, fault.clock),
         Ok(store) => run_opened(alloc, asks, sink, store, replies),
     }
 }
@@ -139,10 +196,8 @@ fn run_opened<K: Sink, D: Disk, C: Clock>(
       now = D.told result.1;
       faults = D.faults (disk_of (journal_of store));
       faults_after = D.faults result.1;
-      coming = C.coming;
-      clock = clock_of store;
-      clock_after = result.2;
-    }) (record { taken = K.taken sink.old; taken_after = K.taken sink.new; faults = K.faults sink.old; faults_after = K.faults sink.new }) result.0 }
+      clock = this_clock C.coming (clock_of store) result.2;
+    }) (this_sink K.taken K.faults sink.old sink.new) result.0 }
 {
     let mut store = store;
     let detail = play(alloc, asks, sink, &mut store, replies);
@@ -170,19 +225,8 @@ fn play<K: Sink, D: Disk, C: Clock>(
     requires none { replies.items ≡ [] }
     requires room { length asks.now ≤ vec_capacity replies }
     ensures issuer { (state_of store.new).issuer ≡ (state_of store.old).issuer }
-    ensures end { StoreEnds asks.now (record {
-      issuer = (state_of store.old).issuer;
-      start = (state_of store.old).entries;
-      end = (state_of store.new).entries;
-      tells = D.tells;
-      since = D.told (disk_of (journal_of store.old));
-      now = D.told (disk_of (journal_of store.new));
-      faults = D.faults (disk_of (journal_of store.old));
-      faults_after = D.faults (disk_of (journal_of store.new));
-      coming = C.coming;
-      clock = clock_of store.old;
-      clock_after = clock_of store.new;
-    }) (record { taken = K.taken sink.old; taken_after = K.taken sink.new; faults = K.faults sink.old; faults_after = K.faults sink.new }) result }
+    ensures end { StoreEnds asks.now (this_store D.tells D.told D.faults C.coming store.old store.new)
+        (this_sink K.taken K.faults sink.old sink.new) result }
 {
     let mut replies = replies;
     run_commands(alloc, store, asks, &mut replies);

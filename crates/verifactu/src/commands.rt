@@ -1,8 +1,8 @@
 // Runs the commands of a script on one thread.
 ghost use Rattle.std.specs.Prelude.{◌≡◌, ◌≤◌, [], None, length, vec_capacity};
-ghost use Rattle.journal.specs.Journal.{disk_of, stopped_of};
-ghost use Rattle.chain_store.specs.Store.{Ready, clock_of, journal_of, state_of};
-ghost use Rattle.verifactu.specs.Stages.{Answers};
+ghost use Rattle.journal.specs.Journal.{stopped_of};
+ghost use Rattle.chain_store.specs.Store.{Ready, journal_of, state_of};
+ghost use Rattle.verifactu.specs.Commands.{Answers, this_store};
 
 use chain_disk::Disk;
 use chain_store::Store;
@@ -23,19 +23,7 @@ pub fn run_commands<D: Disk, C: Clock>(
     requires none { replies.old.items ≡ [] }
     requires room { length asks.now ≤ vec_capacity replies.old }
     ensures issuer { (state_of store.new).issuer ≡ (state_of store.old).issuer }
-    ensures answers { Answers asks.now replies.new.items (record {
-      issuer = (state_of store.old).issuer;
-      start = (state_of store.old).entries;
-      end = (state_of store.new).entries;
-      tells = D.tells;
-      since = D.told (disk_of (journal_of store.old));
-      now = D.told (disk_of (journal_of store.new));
-      faults = D.faults (disk_of (journal_of store.old));
-      faults_after = D.faults (disk_of (journal_of store.new));
-      coming = C.coming;
-      clock = clock_of store.old;
-      clock_after = clock_of store.new;
-    }) }
+    ensures answers { Answers asks.now replies.new.items (this_store D.tells D.told D.faults C.coming store.old store.new) }
 {
     store.state().is_legal();
     for ask in asks {

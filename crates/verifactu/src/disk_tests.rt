@@ -1,11 +1,12 @@
 // Runs over files. The expected Huellas are SHA-256, by another program, of the field texts of these records.
 ghost use Rattle.std.specs.Prelude.{◌≡◌, false};
+ghost use Rattle.ports.specs.Reasons.{count_of};
 ghost use Rattle.chain_disk.specs.File.{untold, untold_reads};
 
 use crate::tests::{CHAIN, ROW, disk_of, ends};
 use chain_disk::{Disk, Fill, MemDisk};
 use parties::Nif;
-use ports::{Clock, CountingClock, Failed};
+use ports::{Clock, CountingClock, Failed, Faults};
 use report::{Detail, Ended};
 use shop_core::What;
 use std::alloc::Global;
@@ -262,13 +263,13 @@ fn a_fault_of_the_disk_stops_the_journal(rt: HostRuntime) -> Result<(), Fail> {
 #[derive(Drop)]
 struct CountedDisk<'a> {
     bytes: Vec<u8>,
-    faults: u64,
+    faults: Faults,
     syncs: &'a AtomicU64,
 }
 
 impl<'a> CountedDisk<'a> {
     fn put(&mut self, at: usize, bytes: &[u8]) -> Option<()>
-        ensures { self.new.faults ≡ self.old.faults }
+        ensures { count_of self.new.faults ≡ count_of self.old.faults }
     {
         let end = at.checked_add(bytes.len())?;
         if end > self.bytes.len() {
@@ -284,9 +285,11 @@ impl<'a> Disk for CountedDisk<'a> {
 
     ghost told = { λ d. untold };
 
-    ghost faults = { λ d. d.faults };
+    ghost faults = { λ d. count_of d.faults };
 
     ghost reads_an_image = { λ d tells. untold_reads };
+
+    ghost few_faults = { λ d. d.faults.few };
 
     fn len(&mut self) -> Result<u64, Failed> {
         Ok(self.bytes.len() as u64)
@@ -302,10 +305,7 @@ impl<'a> Disk for CountedDisk<'a> {
     fn write_at(&mut self, at: u64, bytes: &[u8]) -> Result<(), Failed> {
         match self.put(at as usize, bytes) {
             Some(()) => Ok(()),
-            None => {
-                self.faults = self.faults.saturating_add(1);
-                Err(Failed)
-            }
+            None => Err(self.faults.raise("no memory")),
         }
     }
 
@@ -315,7 +315,7 @@ impl<'a> Disk for CountedDisk<'a> {
     }
 
     fn faults(&self) -> u64 {
-        self.faults
+        self.faults.count()
     }
 }
 
@@ -350,7 +350,7 @@ fn each_record_is_synced_before_the_next_command(rt: HostRuntime) -> Result<(), 
     let syncs = AtomicU64::new(0);
     let disk = CountedDisk {
         bytes: Vec::new(alloc),
-        faults: 0,
+        faults: Faults::none(),
         syncs: &syncs,
     };
     let clock = WatchingClock {

@@ -1,9 +1,9 @@
 // How a run ends.
 ghost use Rattle.std.specs.Prelude.{◌≡◌, ℕ, List};
 ghost use Rattle.std.specs.List.{list_any};
-ghost use Rattle.file_commands.specs.Output.{OutputIs, Sinks};
+ghost use Rattle.ports.specs.Sinks.{OutputIs, Sinks};
 ghost use Rattle.verifactu.specs.Replies as spec;
-ghost use Rattle.verifactu.specs.Run.{RunEnds};
+ghost use Rattle.verifactu.specs.Ending.{RunEnds};
 
 use journal::StoreFault;
 use ports::Failed;
@@ -43,7 +43,7 @@ fn lacks_disk(replies: &[Result<Reply, StoreFault>]) -> bool
 /// The end of a run with these replies, whose text was written or not: want of memory before a fault of the disk, and that
 /// before one of the sink.
 pub fn end_of(replies: &[Result<Reply, StoreFault>], written: Result<(), Failed>) -> Detail
-    ensures { (text : List ℕ) (s : Sinks) → OutputIs s.taken s.taken_after s.faults s.faults_after text written → RunEnds replies.now text s result }
+    ensures { (text : List ℕ) (s : Sinks) → OutputIs s text written → RunEnds replies.now text s result }
 {
     if lacks_memory(replies) {
         return Detail::NoMemory;

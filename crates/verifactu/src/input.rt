@@ -1,11 +1,12 @@
 // Reads a source to its end.
 ghost use Rattle.std.specs.Prelude.{◌≡◌, ◌≤◌};
-ghost use Rattle.verifactu.specs.Inputs.{InputIs};
+ghost use Rattle.ports.specs.Sources.{this_source};
+ghost use Rattle.verifactu.specs.Input.{InputIs};
 
 use ports::Source;
 use std::alloc::Global;
 
-/// The greatest input, in bytes.
+/// The greatest input, in bytes. The limit is this project's own.
 pub const MAX_INPUT: usize = 16_777_216;
 
 /// Why a source wasn't read to its end.
@@ -18,7 +19,7 @@ pub enum InputFault {
 
 /// All the bytes of a source. Each turn takes one at least.
 pub fn read_input<S: Source>(alloc: Global, source: &mut S) -> Result<Vec<u8>, InputFault>
-    ensures input { InputIs (S.left source.old) (S.left source.new) (S.faults source.old) (S.faults source.new) result }
+    ensures input { InputIs (this_source S.left S.faults source.old source.new) result }
     ensures later { S.faults source.old ≤ S.faults source.new }
 {
     let mut bytes = Vec::new(alloc);

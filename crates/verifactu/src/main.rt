@@ -16,8 +16,9 @@ mod tests;
 mod words;
 
 use chain_disk::FileDisk;
-use ports::{NoMemory, StdSink, StdSource, SystemClock};
-use report::{Detail, Ended, fault_text, status_of};
+use file_commands::ended_as;
+use ports::{StdSink, StdSource, SystemClock};
+use report::{Detail, Ended, fault_text};
 use run::run;
 use std::env;
 use std::io::{ErrorKind, Write};
@@ -36,38 +37,14 @@ fn words_of(rt: &HostRuntime) -> Result<Vec<String>, Detail> {
 }
 
 // FILE, the word behind the command's. Where there is none, no call touches the disk.
-fn file_of(rt: &HostRuntime, words: &[String]) -> Result<String, NoMemory> {
+fn file_of(words: &[String]) -> &str {
     match words.get(1) {
-        Some(file) => Ok(String::from_str(rt.alloc(), file.as_str())?),
-        None => Ok(String::new(rt.alloc())),
+        Some(file) => file.as_str(),
+        None => "",
     }
 }
 
-fn ended_as(detail: Detail) -> Ended {
-    Ended {
-        status: status_of(&detail),
-        detail,
-    }
-}
-
-fn end_of_program(rt: &HostRuntime) -> Ended {
-    match words_of(rt) {
-        Err(detail) => ended_as(detail),
-        Ok(words) => match file_of(rt, &words) {
-            Err(_) => ended_as(Detail::NoMemory),
-            Ok(path) => {
-                let mut source = StdSource::new(rt);
-                let mut sink = StdSink::new(rt);
-                let disk = FileDisk::at(rt, path);
-                let clock = SystemClock::new(rt);
-                let (ended, _, _) = run(rt.alloc(), &words, &mut source, &mut sink, disk, clock);
-                ended
-            }
-        },
-    }
-}
-
-// A fault that can't be printed changes nothing: the status tells it.
+// A line that can't be printed changes nothing: the status tells it.
 fn print_fault(rt: &HostRuntime, detail: &Detail) {
     let mut stderr = rt.stderr();
     let _ = match fault_text(rt.alloc(), detail) {
@@ -76,10 +53,47 @@ fn print_fault(rt: &HostRuntime, detail: &Detail) {
     };
 }
 
-fn main(rt: HostRuntime) -> ExitCode {
-    let ended = end_of_program(&rt);
-    if ended.status != 0 {
-        print_fault(&rt, &ended.detail);
+// Why a device failed, in the words that its adapter kept.
+fn print_reason(rt: &HostRuntime, thing: &str, reason: Option<&str>) {
+    if let Some(reason) = reason {
+        let _ = eprintln!(rt; "verifactu: {thing}: {reason}");
     }
+}
+
+fn call(rt: &HostRuntime, words: &[String], file: &str, path: String) -> Ended {
+    let mut source = StdSource::new(rt);
+    let mut sink = StdSink::new(rt);
+    let disk = FileDisk::at(rt, path);
+    let clock = SystemClock::new(rt);
+    let (ended, disk, _) = run(rt.alloc(), words, &mut source, &mut sink, disk, clock);
+    if ended.status != 0 {
+        print_fault(rt, &ended.detail);
+    }
+    print_reason(rt, "standard input", source.reason());
+    print_reason(rt, file, disk.reason());
+    print_reason(rt, "standard output", sink.reason());
+    if disk.missing() {
+        // `audit` and `link` alone look at a file that they don't make: a mistyped name must not look like a sound shop.
+        print_reason(rt, file, Some("no such file, read as not begun"));
+    }
+    ended
+}
+
+fn failed(rt: &HostRuntime, detail: Detail) -> Ended {
+    print_fault(rt, &detail);
+    ended_as(detail)
+}
+
+fn main(rt: HostRuntime) -> ExitCode {
+    let ended = match words_of(&rt) {
+        Err(detail) => failed(&rt, detail),
+        Ok(words) => {
+            let file = file_of(&words);
+            match String::from_str(rt.alloc(), file) {
+                Err(_) => failed(&rt, Detail::NoMemory),
+                Ok(path) => call(&rt, &words, file, path),
+            }
+        }
+    };
     ExitCode::from(ended.status)
 }

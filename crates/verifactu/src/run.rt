@@ -1,21 +1,26 @@
 // The program: one call does all that it does.
-ghost use Rattle.std.specs.Prelude.{map, string_bytes};
-ghost use Rattle.verifactu.specs.Run.{EndsAs, CommandEnds, PrintEnds};
+ghost use Rattle.std.specs.Prelude.{◌≡◌, map, string_bytes};
+ghost use Rattle.ports.specs.Sinks.{this_sink};
+ghost use Rattle.ports.specs.Sources.{this_source};
+ghost use Rattle.chain_disk.specs.Disks.{this_disk};
+ghost use Rattle.verifactu.specs.Devices.{this_clock};
+ghost use Rattle.report.specs.Statuses.{status_of};
+ghost use Rattle.report.specs.declared.ended.Detail.TheVariants as detail;
+ghost use Rattle.file_commands.specs.Output.{PrintEnds};
+ghost use Rattle.verifactu.specs.Run.{CommandEnds, EndsAs};
 
-use crate::chain::chain;
+use crate::chain::chain_cmd;
 use crate::help::{help_text, version_text};
 use crate::words::{Command, command_of};
 use chain_disk::Disk;
-use file_commands::{audit_cmd, link_cmd, write_text};
+use file_commands::{audit_cmd, ended_as, link_cmd, print};
 use ports::{Clock, Sink, Source};
-use report::{Detail, Ended, status_of};
+use report::{Detail, Ended};
 use std::alloc::Global;
 
 /// Runs the command that the words are. `audit FILE` prints the verdict on the file, and `link FILE NUM HOST` the link of an
-/// invoice: both read the disk alone. `chain FILE NIF` reads a script from the source, opens the disk for this issuer, runs
-/// the commands on the history that it holds, keeps each entry on the disk before the next command, and prints the replies
-/// and the chain to the sink; `--help` and `--version` print their texts. The clock is asked once a command, where the
-/// script has no clock line, and no more once the disk has failed. FILE itself is the caller's: it names the disk.
+/// invoice: both read the disk alone. `chain FILE NIF` is `chain_cmd` for this issuer; `--help` and `--version` print their
+/// texts. FILE itself is the caller's: it names the disk.
 pub fn run<S: Source, K: Sink, D: Disk, C: Clock>(
     alloc: Global,
     words: &[String],
@@ -25,65 +30,52 @@ pub fn run<S: Source, K: Sink, D: Disk, C: Clock>(
     clock: C,
 ) -> (Ended, D, C)
     ensures { EndsAs (map string_bytes words.now) (record {
-      left = S.left source.old;
-      left_after = S.left source.new;
-      read_faults = S.faults source.old;
-      read_faults_after = S.faults source.new;
-      sink = record { taken = K.taken sink.old; taken_after = K.taken sink.new; faults = K.faults sink.old; faults_after = K.faults sink.new };
-      disk = record { tells = D.tells; told = D.told; faults = D.faults; disk = disk; disk_after = result.1 };
-      coming = C.coming;
-      clock = clock;
-      clock_after = result.2;
+      source = this_source S.left S.faults source.old source.new;
+      sink = this_sink K.taken K.faults sink.old sink.new;
+      disk = this_disk D.tells D.told D.faults disk result.1;
+      clock = this_clock C.coming clock result.2;
     }) result.0 }
 {
-    let (detail, disk, clock) = match command_of(words) {
-        None => (Detail::Usage, disk, clock),
-        Some(command) => end_of(alloc, command, source, sink, disk, clock),
-    };
-    let status = status_of(&detail);
-    (Ended { status, detail }, disk, clock)
+    match command_of(words) {
+        None => (ended_as(Detail::Usage), disk, clock),
+        Some(command) => obey(alloc, command, source, sink, disk, clock),
+    }
 }
 
-fn end_of<S: Source, K: Sink, D: Disk, C: Clock>(
+fn obey<S: Source, K: Sink, D: Disk, C: Clock>(
     alloc: Global,
     command: Command,
     source: &mut S,
     sink: &mut K,
     disk: D,
     clock: C,
-) -> (Detail, D, C)
-    ensures { CommandEnds command (record {
-      left = S.left source.old;
-      left_after = S.left source.new;
-      read_faults = S.faults source.old;
-      read_faults_after = S.faults source.new;
-      sink = record { taken = K.taken sink.old; taken_after = K.taken sink.new; faults = K.faults sink.old; faults_after = K.faults sink.new };
-      disk = record { tells = D.tells; told = D.told; faults = D.faults; disk = disk; disk_after = result.1 };
-      coming = C.coming;
-      clock = clock;
-      clock_after = result.2;
-    }) result.0 }
+) -> (Ended, D, C)
+    ensures status { result.0.status ≡ status_of result.0.detail }
+    ensures ends { CommandEnds command (record {
+      source = this_source S.left S.faults source.old source.new;
+      sink = this_sink K.taken K.faults sink.old sink.new;
+      disk = this_disk D.tells D.told D.faults disk result.1;
+      clock = this_clock C.coming clock result.2;
+    }) result.0.detail }
 {
     match command {
-        Command::Chain(issuer) => chain(alloc, &issuer, source, sink, disk, clock),
+        Command::Chain(issuer) => chain_cmd(alloc, &issuer, source, sink, disk, clock),
         Command::Audit => {
             let (ended, disk) = audit_cmd(alloc, sink, disk);
-            (ended.detail, disk, clock)
+            (ended, disk, clock)
         }
         Command::Link(num, host) => {
             let (ended, disk) = link_cmd(alloc, &num, host, sink, disk);
-            (ended.detail, disk, clock)
+            (ended, disk, clock)
         }
-        Command::Help => (print(help_text(), sink), disk, clock),
-        Command::Version => (print(version_text(), sink), disk, clock),
+        Command::Help => (print_text(help_text(), sink), disk, clock),
+        Command::Version => (print_text(version_text(), sink), disk, clock),
     }
 }
 
-fn print<K: Sink>(text: &[u8], sink: &mut K) -> Detail
-    ensures { PrintEnds text.now (record { taken = K.taken sink.old; taken_after = K.taken sink.new; faults = K.faults sink.old; faults_after = K.faults sink.new }) result }
+fn print_text<K: Sink>(text: &[u8], sink: &mut K) -> Ended
+    ensures status { result.status ≡ status_of result.detail }
+    ensures ends { PrintEnds text.now detail.Done (this_sink K.taken K.faults sink.old sink.new) result.detail }
 {
-    match write_text(sink, text) {
-        Ok(()) => Detail::Done,
-        Err(_) => Detail::WriteFault,
-    }
+    ended_as(print(text, Detail::Done, sink))
 }

@@ -1,18 +1,35 @@
-use Rattle.file_commands.specs.Disks.{Disks}
-use Rattle.file_commands.specs.Ends.{entries_of}
-use Rattle.file_commands.specs.Output.{Sinks}
-use Rattle.file_commands.proofs.FileEnding.{link_ends, loaded_history}
+use Rattle.std.proofs.Common.{rules, ◌≡◌, List, [], subst, refl}
+use Rattle.shop_core.specs.Reading.{IsRead}
+use Rattle.shop_core.specs.declared.reading.FileRead.{FileRead}
+use Rattle.file_commands.specs.Linking.LinkEnds.{read, damaged, disk_fault, no_memory}
+use Rattle.file_commands.specs.Linking.LinkedFrom.{unknown}
+use Rattle.file_commands.proofs.Bytewise.{took_nothing}
+use Rattle.file_commands.proofs.FileReads.{Holds, holds}
 use Rattle.file_commands.proofs.linking.linked.Goals as goal
 
-pub returns-in-Ok-clause-ends : goal.returns-in-Ok-clause-ends
-returns-in-Ok-clause-ends g c =
-    let s : Sinks = record {
-      taken = g.K.Sink.taken c.args.sink.now;
-      taken_after = g.K.Sink.taken c.link_in.new.sink;
-      faults = g.K.Sink.faults c.args.sink.now;
-      faults_after = g.K.Sink.faults c.link_in.new.sink;
-    } in
-    let k : Disks g.row.D.Denot = record { tells = g.D.Disk.tells; told = g.D.Disk.told; faults = g.D.Disk.faults; disk = c.args.disk.now; disk_after = c.load.new.disk } in
-    let loaded = c.in-Ok.loaded in
-    link_ends (entries_of loaded.state) c.args.num.now c.args.host s k c.link_in.result
-    (λ tells. loaded_history (g.D.Disk.told c.args.disk.now).content loaded.issuer loaded.state loaded.end (c.in-Ok.ensures.content tells)) c.link_in.ensures
+pub returns-in-Ok-Sound-clause-ends : goal.returns-in-Ok-Sound-clause-ends
+returns-in-Ok-Sound-clause-ends g c =
+    let content = (g.D.Disk.told c.args.disk.now).content in
+    read c.in-Ok-Sound.state.entries c.link_in.result
+    (λ says. subst (λ (r : FileRead). Holds content r) c.in-Ok-Sound.field-0-is (holds content c.in-Ok-Sound.field-0 (c.in-Ok-Sound.ensures.read says)))
+    c.link_in.ensures
+
+pub returns-in-Ok-NotBegun-clause-ends : goal.returns-in-Ok-NotBegun-clause-ends
+returns-in-Ok-NotBegun-clause-ends g c =
+    let content = (g.D.Disk.told c.args.disk.now).content in
+    read [] _
+    (λ says. subst (λ (r : FileRead). Holds content r) c.in-Ok-NotBegun.field-0-is (holds content c.in-Ok-NotBegun.field-0 (c.in-Ok-NotBegun.ensures.read says)))
+    (unknown refl (took_nothing (g.K.Sink.taken c.args.sink.now)))
+
+pub returns-in-Ok-Broken-clause-ends : goal.returns-in-Ok-Broken-clause-ends
+returns-in-Ok-Broken-clause-ends g c =
+    let content = (g.D.Disk.told c.args.disk.now).content in
+    damaged c.in-Ok-Broken.at
+    (λ says. c.a_broken_file_is_damaged.ensures content _ c.in-Ok-Broken.at _ (subst (λ (r : FileRead). IsRead content r) c.in-Ok-Broken.field-0-is (c.in-Ok-Broken.ensures.read says)))
+    (took_nothing (g.K.Sink.taken c.args.sink.now))
+
+pub returns-in-Err-DiskFault-clause-ends : goal.returns-in-Err-DiskFault-clause-ends
+returns-in-Err-DiskFault-clause-ends g c = disk_fault (search rules) (took_nothing (g.K.Sink.taken c.args.sink.now))
+
+pub returns-in-Err-NoMemory-clause-ends : goal.returns-in-Err-NoMemory-clause-ends
+returns-in-Err-NoMemory-clause-ends g c = no_memory (took_nothing (g.K.Sink.taken c.args.sink.now))

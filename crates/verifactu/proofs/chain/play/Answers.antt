@@ -1,26 +1,25 @@
-use Rattle.std.proofs.Common.{◌≡◌, ◌∙◌, ◌++◌, ℕ, List, sym, ap, subst, Result}
+use Rattle.std.proofs.Common.{◌≡◌, ◌∙◌, ◌++◌, ℕ, List, ap, subst, Result}
 use Rattle.chain_store.specs.Store.{state_of}
 use Rattle.journal.specs.declared.faults.StoreFault.{StoreFault}
-use Rattle.record_codec.specs.declared.entries.Entry.{Entry}
+use Rattle.file_commands.proofs.Bytewise.{took_nothing}
+use Rattle.ports.specs.Sinks.{this_sink}
 use Rattle.shop_core.specs.History.{History}
 use Rattle.shop_core.specs.declared.answers.Reply.{Reply}
-use Rattle.file_commands.specs.Output.{OutputIs}
+use Rattle.verifactu.specs.Ending.{RunEnds}
+use Rattle.verifactu.specs.Ending.RunEnds.{no_memory}
 use Rattle.verifactu.specs.Printed.{printed}
-use Rattle.file_commands.specs.Output.{Sinks}
-use Rattle.verifactu.specs.Run.{RunEnds}
 use Rattle.verifactu.proofs.chain.play.Goals as goal
+
+pub returns-in_default-clause-end : goal.returns-in_default-clause-end
+returns-in_default-clause-end g c =
+    (c.run_commands.new.replies.items, c.run_commands.ensures.answers, no_memory (0, took_nothing (g.K.Sink.taken c.args.sink.now)))
 
 pub returns-clause-end : goal.returns-clause-end
 returns-clause-end g c =
     let asks = c.args.asks.now in
     let replies = c.run_commands.new.replies.items in
     let end = (state_of c.run_commands.new.store).entries in
-    let sink : Sinks = record {
-      taken = g.K.Sink.taken c.args.sink.now;
-      taken_after = g.K.Sink.taken c.write_texts-written.new.sink;
-      faults = g.K.Sink.faults c.args.sink.now;
-      faults_after = g.K.Sink.faults c.write_texts-written.new.sink;
-    } in
+    let sink = this_sink g.K.Sink.taken g.K.Sink.faults c.args.sink.now c.write_texts-written.new.sink in
     let text = c.in-Ok.told.answers ++ c.in-Ok.told.listing in
     let tells : text ≡ printed asks replies end =
     c.in-Ok.ensures ∙ ap (λ (rs : List (Result Reply StoreFault)). printed asks rs c.state.result.now.entries) c.deref.ensures.value

@@ -1,56 +1,61 @@
-use Rattle.std.proofs.Common.{rules, ◌≡◌, inl, inr, ℕ, List, [], sym, ap, subst, refl, IsTrue}
-use Rattle.chain_disk.specs.Told.{Told}
+use Rattle.std.proofs.Common.{rules, inl, inr, subst, refl}
+use Rattle.chain_disk.specs.Disks.{this_disk}
 use Rattle.chain_store.specs.Store.{state_of, journal_of, clock_of}
+use Rattle.file_commands.proofs.Bytewise.{took_nothing}
 use Rattle.journal.specs.Journal.{disk_of}
+use Rattle.ports.specs.Sinks.{this_sink}
+use Rattle.verifactu.specs.Chain.{ScriptEnds}
+use Rattle.verifactu.specs.Commands.{Stores}
+use Rattle.verifactu.specs.Devices.{this_clock}
 use Rattle.verifactu.specs.Readings.{IsAsked, readings}
-use Rattle.file_commands.specs.Output.{Sinks}
-use Rattle.file_commands.specs.Disks.{Disks}
-use Rattle.verifactu.specs.Run.{NotOpened, OpeningEnds, ScriptEnds}
-use Rattle.verifactu.specs.Stages.{Answers, Span}
-use Rattle.verifactu.proofs.RunEnding.{opening_ends, not_asked, ran}
+use Rattle.verifactu.proofs.RunEnding.{keeps_file, not_asked, store_ran}
 use Rattle.verifactu.proofs.chain.run_asks.Goals as goal
 
 pub returns-in-Err : goal.returns-in-Err
 returns-in-Err g c =
     let fault = c.in-Err.fault in
-    let disk : Disks g.row.D.Denot = record { tells = g.D.Disk.tells; told = g.D.Disk.told; faults = g.D.Disk.faults; disk = c.args.disk; disk_after = fault.disk } in
-    let ends : OpeningEnds c.args.issuer.now disk c.detail_of.result =
-    subst (λ d. OpeningEnds c.args.issuer.now disk d) (sym c.detail_of.ensures)
-    (opening_ends fault.cause c.args.issuer.now disk c.in-Err.ensures.disk_fault (λ at is says. c.in-Err.ensures.damaged at is says) (λ held is says. c.in-Err.ensures.other held is says) c.in-Err.ensures.kept) in
-    inl (record {
-      cause = ends;
+    let h = c.in-Err.ensures in
+    inr (inl (record {
+      why = fault.cause;
+      ends = c.opening_end.ensures;
+      risen = h.disk_fault;
+      left = h.left;
+      every_crash = λ says. keeps_file c.args.issuer.now fault.cause (g.D.Disk.told c.args.disk) (g.D.Disk.told fault.disk) (h.left says);
       wrote = search rules;
-      clock = not_asked g.C.Clock.coming c.args.clock fault.clock c.in-Err.ensures.clock_err;
-    })
+      clock = not_asked (this_clock g.C.Clock.coming c.args.clock fault.clock) h.clock_err;
+    }))
+
+pub returns-then-is_err : goal.returns-then-is_err
+returns-then-is_err g c = inl (record {
+  ends = refl;
+  wrote = took_nothing (g.K.Sink.taken c.args.sink.now);
+  disk = refl;
+  clock = not_asked (this_clock g.C.Clock.coming c.args.clock c.args.clock) refl;
+})
 
 pub returns-in-Ok : goal.returns-in-Ok
 returns-in-Ok g c =
     let store = c.in-Ok.store in
     let after = c.run_opened.result.2 in
     let coming = g.C.Clock.coming in
+    let told = g.D.Disk.told in
+    let faults = g.D.Disk.faults in
     let issuer = c.args.issuer.now in
     let asks = c.args.asks.now in
-    let sink : Sinks = record {
-      taken = g.K.Sink.taken c.args.sink.now;
-      taken_after = g.K.Sink.taken c.run_opened.new.sink;
-      faults = g.K.Sink.faults c.args.sink.now;
-      faults_after = g.K.Sink.faults c.run_opened.new.sink;
-    } in
-    let disk : Disks g.row.D.Denot =
-    record { tells = g.D.Disk.tells; told = g.D.Disk.told; faults = g.D.Disk.faults; disk = c.args.disk; disk_after = c.run_opened.result.1 } in
+    let sink = this_sink g.K.Sink.taken g.K.Sink.faults c.args.sink.now c.run_opened.new.sink in
+    let disk = this_disk g.D.Disk.tells told faults c.args.disk c.run_opened.result.1 in
     let h = c.run_opened.ensures in
-    let span : Span g.row.C.Denot = record {
+    let span : Stores g.row.C.Denot = record {
       issuer = (state_of store).issuer;
       start = (state_of store).entries;
       end = h.0;
       tells = g.D.Disk.tells;
-      since = g.D.Disk.told (disk_of (journal_of store));
-      now = g.D.Disk.told c.run_opened.result.1;
-      faults = g.D.Disk.faults (disk_of (journal_of store));
-      faults_after = g.D.Disk.faults c.run_opened.result.1;
-      coming = coming;
-      clock = clock_of store;
-      clock_after = after;
+      since = told (disk_of (journal_of store));
+      now = told c.run_opened.result.1;
+      faults = faults (disk_of (journal_of store));
+      faults_after = faults c.run_opened.result.1;
+      clock = this_clock coming (clock_of store) after;
     } in
-    let run = ran issuer asks h.1.0 span sink disk c.run_opened.result.0 c.in-Ok.ensures.issuer refl refl refl c.in-Ok.ensures.later c.in-Ok.ensures.found c.in-Ok.ensures.any_moment h.1.1 h.1.2 in
-    subst (λ x. ScriptEnds issuer asks (coming x) (λ replies. IsAsked coming (readings replies) x after) sink disk c.run_opened.result.0) c.in-Ok.ensures.clock run
+    let opened = c.in-Ok.ensures in
+    let run = store_ran issuer asks h.1.0 span sink disk c.run_opened.result.0 opened.issuer refl refl refl opened.later opened.found opened.any_moment h.1.1 h.1.2 in
+    subst (λ x. ScriptEnds issuer asks (coming x) (λ replies. IsAsked (this_clock coming x after) (readings replies)) sink disk c.run_opened.result.0) opened.clock run

@@ -1,4 +1,4 @@
-use Rattle.std.proofs.Common.{◌≡◌, ℕ, ◌∙◌, ◌+◌, ◌∷◌, ◌++◌, List, length, length-append, take, get_or, sym, refl, ap, subst, arith, [], Result}
+use Rattle.std.proofs.Common.{◌≡◌, ℕ, ◌∙◌, ◌+◌, ◌∷◌, ◌++◌, List, length, length-append, take, sym, refl, ap, subst, arith, [], Result}
 use Rattle.std.proofs.lemmas.List.{take_more, take_all}
 use Rattle.chain_store.specs.Store.{journal_of, state_of, clock_of}
 use Rattle.journal.specs.Journal.{disk_of, end_of, stopped_of}

@@ -1,0 +1,20 @@
+-- What was read of a file is its history.
+use Rattle.std.proofs.Common.{inl, inr, List, ℕ, [], refl}
+use Rattle.shop_core.specs.Reading.{IsRead}
+use Rattle.shop_core.specs.Reading.IsRead.{not_begun, stands, in_header, no_frame, no_entry, not_next}
+use Rattle.shop_core.specs.declared.reading.FileRead.{FileRead}
+use Rattle.shop_core.specs.declared.reading.FileRead.TheVariants.{NotBegun, Sound, Broken}
+use Rattle.file_commands.specs.Linking.{IsHistoryOf}
+
+abbrev pub Holds : List ℕ → FileRead → Type 0
+Holds file NotBegun = IsHistoryOf [] file
+Holds file (Sound history end) = IsHistoryOf history.entries file
+Holds file (Broken place at what) = Unit {0}
+
+pub holds : (file : List ℕ) (read : FileRead) → IsRead file read → Holds file read
+holds file read (not_begun none) = inl (none, refl)
+holds file read (stands history end h gate) = inr (history.issuer, h)
+holds file read (in_header at h) = tt
+holds file read (no_frame issuer entries at sound damaged) = tt
+holds file read (no_entry issuer entries at body sound counted none) = tt
+holds file read (not_next issuer entries at body entry why sound counted encoding not broken) = tt

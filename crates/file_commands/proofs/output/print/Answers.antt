@@ -1,0 +1,8 @@
+use Rattle.file_commands.specs.Output.PrintEnds.{printed, failed}
+use Rattle.file_commands.proofs.output.print.Goals as goal
+
+pub returns-in-Ok : goal.returns-in-Ok
+returns-in-Ok g c = printed c.in-Ok.ensures.output
+
+pub returns-in-Err : goal.returns-in-Err
+returns-in-Err g c = failed c.in-Err.ensures.output

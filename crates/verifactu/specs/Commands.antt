@@ -1,0 +1,56 @@
+-- What a script's commands leave of the store that replies to them.
+use Rattle.std.specs.Prelude.{ℕ, List, Bool, IsTrue, Option}
+use Rattle.chain_disk.specs.Told.{Told}
+use Rattle.chain_disk.specs.declared.disk.Disk.{Ghosts}
+use Rattle.huella.specs.Linked.{Linked}
+use Rattle.journal.specs.Journal.{disk_of}
+use Rattle.record_codec.specs.declared.entries.Entry.{Entry}
+use Rattle.shop_core.specs.Asked.{Asked}
+use Rattle.shop_core.specs.History.{recs}
+use Rattle.shop_core.specs.Legal.{Legal}
+use Rattle.shop_core.specs.Rising.{SerialsRise}
+use Rattle.shop_core.specs.Runs.{ChainRun}
+use Rattle.chain_store.specs.Store.{state_of, journal_of, clock_of}
+use Rattle.chain_store.specs.declared.store.Store.{Store}
+use Rattle.verifactu.specs.Crashes.{IsPrefix, Kept, StandsBetween}
+use Rattle.verifactu.specs.Devices.{Clocks, this_clock}
+use Rattle.verifactu.specs.Readings.{IsComing, IsAsked, readings}
+use Rattle.verifactu.specs.Replies.{Replies, StopsOnce}
+
+-- a store's history and disk before the commands and after them, and its clock
+pub record Stores (C : Type 0) : Type 0 where
+  pub issuer : List ℕ
+  pub start : List Entry
+  pub end : List Entry
+  pub tells : Bool
+  pub since : Told
+  pub now : Told
+  pub faults : ℕ
+  pub faults_after : ℕ
+  pub clock : Clocks C
+
+-- this store in this call: of its kind, before and after
+abbrev pub this_store : {D C : Type 0} {g : Ghosts D} → Bool → (D → Told) → (D → ℕ) → (C → ℕ → Option ℕ) →
+    Store D C g → Store D C g → Stores C
+this_store tells told faults coming old new = record {
+  issuer = (state_of old).issuer;
+  start = (state_of old).entries;
+  end = (state_of new).entries;
+  tells = tells;
+  since = told (disk_of (journal_of old));
+  now = told (disk_of (journal_of new));
+  faults = faults (disk_of (journal_of old));
+  faults_after = faults (disk_of (journal_of new));
+  clock = this_clock coming (clock_of old) (clock_of new);
+}
+
+-- these asks got these replies from it
+pub record Answers {C : Type 0} (asks : List Asked) (replies : Replies) (s : Stores C) : Type 0 where
+  pub run : ChainRun s.issuer (IsComing (s.clock.coming s.clock.clock)) s.start asks replies s.end
+  pub begins : IsPrefix s.start s.end
+  pub legal : Legal s.issuer s.end
+  pub linked : Linked s.issuer (recs s.end)
+  pub rising : (till : ℕ) → SerialsRise s.end till
+  pub stops : StopsOnce s.faults s.faults_after replies
+  pub kept : IsTrue s.tells → Kept (StandsBetween s.issuer s.start s.end) s.issuer s.end replies s.since s.now
+  pub asked : IsAsked s.clock (readings replies)
