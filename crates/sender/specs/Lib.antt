@@ -1,0 +1,9 @@
+pub mod Faults
+pub mod Evident
+pub mod Sending
+pub mod Turning
+pub mod Dark
+pub mod Agreeing
+pub mod Draining
+pub mod Lines
+pub mod Known

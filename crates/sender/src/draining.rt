@@ -1,0 +1,252 @@
+// Turns until no record waits.
+ghost use Rattle.std.specs.Prelude.{◌≡◌, ◌<◌, ◌≤◌, ◌+◌, ◌-◌, ◌*◌, ◌^◌, ◌++◌, ℕ, length, List, IsTrue, IsErrOf, OnOk, OnErr};
+ghost use Rattle.agency_port.specs.declared.messages.Message.{Message as AnyMessage};
+ghost use Rattle.agency_port.specs.declared.turns.Evidence.{Evidence as AnyEvidence};
+ghost use Rattle.shop_core.specs.History.{recs, noted, waiting};
+ghost use Rattle.once_world.specs.Outbox.{GainsOwnNotes, history_of};
+ghost use Rattle.sender.specs.Agreeing.{InSession, KeepsReply, KeepsSession, AgreesTorn, AgreesIfTorn, Adds, AreNotesOrTorn, IsCareful};
+ghost use Rattle.sender.specs.declared.draining.TheConstants.{MAX_LINK_FAULTS};
+ghost use Rattle.sender.specs.Lines.{DrainTells, SaysCalls};
+ghost use Rattle.sender.specs.Draining.{told_in, told_list, moment_after, LinksAfter, Made, Drained, IsBounded};
+
+use crate::laws::what_is_known;
+use crate::{DrainFault, SendFault, Sender, Turn};
+use agency_port::{Agency, Told, Turns, the_last_named_reply_is_kept};
+use journal::StoreFault;
+use once_world::Outbox;
+use ports::{NoMemory, Sleeper};
+use shop_core::legal_is_chained;
+use std::alloc::Global;
+use std::sync::Wait;
+
+/// So many turns with a link fault end a drain.
+pub const MAX_LINK_FAULTS: u32 = 8;
+
+// What a turn answered, and the counts at its look.
+#[derive(Drop)]
+pub(crate) struct Counted {
+    pub(crate) noted: u32,
+    pub(crate) records: u32,
+    pub(crate) answer: Result<Turn, SendFault>,
+}
+
+// What is told of a turn.
+fn told_of(answer: &Result<Turn, SendFault>) -> Option<Told>
+    ensures { result ≡ told_in answer.now }
+{
+    match answer {
+        Ok(Turn::Idle { .. }) => None,
+        Ok(Turn::WaitUntil(at)) => Some(Told::Wait(*at)),
+        Ok(Turn::Noted { n }) => Some(Told::Noted(*n)),
+        Ok(Turn::Cleared) => Some(Told::Cleared),
+        Ok(Turn::Doubt { place }) => Some(Told::Doubt(*place)),
+        Err(SendFault::LinkFault) => Some(Told::Link),
+        Err(SendFault::Contradiction(_)) => Some(Told::Contradiction),
+        Err(SendFault::Store(StoreFault::DiskFault)) => Some(Told::Disk),
+        Err(SendFault::Store(StoreFault::Stopped { faults })) => Some(Told::Stopped(*faults)),
+        Err(SendFault::Store(StoreFault::NoMemory)) => Some(Told::Memory),
+        Err(SendFault::NoMemory) => Some(Told::Memory),
+    }
+}
+
+// Whether there is nothing more to do after this turn, with so many link faults before it.
+fn ends_with(made: &Counted, links: &mut u32) -> Result<bool, DrainFault>
+    requires { links.old < MAX_LINK_FAULTS }
+    ensures { LinksAfter made.now links.old links.new result }
+{
+    match made.answer {
+        Ok(Turn::Idle { .. }) => Ok(true),
+        Ok(_) => Ok(false),
+        Err(SendFault::LinkFault) => {
+            *links += 1;
+            if *links == MAX_LINK_FAULTS {
+                return Err(DrainFault::Undelivered {
+                    noted: made.noted,
+                    records: made.records,
+                });
+            }
+            Ok(false)
+        }
+        Err(SendFault::Contradiction(evidence)) => Err(DrainFault::Contradiction(evidence)),
+        Err(SendFault::Store(fault)) => Err(DrainFault::Store(fault)),
+        Err(SendFault::NoMemory) => Err(DrainFault::NoMemory),
+    }
+}
+
+// Tells a turn. Without memory it isn't told.
+fn tell(turns: &mut Turns, answer: &Result<Turn, SendFault>) -> Result<(), NoMemory>
+    ensures ok { OnOk result (turns.new ≡ turns.old ++ told_list answer.now) }
+    ensures err { OnErr result (turns.new ≡ turns.old) }
+{
+    if let Some(told) = told_of(answer) {
+        turns.push(told)?;
+    }
+    Ok(())
+}
+
+// At `WaitUntil` it sleeps.
+fn pause<R: Wait, Z: Sleeper>(rt: &R, sleeper: &mut Z, answer: &Result<Turn, SendFault>)
+    ensures { Z.moment sleeper.new ≡ moment_after (Z.moment sleeper.old) answer.now }
+{
+    if let Ok(Turn::WaitUntil(at)) = answer {
+        sleeper.wait_until(rt, *at);
+    }
+}
+
+impl Sender {
+    // One turn of a drain: whether it was the last.
+    fn drain_turn<R: Wait, O: Outbox, G: Agency, Z: Sleeper>(
+        &mut self,
+        rt: &R,
+        alloc: Global,
+        outbox: &mut O,
+        agency: &mut G,
+        sleeper: &mut Z,
+        turns: &mut Turns,
+        links: &mut u32,
+    ) -> Result<bool, DrainFault>
+        requires { links.old < MAX_LINK_FAULTS }
+        ensures made { Made (record { tells = G.tells; keeps_rules = G.keeps_rules }) Z.tells
+            (record {
+              desk = record { ledger = G.ledger agency.old; faults = G.faults agency.old };
+              sight = O.sight outbox.old;
+              sending = self.old;
+              moment = Z.moment sleeper.old;
+            })
+            (record {
+              desk = record { ledger = G.ledger agency.new; faults = G.faults agency.new };
+              sight = O.sight outbox.new;
+              sending = self.new;
+              moment = Z.moment sleeper.new;
+            })
+            turns.old turns.new links.old links.new result }
+        ensures fixed { O.fixed outbox.new ≡ O.fixed outbox.old }
+    {
+        let now = sleeper.now();
+        let made = self.counted_turn(rt, alloc, outbox, agency, now);
+        pause(rt, sleeper, &made.answer);
+        if tell(turns, &made.answer).is_err() {
+            return Err(DrainFault::NoMemory);
+        }
+        ends_with(&made, links)
+    }
+
+    /// Makes turns until one finds that no record waits: then all records are noted. At `WaitUntil` it sleeps, and a link
+    /// fault is passed over, up to the eighth (`Undelivered`). Each turn is told, but for the last; without memory for it a
+    /// turn isn't told, and the drain ends.
+    pub fn drain<R: Wait, O: Outbox, G: Agency, Z: Sleeper>(
+        &mut self,
+        rt: &R,
+        alloc: Global,
+        outbox: &mut O,
+        agency: &mut G,
+        sleeper: &mut Z,
+        turns: &mut Turns,
+    ) -> Result<(), DrainFault>
+        ensures drained { Drained (record { tells = G.tells; keeps_rules = G.keeps_rules }) Z.tells
+            (record {
+              desk = record { ledger = G.ledger agency.old; faults = G.faults agency.old };
+              sight = O.sight outbox.old;
+              sending = self.old;
+              moment = Z.moment sleeper.old;
+            })
+            (record {
+              desk = record { ledger = G.ledger agency.new; faults = G.faults agency.new };
+              sight = O.sight outbox.new;
+              sending = self.new;
+              moment = Z.moment sleeper.new;
+            })
+            turns.old turns.new result }
+        ensures fixed { O.fixed outbox.new ≡ O.fixed outbox.old }
+
+        // With an agency that keeps its rules, in whose session the earlier turns were, agreement stays, and it contradicts
+        // itself never.
+        ensures agreement { IsTrue G.keeps_rules → InSession (O.sight outbox.old) (G.ledger agency.old) self.old.said →
+            GainsOwnNotes (O.sight outbox.old) (O.sight outbox.new) →
+            KeepsSession (O.sight outbox.old) (O.sight outbox.new) (G.ledger agency.old) (G.ledger agency.new) self.new.said }
+        ensures no_contradiction { IsTrue G.keeps_rules → InSession (O.sight outbox.old) (G.ledger agency.old) self.old.said →
+            GainsOwnNotes (O.sight outbox.old) (O.sight outbox.new) →
+            (evidence : AnyEvidence) → IsErrOf result (DrainFault.Contradiction evidence) → ⊥ }
+
+        // Where the disk failed amid its notes, the shop agrees with them too.
+        ensures torn { IsTrue G.keeps_rules → InSession (O.sight outbox.old) (G.ledger agency.old) self.old.said →
+            GainsOwnNotes (O.sight outbox.old) (O.sight outbox.new) →
+            IsErrOf result (DrainFault.Store StoreFault.DiskFault) → AgreesTorn (O.sight outbox.new) (G.ledger agency.new) }
+
+        // The same by what its own notes added, whatever is answered: notes, or the stop over them.
+        ensures adds { Adds AreNotesOrTorn (O.sight outbox.old) (O.sight outbox.new) }
+        ensures if_torn { IsTrue G.keeps_rules → InSession (O.sight outbox.old) (G.ledger agency.old) self.old.said →
+            GainsOwnNotes (O.sight outbox.old) (O.sight outbox.new) →
+            AgreesIfTorn (O.sight outbox.old) (O.sight outbox.new) (G.ledger agency.new) }
+
+        // No record is handed over again unless a consultation since has answered that it didn't come.
+        ensures careful { IsTrue G.tells → (past : List AnyMessage) →
+            IsCareful past (O.sight outbox.old) (G.ledger agency.old).messages self.old →
+            IsCareful past (O.sight outbox.new) (G.ledger agency.new).messages self.new }
+
+        // It keeps the last reply of its session that named its batch, until a consultation answers.
+        ensures kept { IsTrue G.tells → (past : List AnyMessage) →
+            KeepsReply past (G.ledger agency.old).messages self.old.said →
+            KeepsReply past (G.ledger agency.new).messages self.new.said }
+
+        // What is told are the lines of its messages to the agency, in order.
+        ensures told { IsTrue G.tells →
+            DrainTells (G.ledger agency.old).messages (G.ledger agency.new).messages turns.old turns.new result }
+        ensures says { IsTrue G.tells → SaysCalls (G.ledger agency.old).messages (G.ledger agency.new).messages }
+
+        // Eight turns with a link fault are eight faults of the agency.
+        ensures undelivered { (n records : ℕ) → IsErrOf result (DrainFault.Undelivered n records) →
+            G.faults agency.new < 2 ^ 64 - 1 → G.faults agency.old + MAX_LINK_FAULTS ≤ G.faults agency.new }
+
+        // At Ok all is noted.
+        ensures delivered { OnOk result
+            (length (noted (history_of (O.sight outbox.new))) ≡ length (recs (history_of (O.sight outbox.new)))) }
+
+        // Where no record comes in between, the turns are bounded by the batches that waited and by the link faults.
+        ensures bound { IsTrue G.keeps_rules → InSession (O.sight outbox.old) (G.ledger agency.old) self.old.said →
+            GainsOwnNotes (O.sight outbox.old) (O.sight outbox.new) →
+            length (recs (history_of (O.sight outbox.new))) ≤ length (recs (history_of (O.sight outbox.old))) →
+            (batches : ℕ) → length (waiting (history_of (O.sight outbox.old))) ≤ 1000 * batches →
+            IsBounded batches turns.old turns.new }
+    {
+        legal_is_chained();
+        what_is_known();
+        the_last_named_reply_is_kept();
+        self.drain_on(rt, alloc, outbox, agency, sleeper, turns)
+    }
+
+    // The turns of a drain.
+    fn drain_on<R: Wait, O: Outbox, G: Agency, Z: Sleeper>(
+        &mut self,
+        rt: &R,
+        alloc: Global,
+        outbox: &mut O,
+        agency: &mut G,
+        sleeper: &mut Z,
+        turns: &mut Turns,
+    ) -> Result<(), DrainFault>
+        ensures drained { Drained (record { tells = G.tells; keeps_rules = G.keeps_rules }) Z.tells
+            (record {
+              desk = record { ledger = G.ledger agency.old; faults = G.faults agency.old };
+              sight = O.sight outbox.old;
+              sending = self.old;
+              moment = Z.moment sleeper.old;
+            })
+            (record {
+              desk = record { ledger = G.ledger agency.new; faults = G.faults agency.new };
+              sight = O.sight outbox.new;
+              sending = self.new;
+              moment = Z.moment sleeper.new;
+            })
+            turns.old turns.new result }
+        ensures fixed { O.fixed outbox.new ≡ O.fixed outbox.old }
+    {
+        let mut links = 0;
+        for _ in rt.forever() {
+            if self.drain_turn(rt, alloc, outbox, agency, sleeper, turns, &mut links)? {
+                return Ok(());
+            }
+        }
+        unreachable!()
+    }
+}

@@ -1,0 +1,10 @@
+mod Keeping
+mod Asking
+pub mod Sent
+pub mod Telling
+pub mod Places
+pub mod Serving
+mod Adding
+mod Seating
+mod Looking
+mod Noting

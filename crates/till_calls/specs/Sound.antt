@@ -1,0 +1,53 @@
+-- What holds of a shop's store whenever no turn is under way.
+use Rattle.std.specs.Prelude.{◌≡◌, ◌⊎◌, ◌≤◌, ℕ, List, Bool, IsTrue, Option, Some}
+use Rattle.chain_disk.specs.Told.{Told, LeavesOnly, LeavesNow}
+use Rattle.chain_lock.specs.Lists.{StartsWith}
+use Rattle.chain_store.specs.Ready.{IsReady}
+use Rattle.shop_core.specs.Files.{StandsFor}
+use Rattle.ports.specs.Causes.{Rose}
+use Rattle.ports.specs.Readings.{MovedBy}
+use Rattle.record_codec.specs.declared.entries.Entry.{Entry}
+use Rattle.shop_core.specs.Legal.{Legal, Continues}
+use Rattle.till_calls.specs.Root.{Root, Parts, with_torn}
+
+-- the file stands for a legal history that begins with this one and is a front of that one
+pub record StandsBetween (issuer : List ℕ) (start end : List Entry) (file : List ℕ) : Type 0 where
+  pub history : List Entry
+  pub stands : StandsFor issuer history file
+  pub begins : StartsWith history start
+  pub within : StartsWith end history
+
+-- the file stands for the one history or for the other
+abbrev pub StandsForEither : List ℕ → List Entry → List Entry → List ℕ → Type 0
+StandsForEither issuer history longer file = StandsFor issuer history file ⊎ StandsFor issuer longer file
+
+-- each crash since the start leaves a front of the history, or of that with the torn entry; now it leaves the whole
+pub record Leaves {C : Type 0} (root : Root C) (history longer : List Entry) (now : Told) : Type 0 where
+  pub since : LeavesOnly root.told now (StandsBetween root.issuer root.history longer)
+  pub whole : LeavesNow now (StandsForEither root.issuer history longer)
+
+-- a stop: its count, and the entry whose append failed
+pub record HasStopped {D C : Type 0} (faults : D → ℕ) (root : Root C) (p : Parts D C) (count : ℕ) : Type 0 where
+  pub torn : Entry
+  pub torn_is : p.torn ≡ Some torn
+  pub continues : Continues root.issuer p.state.entries torn
+  pub rose : Rose root.faults count
+  pub within : count ≤ faults p.disk
+
+-- the clock is the root's after some readings
+pub record IsLater {C : Type 0} (coming : C → ℕ → Option ℕ) (start now : C) : Type 0 where
+  pub number : ℕ
+  pub moved : MovedBy number (coming start) (coming now)
+
+-- what a shop's store keeps
+pub record IsSound {D C : Type 0} (tells : Bool) (told : D → Told) (faults : D → ℕ) (coming : C → ℕ → Option ℕ)
+    (root : Root C) (p : Parts D C) : Type 0 where
+  -- where it hasn't stopped, its file stands for its history
+  pub ready : IsReady tells p.state p.stopped p.gate (told p.disk)
+  pub issuer : p.state.issuer ≡ root.issuer
+  pub legal : Legal root.issuer p.state.entries
+  pub begins : StartsWith p.state.entries root.history
+  pub clock : IsLater coming root.clock p.clock
+  pub crashes : IsTrue tells → Leaves root p.state.entries (with_torn p.state.entries p.stopped p.torn) (told p.disk)
+  pub stop : (count : ℕ) → p.stopped ≡ Some count → HasStopped faults root p count
+  pub later : root.faults ≤ faults p.disk

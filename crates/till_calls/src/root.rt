@@ -1,0 +1,23 @@
+// What no turn changes.
+use std::marker::Model;
+use std::snapshot::Snapshot;
+
+/// The shop at its start, as contracts see it. No value of it is made.
+pub struct ShopRoot<C> {
+    clock: Snapshot<C>,
+}
+
+impl<C> Model for ShopRoot<C> {
+    ghost use Rattle.std.specs.Prelude.{[]};
+    ghost use Rattle.till_calls.specs.Root.{Root};
+
+    ghost Value = { Root C };
+
+    ghost view = { λ r. record {
+      issuer = [];
+      history = [];
+      told = record { content = []; now = record { synced = []; ranges = [] }; past = [] };
+      faults = 0;
+      clock = r.clock.value;
+    } };
+}

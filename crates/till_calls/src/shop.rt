@@ -1,0 +1,186 @@
+// A shop: its start, its tills' asks, and its end.
+ghost use Rattle.std.specs.Prelude.{◌≡◌, ◌≤◌, ◌<◌, ◌+◌, ◌++◌, ◌∷◌, [], ℕ, length, All, IfOk, IfErr, IfSome, None};
+ghost use Rattle.std.specs.Prelude.{vec_capacity};
+ghost use Rattle.std.specs.Int.{IsInRange};
+ghost use Rattle.chain_lock.specs.Known.{Fits, IsNew, holders, owners};
+ghost use Rattle.chain_lock.specs.Lists.{StartsWith};
+ghost use Rattle.chain_store.specs.Store.{Ready, journal_of};
+ghost use Rattle.journal.specs.Journal.{stopped_of};
+ghost use Rattle.record_codec.specs.declared.entries.TheConstants.{LAST_TILL};
+ghost use Rattle.till_calls.specs.Root.{items_in, parts_of, root_of};
+ghost use Rattle.till_calls.specs.Sound.{IsSound};
+
+use crate::kept::Kept;
+use crate::tills::{SenderSeat, Till, TillNumber, Tills};
+use crate::turns::{Declining, Taking};
+use chain_disk::Disk;
+use chain_lock::{ChainLock, Refused};
+use chain_store::Store;
+use journal::StoreFault;
+use ports::Clock;
+use shop_core::{Ask, Reply, Request};
+use std::alloc::Global;
+use std::sync::Wait;
+
+/// A shop, of which many tills can ask at a time.
+#[derive(Drop)]
+pub struct Shop<D: Disk, C: Clock> {
+    pub(crate) lock: ChainLock<Kept<D, C>>,
+}
+
+/// A shop that has just begun.
+#[derive(Drop)]
+pub struct Started<D: Disk, C: Clock> {
+    pub shop: Shop<D, C>,
+    pub tills: Tills<D, C>,
+    pub seat: SenderSeat<D, C>,
+}
+
+/// Memory ran out, and this is the store.
+#[derive(Drop)]
+pub struct StartRefused<D: Disk, C: Clock> {
+    pub store: Store<D, C>,
+}
+
+impl<D: Disk, C: Clock> Shop<D, C> {
+    ghost use Rattle.till_calls.specs.Shop.{Asks, first_items, made_tills, numbers, places, shop_id, shop_root};
+    ghost use Rattle.till_calls.specs.Shop.{seat_knows, seat_shop, till_knows, till_number, till_shop, tills_know, tills_shop};
+
+    /// The answer to a till's request under a serial of its own, from 1: that of `Store::take` at a history that goes on from
+    /// all that the till has seen, with a reading of the clock since the start. What is taken is an item of the till's own.
+    /// `DiskFault` records the stop as one of its own. `Stopped` comes exactly where an earlier call recorded the stop.
+    pub fn ask<R: Wait>(
+        &self,
+        rt: &R,
+        alloc: Global,
+        till: &mut Till<D, C>,
+        serial: u32,
+        request: &Request,
+    ) -> Result<Reply, StoreFault>
+        requires own { till_shop till.old ≡ shop_id self.now }
+        requires serial { IsInRange 1 4_294_967_295 serial }
+        ensures same { (till_shop till.new ≡ till_shop till.old) × (till_number till.new ≡ till_number till.old) }
+        ensures asks { Asks C.coming (record { till = till_number till.old; serial = serial; request = request.now }) result
+            (till_knows till.old) (till_knows till.new) }
+    {
+        let Ok(copy) = request.copied(alloc) else {
+            let mut declining = Declining {
+                told: StoreFault::NoMemory,
+            };
+            self.lock.turn(rt, &mut till.pass, &mut declining);
+            return Err(declining.told);
+        };
+        let ask = Ask::new(till.number(), serial, copy);
+        let mut taking = Taking {
+            alloc,
+            ask,
+            reply: Err(StoreFault::NoMemory),
+        };
+        self.lock.turn(rt, &mut till.pass, &mut taking);
+        taking.reply
+    }
+
+    /// How many items there are, without waiting: the entries, and one more where the shop has stopped. The till then knows of
+    /// as many.
+    pub fn count_now(&self, till: &mut Till<D, C>) -> u64
+        requires own { till_shop till.old ≡ shop_id self.now }
+        ensures same { (till_shop till.new ≡ till_shop till.old) × (till_number till.new ≡ till_number till.old) }
+        ensures at_least { (till_knows till.old).least ≤ result }
+        ensures raised { till_knows till.new ≡ record (till_knows till.old) { least = result } }
+    {
+        self.lock.glance(&mut till.pass)
+    }
+
+    /// Ends the shop, once all its tills and its seat are back, and gives the store. It takes no memory.
+    ///
+    /// The store's items go on from what each till and the seat has seen, have the own items of each at their places, and no
+    /// others since the start.
+    pub fn close(self, tills: Tills<D, C>, seat: SenderSeat<D, C>) -> Store<D, C>
+        requires own { (tills_shop tills ≡ shop_id self) × (seat_shop seat ≡ shop_id self) }
+        requires whole { (n : ℕ) → n < places self → 0 < holders n (tills_know tills ++ seat_knows seat ∷ []) }
+        ensures sound { IsSound D.tells D.told D.faults C.coming (shop_root self) (parts_of result) }
+        ensures begins { StartsWith (items_in (parts_of result)) (first_items self) }
+        ensures each { All (Fits (items_in (parts_of result))) (tills_know tills ++ seat_knows seat ∷ []) }
+        ensures before { (n : ℕ) → n < length (first_items self) → owners n (tills_know tills ++ seat_knows seat ∷ []) ≡ 0 }
+        ensures since { (n : ℕ) → length (first_items self) ≤ n → n < length (items_in (parts_of result)) →
+            owners n (tills_know tills ++ seat_knows seat ∷ []) ≡ 1 }
+    {
+        let Tills {
+            mut passes,
+            numbers: _,
+            made: _,
+        } = tills;
+        let SenderSeat { pass } = seat;
+        passes.hand_back(pass);
+        self.lock.close(passes).into_store()
+    }
+
+    /// Begins a shop over a store that goes on, with a till for each number, at most `LAST_TILL` of them, and the sender's seat.
+    /// Where memory runs out the store comes back. No later call but `ask` and those of the seat takes memory.
+    pub fn start(
+        alloc: Global,
+        store: Store<D, C>,
+        tills: &[u8],
+    ) -> Result<Started<D, C>, StartRefused<D, C>>
+        requires numbers { All (IsInRange 1 LAST_TILL) tills.now }
+        requires few { length tills.now ≤ LAST_TILL }
+        requires going_on { stopped_of (journal_of store) ≡ None }
+        requires ready { Ready D.tells D.told store }
+        ensures root { IfOk result (λ s. (shop_root s.shop ≡ root_of D.told D.faults (parts_of store))
+            × (first_items s.shop ≡ items_in (parts_of store))) }
+        ensures numbers { IfOk result (λ s. (numbers s.tills ≡ tills.now) × (made_tills s.tills ≡ length tills.now)
+            × (places s.shop ≡ length tills.now + 1)) }
+        ensures own { IfOk result (λ s. (tills_shop s.tills ≡ shop_id s.shop) × (seat_shop s.seat ≡ shop_id s.shop)) }
+        ensures new { IfOk result (λ s. All (IsNew (first_items s.shop) (shop_root s.shop))
+            (tills_know s.tills ++ seat_knows s.seat ∷ [])) }
+        ensures whole { IfOk result (λ s. (n : ℕ) → n < places s.shop →
+            holders n (tills_know s.tills ++ seat_knows s.seat ∷ []) ≡ 1) }
+        ensures refused { IfErr result (λ e. parts_of e.store ≡ parts_of store) }
+    {
+        let Some(list) = till_numbers(alloc, tills) else {
+            return Err(StartRefused { store });
+        };
+        let made = list.len();
+        match ChainLock::new(alloc, Kept::new(store), made as u16 + 1) {
+            Ok((lock, mut passes)) => {
+                let Some(pass) = passes.pull() else {
+                    unreachable!()
+                };
+                Ok(Started {
+                    shop: Shop { lock },
+                    tills: Tills {
+                        passes,
+                        numbers: list,
+                        made,
+                    },
+                    seat: SenderSeat { pass },
+                })
+            }
+            Err(refused) => Err(StartRefused {
+                store: store_of(refused),
+            }),
+        }
+    }
+}
+
+fn store_of<D: Disk, C: Clock>(refused: Refused<Kept<D, C>>) -> Store<D, C>
+    ensures { parts_of result ≡ refused.value.parts }
+{
+    let Refused { value } = refused;
+    value.into_store()
+}
+
+// The same numbers.
+fn till_numbers(alloc: Global, tills: &[u8]) -> Option<Vec<TillNumber>>
+    requires { All (IsInRange 1 LAST_TILL) tills.now }
+    ensures items { IfSome result (λ list. list.items ≡ tills.now) }
+    ensures room { IfSome result (λ list. length tills.now ≤ vec_capacity list) }
+{
+    let Ok(mut list) = Vec::with_capacity(alloc, tills.len()) else {
+        return None;
+    };
+    for number in tills {
+        list.push_reserved(TillNumber { number: *number });
+    }
+    Some(list)
+}

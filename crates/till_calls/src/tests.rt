@@ -1,0 +1,176 @@
+ghost use Rattle.std.specs.Prelude.{◌≡◌, IfSome, IsTrue, None};
+ghost use Rattle.chain_disk.specs.Told.{IsSettled};
+ghost use Rattle.chain_store.specs.Store.{Ready, journal_of};
+ghost use Rattle.journal.specs.File.{IsNotBegun};
+ghost use Rattle.journal.specs.Journal.{stopped_of};
+
+use crate::{Shop, Started};
+use amounts::Cents;
+use chain_disk::{Disk, MemDisk};
+use chain_store::Store;
+use invoice_kinds::Kind;
+use journal::{Journal, StoreFault};
+use parties::Nif;
+use ports::{Clock, CountingClock};
+use record_fields::{Draft, Refs};
+use series::SeriesName;
+use shop_core::{Reply, Request, State};
+use std::alloc::Global;
+use std::sync::Wait;
+use std::test::Fail;
+use tax_lines::{Breakdown, LineKey, TaxLine};
+
+// 2025-01-01, 10:00 on the peninsular clock.
+const TEN: u64 = 1_735_722_000;
+
+// A sale of 100 euros.
+fn sale(alloc: Global) -> Result<Request, Fail> {
+    let base = Cents::new(10_000).ok_or("a base")?;
+    let line = TaxLine {
+        key: LineKey::General,
+        base,
+    };
+    let Ok(lines) = Breakdown::of(alloc, &[line]) else {
+        return Err(Fail::from("lines"));
+    };
+    let series = SeriesName::read("A").ok_or("a series")?;
+    let draft = Draft {
+        kind: Kind::F2,
+        rect: None,
+        customer: None,
+        refs: Refs::of(Vec::new(alloc)),
+        lines,
+    };
+    Ok(Request::Sale { series, draft })
+}
+
+// The store of a file that isn't begun, which begins it.
+fn begun<D: Disk + Drop, C: Clock + Drop>(alloc: Global, disk: D, clock: C) -> Option<Store<D, C>>
+    requires { IsTrue D.tells → IsNotBegun (D.told disk).content × IsSettled (D.told disk) }
+    ensures going_on { IfSome result (λ store. stopped_of (journal_of store) ≡ None) }
+    ensures ready { IfSome result (λ store. Ready D.tells D.told store) }
+{
+    let Ok(issuer) = Nif::read("89890001K") else {
+        return None;
+    };
+    let state = State::empty(alloc, &issuer);
+    match Journal::create(disk, &issuer) {
+        Ok(journal) => Some(Store::of(state, journal, clock)),
+        Err(_) => None,
+    }
+}
+
+// What two tills were told, one after the other, and the store at the end.
+#[derive(Drop)]
+struct Ran<D: Disk, C: Clock> {
+    first: Result<Reply, StoreFault>,
+    second: Result<Reply, StoreFault>,
+    again: Result<Reply, StoreFault>,
+    count: u64,
+    store: Store<D, C>,
+}
+
+// Till 1 and till 2 ask for the same sale, then till 1 asks once more under its serial, and tells how many items there are.
+fn run_in_turns<D: Disk + Drop, C: Clock + Drop, R: Wait>(
+    rt: &R,
+    alloc: Global,
+    store: Store<D, C>,
+    request: &Request,
+) -> Option<Ran<D, C>>
+    requires going_on { stopped_of (journal_of store) ≡ None }
+    requires ready { Ready D.tells D.told store }
+{
+    let Ok(started) = Shop::start(alloc, store, &[1, 2]) else {
+        return None;
+    };
+    let Started {
+        shop,
+        mut tills,
+        seat,
+    } = started;
+    let Some(mut two) = tills.pull() else {
+        return None;
+    };
+    let Some(mut one) = tills.pull() else {
+        return None;
+    };
+    let first = shop.ask(rt, alloc, &mut one, 1, request);
+    let second = shop.ask(rt, alloc, &mut two, 1, request);
+    let again = shop.ask(rt, alloc, &mut one, 1, request);
+    let count = shop.count_now(&mut two);
+    tills.hand_back(one);
+    tills.hand_back(two);
+    Some(Ran {
+        first,
+        second,
+        again,
+        count,
+        store: shop.close(tills, seat),
+    })
+}
+
+// Runs the two tills over a disk whose calls of these numbers fail.
+fn run_over<R: Wait>(
+    rt: &R,
+    alloc: Global,
+    failing: Vec<u64>,
+) -> Result<Option<Ran<MemDisk, CountingClock>>, Fail> {
+    let request = sale(alloc)?;
+    let disk = MemDisk::new(alloc, Vec::new(alloc), failing);
+    match begun(alloc, disk, CountingClock::new(TEN, 1)) {
+        Some(store) => Ok(run_in_turns(rt, alloc, store, &request)),
+        None => Ok(None),
+    }
+}
+
+// The place of the record that was taken, or 0.
+fn taken_at(reply: &Result<Reply, StoreFault>) -> u32 {
+    match reply {
+        Ok(Reply::Taken(receipt)) => receipt.place,
+        _ => 0,
+    }
+}
+
+// The place of the record that was taken before, or 0.
+fn again_at(reply: &Result<Reply, StoreFault>) -> u32 {
+    match reply {
+        Ok(Reply::Again(receipt)) => receipt.place,
+        _ => 0,
+    }
+}
+
+#[test]
+fn two_tills_ask_one_after_the_other(rt: HostRuntime) -> Result<(), Fail> {
+    let ran = run_over(&rt, rt.alloc(), Vec::new(rt.alloc()))?.ok_or("a shop")?;
+    assert_eq!(rt; (taken_at(&ran.first), taken_at(&ran.second)), (1, 2));
+    assert_eq!(rt; again_at(&ran.again), 1);
+    assert_eq!(rt; (ran.count, ran.store.state().records()), (2, 2));
+    assert!(rt; ran.store.stopped().is_none());
+    Ok(())
+}
+
+#[test]
+fn a_failing_disk_stops_the_shop(rt: HostRuntime) -> Result<(), Fail> {
+    let mut stops = 0u32;
+    for call in 0..24u64 {
+        let Some(ran) = run_over(&rt, rt.alloc(), vec![in rt.alloc(); call]?)? else {
+            continue;
+        };
+        let records = u64::from(ran.store.state().records());
+        if ran.store.stopped().is_none() {
+            assert_eq!(rt; (ran.count, records), (2, 2));
+            continue;
+        }
+        stops = stops.wrapping_add(1);
+        assert!(rt; matches!(ran.again, Err(StoreFault::Stopped { .. })));
+        assert!(rt; ran.count == records.wrapping_add(1));
+        match ran.first {
+            Err(StoreFault::DiskFault) => {
+                assert!(rt; records == 0 && matches!(ran.second, Err(StoreFault::Stopped { .. })));
+            }
+            _ => assert!(rt; records == 1 && matches!(ran.second, Err(StoreFault::DiskFault))),
+        }
+    }
+    assert!(rt; 1 < stops);
+    Ok(())
+}
