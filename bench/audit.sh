@@ -1,12 +1,12 @@
 #!/bin/sh
-# How long `audit` takes for a file of so many records, beside the bare SHA-256 of as many field texts of 230 bytes in the same
-# language; the fastest of three runs each. The file lies in memory (/dev/shm). An index of the state's Huellas, numbers and
-# serials isn't there yet, so the time grows with the square of the count, and 10,000 records are the usual figure.
+# How long a file of so many records takes to open (by `link`, which prints one line) and to `audit`, beside the bare SHA-256 of as
+# many field texts in the same language; the fastest of three runs each. The texts of these records have 252 to 258 bytes, which
+# are five blocks each. The file lies in memory (/dev/shm). Each is to take 2.5 times the hashing at most, at 1,000,000 records.
 # Run by hand, on a machine that does nothing else: bench/audit.sh [RECORDS]. It needs rt, and proves the small program that it
-# writes.
+# writes. The file is made by several calls of `chain`, whose scripts have 100,000 commands at most: that takes some minutes.
 set -eu
 root=$(CDPATH= cd -- "$(dirname -- "$0")/.." && pwd)
-records=${1:-10000}
+records=${1:-1000000}
 work=$(mktemp -d /dev/shm/audit.XXXXXX)
 trap 'rm -rf "$work"' EXIT
 
@@ -23,7 +23,7 @@ use std::io;
 use std::time::Instant;
 
 fn main(rt: HostRuntime) -> io::Result<()> {
-    let mut text = [65u8; 230];
+    let mut text = [65u8; 258];
     let start = Instant::now(&rt)?;
     for _ in 0..$records {
         let mut hasher = Sha256::new();
@@ -40,11 +40,17 @@ PROGRAM
 (cd "$work/crates/sha_bench" && rt run >"$work/log" 2>&1) || { tail -20 "$work/log"; exit 1; }
 hash=$work/crates/sha_bench/out/sha_bench
 
-{
-    echo "clock 1735722000 1"
-    seq "$records" | sed 's/.*/sale 1 & A F2 21:1000/'
-} >"$work/script"
-"$program" chain "$work/shop.chain" 89890001K <"$work/script" >"$work/text"
+made=0
+while [ "$made" -lt "$records" ]; do
+    next=$((made + 100000))
+    [ "$next" -le "$records" ] || next=$records
+    {
+        echo "clock 1735722000 1"
+        seq $((made + 1)) "$next" | sed 's/.*/sale 1 & A F2 21:1000/'
+    } >"$work/script"
+    "$program" chain "$work/shop.chain" 89890001K <"$work/script" >/dev/null
+    made=$next
+done
 
 microseconds() {
     echo $(($(date +%s%N) / 1000))
@@ -54,11 +60,23 @@ least() {
     sort -n | head -n 1
 }
 
-audited=$(for _ in 1 2 3; do
-    begun=$(microseconds)
-    "$program" audit "$work/shop.chain" >"$work/verdict"
-    echo $(($(microseconds) - begun))
-done | least)
+# The fastest of three runs of the program with these words.
+timed() {
+    for _ in 1 2 3; do
+        begun=$(microseconds)
+        "$program" "$@" >"$work/text"
+        echo $(($(microseconds) - begun))
+    done | least
+}
+
+audited=$(timed audit "$work/shop.chain")
+grep -q "^sound $records noted 0 last " "$work/text" || { echo "a wrong verdict" >&2; exit 1; }
+opened=$(timed link "$work/shop.chain" "A-$records" real)
+grep -q "numserie=A-$records&" "$work/text" || { echo "a wrong link" >&2; exit 1; }
 hashed=$(for _ in 1 2 3; do "$hash" | cut -d' ' -f1; done | least)
-grep -q "^sound $records noted 0 last " "$work/verdict" || { echo "a wrong verdict" >&2; exit 1; }
-echo "$records records: audit $audited microseconds, bare SHA-256 $hashed, $((audited * 100 / hashed)) hundredths of it"
+echo "$records records: opening $opened microseconds, audit $audited, bare SHA-256 $hashed"
+echo "opening is $((opened * 100 / hashed)) hundredths of the hashing, audit $((audited * 100 / hashed))"
+[ $((opened * 100)) -le $((hashed * 250)) ] && [ $((audited * 100)) -le $((hashed * 250)) ] || {
+    echo "more than 2.5 times" >&2
+    exit 1
+}

@@ -1,5 +1,6 @@
 -- What holds of every list of messages, and of every answer to a batch.
-use Rattle.std.specs.Prelude.{◌≡◌, ◌↔◌, ℕ, List, [], ◌∷◌, ◌++◌, length, map, slice_get, option_map, Some, None, unwrap_or, Bool, true, false, bytes_eq}
+use Rattle.std.specs.Prelude.{◌≡◌, ◌↔◌, ℕ, List, [], ◌∷◌, ◌++◌, length, map, slice_get, option_map, Some, None, unwrap_or, Bool}
+use Rattle.std.specs.Prelude.{true, false, bytes_eq}
 use Rattle.std.specs.List.{AllByRecursion, IsDistinct, list_any}
 use Rattle.record_fields.specs.declared.records.Sealed.{Sealed}
 use Rattle.record_fields.specs.declared.lines.Line.{Line}
@@ -46,7 +47,8 @@ AnswersJoin = (verdicts : List PlannedVerdict) (processed : List (Sealed × Line
 
 -- a record is answered Duplicado exactly where its Huella stood in the list or earlier in the batch
 abbrev pub DuplicadoWhereItCame : Type 0
-DuplicadoWhereItCame = (verdicts : List PlannedVerdict) (processed : List (Sealed × Line)) (before after : List Sealed) (s : Sealed) →
+DuplicadoWhereItCame = (verdicts : List PlannedVerdict) (processed : List (Sealed × Line)) (before after : List Sealed)
+    (s : Sealed) →
     option_map is_duplicado (slice_get (answers verdicts processed (before ++ s ∷ after)) (length before))
     ≡ Some (has_come processed before s.huella)
 

@@ -1,5 +1,6 @@
 -- The practice agency: what each of its calls delivers and answers.
-use Rattle.std.specs.Prelude.{◌≡◌, ℕ, ◌+◌, List, [], ◌∷◌, ◌++◌, length, map, take, filter_map, max, Option, Some, None, unwrap_or, Result, Ok, Err, ⊤, Bool, true, false, ◌==◌, bytes_eq, count_by, if◌then◌else◌}
+use Rattle.std.specs.Prelude.{◌≡◌, ℕ, ◌+◌, List, [], ◌∷◌, ◌++◌, length, map, take, filter_map, max, Option, Some, None, unwrap_or}
+use Rattle.std.specs.Prelude.{Result, Ok, Err, ⊤, Bool, true, false, ◌==◌, bytes_eq, count_by, if◌then◌else◌}
 use Rattle.std.specs.Option.{option_map_or}
 use Rattle.std.specs.Cmp.Lexicographic.{pointwise}
 use Rattle.ports.specs.Memory.{counted_up}

@@ -1,5 +1,6 @@
 -- What the messages to an agency say of its session, of the records that were handed over, and of the last reply.
-use Rattle.std.specs.Prelude.{◌≡◌, ℕ, List, [], ◌∷◌, ◌++◌, filter_map, ◌⊎◌, Option, Some, None, option_map, unwrap_or, Result, Ok, Err, Bool, true, false, not, ◌&&◌, ◌||◌, bytes_eq, if◌then◌else◌}
+use Rattle.std.specs.Prelude.{◌≡◌, ℕ, List, [], ◌∷◌, ◌++◌, filter_map, ◌⊎◌, Option, Some, None, option_map, unwrap_or, Result, Ok}
+use Rattle.std.specs.Prelude.{Err, Bool, true, false, not, ◌&&◌, ◌||◌, bytes_eq, if◌then◌else◌}
 use Rattle.std.specs.List.{AllByRecursion, list_any, zip}
 use Rattle.record_fields.specs.Picks.{last_of, when}
 use Rattle.record_fields.specs.declared.records.Sealed.{Sealed}

@@ -13,8 +13,6 @@ mod practice;
 mod reply;
 mod rows;
 mod telling;
-#[cfg(test)]
-mod tests;
 mod told;
 mod turns;
 

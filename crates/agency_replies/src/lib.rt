@@ -3,7 +3,5 @@
 #![tactic(auto)]
 
 mod sorting;
-#[cfg(test)]
-mod tests;
 
 pub use sorting::{Sorted, sort_reply};

@@ -1,5 +1,6 @@
 -- The agency's line for a record, from the records that it has processed before it. The table of causes is this project's own.
-use Rattle.std.specs.Prelude.{ℕ, ◌+◌, List, [], ◌∷◌, filter, find, length, Option, Some, None, option_map, Bool, true, false, not, ◌&&◌, ◌==◌, bytes_eq, if◌then◌else◌, unwrap_or}
+use Rattle.std.specs.Prelude.{ℕ, ◌+◌, List, [], ◌∷◌, filter, find, length, Option, Some, None, option_map, Bool, true, false, not}
+use Rattle.std.specs.Prelude.{◌&&◌, ◌==◌, bytes_eq, if◌then◌else◌, unwrap_or}
 use Rattle.std.specs.Option.{option_map_or}
 use Rattle.series.specs.declared.numbers.InvoiceId.{InvoiceId}
 use Rattle.record_fields.specs.Picks.{first_of, last_of, when}

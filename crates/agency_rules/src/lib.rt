@@ -8,8 +8,6 @@ mod judging;
 mod laws;
 mod pairs;
 mod plans;
-#[cfg(test)]
-mod tests;
 
 pub use judging::{Past, judge};
 pub use laws::{deliveries_join, only_what_came_comes_again};

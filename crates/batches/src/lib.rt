@@ -5,8 +5,6 @@
 mod batch;
 mod huellas;
 mod links;
-#[cfg(test)]
-mod tests;
 
 pub use batch::{Batch, Batches};
 pub use huellas::Huellas;

@@ -160,7 +160,8 @@ impl<D: Disk, C: Clock> Store<D, C> {
         requires within { length (noted self.old.state.entries) + length lines.now ≤ length (recs self.old.state.entries) }
         ensures ready { Ready D.tells D.told self.new }
         ensures issuer { self.new.state.issuer ≡ self.old.state.issuer }
-        ensures noted { OnOk result (self.new.state.entries ≡ self.old.state.entries ++ noted_next self.old.state.entries lines.now ∷ []) }
+        ensures noted { OnOk result (self.new.state.entries
+            ≡ self.old.state.entries ++ noted_next self.old.state.entries lines.now ∷ []) }
         ensures same { OnErr result (self.new.state.entries ≡ self.old.state.entries) }
         ensures clock { self.new.clock ≡ self.old.clock }
 

@@ -40,7 +40,8 @@ joined_fields issuer num date kind cuota_total importe previous moment =
 unfoldable pub joined_cancel : (issuer num date previous moment : List ℕ) → List ℕ
 joined_cancel issuer num date previous moment =
     codes "IDEmisorFacturaAnulada=" ++ issuer ++ codes "&NumSerieFacturaAnulada=" ++ num
-    ++ codes "&FechaExpedicionFacturaAnulada=" ++ date ++ codes "&Huella=" ++ previous ++ codes "&FechaHoraHusoGenRegistro=" ++ moment
+    ++ codes "&FechaExpedicionFacturaAnulada=" ++ date ++ codes "&Huella=" ++ previous
+    ++ codes "&FechaHoraHusoGenRegistro=" ++ moment
 
 -- the text of an alta
 abbrev pub alta_text : Alta → List ℕ

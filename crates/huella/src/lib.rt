@@ -4,8 +4,6 @@
 mod laws;
 mod sealing;
 mod stated;
-#[cfg(test)]
-mod tests;
 mod texts;
 
 pub use laws::text_determines_record;

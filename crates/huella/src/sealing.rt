@@ -65,7 +65,8 @@ fn digest_of_fields(
     link: &Link,
     moment: &[u8],
 ) -> [u8; 32]
-    ensures { result ≡ sha256 (spec.joined_fields issuer.now num.now date.now kind.now cuota.now total.now (spec.previous_text link.now) moment.now) }
+    ensures { result ≡ sha256 (spec.joined_fields issuer.now num.now date.now kind.now cuota.now total.now
+        (spec.previous_text link.now) moment.now) }
 {
     let mut hasher = Sha256::new();
     feed(&mut hasher, b"IDEmisorFactura=", issuer);

@@ -81,7 +81,8 @@ pub fn field_text_of(
     previous: Option<&[u8; 32]>,
     moment: &str,
 ) -> Result<Bytes, NoMemory>
-    ensures { IfOk result (λ text. text ≡ spec.joined_fields issuer.now num.now date.now kind.now cuota.now total.now (spec.previous_digits (option_copied previous.entry)) moment.now) }
+    ensures { IfOk result (λ text. text ≡ spec.joined_fields issuer.now num.now date.now kind.now cuota.now total.now
+        (spec.previous_digits (option_copied previous.entry)) moment.now) }
 {
     joined(
         alloc,
@@ -107,7 +108,8 @@ fn joined(
     previous: Option<&[u8; 32]>,
     moment: &[u8],
 ) -> Result<Bytes, NoMemory>
-    ensures { IfOk result (λ text. text ≡ spec.joined_fields issuer.now num.now date.now kind.now cuota.now total.now (spec.previous_digits (option_copied previous.entry)) moment.now) }
+    ensures { IfOk result (λ text. text ≡ spec.joined_fields issuer.now num.now date.now kind.now cuota.now total.now
+        (spec.previous_digits (option_copied previous.entry)) moment.now) }
 {
     let mut text = Vec::new(alloc);
     add(&mut text, b"IDEmisorFactura=", issuer)?;
@@ -129,7 +131,8 @@ fn joined_cancel(
     previous: Option<&[u8; 32]>,
     moment: &[u8],
 ) -> Result<Bytes, NoMemory>
-    ensures { IfOk result (λ text. text ≡ spec.joined_cancel issuer.now num.now date.now (spec.previous_digits (option_copied previous.entry)) moment.now) }
+    ensures { IfOk result (λ text. text
+        ≡ spec.joined_cancel issuer.now num.now date.now (spec.previous_digits (option_copied previous.entry)) moment.now) }
 {
     let mut text = Vec::new(alloc);
     add(&mut text, b"IDEmisorFacturaAnulada=", issuer)?;
@@ -149,7 +152,8 @@ fn add(text: &mut Vec<u8>, name: &[u8], value: &[u8]) -> Result<(), NoMemory>
 }
 
 fn add_previous(text: &mut Vec<u8>, previous: Option<&[u8; 32]>) -> Result<(), NoMemory>
-    ensures { OnOk result (text.new.items ≡ text.old.items ++ codes "&Huella=" ++ spec.previous_digits (option_copied previous.entry)) }
+    ensures { OnOk result (text.new.items
+        ≡ text.old.items ++ codes "&Huella=" ++ spec.previous_digits (option_copied previous.entry)) }
 {
     match previous {
         None => add(text, b"&Huella=", b""),

@@ -35,7 +35,8 @@ pub record IsRun (records batch : List Sealed) (from to : ℕ) : Type 0 where
 pub record Agree (entries : List Entry) (processed : List (Sealed × Line)) (sent : List (List Sealed)) : Type 0 where
   pub records : IsPrefix (records_of processed) (recs entries)
   pub lines : IsPrefix (noted entries) (lines_of processed)
-  pub batches : AllByRecursion (λ (batch : List Sealed). IsRun (recs entries) batch (length processed) (length (noted entries) + 1000)) sent
+  pub batches : AllByRecursion (λ (batch : List Sealed). IsRun (recs entries) batch (length processed)
+      (length (noted entries) + 1000)) sent
 
 -- the lines are the agency's next ones: those just past the noted ones, 1 to 1000 of them
 pub record AreNextLines (entries : List Entry) (processed : List (Sealed × Line)) (lines : List Line) : Type 0 where

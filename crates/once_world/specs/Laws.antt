@@ -16,7 +16,8 @@ use Rattle.agency_rules.specs.declared.plans.PlannedVerdict.{PlannedVerdict}
 use Rattle.agency_port.specs.Answers.{answers}
 use Rattle.agency_port.specs.Rules.{AreAmong}
 use Rattle.agency_port.specs.declared.answers.ReplyLine.TheVariants.{First}
-use Rattle.once_world.specs.Agreement.{IsPrefix, Agree, AreNextLines, IsLearnt, AddsNoRefusedSale, HasNoRefusedSale, AreOnce, lines_of}
+use Rattle.once_world.specs.Agreement.{IsPrefix, Agree, AreNextLines, IsLearnt, AddsNoRefusedSale, HasNoRefusedSale, AreOnce}
+use Rattle.once_world.specs.Agreement.{lines_of}
 use Rattle.once_world.specs.Looks.{answers_for, lines_in_front, HasNoHole}
 use Rattle.once_world.specs.Outbox.{Sight, Grows, AddsOwn, GainsOwnNotes}
 use Rattle.once_world.specs.World.{world}
@@ -34,8 +35,10 @@ StandOnce = (issuer : List ℕ) (entries : List Entry) (processed : List (Sealed
 
 -- whatever batches that were sent come, in whatever order, agreement stays
 abbrev pub DeliveriesKeepAgreement : Type 0
-DeliveriesKeepAgreement = (issuer : List ℕ) (verdicts : List PlannedVerdict) (entries : List Entry) (processed : List (Sealed × Line)) (sent batches : List (List Sealed)) →
-    Legal issuer entries → Agree entries processed sent → AreAmong sent batches → Agree entries (delivered_all verdicts processed batches) sent
+DeliveriesKeepAgreement = (issuer : List ℕ) (verdicts : List PlannedVerdict) (entries : List Entry)
+    (processed : List (Sealed × Line)) (sent batches : List (List Sealed)) →
+    Legal issuer entries → Agree entries processed sent → AreAmong sent batches →
+    Agree entries (delivered_all verdicts processed batches) sent
 
 -- with more records, one batch of waiting records sent, or the next lines noted, agreement stays
 abbrev pub RecordsKeepAgreement : Type 0
@@ -48,7 +51,8 @@ SendingKeepsAgreement = (entries : List Entry) (processed : List (Sealed × Line
 
 abbrev pub NotingKeepsAgreement : Type 0
 NotingKeepsAgreement = (entries : List Entry) (processed : List (Sealed × Line)) (sent : List (List Sealed)) (lines : List Line) →
-    Agree entries processed sent → AreNextLines entries processed lines → Agree (entries ++ Notes (length (noted entries)) lines ∷ []) processed sent
+    Agree entries processed sent → AreNextLines entries processed lines →
+    Agree (entries ++ Notes (length (noted entries)) lines ∷ []) processed sent
 
 -- the next lines are the next ones also behind more records
 abbrev pub RecordsKeepNextLines : Type 0
@@ -57,28 +61,36 @@ RecordsKeepNextLines = (entries more : List Entry) (processed : List (Sealed × 
 
 -- an agency that takes the noted pairs, and to which nothing was sent, agrees
 abbrev pub NotedPairsAgree : Type 0
-NotedPairsAgree = (issuer : List ℕ) (entries : List Entry) → Legal issuer entries → Agree entries (zip (recs entries) (noted entries)) []
+NotedPairsAgree = (issuer : List ℕ) (entries : List Entry) → Legal issuer entries →
+    Agree entries (zip (recs entries) (noted entries)) []
 
 -- a batch that was sent adds no refused sale
 abbrev pub DeliveriesRefuseNoSale : Type 0
-DeliveriesRefuseNoSale = (issuer : List ℕ) (verdicts : List PlannedVerdict) (entries : List Entry) (processed : List (Sealed × Line)) (sent : List (List Sealed)) (batch : List Sealed) →
-    Legal issuer entries → Agree entries processed sent → Contains sent batch → AddsNoRefusedSale processed (delivered verdicts processed batch)
+DeliveriesRefuseNoSale = (issuer : List ℕ) (verdicts : List PlannedVerdict) (entries : List Entry)
+    (processed : List (Sealed × Line)) (sent : List (List Sealed)) (batch : List Sealed) →
+    Legal issuer entries → Agree entries processed sent → Contains sent batch →
+    AddsNoRefusedSale processed (delivered verdicts processed batch)
 
 -- where the first waiting records are all answered as new, their lines are the next ones
 abbrev pub FirstLinesAreNext : Type 0
-FirstLinesAreNext = (issuer : List ℕ) (verdicts : List PlannedVerdict) (entries : List Entry) (processed : List (Sealed × Line)) (sent : List (List Sealed)) (count : ℕ) (lines : List Line) →
-    Legal issuer entries → Agree entries processed sent → answers verdicts processed (take count (waiting entries)) ≡ map First lines →
+FirstLinesAreNext = (issuer : List ℕ) (verdicts : List PlannedVerdict) (entries : List Entry)
+    (processed : List (Sealed × Line)) (sent : List (List Sealed)) (count : ℕ) (lines : List Line) →
+    Legal issuer entries → Agree entries processed sent → answers verdicts processed (take count (waiting entries))
+    ≡ map First lines →
     IsPrefix (noted entries ++ lines) (lines_of (delivered verdicts processed (take count (waiting entries))))
 
 -- a consultation of the first waiting records has no hole
 abbrev pub WaitingHaveNoHole : Type 0
-WaitingHaveNoHole = (issuer : List ℕ) (entries : List Entry) (processed : List (Sealed × Line)) (sent : List (List Sealed)) (count : ℕ) →
+WaitingHaveNoHole = (issuer : List ℕ) (entries : List Entry) (processed : List (Sealed × Line)) (sent : List (List Sealed))
+    (count : ℕ) →
     Legal issuer entries → Agree entries processed sent → HasNoHole (answers_for processed (take count (waiting entries)))
 
 -- the lines in front of it are the next ones
 abbrev pub LookedLinesAreNext : Type 0
-LookedLinesAreNext = (issuer : List ℕ) (entries : List Entry) (processed : List (Sealed × Line)) (sent : List (List Sealed)) (count : ℕ) →
-    Legal issuer entries → Agree entries processed sent → IsPrefix (noted entries ++ lines_in_front (answers_for processed (take count (waiting entries)))) (lines_of processed)
+LookedLinesAreNext = (issuer : List ℕ) (entries : List Entry) (processed : List (Sealed × Line)) (sent : List (List Sealed))
+    (count : ℕ) →
+    Legal issuer entries → Agree entries processed sent →
+    IsPrefix (noted entries ++ lines_in_front (answers_for processed (take count (waiting entries)))) (lines_of processed)
 
 -- whatever batches come, the list only grows
 abbrev pub DeliveriesOnlyAdd : Type 0
@@ -92,7 +104,8 @@ DeliveredAreSeen = (verdicts : List PlannedVerdict) (processed : List (Sealed ×
 
 -- what is seen stays so
 abbrev pub SeenStays : Type 0
-SeenStays = (verdicts : List PlannedVerdict) (processed : List (Sealed × Line)) (batches : List (List Sealed)) (huella : List ℕ) (line : Line) →
+SeenStays = (verdicts : List PlannedVerdict) (processed : List (Sealed × Line)) (batches : List (List Sealed))
+    (huella : List ℕ) (line : Line) →
     line_of processed huella ≡ Some line → line_of (delivered_all verdicts processed batches) huella ≡ Some line
 
 -- the ask of an event, where it has one, is in its ranges
@@ -117,15 +130,18 @@ pub record IsSound (issuer : List ℕ) (w : World) : Type 0 where
 
 -- whatever the issuer, the plan and the events
 abbrev pub EveryWorldIsSound : Type 0
-EveryWorldIsSound = (issuer : List ℕ) (plan : Plan) (events : List Event) → AllByRecursion IsEvent events → IsSound issuer (world issuer plan events)
+EveryWorldIsSound = (issuer : List ℕ) (plan : Plan) (events : List Event) → AllByRecursion IsEvent events →
+    IsSound issuer (world issuer plan events)
 
 -- Where a shop gained no notes but its outbox's own, and nothing was its own, records alone came: before the look, and from
 -- there on.
 abbrev pub CameQuietly : Type 0
-CameQuietly = (before look after : Sight) (came : Grows before look) → look.own ≡ before.own → (then : Grows look after) → after.own ≡ look.own → GainsOwnNotes before after →
+CameQuietly = (before look after : Sight) (came : Grows before look) → look.own ≡ before.own → (then : Grows look after) →
+    after.own ≡ look.own → GainsOwnNotes before after →
     AreRecords (entries_of came.items.rest) × AreRecords (entries_of then.items.rest)
 
 -- the same, where one item of its own came last
 abbrev pub CameBesideOwn : Type 0
-CameBesideOwn = (before look after : Sight) (item : List Item → Item) (came : Grows before look) → look.own ≡ before.own → (adds : AddsOwn look after item) → GainsOwnNotes before after →
+CameBesideOwn = (before look after : Sight) (item : List Item → Item) (came : Grows before look) → look.own ≡ before.own →
+    (adds : AddsOwn look after item) → GainsOwnNotes before after →
     AreRecords (entries_of came.items.rest) × AreRecords (entries_of adds.others)

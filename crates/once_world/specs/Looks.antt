@@ -20,4 +20,5 @@ lines_in_front (Was line ∷ answers) = line ∷ lines_in_front answers
 
 -- past a record that isn't seen none is
 abbrev pub HasNoHole : List Seen → Type 0
-HasNoHole answers = (before after : List Seen) → answers ≡ before ++ NotSeen ∷ after → AllByRecursion (λ (answer : Seen). answer ≡ NotSeen) after
+HasNoHole answers = (before after : List Seen) → answers ≡ before ++ NotSeen ∷ after →
+    AllByRecursion (λ (answer : Seen). answer ≡ NotSeen) after

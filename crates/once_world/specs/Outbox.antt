@@ -90,4 +90,5 @@ AreOwnNotes own at (recorded.Stop faults torn ∷ items) = AreOwnNotes own (at +
 
 -- the shop gained no notes but its outbox's own
 abbrev pub GainsOwnNotes : Sight → Sight → Type 0
-GainsOwnNotes before after = AreOwnNotes (drop (length before.own) after.own) (length before.items) (drop (length before.items) after.items)
+GainsOwnNotes before after = AreOwnNotes (drop (length before.own) after.own) (length before.items)
+    (drop (length before.items) after.items)

@@ -1,6 +1,7 @@
 -- What each event makes of a shop, the agency, and the batches between them. What the shop is while it is up, in doubt or
 -- has learnt lines is this project's own.
-use Rattle.std.specs.Prelude.{ℕ, List, [], ◌∷◌, ◌++◌, length, take, Option, Some, None, Bool, true, false, not, ◌&&◌, nat_le, slice_get, is_none, if◌then◌else◌}
+use Rattle.std.specs.Prelude.{ℕ, List, [], ◌∷◌, ◌++◌, length, take, Option, Some, None, Bool, true, false, not, ◌&&◌, nat_le}
+use Rattle.std.specs.Prelude.{slice_get, is_none, if◌then◌else◌}
 use Rattle.record_fields.specs.declared.records.Sealed.{Sealed}
 use Rattle.record_fields.specs.declared.lines.Line.{Line}
 use Rattle.record_codec.specs.declared.entries.Entry.{Entry}
@@ -43,7 +44,8 @@ torn w kept (Again receipt) = w
 torn w kept (Refused why) = w
 
 abbrev pub may_send : World → ℕ → Bool
-may_send w count = w.up && not w.doubt && is_none w.learnt && nat_le 1 count && nat_le count 1000 && nat_le count (length (waiting w.state.entries))
+may_send w count = w.up && not w.doubt && is_none w.learnt && nat_le 1 count && nat_le count 1000
+    && nat_le count (length (waiting w.state.entries))
 
 -- the first waiting records go out, and whether they came is in doubt
 abbrev pub after_send : World → ℕ → World
@@ -61,7 +63,11 @@ learnt_lines (line ∷ lines) = Some (line ∷ lines)
 
 -- the agency is asked for the first 1000 waiting records
 abbrev pub after_look : World → World
-after_look w = record w { learnt = learnt_lines (lines_in_front (answers_for w.processed (take 1000 (waiting w.state.entries)))); doubt = false }
+after_look w = record w {
+  learnt = learnt_lines
+      (lines_in_front (answers_for w.processed (take 1000 (waiting w.state.entries))));
+  doubt = false;
+}
 
 -- the lines that were learnt are noted
 abbrev pub after_note : World → Option (List Line) → World

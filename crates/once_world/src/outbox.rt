@@ -39,5 +39,6 @@ pub trait Outbox {
         ensures grows { Grows (sight self.old) (sight self.new) }
         ensures within { OwnWithin (sight self.new) }
         ensures noted { NotedBy (sight self.old) (sight self.new) lines.now result }
-        ensures stopped { (faults : ℕ) → IsErrOf result (StoreFault.Stopped faults) ↔ HasStopped (sight self.old) (sight self.new) faults };
+        ensures stopped { (faults : ℕ) →
+            IsErrOf result (StoreFault.Stopped faults) ↔ HasStopped (sight self.old) (sight self.new) faults };
 }

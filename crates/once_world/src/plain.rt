@@ -55,7 +55,8 @@ impl PlainOutbox {
         ensures issuer { self.new.state.issuer ≡ self.old.state.issuer }
         ensures ok { OnOk result ((self.new.state.entries ≡ self.old.state.entries ++ entry ∷ [])
             × (self.new.own.items ≡ self.old.own.items ++ length self.old.state.entries ∷ [])) }
-        ensures err { OnErr result ((self.new.state.entries ≡ self.old.state.entries) × (self.new.own.items ≡ self.old.own.items)) }
+        ensures err { OnErr result ((self.new.state.entries ≡ self.old.state.entries)
+            × (self.new.own.items ≡ self.old.own.items)) }
     {
         let index = self.state.entries();
         if self.own.reserve(1).is_err() {
@@ -83,9 +84,11 @@ impl PlainOutbox {
     fn add_notes(&mut self, alloc: Global, lines: &[Line]) -> Result<(), NoMemory>
         requires { AreNext self.old.state.entries (length (noted self.old.state.entries)) lines.now }
         ensures issuer { self.new.state.issuer ≡ self.old.state.issuer }
-        ensures ok { OnOk result ((self.new.state.entries ≡ self.old.state.entries ++ Notes (length (noted self.old.state.entries)) lines.now ∷ [])
+        ensures ok { OnOk result ((self.new.state.entries
+            ≡ self.old.state.entries ++ Notes (length (noted self.old.state.entries)) lines.now ∷ [])
             × (self.new.own.items ≡ self.old.own.items ++ length self.old.state.entries ∷ [])) }
-        ensures err { OnErr result ((self.new.state.entries ≡ self.old.state.entries) × (self.new.own.items ≡ self.old.own.items)) }
+        ensures err { OnErr result ((self.new.state.entries ≡ self.old.state.entries)
+            × (self.new.own.items ≡ self.old.own.items)) }
     {
         let entry = self.notes(alloc, lines)?;
         self.add(entry)

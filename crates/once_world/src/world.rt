@@ -41,7 +41,8 @@ pub struct World {
 // Adds an entry that continues the history.
 fn add(state: &mut State, entry: Entry) -> Result<(), NoMemory>
     requires { Continues state.old.issuer state.old.entries entry }
-    ensures { OnOk result (state.new ≡ record { issuer = state.old.issuer; entries = state.old.entries ++ entry ∷ []; room = None }) }
+    ensures { OnOk result (state.new
+        ≡ record { issuer = state.old.issuer; entries = state.old.entries ++ entry ∷ []; room = None }) }
 {
     state.reserve(&entry)?;
     state.apply(entry);

@@ -1,1 +1,3 @@
 pub mod Listed
+mod Totalled
+mod Cents

@@ -2,6 +2,8 @@ pub mod Answers
 pub mod Chain
 pub mod Listing
 pub mod Turns
+pub mod Sums
+pub mod Summary
 pub mod Statuses
 pub mod Faults
 pub mod Verdicts

@@ -1,6 +1,6 @@
-//! The printed texts: answers, listing, turns, verdict and chain line on standard output, faults on standard error. Nothing is
-//! printed here: each call gives a text of whole lines, or says that there was no memory for it. Fields are parted by one
-//! blank, each line ends with a line feed, and places are counted from 1.
+//! The printed texts: answers, listing, turns, summary, verdict and chain line on standard output, faults on standard error.
+//! Nothing is printed here: each call gives a text of whole lines, or says that there was no memory for it. Fields are parted
+//! by one blank, each line ends with a line feed, and places are counted from 1.
 #![tactic(auto)]
 
 mod answers;
@@ -9,6 +9,7 @@ mod faults;
 mod listing;
 mod pieces;
 mod records;
+mod summary;
 #[cfg(test)]
 mod tests;
 mod turns;
@@ -18,5 +19,6 @@ pub use answers::{AnswerLine, Answers, answers_text};
 pub use ended::{Detail, Ended, status_of};
 pub use faults::fault_text;
 pub use listing::listing_text;
+pub use summary::summary_text;
 pub use turns::turns_text;
 pub use verdicts::verdict_text;

@@ -1,6 +1,7 @@
 // The pieces of printed lines. Each call appends to a text.
-ghost use Rattle.std.specs.Prelude.{◌≡◌, ◌++◌, OnOk, decimal};
+ghost use Rattle.std.specs.Prelude.{◌≡◌, ◌++◌, ◌+◌, ◌/◌, ◌%◌, ◌<◌, ◌∷◌, [], OnOk, decimal};
 ghost use Rattle.std.specs.Fmt.{signed_decimal};
+ghost use Rattle.amounts.specs.Text.{amount_text, cents_text};
 ghost use Rattle.huella.specs.FieldText.{huella_text};
 ghost use Rattle.report.specs.Chain.{chain_line, chain_text};
 
@@ -42,6 +43,35 @@ pub fn put_huella(text: &mut Vec<u8>, huella: &[u8; 32]) -> Result<(), AllocErro
     ensures { OnOk result (text.new.items ≡ text.old.items ++ huella_text huella.now) }
 {
     text.extend_from_slice(huella_text(huella).as_slice())
+}
+
+/// Two digits.
+fn put_pair(text: &mut Vec<u8>, n: u8) -> Result<(), AllocError>
+    requires { n < 100 }
+    ensures { OnOk result (text.new.items ≡ text.old.items ++ ((48 + n / 10) ∷ (48 + n % 10) ∷ [])) }
+{
+    put(text, &[b'0' + n / 10, b'0' + n % 10])
+}
+
+/// So many cents in euros.
+fn put_cents(text: &mut Vec<u8>, cents: u64) -> Result<(), AllocError>
+    ensures { OnOk result (text.new.items ≡ text.old.items ++ cents_text cents) }
+{
+    put_number(text, cents / 100)?;
+    put(text, b".")?;
+    put_pair(text, (cents % 100) as u8)
+}
+
+/// An amount, of any size.
+pub fn put_amount(text: &mut Vec<u8>, cents: i64) -> Result<(), AllocError>
+    ensures { OnOk result (text.new.items ≡ text.old.items ++ amount_text cents) }
+{
+    if cents < 0 {
+        put(text, b"-")?;
+        put_cents(text, cents.unsigned_abs())
+    } else {
+        put_cents(text, cents.unsigned_abs())
+    }
 }
 
 /// How many records and noted lines there are.

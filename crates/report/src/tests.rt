@@ -1,7 +1,7 @@
 // The Huellas of the listing are SHA-256, by another program, of the field texts of these records.
 use crate::{
-    AnswerLine, Answers, Detail, answers_text, fault_text, listing_text, status_of, turns_text,
-    verdict_text,
+    AnswerLine, Answers, Detail, answers_text, fault_text, listing_text, status_of, summary_text,
+    turns_text, verdict_text,
 };
 use agency_port::{Evidence, ReplyLine, Told, Turns};
 use amounts::Cents;
@@ -32,6 +32,14 @@ const LISTING: &str = "\
 7 alta A-2 01-01-2025 F2 0.01 0.06 N N 458E4C5C4B2C41CE513FE149B95C17CC03616098882618958D4F935D0A59B690 vet 65535\n\
 8 anulacion A-2 01-01-2025 S N A28295DB39DEFA68517B13D90AE45627646596A67A2A33EA82A032212D12CE37 pending\n\
 chain 8 noted 7\n";
+
+const SUMMARY: &str = "\
+generated 8 sales 5 cancels 3 base 304.55 tax 63.95\n\
+chain 8 noted 7 last A28295DB39DEFA68517B13D90AE45627646596A67A2A33EA82A032212D12CE37\n";
+
+const EMPTY: &str = "\
+generated 0 sales 0 cancels 0 base 0.00 tax 0.00\n\
+chain 0 noted 0 last -\n";
 
 const ANSWERS: &str = "\
 till 64 serial 4294967295 taken 1000000 A/B-7 AB0000000000000000000000000000000000000000000000000000000000000F\n\
@@ -155,6 +163,8 @@ fn histories_are_listed(rt: HostRuntime) -> Result<(), Fail> {
     let mut state = State::empty(alloc, &issuer()?);
     let empty = listing_text(alloc, &state)?;
     assert_eq!(rt; empty.as_slice(), b"chain 0 noted 0\n".as_slice());
+    let nothing = summary_text(alloc, &state)?;
+    assert_eq!(rt; nothing.as_slice(), EMPTY.as_bytes());
     let steps = [
         (Step::Sale(10_000), Some(Line::Incorrecto(Cause::Vet(4100)))),
         (Step::Fix(20_000), Some(Line::Correcto)),
@@ -173,6 +183,8 @@ fn histories_are_listed(rt: HostRuntime) -> Result<(), Fail> {
     }
     let text = listing_text(alloc, &state)?;
     assert_eq!(rt; text.as_slice(), LISTING.as_bytes());
+    let sums = summary_text(alloc, &state)?;
+    assert_eq!(rt; sums.as_slice(), SUMMARY.as_bytes());
     Ok(())
 }
 

@@ -31,4 +31,5 @@ breakdown_said lines = unless_any (when (not (is_breakdown lines)) Lines ∷ [])
 
 -- the draft of these items
 abbrev pub gathered_said : Kind → List Item → Result Draft Word
-gathered_said kind items = let draft = draft_of kind items in unless_any (when (not (is_breakdown draft.lines)) Lines ∷ []) (Ok draft)
+gathered_said kind items = let draft = draft_of kind items in unless_any (when (not (is_breakdown draft.lines)) Lines ∷ [])
+    (Ok draft)

@@ -1,6 +1,7 @@
 -- The fields past the kind of an invoice: its options `to=KEY`, `rect=S` or `rect=I` and `ref=NUM@DD-MM-YYYY`, and then its
 -- lines `CLASS:BASE`.
-use Rattle.std.specs.Prelude.{ℕ, ℤ, List, [], ◌∷◌, ◌++◌, ◌==◌, map, filter_map, codes, bytes_eq, Bool, not, ◌&&◌, if◌then◌else◌, Option, Some, None, option_map, Result, Ok, Err}
+use Rattle.std.specs.Prelude.{ℕ, ℤ, List, [], ◌∷◌, ◌++◌, ◌==◌, map, filter_map, codes, bytes_eq, Bool, not, ◌&&◌, if◌then◌else◌}
+use Rattle.std.specs.Prelude.{Option, Some, None, option_map, Result, Ok, Err}
 use Rattle.std.specs.List.{list_any, before_first, after_first}
 use Rattle.std.specs.Option.{ok_or}
 use Rattle.std.specs.Result.{result_ok, result_err}

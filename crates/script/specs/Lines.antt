@@ -1,5 +1,6 @@
 -- What a line of a script says, after the lines before it. The grammar is this project's own.
-use Rattle.std.specs.Prelude.{ℕ, List, [], ◌∷◌, length, map, codes, bytes_eq, count_by, Bool, true, false, not, ◌||◌, ◌==◌, nat_le, slice_index, if◌then◌else◌, is_some, filter_map, Option, Some, None, Result, Ok, Err}
+use Rattle.std.specs.Prelude.{ℕ, List, [], ◌∷◌, length, map, codes, bytes_eq, count_by, Bool, true, false, not, ◌||◌, ◌==◌}
+use Rattle.std.specs.Prelude.{nat_le, slice_index, if◌then◌else◌, is_some, filter_map, Option, Some, None, Result, Ok, Err}
 use Rattle.std.specs.List.{join_with_byte}
 use Rattle.std.specs.Option.{ok_or}
 use Rattle.std.specs.Str.{is_utf8}
@@ -32,7 +33,8 @@ use Rattle.script.specs.declared.planning.Judging.{Judging}
 use Rattle.script.specs.declared.planning.Judging.TheVariants as judging
 use Rattle.script.specs.declared.requests.Command.{Command}
 use Rattle.script.specs.declared.requests.Command.TheVariants as command
-use Rattle.script.specs.declared.limits.TheConstants.{MAX_START, MAX_STEP, MAX_CUSTOMERS, MAX_COMMANDS, MAX_NTH, MAX_CODE, MAX_WAIT, MAX_CALL, MAX_LATE}
+use Rattle.script.specs.declared.limits.TheConstants.{MAX_START, MAX_STEP, MAX_CUSTOMERS, MAX_COMMANDS, MAX_NTH, MAX_CODE}
+use Rattle.script.specs.declared.limits.TheConstants.{MAX_WAIT, MAX_CALL, MAX_LATE}
 use Rattle.script.specs.declared.lines.Line.{Line}
 use Rattle.script.specs.declared.lines.Line.TheVariants as line
 
@@ -207,7 +209,8 @@ wait_said above fields =
 
 -- `late D`, behind its word: D calls later
 abbrev pub late_said : List (List ℕ) → Result Fate Word
-late_said fields = and_then (field_at 0 fields (number_in 1 MAX_LATE) word.Number) (λ (calls : ℕ). ends_at 1 fields (Ok (Late calls)))
+late_said fields = and_then (field_at 0 fields (number_in 1 MAX_LATE) word.Number)
+    (λ (calls : ℕ). ends_at 1 fields (Ok (Late calls)))
 
 -- `lost`, `taken`, `stale`, `again` or `late D`, and nothing behind it
 abbrev pub fate_said : List (List ℕ) → Result Fate Word
@@ -221,7 +224,8 @@ abbrev pub link_said : Above → List (List ℕ) → Result Line Word
 link_said above fields =
     and_then (field_at 0 fields (number_in 1 MAX_CALL) word.Number) (λ (call : ℕ).
     and_then (fate_said (past 1 fields)) (λ (fate : Fate).
-    unless_any (when (is_some (fate_at above.fates call)) word.Twice ∷ []) (Ok (line.Link (record { call = call; fate = fate })))))
+    unless_any (when (is_some (fate_at above.fates call)) word.Twice ∷ [])
+    (Ok (line.Link (record { call = call; fate = fate })))))
 
 -- a form that plans what the practice agency does
 abbrev pub planned_said : Above → List ℕ → List (List ℕ) → Result Line Word

@@ -1,5 +1,6 @@
 -- Numbers as a script writes them: decimal digits without leading zeros. The form is this project's own.
-use Rattle.std.specs.Prelude.{ℕ, List, drop, ◌&&◌, nat_le, bytes_eq, ◌==◌, if◌then◌else◌, slice_index, Option, option_map, ℤ, pos, neg_ℤ}
+use Rattle.std.specs.Prelude.{ℕ, List, drop, ◌&&◌, nat_le, bytes_eq, ◌==◌, if◌then◌else◌, slice_index, Option, option_map, ℤ, pos}
+use Rattle.std.specs.Prelude.{neg_ℤ}
 use Rattle.std.specs.Str.Parse.{digits_value}
 use Rattle.amounts.specs.Text.{whole_text}
 use Rattle.amounts.specs.declared.cents.TheConstants.{MAX_CENTS}

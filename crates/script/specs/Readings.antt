@@ -1,5 +1,6 @@
 -- What single fields are read as.
-use Rattle.std.specs.Prelude.{ℕ, ◌-◌, List, [], ◌∷◌, length, map, Bool, not, ◌&&◌, ◌||◌, nat_le, ◌==◌, slice_index, codes, bytes_eq, is_some, position, Option}
+use Rattle.std.specs.Prelude.{ℕ, ◌-◌, List, [], ◌∷◌, length, map, Bool, not, ◌&&◌, ◌||◌, nat_le, ◌==◌, slice_index, codes}
+use Rattle.std.specs.Prelude.{bytes_eq, is_some, position, Option}
 use Rattle.std.specs.Char.{is_ascii_alphanumeric}
 use Rattle.std.specs.List.{list_all, range_with_len}
 use Rattle.agency_rules.specs.declared.plans.Fate.{Fate}
@@ -17,7 +18,9 @@ use Rattle.tax_lines.specs.Breakdown.{is_past}
 use Rattle.tax_lines.specs.Classes.{key_text}
 use Rattle.tax_lines.specs.declared.breakdown.TheConstants.{MAX_LINES}
 use Rattle.tax_lines.specs.declared.classes.LineKey.{LineKey}
-use Rattle.tax_lines.specs.declared.classes.LineKey.TheVariants.{General, Reduced, SuperReduced, Zero, GeneralSurcharge, ReducedSurcharge, SuperReducedSurcharge, S2, N1, N2, E1, E2, E3, E4, E5, E6}
+use Rattle.tax_lines.specs.declared.classes.LineKey.TheVariants.{General, Reduced, SuperReduced, Zero, GeneralSurcharge}
+use Rattle.tax_lines.specs.declared.classes.LineKey.TheVariants.{ReducedSurcharge, SuperReducedSurcharge, S2, N1, N2, E1, E2, E3}
+use Rattle.tax_lines.specs.declared.classes.LineKey.TheVariants.{E4, E5, E6}
 use Rattle.tax_lines.specs.declared.lines.TaxLine.{TaxLine}
 
 -- the first of all whose text this is

@@ -12,7 +12,8 @@ is_same_record one other = bytes_eq one.0 other.0 && nat_eq one.1 other.1
 
 -- the table has the numbers and counts of these verdicts
 abbrev pub AreRecordsOf : {S : Type 0} → List PlannedVerdict → HashSet (List ℕ × ℕ) S → Type 0
-AreRecordsOf verdicts records = (num : List ℕ) (n : ℕ) → contains is_same_record records (num, n) ≡ is_some (verdict_for verdicts num n)
+AreRecordsOf verdicts records = (num : List ℕ) (n : ℕ) → contains is_same_record records (num, n)
+    ≡ is_some (verdict_for verdicts num n)
 
 -- the table has the calls of these fates
 abbrev pub AreCallsOf : {S : Type 0} → List PlannedFate → HashSet ℕ S → Type 0

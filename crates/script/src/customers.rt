@@ -40,7 +40,8 @@ impl Customers {
     /// One more, whose key is new.
     pub fn add(&mut self, key: Key, party: Party) -> Result<(), NoMemory>
         requires { get_by_text self.old.by_key key ≡ None }
-        ensures found { OnOk result ((other : List ℕ) → get_by_text self.new.by_key other ≡ (if bytes_eq key other then Some party else get_by_text self.old.by_key other)) }
+        ensures found { OnOk result ((other : List ℕ) → get_by_text self.new.by_key other
+            ≡ (if bytes_eq key other then Some party else get_by_text self.old.by_key other)) }
         ensures count { OnOk result (btree_map_len self.new.by_key ≡ btree_map_len self.old.by_key + 1) }
     {
         self.by_key.insert(key.into_text(), party)?;

@@ -47,7 +47,8 @@ impl<'a> Fields<'a> {
 
     /// What is left of the line, blanks included, where something is.
     pub fn rest(&mut self) -> Option<&'a str>
-        ensures { MatchOption result (self.old ≡ []) (λ text. (text.now ≡ join_with_byte 32 self.old) × (is_left self.old ≡ true)) }
+        ensures { MatchOption result (self.old ≡ [])
+            (λ text. (text.now ≡ join_with_byte 32 self.old) × (is_left self.old ≡ true)) }
     {
         self.rest
     }
@@ -74,7 +75,8 @@ impl<'a> Fields<'a> {
 }
 
 fn at_blank(text: &str) -> Option<(&str, &str)>
-    ensures { MatchOption result (cut_at_first 32 text.now ≡ None) (λ cut. cut_at_first 32 text.now ≡ Some (cut.0.now, cut.1.now)) }
+    ensures { MatchOption result (cut_at_first 32 text.now ≡ None)
+        (λ cut. cut_at_first 32 text.now ≡ Some (cut.0.now, cut.1.now)) }
 {
     text.split_once(' ')
 }
@@ -91,14 +93,16 @@ fn first_field(text: &str) -> (&str, Option<&str>)
 
 /// What stands before the first place of `=` and after it.
 pub fn at_equals(text: &str) -> Option<(&str, &str)>
-    ensures { MatchOption result (cut_at_first 61 text.now ≡ None) (λ cut. cut_at_first 61 text.now ≡ Some (cut.0.now, cut.1.now)) }
+    ensures { MatchOption result (cut_at_first 61 text.now ≡ None)
+        (λ cut. cut_at_first 61 text.now ≡ Some (cut.0.now, cut.1.now)) }
 {
     text.split_once('=')
 }
 
 /// What stands before the first place of `:` and after it.
 pub fn at_colon(text: &str) -> Option<(&str, &str)>
-    ensures { MatchOption result (cut_at_first 58 text.now ≡ None) (λ cut. cut_at_first 58 text.now ≡ Some (cut.0.now, cut.1.now)) }
+    ensures { MatchOption result (cut_at_first 58 text.now ≡ None)
+        (λ cut. cut_at_first 58 text.now ≡ Some (cut.0.now, cut.1.now)) }
 {
     text.split_once(':')
 }

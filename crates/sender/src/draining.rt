@@ -4,7 +4,8 @@ ghost use Rattle.agency_port.specs.declared.messages.Message.{Message as AnyMess
 ghost use Rattle.agency_port.specs.declared.turns.Evidence.{Evidence as AnyEvidence};
 ghost use Rattle.shop_core.specs.History.{recs, noted, waiting};
 ghost use Rattle.once_world.specs.Outbox.{GainsOwnNotes, history_of};
-ghost use Rattle.sender.specs.Agreeing.{InSession, KeepsReply, KeepsSession, AgreesTorn, AgreesIfTorn, Adds, AreNotesOrTorn, IsCareful};
+ghost use Rattle.sender.specs.Agreeing.{InSession, KeepsReply, KeepsSession, AgreesTorn, AgreesIfTorn, Adds, AreNotesOrTorn};
+ghost use Rattle.sender.specs.Agreeing.{IsCareful};
 ghost use Rattle.sender.specs.declared.draining.TheConstants.{MAX_LINK_FAULTS};
 ghost use Rattle.sender.specs.Lines.{DrainTells, SaysCalls};
 ghost use Rattle.sender.specs.Draining.{told_in, told_list, moment_after, LinksAfter, Made, Drained, IsBounded};

@@ -2,7 +2,8 @@
 ghost use Rattle.std.specs.Prelude.{◌≡◌, ◌≤◌, ◌<◌, ◌^◌, ℕ, List, IsTrue, IsErrOf, true, false, length};
 ghost use Rattle.ports.specs.Causes.{Rose};
 ghost use Rattle.agency_port.specs.declared.messages.Message.{Message as AnyMessage};
-ghost use Rattle.sender.specs.Agreeing.{InSession, KeepsReply, KeepsAgreement, IsCareful, Adds, AreNotes, AreNotesOrTorn, AgreesIfTorn};
+ghost use Rattle.sender.specs.Agreeing.{InSession, KeepsReply, KeepsAgreement, IsCareful, Adds, AreNotes, AreNotesOrTorn};
+ghost use Rattle.sender.specs.Agreeing.{AgreesIfTorn};
 ghost use Rattle.pacing.specs.Due.{is_due};
 ghost use Rattle.shop_core.specs.History as history;
 ghost use Rattle.shop_core.specs.Legal.{Legal};

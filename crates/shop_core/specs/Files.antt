@@ -46,7 +46,8 @@ pub data IsDamagedFile (file : List ℕ) : ℕ → Type 0 where
   no_entry : (issuer : List ℕ) (entries : List Entry) (at : ℕ) (body : List ℕ) → IsSoundUpTo issuer entries at file →
       IsCounted (drop at file) body → ((entry : Entry) → IsEncoding issuer entry body → ⊥) → IsDamagedFile file at
   not_next : (issuer : List ℕ) (entries : List Entry) (at : ℕ) (body : List ℕ) (entry : Entry) →
-      IsSoundUpTo issuer entries at file → IsCounted (drop at file) body → IsEncoding issuer entry body → (Continues issuer entries entry → ⊥) → IsDamagedFile file at
+      IsSoundUpTo issuer entries at file → IsCounted (drop at file) body → IsEncoding issuer entry body →
+      (Continues issuer entries entry → ⊥) → IsDamagedFile file at
 
 -- the file stands for the history from before, or for that with this entry
 abbrev pub StandsBeforeOrWith : List ℕ → List Entry → Entry → List ℕ → Type 0

@@ -118,7 +118,8 @@ impl<D: Disk, C: Clock> SenderSeat<D, C> {
     )
         requires { seat_shop self.old ≡ shop_id shop.now }
         ensures shop { seat_shop self.new ≡ seat_shop self.old }
-        ensures turn { Turns (λ home before after. A.relates act.old home before act.new after) (seat_knows self.old) (seat_knows self.new) }
+        ensures turn { Turns (λ home before after. A.relates act.old home before act.new after) (seat_knows self.old)
+            (seat_knows self.new) }
     {
         shop.lock.turn(rt, &mut self.pass, act);
     }

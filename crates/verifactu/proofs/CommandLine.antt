@@ -3,9 +3,9 @@ use Rattle.std.proofs.Common.{◌≡◌, ℕ, suc, ◌<◌, ◌≤◌, List, [],
 use Rattle.std.proofs.lemmas.Bool.Decides.{nat_tests}
 use Rattle.std.proofs.lemmas.Slice.Eq.{bytes_eq-Decides}
 use Rattle.parties.specs.Nif.{IsNif}
-use Rattle.verifactu.specs.Words.{IsAskedFor, AsksFor, IsChain}
+use Rattle.verifactu.specs.Words.{IsAskedFor, AsksFor, IsChain, IsDay, IsDrain, IsWithin}
 use Rattle.verifactu.specs.declared.words.Command.{Command}
-use Rattle.verifactu.specs.declared.words.Command.TheVariants.{Chain, Audit, Link, Help, Version}
+use Rattle.verifactu.specs.declared.words.Command.TheVariants.{Chain, Day, Drain, Audit, Link, Generate, Help, Version}
 
 length_map : {A B : Type 0} (f : A → B) (xs : List A) → length (map f xs) ≡ length xs
 length_map f [] = refl
@@ -14,8 +14,11 @@ length_map f (x ∷ xs) = ap suc (length_map f xs)
 -- words of another count than those of every command
 not_asked : (words : List (List ℕ)) → (length words ≡ 1 → ⊥) → (length words ≡ 2 → ⊥) → (length words ≡ 3 → ⊥) → (length words ≡ 4 → ⊥) → (command : Command) → AsksFor words command → ⊥
 not_asked words one two three four (Chain issuer) h = three (ap length h.words_are)
+not_asked words one two three four (Day issuer) h = three (ap length h.words_are)
+not_asked words one two three four (Drain issuer) h = three (ap length h.words_are)
 not_asked words one two three four Audit h = two (ap length h.words_are)
 not_asked words one two three four (Link num host) h = four (ap length h.words_are)
+not_asked words one two three four (Generate n) h = two (ap length h.words_are)
 not_asked words one two three four Help h = one (ap length h)
 not_asked words one two three four Version h = one (ap length h)
 
@@ -39,6 +42,32 @@ is_chain name file nif issuer named filed h = record {
   nif = subst (λ (n : List ℕ). IsNif n) (sym h.1) h.0;
 }
 
+pub is_day : (name file nif issuer : List ℕ) → bytes_eq name (codes "day") ≡ true → (length file == 0) ≡ false →
+    IsNif nif × (issuer ≡ nif) → IsDay (name ∷ (file ∷ (nif ∷ []))) issuer
+is_day name file nif issuer named filed h = record {
+  file = file;
+  words_are = rw (bytes_eq_is name (codes "day") named, h.1) refl;
+  named = there (length file) filed;
+  nif = subst (λ (n : List ℕ). IsNif n) (sym h.1) h.0;
+}
+
+pub is_drain : (name file nif issuer : List ℕ) → bytes_eq name (codes "drain") ≡ true → (length file == 0) ≡ false →
+    IsNif nif × (issuer ≡ nif) → IsDrain (name ∷ (file ∷ (nif ∷ []))) issuer
+is_drain name file nif issuer named filed h = record {
+  file = file;
+  words_are = rw (bytes_eq_is name (codes "drain") named, h.1) refl;
+  named = there (length file) filed;
+  nif = subst (λ (n : List ℕ). IsNif n) (sym h.1) h.0;
+}
+
+pub three_words : {A : Type 0} (xs : List A) (a b c : A) → 3 ≤ length xs → length xs < 4 → a ≡ get_or xs 0 a → b ≡ get_or xs 1 b → c ≡ get_or xs 2 c →
+    xs ≡ a ∷ (b ∷ (c ∷ []))
+three_words (w ∷ (x ∷ (y ∷ []))) a b c many few first second third = cc
+three_words [] a b c many few first second third = absurd (omega arith)
+three_words (w ∷ []) a b c many few first second third = absurd (omega arith)
+three_words (w ∷ (x ∷ [])) a b c many few first second third = absurd (omega arith)
+three_words (w ∷ (x ∷ (y ∷ (z ∷ xs)))) a b c many few first second third = absurd (omega arith)
+
 pub four_words : {A : Type 0} (xs : List A) (a b c d : A) → 4 ≤ length xs → length xs < 5 → a ≡ get_or xs 0 a → b ≡ get_or xs 1 b → c ≡ get_or xs 2 c → d ≡ get_or xs 3 d →
     xs ≡ a ∷ (b ∷ (c ∷ (d ∷ [])))
 four_words (w ∷ (x ∷ (y ∷ (z ∷ [])))) a b c d many few first second third fourth = cc
@@ -47,3 +76,13 @@ four_words (w ∷ []) a b c d many few first second third fourth = absurd (omega
 four_words (w ∷ (x ∷ [])) a b c d many few first second third fourth = absurd (omega arith)
 four_words (w ∷ (x ∷ (y ∷ []))) a b c d many few first second third fourth = absurd (omega arith)
 four_words (w ∷ (x ∷ (y ∷ (z ∷ (v ∷ xs))))) a b c d many few first second third fourth = absurd (omega arith)
+
+pub within : (words : List (List ℕ)) (command : Command) → AsksFor words command → IsWithin command
+within words (Chain issuer) h = tt
+within words (Day issuer) h = tt
+within words (Drain issuer) h = tt
+within words Audit h = tt
+within words (Link num host) h = tt
+within words (Generate n) h = h.number.range
+within words Help h = tt
+within words Version h = tt

@@ -96,7 +96,7 @@ pub kept : (o : Origin) (asks : List Asked) (replies : List (Result Reply StoreF
     Kept (StandsBetween o.issuer o.start p.history.entries) o.issuer p.history.entries replies o.since p.now
 kept o asks replies p gate h legal holds image tells = kept_by p.stopped o replies p gate h.own h.progress legal holds image tells
 
-since_found : (issuer : List ℕ) (start end torn : List Entry) (c : List ℕ) → IsPrefix start end → IsFound issuer start c → StandsSince issuer start end torn c
+pub since_found : (issuer : List ℕ) (start end torn : List Entry) (c : List ℕ) → IsPrefix start end → IsFound issuer start c → StandsSince issuer start end torn c
 since_found issuer start end torn c begins (inl not_begun) = inl not_begun
 since_found issuer start end torn c begins (inr stands) = inr (record {
   history = start;

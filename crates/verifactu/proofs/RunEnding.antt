@@ -29,14 +29,20 @@ use Rattle.verifactu.specs.Readings.{IsComing, IsAsked, LeavesClock, readings, r
 use Rattle.verifactu.specs.Replies.{AllGoOn, AllReplied, StopsOnce, is_disk_fault, is_no_memory}
 use Rattle.ports.specs.Sinks.{FailedIn, OutputIs, Sinks, Wrote}
 use Rattle.chain_disk.specs.Disks.{DiskRose, Disks}
-use Rattle.verifactu.specs.Chain.{ChainEnds, Played, ReadAndRan, ScriptEnds, ScriptIs, no_script_end, opening_end}
-use Rattle.verifactu.specs.Chain.ChainEnds.{ran, bad_line, read_fault, too_big, no_memory as unread_memory}
+use Rattle.verifactu.specs.Chain.{ChainEnds, Played, ScriptEnds}
+use Rattle.verifactu.specs.Opening.{opening_end}
+use Rattle.verifactu.specs.Scripts.{IsGoodScript, ScriptIs, ScriptedEnds, no_script_end}
+use Rattle.verifactu.specs.Scripts.ScriptedEnds.{ran, bad_line, read_fault, too_big, no_memory as unread_memory}
 use Rattle.verifactu.specs.Commands.{Answers, Stores}
-use Rattle.verifactu.specs.Devices.{Clocks, Devices, LeftClock, Untouched}
+use Rattle.verifactu.specs.Devices.{Clocks, Devices, LeftClock}
 use Rattle.verifactu.specs.Ending.{RunEnds}
 use Rattle.verifactu.specs.Ending.RunEnds.{done, write_fault, disk_fault, no_memory}
-use Rattle.verifactu.specs.declared.chain.NoScript.{NoScript}
-use Rattle.verifactu.specs.declared.chain.NoScript.TheVariants as unread
+use Rattle.verifactu.specs.declared.scripts.NoScript.{NoScript}
+use Rattle.verifactu.specs.declared.scripts.NoScript.TheVariants as no_script
+use Rattle.script.specs.declared.forms.Form.{Form}
+use Rattle.script.specs.declared.forms.Form.TheVariants.{Full}
+use Rattle.script.specs.declared.scripts.Script.{Script}
+use Rattle.ports.specs.Sources.{Sources}
 use Rattle.verifactu.proofs.Finishing.{kept_since}
 
 -- no reply is want of memory, and none a fault of the disk
@@ -137,15 +143,15 @@ run_by issuer R Q start each (replied asks replies entries ask told gained run s
 -- the same end, said of other readings and of another clock
 pub script_by : {D : Type 0} (issuer : List ℕ) (asks : List Asked) (old new : ℕ → Option ℕ) (Leaves Left : List (Result Reply StoreFault) → Type 0) (s : Sinks) (k : Disks D) (end : Detail) →
     ((i : ℕ) → old i ≡ new i) → ((replies : List (Result Reply StoreFault)) → Leaves replies → Left replies) → ScriptEnds issuer asks old Leaves s k end → ScriptEnds issuer asks new Left s k end
-script_by issuer asks old new Leaves Left s k end same leaves (inl h) = inl (record { ends = h.ends; wrote = h.wrote; disk = h.disk; clock = leaves [] h.clock })
+script_by issuer asks old new Leaves Left s k end same leaves (inl h) = inl (record { ends = h.ends; wrote = h.wrote; disk = h.disk; rest = leaves [] h.rest })
 script_by issuer asks old new Leaves Left s k end same leaves (inr (inl h)) = inr (inl (record {
   why = h.why;
   ends = h.ends;
   risen = h.risen;
-  left = h.left;
+  left_by = h.left_by;
   every_crash = h.every_crash;
   wrote = h.wrote;
-  clock = leaves [] h.clock;
+  rest = leaves [] h.rest;
 }))
 script_by issuer asks old new Leaves Left s k end same leaves (inr (inr h)) =
     let p = h.0 in
@@ -178,7 +184,7 @@ rose_ran issuer asks coming Leaves s k end p (done all wrote) is = absurd cc
 rose_ran issuer asks coming Leaves s k end p (write_fault all wrote) is = absurd cc
 rose_ran issuer asks coming Leaves s k end p (no_memory wrote) is = absurd cc
 
-rose_opening : {D : Type 0} (why : OpenCause) (k : Disks D) → (why ≡ cause.DiskFault → DiskRose k) → opening_end why ≡ detail.DiskFault → DiskRose k
+pub rose_opening : {D : Type 0} (why : OpenCause) (k : Disks D) → (why ≡ cause.DiskFault → DiskRose k) → opening_end why ≡ detail.DiskFault → DiskRose k
 rose_opening cause.DiskFault k risen is = risen refl
 rose_opening (cause.Damaged at) k risen is = absurd cc
 rose_opening (cause.OtherIssuer held) k risen is = absurd cc
@@ -191,12 +197,17 @@ disk_rose issuer asks coming Leaves s k end (inr (inl h)) is = rose_opening h.wh
 disk_rose issuer asks coming Leaves s k end (inr (inr h)) is = rose_ran issuer asks coming Leaves s k end h.0 h.1 is
 
 -- the end of a command that read its script is that of its run
-pub chain_ran : {D C : Type 0} (issuer : List ℕ) (d : Devices D C) (end : Detail) → ReadAndRan issuer d end → ChainEnds issuer d end
-chain_ran issuer d end h = ran end h (disk_rose issuer h.0.asks (readings_of h.0.clock (d.clock.coming d.clock.clock)) (LeavesClock d.clock h.0.clock) d.sink d.disk end h.2)
+pub chain_ran : {D C : Type 0} (issuer : List ℕ) (d : Devices D C) (script : Script) (end : Detail) → IsGoodScript Full d.source script →
+    ScriptEnds issuer script.asks (readings_of script.clock (d.clock.coming d.clock.clock)) (LeavesClock d.clock script.clock) d.sink d.disk end → ChainEnds issuer d end
+chain_ran issuer d script end good h = ran script end good (record {
+  ends = h;
+  risen = disk_rose issuer script.asks (readings_of script.clock (d.clock.coming d.clock.clock)) (LeavesClock d.clock script.clock) d.sink d.disk end h;
+})
 
 -- the end of a command whose source is no script
-pub chain_unread : {D C : Type 0} (issuer : List ℕ) (d : Devices D C) (fault : NoScript) → ScriptIs d.source (Err fault) → Untouched d → ChainEnds issuer d (no_script_end fault)
-chain_unread issuer d unread.ReadFault is left = read_fault is left
-chain_unread issuer d unread.TooBig is left = too_big is left
-chain_unread issuer d (unread.BadLine line fault) is left = bad_line line fault is left
-chain_unread issuer d unread.NoMemory is left = unread_memory left
+pub unread : (form : Form) (s : Sources) (untouched : Type 0) (Ran : Script → Detail → Type 0) (fault : NoScript) → ScriptIs form s (Err fault) → untouched →
+    ScriptedEnds form s untouched Ran (no_script_end fault)
+unread form s untouched Ran no_script.ReadFault is left = read_fault is left
+unread form s untouched Ran no_script.TooBig is left = too_big is left
+unread form s untouched Ran (no_script.BadLine line fault) is left = bad_line line fault is left
+unread form s untouched Ran no_script.NoMemory is left = unread_memory left

@@ -8,5 +8,16 @@ pub mod Replies
 pub mod Crashes
 pub mod Commands
 pub mod Ending
+pub mod Scripts
+pub mod Opening
 pub mod Chain
+pub mod Generated
+pub mod Generate
+pub mod Steps
+pub mod Drained
+pub mod Outcomes
+pub mod Drain
+pub mod Tills
+pub mod Works
+pub mod Day
 pub mod Run

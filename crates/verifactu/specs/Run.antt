@@ -9,34 +9,41 @@ use Rattle.file_commands.specs.Auditing.{AuditEnds}
 use Rattle.file_commands.specs.Linking.{LinkEnds}
 use Rattle.file_commands.specs.Output.{PrintEnds}
 use Rattle.verifactu.specs.Chain.{ChainEnds}
-use Rattle.verifactu.specs.Devices.{Devices, OnlyPrints, OnlyReadsFile}
+use Rattle.verifactu.specs.Day.{DayEnds}
+use Rattle.verifactu.specs.Devices.{AllDevices, NobodyCalled, OnlyPrints, OnlyReadsFile}
+use Rattle.verifactu.specs.Drain.{DrainEnds}
+use Rattle.verifactu.specs.Generate.{GenerateEnds}
 use Rattle.verifactu.specs.Help.{help_text, version_text}
 use Rattle.verifactu.specs.Words.{IsAskedFor}
 use Rattle.verifactu.specs.declared.words.Command.{Command}
-use Rattle.verifactu.specs.declared.words.Command.TheVariants.{Chain, Audit, Link, Help, Version}
+use Rattle.verifactu.specs.declared.words.Command.TheVariants.{Chain, Day, Drain, Audit, Link, Generate, Help, Version}
 
 -- when a command ends in this way
-abbrev pub CommandEnds : {D C : Type 0} → Command → Devices D C → Detail → Type 0
-CommandEnds (Chain issuer) d end = ChainEnds issuer d end
-CommandEnds Audit d end = AuditEnds d.sink d.disk end × OnlyReadsFile d
-CommandEnds (Link num host) d end = LinkEnds num host d.sink d.disk end × OnlyReadsFile d
-CommandEnds Help d end = PrintEnds help_text detail.Done d.sink end × OnlyPrints d
-CommandEnds Version d end = PrintEnds version_text detail.Done d.sink end × OnlyPrints d
+abbrev pub CommandEnds : {D C Z G : Type 0} → Command → AllDevices D C Z G → Detail → Type 0
+CommandEnds (Chain issuer) a end = ChainEnds issuer a.devices end × NobodyCalled a
+CommandEnds (Day issuer) a end = DayEnds issuer a.devices end × NobodyCalled a
+CommandEnds (Drain issuer) a end = DrainEnds issuer a end
+CommandEnds Audit a end = AuditEnds a.devices.sink a.devices.disk end × OnlyReadsFile a.devices × NobodyCalled a
+CommandEnds (Link num host) a end = LinkEnds num host a.devices.sink a.devices.disk end × OnlyReadsFile a.devices × NobodyCalled a
+CommandEnds (Generate n) a end = GenerateEnds n a.devices.sink end × OnlyPrints a.devices × NobodyCalled a
+CommandEnds Help a end = PrintEnds help_text detail.Done a.devices.sink end × OnlyPrints a.devices × NobodyCalled a
+CommandEnds Version a end = PrintEnds version_text detail.Done a.devices.sink end × OnlyPrints a.devices × NobodyCalled a
 
 -- words that are no command
-pub record NoCommand {D C : Type 0} (d : Devices D C) (end : Detail) : Type 0 where
+pub record NoCommand {D C Z G : Type 0} (a : AllDevices D C Z G) (end : Detail) : Type 0 where
   pub usage : end ≡ detail.Usage
-  pub wrote : WroteNothing d.sink
-  pub nothing : OnlyPrints d
+  pub wrote : WroteNothing a.devices.sink
+  pub nothing : OnlyPrints a.devices
+  pub nobody : NobodyCalled a
 
 -- how a call ends whose words ask for this command, or for none
-abbrev pub CallEnds : {D C : Type 0} → Option Command → Devices D C → Detail → Type 0
-CallEnds None d end = NoCommand d end
-CallEnds (Some command) d end = CommandEnds command d end
+abbrev pub CallEnds : {D C Z G : Type 0} → Option Command → AllDevices D C Z G → Detail → Type 0
+CallEnds None a end = NoCommand a end
+CallEnds (Some command) a end = CommandEnds command a end
 
 -- the status, with its cause: words that ask for no command, or the way that the command ended
-pub record EndsAs {D C : Type 0} (words : List (List ℕ)) (d : Devices D C) (ended : Ended) : Type 0 where
+pub record EndsAs {D C Z G : Type 0} (words : List (List ℕ)) (a : AllDevices D C Z G) (ended : Ended) : Type 0 where
   pub status : ended.status ≡ status_of ended.detail
   pub command : Option Command
   pub asked : IsAskedFor words command
-  pub cause : CallEnds command d ended.detail
+  pub cause : CallEnds command a ended.detail

@@ -1,16 +1,32 @@
 -- What the words of the command line ask for. The commands are this project's own.
-use Rattle.std.specs.Prelude.{◌≡◌, ℕ, ◌<◌, List, [], ◌∷◌, length, codes, IsTrue, Option, Some, None}
+use Rattle.std.specs.Prelude.{◌≡◌, ℕ, ◌<◌, List, [], ◌∷◌, length, codes, decimal, IsTrue, Option, Some, None}
+use Rattle.std.specs.Int.{IsInRange}
 use Rattle.parties.specs.Nif.{IsNif}
 use Rattle.series.specs.Numbers.{is_num_serie}
 use Rattle.verify_link.specs.declared.parts.Host.{Host}
 use Rattle.verify_link.specs.declared.parts.Host.TheVariants.{Real, Practice}
 use Rattle.verifactu.specs.declared.words.Command.{Command}
-use Rattle.verifactu.specs.declared.words.Command.TheVariants.{Chain, Audit, Link, Help, Version}
+use Rattle.verifactu.specs.declared.words.Command.TheVariants.{Chain, Day, Drain, Audit, Link, Generate, Help, Version}
+use Rattle.verifactu.specs.declared.generated.TheConstants.{MOST}
 
 -- `chain FILE NIF`: a file's name, which isn't empty, and a tax number
 pub record IsChain (words : List (List ℕ)) (issuer : List ℕ) : Type 0 where
   pub file : List ℕ
   pub words_are : words ≡ codes "chain" ∷ (file ∷ (issuer ∷ []))
+  pub named : 0 < length file
+  pub nif : IsNif issuer
+
+-- `day FILE NIF`, the same
+pub record IsDay (words : List (List ℕ)) (issuer : List ℕ) : Type 0 where
+  pub file : List ℕ
+  pub words_are : words ≡ codes "day" ∷ (file ∷ (issuer ∷ []))
+  pub named : 0 < length file
+  pub nif : IsNif issuer
+
+-- `drain FILE NIF`, the same
+pub record IsDrain (words : List (List ℕ)) (issuer : List ℕ) : Type 0 where
+  pub file : List ℕ
+  pub words_are : words ≡ codes "drain" ∷ (file ∷ (issuer ∷ []))
   pub named : 0 < length file
   pub nif : IsNif issuer
 
@@ -36,11 +52,30 @@ pub record IsLink (words : List (List ℕ)) (num : List ℕ) (host : Host) : Typ
   pub named : 0 < length file
   pub number : IsTrue (is_num_serie num)
 
+-- a number of commands, from 1 to the most, in decimal without leading zeros
+pub record IsCountOf (word : List ℕ) (n : ℕ) : Type 0 where
+  pub range : IsInRange 1 MOST n
+  pub written : word ≡ decimal n
+
+-- the number of commands that a word says; none where it says none
+abbrev pub IsCount : List ℕ → Option ℕ → Type 0
+IsCount word None = (n : ℕ) → IsCountOf word n → ⊥
+IsCount word (Some n) = IsCountOf word n
+
+-- `generate N`
+pub record IsGenerate (words : List (List ℕ)) (n : ℕ) : Type 0 where
+  pub count : List ℕ
+  pub words_are : words ≡ codes "generate" ∷ (count ∷ [])
+  pub number : IsCountOf count n
+
 -- the words of this command
 abbrev pub AsksFor : List (List ℕ) → Command → Type 0
 AsksFor words (Chain issuer) = IsChain words issuer
+AsksFor words (Day issuer) = IsDay words issuer
+AsksFor words (Drain issuer) = IsDrain words issuer
 AsksFor words Audit = IsAudit words
 AsksFor words (Link num host) = IsLink words num host
+AsksFor words (Generate n) = IsGenerate words n
 AsksFor words Help = words ≡ codes "--help" ∷ []
 AsksFor words Version = words ≡ codes "--version" ∷ []
 
@@ -48,3 +83,14 @@ AsksFor words Version = words ≡ codes "--version" ∷ []
 abbrev pub IsAskedFor : List (List ℕ) → Option Command → Type 0
 IsAskedFor words None = (command : Command) → AsksFor words command → ⊥
 IsAskedFor words (Some command) = AsksFor words command
+
+-- a command that words can ask for
+abbrev pub IsWithin : Command → Type 0
+IsWithin (Chain issuer) = Unit {0}
+IsWithin (Day issuer) = Unit {0}
+IsWithin (Drain issuer) = Unit {0}
+IsWithin Audit = Unit {0}
+IsWithin (Link num host) = Unit {0}
+IsWithin (Generate n) = IsInRange 1 MOST n
+IsWithin Help = Unit {0}
+IsWithin Version = Unit {0}

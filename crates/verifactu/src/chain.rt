@@ -7,49 +7,27 @@ ghost use Rattle.journal.specs.Journal.{disk_of, stopped_of};
 ghost use Rattle.record_codec.specs.declared.entries.Entry.{Entry};
 ghost use Rattle.chain_store.specs.Store.{Ready, clock_of, journal_of, state_of};
 ghost use Rattle.report.specs.Statuses.{status_of};
-ghost use Rattle.verifactu.specs.Chain.{ChainEnds, ScriptEnds, ScriptIs, StoreEnds};
-ghost use Rattle.verifactu.specs.Chain as spec;
+ghost use Rattle.verifactu.specs.Chain.{ChainEnds, ScriptEnds, StoreEnds};
 ghost use Rattle.verifactu.specs.Commands.{this_store};
 ghost use Rattle.verifactu.specs.Devices.{this_clock};
 ghost use Rattle.verifactu.specs.Readings.{IsAsked, LeavesClock, readings, readings_of};
 
 use crate::commands::run_commands;
 use crate::ending::end_of;
-use crate::input::{InputFault, read_input};
+use crate::opening::opening_end;
 use crate::printed::told_of;
+use crate::scripts::read_source;
 use chain_disk::Disk;
-use chain_store::{OpenCause, Store};
+use chain_store::Store;
 use file_commands::{ended_as, write_texts};
 use journal::StoreFault;
 use parties::Nif;
 use ports::{Clock, CountingClock, Sink, Source};
 use recovery::open_store;
 use report::{Detail, Ended};
-use script::{Form, Script, ScriptFault, read_script};
-use shop_core::{Ask, Reply, Word};
+use script::{Form, Script};
+use shop_core::{Ask, Reply};
 use std::alloc::Global;
-
-/// Why a source gave no script.
-#[derive(Clone, Copy, Debug, PartialEq, Eq)]
-pub enum NoScript {
-    ReadFault,
-    TooBig,
-    BadLine { line: u32, fault: Word },
-    NoMemory,
-}
-
-impl NoScript {
-    fn detail(self) -> Detail
-        ensures { result ≡ spec.no_script_end self }
-    {
-        match self {
-            NoScript::ReadFault => Detail::ReadFault,
-            NoScript::TooBig => Detail::TooBig,
-            NoScript::BadLine { line, fault } => Detail::Script { line, fault },
-            NoScript::NoMemory => Detail::NoMemory,
-        }
-    }
-}
 
 /// Reads a script from the source, opens the disk for this issuer, runs the commands on the history that it holds, keeps each
 /// entry on the disk before the next command, and prints the replies and the chain to the sink. The clock is asked once a
@@ -89,37 +67,9 @@ fn chain<S: Source, K: Sink, D: Disk, C: Clock>(
       clock = this_clock C.coming clock result.2;
     }) result.0 }
 {
-    match read_commands(alloc, source) {
+    match read_source(alloc, source, Form::Full) {
         Err(fault) => (fault.detail(), disk, clock),
         Ok(script) => run_script(alloc, issuer, &script, sink, disk, clock),
-    }
-}
-
-fn read_commands<S: Source>(alloc: Global, source: &mut S) -> Result<Script, NoScript>
-    ensures { ScriptIs (this_source S.left S.faults source.old source.new) result }
-{
-    let bytes = match read_input(alloc, source) {
-        Ok(bytes) => bytes,
-        Err(InputFault::ReadFault) => return Err(NoScript::ReadFault),
-        Err(InputFault::TooBig) => return Err(NoScript::TooBig),
-        Err(InputFault::NoMemory) => return Err(NoScript::NoMemory),
-    };
-    match read_script(alloc, &bytes, Form::Full) {
-        Ok(script) => Ok(script),
-        Err(ScriptFault::BadLine { line, fault }) => Err(NoScript::BadLine { line, fault }),
-        Err(ScriptFault::NoMemory) => Err(NoScript::NoMemory),
-    }
-}
-
-// The end of a call whose file couldn't be opened for this cause.
-fn opening_end(cause: &OpenCause) -> Detail
-    ensures { result ≡ spec.opening_end cause.now }
-{
-    match cause {
-        OpenCause::DiskFault => Detail::DiskFault,
-        OpenCause::Damaged { at } => Detail::Damaged { at: *at },
-        OpenCause::OtherIssuer { held } => Detail::OtherIssuer { held: *held },
-        OpenCause::NoMemory => Detail::NoMemory,
     }
 }
 

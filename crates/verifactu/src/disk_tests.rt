@@ -2,15 +2,17 @@
 ghost use Rattle.std.specs.Prelude.{◌≡◌, ◌≤◌, ◌-◌, ◌^◌, false};
 ghost use Rattle.chain_disk.specs.File.{untold, untold_reads};
 
-use crate::tests::{CHAIN, ROW, disk_of, ends};
+use crate::tests::{CHAIN, DAY, ROW, disk_of, ends};
 use chain_disk::{Disk, Fill, MemDisk};
 use parties::Nif;
 use ports::{Clock, CountingClock, Failed};
 use report::{Detail, Ended};
 use shop_core::What;
 use std::alloc::Global;
+use std::sync::Wait;
 use std::sync::atomic::{AtomicU64, Ordering};
 use std::test::Fail;
+use std::thread::Threads;
 
 const TWO: &str = "clock 1735722000 0\nsale 1 1 A F2 21:10000\nsale 1 2 A F2 10:1000\n";
 
@@ -20,16 +22,20 @@ const FIRST: &str =
 const SECOND: &str =
     "2 alta A-2 01-01-2025 F2 1.00 11.00 N N 43AB7A8D6998F4962D87F4C4F3C7A71FA910CAB982CDB1E08AE6BF918BAE7763 pending\n";
 
-const FILLS: [Fill; 4] = [Fill::Old, Fill::New, Fill::Zeros, Fill::Ones];
+pub const FILLS: [Fill; 4] = [Fill::Old, Fill::New, Fill::Zeros, Fill::Ones];
 
 // Runs a script on a disk; its end, what was printed, and the disk.
-fn runs<D: Disk + Drop>(alloc: Global, script: &str, disk: D) -> Result<(Ended, Vec<u8>, D), Fail> {
+fn runs<D: Disk + Send + Drop>(
+    rt: &(impl AllocGlobal + Threads + Wait + Sync),
+    script: &str,
+    disk: D,
+) -> Result<(Ended, Vec<u8>, D), Fail> {
     let clock = CountingClock::new(0, 0);
-    let (ended, sink, disk, _) = ends(alloc, CHAIN, script.as_bytes(), (0, 0), disk, clock)?;
-    Ok((ended, Vec::from_slice(alloc, sink.bytes())?, disk))
+    let (ended, sink, disk, _) = ends(rt, CHAIN, script.as_bytes(), (0, 0), disk, clock)?;
+    Ok((ended, Vec::from_slice(rt.alloc(), sink.bytes())?, disk))
 }
 
-fn done() -> Ended {
+pub fn done() -> Ended {
     Ended {
         status: 0,
         detail: Detail::Done,
@@ -39,15 +45,15 @@ fn done() -> Ended {
 #[test]
 fn a_run_goes_on_from_its_file(rt: HostRuntime) -> Result<(), Fail> {
     let alloc = rt.alloc();
-    let (ended, _, disk) = runs(alloc, ROW, disk_of(alloc, &[], 0)?)?;
+    let (ended, _, disk) = runs(&rt, ROW, disk_of(alloc, &[], 0)?)?;
     assert_eq!(rt; ended, done());
-    let (ended, text, disk) = runs(alloc, TWO, disk)?;
+    let (ended, text, disk) = runs(&rt, TWO, disk)?;
     assert_eq!(rt; ended, done());
     let answers =
         "till 1 serial 1 again 1 A-1 D88B42F8D11C4EA2112502EC992F055A7E94F796D67095359B946A4A5B03E616\ntill 1 serial 2 taken 2 A-2 43AB7A8D6998F4962D87F4C4F3C7A71FA910CAB982CDB1E08AE6BF918BAE7763\n";
     let wanted = format!(in alloc; "{answers}{FIRST}{SECOND}chain 2 noted 0\n")?;
     assert_eq!(rt; text.as_slice(), wanted.as_bytes());
-    let (ended, text, _) = runs(alloc, "", disk)?;
+    let (ended, text, _) = runs(&rt, "", disk)?;
     assert_eq!(rt; ended, done());
     let wanted = format!(in alloc; "{FIRST}{SECOND}chain 2 noted 0\n")?;
     assert_eq!(rt; text.as_slice(), wanted.as_bytes());
@@ -55,8 +61,8 @@ fn a_run_goes_on_from_its_file(rt: HostRuntime) -> Result<(), Fail> {
 }
 
 // The bytes of the file of the first sale.
-fn first_file(alloc: Global) -> Result<[u8; 98], Fail> {
-    let (_, _, mut disk) = runs(alloc, ROW, disk_of(alloc, &[], 0)?)?;
+fn first_file(rt: &(impl AllocGlobal + Threads + Wait + Sync)) -> Result<[u8; 98], Fail> {
+    let (_, _, mut disk) = runs(rt, ROW, disk_of(rt.alloc(), &[], 0)?)?;
     let mut bytes = [0; 98];
     let Ok(98) = disk.read_at(0, &mut bytes) else {
         return Err(Fail::from("98 bytes"));
@@ -65,10 +71,14 @@ fn first_file(alloc: Global) -> Result<[u8; 98], Fail> {
 }
 
 // How a run of these words on a file of these bytes ends.
-fn end_on(alloc: Global, words: &str, bytes: &[u8]) -> Result<Ended, Fail> {
-    let disk = disk_of(alloc, bytes, 0)?;
+fn end_on(
+    rt: &(impl AllocGlobal + Threads + Wait + Sync),
+    words: &str,
+    bytes: &[u8],
+) -> Result<Ended, Fail> {
+    let disk = disk_of(rt.alloc(), bytes, 0)?;
     let clock = CountingClock::new(0, 0);
-    let (ended, sink, _, _) = ends(alloc, words, b"", (0, 0), disk, clock)?;
+    let (ended, sink, _, _) = ends(rt, words, b"", (0, 0), disk, clock)?;
     if ended.status != 0 && !sink.bytes().is_empty() {
         return Err(Fail::from("a text before opening"));
     }
@@ -78,27 +88,27 @@ fn end_on(alloc: Global, words: &str, bytes: &[u8]) -> Result<Ended, Fail> {
 #[test]
 fn files_that_are_no_chain_of_this_issuer(rt: HostRuntime) -> Result<(), Fail> {
     let alloc = rt.alloc();
-    let mut bytes = first_file(alloc)?;
+    let mut bytes = first_file(&rt)?;
     let Ok(held) = Nif::read("89890001K") else {
         return Err(Fail::from("a tax number"));
     };
-    let other = end_on(alloc, "chain shop.chain 12345678Z", &bytes)?;
+    let other = end_on(&rt, "chain shop.chain 12345678Z", &bytes)?;
     assert_eq!(rt; other.status, 13);
     assert_eq!(rt; other.detail, Detail::OtherIssuer { held });
-    assert_eq!(rt; end_on(alloc, CHAIN, &bytes)?, done());
+    assert_eq!(rt; end_on(&rt, CHAIN, &bytes)?, done());
     for (len, at) in [(19, 19), (97, 19), (9, 9)] {
         let cut = bytes.get(..len).ok_or("a front")?;
-        let ended = end_on(alloc, CHAIN, cut)?;
+        let ended = end_on(&rt, CHAIN, cut)?;
         assert_eq!(rt; ended.status, 7, "at {len} bytes");
         assert_eq!(rt; ended.detail, Detail::Damaged { at }, "at {len} bytes");
     }
     assert_eq!(rt;
-        end_on(alloc, CHAIN, &[0; 21])?.detail,
+        end_on(&rt, CHAIN, &[0; 21])?.detail,
         Detail::Damaged { at: 0 }
     );
     bytes[90] ^= 1;
     assert_eq!(rt;
-        end_on(alloc, CHAIN, &bytes)?.detail,
+        end_on(&rt, CHAIN, &bytes)?.detail,
         Detail::Damaged { at: 19 }
     );
     Ok(())
@@ -107,7 +117,7 @@ fn files_that_are_no_chain_of_this_issuer(rt: HostRuntime) -> Result<(), Fail> {
 #[test]
 fn a_file_is_audited_and_its_invoices_have_links(rt: HostRuntime) -> Result<(), Fail> {
     let alloc = rt.alloc();
-    let mut bytes = first_file(alloc)?;
+    let mut bytes = first_file(&rt)?;
     let broken = Detail::Broken {
         place: 1,
         what: What::Seal,
@@ -143,13 +153,13 @@ fn a_file_is_audited_and_its_invoices_have_links(rt: HostRuntime) -> Result<(), 
         let disk = disk_of(alloc, &bytes, 0)?;
         bytes[90] ^= if whole { 0 } else { 1 };
         let clock = CountingClock::new(0, 0);
-        let (ended, sink, _, _) = ends(alloc, words, b"", (1, 0), disk, clock)?;
+        let (ended, sink, _, _) = ends(&rt, words, b"", (1, 0), disk, clock)?;
         assert_eq!(rt; ended, Ended { status, detail }, "at {words}");
         assert_eq!(rt; sink.bytes(), text.as_bytes(), "at {words}");
     }
     let nothing = disk_of(alloc, &[], 0)?;
     let clock = CountingClock::new(0, 0);
-    let (ended, sink, _, _) = ends(alloc, "audit shop.chain", b"", (0, 0), nothing, clock)?;
+    let (ended, sink, _, _) = ends(&rt, "audit shop.chain", b"", (0, 0), nothing, clock)?;
     assert_eq!(rt; ended, done());
     assert_eq!(rt; sink.bytes(), b"sound 0 noted 0 last -\n".as_slice());
     Ok(())
@@ -160,25 +170,25 @@ fn a_failing_sink_leaves_the_record(rt: HostRuntime) -> Result<(), Fail> {
     let alloc = rt.alloc();
     let disk = disk_of(alloc, &[], 0)?;
     let clock = CountingClock::new(0, 0);
-    let (ended, sink, disk, _) = ends(alloc, CHAIN, ROW.as_bytes(), (0, 1), disk, clock)?;
+    let (ended, sink, disk, _) = ends(&rt, CHAIN, ROW.as_bytes(), (0, 1), disk, clock)?;
     assert_eq!(rt; ended.status, 5);
     assert_eq!(rt; sink.bytes().len(), 0);
-    let (_, text, _) = runs(alloc, "", disk)?;
+    let (_, text, _) = runs(&rt, "", disk)?;
     let wanted = format!(in alloc; "{FIRST}chain 1 noted 0\n")?;
     assert_eq!(rt; text.as_slice(), wanted.as_bytes());
     Ok(())
 }
 
 // How many records a file has: its run prints the listing of that many of the two, and the chain line.
-fn records_on(alloc: Global, disk: MemDisk) -> Result<u32, Fail> {
-    let (ended, text, _) = runs(alloc, "", disk)?;
+fn records_on(rt: &(impl AllocGlobal + Threads + Wait + Sync), disk: MemDisk) -> Result<u32, Fail> {
+    let (ended, text, _) = runs(rt, "", disk)?;
     if ended.status != 0 {
         return Err(Fail::from("a file that opens"));
     }
     let texts = [
-        format!(in alloc; "chain 0 noted 0\n")?,
-        format!(in alloc; "{FIRST}chain 1 noted 0\n")?,
-        format!(in alloc; "{FIRST}{SECOND}chain 2 noted 0\n")?,
+        format!(in rt.alloc(); "chain 0 noted 0\n")?,
+        format!(in rt.alloc(); "{FIRST}chain 1 noted 0\n")?,
+        format!(in rt.alloc(); "{FIRST}{SECOND}chain 2 noted 0\n")?,
     ];
     for (records, wanted) in (0u32..).zip(texts.iter()) {
         if text.as_slice() == wanted.as_bytes() {
@@ -206,7 +216,7 @@ fn each_call_of_the_disk_fails_in_turn(rt: HostRuntime) -> Result<(), Fail> {
     let alloc = rt.alloc();
     let mut faults = 0u32;
     for failing in 1..30u64 {
-        let (ended, text, disk) = runs(alloc, TWO, disk_of(alloc, &[], failing)?)?;
+        let (ended, text, disk) = runs(&rt, TWO, disk_of(alloc, &[], failing)?)?;
         let taken = taken_in(&text);
         if ended.status == 0 {
             assert_eq!(rt; taken, 2);
@@ -223,7 +233,7 @@ fn each_call_of_the_disk_fails_in_turn(rt: HostRuntime) -> Result<(), Fail> {
                 let Some(image) = disk.image(alloc, moment, fill)? else {
                     break;
                 };
-                let count = records_on(alloc, image)?;
+                let count = records_on(&rt, image)?;
                 fewest = fewest.min(count);
                 most = most.max(count);
             }
@@ -246,14 +256,14 @@ fn a_fault_of_the_disk_stops_the_journal(rt: HostRuntime) -> Result<(), Fail> {
     let alloc = rt.alloc();
     let script = "clock 1735722000 0\nsale 1 1 A F2 21:10000\nsale 1 2 A F2 21:10000\n";
     // A sync and two looks at the length of an opening, six calls of creation, and the fourth of an append.
-    let (ended, text, disk) = runs(alloc, script, disk_of(alloc, &[], 13)?)?;
+    let (ended, text, disk) = runs(&rt, script, disk_of(alloc, &[], 13)?)?;
     assert_eq!(rt; ended.detail, Detail::DiskFault);
     assert_eq!(rt; ended.status, 6);
     assert_eq!(rt;
         text.as_slice(),
         b"till 1 serial 1 fault disk\ntill 1 serial 2 fault stopped 1\nchain 0 noted 0\n".as_slice()
     );
-    let records = records_on(alloc, disk)?;
+    let records = records_on(&rt, disk)?;
     assert!(rt; records <= 1);
     Ok(())
 }
@@ -350,20 +360,22 @@ impl<'a> Clock for WatchingClock<'a> {
 #[test]
 fn each_record_is_synced_before_the_next_command(rt: HostRuntime) -> Result<(), Fail> {
     let alloc = rt.alloc();
-    let syncs = AtomicU64::new(0);
-    let disk = CountedDisk {
-        bytes: Vec::new(alloc),
-        faults: 0,
-        syncs: &syncs,
-    };
-    let clock = WatchingClock {
-        syncs: &syncs,
-        readings: 0,
-        early: 0,
-    };
     let script = "sale 1 1 A F2 21:10000\nsale 1 2 A F2 21:10000\nsale 1 3 A F2 21:10000\n";
-    let (ended, _, _, clock) = ends(alloc, CHAIN, script.as_bytes(), (0, 0), disk, clock)?;
-    assert_eq!(rt; ended, done());
-    assert_eq!(rt; (clock.readings, clock.early), (3, 0));
+    for words in [CHAIN, DAY] {
+        let syncs = AtomicU64::new(0);
+        let disk = CountedDisk {
+            bytes: Vec::new(alloc),
+            faults: 0,
+            syncs: &syncs,
+        };
+        let clock = WatchingClock {
+            syncs: &syncs,
+            readings: 0,
+            early: 0,
+        };
+        let (ended, _, _, clock) = ends(&rt, words, script.as_bytes(), (0, 0), disk, clock)?;
+        assert_eq!(rt; ended, done(), "at {words}");
+        assert_eq!(rt; (clock.readings, clock.early), (3, 0), "at {words}");
+    }
     Ok(())
 }

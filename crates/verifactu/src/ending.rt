@@ -28,13 +28,13 @@ fn is_disk_fault(reply: &Result<Reply, StoreFault>) -> bool
     }
 }
 
-fn lacks_memory(replies: &[Result<Reply, StoreFault>]) -> bool
+pub fn lacks_memory(replies: &[Result<Reply, StoreFault>]) -> bool
     ensures { result ≡ list_any spec.is_no_memory replies.now }
 {
     replies.iter().any(|reply| is_no_memory(reply))
 }
 
-fn lacks_disk(replies: &[Result<Reply, StoreFault>]) -> bool
+pub fn lacks_disk(replies: &[Result<Reply, StoreFault>]) -> bool
     ensures { result ≡ list_any spec.is_disk_fault replies.now }
 {
     replies.iter().any(|reply| is_disk_fault(reply))

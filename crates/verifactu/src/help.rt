@@ -7,8 +7,11 @@ The invoicing chain of a shop with many tills, in VERI*FACTU mode.
 
 Usage:
   verifactu chain FILE NIF       answers the script on standard input
+  verifactu day FILE NIF         answers it with its tills beside each other
+  verifactu drain FILE NIF       sends the records that wait to a practice agency
   verifactu audit FILE           prints whether the file is a sound chain
   verifactu link FILE NUM HOST   prints the link of an invoice's QR code
+  verifactu generate N           prints the sums of N made-up commands
   verifactu --help               prints this text
   verifactu --version            prints the version
 
@@ -16,7 +19,9 @@ FILE is the file of the shop's chain. It is begun where it isn't there, and each
 record is on it before the next command is read: run the same script again after
 a crash, and what was taken is answered again and not registered twice.
 NIF is the issuer's tax number, NUM the number of an invoice; HOST is real or
-test. audit and link only read the file.
+test. audit and link only read the file; drain reads a script without sales,
+fixes and cancels. N is 1 to 100000: generate runs so many sales and
+cancellations of a made-up shop in memory, and keeps no file.
 
 A script has one command a line:
   clock START STEP         at most once: the commands' readings of the clock are
@@ -30,7 +35,8 @@ A script has one command a line:
                            the invoice NUM, mended
   cancel TILL SERIAL NUM   the invoice NUM, cancelled
   vet NUM N CODE, warn NUM N CODE, wait SECONDS, link CALL FATE, link CALL late D
-                           the plan of a practice agency; chain does nothing by it
+                           the plan of the practice agency, for drain; chain does
+                           nothing by it. FATE is lost, taken, stale or again
 KIND is F1, F2, F3 or R1 to R5. OPTION is to=KEY, rect=S, rect=I or
 ref=NUM@DD-MM-YYYY. LINE is CLASS:BASE, the base in cents; CLASS is 21, 10, 4,
 0, 21+, 10+, 4+, S2, N1, N2 or E1 to E6.
@@ -38,7 +44,9 @@ Empty lines and lines that begin with # are skipped. An example:
   clock 1735722000 0
   sale 1 1 A F2 21:10000
 
-It prints an answer for each command, a line for each record, and the chain line.
+chain prints an answer for each command, a line for each record and the chain
+line; day prints the answers till by till, each with the count of entries that
+the till saw; drain prints a line for each turn of its sender and the chain line.
 
 Status:
    0  done
@@ -48,8 +56,10 @@ Status:
    5  standard output could not be written; the file keeps the records
    6  the file could not be read or written
    7  the file is damaged; standard error names the byte
+   8  drain gave up after eight faults of the link
    9  audit found the file broken; it printed where
   10  no memory
+  11  the agency contradicts itself; standard error names the place
   12  the script is longer than 16777216 bytes
   13  the file is the chain of another issuer, whom standard error names
   14  the file has no invoice of this number

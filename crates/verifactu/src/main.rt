@@ -4,21 +4,39 @@
 
 mod chain;
 mod commands;
+mod day;
+#[cfg(test)]
+mod day_tests;
+mod day_text;
 #[cfg(test)]
 mod disk_tests;
+mod drain;
+#[cfg(test)]
+mod drain_tests;
+mod draining;
 mod ending;
+mod generate;
+#[cfg(test)]
+mod generate_tests;
+mod generated;
 mod help;
 mod input;
+mod opening;
+mod outside;
 mod printed;
 mod run;
+mod scripts;
 #[cfg(test)]
 mod tests;
+mod till_days;
+mod tills;
 mod words;
 
+use agency_port::PracticeAgency;
 use chain_disk::FileDisk;
-use file_commands::ended_as;
-use ports::{StdSink, StdSource, SystemClock};
-use report::{Detail, Ended, fault_text};
+use outside::Outside;
+use ports::{OpenGate, StdSink, StdSource, SystemClock, ThreadSleeper};
+use report::{Detail, fault_text, status_of};
 use run::run;
 use std::env;
 use std::io::{ErrorKind, Write};
@@ -60,40 +78,66 @@ fn print_reason(rt: &HostRuntime, thing: &str, reason: Option<&str>) {
     }
 }
 
-fn call(rt: &HostRuntime, words: &[String], file: &str, path: String) -> Ended {
-    let mut source = StdSource::new(rt);
-    let mut sink = StdSink::new(rt);
-    let disk = FileDisk::at(rt, path);
-    let clock = SystemClock::new(rt);
-    let (ended, disk, _) = run(rt.alloc(), words, &mut source, &mut sink, disk, clock);
-    if ended.status != 0 {
-        print_fault(rt, &ended.detail);
-    }
-    print_reason(rt, "standard input", source.reason());
-    print_reason(rt, file, disk.reason());
-    print_reason(rt, "standard output", sink.reason());
-    if disk.missing() {
-        // `audit` and `link` alone look at a file that they don't make: a mistyped name must not look like a sound shop.
+// Why the parts failed, where they did. `audit` and `link` alone look at a file that they don't make: a mistyped name must not
+// look like a sound shop.
+fn print_reasons(
+    rt: &HostRuntime,
+    file: &str,
+    source: Option<&str>,
+    disk: Option<&str>,
+    sink: Option<&str>,
+    missing: bool,
+) {
+    print_reason(rt, "standard input", source);
+    print_reason(rt, file, disk);
+    print_reason(rt, "standard output", sink);
+    if missing {
         print_reason(rt, file, Some("no such file, read as not begun"));
     }
-    ended
 }
 
-fn failed(rt: &HostRuntime, detail: Detail) -> Ended {
+fn failed(rt: &HostRuntime, detail: Detail) -> ExitCode {
     print_fault(rt, &detail);
-    ended_as(detail)
+    ExitCode::from(status_of(&detail))
 }
 
 fn main(rt: HostRuntime) -> ExitCode {
-    let ended = match words_of(&rt) {
-        Err(detail) => failed(&rt, detail),
-        Ok(words) => {
-            let file = file_of(&words);
-            match String::from_str(rt.alloc(), file) {
-                Err(_) => failed(&rt, Detail::NoMemory),
-                Ok(path) => call(&rt, &words, file, path),
-            }
-        }
+    let words = match words_of(&rt) {
+        Ok(words) => words,
+        Err(detail) => return failed(&rt, detail),
     };
+    let file = file_of(&words);
+    let Ok(path) = String::from_str(rt.alloc(), file) else {
+        return failed(&rt, Detail::NoMemory);
+    };
+    let mut source = StdSource::new(&rt);
+    let mut sink = StdSink::new(&rt);
+    let outside = Outside {
+        disk: FileDisk::at(&rt, path),
+        clock: SystemClock::new(&rt),
+        sleeper: ThreadSleeper::new(&rt),
+        agency: PracticeAgency::new(rt.alloc()),
+    };
+    let (ended, outside) = run(
+        &rt,
+        rt.alloc(),
+        &words,
+        &mut source,
+        &mut sink,
+        outside,
+        &OpenGate,
+    );
+    if ended.status != 0 {
+        print_fault(&rt, &ended.detail);
+    }
+    let disk = outside.disk;
+    print_reasons(
+        &rt,
+        file,
+        source.reason(),
+        disk.reason(),
+        sink.reason(),
+        disk.missing(),
+    );
     ExitCode::from(ended.status)
 }

@@ -3,73 +3,167 @@ ghost use Rattle.std.specs.Prelude.{◌≡◌, map, string_bytes};
 ghost use Rattle.ports.specs.Sinks.{this_sink};
 ghost use Rattle.ports.specs.Sources.{this_source};
 ghost use Rattle.chain_disk.specs.Disks.{this_disk};
-ghost use Rattle.verifactu.specs.Devices.{this_clock};
+ghost use Rattle.verifactu.specs.Devices.{this_clock, this_sleeper};
 ghost use Rattle.report.specs.Statuses.{status_of};
 ghost use Rattle.report.specs.declared.ended.Detail.TheVariants as detail;
 ghost use Rattle.file_commands.specs.Output.{PrintEnds};
 ghost use Rattle.verifactu.specs.Run.{CommandEnds, EndsAs};
+ghost use Rattle.verifactu.specs.Words.{IsWithin};
 
 use crate::chain::chain_cmd;
+use crate::day::day_cmd;
+use crate::drain::drain_cmd;
+use crate::generate::generate_cmd;
 use crate::help::{help_text, version_text};
+use crate::outside::Outside;
 use crate::words::{Command, command_of};
+use agency_port::Agency;
 use chain_disk::Disk;
 use file_commands::{audit_cmd, ended_as, link_cmd, print};
-use ports::{Clock, Sink, Source};
+use ports::{Clock, Gate, Sink, Sleeper, Source};
 use report::{Detail, Ended};
 use std::alloc::Global;
+use std::sync::Wait;
+use std::thread::Threads;
 
 /// Runs the command that the words are. `audit FILE` prints the verdict on the file, and `link FILE NUM HOST` the link of an
-/// invoice: both read the disk alone. `chain FILE NIF` is `chain_cmd` for this issuer; `--help` and `--version` print their
-/// texts. FILE itself is the caller's: it names the disk.
-pub fn run<S: Source, K: Sink, D: Disk, C: Clock>(
+/// invoice: both read the disk alone. `chain FILE NIF` is `chain_cmd` for this issuer, `day FILE NIF` `day_cmd`, and
+/// `drain FILE NIF` `drain_cmd`; `generate N` is `generate_cmd`, whose disk is its own; `--help` and `--version` print their
+/// texts. FILE itself is the caller's: it names the disk. All parts of the outside come back.
+pub fn run<S, K, D, C, Z, G, T, R>(
+    rt: &R,
     alloc: Global,
     words: &[String],
     source: &mut S,
     sink: &mut K,
-    disk: D,
-    clock: C,
-) -> (Ended, D, C)
+    outside: Outside<D, C, Z, G>,
+    gate: &T,
+) -> (Ended, Outside<D, C, Z, G>)
+where
+    S: Source,
+    K: Sink,
+    D: Disk + Send + Drop,
+    C: Clock + Send + Drop,
+    Z: Sleeper,
+    G: Agency,
+    T: Gate + Sync,
+    R: Threads + Wait + Sync,
     ensures { EndsAs (map string_bytes words.now) (record {
-      source = this_source S.left S.faults source.old source.new;
-      sink = this_sink K.taken K.faults sink.old sink.new;
-      disk = this_disk D.tells D.told D.faults disk result.1;
-      clock = this_clock C.coming clock result.2;
+      devices = record {
+        source = this_source S.left S.faults source.old source.new;
+        sink = this_sink K.taken K.faults sink.old sink.new;
+        disk = this_disk D.tells D.told D.faults outside.disk result.1.disk;
+        clock = this_clock C.coming outside.clock result.1.clock;
+      };
+      sleeper = this_sleeper Z.tells Z.moment outside.sleeper result.1.sleeper;
+      agency = record {
+        kind = record { tells = G.tells; keeps_rules = G.keeps_rules; ledger = G.ledger; faults = G.faults; begun = G.begun };
+        agency = outside.agency;
+        agency_after = result.1.agency;
+      };
     }) result.0 }
 {
     match command_of(words) {
-        None => (ended_as(Detail::Usage), disk, clock),
-        Some(command) => obey(alloc, command, source, sink, disk, clock),
+        None => (ended_as(Detail::Usage), outside),
+        Some(command) => obey(rt, alloc, command, source, sink, outside, gate),
     }
 }
 
-fn obey<S: Source, K: Sink, D: Disk, C: Clock>(
+fn obey<S, K, D, C, Z, G, T, R>(
+    rt: &R,
     alloc: Global,
     command: Command,
     source: &mut S,
     sink: &mut K,
-    disk: D,
-    clock: C,
-) -> (Ended, D, C)
+    outside: Outside<D, C, Z, G>,
+    gate: &T,
+) -> (Ended, Outside<D, C, Z, G>)
+where
+    S: Source,
+    K: Sink,
+    D: Disk + Send + Drop,
+    C: Clock + Send + Drop,
+    Z: Sleeper,
+    G: Agency,
+    T: Gate + Sync,
+    R: Threads + Wait + Sync,
+    requires { IsWithin command }
     ensures status { result.0.status ≡ status_of result.0.detail }
     ensures ends { CommandEnds command (record {
-      source = this_source S.left S.faults source.old source.new;
-      sink = this_sink K.taken K.faults sink.old sink.new;
-      disk = this_disk D.tells D.told D.faults disk result.1;
-      clock = this_clock C.coming clock result.2;
+      devices = record {
+        source = this_source S.left S.faults source.old source.new;
+        sink = this_sink K.taken K.faults sink.old sink.new;
+        disk = this_disk D.tells D.told D.faults outside.disk result.1.disk;
+        clock = this_clock C.coming outside.clock result.1.clock;
+      };
+      sleeper = this_sleeper Z.tells Z.moment outside.sleeper result.1.sleeper;
+      agency = record {
+        kind = record { tells = G.tells; keeps_rules = G.keeps_rules; ledger = G.ledger; faults = G.faults; begun = G.begun };
+        agency = outside.agency;
+        agency_after = result.1.agency;
+      };
     }) result.0.detail }
 {
     match command {
-        Command::Chain(issuer) => chain_cmd(alloc, &issuer, source, sink, disk, clock),
+        Command::Chain(issuer) => {
+            let Outside {
+                disk,
+                clock,
+                sleeper,
+                agency,
+            } = outside;
+            let (ended, disk, clock) = chain_cmd(alloc, &issuer, source, sink, disk, clock);
+            (
+                ended,
+                Outside {
+                    disk,
+                    clock,
+                    sleeper,
+                    agency,
+                },
+            )
+        }
+        Command::Day(issuer) => day_cmd(rt, alloc, &issuer, source, sink, outside, gate),
+        Command::Drain(issuer) => drain_cmd(rt, alloc, &issuer, source, sink, outside),
         Command::Audit => {
+            let Outside {
+                disk,
+                clock,
+                sleeper,
+                agency,
+            } = outside;
             let (ended, disk) = audit_cmd(alloc, sink, disk);
-            (ended, disk, clock)
+            (
+                ended,
+                Outside {
+                    disk,
+                    clock,
+                    sleeper,
+                    agency,
+                },
+            )
         }
         Command::Link(num, host) => {
+            let Outside {
+                disk,
+                clock,
+                sleeper,
+                agency,
+            } = outside;
             let (ended, disk) = link_cmd(alloc, &num, host, sink, disk);
-            (ended, disk, clock)
+            (
+                ended,
+                Outside {
+                    disk,
+                    clock,
+                    sleeper,
+                    agency,
+                },
+            )
         }
-        Command::Help => (print_text(help_text(), sink), disk, clock),
-        Command::Version => (print_text(version_text(), sink), disk, clock),
+        Command::Generate(n) => (generate_cmd(alloc, n, sink), outside),
+        Command::Help => (print_text(help_text(), sink), outside),
+        Command::Version => (print_text(version_text(), sink), outside),
     }
 }
 

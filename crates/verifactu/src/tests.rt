@@ -1,13 +1,21 @@
 // The expected Huellas are SHA-256, by another program, of the field texts of these records.
+use crate::outside::Outside;
 use crate::run::run;
+use agency_port::{Agency, PracticeAgency};
 use chain_disk::{Disk, MemDisk};
-use ports::{Clock, CountingClock, ListClock, MemSink, MemSource};
+use ports::{
+    Clock, CountingClock, Gate, LeapSleeper, ListClock, MemSink, MemSource, OpenGate, Sleeper,
+};
 use report::{Detail, Ended, fault_text};
 use shop_core::Word;
 use std::alloc::Global;
+use std::sync::Wait;
 use std::test::Fail;
+use std::thread::Threads;
 
 pub const CHAIN: &str = "chain shop.chain 89890001K";
+
+pub const DAY: &str = "day shop.chain 89890001K";
 
 pub const ROW: &str = "clock 1735722000 0\nsale 1 1 A F2 21:10000\n";
 
@@ -21,14 +29,21 @@ pub fn disk_of(alloc: Global, bytes: &[u8], failing: u64) -> Result<MemDisk, Fai
 }
 
 /// Runs the words, which stand between single blanks. The source and the sink fail at the call of this number, from 1.
-pub fn ends<D: Disk + Drop, C: Clock + Drop>(
-    alloc: Global,
+pub fn ends_in<
+    D: Disk + Send + Drop,
+    C: Clock + Send + Drop,
+    Z: Sleeper + Drop,
+    G: Agency + Drop,
+    T: Gate + Sync,
+>(
+    rt: &(impl AllocGlobal + Threads + Wait + Sync),
     words: &str,
     script: &[u8],
     failing: (u64, u64),
-    disk: D,
-    clock: C,
-) -> Result<(Ended, MemSink, D, C), Fail> {
+    outside: Outside<D, C, Z, G>,
+    gate: &T,
+) -> Result<(Ended, MemSink, Outside<D, C, Z, G>), Fail> {
+    let alloc = rt.alloc();
     let mut list = Vec::new(alloc);
     for word in words.split(' ') {
         list.push(String::from_str(alloc, word)?)?;
@@ -39,25 +54,48 @@ pub fn ends<D: Disk + Drop, C: Clock + Drop>(
         Vec::from_slice(alloc, &[failing.0])?,
     );
     let mut sink = MemSink::new(alloc, Vec::from_slice(alloc, &[failing.1])?);
-    let (ended, disk, clock) = run(alloc, &list, &mut source, &mut sink, disk, clock);
+    let (ended, outside) = run(rt, alloc, &list, &mut source, &mut sink, outside, gate);
+    Ok((ended, sink, outside))
+}
+
+/// The same with a sleeper that leaps, an agency that has processed nothing, and an open gate.
+pub fn ends<D: Disk + Send + Drop, C: Clock + Send + Drop>(
+    rt: &(impl AllocGlobal + Threads + Wait + Sync),
+    words: &str,
+    script: &[u8],
+    failing: (u64, u64),
+    disk: D,
+    clock: C,
+) -> Result<(Ended, MemSink, D, C), Fail> {
+    let outside = Outside {
+        disk,
+        clock,
+        sleeper: LeapSleeper::new(0),
+        agency: PracticeAgency::new(rt.alloc()),
+    };
+    let (ended, sink, outside) = ends_in(rt, words, script, failing, outside, &OpenGate)?;
+    let Outside { disk, clock, .. } = outside;
     Ok((ended, sink, disk, clock))
 }
 
 // Runs the words on an empty disk.
-fn ends_empty<C: Clock + Drop>(
-    alloc: Global,
+fn ends_empty<C: Clock + Send + Drop>(
+    rt: &(impl AllocGlobal + Threads + Wait + Sync),
     words: &str,
     script: &[u8],
     failing: (u64, u64),
     clock: C,
 ) -> Result<(Ended, MemSink), Fail> {
-    let disk = disk_of(alloc, &[], 0)?;
-    let (ended, sink, _, _) = ends(alloc, words, script, failing, disk, clock)?;
+    let disk = disk_of(rt.alloc(), &[], 0)?;
+    let (ended, sink, _, _) = ends(rt, words, script, failing, disk, clock)?;
     Ok((ended, sink))
 }
 
-fn printed(alloc: Global, script: &[u8]) -> Result<(Ended, MemSink), Fail> {
-    ends_empty(alloc, CHAIN, script, (0, 0), CountingClock::new(0, 0))
+fn printed(
+    rt: &(impl AllocGlobal + Threads + Wait + Sync),
+    script: &[u8],
+) -> Result<(Ended, MemSink), Fail> {
+    ends_empty(rt, CHAIN, script, (0, 0), CountingClock::new(0, 0))
 }
 
 #[test]
@@ -102,7 +140,7 @@ fn scripts_are_answered(rt: HostRuntime) -> Result<(), Fail> {
         ),
     ];
     for (script, text) in rows {
-        let (ended, sink) = printed(rt.alloc(), script.as_bytes())?;
+        let (ended, sink) = printed(&rt, script.as_bytes())?;
         assert_eq!(rt; ended.status, 0, "at {script}");
         assert_eq!(rt; sink.bytes(), text.as_bytes(), "at {script}");
     }
@@ -113,7 +151,7 @@ fn scripts_are_answered(rt: HostRuntime) -> Result<(), Fail> {
 fn moments_never_fall(rt: HostRuntime) -> Result<(), Fail> {
     let clock = ListClock::new(vec![in rt.alloc(); 1735722000, 1735721990]?);
     let script = b"sale 1 1 A F2 21:10000\nsale 1 2 A F2 21:10000\n";
-    let (ended, sink) = ends_empty(rt.alloc(), CHAIN, script, (0, 0), clock)?;
+    let (ended, sink) = ends_empty(&rt, CHAIN, script, (0, 0), clock)?;
     assert_eq!(rt; ended.status, 0);
     assert_eq!(rt;
         sink.bytes(),
@@ -171,6 +209,22 @@ fn faults_have_statuses(rt: HostRuntime) -> Result<(), Fail> {
             14,
             "no such invoice",
         ),
+        ("generate", (0, 0), Detail::Usage, 2, "usage"),
+        ("generate 0", (0, 0), Detail::Usage, 2, "usage"),
+        ("generate 01", (0, 0), Detail::Usage, 2, "usage"),
+        ("generate 100001", (0, 0), Detail::Usage, 2, "usage"),
+        (
+            "generate 99999999999999999999",
+            (0, 0),
+            Detail::Usage,
+            2,
+            "usage",
+        ),
+        ("generate +1", (0, 0), Detail::Usage, 2, "usage"),
+        ("generate x", (0, 0), Detail::Usage, 2, "usage"),
+        ("generate ", (0, 0), Detail::Usage, 2, "usage"),
+        ("generate 1 1", (0, 0), Detail::Usage, 2, "usage"),
+        ("generate 1", (1, 1), Detail::WriteFault, 5, "write fault"),
         ("--version now", (0, 0), Detail::Usage, 2, "usage"),
         (CHAIN, (1, 0), Detail::ReadFault, 4, "read fault"),
         (CHAIN, (2, 0), Detail::ReadFault, 4, "read fault"),
@@ -179,7 +233,7 @@ fn faults_have_statuses(rt: HostRuntime) -> Result<(), Fail> {
     ];
     for (words, failing, detail, status, text) in rows {
         let (ended, sink) = ends_empty(
-            alloc,
+            &rt,
             words,
             ROW.as_bytes(),
             failing,
@@ -211,7 +265,7 @@ fn bad_lines_are_named(rt: HostRuntime) -> Result<(), Fail> {
         (" ", 1, Word::Verb),
     ];
     for (script, line, fault) in rows {
-        let (ended, _) = printed(rt.alloc(), script.as_bytes())?;
+        let (ended, _) = printed(&rt, script.as_bytes())?;
         let detail = Detail::Script { line, fault };
         assert_eq!(rt; ended, Ended { status: 3, detail }, "at {script}");
     }
@@ -223,7 +277,7 @@ fn a_script_ends_at_its_limit(rt: HostRuntime) -> Result<(), Fail> {
     let alloc = rt.alloc();
     for (bytes, status) in [(16_777_216, 0), (16_777_217, 12)] {
         let script = vec![in alloc; b'\n'; bytes]?;
-        let (ended, _) = printed(alloc, &script)?;
+        let (ended, _) = printed(&rt, &script)?;
         assert_eq!(rt; ended.status, status, "at {bytes} bytes");
     }
     Ok(())
@@ -235,7 +289,7 @@ fn help_and_version_are_printed(rt: HostRuntime) -> Result<(), Fail> {
         ("--help", "The invoicing chain"),
         ("--version", "verifactu 0.1.0\n"),
     ] {
-        let (ended, sink) = ends_empty(rt.alloc(), word, b"", (1, 0), CountingClock::new(0, 0))?;
+        let (ended, sink) = ends_empty(&rt, word, b"", (1, 0), CountingClock::new(0, 0))?;
         assert_eq!(rt; ended.status, 0);
         assert!(rt; sink.bytes().starts_with(front.as_bytes()), "at {word}");
     }

@@ -1,7 +1,9 @@
 // The words of the command line.
-ghost use Rattle.std.specs.Prelude.{◌≡◌, ◌∷◌, [], map, string_bytes, bytes_eq};
-ghost use Rattle.verifactu.specs.Words.{IsAskedFor, IsHost};
+ghost use Rattle.std.specs.Prelude.{◌≡◌, ◌∷◌, [], map, string_bytes, bytes_eq, codes};
+ghost use Rattle.verifactu.specs.Words.{IsAskedFor, IsCount, IsHost};
 
+use crate::generated::MOST;
+use amounts::read_whole;
 use parties::Nif;
 use series::NumSerie;
 use verify_link::Host;
@@ -11,10 +13,16 @@ use verify_link::Host;
 pub enum Command {
     /// `chain FILE NIF`, for the issuer with this NIF.
     Chain(Nif),
+    /// `day FILE NIF`, for the issuer with this NIF.
+    Day(Nif),
+    /// `drain FILE NIF`, for the issuer with this NIF.
+    Drain(Nif),
     /// `audit FILE`.
     Audit,
     /// `link FILE NUM HOST`, for the invoice of this number.
     Link(NumSerie, Host),
+    /// `generate N`, for the first N commands of the generator.
+    Generate(u32),
     /// `--help`.
     Help,
     /// `--version`.
@@ -39,31 +47,68 @@ fn option_of(word: &str) -> Option<Command>
     None
 }
 
-fn chain_of(name: &str, file: &str, nif: &str) -> Option<Command>
+fn of_issuer(name: &str, file: &str, nif: &str) -> Option<Command>
     ensures { IsAskedFor (name.now ∷ (file.now ∷ (nif.now ∷ []))) result }
 {
-    if !is_word(name, b"chain") {
-        return None;
-    }
     if file.is_empty() {
         return None;
     }
-    match Nif::read(nif) {
-        Ok(issuer) => Some(Command::Chain(issuer)),
-        Err(_) => None,
+    let Ok(issuer) = Nif::read(nif) else {
+        return None;
+    };
+    if is_word(name, b"chain") {
+        return Some(Command::Chain(issuer));
     }
+    if is_word(name, b"day") {
+        return Some(Command::Day(issuer));
+    }
+    if is_word(name, b"drain") {
+        return Some(Command::Drain(issuer));
+    }
+    None
 }
 
-fn audit_of(name: &str, file: &str) -> Option<Command>
-    ensures { IsAskedFor (name.now ∷ (file.now ∷ [])) result }
+fn audit_of(file: &str) -> Option<Command>
+    ensures { IsAskedFor (codes "audit" ∷ (file.now ∷ [])) result }
 {
-    if !is_word(name, b"audit") {
-        return None;
-    }
     if file.is_empty() {
         return None;
     }
     Some(Command::Audit)
+}
+
+fn count_of(word: &str) -> Option<u32>
+    ensures { IsCount word.now result }
+{
+    let n = read_whole(word.as_bytes())?;
+    if n < 1 {
+        return None;
+    }
+    if n > u64::from(MOST) {
+        return None;
+    }
+    Some(n as u32)
+}
+
+fn generate_of(count: &str) -> Option<Command>
+    ensures { IsAskedFor (codes "generate" ∷ (count.now ∷ [])) result }
+{
+    match count_of(count) {
+        Some(n) => Some(Command::Generate(n)),
+        None => None,
+    }
+}
+
+fn two_of(name: &str, word: &str) -> Option<Command>
+    ensures { IsAskedFor (name.now ∷ (word.now ∷ [])) result }
+{
+    if is_word(name, b"audit") {
+        return audit_of(word);
+    }
+    if is_word(name, b"generate") {
+        return generate_of(word);
+    }
+    None
 }
 
 fn host_of(word: &str) -> Option<Host>
@@ -102,8 +147,8 @@ pub fn command_of(words: &[String]) -> Option<Command>
 {
     match words {
         [word] => option_of(word.as_str()),
-        [name, file] => audit_of(name.as_str(), file.as_str()),
-        [name, file, nif] => chain_of(name.as_str(), file.as_str(), nif.as_str()),
+        [name, word] => two_of(name.as_str(), word.as_str()),
+        [name, file, nif] => of_issuer(name.as_str(), file.as_str(), nif.as_str()),
         [name, file, num, host] => {
             link_of(name.as_str(), file.as_str(), num.as_str(), host.as_str())
         }

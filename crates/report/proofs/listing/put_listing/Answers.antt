@@ -1,8 +1,8 @@
-use Rattle.std.proofs.Common.{◌≡◌, ◌∙◌, ◌++◌, ◌+◌, ap, sym, ℕ, List, Option, arith}
+use Rattle.std.proofs.Common.{◌∙◌, ◌++◌, ◌+◌, ap, sym, ℕ, Option, arith}
 use Rattle.record_fields.specs.declared.lines.Line.{Line}
 use Rattle.record_fields.specs.declared.records.Sealed.{Sealed}
 use Rattle.shop_core.specs.History.{recs, line_at}
-use Rattle.report.specs.Listing.{record_line, listing}
+use Rattle.report.specs.Listing.{record_line}
 use Rattle.report.proofs.Listed.{listed_more, listed_none, listed_all}
 use Rattle.report.proofs.listing.put_listing.Goals as goal
 

@@ -19,10 +19,10 @@ returns-in-Err g c =
       why = fault.cause;
       ends = c.opening_end.ensures;
       risen = h.disk_fault;
-      left = h.left;
+      left_by = h.left;
       every_crash = λ says. keeps_file c.args.issuer.now fault.cause (g.D.Disk.told c.args.disk) (g.D.Disk.told fault.disk) (h.left says);
       wrote = search rules;
-      clock = not_asked (this_clock g.C.Clock.coming c.args.clock fault.clock) h.clock_err;
+      rest = not_asked (this_clock g.C.Clock.coming c.args.clock fault.clock) h.clock_err;
     }))
 
 pub returns-then-is_err : goal.returns-then-is_err
@@ -30,7 +30,7 @@ returns-then-is_err g c = inl (record {
   ends = refl;
   wrote = took_nothing (g.K.Sink.taken c.args.sink.now);
   disk = refl;
-  clock = not_asked (this_clock g.C.Clock.coming c.args.clock c.args.clock) refl;
+  rest = not_asked (this_clock g.C.Clock.coming c.args.clock c.args.clock) refl;
 })
 
 pub returns-in-Ok : goal.returns-in-Ok

@@ -1,0 +1,359 @@
+ghost use Rattle.record_fields.specs.declared.checks.TheConstants.{MAX_REFS};
+ghost use Rattle.std.specs.Prelude.{◌≤◌, length, IfOk};
+ghost use Rattle.record_codec.specs.Fields.{InRanges};
+
+use crate::records::{TEN, breakdown, draft, issuer, line, nif, number};
+use invoice_kinds::{Kind, RectKind};
+use parties::{Name, Party};
+use record_codec::{BadEntry, Entry, Head, decode, encode, fields_are_valid, head_of, write_entry};
+use record_fields::{
+    Alta, Anulacion, Cause, Draft, Line, Lines, Link, Previo, Record, Refs, Sealed,
+};
+use series::InvoiceId;
+use stamps::{Day, Stamp};
+use std::alloc::Global;
+use std::test::Fail;
+use tax_lines::LineKey;
+
+// The bytes below were made by another program from the fields that the functions after them give.
+
+// A first record of one line.
+const SALE: [u8; 73] = [
+    0x01, 0x01, 0x00, 0x00, 0x00, 0x01, 0x03, 0x41, 0x2d, 0x31, 0x00, 0x00, 0x4e, 0x79, 0x01, 0x00,
+    0x00, 0x00, 0x01, 0x00, 0x00, 0x00, 0x00, 0x00, 0x00, 0x00, 0x27, 0x10, 0x00, 0x00, 0x00, 0x00,
+    0x00, 0x00, 0x00, 0x67, 0x75, 0x04, 0x10, 0x00, 0x3c, 0xd8, 0x8b, 0x42, 0xf8, 0xd1, 0x1c, 0x4e,
+    0xa2, 0x11, 0x25, 0x02, 0xec, 0x99, 0x2f, 0x05, 0x5a, 0x7e, 0x94, 0xf7, 0x96, 0xd6, 0x70, 0x95,
+    0x35, 0x9b, 0x94, 0x6a, 0x4a, 0x5b, 0x03, 0xe6, 0x16,
+];
+
+// A record with all that a record may have.
+const RECTIFIED: [u8; 172] = [
+    0x01, 0x02, 0x00, 0x00, 0x01, 0x2c, 0x03, 0x52, 0x2d, 0x32, 0x00, 0x00, 0x4f, 0x2e, 0x06, 0x02,
+    0x01, 0x42, 0x31, 0x32, 0x33, 0x34, 0x35, 0x36, 0x37, 0x34, 0x0d, 0xc3, 0x91, 0x61, 0x6e, 0x64,
+    0xc3, 0xba, 0x2c, 0x20, 0x53, 0x2e, 0x4c, 0x2e, 0x02, 0x03, 0x41, 0x2d, 0x31, 0x00, 0x00, 0x4e,
+    0x79, 0x05, 0x42, 0x2f, 0x37, 0x20, 0x78, 0x00, 0x00, 0x00, 0x00, 0x03, 0x06, 0xff, 0xff, 0xff,
+    0xff, 0xff, 0xff, 0xff, 0xff, 0x0f, 0x00, 0x00, 0x00, 0x02, 0x54, 0x0b, 0xe3, 0xff, 0x03, 0xff,
+    0xff, 0xff, 0xfd, 0xab, 0xf4, 0x1c, 0x01, 0x01, 0x02, 0x01, 0x03, 0x41, 0x2d, 0x31, 0x00, 0x00,
+    0x4e, 0x79, 0xd8, 0x8b, 0x42, 0xf8, 0xd1, 0x1c, 0x4e, 0xa2, 0x11, 0x25, 0x02, 0xec, 0x99, 0x2f,
+    0x05, 0x5a, 0x7e, 0x94, 0xf7, 0x96, 0xd6, 0x70, 0x95, 0x35, 0x9b, 0x94, 0x6a, 0x4a, 0x5b, 0x03,
+    0xe6, 0x16, 0x00, 0x00, 0x00, 0x00, 0x68, 0x63, 0xb1, 0xa0, 0x00, 0x78, 0x00, 0x01, 0x02, 0x03,
+    0x04, 0x05, 0x06, 0x07, 0x08, 0x09, 0x0a, 0x0b, 0x0c, 0x0d, 0x0e, 0x0f, 0x10, 0x11, 0x12, 0x13,
+    0x14, 0x15, 0x16, 0x17, 0x18, 0x19, 0x1a, 0x1b, 0x1c, 0x1d, 0x1e, 0x1f,
+];
+
+// A cancellation.
+const CANCELLED: [u8; 99] = [
+    0x02, 0x40, 0xff, 0xff, 0xff, 0xff, 0x03, 0x41, 0x2d, 0x31, 0x00, 0x00, 0x4e, 0x79, 0x01, 0x00,
+    0x01, 0x03, 0x52, 0x2d, 0x32, 0x00, 0x00, 0xba, 0xe6, 0x00, 0x01, 0x02, 0x03, 0x04, 0x05, 0x06,
+    0x07, 0x08, 0x09, 0x0a, 0x0b, 0x0c, 0x0d, 0x0e, 0x0f, 0x10, 0x11, 0x12, 0x13, 0x14, 0x15, 0x16,
+    0x17, 0x18, 0x19, 0x1a, 0x1b, 0x1c, 0x1d, 0x1e, 0x1f, 0x00, 0x00, 0x00, 0x00, 0xf4, 0x86, 0x56,
+    0xff, 0x00, 0x3c, 0xff, 0xff, 0xff, 0xff, 0xff, 0xff, 0xff, 0xff, 0xff, 0xff, 0xff, 0xff, 0xff,
+    0xff, 0xff, 0xff, 0xff, 0xff, 0xff, 0xff, 0xff, 0xff, 0xff, 0xff, 0xff, 0xff, 0xff, 0xff, 0xff,
+    0xff, 0xff, 0xff,
+];
+
+// Notes with each line.
+const NOTED: [u8; 25] = [
+    0x03, 0x00, 0x00, 0x00, 0x07, 0x00, 0x06, 0x00, 0x00, 0x00, 0x01, 0x10, 0x04, 0x02, 0xff, 0xff,
+    0x03, 0x00, 0x00, 0x04, 0x00, 0x00, 0x05, 0x00, 0x00,
+];
+
+const FIRST_HUELLA: [u8; 32] = [
+    0xd8, 0x8b, 0x42, 0xf8, 0xd1, 0x1c, 0x4e, 0xa2, 0x11, 0x25, 0x02, 0xec, 0x99, 0x2f, 0x05, 0x5a,
+    0x7e, 0x94, 0xf7, 0x96, 0xd6, 0x70, 0x95, 0x35, 0x9b, 0x94, 0x6a, 0x4a, 0x5b, 0x03, 0xe6, 0x16,
+];
+
+// 0, 1, 2 and so on to 31.
+const COUNTED: [u8; 32] = [
+    0x00, 0x01, 0x02, 0x03, 0x04, 0x05, 0x06, 0x07, 0x08, 0x09, 0x0a, 0x0b, 0x0c, 0x0d, 0x0e, 0x0f,
+    0x10, 0x11, 0x12, 0x13, 0x14, 0x15, 0x16, 0x17, 0x18, 0x19, 0x1a, 0x1b, 0x1c, 0x1d, 0x1e, 0x1f,
+];
+
+// The day is given by its number.
+fn id(num: &str, day: u32) -> Result<InvoiceId, Fail> {
+    let num = number(num)?;
+    let day = Day::new(day).ok_or("a day")?;
+    Ok(InvoiceId { num, day })
+}
+
+fn after(num: &str, day: u32, huella: [u8; 32]) -> Result<Link, Fail> {
+    let id = id(num, day)?;
+    Ok(Link::After { id, huella })
+}
+
+fn moment(seconds: u64, offset: i16) -> Result<Stamp, Fail> {
+    Ok(Stamp::new(seconds, offset).ok_or("a moment")?)
+}
+
+fn sale(alloc: Global) -> Result<Entry, Fail>
+    ensures { IfOk result (λ entry. InRanges entry) }
+{
+    let alta = Alta {
+        issuer: issuer()?,
+        id: id("A-1", 20_089)?,
+        draft: draft(alloc, Kind::F2, 10_000)?,
+        subsanacion: false,
+        rechazo: Previo::N,
+        link: Link::First,
+        moment: moment(TEN, 60)?,
+    };
+    let sealed = Sealed {
+        body: Record::Alta(alta),
+        huella: FIRST_HUELLA,
+    };
+    Ok(Entry::Rec {
+        till: 1,
+        serial: 1,
+        sealed,
+    })
+}
+
+fn rectifying_draft(alloc: Global) -> Result<Draft, Fail>
+    ensures { IfOk result (λ draft. length draft.refs ≤ MAX_REFS) }
+{
+    let name = Name::read(alloc, "Ñandú, S.L.");
+    let name = name.ok().ok_or("a name")?;
+    let nif = nif("B12345674")?;
+    let refs = [id("A-1", 20_089)?, id("B/7 x", 0)?];
+    let lines = [
+        line(LineKey::SuperReducedSurcharge, -1)?,
+        line(LineKey::E6, 9_999_999_999)?,
+        line(LineKey::Zero, -9_999_999_999)?,
+    ];
+    Ok(Draft {
+        kind: Kind::R4,
+        rect: Some(RectKind::I),
+        customer: Some(Party { nif, name }),
+        refs: Refs::of(refs.to_vec(alloc)?),
+        lines: breakdown(alloc, &lines)?,
+    })
+}
+
+fn rectified(alloc: Global) -> Result<Entry, Fail>
+    ensures { IfOk result (λ entry. InRanges entry) }
+{
+    let alta = Alta {
+        issuer: issuer()?,
+        id: id("R-2", 20_270)?,
+        draft: rectifying_draft(alloc)?,
+        subsanacion: true,
+        rechazo: Previo::X,
+        link: after("A-1", 20_089, FIRST_HUELLA)?,
+        moment: moment(1_751_364_000, 120)?,
+    };
+    let sealed = Sealed {
+        body: Record::Alta(alta),
+        huella: COUNTED,
+    };
+    Ok(Entry::Rec {
+        till: 2,
+        serial: 300,
+        sealed,
+    })
+}
+
+fn cancelled() -> Result<Entry, Fail>
+    ensures { IfOk result (λ entry. InRanges entry) }
+{
+    let anulacion = Anulacion {
+        issuer: issuer()?,
+        id: id("A-1", 20_089)?,
+        sin_registro: true,
+        rechazo: false,
+        link: after("R-2", 47_846, COUNTED)?,
+        moment: moment(4_102_444_799, 60)?,
+    };
+    let sealed = Sealed {
+        body: Record::Anulacion(anulacion),
+        huella: [255; 32],
+    };
+    Ok(Entry::Rec {
+        till: 64,
+        serial: 4_294_967_295,
+        sealed,
+    })
+}
+
+fn noted(alloc: Global) -> Result<Entry, Fail>
+    ensures { IfOk result (λ entry. InRanges entry) }
+{
+    let lines = [
+        Line::Correcto,
+        Line::ConErrores(4100),
+        Line::Incorrecto(Cause::Vet(65_535)),
+        Line::Incorrecto(Cause::Held),
+        Line::Incorrecto(Cause::NotHeld),
+        Line::Incorrecto(Cause::Gone),
+    ];
+    let lines = Lines::of(lines.to_vec(alloc)?);
+    Ok(Entry::Notes { first: 7, lines })
+}
+
+fn is_written(alloc: Global, entry: &Entry, bytes: &[u8]) -> bool
+    requires { InRanges entry.now }
+{
+    fields_are_valid(entry);
+    match encode(alloc, entry) {
+        Ok(written) => written.as_slice() == bytes,
+        Err(_) => false,
+    }
+}
+
+// The bytes are an entry's, and that entry's bytes are these.
+fn is_read_back(alloc: Global, bytes: &[u8]) -> Result<bool, Fail> {
+    let issuer = issuer()?;
+    match decode(alloc, &issuer, bytes) {
+        Ok(entry) => Ok(is_written(alloc, &entry, bytes)),
+        Err(_) => Ok(false),
+    }
+}
+
+#[test]
+fn entries_have_their_bytes(rt: HostRuntime) -> Result<(), Fail> {
+    let alloc = rt.alloc();
+    assert!(rt; is_written(alloc, &sale(alloc)?, &SALE));
+    assert!(rt; is_written(alloc, &rectified(alloc)?, &RECTIFIED));
+    assert!(rt; is_written(alloc, &cancelled()?, &CANCELLED));
+    assert!(rt; is_written(alloc, &noted(alloc)?, &NOTED));
+    assert!(rt; is_read_back(alloc, &SALE)?);
+    assert!(rt; is_read_back(alloc, &RECTIFIED)?);
+    assert!(rt; is_read_back(alloc, &CANCELLED)?);
+    assert!(rt; is_read_back(alloc, &NOTED)?);
+    Ok(())
+}
+
+fn fault(alloc: Global, bytes: &[u8]) -> Result<Option<BadEntry>, Fail> {
+    let issuer = issuer()?;
+    Ok(decode(alloc, &issuer, bytes).err())
+}
+
+// The fault of the bytes with another byte at this place.
+fn fault_with(
+    alloc: Global,
+    bytes: &[u8],
+    place: usize,
+    byte: u8,
+) -> Result<Option<BadEntry>, Fail> {
+    let mut changed = Vec::new(alloc);
+    for (i, b) in bytes.iter().enumerate() {
+        changed.push(if i == place { byte } else { *b })?;
+    }
+    fault(alloc, &changed)
+}
+
+#[test]
+fn the_first_wrong_field_is_named(rt: HostRuntime) -> Result<(), Fail> {
+    let alloc = rt.alloc();
+    // A place, the byte that it is changed to, and the place of the field that is then wrong.
+    for (place, byte, at) in [
+        (0, 0, 0),
+        (0, 4, 0),
+        (1, 0, 1),
+        (1, 65, 1),
+        (5, 0, 2),
+        (6, 0, 6),
+        (6, 61, 6),
+        (6, 255, 6),
+        (7, b'=', 6),
+        (7, b' ', 6),
+        (7, 255, 6),
+        (11, 1, 10),
+        (14, 8, 14),
+        (15, 3, 15),
+        (16, 2, 16),
+        (17, 9, 17),
+        (18, 0, 18),
+        (18, 13, 18),
+        (19, 16, 19),
+        (20, 1, 20),
+        (20, 255, 20),
+        (28, 2, 28),
+        (29, 3, 29),
+        (30, 2, 30),
+        (31, 1, 31),
+        (35, 0x65, 31),
+        (39, 1, 39),
+        (40, 61, 39),
+    ] {
+        let found = fault_with(alloc, &SALE, place, byte)?;
+        assert_eq!(rt; found, Some(BadEntry::At { at }), "{place} {byte}");
+    }
+    for (place, byte, at) in [
+        (25, b'5', 17),
+        (26, 0, 26),
+        (27, 255, 26),
+        (29, 31, 26),
+        (39, b' ', 26),
+        (40, 9, 40),
+        (45, 1, 45),
+        (49, 0, 49),
+        (76, 0xe4, 70),
+        (86, 0, 79),
+        (89, 2, 89),
+        (95, 1, 94),
+    ] {
+        let found = fault_with(alloc, &RECTIFIED, place, byte)?;
+        assert_eq!(rt; found, Some(BadEntry::At { at }), "{place} {byte}");
+    }
+    Ok(())
+}
+
+#[test]
+fn so_it_is_in_cancellations_and_notes(rt: HostRuntime) -> Result<(), Fail> {
+    let alloc = rt.alloc();
+    for (place, byte, at) in [(14, 2, 14), (15, 2, 15), (24, 0xe7, 21), (63, 0x57, 57)] {
+        let found = fault_with(alloc, &CANCELLED, place, byte)?;
+        assert_eq!(rt; found, Some(BadEntry::At { at }), "{place} {byte}");
+    }
+    for (place, byte, at) in [
+        (6, 0, 5),
+        (5, 4, 5),
+        (6, 7, 25),
+        (6, 5, 22),
+        (7, 6, 7),
+        (8, 1, 7),
+        (18, 1, 16),
+        (21, 1, 19),
+        (24, 1, 22),
+    ] {
+        let found = fault_with(alloc, &NOTED, place, byte)?;
+        assert_eq!(rt; found, Some(BadEntry::At { at }), "{place} {byte}");
+    }
+    Ok(())
+}
+
+#[test]
+fn a_cut_field_is_named_and_so_is_a_byte_too_many(rt: HostRuntime) -> Result<(), Fail> {
+    let alloc = rt.alloc();
+    for (length, at) in [(0, 0), (1, 1), (5, 2), (9, 6), (26, 20), (40, 39), (72, 41)] {
+        let found = fault(alloc, &SALE[..length])?;
+        assert_eq!(rt; found, Some(BadEntry::At { at }), "{length}");
+    }
+    let mut more = SALE.to_vec(alloc)?;
+    more.push(0)?;
+    assert_eq!(rt; fault(alloc, &more)?, Some(BadEntry::At { at: 73 }));
+    Ok(())
+}
+
+#[test]
+fn the_first_sale_is_written_in_73_bytes(rt: HostRuntime) -> Result<(), Fail> {
+    let mut out = [0; 4096];
+    let n = write_entry(&sale(rt.alloc())?, &mut out);
+    assert_eq!(rt; n, 73);
+    assert_eq!(rt; &out[..n as usize], SALE.as_slice());
+    Ok(())
+}
+
+#[test]
+fn heads_are_read_from_the_bytes(rt: HostRuntime) -> Result<(), Fail> {
+    let head = Head {
+        id: id("A-1", 20_089)?,
+        moment: moment(TEN, 60)?,
+        huella: FIRST_HUELLA,
+        is_alta: true,
+        is_f2: true,
+    };
+    assert_eq!(rt; head_of(&SALE), Some(head));
+    assert_eq!(rt; head_of(&NOTED), None);
+    Ok(())
+}

@@ -1,0 +1,228 @@
+-- A day of tills, from their rows to the history at its end.
+use Rattle.std.proofs.Common.{◌≡◌, ℕ, zero, suc, ◌<◌, ◌≤◌, Bool, true, false, List, [], ◌∷◌, ◌++◌, length, drop, map, All, Option, Some, None, Result, Ok, Err, slice_get, refl, ap, sym, ◌∙◌, subst, arith}
+use Rattle.std.specs.Prelude.{◌≢◌, AllPairs, Contains, IsSome}
+use Rattle.std.specs.List.{AllByRecursion, flat_map}
+use Rattle.std.proofs.lemmas.List.{append-nil, length-append, length-map}
+use Rattle.std.proofs.lemmas.List.Folds.{flat_map-map}
+use Rattle.chain_disk.specs.Told.{Told}
+use Rattle.chain_lock.specs.Known.{Known, IsNew, Fits, holders, owners}
+use Rattle.chain_lock.specs.Lists.{StartsWith}
+use Rattle.journal.specs.declared.faults.StoreFault.{StoreFault}
+use Rattle.journal.specs.declared.faults.StoreFault.TheVariants.{DiskFault, Stopped, NoMemory}
+use Rattle.record_codec.specs.declared.entries.Entry.{Entry}
+use Rattle.record_codec.specs.declared.entries.Entry.TheVariants.{Rec, Notes}
+use Rattle.shop_core.specs.Asked.{Asked}
+use Rattle.shop_core.specs.Runs.{IsTakenAt}
+use Rattle.shop_core.specs.declared.answers.Reply.{Reply}
+use Rattle.shop_core.specs.declared.answers.Reply.TheVariants.{Taken, Again, Refused}
+use Rattle.shop_core.specs.declared.items.Item.{Item}
+use Rattle.shop_core.specs.declared.items.Item.TheVariants as item
+use Rattle.till_calls.specs.Laws.{AddsForNoOther, AddsWhatIsTaken}
+use Rattle.till_calls.specs.Own.{is_of, records_of, AreTaken as TakenItems}
+use Rattle.till_calls.specs.Root.{Root, Parts, items_in, root_of, stop_in}
+use Rattle.till_calls.specs.Sound.{HasStopped, IsSound}
+use Rattle.verifactu.specs.Replies.{IsGoingOn, Replies}
+use Rattle.verifactu.specs.Tills.{AreTaken, DayRun, StopsShop, TellsStop, TillServed, TillTold, all_replies, is_from, own_of, stops_in}
+use Rattle.verifactu.specs.Works.{Ran, Row, Worked, told_in}
+use Rattle.verifactu.specs.declared.tills.TillDay.{TillDay}
+use Rattle.verifactu.proofs.Each.{each_both, each_front, each_map, each_of_all, each_piece, each_unmap, each_weaker}
+use Rattle.verifactu.proofs.Rows.{AreDistinct, after_all, distinct_of, none_else, own as rows_own, still_held, stop_told, told, Told as RowTold}
+use Rattle.verifactu.proofs.TillRuns.{StopTold, items}
+
+no_record : (stopped : Option ℕ) (torn : Option Entry) (till : ℕ) → records_of till (stop_in stopped torn) ≡ []
+no_record (Some faults) (Some t) till = refl
+no_record (Some faults) None till = refl
+no_record None torn till = refl
+
+module _ (stopped : Option ℕ) (torn : Option Entry) where
+  is_of_entry : (till : ℕ) (e : Entry) → is_of till (item.Entry e) ≡ is_from till e
+  is_of_entry till (Rec own serial sealed) = refl
+  is_of_entry till (Notes first lines) = refl
+
+  records : (till : ℕ) (end : List Entry) → records_of till (items stopped torn end) ≡ map item.Entry (own_of till end)
+  records till [] = no_record stopped torn till
+  records till (e ∷ end) = by_test (is_from till e) refl (records till end)
+    where
+      by_test : (b : Bool) → is_from till e ≡ b → records_of till (items stopped torn end) ≡ map item.Entry (own_of till end) → records_of till (items stopped torn (e ∷ end)) ≡ map item.Entry (own_of till (e ∷ end))
+      by_test true b h = rw (is_of_entry till e, b) (ap (λ (l : List Item). item.Entry e ∷ l) h)
+      by_test false b h = rw (is_of_entry till e, b) h
+
+  dropped : (n : ℕ) (end : List Entry) → n ≤ length end → drop n (items stopped torn end) ≡ items stopped torn (drop n end)
+  dropped zero end l = refl
+  dropped (suc n) [] l = absurd (omega (arith, l))
+  dropped (suc n) (e ∷ end) l = dropped n end (omega (arith, l))
+
+taken : (replies : Replies) (es : List Entry) → TakenItems replies (map item.Entry es) → AreTaken replies es
+taken [] [] h = refl
+taken [] (e ∷ es) h = absurd (let x = h in cc)
+taken (Ok (Taken receipt) ∷ rs) [] h = absurd (let x = h.3 in cc)
+taken (Ok (Taken receipt) ∷ rs) (e ∷ es) h =
+    let same : h.0 ≡ e = (let x = h.3 in cc) in
+    let rest : h.2 ≡ map item.Entry es = (let x = h.3 in cc) in
+    (e, h.1, es, refl, subst (λ (x : Entry). IsTakenAt h.1 x (Taken receipt)) same h.4, taken rs es (subst (λ (l : List Item). TakenItems rs l) rest h.5))
+taken (Ok (Again receipt) ∷ rs) es h = taken rs es h
+taken (Ok (Refused why) ∷ rs) es h = taken rs es h
+taken (Err fault ∷ rs) es h = taken rs es h
+
+going_on : (reply : Result Reply StoreFault) → StopTold None reply → IsGoingOn reply
+going_on (Ok reply) h = tt
+going_on (Err DiskFault) h = absurd (let x = h in cc)
+going_on (Err (Stopped count)) h = absurd (let x = h in cc)
+going_on (Err NoMemory) h = tt
+
+tells_stop : (count : ℕ) (reply : Result Reply StoreFault) → StopTold (Some count) reply → TellsStop count reply
+tells_stop count (Ok reply) h = tt
+tells_stop count (Err DiskFault) h = tt
+tells_stop count (Err (Stopped faults)) h = let x = h in cc
+tells_stop count (Err NoMemory) h = tt
+
+no_entries : (es : List Entry) → map item.Entry es ≡ [] → es ≡ []
+no_entries [] h = refl
+no_entries (e ∷ es) h = absurd (let x = h in cc)
+
+at_end : (es : List Entry) (x : Item) (rest : List Item) → slice_get (map item.Entry es ++ x ∷ rest) (length es) ≡ Some x
+at_end [] x rest = refl
+at_end (e ∷ es) x rest = at_end es x rest
+
+stop_size : {D C : Type 0} (faults : D → ℕ) (root : Root C) (p : Parts D C) → ((count : ℕ) → p.stopped ≡ Some count → HasStopped faults root p count) → (s : Option ℕ) → p.stopped ≡ s → length (stop_in p.stopped p.torn) ≡ stops_in s
+stop_size faults root p stop None e = ap (λ (o : Option ℕ). length (stop_in o p.torn)) e
+stop_size faults root p stop (Some count) e = let h = stop count e in ap (λ (o : Option ℕ). length (stop_in o p.torn)) e ∙ ap (λ (o : Option Entry). length (stop_in (Some count) o)) h.torn_is
+
+same_tills : {C : Type 0} (coming : C → ℕ → Option ℕ) (asks : List Asked) (rows : List (Row C)) → AllByRecursion (λ (r : Row C). Worked coming asks r) rows → map (λ (r : Row C). r.done.till) rows ≡ map (λ (d : TillDay). d.till) (map (λ (r : Row C). r.day) rows)
+same_tills coming asks [] h = refl
+same_tills coming asks (r ∷ rs) h = let e = h.0.till in let f = same_tills coming asks rs h.1 in ap (λ (n : ℕ). n ∷ map (λ (s : Row _). s.done.till) rs) e ∙ ap (λ (l : List ℕ). r.day.till ∷ l) f
+
+tills_of_rows : {C : Type 0} (rows : List (Row C)) → map (λ (d : TillDay). d.till) (map (λ (r : Row C). r.done) rows) ≡ map (λ (r : Row C). r.done.till) rows
+tills_of_rows [] = refl
+tills_of_rows (r ∷ rs) = ap (λ (l : List ℕ). r.done.till ∷ l) (tills_of_rows rs)
+
+-- the same tills come back
+pub same_days : {C : Type 0} (coming : C → ℕ → Option ℕ) (asks : List Asked) (days done : List TillDay) (old new : List (Known Item (Root C))) → Ran coming asks days old done new → map (λ (d : TillDay). d.till) done ≡ map (λ (d : TillDay). d.till) days
+same_days coming asks days done old new ran =
+    ap (λ (l : List TillDay). map (λ (d : TillDay). d.till) l) ran.done_are ∙ tills_of_rows ran.rows ∙ same_tills coming asks ran.rows ran.worked ∙ sym (ap (λ (l : List TillDay). map (λ (d : TillDay). d.till) l) ran.days_are)
+
+-- where a store goes on, its items are its entries
+pub no_stop_yet : {D C : Type 0} (p : Parts D C) → p.stopped ≡ None → length (items_in p) ≡ length p.state.entries
+no_stop_yet p e =
+    ap (λ (s : Option ℕ). length (map item.Entry p.state.entries ++ stop_in s p.torn)) e ∙ ap (λ (l : List Item). length l) (append-nil (map item.Entry p.state.entries)) ∙ length-map p.state.entries (λ (x : Entry). item.Entry x)
+
+module _ {D C : Type 0} (tells : Bool) (tell : D → Told) (faults : D → ℕ) (coming : C → ℕ → Option ℕ) (asks : List Asked) (first p : Parts D C) (for_no_other : AddsForNoOther coming) (what_is_taken : AddsWhatIsTaken coming) where
+  abbrev root : Root C
+  root = root_of tell faults first
+
+  abbrev Sound : Type 0
+  Sound = IsSound tells tell faults coming root p
+
+  low : Sound → length root.history ≤ length p.state.entries
+  low sound = let e = ap (λ (l : List Entry). length l) sound.begins.1 in let g = length-append root.history sound.begins.0 in omega (arith, e, g)
+
+  since_start : (base : List Item) → length base ≡ length root.history → Sound → (till : ℕ) → records_of till (drop (length base) (items_in p)) ≡ map item.Entry (own_of till (drop (length root.history) p.state.entries))
+  since_start base size sound till =
+      ap (λ (n : ℕ). records_of till (drop n (items_in p))) size
+      ∙ ap (λ (l : List Item). records_of till l) (dropped p.stopped p.torn (length root.history) p.state.entries (low sound))
+      ∙ records p.stopped p.torn till (drop (length root.history) p.state.entries)
+
+  abbrev RowDone : List Item → Row C → Type 0
+  RowDone base r = AreTaken r.done.answers.items (own_of r.done.till (drop (length root.history) p.state.entries))
+
+  served : (base : List Item) → length base ≡ length root.history → Sound → (r : Row C) → RowTold coming asks base root p.stopped p.torn p.state.entries for_no_other what_is_taken r →
+      TakenItems r.done.answers.items (records_of r.done.till (drop (length base) (items_in p))) → TillServed root.issuer (coming root.clock) root.history p.state.entries p.stopped asks (told_in r.done)
+  served base size sound r t own_items =
+      let total = length-append (map item.Entry p.state.entries) (stop_in p.stopped p.torn) in
+      let entries = length-map p.state.entries (λ (x : Entry). item.Entry x) in
+      let stops = stop_size faults root p sound.stop p.stopped refl in
+      record {
+        last = t.told.seen;
+        told = t.told.told;
+        run = t.told.run;
+        own = taken r.done.answers.items (own_of r.done.till (drop (length root.history) p.state.entries)) (subst (λ (l : List Item). TakenItems r.done.answers.items l) (since_start base size sound r.done.till) own_items);
+        at_least = (let a = t.told.within in let b = t.told.least in let c = t.least in omega (arith, a, b, c));
+        at_most = (let s = t.saw in omega (arith, s, total, entries, stops));
+      }
+
+  stops_by : Sound → (replies : Replies) → AllByRecursion (StopTold p.stopped) replies → (IsSome p.stopped → Contains replies (Err DiskFault)) → (s : Option ℕ) → p.stopped ≡ s → StopsShop (faults first.disk) (faults p.disk) s replies
+  stops_by sound replies each first_told None e = each_weaker (StopTold None) IsGoingOn replies going_on (subst (λ (o : Option ℕ). AllByRecursion (StopTold o) replies) e each)
+  stops_by sound replies each first_told (Some count) e =
+      let h = sound.stop count e in
+      record {
+        first = first_told (subst (λ (o : Option ℕ). IsSome o) (sym e) refl);
+        later = each_weaker (StopTold (Some count)) (TellsStop count) replies (tells_stop count) (subst (λ (o : Option ℕ). AllByRecursion (StopTold o) replies) e each);
+        risen = h.rose;
+        within = h.within;
+      }
+
+  -- the day of all rows
+  module _ (base : List Item) (size : length base ≡ length root.history) (rows : List (Row C)) (seat : Known Item (Root C)) (distinct : AreDistinct (map (λ (r : Row C). r.done.till) rows)) (news : AllByRecursion (λ (r : Row C). IsNew base root r.from) rows)
+      (seat_new : IsNew base root seat) (worked : AllByRecursion (Worked coming asks) rows) (fits : AllByRecursion (Fits (items_in p)) (after_all coming asks rows ++ seat ∷ [])) (starts : StartsWith (items_in p) base)
+      (since : (n : ℕ) → length base ≤ n → n < length (items_in p) → owners n (after_all coming asks rows ++ seat ∷ []) ≡ 1) (sound : Sound) where
+    abbrev RTold : Row C → Type 0
+    RTold = RowTold coming asks base root p.stopped p.torn p.state.entries for_no_other what_is_taken
+
+    all_told : AllByRecursion RTold rows
+    all_told = told coming asks base root p.stopped p.torn p.state.entries for_no_other what_is_taken size rows seat distinct news seat_new worked fits starts since
+
+    all_served : AllByRecursion (λ (r : Row C). TillServed root.issuer (coming root.clock) root.history p.state.entries p.stopped asks (told_in r.done)) rows
+    all_served = each_both RTold (λ (r : Row C). TakenItems r.done.answers.items (records_of r.done.till (drop (length base) (items_in p)))) (λ (r : Row C). TillServed root.issuer (coming root.clock) root.history p.state.entries p.stopped asks (told_in r.done)) rows
+        (served base size sound) all_told (rows_own coming asks base root p.stopped p.torn p.state.entries for_no_other what_is_taken size rows seat distinct news seat_new worked fits starts since)
+
+    abbrev tills : List TillTold
+    tills = map told_in (map (λ (r : Row C). r.done) rows)
+
+    replies_are : all_replies tills ≡ flat_map (λ (r : Row C). r.done.answers.items) rows
+    replies_are = flat_map-map (λ (t : TillTold). t.replies) told_in (map (λ (r : Row C). r.done) rows) ∙ flat_map-map (λ (d : TillDay). d.answers.items) (λ (r : Row C). r.done) rows
+
+    stops_told : AllByRecursion (StopTold p.stopped) (flat_map (λ (r : Row C). r.done.answers.items) rows)
+    stops_told = each_piece (λ (r : Row C). r.done.answers.items) (StopTold p.stopped) rows (each_weaker RTold (λ (r : Row C). AllByRecursion (StopTold p.stopped) r.done.answers.items) rows (λ r t. t.told.stops) all_told)
+
+    first_told : IsSome p.stopped → Contains (flat_map (λ (r : Row C). r.done.answers.items) rows) (Err DiskFault)
+    first_told is = by_stop p.stopped refl is
+      where
+        by_stop : (s : Option ℕ) → p.stopped ≡ s → IsSome s → Contains (flat_map (λ (r : Row C). r.done.answers.items) rows) (Err DiskFault)
+        by_stop None e h = absurd (let x = h in cc)
+        by_stop (Some count) e h =
+            let stop = sound.stop count e in
+            let last : items_in p ≡ map item.Entry p.state.entries ++ item.Stop count stop.torn ∷ [] =
+            ap (λ (o : Option ℕ). map item.Entry p.state.entries ++ stop_in o p.torn) e ∙ ap (λ (o : Option Entry). map item.Entry p.state.entries ++ stop_in (Some count) o) stop.torn_is in
+            let there : slice_get (items_in p) (length p.state.entries) ≡ Some (item.Stop count stop.torn) = ap (λ (l : List Item). slice_get l (length p.state.entries)) last ∙ at_end p.state.entries (item.Stop count stop.torn) [] in
+            let total = ap (λ (l : List Item). length l) last ∙ length-append (map item.Entry p.state.entries) (item.Stop count stop.torn ∷ []) in
+            let entries = length-map p.state.entries (λ (x : Entry). item.Entry x) in
+            stop_told coming asks base root p.stopped p.torn p.state.entries for_no_other what_is_taken size rows seat distinct news seat_new worked fits starts since (length p.state.entries) (item.Stop count stop.torn) there refl
+            (let l = low sound in omega (arith, size, l)) (omega (arith, total, entries))
+
+    pub whole : DayRun tells tell faults coming asks first p tills
+    whole = record {
+      sound = sound;
+      served = each_map told_in (TillServed root.issuer (coming root.clock) root.history p.state.entries p.stopped asks) (map (λ (r : Row C). r.done) rows)
+          (each_map (λ (r : Row C). r.done) (λ (d : TillDay). TillServed root.issuer (coming root.clock) root.history p.state.entries p.stopped asks (told_in d)) rows all_served);
+      others = λ till other. no_entries (own_of till (drop (length root.history) p.state.entries))
+          (sym (since_start base size sound till) ∙ none_else coming asks base root p.stopped p.torn p.state.entries for_no_other what_is_taken size rows seat distinct news seat_new worked fits starts since till
+          (each_unmap (λ (r : Row C). r.done) (λ (d : TillDay). d.till ≢ till) rows (each_unmap told_in (λ (t : TillTold). t.till ≢ till) (map (λ (r : Row C). r.done) rows) other)));
+      stops = subst (λ (rs : Replies). StopsShop (faults first.disk) (faults p.disk) p.stopped rs) (sym replies_are) (stops_by sound (flat_map (λ (r : Row C). r.done.answers.items) rows) stops_told first_told p.stopped refl);
+    }
+
+-- each number is held again
+pub held_again : {C : Type 0} (coming : C → ℕ → Option ℕ) (asks : List Asked) (days done : List TillDay) (old new : List (Known Item (Root C))) (seat : Known Item (Root C)) → Ran coming asks days old done new → (n : ℕ) → holders n (new ++ seat ∷ []) ≡ holders n (old ++ seat ∷ [])
+held_again coming asks days done old new seat ran n =
+    ap (λ (l : List (Known Item (Root _))). holders n (l ++ seat ∷ [])) ran.new_are ∙ still_held coming asks n seat ran.rows ran.worked ∙ sym (ap (λ (l : List (Known Item (Root _))). holders n (l ++ seat ∷ [])) ran.old_are)
+
+-- the day of the tills that ran, once their shop is closed
+pub ended : {D C : Type 0} (tells : Bool) (tell : D → Told) (faults : D → ℕ) (coming : C → ℕ → Option ℕ) (asks : List Asked) (old_parts p : Parts D C) (for_no_other : AddsForNoOther coming) (what_is_taken : AddsWhatIsTaken coming) (root : Root C) (base first : List Item) (days done : List TillDay) (old new : List (Known Item (Root C))) (seat : Known Item (Root C)) →
+    root ≡ root_of tell faults old_parts → base ≡ first → length first ≡ length old_parts.state.entries → AllPairs (λ (a b : TillDay). a.till ≢ b.till) days → Ran coming asks days old done new → All (IsNew base root) (old ++ seat ∷ []) →
+    IsSound tells tell faults coming root p → All (Fits (items_in p)) (new ++ seat ∷ []) → StartsWith (items_in p) base → ((n : ℕ) → length base ≤ n → n < length (items_in p) → owners n (new ++ seat ∷ []) ≡ 1) →
+    DayRun tells tell faults coming asks old_parts p (map told_in done)
+ended {D} {C} tells tell faults coming asks old_parts p for_no_other what_is_taken root base first days done old new seat same_root same_base size distinct ran fresh sound fits starts since =
+    let size' : length base ≡ length old_parts.state.entries = ap (λ (l : List Item). length l) same_base ∙ size in
+    let fresh' : AllByRecursion (IsNew base root) (map (λ (r : Row C). r.from) ran.rows ++ seat ∷ []) =
+    subst (λ (l : List (Known Item (Root C))). AllByRecursion (IsNew base root) (l ++ seat ∷ [])) ran.old_are (each_of_all (IsNew base root) (old ++ seat ∷ []) fresh) in
+    let fresh'' = subst (λ (r : Root C). AllByRecursion (IsNew base r) (map (λ (x : Row C). x.from) ran.rows ++ seat ∷ [])) same_root fresh' in
+    let home = root_of tell faults old_parts in
+    let split = each_front (IsNew base home) (map (λ (r : Row C). r.from) ran.rows) seat fresh'' in
+    let distinct' : AreDistinct (map (λ (r : Row C). r.done.till) ran.rows) =
+    subst (λ (l : List ℕ). AreDistinct l) (sym (same_tills coming asks ran.rows ran.worked)) (subst (λ (l : List TillDay). AreDistinct (map (λ (d : TillDay). d.till) l)) ran.days_are (distinct_of (λ (d : TillDay). d.till) days distinct)) in
+    let fits' : AllByRecursion (Fits (items_in p)) (after_all coming asks ran.rows ++ seat ∷ []) =
+    subst (λ (l : List (Known Item (Root C))). AllByRecursion (Fits (items_in p)) (l ++ seat ∷ [])) ran.new_are (each_of_all (Fits (items_in p)) (new ++ seat ∷ []) fits) in
+    let since' : (n : ℕ) → length base ≤ n → n < length (items_in p) → owners n (after_all coming asks ran.rows ++ seat ∷ []) ≡ 1 =
+    subst (λ (l : List (Known Item (Root C))). (n : ℕ) → length base ≤ n → n < length (items_in p) → owners n (l ++ seat ∷ []) ≡ 1) ran.new_are since in
+    subst (λ (l : List TillDay). DayRun tells tell faults coming asks old_parts p (map told_in l)) (sym ran.done_are)
+    (whole tells tell faults coming asks old_parts p for_no_other what_is_taken base size' ran.rows seat distinct' (each_unmap (λ (r : Row C). r.from) (IsNew base home) ran.rows split.0) split.1 ran.worked fits' starts since'
+    (subst (λ (r : Root C). IsSound tells tell faults coming r p) same_root sound))

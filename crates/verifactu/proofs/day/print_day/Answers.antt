@@ -1,0 +1,18 @@
+use Rattle.std.proofs.Common.{◌++◌, ℕ, List, subst, map}
+use Rattle.file_commands.proofs.Bytewise.{took_nothing}
+use Rattle.ports.specs.Sinks.{this_sink}
+use Rattle.verifactu.specs.Ending.{RunEnds}
+use Rattle.verifactu.specs.Ending.RunEnds.{no_memory}
+use Rattle.verifactu.specs.Tills.{all_replies}
+use Rattle.verifactu.specs.Works.{told_in}
+use Rattle.verifactu.proofs.day.print_day.Goals as goal
+
+pub returns-in_default : goal.returns-in_default
+returns-in_default g c = no_memory (0, took_nothing (g.K.Sink.taken c.args.sink.now))
+
+pub returns : goal.returns
+returns g c =
+    let sink = this_sink g.K.Sink.taken g.K.Sink.faults c.args.sink.now c.write_texts-written.new.sink in
+    let text = c.in-Ok.told.answers ++ c.in-Ok.told.listing in
+    let written = rw (c.as_slice.ensures, c.as_slice-2.ensures) at c.write_texts-written.ensures in
+    subst (λ (t : List ℕ). RunEnds (all_replies (map told_in c.args.tills.now)) t sink c.end_of_day.result) c.in-Ok.ensures (c.end_of_day.ensures text sink written)

@@ -1,0 +1,39 @@
+use Rattle.std.proofs.Common.{ℕ, List, sym, subst, refl, Some, Option}
+use Rattle.chain_disk.specs.Disks.{this_disk}
+use Rattle.ports.specs.Counting.{counting}
+use Rattle.ports.specs.Sinks.{this_sink}
+use Rattle.shop_core.specs.Asked.{Asked}
+use Rattle.till_calls.specs.Sound.{IsLater}
+use Rattle.verifactu.specs.Day.{LeavesDayClock, TillsEnd}
+use Rattle.verifactu.specs.Devices.{LeftClock, this_clock}
+use Rattle.verifactu.specs.Readings.{readings_of}
+use Rattle.verifactu.proofs.DayEnding.{tills_by}
+use Rattle.verifactu.proofs.day.serve_script.Goals as goal
+
+pub returns-in-Some : goal.returns-in-Some
+returns-in-Some g c =
+    let coming = g.C.Clock.coming in
+    let clock = this_clock coming c.args.clock c.args.clock in
+    let issuer = c.args.issuer.now in
+    let asks = c.args.script.now.asks in
+    let line : ℕ × ℕ = (c.in-Some.start, c.in-Some.step) in
+    let own : ℕ → Option ℕ = λ k. Some (counting c.new-own.result.next c.new-own.result.step k) in
+    let end = c.serve_asks-detail.result.0 in
+    let sink = this_sink g.K.Sink.taken g.K.Sink.faults c.args.sink.now c.serve_asks-detail.new.sink in
+    let disk = this_disk g.D.Disk.tells g.D.Disk.told g.D.Disk.faults c.args.disk c.serve_asks-detail.result.1 in
+    let ends = tills_by issuer c.as_slice-asks.result.now own (readings_of (Some line) (coming c.args.clock)) _ (LeftClock clock) _ (LeavesDayClock clock (Some line)) sink disk end
+    c.new-own.ensures (λ left. refl) (λ left. refl) c.serve_asks-detail.ensures in
+    subst (λ (l : Option (ℕ × ℕ)). TillsEnd issuer asks (readings_of l (coming c.args.clock)) (LeftClock clock) (LeavesDayClock clock l) sink disk end) (sym c.in-Some.is)
+    (subst (λ (xs : List Asked). TillsEnd issuer xs (readings_of (Some line) (coming c.args.clock)) (LeftClock clock) (LeavesDayClock clock (Some line)) sink disk end) c.as_slice-asks.ensures ends)
+
+pub returns-in-None : goal.returns-in-None
+returns-in-None g c =
+    let coming = g.C.Clock.coming in
+    let clock = this_clock coming c.args.clock c.serve_asks.result.2 in
+    let issuer = c.args.issuer.now in
+    let asks = c.args.script.now.asks in
+    let end = c.serve_asks.result.0 in
+    let sink = this_sink g.K.Sink.taken g.K.Sink.faults c.args.sink.now c.serve_asks.new.sink in
+    let disk = this_disk g.D.Disk.tells g.D.Disk.told g.D.Disk.faults c.args.disk c.serve_asks.result.1 in
+    subst (λ (l : Option (ℕ × ℕ)). TillsEnd issuer asks (readings_of l (coming c.args.clock)) (LeftClock clock) (LeavesDayClock clock l) sink disk end) (sym c.in-None.is)
+    (subst (λ (xs : List Asked). TillsEnd issuer xs (coming c.args.clock) (LeftClock clock) (IsLater coming c.args.clock c.serve_asks.result.2) sink disk end) c.as_slice-asks.ensures c.serve_asks.ensures)

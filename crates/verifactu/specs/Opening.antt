@@ -1,0 +1,33 @@
+-- A command whose file wasn't opened.
+use Rattle.std.specs.Prelude.{◌≡◌, ℕ, List, IsTrue}
+use Rattle.ports.specs.Sinks.{Sinks, WroteNothing}
+use Rattle.chain_disk.specs.Disks.{Disks, DiskRose, LeftDisk}
+use Rattle.chain_store.specs.declared.causes.OpenCause.{OpenCause}
+use Rattle.chain_store.specs.declared.causes.OpenCause.TheVariants as cause
+use Rattle.recovery.specs.Opening.{IsLeftUnopened}
+use Rattle.report.specs.declared.ended.Detail.{Detail}
+use Rattle.report.specs.declared.ended.Detail.TheVariants as detail
+use Rattle.verifactu.specs.Crashes.{KeepsFile}
+
+abbrev pub opening_end : OpenCause → Detail
+opening_end cause.DiskFault = detail.DiskFault
+opening_end (cause.Damaged at) = detail.Damaged at
+opening_end (cause.OtherIssuer held) = detail.OtherIssuer held
+opening_end cause.NoMemory = detail.NoMemory
+
+-- there was no room for what was to come: nothing was printed, and neither the file nor the rest was touched
+pub record NoRoom {D : Type 0} (left : Type 0) (s : Sinks) (k : Disks D) (end : Detail) : Type 0 where
+  pub ends : end ≡ detail.NoMemory
+  pub wrote : WroteNothing s
+  pub disk : LeftDisk k
+  pub rest : left
+
+-- the file wasn't opened, nothing was printed, and the rest wasn't touched
+pub record NotOpened {D : Type 0} (issuer : List ℕ) (left : Type 0) (s : Sinks) (k : Disks D) (end : Detail) : Type 0 where
+  pub why : OpenCause
+  pub ends : end ≡ opening_end why
+  pub risen : why ≡ cause.DiskFault → DiskRose k
+  pub left_by : IsTrue k.tells → IsLeftUnopened issuer why (k.told k.disk) (k.told k.disk_after)
+  pub every_crash : IsTrue k.tells → KeepsFile issuer (k.told k.disk) (k.told k.disk_after)
+  pub wrote : WroteNothing s
+  pub rest : left

@@ -1,0 +1,13 @@
+-- What a drain's end says.
+use Rattle.chain_disk.specs.declared.disk.Disk.{Ghosts}
+use Rattle.till_calls.specs.Root.{parts_of}
+use Rattle.verifactu.specs.Drained.{Outcome, torn_in}
+use Rattle.verifactu.specs.declared.draining.DrainEnd.{DrainEnd}
+
+abbrev pub outcome_of : {D C : Type 0} {g : Ghosts D} → DrainEnd D C g → Outcome
+outcome_of e = record {
+  end = (parts_of e.store).state.entries;
+  torn = torn_in (parts_of e.store).stopped (parts_of e.store).torn;
+  turns = e.turns;
+  answer = e.answer;
+}

@@ -1,0 +1,133 @@
+-- What a shop's tills are told in a day, by the history at its end.
+use Rattle.std.specs.Prelude.{◌≡◌, ◌≢◌, ◌≤◌, ℕ, ◌+◌, ◌==◌, Bool, true, false, List, [], ◌∷◌, ◌++◌, filter, drop, flat_map}
+use Rattle.std.specs.Prelude.{length, Contains, Option, None, Some, Result, Ok, Err}
+use Rattle.std.specs.List.{AllByRecursion, list_any, range_with_len}
+use Rattle.chain_disk.specs.Told.{Told}
+use Rattle.journal.specs.declared.faults.StoreFault.{StoreFault}
+use Rattle.journal.specs.declared.faults.StoreFault.TheVariants.{DiskFault, Stopped, NoMemory}
+use Rattle.ports.specs.Causes.{Rose}
+use Rattle.ports.specs.Readings.{IsTold}
+use Rattle.record_codec.specs.declared.entries.Entry.{Entry}
+use Rattle.record_codec.specs.declared.entries.Entry.TheVariants.{Rec, Notes}
+use Rattle.record_codec.specs.declared.entries.TheConstants.{LAST_TILL}
+use Rattle.shop_core.specs.Answer.{answer}
+use Rattle.shop_core.specs.Asked.{Asked}
+use Rattle.shop_core.specs.Runs.{IsTakenAt, Tells}
+use Rattle.shop_core.specs.declared.answers.Reply.{Reply}
+use Rattle.shop_core.specs.declared.answers.Reply.TheVariants.{Taken, Again, Refused}
+use Rattle.till_calls.specs.Root.{Parts, root_of}
+use Rattle.till_calls.specs.Sound.{IsSound}
+use Rattle.verifactu.specs.Crashes.{IsPrefix}
+use Rattle.verifactu.specs.Replies.{Replies, AllGoOn}
+
+-- the asks of a till, in line order
+abbrev pub asks_of : ℕ → List Asked → List Asked
+asks_of till asks = filter (λ (a : Asked). a.till == till) asks
+
+-- whether a till asks for anything
+abbrev pub has_asks : List Asked → ℕ → Bool
+has_asks asks till = list_any (λ (a : Asked). a.till == till) asks
+
+-- the tills that ask for anything, in order of number
+abbrev pub tills_of : List Asked → List ℕ
+tills_of asks = filter (has_asks asks) (range_with_len 1 LAST_TILL)
+
+-- what a till was told, and how many items of the shop's list it saw at its end
+pub record TillTold : Type 0 where
+  pub till : ℕ
+  pub replies : Replies
+  pub saw : ℕ
+
+-- a coming answer of the clock; where threads ask it isn't known which one
+abbrev pub IsSomeReading : (ℕ → Option ℕ) → ℕ → Type 0
+IsSomeReading coming seconds = (number : ℕ) × IsTold (coming number) seconds
+
+-- A till run of these asks from the history at the start to the one at the end, with one reply an ask. Each reply is the answer
+-- at a front of the history at the end and at a coming reading of the clock. That front is no shorter than all that the till
+-- had seen, and where a record was taken it is the next entry there. Once the disk has failed each later ask is told of the
+-- stop. The number is how many entries the till had seen at its last answer, the mark whether it was told of the stop.
+pub data TillRun (issuer : List ℕ) (coming : ℕ → Option ℕ) (start end : List Entry) :
+    List Asked → Replies → ℕ → Bool → Type 0 where
+  unasked : TillRun issuer coming start end [] [] (length start) false
+  answered : (asks : List Asked) (replies : Replies) (seen : ℕ) (ask : Asked) (reply : Reply) (history gained : List Entry)
+      (seconds : ℕ) → TillRun issuer coming start end asks replies seen false → seen ≤ length history →
+      IsPrefix (history ++ gained) end → IsSomeReading coming seconds →
+      Tells history (answer issuer history ask seconds) reply gained →
+      TillRun issuer coming start end (asks ++ ask ∷ []) (replies ++ Ok reply ∷ []) (length (history ++ gained)) false
+  torn : (asks : List Asked) (replies : Replies) (seen : ℕ) (ask : Asked) →
+      TillRun issuer coming start end asks replies seen false →
+      TillRun issuer coming start end (asks ++ ask ∷ []) (replies ++ Err DiskFault ∷ []) seen true
+  stopped : (asks : List Asked) (replies : Replies) (seen : ℕ) (told : Bool) (ask : Asked) (count : ℕ) →
+      TillRun issuer coming start end asks replies seen told →
+      TillRun issuer coming start end (asks ++ ask ∷ []) (replies ++ Err (Stopped count) ∷ []) seen true
+  without_memory : (asks : List Asked) (replies : Replies) (seen : ℕ) (ask : Asked) →
+      TillRun issuer coming start end asks replies seen false →
+      TillRun issuer coming start end (asks ++ ask ∷ []) (replies ++ Err NoMemory ∷ []) seen false
+
+-- the entry is a record of this till
+abbrev pub is_from : ℕ → Entry → Bool
+is_from till (Rec own serial sealed) = own == till
+is_from till (Notes first lines) = false
+
+-- the records of a till among these entries
+abbrev pub own_of : ℕ → List Entry → List Entry
+own_of till entries = filter (is_from till) entries
+
+-- these entries are exactly those told as taken, in the order of the replies
+abbrev pub AreTaken : Replies → List Entry → Type 0
+AreTaken [] entries = entries ≡ []
+AreTaken (Ok (Taken receipt) ∷ replies) entries = (e : Entry) × (place : ℕ) × (rest : List Entry) ×
+    (entries ≡ e ∷ rest) × IsTakenAt place e (Taken receipt) × AreTaken replies rest
+AreTaken (Ok (Again receipt) ∷ replies) entries = AreTaken replies entries
+AreTaken (Ok (Refused why) ∷ replies) entries = AreTaken replies entries
+AreTaken (Err fault ∷ replies) entries = AreTaken replies entries
+
+-- how many stops there are behind the entries of a shop's list
+abbrev pub stops_in : Option ℕ → ℕ
+stops_in None = 0
+stops_in (Some count) = 1
+
+-- One till's part of a day from this history to that one: the run of its own asks, its records since the start, and how much it
+-- saw at its end: no less than at its last answer, and no more than the history at the end, and the stop behind it.
+pub record TillServed (issuer : List ℕ) (coming : ℕ → Option ℕ) (start end : List Entry) (stopped : Option ℕ)
+    (asks : List Asked) (t : TillTold) : Type 0 where
+  pub last : ℕ
+  pub told : Bool
+  pub run : TillRun issuer coming start end (asks_of t.till asks) t.replies last told
+  pub own : AreTaken t.replies (own_of t.till (drop (length start) end))
+  pub at_least : last ≤ t.saw
+  pub at_most : t.saw ≤ length end + stops_in stopped
+
+-- all that the tills were told
+abbrev pub all_replies : List TillTold → Replies
+all_replies tills = flat_map (λ (t : TillTold). t.replies) tills
+
+-- a stop is told by this count
+abbrev pub TellsStop : ℕ → Result Reply StoreFault → Type 0
+TellsStop count (Ok reply) = Unit {0}
+TellsStop count (Err DiskFault) = Unit {0}
+TellsStop count (Err (Stopped faults)) = faults ≡ count
+TellsStop count (Err NoMemory) = Unit {0}
+
+-- The disk failed, its count of faults having risen to this one. A till was told so, and the stop is told by this count
+pub record StoppedAt (faults faults_after count : ℕ) (replies : Replies) : Type 0 where
+  pub first : Contains replies (Err DiskFault)
+  pub later : AllByRecursion (TellsStop count) replies
+  pub risen : Rose faults count
+  pub within : count ≤ faults_after
+
+-- whether the shop stopped, and at which count; the other counts of faults are those before the day and after it
+abbrev pub StopsShop : ℕ → ℕ → Option ℕ → Replies → Type 0
+StopsShop faults faults_after None replies = AllGoOn replies
+StopsShop faults faults_after (Some count) replies = StoppedAt faults faults_after count replies
+
+-- What a day of these tills alone makes of a store: its parts before the shop's start and after its close, and what each till was
+-- told. No other till has a record since the start.
+pub record DayRun {D C : Type 0} (tells : Bool) (told : D → Told) (faults : D → ℕ) (coming : C → ℕ → Option ℕ)
+    (asks : List Asked) (old new : Parts D C) (tills : List TillTold) : Type 0 where
+  pub sound : IsSound tells told faults coming (root_of told faults old) new
+  pub served : AllByRecursion
+      (TillServed old.state.issuer (coming old.clock) old.state.entries new.state.entries new.stopped asks) tills
+  pub others : (till : ℕ) → AllByRecursion (λ (t : TillTold). t.till ≢ till) tills →
+      own_of till (drop (length old.state.entries) new.state.entries) ≡ []
+  pub stops : StopsShop (faults old.disk) (faults new.disk) new.stopped (all_replies tills)

@@ -1,0 +1,64 @@
+-- What the tills of a day do while their threads run.
+use Rattle.std.specs.Prelude.{◌≡◌, ◌≤◌, ℕ, List, [], length, map, vec_capacity, Option}
+use Rattle.std.specs.List.{AllByRecursion}
+use Rattle.chain_lock.specs.Known.{Known}
+use Rattle.shop_core.specs.Asked.{Asked}
+use Rattle.shop_core.specs.declared.items.Item.{Item}
+use Rattle.till_calls.specs.Root.{Root}
+use Rattle.till_calls.specs.Runs.{TillRun}
+use Rattle.till_calls.specs.Shop.{till_knows, till_number}
+use Rattle.verifactu.specs.Replies.{Replies}
+use Rattle.verifactu.specs.Tills.{TillTold, asks_of}
+use Rattle.verifactu.specs.declared.tills.Job.{Job}
+use Rattle.verifactu.specs.declared.tills.TillDay.{TillDay}
+
+-- what a till was told
+abbrev pub told_in : TillDay → TillTold
+told_in day = record { till = day.till; replies = day.answers.items; saw = day.saw }
+
+-- there is room for the answers to its asks, and none stands there yet
+abbrev pub HasRoom : List Asked → TillDay → Type 0
+HasRoom asks day = (length (asks_of day.till asks) ≤ vec_capacity day.answers) × (day.answers.items ≡ [])
+
+-- the asks of a till and then a look at the count, from what it knew to what it knows
+pub record Works {C : Type 0} (coming : C → ℕ → Option ℕ) (old : Known Item (Root C)) (asks : List Asked) (replies : Replies)
+    (saw : ℕ) (new : Known Item (Root C)) : Type 0 where
+  pub last : Known Item (Root C)
+  pub run : TillRun coming old asks replies last
+  pub at_least : last.least ≤ saw
+  pub new_is : new ≡ record last { least = saw }
+
+-- a job as the day of its till
+abbrev pub day_of : {D C : Type 0} → Job D C → TillDay
+day_of job = record { till = till_number job.till; answers = job.answers; saw = job.saw }
+
+-- what its till knows
+abbrev pub job_knows : {D C : Type 0} → Job D C → Known Item (Root C)
+job_knows job = till_knows job.till
+
+-- a till's part of the day, before it and after it, and what the till knew at first and at its last answer
+pub record Row (C : Type 0) : Type 0 where
+  pub day : TillDay
+  pub done : TillDay
+  pub from : Known Item (Root C)
+  pub last : Known Item (Root C)
+
+-- what it knows once it has looked at the count
+abbrev pub known_after : {C : Type 0} → Row C → Known Item (Root C)
+known_after r = record r.last { least = r.done.saw }
+
+-- the same till did its own asks of these
+pub record Worked {C : Type 0} (coming : C → ℕ → Option ℕ) (asks : List Asked) (r : Row C) : Type 0 where
+  pub till : r.done.till ≡ r.day.till
+  pub run : TillRun coming r.from (asks_of r.done.till asks) r.done.answers.items r.last
+  pub at_least : r.last.least ≤ r.done.saw
+
+-- these tills worked, each from what it knew to what it knows
+pub record Ran {C : Type 0} (coming : C → ℕ → Option ℕ) (asks : List Asked) (days : List TillDay)
+    (old : List (Known Item (Root C))) (done : List TillDay) (new : List (Known Item (Root C))) : Type 0 where
+  pub rows : List (Row C)
+  pub days_are : days ≡ map (λ (r : Row C). r.day) rows
+  pub old_are : old ≡ map (λ (r : Row C). r.from) rows
+  pub done_are : done ≡ map (λ (r : Row C). r.done) rows
+  pub new_are : new ≡ map (λ (r : Row C). known_after r) rows
+  pub worked : AllByRecursion (λ (r : Row C). Worked coming asks r) rows

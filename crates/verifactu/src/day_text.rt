@@ -1,0 +1,117 @@
+// What is printed of a day, and how it ends.
+ghost use Rattle.std.specs.Prelude.{◌≡◌, ◌++◌, ◌∷◌, ℕ, List, map, flat_map, IfOk, OnOk};
+ghost use Rattle.std.specs.List.{list_any};
+ghost use Rattle.ports.specs.Sinks.{OutputIs, Sinks};
+ghost use Rattle.shop_core.specs.Asked.{Asked};
+ghost use Rattle.verifactu.specs.Day as spec;
+ghost use Rattle.verifactu.specs.Ending.{RunEnds};
+ghost use Rattle.verifactu.specs.Printed.{answers};
+ghost use Rattle.verifactu.specs.Replies as reply;
+ghost use Rattle.verifactu.specs.Tills.{all_replies, asks_of};
+ghost use Rattle.verifactu.specs.Works.{told_in};
+
+use crate::ending::{lacks_disk, lacks_memory};
+use crate::printed::Told;
+use crate::tills::TillDay;
+use journal::StoreFault;
+use ports::{Failed, NoMemory};
+use report::{AnswerLine, Answers, Detail, answers_text, listing_text};
+use shop_core::{Ask, Reply, State};
+use std::alloc::Global;
+
+// Adds the answer to this ask, where it is one of the till, and gives the replies behind it.
+fn put_own<'a>(
+    till: u8,
+    ask: &Ask,
+    told: &'a [Result<Reply, StoreFault>],
+    lines: &mut Vec<AnswerLine>,
+) -> Result<&'a [Result<Reply, StoreFault>], NoMemory>
+    ensures { IfOk result (λ rest. (more : List Asked) →
+        lines.new.items ++ answers (asks_of till more) rest.now
+        ≡ lines.old.items ++ answers (asks_of till (ask.now ∷ more)) told.now) }
+{
+    if ask.till != till {
+        return Ok(told);
+    }
+    let [reply, rest @ ..] = told else {
+        return Ok(told);
+    };
+    lines.push(AnswerLine::Answered {
+        till,
+        serial: ask.serial,
+        reply: *reply,
+    })?;
+    Ok(rest)
+}
+
+// Adds the lines of a till.
+fn put_till(asks: &[Ask], day: &TillDay, lines: &mut Vec<AnswerLine>) -> Result<(), NoMemory>
+    ensures { OnOk result (lines.new.items ≡ lines.old.items ++ spec.till_lines asks.now (told_in day.now)) }
+{
+    let mut asked = asks;
+    let mut told = day.answers.as_slice();
+    while let [ask, more @ ..] = asked {
+        told = put_own(day.till, ask, told, lines)?;
+        asked = more;
+    }
+    lines.push(AnswerLine::Saw {
+        till: day.till,
+        count: day.saw,
+    })?;
+    Ok(())
+}
+
+// The lines of all tills, in order.
+fn day_lines(alloc: Global, asks: &[Ask], days: &[TillDay]) -> Result<Answers, NoMemory>
+    ensures { IfOk result (λ lines. lines ≡ flat_map (spec.till_lines asks.now) (map told_in days.now)) }
+{
+    let mut lines = Vec::new(alloc);
+    for day in days {
+        put_till(asks, day, &mut lines)?;
+    }
+    Ok(Answers::of(lines))
+}
+
+/// The text of a day that left this history.
+pub fn told_of_day(
+    alloc: Global,
+    asks: &[Ask],
+    days: &[TillDay],
+    state: &State,
+) -> Result<Told, NoMemory>
+    ensures { IfOk result (λ told.
+        told.answers ++ told.listing ≡ spec.day_text asks.now (map told_in days.now) state.now.entries) }
+{
+    let lines = day_lines(alloc, asks, days)?;
+    let answers = answers_text(alloc, &lines)?;
+    let listing = listing_text(alloc, state)?;
+    Ok(Told { answers, listing })
+}
+
+fn one_lacks_memory(days: &[TillDay]) -> bool
+    ensures { result ≡ list_any (λ d. list_any reply.is_no_memory d.answers.items) days.now }
+{
+    days.iter().any(|day| lacks_memory(&day.answers))
+}
+
+fn one_lacks_disk(days: &[TillDay]) -> bool
+    ensures { result ≡ list_any (λ d. list_any reply.is_disk_fault d.answers.items) days.now }
+{
+    days.iter().any(|day| lacks_disk(&day.answers))
+}
+
+/// The end of a day with these answers, whose text was written or not, in the order of `end_of`.
+pub fn end_of_day(days: &[TillDay], written: Result<(), Failed>) -> Detail
+    ensures { (text : List ℕ) (s : Sinks) → OutputIs s text written → RunEnds (all_replies (map told_in days.now)) text s result }
+{
+    if one_lacks_memory(days) {
+        return Detail::NoMemory;
+    }
+    if one_lacks_disk(days) {
+        return Detail::DiskFault;
+    }
+    match written {
+        Ok(()) => Detail::Done,
+        Err(_) => Detail::WriteFault,
+    }
+}

@@ -1,0 +1,317 @@
+// Drains of files. The expected Huellas are SHA-256, by another program, of the field texts of these records.
+use crate::outside::Outside;
+use crate::tests::{CHAIN, ROW, disk_of, ends, ends_in};
+use agency_port::{
+    Agency, Evidence, PracticeAgency, Reply, ReplyLine, ReplyLines, Seen, SeenList, State3,
+    ToldAgency, ToldAnswer, ToldAnswers,
+};
+use batches::Huellas;
+use chain_disk::MemDisk;
+use chain_store::Store;
+use parties::Nif;
+use ports::{CountingClock, LeapSleeper, OpenGate};
+use recovery::open_store;
+use report::{Detail, Ended};
+use std::alloc::Global;
+use std::sync::Wait;
+use std::test::Fail;
+use std::thread::Threads;
+
+const DRAIN: &str = "drain shop.chain 89890001K";
+
+// 2025-01-02, 07:40 on the peninsular clock.
+const NEXT_DAY: u64 = 1_735_800_000;
+
+const TWO: &str = "clock 1735722000 0\nsale 1 1 A F2 21:10000\nsale 1 2 A F2 21:10000\n";
+
+const THREE: &str =
+    "clock 1735722000 0\nsale 1 1 A F2 21:10000\nsale 1 2 A F2 21:10000\nsale 1 3 A F2 21:10000\n";
+
+fn done() -> Ended {
+    Ended {
+        status: 0,
+        detail: Detail::Done,
+    }
+}
+
+// What a call left.
+#[derive(Drop)]
+struct Left<G> {
+    ended: Ended,
+    text: Vec<u8>,
+    disk: MemDisk,
+    agency: G,
+}
+
+// Runs a script on a disk by `chain`; what was printed, and the disk.
+fn chained(
+    rt: &(impl AllocGlobal + Threads + Wait + Sync),
+    script: &str,
+    disk: MemDisk,
+) -> Result<(Vec<u8>, MemDisk), Fail> {
+    let clock = CountingClock::new(0, 0);
+    let (ended, sink, disk, _) = ends(rt, CHAIN, script.as_bytes(), (0, 0), disk, clock)?;
+    if ended != done() {
+        return Err(Fail::from("a chain that isn't done"));
+    }
+    Ok((Vec::from_slice(rt.alloc(), sink.bytes())?, disk))
+}
+
+// The file of these sales.
+fn file_of(rt: &(impl AllocGlobal + Threads + Wait + Sync), script: &str) -> Result<MemDisk, Fail> {
+    let (_, disk) = chained(rt, script, disk_of(rt.alloc(), &[], 0)?)?;
+    Ok(disk)
+}
+
+// Drains a disk through an agency. The sink fails at the call of this number.
+fn drained_by<G: Agency + Drop>(
+    rt: &(impl AllocGlobal + Threads + Wait + Sync),
+    script: &str,
+    failing: u64,
+    disk: MemDisk,
+    agency: G,
+) -> Result<Left<G>, Fail> {
+    let outside = Outside {
+        disk,
+        clock: CountingClock::new(0, 0),
+        sleeper: LeapSleeper::new(NEXT_DAY),
+        agency,
+    };
+    let (ended, sink, outside) = ends_in(
+        rt,
+        DRAIN,
+        script.as_bytes(),
+        (0, failing),
+        outside,
+        &OpenGate,
+    )?;
+    let text = Vec::from_slice(rt.alloc(), sink.bytes())?;
+    let Outside { disk, agency, .. } = outside;
+    Ok(Left {
+        ended,
+        text,
+        disk,
+        agency,
+    })
+}
+
+// Drains a disk through an agency that has processed nothing.
+fn drained(
+    rt: &(impl AllocGlobal + Threads + Wait + Sync),
+    script: &str,
+    disk: MemDisk,
+) -> Result<Left<PracticeAgency>, Fail> {
+    drained_by(rt, script, 0, disk, PracticeAgency::new(rt.alloc()))
+}
+
+#[test]
+fn what_the_agency_says_stands_in_the_listing(rt: HostRuntime) -> Result<(), Fail> {
+    let sold = format!(in rt.alloc(); "{ROW}cancel 1 2 A-1\n")?;
+    let disk = file_of(&rt, &sold)?;
+    let left = drained(&rt, "vet A-1 1 4100\n", disk)?;
+    assert_eq!(rt; left.ended, done());
+    let (text, _) = chained(&rt, "clock 1735722000 0\ncancel 1 3 A-1\n", left.disk)?;
+    let wanted =
+        "till 1 serial 3 taken 3 A-1 8CF59B7A2657EE397ECE9AFA590D2BB02E20F144853869A3FEF3521947FD4E96\n1 alta A-1 01-01-2025 F2 21.00 121.00 N N D88B42F8D11C4EA2112502EC992F055A7E94F796D67095359B946A4A5B03E616 vet 4100\n2 anulacion A-1 01-01-2025 N N D7E3FEAC06726268788A641ADB7632F969468D128104FD4B798514F066ED78F1 not-held\n3 anulacion A-1 01-01-2025 S N 8CF59B7A2657EE397ECE9AFA590D2BB02E20F144853869A3FEF3521947FD4E96 pending\nchain 3 noted 2\n";
+    assert_eq!(rt; text.as_slice(), wanted.as_bytes());
+    Ok(())
+}
+
+#[test]
+fn a_refused_invoice_is_mended(rt: HostRuntime) -> Result<(), Fail> {
+    let left = drained(&rt, "vet A-1 1 4100\n", file_of(&rt, ROW)?)?;
+    let (text, _) = chained(
+        &rt,
+        "clock 1735722000 0\nfix 1 2 A-1 F2 21:20000\n",
+        left.disk,
+    )?;
+    let wanted =
+        "till 1 serial 2 taken 2 A-1 6BBE34255E45F0DA4A03A0BF763292A3D9538A67864756C8CF4E3C0631B6E185\n1 alta A-1 01-01-2025 F2 21.00 121.00 N N D88B42F8D11C4EA2112502EC992F055A7E94F796D67095359B946A4A5B03E616 vet 4100\n2 alta A-1 01-01-2025 F2 42.00 242.00 S X 6BBE34255E45F0DA4A03A0BF763292A3D9538A67864756C8CF4E3C0631B6E185 pending\nchain 2 noted 1\n";
+    assert_eq!(rt; text.as_slice(), wanted.as_bytes());
+    Ok(())
+}
+
+#[test]
+fn a_refused_mending_is_mended(rt: HostRuntime) -> Result<(), Fail> {
+    let left = drained(&rt, "", file_of(&rt, ROW)?)?;
+    let fix = "clock 1735722000 0\nfix 1 2 A-1 F2 21:20000\n";
+    let (_, disk) = chained(&rt, fix, left.disk)?;
+    let left = drained(&rt, "vet A-1 2 4101\n", disk)?;
+    let fix = "clock 1735722000 0\nfix 1 3 A-1 F2 21:20000\n";
+    let (text, _) = chained(&rt, fix, left.disk)?;
+    let wanted =
+        "till 1 serial 3 taken 3 A-1 1BA6090F6DBA3EF0409DCDBE92EF200E93DE819D273ACABF35D43B1AEDBE0760\n1 alta A-1 01-01-2025 F2 21.00 121.00 N N D88B42F8D11C4EA2112502EC992F055A7E94F796D67095359B946A4A5B03E616 correcto\n2 alta A-1 01-01-2025 F2 42.00 242.00 S N 6BBE34255E45F0DA4A03A0BF763292A3D9538A67864756C8CF4E3C0631B6E185 vet 4101\n3 alta A-1 01-01-2025 F2 42.00 242.00 S S 1BA6090F6DBA3EF0409DCDBE92EF200E93DE819D273ACABF35D43B1AEDBE0760 pending\nchain 3 noted 2\n";
+    assert_eq!(rt; text.as_slice(), wanted.as_bytes());
+    Ok(())
+}
+
+#[test]
+fn a_full_batch_goes_first(rt: HostRuntime) -> Result<(), Fail> {
+    let alloc = rt.alloc();
+    let mut script = String::new(alloc);
+    script.push_str("clock 1735722000 0\n")?;
+    for serial in 1..=1001 {
+        let sale = format!(in alloc; "sale 1 {serial} A F2 21:10000\n")?;
+        script.push_str(&sale)?;
+    }
+    let disk = file_of(&rt, &script)?;
+    let left = drained(&rt, "clock 1735800000 0\n", disk)?;
+    assert_eq!(rt; left.ended, done());
+    assert_eq!(rt;
+        left.text.as_slice(),
+        b"cleared\nnoted 1000\nwait 1735800060\nnoted 1\nchain 1001 noted 1001\n".as_slice()
+    );
+    assert_eq!(rt; left.agency.processed().len(), 1001);
+    let again = drained(&rt, "clock 1735800000 0\n", left.disk)?;
+    assert_eq!(rt; again.ended, done());
+    assert_eq!(rt;
+        again.text.as_slice(),
+        b"chain 1001 noted 1001\n".as_slice()
+    );
+    Ok(())
+}
+
+#[test]
+fn two_records_over_a_bad_link(rt: HostRuntime) -> Result<(), Fail> {
+    let rows = [
+        ("link 2 taken\n", "cleared\nlink\nnoted 2\n"),
+        ("link 2 stale\n", "cleared\nlink\nnoted 2\n"),
+        ("vet A-1 1 4100\nlink 2 stale\n", "cleared\nlink\nnoted 2\n"),
+        (
+            "link 2 late 2\n",
+            "cleared\nlink\ncleared\nwait 1735800060\ndoubt 1\nnoted 2\n",
+        ),
+    ];
+    for (plan, lines) in rows {
+        let script = format!(in rt.alloc(); "clock 1735800000 0\n{plan}")?;
+        let left = drained(&rt, &script, file_of(&rt, TWO)?)?;
+        assert_eq!(rt; left.ended, done(), "at {plan}");
+        let wanted = format!(in rt.alloc(); "{lines}chain 2 noted 2\n")?;
+        assert_eq!(rt; left.text.as_slice(), wanted.as_bytes(), "at {plan}");
+        assert_eq!(rt; left.agency.processed().len(), 2, "at {plan}");
+    }
+    Ok(())
+}
+
+#[test]
+fn three_records_under_each_fate(rt: HostRuntime) -> Result<(), Fail> {
+    let good = "cleared\nnoted 3\n";
+    let late = "link\ncleared\nnoted 3\n";
+    let came = "cleared\nlink\nnoted 3\n";
+    let lost = "cleared\nlink\ncleared\nwait 1735800060\nnoted 3\n";
+    let rows = [
+        ("lost", [late, lost, good]),
+        ("taken", [late, came, good]),
+        ("stale", [late, came, good]),
+        ("again", [good, good, good]),
+        ("late 1", [late, came, good]),
+    ];
+    for (fate, texts) in rows {
+        let mut call = 1;
+        for lines in texts {
+            let script = format!(in rt.alloc(); "clock 1735800000 0\nlink {call} {fate}\n")?;
+            let left = drained(&rt, &script, file_of(&rt, THREE)?)?;
+            assert_eq!(rt; left.ended, done(), "at {script}");
+            let wanted = format!(in rt.alloc(); "{lines}chain 3 noted 3\n")?;
+            assert_eq!(rt; left.text.as_slice(), wanted.as_bytes(), "at {script}");
+            assert_eq!(rt; left.agency.processed().len(), 3, "at {script}");
+            call += 1;
+        }
+    }
+    Ok(())
+}
+
+#[test]
+fn eight_link_faults_end_a_drain(rt: HostRuntime) -> Result<(), Fail> {
+    let script =
+        "clock 1735800000 0\nlink 1 lost\nlink 2 lost\nlink 3 lost\nlink 4 lost\nlink 5 lost\nlink 6 lost\nlink 7 lost\nlink 8 lost\n";
+    let left = drained(&rt, script, file_of(&rt, TWO)?)?;
+    assert_eq!(rt; left.ended.status, 8);
+    assert_eq!(rt;
+        left.ended.detail,
+        Detail::Undelivered {
+            noted: 0,
+            records: 2
+        }
+    );
+    assert_eq!(rt;
+        left.text.as_slice(),
+        b"link\nlink\nlink\nlink\nlink\nlink\nlink\nlink\nchain 2 noted 0\n".as_slice()
+    );
+    Ok(())
+}
+
+// The Huellas of the first two records of the file, which comes back.
+fn two_huellas(alloc: Global, disk: MemDisk) -> Result<(Huellas, MemDisk), Fail> {
+    let Ok(issuer) = Nif::read("89890001K") else {
+        return Err(Fail::from("a tax number"));
+    };
+    let store: Store<MemDisk, CountingClock> = match open_store(
+        alloc,
+        disk,
+        CountingClock::new(0, 0),
+        &issuer,
+    ) {
+        Ok(store) => store,
+        Err(_) => return Err(Fail::from("a file")),
+    };
+    let records = store.state().waiting_records(alloc, 2)?;
+    let huellas = Huellas::of(alloc, &records)?;
+    let (_, disk, _) = store.into_parts();
+    Ok((huellas, disk))
+}
+
+fn none_seen(alloc: Global) -> Result<ToldAnswer, Fail> {
+    let seen = Vec::from_slice(alloc, &[Seen::NotSeen, Seen::NotSeen])?;
+    Ok(ToldAnswer::Consulted(SeenList::of(seen)))
+}
+
+// An agency that says of two records that they came, and then that they didn't.
+fn forgetful(alloc: Global, huellas: Huellas) -> Result<ToldAgency, Fail> {
+    let again = ReplyLine::Duplicado(State3::Correcto);
+    let lines = ReplyLines::of(Vec::from_slice(alloc, &[again, again])?);
+    if lines.as_slice().len() != huellas.as_slice().len() {
+        return Err(Fail::from("two records"));
+    }
+    let mut answers = Vec::new(alloc);
+    answers.push(none_seen(alloc)?)?;
+    answers.push(ToldAnswer::Submitted(Reply::of(huellas, lines, 60)))?;
+    answers.push(none_seen(alloc)?)?;
+    Ok(ToldAgency::new(alloc, ToldAnswers::of(answers)))
+}
+
+#[test]
+fn a_forgotten_record_is_a_contradiction(rt: HostRuntime) -> Result<(), Fail> {
+    let alloc = rt.alloc();
+    let (huellas, disk) = two_huellas(alloc, file_of(&rt, TWO)?)?;
+    let agency = forgetful(alloc, huellas)?;
+    let left = drained_by(&rt, "clock 1735800000 0\n", 0, disk, agency)?;
+    assert_eq!(rt; left.ended.status, 11);
+    assert_eq!(rt;
+        left.ended.detail,
+        Detail::Contradiction(Evidence::Forgotten {
+            place: 1,
+            said: ReplyLine::Duplicado(State3::Correcto)
+        })
+    );
+    assert_eq!(rt;
+        left.text.as_slice(),
+        b"cleared\ndoubt 1\ncontradiction\nchain 2 noted 0\n".as_slice()
+    );
+    Ok(())
+}
+
+#[test]
+fn a_drain_whose_devices_fail(rt: HostRuntime) -> Result<(), Fail> {
+    let alloc = rt.alloc();
+    // The sink fails at once: the lines are noted all the same.
+    let left = drained_by(&rt, "", 1, file_of(&rt, TWO)?, PracticeAgency::new(alloc))?;
+    assert_eq!(rt; left.ended.status, 5);
+    let left = drained(&rt, "", left.disk)?;
+    assert_eq!(rt; left.text.as_slice(), b"chain 2 noted 2\n".as_slice());
+    // A line with a command is no line of a drain.
+    let left = drained(&rt, ROW, left.disk)?;
+    assert_eq!(rt; left.ended.status, 3);
+    assert!(rt; left.text.is_empty());
+    Ok(())
+}

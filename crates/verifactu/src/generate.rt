@@ -1,0 +1,110 @@
+// The command `generate`: runs the generator's commands on a memory disk and prints the summary of the chain.
+ghost use Rattle.std.specs.Prelude.{◌≡◌, ◌≤◌, ℕ, [], None, Some, IfOk, IsTrue, true};
+ghost use Rattle.ports.specs.Counting.{counting};
+ghost use Rattle.ports.specs.Sinks.{this_sink};
+ghost use Rattle.chain_disk.specs.MemDisk.{told_of};
+ghost use Rattle.journal.specs.Journal.{stopped_of};
+ghost use Rattle.chain_store.specs.Store.{Ready, clock_of, journal_of, state_of};
+ghost use Rattle.report.specs.Statuses.{status_of};
+ghost use Rattle.verifactu.specs.Generate.{GenerateEnds, Generated, IsSummary};
+ghost use Rattle.verifactu.specs.Generate as spec;
+ghost use Rattle.verifactu.specs.Replies.{AllReplied};
+ghost use Rattle.verifactu.specs.declared.generate.TheConstants.{START, STEP};
+ghost use Rattle.verifactu.specs.declared.generated.TheConstants.{MOST};
+
+use crate::commands::run_commands;
+use crate::generated::{MOST, commands};
+use chain_disk::MemDisk;
+use chain_store::Store;
+use file_commands::{ended_as, print};
+use journal::{StoreFault, a_file_not_begun_is_no_chain};
+use parties::Nif;
+use ports::{Clock, CountingClock, NoMemory, Sink};
+use record_fields::Text;
+use recovery::open_store;
+use report::{Detail, Ended, summary_text};
+use shop_core::{Reply, State};
+use std::alloc::Global;
+
+/// The first reading of the clock, in seconds since 1970: 01-01-2025, 10:00 on the peninsula.
+pub const START: u64 = 1_735_722_000;
+/// How many seconds each reading is after the one before.
+pub const STEP: u64 = 1;
+
+// The generated chain's issuer.
+fn issuer() -> Nif
+    ensures { result ≡ spec.issuer }
+{
+    match Nif::read("89890001K") {
+        Ok(nif) => nif,
+        Err(_) => unreachable!(),
+    }
+}
+
+// The store of an empty memory disk, which nothing but want of memory keeps from being begun.
+fn begun(alloc: Global) -> Result<Store<MemDisk, CountingClock>, NoMemory>
+    ensures ready { IfOk result (λ store. Ready true told_of store) }
+    ensures going_on { IfOk result (λ store. stopped_of (journal_of store) ≡ None) }
+    ensures issuer { IfOk result (λ store. (state_of store).issuer ≡ spec.issuer) }
+    ensures empty { IfOk result (λ store. (state_of store).entries ≡ []) }
+    ensures clock { IfOk result (λ store. (k : ℕ) →
+        ⟦<CountingClock as Clock>⟧.coming (clock_of store) k ≡ Some (counting START STEP k)) }
+{
+    a_file_not_begun_is_no_chain();
+    let disk = MemDisk::new(alloc, Vec::new(alloc), Vec::new(alloc));
+    let clock = CountingClock::new(START, STEP);
+    match open_store(alloc, disk, clock, &issuer()) {
+        Ok(store) => Ok(store),
+        Err(_) => Err(NoMemory),
+    }
+}
+
+fn all_replied(replies: &[Result<Reply, StoreFault>]) -> bool
+    ensures { IsTrue result → AllReplied replies.now }
+{
+    replies.iter().all(|reply| reply.is_ok())
+}
+
+// The history after the first n commands. A memory disk fails for want of memory alone.
+fn generated(alloc: Global, n: u32) -> Result<State, NoMemory>
+    requires { n ≤ MOST }
+    ensures { IfOk result (λ state. Generated n state.entries) }
+{
+    let asks = commands(alloc, n)?;
+    let mut replies = Vec::new(alloc);
+    replies.reserve(asks.len())?;
+    let mut store = begun(alloc)?;
+    run_commands(alloc, &mut store, &asks, &mut replies);
+    if !all_replied(&replies) {
+        return Err(NoMemory);
+    }
+    let (state, _, _) = store.into_parts();
+    Ok(state)
+}
+
+fn summary(alloc: Global, n: u32) -> Result<Text, NoMemory>
+    requires { n ≤ MOST }
+    ensures { IfOk result (λ text. IsSummary n text) }
+{
+    let state = generated(alloc, n)?;
+    summary_text(alloc, &state)
+}
+
+fn generate<K: Sink>(alloc: Global, n: u32, sink: &mut K) -> Detail
+    requires { n ≤ MOST }
+    ensures { GenerateEnds n (this_sink K.taken K.faults sink.old sink.new) result }
+{
+    match summary(alloc, n) {
+        Ok(text) => print(text.as_slice(), Detail::Done, sink),
+        Err(_) => Detail::NoMemory,
+    }
+}
+
+/// Runs the first n commands of the generator from the empty history on a memory disk, and prints the summary of the chain.
+pub fn generate_cmd<K: Sink>(alloc: Global, n: u32, sink: &mut K) -> Ended
+    requires { n ≤ MOST }
+    ensures status { result.status ≡ status_of result.detail }
+    ensures ends { GenerateEnds n (this_sink K.taken K.faults sink.old sink.new) result.detail }
+{
+    ended_as(generate(alloc, n, sink))
+}
