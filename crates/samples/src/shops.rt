@@ -71,119 +71,185 @@ fn flags(alloc: Global, state: &State, place: u32) -> Result<(bool, Previo), Fai
     }
 }
 
+// The answer to a sale of 100 euros is this one.
+fn sells(
+    alloc: Global,
+    state: &mut State,
+    serial: u32,
+    at: u64,
+    wanted: &Reply,
+) -> Result<bool, Fail> {
+    Ok(sell(alloc, state, serial, at)? == *wanted)
+}
+
+// The request is taken.
+fn take(alloc: Global, state: &mut State, serial: u32, request: Request) -> Result<(), Fail> {
+    taken(ask(alloc, state, serial, request, TEN)?)?;
+    Ok(())
+}
+
+// The request is refused with this reason.
+fn refuses(
+    alloc: Global,
+    state: &mut State,
+    serial: u32,
+    request: Request,
+    wanted: Refusal,
+) -> Result<bool, Fail> {
+    Ok(ask(alloc, state, serial, request, TEN)? == Reply::Refused(wanted))
+}
+
 #[test]
-fn serials_and_moments(rt: HostRuntime) -> Result<(), Fail> {
+fn a_serial_is_used_once(rt: HostRuntime) -> Result<(), Fail> {
     let alloc = rt.alloc();
     let mut state = empty(alloc)?;
     let first = taken(sell(alloc, &mut state, 1, TEN)?)?;
-    let known = Reply::Again(first);
-    let moment = first.moment;
     assert_eq!(rt; (first.place, first.id.num), (1, number("A-1")?));
-    let held = state.held();
-    assert_eq!(rt; (held.pages, held.bytes), (1, 73));
-    assert_eq!(rt; sell(alloc, &mut state, 1, TEN)?, known);
+    assert!(rt; sells(alloc, &mut state, 1, TEN, &Reply::Again(first))?);
     let second = taken(sell(alloc, &mut state, 5, TEN - 10)?)?;
     assert_eq!(rt; (second.place, second.id.num), (2, number("A-2")?));
-    assert_eq!(rt; second.moment, moment);
+    assert_eq!(rt; second.moment, first.moment);
     let passed = Reply::Refused(Refusal::Passed { last: 5 });
-    assert_eq!(rt; sell(alloc, &mut state, 3, TEN)?, passed);
+    assert!(rt; sells(alloc, &mut state, 3, TEN, &passed)?);
+    Ok(())
+}
+
+#[test]
+fn a_refusal_leaves_the_state_as_it_was(rt: HostRuntime) -> Result<(), Fail> {
+    let alloc = rt.alloc();
+    let mut state = empty(alloc)?;
     let early = Reply::Refused(Refusal::ClockRange { now: 1_704_067_199 });
-    assert_eq!(rt; sell(alloc, &mut state, 6, 1_704_067_199)?, early);
+    assert!(rt; sells(alloc, &mut state, 1, 1_704_067_199, &early)?);
     let over = sale(draft(alloc, Kind::F2, 300_001)?)?;
     let total = Cents::new(363_001).ok_or("a total")?;
-    let bad = Reply::Refused(Refusal::BadDraft(DraftFault::OverSimplified { total }));
-    assert_eq!(rt; ask(alloc, &mut state, 6, over, TEN)?, bad);
+    let bad = Refusal::BadDraft(DraftFault::OverSimplified { total });
+    assert!(rt; refuses(alloc, &mut state, 1, over, bad)?);
     assert_eq!(rt;
         (state.records(), state.noted(), state.entries()),
-        (2, 0, 2)
+        (0, 0, 0)
     );
-    assert!(rt; state.entry(alloc, 1)?.is_some() && state.entry(alloc, 2)?.is_none());
     Ok(())
 }
 
 #[test]
-fn references_of_an_f3(rt: HostRuntime) -> Result<(), Fail> {
+fn the_first_sale_takes_one_page_and_73_bytes(rt: HostRuntime) -> Result<(), Fail> {
     let alloc = rt.alloc();
     let mut state = empty(alloc)?;
-    let nif = nif("B12345674")?;
-    for (serial, kind, other, wanted) in [
-        (1, Kind::F1, "A-1", None),
-        (2, Kind::F3, "A-1", Some(0)),
-        (3, Kind::F2, "A-1", None),
-        (4, Kind::F3, "A-2", None),
-    ] {
-        let mut invoice = draft(alloc, kind, 10_000)?;
-        if kind != Kind::F2 {
-            let Ok(name) = Name::read(alloc, "Bar Sol") else {
-                return Err(Fail::from("a name"));
-            };
-            invoice.customer = Some(Party { nif, name });
-        }
-        if kind == Kind::F3 {
-            let mut ids = Vec::new(alloc);
-            ids.push(id(other, "01-01-2025")?)?;
-            invoice.refs = Refs::of(ids);
-        }
-        let reply = ask(alloc, &mut state, serial, sale(invoice)?, TEN)?;
-        match wanted {
-            None => {
-                taken(reply)?;
-            }
-            Some(index) => {
-                assert_eq!(rt; reply, Reply::Refused(Refusal::RefNotSimplified { index }));
-            }
-        }
-    }
-    Ok(())
-}
-
-#[test]
-fn flags_follow_the_standing(rt: HostRuntime) -> Result<(), Fail> {
-    let alloc = rt.alloc();
-    let num = number("A-1")?;
-    let euros = || sale(draft(alloc, Kind::F2, 10_000)?);
-    let fix = || {
-        let draft = draft(alloc, Kind::F2, 20_000)?;
-        Ok::<Request, Fail>(Request::Fix { num, draft })
-    };
-
-    // The alta is refused while a cancellation waits, which then finds nothing: the next one says so.
-    let mut state = empty(alloc)?;
+    taken(sell(alloc, &mut state, 1, TEN)?)?;
+    let held = state.held();
+    assert_eq!(rt; (held.pages, held.bytes), (1, 73));
     assert_eq!(rt;
-        ask(alloc, &mut state, 1, fix()?, TEN)?,
-        Reply::Refused(Refusal::Unknown)
+        (state.records(), state.noted(), state.entries()),
+        (1, 0, 1)
     );
-    taken(ask(alloc, &mut state, 1, euros()?, TEN)?)?;
-    taken(ask(alloc, &mut state, 2, Request::Cancel { num }, TEN)?)?;
+    assert!(rt; state.entry(alloc, 0)?.is_some() && state.entry(alloc, 1)?.is_none());
+    Ok(())
+}
+
+// An invoice of this kind to a named customer, in place of the other invoice where it is an F3.
+fn invoice(alloc: Global, kind: Kind, other: &str) -> Result<Request, Fail> {
+    let mut invoice = draft(alloc, kind, 10_000)?;
+    if kind != Kind::F2 {
+        let name = Name::read(alloc, "Bar Sol").ok().ok_or("a name")?;
+        let nif = nif("B12345674")?;
+        invoice.customer = Some(Party { nif, name });
+    }
+    if kind == Kind::F3 {
+        let ids = [id(other, "01-01-2025")?];
+        invoice.refs = Refs::of(ids.to_vec(alloc)?);
+    }
+    sale(invoice)
+}
+
+#[test]
+fn an_f3_names_simplified_invoices(rt: HostRuntime) -> Result<(), Fail> {
+    let alloc = rt.alloc();
+    let mut state = empty(alloc)?;
+    let not_simplified = Refusal::RefNotSimplified { index: 0 };
+    take(alloc, &mut state, 1, invoice(alloc, Kind::F1, "")?)?;
+    let of_an_f1 = invoice(alloc, Kind::F3, "A-1")?;
+    assert!(rt; refuses(alloc, &mut state, 2, of_an_f1, not_simplified)?);
+    take(alloc, &mut state, 3, invoice(alloc, Kind::F2, "")?)?;
+    take(alloc, &mut state, 4, invoice(alloc, Kind::F3, "A-2")?)?;
+    Ok(())
+}
+
+// A sale of 100 euros, and a fix of it to 200.
+fn euros(alloc: Global) -> Result<Request, Fail> {
+    sale(draft(alloc, Kind::F2, 10_000)?)
+}
+
+fn fix(alloc: Global) -> Result<Request, Fail> {
+    let num = number("A-1")?;
+    let draft = draft(alloc, Kind::F2, 20_000)?;
+    Ok(Request::Fix { num, draft })
+}
+
+fn cancel() -> Result<Request, Fail> {
+    let num = number("A-1")?;
+    Ok(Request::Cancel { num })
+}
+
+// One sale, and what the agency said of it.
+fn one_sale(alloc: Global, line: Line) -> Result<State, Fail> {
+    let mut state = empty(alloc)?;
+    take(alloc, &mut state, 1, euros(alloc)?)?;
+    note(alloc, &mut state, 0, line)?;
+    Ok(state)
+}
+
+#[test]
+fn an_unknown_or_cancelled_invoice_is_not_fixed(rt: HostRuntime) -> Result<(), Fail> {
+    let alloc = rt.alloc();
+    let mut state = empty(alloc)?;
+    assert!(rt; refuses(alloc, &mut state, 1, fix(alloc)?, Refusal::Unknown)?);
+    take(alloc, &mut state, 1, euros(alloc)?)?;
+    take(alloc, &mut state, 2, cancel()?)?;
     assert_eq!(rt; flags(alloc, &state, 2)?, (false, Previo::N));
-    let cancelled = Reply::Refused(Refusal::Cancelled { place: 2 });
-    assert_eq!(rt; ask(alloc, &mut state, 3, fix()?, TEN)?, cancelled);
+    let cancelled = Refusal::Cancelled { place: 2 };
+    assert!(rt; refuses(alloc, &mut state, 3, fix(alloc)?, cancelled)?);
+    Ok(())
+}
+
+// The alta is refused while a cancellation waits, which then finds nothing: the next one says so.
+#[test]
+fn a_cancellation_that_found_nothing_is_sent_again(rt: HostRuntime) -> Result<(), Fail> {
+    let alloc = rt.alloc();
+    let refused = Line::Incorrecto(Cause::Vet(4100));
+    let mut state = empty(alloc)?;
+    take(alloc, &mut state, 1, euros(alloc)?)?;
+    take(alloc, &mut state, 2, cancel()?)?;
     assert_eq!(rt;
         note(alloc, &mut state, 1, Line::Correcto)?,
         Some(Break::Notes)
     );
-    note(alloc, &mut state, 0, Line::Incorrecto(Cause::Vet(4100)))?;
+    note(alloc, &mut state, 0, refused)?;
     note(alloc, &mut state, 1, Line::Incorrecto(Cause::NotHeld))?;
-    taken(ask(alloc, &mut state, 3, Request::Cancel { num }, TEN)?)?;
+    take(alloc, &mut state, 3, cancel()?)?;
     assert_eq!(rt; flags(alloc, &state, 3)?, (true, Previo::N));
-    assert_eq!(rt; state.line(1), Some(Line::Incorrecto(Cause::Vet(4100))));
-    assert_eq!(rt; state.line(3), None);
+    assert_eq!(rt; (state.line(1), state.line(3)), (Some(refused), None));
+    Ok(())
+}
 
-    // A refused alta is sent again as one that doesn't stand there.
-    let mut state = empty(alloc)?;
-    taken(ask(alloc, &mut state, 1, euros()?, TEN)?)?;
-    note(alloc, &mut state, 0, Line::Incorrecto(Cause::Vet(4100)))?;
-    taken(ask(alloc, &mut state, 2, fix()?, TEN)?)?;
+#[test]
+fn a_refused_alta_is_sent_again_as_one_that_does_not_stand_there(
+    rt: HostRuntime,
+) -> Result<(), Fail> {
+    let alloc = rt.alloc();
+    let mut state = one_sale(alloc, Line::Incorrecto(Cause::Vet(4100)))?;
+    take(alloc, &mut state, 2, fix(alloc)?)?;
     assert_eq!(rt; flags(alloc, &state, 2)?, (true, Previo::X));
+    Ok(())
+}
 
-    // An accepted one is mended, and mended again once the first mending is refused.
-    let mut state = empty(alloc)?;
-    taken(ask(alloc, &mut state, 1, euros()?, TEN)?)?;
-    note(alloc, &mut state, 0, Line::Correcto)?;
-    taken(ask(alloc, &mut state, 2, fix()?, TEN)?)?;
+#[test]
+fn an_accepted_alta_is_mended_and_mended_again(rt: HostRuntime) -> Result<(), Fail> {
+    let alloc = rt.alloc();
+    let mut state = one_sale(alloc, Line::Correcto)?;
+    take(alloc, &mut state, 2, fix(alloc)?)?;
     assert_eq!(rt; flags(alloc, &state, 2)?, (true, Previo::N));
     note(alloc, &mut state, 1, Line::Incorrecto(Cause::Vet(4101)))?;
-    taken(ask(alloc, &mut state, 3, fix()?, TEN)?)?;
+    take(alloc, &mut state, 3, fix(alloc)?)?;
     assert_eq!(rt; flags(alloc, &state, 3)?, (true, Previo::S));
     Ok(())
 }
