@@ -1,7 +1,7 @@
 use crate::records::{batch, chain, number};
 use agency_port::{
-    Agency, Evidence, Message, PracticeAgency, Reply, ReplyLine, ReplyLines, Seen, SeenList,
-    State3, Told, ToldAgency, ToldAnswer, ToldAnswers, Turns,
+    Agency, Message, PracticeAgency, Reply, ReplyLine, ReplyLines, Seen, SeenList, Told,
+    ToldAgency, ToldAnswer, ToldAnswers, Turns,
 };
 use agency_rules::{Fate, Fates, Plan, PlannedFate, PlannedVerdict, Verdict, Verdicts};
 use batches::{Batch, Huellas};
@@ -306,11 +306,6 @@ fn turns_are_told(rt: HostRuntime) -> Result<(), Fail> {
     assert_eq!(rt;
         turns.as_slice(),
         [Told::Cleared, Told::Noted(2)].as_slice()
-    );
-    let said = ReplyLine::Duplicado(State3::ConErrores);
-    assert_ne!(rt;
-        Evidence::Forgotten { place: 1, said },
-        Evidence::Hole { unseen: 1, seen: 2 }
     );
     Ok(())
 }

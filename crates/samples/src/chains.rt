@@ -1,6 +1,15 @@
-use crate::records::chain;
+use crate::records::{chain, digest};
 use batches::{Batch, Batches, Huellas, are_linked};
+use record_fields::Sealed;
 use std::test::Fail;
+
+// The first and the last of these are the records with these numbers.
+fn run_from(records: &[Sealed], first: u32, last: u32) -> bool {
+    match (records.first(), records.last()) {
+        (Some(one), Some(other)) => { one.huella == digest(first) && other.huella == digest(last) }
+        _ => false,
+    }
+}
 
 #[test]
 fn batches_are_cut(rt: HostRuntime) -> Result<(), Fail> {
@@ -11,6 +20,7 @@ fn batches_are_cut(rt: HostRuntime) -> Result<(), Fail> {
         return Err(Fail::from("a batch"));
     };
     assert_eq!(rt; batch.as_slice().len(), 1000);
+    assert!(rt; run_from(batch.as_slice(), 1, 1000));
     assert_eq!(rt; records.len(), 1001);
     let rest = &records[1000..];
     assert!(rt; are_linked(rest));
@@ -18,6 +28,7 @@ fn batches_are_cut(rt: HostRuntime) -> Result<(), Fail> {
         return Err(Fail::from("a batch"));
     };
     assert_eq!(rt; last.as_slice().len(), 1);
+    assert!(rt; run_from(last.as_slice(), 1001, 1001));
     let none = Vec::new(alloc);
     assert!(rt; are_linked(&none));
     assert!(rt; matches!(Batch::cut(alloc, &none), Ok(None)));

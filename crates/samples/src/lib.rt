@@ -13,8 +13,12 @@ mod huellas;
 #[cfg(test)]
 mod judgements;
 #[cfg(test)]
+mod plain;
+#[cfg(test)]
 mod records;
 #[cfg(test)]
 mod replies;
 #[cfg(test)]
 mod shops;
+#[cfg(test)]
+mod walks;

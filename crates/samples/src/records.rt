@@ -1,4 +1,6 @@
 // The values that the tests share.
+ghost use Rattle.std.specs.Prelude.{◌≡◌, [], IfOk};
+
 use amounts::Cents;
 use batches::{Batch, are_linked};
 use invoice_kinds::Kind;
@@ -45,7 +47,9 @@ pub fn breakdown(alloc: Global, lines: &[TaxLine]) -> Result<Breakdown, Fail> {
 }
 
 /// A draft of these lines, without customer and references.
-pub fn draft_of(alloc: Global, kind: Kind, lines: &[TaxLine]) -> Result<Draft, Fail> {
+pub fn draft_of(alloc: Global, kind: Kind, lines: &[TaxLine]) -> Result<Draft, Fail>
+    ensures { IfOk result (λ draft. draft.refs ≡ []) }
+{
     Ok(Draft {
         kind,
         rect: None,
@@ -56,7 +60,9 @@ pub fn draft_of(alloc: Global, kind: Kind, lines: &[TaxLine]) -> Result<Draft, F
 }
 
 /// A draft of one line at the general rate.
-pub fn draft(alloc: Global, kind: Kind, base: i64) -> Result<Draft, Fail> {
+pub fn draft(alloc: Global, kind: Kind, base: i64) -> Result<Draft, Fail>
+    ensures { IfOk result (λ draft. draft.refs ≡ []) }
+{
     draft_of(alloc, kind, &[line(LineKey::General, base)?])
 }
 
@@ -93,8 +99,8 @@ pub fn after(sealed: &Sealed) -> Link {
     }
 }
 
-// The digest of the n-th record of a chain, given by hand.
-fn digest(n: u32) -> [u8; 32] {
+/// The digest of the n-th record of a chain, given by hand.
+pub fn digest(n: u32) -> [u8; 32] {
     let mut huella = [0; 32];
     huella[0] = (n / 256 % 256) as u8;
     huella[1] = (n % 256) as u8;

@@ -71,6 +71,10 @@ fn flags(alloc: Global, state: &State, place: u32) -> Result<(bool, Previo), Fai
     }
 }
 
+fn is_reply(reply: Reply, wanted: &Reply) -> bool {
+    reply == *wanted
+}
+
 // The answer to a sale of 100 euros is this one.
 fn sells(
     alloc: Global,
@@ -79,13 +83,25 @@ fn sells(
     at: u64,
     wanted: &Reply,
 ) -> Result<bool, Fail> {
-    Ok(sell(alloc, state, serial, at)? == *wanted)
+    match sell(alloc, state, serial, at) {
+        Ok(reply) => Ok(is_reply(reply, wanted)),
+        Err(why) => Err(why),
+    }
+}
+
+fn is_taken(reply: Reply) -> Result<(), Fail> {
+    match reply {
+        Reply::Taken(_) => Ok(()),
+        _ => Err(Fail::from("not taken")),
+    }
 }
 
 // The request is taken.
 fn take(alloc: Global, state: &mut State, serial: u32, request: Request) -> Result<(), Fail> {
-    taken(ask(alloc, state, serial, request, TEN)?)?;
-    Ok(())
+    match ask(alloc, state, serial, request, TEN) {
+        Ok(reply) => is_taken(reply),
+        Err(why) => Err(why),
+    }
 }
 
 // The request is refused with this reason.
@@ -96,7 +112,10 @@ fn refuses(
     request: Request,
     wanted: Refusal,
 ) -> Result<bool, Fail> {
-    Ok(ask(alloc, state, serial, request, TEN)? == Reply::Refused(wanted))
+    match ask(alloc, state, serial, request, TEN) {
+        Ok(reply) => Ok(is_reply(reply, &Reply::Refused(wanted))),
+        Err(why) => Err(why),
+    }
 }
 
 #[test]
