@@ -89,17 +89,18 @@ fn sells(
     }
 }
 
-fn is_taken(reply: Reply) -> Result<(), Fail> {
-    match reply {
-        Reply::Taken(_) => Ok(()),
-        _ => Err(Fail::from("not taken")),
+// The receipt of a sale of 100 euros, which is taken.
+fn sold(alloc: Global, state: &mut State, serial: u32, at: u64) -> Result<Receipt, Fail> {
+    match sell(alloc, state, serial, at) {
+        Ok(reply) => taken(reply),
+        Err(why) => Err(why),
     }
 }
 
-// The request is taken.
-fn take(alloc: Global, state: &mut State, serial: u32, request: Request) -> Result<(), Fail> {
+// The receipt of a request, which is taken.
+fn take(alloc: Global, state: &mut State, serial: u32, request: Request) -> Result<Receipt, Fail> {
     match ask(alloc, state, serial, request, TEN) {
-        Ok(reply) => is_taken(reply),
+        Ok(reply) => taken(reply),
         Err(why) => Err(why),
     }
 }
@@ -122,12 +123,15 @@ fn refuses(
 fn a_serial_is_used_once(rt: HostRuntime) -> Result<(), Fail> {
     let alloc = rt.alloc();
     let mut state = empty(alloc)?;
-    let first = taken(sell(alloc, &mut state, 1, TEN)?)?;
-    assert_eq!(rt; (first.place, first.id.num), (1, number("A-1")?));
-    assert!(rt; sells(alloc, &mut state, 1, TEN, &Reply::Again(first))?);
-    let second = taken(sell(alloc, &mut state, 5, TEN - 10)?)?;
-    assert_eq!(rt; (second.place, second.id.num), (2, number("A-2")?));
-    assert_eq!(rt; second.moment, first.moment);
+    let first = sold(alloc, &mut state, 1, TEN)?;
+    let moment = first.moment;
+    assert!(rt; first.place == 1 && first.id.num == number("A-1")?);
+    let again = Reply::Again(first);
+    assert!(rt; sells(alloc, &mut state, 1, TEN, &again)?);
+    let second = sold(alloc, &mut state, 5, TEN - 10)?;
+    let later = second.moment;
+    assert!(rt; second.place == 2 && second.id.num == number("A-2")?);
+    assert!(rt; later == moment);
     let passed = Reply::Refused(Refusal::Passed { last: 5 });
     assert!(rt; sells(alloc, &mut state, 3, TEN, &passed)?);
     Ok(())
@@ -154,7 +158,7 @@ fn a_refusal_leaves_the_state_as_it_was(rt: HostRuntime) -> Result<(), Fail> {
 fn the_first_sale_takes_one_page_and_73_bytes(rt: HostRuntime) -> Result<(), Fail> {
     let alloc = rt.alloc();
     let mut state = empty(alloc)?;
-    taken(sell(alloc, &mut state, 1, TEN)?)?;
+    sold(alloc, &mut state, 1, TEN)?;
     let held = state.held();
     assert_eq!(rt; (held.pages, held.bytes), (1, 73));
     assert_eq!(rt;
