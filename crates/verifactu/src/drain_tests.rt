@@ -207,7 +207,7 @@ fn three_records_under_each_fate(rt: HostRuntime) -> Result<(), Fail> {
         ("late 1", [late, came, good]),
     ];
     for (fate, texts) in rows {
-        let mut call = 1;
+        let mut call = 1u32;
         for lines in texts {
             let script = format!(in rt.alloc(); "clock 1735800000 0\nlink {call} {fate}\n")?;
             let left = drained(&rt, &script, file_of(&rt, THREE)?)?;
@@ -215,7 +215,7 @@ fn three_records_under_each_fate(rt: HostRuntime) -> Result<(), Fail> {
             let wanted = format!(in rt.alloc(); "{lines}chain 3 noted 3\n")?;
             assert_eq!(rt; left.text.as_slice(), wanted.as_bytes(), "at {script}");
             assert_eq!(rt; left.agency.processed().len(), 3, "at {script}");
-            call += 1;
+            call = call.saturating_add(1);
         }
     }
     Ok(())
