@@ -2,6 +2,7 @@
 //! prints the answers and the chain.
 #![tactic(auto)]
 
+mod beside;
 mod chain;
 mod commands;
 mod day;
@@ -26,6 +27,10 @@ mod outside;
 mod printed;
 mod run;
 mod scripts;
+mod sending;
+mod sent;
+mod serving;
+mod session;
 #[cfg(test)]
 mod tests;
 mod till_days;
