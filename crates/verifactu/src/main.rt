@@ -3,6 +3,8 @@
 #![tactic(auto)]
 
 mod beside;
+#[cfg(test)]
+mod beside_tests;
 mod chain;
 mod commands;
 mod day;
