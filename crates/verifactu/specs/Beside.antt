@@ -21,6 +21,9 @@ use Rattle.sender.specs.Dark.{AreRunsBy}
 use Rattle.sender.specs.Lines.{SaysCalls}
 use Rattle.sender.specs.Sending.{Sending}
 use Rattle.sender.specs.Turning.{Desk, Kind}
+use Rattle.sender.specs.declared.answers.Turn.{Turn}
+use Rattle.sender.specs.declared.answers.SendFault.{SendFault}
+use Rattle.sender.specs.declared.answers.SendFault.TheVariants as send
 use Rattle.sender.specs.declared.answers.DrainFault.{DrainFault}
 use Rattle.sender.specs.declared.answers.DrainFault.TheVariants as drain
 use Rattle.sender.specs.declared.draining.TheConstants.{MAX_LINK_FAULTS}
@@ -36,6 +39,14 @@ pub record EndsStopped (items : List Item) : Type 0 where
   pub faults : ℕ
   pub torn : Entry
   pub is : items ≡ front ++ item.Stop faults torn ∷ []
+
+-- how the turns of a sender end at a turn with this answer: a fault of the link is passed over
+abbrev pub sending_end : Result Turn SendFault → Result (Unit {0}) DrainFault
+sending_end (Ok turn) = Ok tt
+sending_end (Err send.LinkFault) = Ok tt
+sending_end (Err (send.Contradiction evidence)) = Err (drain.Contradiction evidence)
+sending_end (Err (send.Store fault)) = Err (drain.Store fault)
+sending_end (Err send.NoMemory) = Err drain.NoMemory
 
 -- it is undelivered only where lines are missing and the agency failed eight times
 abbrev pub FailsEightTimes : Desk → Desk → Result (Unit {0}) DrainFault → Type 0

@@ -24,7 +24,7 @@ use Rattle.report.specs.declared.answers.AnswerLine.{AnswerLine}
 use Rattle.report.specs.declared.answers.AnswerLine.TheVariants.{Saw}
 use Rattle.report.specs.declared.ended.Detail.{Detail}
 use Rattle.report.specs.declared.ended.Detail.TheVariants as detail
-use Rattle.till_calls.specs.Root.{Parts}
+use Rattle.till_calls.specs.Root.{Parts, root_of}
 use Rattle.verifactu.specs.Beside.{DayRunEnds, DaySession, DaySpan, IsUnbegun, KeptDay, SendsBeside, StaysAgreed}
 use Rattle.verifactu.specs.Crashes.{IsPrefix, Kept, StandsSince}
 use Rattle.verifactu.specs.Devices.{Agencies, AllDevices, Clocks, LeftClock, LeftSleeper, NobodyCalled, Sleepers, Untouched}
@@ -143,7 +143,7 @@ pub record ShopRan {D C : Type 0} (h : StoreKind D C) (asks : List Asked) (kind 
   pub disk : disk_after ≡ new.disk
   pub clock : clock_after ≡ new.clock
   pub tills_are : map (λ (t : TillTold). t.till) tills ≡ tills_of asks
-  pub run : DayRun h.tells h.told h.faults h.coming asks old new tills answer
+  pub run : DayRun h.tells h.told h.faults h.coming asks (root_of h.told h.faults old) new tills answer
   pub sends : SendsBeside (record {
     start = old.state.entries;
     end = new.state.entries;

@@ -15,7 +15,7 @@ use Rattle.shop_core.specs.Asked.{Asked}
 use Rattle.shop_core.specs.Runs.{IsTakenAt, Tells}
 use Rattle.shop_core.specs.declared.answers.Reply.{Reply}
 use Rattle.shop_core.specs.declared.answers.Reply.TheVariants.{Taken, Again, Refused}
-use Rattle.till_calls.specs.Root.{Parts, root_of}
+use Rattle.till_calls.specs.Root.{Parts, Root}
 use Rattle.till_calls.specs.Sound.{IsSound}
 use Rattle.sender.specs.declared.answers.DrainFault.{DrainFault}
 use Rattle.verifactu.specs.Crashes.{IsPrefix}
@@ -124,13 +124,14 @@ abbrev pub StopsShop : ℕ → ℕ → Option ℕ → Replies → Result (Unit {
 StopsShop faults faults_after None replies answer = AllGoOn replies × (IsDiskAnswer answer → ⊥)
 StopsShop faults faults_after (Some count) replies answer = StoppedAt faults faults_after count replies answer
 
--- What a day of these tills and of a sender makes of a store: its parts before the shop's start and after its close, what each till
--- was told, and how the sending ended. No other till has a record since the start.
+-- What a day of these tills and of a sender makes of a shop: how the shop was at its start, the parts of its store after its close,
+-- what each till was told, and how the sending ended. No other till has a record since the start.
 pub record DayRun {D C : Type 0} (tells : Bool) (told : D → Told) (faults : D → ℕ) (coming : C → ℕ → Option ℕ)
-    (asks : List Asked) (old new : Parts D C) (tills : List TillTold) (answer : Result (Unit {0}) DrainFault) : Type 0 where
-  pub sound : IsSound tells told faults coming (root_of told faults old) new
+    (asks : List Asked) (root : Root C) (new : Parts D C) (tills : List TillTold) (answer : Result (Unit {0}) DrainFault) :
+    Type 0 where
+  pub sound : IsSound tells told faults coming root new
   pub served : AllByRecursion
-      (TillServed old.state.issuer (coming old.clock) old.state.entries new.state.entries new.stopped asks) tills
+      (TillServed root.issuer (coming root.clock) root.history new.state.entries new.stopped asks) tills
   pub others : (till : ℕ) → AllByRecursion (λ (t : TillTold). t.till ≢ till) tills →
-      own_of till (drop (length old.state.entries) new.state.entries) ≡ []
-  pub stops : StopsShop (faults old.disk) (faults new.disk) new.stopped (all_replies tills) answer
+      own_of till (drop (length root.history) new.state.entries) ≡ []
+  pub stops : StopsShop root.faults (faults new.disk) new.stopped (all_replies tills) answer

@@ -1,5 +1,25 @@
 // The command `day`: reads a script, opens the file, begins the agency's session, runs the script's tills beside each other on the
 // history that the file holds with a sender beside them, drains, and prints what each till was told and the chain.
+ghost use Rattle.std.specs.Prelude.{◌≡◌, IsTrue, None, map, All, length};
+ghost use Rattle.ports.specs.Sinks.{this_sink};
+ghost use Rattle.ports.specs.Sources.{this_source};
+ghost use Rattle.chain_disk.specs.Disks.{this_disk};
+ghost use Rattle.chain_disk.specs.Told.{IsImage};
+ghost use Rattle.journal.specs.Journal.{stopped_of};
+ghost use Rattle.chain_store.specs.Store.{Ready, journal_of};
+ghost use Rattle.report.specs.Statuses.{status_of};
+ghost use Rattle.report.specs.declared.ended.Detail.TheVariants as detail;
+ghost use Rattle.shop_core.specs.History.{recs, noted};
+ghost use Rattle.till_calls.specs.Root.{parts_of};
+ghost use Rattle.till_calls.specs.Sound.{IsLater};
+ghost use Rattle.verifactu.specs.Beside.{DayRunEnds};
+ghost use Rattle.verifactu.specs.Day.{DayEnds, LeftTime, StoreDayEnds, StoreServed, TillsEnd, day_text};
+ghost use Rattle.verifactu.specs.Devices.{this_clock, this_sleeper};
+ghost use Rattle.verifactu.specs.Drain.{AllLeft, LeavesTime};
+ghost use Rattle.verifactu.specs.Readings.{readings_of};
+ghost use Rattle.verifactu.specs.Tills.{all_replies, tills_of};
+ghost use Rattle.verifactu.specs.Works.{HasRoom, told_in};
+
 use crate::day_text::{end_of_day, told_of_day};
 use crate::opening::opening_end;
 use crate::outside::Outside;
@@ -47,6 +67,21 @@ where
     G: Agency + Drop,
     T: Gate + Sync,
     R: Threads + Wait + Sync,
+    ensures status { result.0.status ≡ status_of result.0.detail }
+    ensures ends { DayEnds issuer.now (record {
+      devices = record {
+        source = this_source S.left S.faults source.old source.new;
+        sink = this_sink K.taken K.faults sink.old sink.new;
+        disk = this_disk D.tells D.told D.faults outside.disk result.1.disk;
+        clock = this_clock C.coming outside.clock result.1.clock;
+      };
+      sleeper = this_sleeper Z.tells Z.moment outside.sleeper result.1.sleeper;
+      agency = record {
+        kind = record { tells = G.tells; keeps_rules = G.keeps_rules; ledger = G.ledger; faults = G.faults; begun = G.begun };
+        agency = outside.agency;
+        agency_after = result.1.agency;
+      };
+    }) result.0.detail }
 {
     let (detail, outside) = day(rt, alloc, issuer, source, sink, outside, gate);
     (ended_as(detail), outside)
@@ -70,6 +105,20 @@ where
     G: Agency + Drop,
     T: Gate + Sync,
     R: Threads + Wait + Sync,
+    ensures { DayEnds issuer.now (record {
+      devices = record {
+        source = this_source S.left S.faults source.old source.new;
+        sink = this_sink K.taken K.faults sink.old sink.new;
+        disk = this_disk D.tells D.told D.faults outside.disk result.1.disk;
+        clock = this_clock C.coming outside.clock result.1.clock;
+      };
+      sleeper = this_sleeper Z.tells Z.moment outside.sleeper result.1.sleeper;
+      agency = record {
+        kind = record { tells = G.tells; keeps_rules = G.keeps_rules; ledger = G.ledger; faults = G.faults; begun = G.begun };
+        agency = outside.agency;
+        agency_after = result.1.agency;
+      };
+    }) result.0 }
 {
     match read_source(alloc, source, Form::Full) {
         Err(fault) => (fault.detail(), outside),
@@ -95,6 +144,24 @@ where
     G: Agency + Drop,
     T: Gate + Sync,
     R: Threads + Wait + Sync,
+    ensures { TillsEnd issuer.now script.now.asks script.now.plan (readings_of script.now.clock (C.coming outside.clock))
+        (AllLeft (this_clock C.coming outside.clock result.1.clock)
+        (this_sleeper Z.tells Z.moment outside.sleeper result.1.sleeper) (record {
+          kind = record { tells = G.tells; keeps_rules = G.keeps_rules; ledger = G.ledger; faults = G.faults; begun = G.begun };
+          agency = outside.agency;
+          agency_after = result.1.agency;
+        }))
+        (LeftTime (this_clock C.coming outside.clock result.1.clock)
+        (this_sleeper Z.tells Z.moment outside.sleeper result.1.sleeper))
+        (LeavesTime script.now.clock (this_clock C.coming outside.clock result.1.clock)
+        (this_sleeper Z.tells Z.moment outside.sleeper result.1.sleeper))
+        (this_sink K.taken K.faults sink.old sink.new)
+        (this_disk D.tells D.told D.faults outside.disk result.1.disk)
+        (record {
+          kind = record { tells = G.tells; keeps_rules = G.keeps_rules; ledger = G.ledger; faults = G.faults; begun = G.begun };
+          agency = outside.agency;
+          agency_after = result.1.agency;
+        }) result.0 }
 {
     let Some((start, step)) = script.clock else {
         return day_file(rt, alloc, issuer, script, sink, outside, gate);
@@ -143,6 +210,23 @@ where
     G: Agency + Drop,
     T: Gate + Sync,
     R: Threads + Wait + Sync,
+    ensures { TillsEnd issuer.now script.now.asks script.now.plan (C.coming outside.clock)
+        (AllLeft (this_clock C.coming outside.clock result.1.clock)
+        (this_sleeper Z.tells Z.moment outside.sleeper result.1.sleeper) (record {
+          kind = record { tells = G.tells; keeps_rules = G.keeps_rules; ledger = G.ledger; faults = G.faults; begun = G.begun };
+          agency = outside.agency;
+          agency_after = result.1.agency;
+        }))
+        (LeftTime (this_clock C.coming outside.clock result.1.clock)
+        (this_sleeper Z.tells Z.moment outside.sleeper result.1.sleeper))
+        (IsLater C.coming outside.clock result.1.clock)
+        (this_sink K.taken K.faults sink.old sink.new)
+        (this_disk D.tells D.told D.faults outside.disk result.1.disk)
+        (record {
+          kind = record { tells = G.tells; keeps_rules = G.keeps_rules; ledger = G.ledger; faults = G.faults; begun = G.begun };
+          agency = outside.agency;
+          agency_after = result.1.agency;
+        }) result.0 }
 {
     let Ok(tills) = till_days(alloc, script.asks.as_slice()) else {
         return (Detail::NoMemory, outside);
@@ -172,6 +256,7 @@ where
 
 // A disk as it reads is one of its images of now.
 fn what_a_disk_reads_is_an_image<D: Disk>()
+    ensures { (disk : _) → IsTrue D.tells → IsImage (D.told disk).now (D.told disk).content }
 {}
 
 // Opens the session on an opened file, and runs the day.
@@ -194,31 +279,45 @@ where
     G: Agency + Drop,
     T: Gate + Sync,
     R: Threads + Wait + Sync,
+    requires ready { Ready D.tells D.told store }
+    requires going_on { stopped_of (journal_of store) ≡ None }
+    requires tills { map (λ d. d.till) tills.items ≡ tills_of script.now.asks }
+    requires room { All (HasRoom script.now.asks) tills.items }
+    ensures { StoreDayEnds (result.1.sleeper ≡ sleeper) (record { tells = D.tells; told = D.told; faults = D.faults; coming = C.coming })
+        G.begun script.now.plan script.now.asks (record { tells = G.tells; keeps_rules = G.keeps_rules })
+        (record { ledger = G.ledger agency; faults = G.faults agency })
+        (record { ledger = G.ledger result.1.agency; faults = G.faults result.1.agency })
+        (parts_of store) result.1.disk result.1.clock (this_sink K.taken K.faults sink.old sink.new) result.0 }
 {
-    if begin(alloc, &script.plan, store.state(), &mut agency).is_err() {
-        return without_day(NotServed {
+    match begin(alloc, &script.plan, store.state(), &mut agency) {
+        Err(_) => without_day(NotServed {
             store,
             agency,
             sleeper,
-        });
+        }),
+        Ok(()) => serve_opened(
+            rt,
+            alloc,
+            script.asks.as_slice(),
+            tills,
+            sink,
+            store,
+            agency,
+            sleeper,
+            gate,
+        ),
     }
-    serve_opened(
-        rt,
-        alloc,
-        script.asks.as_slice(),
-        tills,
-        sink,
-        store,
-        agency,
-        sleeper,
-        gate,
-    )
 }
 
 // There was no memory for the day.
 fn without_day<D: Disk, C: Clock, Z: Sleeper + Drop, G: Agency + Drop>(
     not_served: NotServed<D, C, G, Z>,
-) -> (Detail, Outside<D, C, Z, G>) {
+) -> (Detail, Outside<D, C, Z, G>)
+    ensures end { result.0 ≡ detail.NoMemory }
+    ensures disk { result.1.disk ≡ (parts_of not_served.store).disk }
+    ensures clock { result.1.clock ≡ (parts_of not_served.store).clock }
+    ensures rest { (result.1.sleeper ≡ not_served.sleeper) × (result.1.agency ≡ not_served.agency) }
+{
     let NotServed {
         store,
         agency,
@@ -256,6 +355,15 @@ where
     G: Agency + Drop,
     T: Gate + Sync,
     R: Threads + Wait + Sync,
+    requires ready { Ready D.tells D.told store }
+    requires going_on { stopped_of (journal_of store) ≡ None }
+    requires tills { map (λ d. d.till) tills.items ≡ tills_of asks.now }
+    requires room { All (HasRoom asks.now) tills.items }
+    ensures { StoreServed (result.1.sleeper ≡ sleeper) (record { tells = D.tells; told = D.told; faults = D.faults; coming = C.coming })
+        asks.now (record { tells = G.tells; keeps_rules = G.keeps_rules })
+        (record { ledger = G.ledger agency; faults = G.faults agency })
+        (record { ledger = G.ledger result.1.agency; faults = G.faults result.1.agency })
+        (parts_of store) result.1.disk result.1.clock (this_sink K.taken K.faults sink.old sink.new) result.0 }
 {
     match serve(rt, alloc, store, asks, tills, agency, sleeper, gate) {
         Err(not_served) => without_day(not_served),
@@ -290,7 +398,11 @@ fn print_day<K: Sink>(
     answer: &Result<(), DrainFault>,
     state: &State,
     sink: &mut K,
-) -> Detail {
+) -> Detail
+    ensures { DayRunEnds (all_replies (map told_in tills.now)) answer.now (length (noted state.now.entries))
+        (length (recs state.now.entries)) (day_text asks.now (map told_in tills.now) state.now.entries)
+        (this_sink K.taken K.faults sink.old sink.new) result }
+{
     let Ok(told) = told_of_day(alloc, asks, tills, state) else {
         return Detail::NoMemory;
     };

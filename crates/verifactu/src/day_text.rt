@@ -1,10 +1,11 @@
 // What is printed of a day, and how it ends.
-ghost use Rattle.std.specs.Prelude.{◌≡◌, ◌++◌, ◌∷◌, ℕ, List, map, flat_map, IfOk, OnOk};
+ghost use Rattle.std.specs.Prelude.{◌≡◌, ◌++◌, ◌∷◌, ℕ, List, map, flat_map, IfOk, OnOk, IsTrue};
 ghost use Rattle.std.specs.List.{list_any};
 ghost use Rattle.ports.specs.Sinks.{OutputIs, Sinks};
 ghost use Rattle.shop_core.specs.Asked.{Asked};
 ghost use Rattle.verifactu.specs.Day as spec;
-ghost use Rattle.verifactu.specs.Ending.{RunEnds};
+ghost use Rattle.verifactu.specs.Beside as beside;
+ghost use Rattle.verifactu.specs.Beside.{DayRunEnds};
 ghost use Rattle.verifactu.specs.Printed.{answers};
 ghost use Rattle.verifactu.specs.Replies as reply;
 ghost use Rattle.verifactu.specs.Tills.{all_replies, asks_of};
@@ -103,7 +104,9 @@ fn one_lacks_disk(days: &[TillDay]) -> bool
 }
 
 // Whether the sender found no memory.
-fn sender_lacks_memory(answer: &Result<(), DrainFault>) -> bool {
+fn sender_lacks_memory(answer: &Result<(), DrainFault>) -> bool
+    ensures { result ≡ beside.sender_lacks_memory answer.now }
+{
     match answer {
         Err(DrainFault::NoMemory | DrainFault::Store(StoreFault::NoMemory)) => true,
         _ => false,
@@ -118,19 +121,28 @@ pub fn end_of_day(
     answer: &Result<(), DrainFault>,
     all_noted: bool,
     written: Result<(), Failed>,
-) -> Detail {
-    if one_lacks_memory(days) || sender_lacks_memory(answer) {
+) -> Detail
+    ensures { (text : List ℕ) (s : Sinks) (noted_count records_count : ℕ) → (IsTrue all_noted → noted_count ≡ records_count) →
+        OutputIs s text written →
+        DayRunEnds (all_replies (map told_in days.now)) answer.now noted_count records_count text s result }
+{
+    if one_lacks_memory(days) {
+        return Detail::NoMemory;
+    }
+    if sender_lacks_memory(answer) {
         return Detail::NoMemory;
     }
     if one_lacks_disk(days) {
         return Detail::DiskFault;
     }
-    match answer {
-        Err(fault) => fault_end(*fault),
-        Ok(()) if !all_noted => Detail::NoMemory,
-        Ok(()) => match written {
-            Ok(()) => Detail::Done,
-            Err(_) => Detail::WriteFault,
-        },
+    if let Err(fault) = answer {
+        return fault_end(*fault);
+    }
+    if !all_noted {
+        return Detail::NoMemory;
+    }
+    match written {
+        Ok(()) => Detail::Done,
+        Err(_) => Detail::WriteFault,
     }
 }

@@ -30,7 +30,6 @@ mod printed;
 mod run;
 mod scripts;
 mod sending;
-mod sent;
 mod serving;
 mod session;
 #[cfg(test)]

@@ -1,29 +1,20 @@
 // The tills of a day, each in a thread of its own.
-ghost use Rattle.std.specs.Prelude.{◌≡◌, ◌≢◌, ◌≤◌, ◌<◌, ◌+◌, ◌++◌, ◌∷◌, [], ℕ, List, length, map, reverse, All, AllPairs};
-ghost use Rattle.std.specs.Prelude.{IfOk, IfErr, IfSome, None, vec_len, vec_capacity, slice_index_or};
-ghost use Rattle.std.specs.Int.{IsInRange};
-ghost use Rattle.chain_store.specs.Store.{Ready, journal_of};
-ghost use Rattle.journal.specs.Journal.{stopped_of};
-ghost use Rattle.record_codec.specs.declared.entries.TheConstants.{LAST_TILL};
+ghost use Rattle.std.specs.Prelude.{◌≡◌, ◌≤◌, ◌<◌, ◌+◌, ◌++◌, ◌∷◌, [], ℕ, List, length, map, reverse, All};
+ghost use Rattle.std.specs.Prelude.{IfOk, IfSome, vec_len, vec_capacity, slice_index_or};
 ghost use Rattle.shop_core.specs.Asked.{Asked};
-ghost use Rattle.till_calls.specs.Root.{parts_of};
 ghost use Rattle.till_calls.specs.Runs.{TillRun};
 ghost use Rattle.till_calls.specs.Shop.{made_tills, numbers, shop_id, till_knows, till_number, till_shop, tills_know, tills_shop};
-ghost use Rattle.verifactu.specs.Tills.{DayRun, asks_of};
-ghost use Rattle.verifactu.specs.Works.{HasRoom, Ran, Works, day_of, job_knows, told_in};
+ghost use Rattle.verifactu.specs.Tills.{asks_of};
+ghost use Rattle.verifactu.specs.Works.{HasRoom, Works, day_of, job_knows};
 
 use chain_disk::Disk;
-use chain_store::Store;
 use journal::StoreFault;
 use ports::{Clock, Gate, NoMemory};
 use shop_core::{Ask, Reply};
 use std::alloc::Global;
 use std::sync::Wait;
 use std::thread::{Threads, for_each_mut};
-use till_calls::{
-    Shop, StartRefused, Started, Till, Tills, a_run_is_told_at_the_end, a_till_adds_for_no_other,
-    a_till_adds_what_is_taken,
-};
+use till_calls::{Shop, Till, Tills};
 
 /// What a till is told in a day.
 #[derive(Drop)]
@@ -218,8 +209,8 @@ pub(crate) fn hand_in<D: Disk, C: Clock>(
     requires own { All (λ j. till_shop j.till ≡ tills_shop tills.old) jobs.items }
     requires out { (days.old.items ≡ []) × (numbers tills.old ≡ []) × (tills_know tills.old ≡ []) }
     requires room { (vec_len jobs ≤ vec_capacity days.old) × (vec_len jobs ≤ made_tills tills.old) }
-    ensures days { days.new.items ≡ reverse (map day_of jobs.entry.items) }
-    ensures knows { tills_know tills.new ≡ reverse (map job_knows jobs.entry.items) }
+    ensures days { days.new.items ≡ reverse (map day_of jobs.items) }
+    ensures knows { tills_know tills.new ≡ reverse (map job_knows jobs.items) }
     ensures same { (tills_shop tills.new ≡ tills_shop tills.old) × (made_tills tills.new ≡ made_tills tills.old) }
 {
     while let Some(job) = jobs.pop() {
