@@ -1,5 +1,5 @@
 -- The lines of a till.
-use Rattle.std.proofs.Common.{◌≡◌, ◌⊎◌, inr, ℕ, ◌<◌, Bool, true, false, not, List, [], ◌∷◌, length, map, Result, Err, refl, sym, subst, ap, ◌∙◌, arith}
+use Rattle.std.proofs.Common.{◌≡◌, ◌⊎◌, inr, ℕ, ◌<◌, Bool, false, List, [], ◌∷◌, length, map, Result, Err, refl, sym, subst, ap, ◌∙◌, arith}
 use Rattle.std.specs.Prelude.{◌||◌}
 use Rattle.std.specs.List.{flat_map, list_any}
 use Rattle.std.proofs.lemmas.List.Folds.{flat_map-map, list_any-append}
@@ -49,7 +49,3 @@ sender_ends replies answer (drain.Store store.DiskFault) n r text s is all memor
 sender_ends replies answer (drain.Store (store.Stopped faults)) n r text s is all memory sender w = disk_fault memory sender (inr (subst (λ (a : Result (Unit {0}) DrainFault). IsDiskAnswer a) (sym is) tt)) w
 sender_ends replies answer (drain.Store store.NoMemory) n r text s is all memory sender w = no_memory (either_part s text w)
 sender_ends replies answer drain.NoMemory n r text s is all memory sender w = no_memory (either_part s text w)
-
-pub not_not : (b : Bool) → not b ≡ false → b ≡ true
-not_not true e = refl
-not_not false e = absurd (let x = e in cc)

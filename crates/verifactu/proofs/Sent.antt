@@ -11,6 +11,7 @@ use Rattle.std.specs.contracts.alloc.Global as Heap
 use Rattle.std.specs.contracts.impls.GlobalAllocator.TheImpl.{ghosts}
 use Rattle.std.specs.contracts.sync.atomic.AtomicBool as Flag
 use Rattle.till_calls.proofs.Sent.{till_field_send}
+use Rattle.shop_core.specs.contracts.requests.Ask as ask
 use Rattle.verifactu.specs.contracts.tills.Job as job
 
 pub job_send : (D C : RattleType) (g : disk.Ghosts D.Denot) (h : clock.Ghosts C.Denot) → IsSend D → IsSend C → IsSend (job.the_row D C g h)
@@ -25,3 +26,6 @@ jobs_send D C g h d c = let j = job_send D C g h d c in search (sendable, crosse
 
 pub flag_sync : IsSync Flag.the_row
 flag_sync = search (sendable, crosses) depth 100 fits 20000
+
+pub ask_sync : IsSync ask.the_row
+ask_sync = search (sendable, crosses) depth 100 fits 20000

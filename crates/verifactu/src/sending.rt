@@ -118,7 +118,9 @@ pub fn send_until<R: Wait, T: Gate, O: Outbox, G: Agency, Z: Sleeper>(
         if stop.load(Ordering::SeqCst) {
             return Ok(());
         }
-        one_turn(rt, alloc, gate, outbox, sender, agency, sleeper, stop)?;
+        if let Err(fault) = one_turn(rt, alloc, gate, outbox, sender, agency, sleeper, stop) {
+            return Err(fault);
+        }
     }
     unreachable!()
 }

@@ -1,10 +1,10 @@
-use mir.Syntax.{of_param}
+use mir.Syntax.{erased, of_param}
 use denote.Exit.{yes, no, unseen}
 use denote.Param.{arg, param, layout}
-use denote.Param.Send.{IsSend, IsSync, Quiet-if, sendable}
+use denote.Param.Send.{Quiet-if, shr_slice_send}
 use Rattle.std.proofs.Crossing.{crosses, send as heap_send}
 use Rattle.till_calls.proofs.Sent.{shop_sync}
-use Rattle.verifactu.proofs.Sent.{flag_sync, jobs_send}
+use Rattle.verifactu.proofs.Sent.{ask_sync, flag_sync, jobs_send}
 use Rattle.verifactu.proofs.beside.beside.Goals as goal
 
 pub join-requires-send-A : goal.join-requires-send-A
@@ -29,7 +29,7 @@ join-requires-send-F g c κs within =
               (tt, t.shared x.2.now x.2.ref_ptr.0 x.2.ref_ptr.1 _),
               (
                 (tt, s.shared x.3.now x.3.ref_ptr.0 x.3.ref_ptr.1 _),
-                (?, (j.owned x.5 vss.1.1.1.1.1.0, ((tt, flag_sync.shared x.6.now x.6.ref_ptr.0 x.6.ref_ptr.1 _), tt))),
+                ((shr_slice_send erased κs.1.1.1.1.1.1.1.1.1.0 _ ask_sync).owned x.4 vss.1.1.1.1.0, (j.owned x.5 vss.1.1.1.1.1.0, ((tt, flag_sync.shared x.6.now x.6.ref_ptr.0 x.6.ref_ptr.1 _), tt))),
               ),
             ),
           ),

@@ -1,4 +1,4 @@
-use Rattle.std.proofs.Common.{rules, ◌∙◌, inl, inr, refl, ap, subst, All, List}
+use Rattle.std.proofs.Common.{rules, ◌≡◌, inl, inr, map, refl, subst, All, List}
 use Rattle.chain_disk.specs.Disks.{this_disk}
 use Rattle.file_commands.proofs.Bytewise.{took_nothing}
 use Rattle.ports.specs.Sinks.{this_sink}
@@ -7,12 +7,13 @@ use Rattle.till_calls.specs.Root.{parts_of}
 use Rattle.verifactu.specs.Devices.{Agencies, this_sleeper}
 use Rattle.verifactu.specs.Tills.{tills_of}
 use Rattle.verifactu.specs.Works.{HasRoom}
+use Rattle.verifactu.specs.declared.tills.TillDay.{TillDay}
 use Rattle.verifactu.proofs.DayEnding.{store_day}
 use Rattle.verifactu.proofs.RunEnding.{keeps_file}
 use Rattle.verifactu.proofs.day.day_file.Goals as goal
 
 pub day_opened-requires-clause-tills : goal.day_opened-requires-clause-tills
-day_opened-requires-clause-tills g c = c.in-Ok.ensures.tills ∙ ap tills_of c.as_slice.ensures
+day_opened-requires-clause-tills g c κs within = subst (λ (xs : List Asked). map (λ (d : TillDay). d.till) c.in-Ok.tills.items ≡ tills_of xs) c.as_slice.ensures c.in-Ok.ensures.tills
 
 pub day_opened-requires-clause-room : goal.day_opened-requires-clause-room
 day_opened-requires-clause-room g c κs within = subst (λ (xs : List Asked). All (HasRoom xs) c.in-Ok.tills.items) c.as_slice.ensures c.in-Ok.ensures.room

@@ -9,10 +9,11 @@ use Rattle.verifactu.specs.Day.{StoreServed}
 use Rattle.verifactu.specs.Drained.{IsOpened}
 use Rattle.verifactu.specs.Tills.{tills_of}
 use Rattle.verifactu.specs.Works.{HasRoom}
+use Rattle.verifactu.specs.declared.tills.TillDay.{TillDay}
 use Rattle.verifactu.proofs.day.day_opened.Goals as goal
 
 pub serve_opened-requires-clause-tills : goal.serve_opened-requires-clause-tills
-serve_opened-requires-clause-tills g c = c.requires.tills ∙ ap tills_of (sym c.as_slice.ensures)
+serve_opened-requires-clause-tills g c κs within = subst (λ (xs : List Asked). map (λ (d : TillDay). d.till) c.args.tills.items ≡ tills_of xs) (sym c.as_slice.ensures) c.requires.tills
 
 pub serve_opened-requires-clause-room : goal.serve_opened-requires-clause-room
 serve_opened-requires-clause-room g c κs within = subst (λ (xs : List Asked). All (HasRoom xs) c.args.tills.items) (sym c.as_slice.ensures) c.requires.room

@@ -6,7 +6,7 @@ use Rattle.verifactu.specs.Replies.{is_disk_fault, is_no_memory}
 use Rattle.verifactu.specs.Tills.{all_replies}
 use Rattle.verifactu.specs.Works.{told_in}
 use Rattle.verifactu.proofs.Bytewise.{part_of_output}
-use Rattle.verifactu.proofs.DayTexts.{any_reply, not_not, sender_ends}
+use Rattle.verifactu.proofs.DayTexts.{any_reply, sender_ends}
 use Rattle.verifactu.proofs.RunEnding.{all_replied, written_either, written_whole, written_part}
 use Rattle.verifactu.proofs.day_text.end_of_day.Goals as goal
 
@@ -41,7 +41,7 @@ returns-in-Ok c =
     λ text s n r all h. done
     (all_replied (all_replies (map told_in days)) (any_reply is_no_memory days ∙ sym c.one_lacks_memory.ensures ∙ c.if-one_lacks_memory.false)
     (any_reply is_disk_fault days ∙ sym c.one_lacks_disk.ensures ∙ c.if-one_lacks_disk.false))
-    c.in_default.is (all (not_not c.args.all_noted c.if-not-all_noted.false)) (written_whole text s c.args.written _ c.in-Ok.is h)
+    c.in_default.is (all c.if-not-all_noted.false) (written_whole text s c.args.written _ c.in-Ok.is h)
 
 pub returns-in-Err-written : goal.returns-in-Err-written
 returns-in-Err-written c =
@@ -49,4 +49,4 @@ returns-in-Err-written c =
     λ text s n r all h. write_fault
     (all_replied (all_replies (map told_in days)) (any_reply is_no_memory days ∙ sym c.one_lacks_memory.ensures ∙ c.if-one_lacks_memory.false)
     (any_reply is_disk_fault days ∙ sym c.one_lacks_disk.ensures ∙ c.if-one_lacks_disk.false))
-    c.in_default.is (all (not_not c.args.all_noted c.if-not-all_noted.false)) (written_part text s c.args.written _ c.in-Err-written.is h)
+    c.in_default.is (all c.if-not-all_noted.false) (written_part text s c.args.written _ c.in-Err-written.is h)
