@@ -24,7 +24,7 @@ in_tail : (x y : ℕ) (xs : List ℕ) → Contains xs y → Contains (x ∷ xs) 
 in_tail x y xs c = (suc c.0, (let l = c.1 in omega arith), c.2)
 
 -- a place that is counted is there
-counted_in : {I : Type 0} (n : ℕ) (own : List (ℕ × I)) → 0 < count_by (λ x. x.0 == n) own → Contains (map (λ (z : ℕ × I). z.0) own) n
+pub counted_in : {I : Type 0} (n : ℕ) (own : List (ℕ × I)) → 0 < count_by (λ x. x.0 == n) own → Contains (map (λ (z : ℕ × I). z.0) own) n
 counted_in n [] some = absurd (omega (arith, some))
 counted_in {I} n (z ∷ zs) some =
     let split = sum_by-cons (λ (y : ℕ × I). cond (y.0 == n) 1 0) z zs in
@@ -52,7 +52,7 @@ its_own {I} {R} n ks seat nothing one =
     let none = none_owned n ks nothing in
     counted_in n seat.own (omega (arith, split, none, one))
 
-all_each : {A : Type 0} (P : A → Type 0) (xs : List A) → All P xs → AllByRecursion P xs
+pub all_each : {A : Type 0} (P : A → Type 0) (xs : List A) → All P xs → AllByRecursion P xs
 all_each P [] h = tt
 all_each P (x ∷ xs) h = (h 0 x (omega arith), all_each P xs (λ k d l. h (suc k) d (omega arith)))
 
@@ -65,7 +65,7 @@ get_behind [] r m = ap (λ (k : ℕ). slice_get r k) (let e : 0 + m ≡ m = omeg
 get_behind (x ∷ b) r m = ap (λ (k : ℕ). slice_get (x ∷ (b ++ r)) k) (let e : length (x ∷ b) + m ≡ suc (length b + m) = omega arith in e) ∙ get_behind b r m
 
 -- what holds at each place holds of each
-all_by_place : (P : Item → Type 0) (items : List Item) → ((m : ℕ) → m < length items → HasAt P items m) → AllByRecursion P items
+pub all_by_place : (P : Item → Type 0) (items : List Item) → ((m : ℕ) → m < length items → HasAt P items m) → AllByRecursion P items
 all_by_place P [] h = tt
 all_by_place P (x ∷ items) h =
     let here = h 0 (omega arith) in
@@ -81,7 +81,7 @@ pub all_contained : {A : Type 0} (P : A → Type 0) (xs : List A) (x : A) → Al
 all_contained P xs x all there = all_at P xs there.0 x all there.1 there.2
 
 -- each note stands at one of these places
-own_all : (items : List Item) (at : ℕ) (own : List ℕ) → ((m first : ℕ) (lines : List Line) → slice_get items m ≡ Some (item.Entry (Notes first lines)) → Contains own (at + m)) → AreOwnNotes own at items
+pub own_all : (items : List Item) (at : ℕ) (own : List ℕ) → ((m first : ℕ) (lines : List Line) → slice_get items m ≡ Some (item.Entry (Notes first lines)) → Contains own (at + m)) → AreOwnNotes own at items
 own_all [] at own h = tt
 own_all (item.Entry (Rec till serial sealed) ∷ items) at own h =
     own_all items (at + 1) own (λ m f l e. subst (λ (k : ℕ). Contains own k) (let s : at + suc m ≡ at + 1 + m = omega arith in s) (h (suc m) f l e))

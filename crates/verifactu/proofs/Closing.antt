@@ -49,7 +49,7 @@ in_session begun plan d opened tells opens sends = record {
 }
 
 module _ {D C : Type 0} (tells : Bool) (told : D → Told) (faults : D → ℕ) (coming : C → ℕ → Option ℕ) (p0 p1 : Parts D C) (s : IsSound tells told faults coming (root_of told faults p0) p1) where
-  between : (c : List ℕ) → sound.StandsBetween p0.state.issuer p0.state.entries (with_torn p1.state.entries p1.stopped p1.torn) c → StandsBetween p0.state.issuer p0.state.entries p1.state.entries (torn_in p1.stopped p1.torn) c
+  pub between : (c : List ℕ) → sound.StandsBetween p0.state.issuer p0.state.entries (with_torn p1.state.entries p1.stopped p1.torn) c → StandsBetween p0.state.issuer p0.state.entries p1.state.entries (torn_in p1.stopped p1.torn) c
   between c h = record {
     history = h.history;
     stands = h.stands;
@@ -57,7 +57,7 @@ module _ {D C : Type 0} (tells : Bool) (told : D → Told) (faults : D → ℕ) 
     within = record { rest = h.within.0; parts = sym (torn_is p1.state.entries p1.stopped p1.torn) ∙ h.within.1 };
   }
 
-  either : (c : List ℕ) → sound.StandsForEither p0.state.issuer p1.state.entries (with_torn p1.state.entries p1.stopped p1.torn) c → StandsForEnd p0.state.issuer p1.state.entries (torn_in p1.stopped p1.torn) c
+  pub either : (c : List ℕ) → sound.StandsForEither p0.state.issuer p1.state.entries (with_torn p1.state.entries p1.stopped p1.torn) c → StandsForEnd p0.state.issuer p1.state.entries (torn_in p1.stopped p1.torn) c
   either c (inl h) = inl h
   either c (inr h) = inr (subst (λ (es : List Entry). StandsFor p0.state.issuer es c) (torn_is p1.state.entries p1.stopped p1.torn) h)
 

@@ -1,13 +1,14 @@
 -- How a day ends, and what its clause says of the whole call.
-use Rattle.std.proofs.Common.{◌≡◌, ◌⊎◌, inl, inr, ℕ, ◌≤◌, List, [], ◌∷◌, ◌++◌, length, map, sym, ◌∙◌, ap, subst, refl, arith, Bool, true, false, IsTrue, Option, Some, None, Ok, Err}
+use Rattle.std.proofs.Common.{◌≡◌, ◌⊎◌, inl, inr, ℕ, ◌+◌, ◌-◌, ◌^◌, ◌<◌, ◌≤◌, List, [], ◌∷◌, ◌++◌, length, map, sym, ◌∙◌, ap, subst, refl, arith, append_assoc, Bool, true, false, IsTrue, Option, Some, None, Result, Ok, Err}
 use Rattle.std.specs.Prelude.{◌≢◌, Contains}
 use Rattle.std.specs.List.{AllByRecursion, list_any, range_with_len}
 use Rattle.std.proofs.lemmas.List.{append-nil}
 use Rattle.std.proofs.lemmas.List.Elements.{All-contains, filter_passes}
 use Rattle.chain_disk.specs.Told.{Told, IsImage, LeavesNow, LeavesOnly, synced}
-use Rattle.chain_disk.specs.Runs.{weaker}
+use Rattle.chain_disk.specs.Runs.{follows, weaker}
 use Rattle.chain_disk.specs.Disks.{DiskRose, Disks, this_disk}
 use Rattle.huella.specs.Linked.{Linked}
+use Rattle.journal.specs.declared.faults.StoreFault.{StoreFault}
 use Rattle.journal.specs.declared.faults.StoreFault.TheVariants.{DiskFault, Stopped, NoMemory}
 use Rattle.ports.specs.Causes.{Rose}
 use Rattle.ports.specs.Readings.{IsTold}
@@ -17,86 +18,55 @@ use Rattle.record_codec.specs.declared.entries.TheConstants.{LAST_TILL}
 use Rattle.recovery.specs.Opening.{IsFound}
 use Rattle.report.specs.declared.ended.Detail.{Detail}
 use Rattle.report.specs.declared.ended.Detail.TheVariants as detail
+use Rattle.agency_rules.specs.declared.plans.Plan.{Plan}
+use Rattle.agency_port.specs.declared.turns.Evidence.{Evidence}
+use Rattle.once_world.specs.Agreement.{Agree}
+use Rattle.sender.specs.Turning.{Desk, Kind}
+use Rattle.sender.specs.declared.answers.DrainFault.{DrainFault}
+use Rattle.sender.specs.declared.answers.DrainFault.TheVariants as drain
+use Rattle.sender.specs.declared.draining.TheConstants.{MAX_LINK_FAULTS}
 use Rattle.script.specs.declared.forms.Form.TheVariants.{Full}
 use Rattle.script.specs.declared.scripts.Script.{Script}
 use Rattle.shop_core.specs.Asked.{Asked}
 use Rattle.shop_core.specs.Files.{StandsFor}
-use Rattle.shop_core.specs.History.{recs}
+use Rattle.shop_core.specs.History.{recs, noted}
 use Rattle.shop_core.specs.Legal.{Legal}
-use Rattle.till_calls.specs.Root.{Parts, root_of, with_torn}
+use Rattle.till_calls.specs.Root.{Parts, root_of}
 use Rattle.till_calls.specs.Sound.{IsLater, IsSound}
-use Rattle.till_calls.specs.Sound.{StandsBetween as Between}
+use Rattle.verifactu.specs.Beside.{DayRunEnds, DaySession, DaySpan, IsUnbegun, KeptDay, SendsBeside, StaysAgreed, day_from}
+use Rattle.verifactu.specs.Beside.DayRunEnds.{done, write_fault, undelivered, contradiction, disk_fault, no_memory}
 use Rattle.verifactu.specs.Crashes.{IsPrefix, Kept, StandsBetween, StandsForEnd, StandsSince}
-use Rattle.verifactu.specs.Day.{DayEnds, LeavesDayClock, NotServed, Served, ShopLeft, ShopRan, StoreServed, TillsEnd, day_text}
-use Rattle.verifactu.specs.Devices.{Clocks, Devices, LeftClock, this_clock}
-use Rattle.verifactu.specs.Ending.{RunEnds}
-use Rattle.verifactu.specs.Ending.RunEnds.{done, write_fault, disk_fault, no_memory}
+use Rattle.verifactu.specs.Day.{DayEnds, DayServed, LeftTime, NotServed, Served, ShopLeft, ShopRan, StoreDay, StoreDayEnds, StoreKind, TillsEnd, day_text, span_of}
+use Rattle.verifactu.specs.Devices.{Agencies, AllDevices, Clocks, LeftClock, LeftSleeper, Sleepers, this_clock}
+use Rattle.verifactu.specs.Drain.{AgreesAtStart, AllLeft, LeavesTime, NothingRose, desk_after, desk_before, kind_of}
+use Rattle.verifactu.specs.Drained.{AgreesInFile, IsDiskAnswer, IsFaultless, IsOpened, noted_pairs, torn_in}
 use Rattle.verifactu.specs.Readings.{readings_of}
 use Rattle.verifactu.specs.Scripts.{IsGoodScript}
 use Rattle.verifactu.specs.Scripts.ScriptedEnds.{ran}
 use Rattle.verifactu.specs.Replies.{AllGoOn, IsGoingOn, Replies, is_disk_fault}
 use Rattle.verifactu.specs.Tills.{StopsShop, TillRun, TillServed, TillTold, all_replies, has_asks, tills_of}
 use Rattle.verifactu.specs.Tills.TillRun.{unasked, answered, torn as tears, stopped as told_stop, without_memory}
+use Rattle.verifactu.proofs.Agreed.{torn_one}
+use Rattle.verifactu.proofs.Closing.{between, either}
 use Rattle.verifactu.proofs.Each.{all_of_each, each_of_all, each_unmap, each_weaker}
-use Rattle.verifactu.proofs.Finishing.{kept_since, since_found}
+use Rattle.verifactu.proofs.Finishing.{since_found}
 use Rattle.verifactu.proofs.RunEnding.{rose_opening}
-
--- what is torn where a store has stopped
-abbrev torn_list : Option ℕ → Option Entry → List Entry
-torn_list (Some faults) (Some torn) = torn ∷ []
-torn_list (Some faults) None = []
-torn_list None torn = []
-
-torn_is : (history : List Entry) (stopped : Option ℕ) (torn : Option Entry) → with_torn history stopped torn ≡ history ++ torn_list stopped torn
-torn_is history (Some faults) (Some torn) = refl
-torn_is history (Some faults) None = sym (append-nil history)
-torn_is history None torn = sym (append-nil history)
-
-one_at_most : (stopped : Option ℕ) (torn : Option Entry) → length (torn_list stopped torn) ≤ 1
-one_at_most (Some faults) (Some torn) = omega arith
-one_at_most (Some faults) None = omega arith
-one_at_most None torn = omega arith
 
 -- where each reply goes on, none is a fault of the disk
 no_fault : (replies : Replies) → AllGoOn replies → Contains replies (Err DiskFault) → ⊥
 no_fault replies all has = All-contains IsGoingOn replies (Err DiskFault) (all_of_each IsGoingOn replies all) has
 
-none_torn : (faults faults_after : ℕ) (replies : Replies) (stopped : Option ℕ) (torn : Option Entry) → StopsShop faults faults_after stopped replies → AllGoOn replies → torn_list stopped torn ≡ []
-none_torn faults faults_after replies None torn stops all = refl
-none_torn faults faults_after replies (Some count) torn stops all = absurd (no_fault replies all stops.first)
-
--- a shop's files are those of a run
-kept_shop : (issuer : List ℕ) (start end longer torn : List Entry) (replies : Replies) (since now : Told) → longer ≡ end ++ torn → length torn ≤ 1 → (AllGoOn replies → torn ≡ []) →
-    LeavesOnly since now (Between issuer start longer) → LeavesNow now (λ c. StandsFor issuer end c ⊎ StandsFor issuer longer c) → IsImage now.now now.content →
-    Kept (StandsBetween issuer start end) issuer end replies since now
-kept_shop issuer start end longer torn replies since now is one by_a_fault only whole image =
-    let ends : (c : List ℕ) → StandsFor issuer end c ⊎ StandsFor issuer longer c → StandsForEnd issuer end torn c = λ c h. subst (λ (l : List Entry). StandsFor issuer end c ⊎ StandsFor issuer l c) is h in
-    record {
-      torn = torn;
-      at_most_one = one;
-      by_a_fault = by_a_fault;
-      each_moment = weaker since now (Between issuer start longer) (StandsBetween issuer start end torn) only (λ c h. record {
-        history = h.history;
-        stands = h.stands;
-        begins = record { rest = h.begins.0; parts = h.begins.1 };
-        within = record { rest = h.within.0; parts = sym is ∙ h.within.1 };
-      });
-      every_crash = λ c left. ends c (whole c left);
-      reads = ends now.content (whole now.content (inl (refl, image)));
-    }
-
-pub kept_day : {D C : Type 0} (tells : Bool) (told : D → Told) (faults : D → ℕ) (coming : C → ℕ → Option ℕ) (old new : Parts D C) (replies : Replies) (faults_before : ℕ) → IsSound tells told faults coming (root_of told faults old) new →
-    StopsShop faults_before (faults new.disk) new.stopped replies → IsImage (told new.disk).now (told new.disk).content → IsTrue tells →
-    Kept (StandsBetween old.state.issuer old.state.entries new.state.entries) old.state.issuer new.state.entries replies (told old.disk) (told new.disk)
-kept_day tells told faults coming old new replies faults_before sound stops image says =
-    let leaves = sound.crashes says in
-    kept_shop old.state.issuer old.state.entries new.state.entries (with_torn new.state.entries new.stopped new.torn) (torn_list new.stopped new.torn) replies (told old.disk) (told new.disk)
-    (torn_is new.state.entries new.stopped new.torn) (one_at_most new.stopped new.torn) (none_torn faults_before (faults new.disk) replies new.stopped new.torn stops) leaves.since leaves.whole image
+none_torn : (faults faults_after : ℕ) (replies : Replies) (answer : Result (Unit {0}) DrainFault) (stopped : Option ℕ) (torn : Option Entry) → StopsShop faults faults_after stopped replies answer → AllGoOn replies → IsFaultless answer → torn_in stopped torn ≡ []
+none_torn faults faults_after replies answer None torn stops all faultless = refl
+none_torn faults faults_after replies answer (Some count) torn stops all faultless = elim stops.first [
+  | inl told ↦ absurd (no_fault replies all told)
+  | inr not ↦ absurd (not faultless)
+]
 
 -- the counts of faults since an earlier count
-pub stops_since : (first before after : ℕ) (stopped : Option ℕ) (replies : Replies) → first ≤ before → StopsShop before after stopped replies → StopsShop first after stopped replies
-stops_since first before after None replies later stops = stops
-stops_since first before after (Some count) replies later stops = record {
+stops_since : (first before after : ℕ) (stopped : Option ℕ) (replies : Replies) (answer : Result (Unit {0}) DrainFault) → first ≤ before → StopsShop before after stopped replies answer → StopsShop first after stopped replies answer
+stops_since first before after None replies answer later stops = stops
+stops_since first before after (Some count) replies answer later stops = record {
   first = stops.first;
   later = stops.later;
   risen = λ below. let risen = stops.risen below in omega (arith, later, risen);
@@ -110,10 +80,11 @@ some_fault (Err NoMemory ∷ replies) all some = some_fault replies all.1 some
 some_fault (Err DiskFault ∷ replies) all some = absurd all.0
 some_fault (Err (Stopped count) ∷ replies) all some = absurd all.0
 
--- where a till was told of a fault of the disk, its count rose
-pub rose_day : (faults after : ℕ) (stopped : Option ℕ) (replies : Replies) → StopsShop faults after stopped replies → list_any is_disk_fault replies ≡ true → Rose faults after
-rose_day faults after None replies stops some = absurd (some_fault replies stops some)
-rose_day faults after (Some count) replies stops some = λ below. let within = stops.within in let risen = stops.risen (omega (arith, below, within)) in omega (arith, within, risen)
+-- where a till or the sender was told of a fault of the disk, its count rose
+rose_day : (faults after : ℕ) (stopped : Option ℕ) (replies : Replies) (answer : Result (Unit {0}) DrainFault) → StopsShop faults after stopped replies answer → (list_any is_disk_fault replies ≡ true) ⊎ IsDiskAnswer answer → Rose faults after
+rose_day faults after None replies answer stops (inl some) = absurd (some_fault replies stops.0 some)
+rose_day faults after None replies answer stops (inr disk) = absurd (stops.1 disk)
+rose_day faults after (Some count) replies answer stops some = λ below. let within = stops.within in let risen = stops.risen (omega (arith, below, within)) in omega (arith, within, risen)
 
 -- a till that asks for nothing is none of the tills that ask
 pub none_of : (asks : List Asked) (tills : List TillTold) (till : ℕ) → map (λ (t : TillTold). t.till) tills ≡ tills_of asks → has_asks asks till ≡ false → AllByRecursion (λ (t : TillTold). t.till ≢ till) tills
@@ -122,71 +93,162 @@ none_of asks tills till are none =
     let each = each_unmap (λ (t : TillTold). t.till) (λ (n : ℕ). has_asks asks n ≡ true) tills (subst (λ (l : List ℕ). AllByRecursion (λ (n : ℕ). has_asks asks n ≡ true) l) (sym are) passes) in
     each_weaker (λ (t : TillTold). has_asks asks t.till ≡ true) (λ (t : TillTold). t.till ≢ till) tills (λ t has e. let both : true ≡ false = sym has ∙ ap (λ (n : ℕ). has_asks asks n) e ∙ none in absurd (let b = both in cc)) each
 
-module _ {D C : Type 0} (tells : Bool) (told : D → Told) (faults : D → ℕ) (coming : C → ℕ → Option ℕ) (issuer : List ℕ) (asks : List Asked) (disk disk_after : D) (clock clock_after : C) (opened : Parts D C) (s : Sinks) (end : Detail)
-    (own : opened.state.issuer ≡ issuer) (same_clock : opened.clock ≡ clock) (found : IsTrue tells → IsFound issuer opened.state.entries (told disk).content)
-    (any_moment : IsTrue tells → LeavesOnly (synced (told disk)) (told opened.disk) (IsFound issuer opened.state.entries)) (every_crash : IsTrue tells → LeavesNow (told opened.disk) (StandsFor issuer opened.state.entries))
-    (later : faults disk ≤ faults opened.disk) (reads : (d : D) → IsTrue tells → IsImage (told d).now (told d).content) where
+module _ {D C Z G : Type 0} (h : StoreKind D C) (issuer : List ℕ) (asks : List Asked) (plan : Plan) (disk disk_after : D) (clock clock_after : C) (z : Sleepers Z) (a : Agencies G) (opened : Parts D C) (s : Sinks) (end : Detail)
+    (own : opened.state.issuer ≡ issuer) (same_clock : opened.clock ≡ clock) (found : IsTrue h.tells → IsFound issuer opened.state.entries (h.told disk).content)
+    (any_moment : IsTrue h.tells → LeavesOnly (synced (h.told disk)) (h.told opened.disk) (IsFound issuer opened.state.entries)) (every_crash : IsTrue h.tells → LeavesNow (h.told opened.disk) (StandsFor issuer opened.state.entries))
+    (later : h.faults disk ≤ h.faults opened.disk) (reads : (d : D) → IsTrue h.tells → IsImage (h.told d).now (h.told d).content) (rules_tell : IsTrue a.kind.keeps_rules → IsTrue a.kind.tells) where
   abbrev disks : Disks D
-  disks = this_disk tells told faults disk disk_after
+  disks = this_disk h.tells h.told h.faults disk disk_after
 
   abbrev clocks : Clocks C
-  clocks = this_clock coming clock clock_after
+  clocks = this_clock h.coming clock clock_after
 
-  -- there was no room for the tills of the file that was opened
-  left_opened : ShopLeft opened disk_after clock_after s end → NotServed issuer (LeftClock clocks) s disks end
-  left_opened h = record {
-    ends = h.ends;
-    start = opened.state.entries;
+  abbrev first : List Entry
+  first = opened.state.entries
+
+  -- there was no room for the day of the file that was opened
+  left_opened : ShopLeft (LeftSleeper z) opened disk_after clock_after s end → IsUnbegun (kind_of a) (desk_before a) (desk_after a) ⊎ IsOpened (kind_of a) a.kind.begun plan first (desk_before a) (desk_after a) →
+      NotServed issuer plan (LeftTime clocks z) s disks a end
+  left_opened l begun = record {
+    ends = l.ends;
+    start = first;
     found = found;
     kept = λ says.
-        let start = opened.state.entries in
-        let begins : IsPrefix start start = record { rest = []; parts = sym (append-nil start) } in
-        subst (λ (d : D). Kept (StandsSince issuer start start) issuer start [] (synced (told disk)) (told d)) (sym h.disk) (record {
+        let begins : IsPrefix first first = record { rest = []; parts = sym (append-nil first) } in
+        subst (λ (d : D). Kept (StandsSince issuer first first) issuer first [] (synced (h.told disk)) (h.told d)) (sym l.disk) (record {
           torn = [];
           at_most_one = omega arith;
           by_a_fault = λ all. refl;
-          each_moment = weaker (synced (told disk)) (told opened.disk) (IsFound issuer start) (StandsSince issuer start start []) (any_moment says) (λ c here. since_found issuer start start [] c begins here);
+          each_moment = weaker (synced (h.told disk)) (h.told opened.disk) (IsFound issuer first) (StandsSince issuer first first []) (any_moment says) (λ c here. since_found issuer first first [] c begins here);
           every_crash = λ c left. inl (every_crash says c left);
-          reads = inl (every_crash says (told opened.disk).content (inl (refl, reads opened.disk says)));
+          reads = inl (every_crash says (h.told opened.disk).content (inl (refl, reads opened.disk says)));
         });
-    wrote = h.wrote;
-    rest = h.clock ∙ same_clock;
+    begun = begun;
+    wrote = l.wrote;
+    rest = (l.clock ∙ same_clock, l.rest);
   }
 
-  served_opened : (h : ShopRan tells told faults coming asks opened disk_after clock_after s end) → Served issuer asks (coming clock) (IsLater coming clock clock_after) disks
-  served_opened h =
-      let sound = h.run.sound in
-      let begins : IsPrefix opened.state.entries h.new.state.entries = record { rest = sound.begins.0; parts = sound.begins.1 } in
-      let stops : StopsShop (faults opened.disk) (faults disk_after) h.new.stopped (all_replies h.tills) =
-      subst (λ (d : D). StopsShop (faults opened.disk) (faults d) h.new.stopped (all_replies h.tills)) (sym h.disk) h.run.stops in
-      record {
-        start = opened.state.entries;
-        tills = h.tills;
-        end = h.new.state.entries;
-        stopped = h.new.stopped;
-        found = found;
-        tills_are = h.tills_are;
-        served = subst (λ (c : C). AllByRecursion (TillServed issuer (coming c) opened.state.entries h.new.state.entries h.new.stopped asks) h.tills) same_clock
-            (subst (λ (n : List ℕ). AllByRecursion (TillServed n (coming opened.clock) opened.state.entries h.new.state.entries h.new.stopped asks) h.tills) own h.run.served);
-        others = λ till none. h.run.others till (none_of asks h.tills till h.tills_are none);
-        begins = begins;
-        legal = subst (λ (n : List ℕ). Legal n h.new.state.entries) own sound.legal;
-        linked = subst (λ (n : List ℕ). Linked n (recs h.new.state.entries)) own h.linked;
-        rising = h.rising;
-        stops = stops_since (faults disk) (faults opened.disk) (faults disk_after) h.new.stopped (all_replies h.tills) later stops;
-        kept = λ says.
-            kept_since issuer opened.state.entries h.new.state.entries (all_replies h.tills) (synced (told disk)) (told opened.disk) (told disk_after) begins (any_moment says)
-            (subst (λ (n : List ℕ). Kept (StandsBetween n opened.state.entries h.new.state.entries) n h.new.state.entries (all_replies h.tills) (told opened.disk) (told disk_after)) own
-            (subst (λ (d : D). Kept (StandsBetween opened.state.issuer opened.state.entries h.new.state.entries) opened.state.issuer h.new.state.entries (all_replies h.tills) (told opened.disk) (told d)) (sym h.disk)
-            (kept_day tells told faults coming opened h.new (all_replies h.tills) (faults opened.disk) sound h.run.stops (reads h.new.disk says) says)));
-        clock = subst (λ (c : C). IsLater coming clock c) (sym h.clock) (subst (λ (c : C). IsLater coming c h.new.clock) same_clock sound.clock);
-      }
+  module _ (desk : Desk) (opens : IsOpened (kind_of a) a.kind.begun plan first (desk_before a) desk) (r : ShopRan h asks (kind_of a) desk (desk_after a) opened disk_after clock_after s end) where
+    abbrev torn : List Entry
+    torn = torn_in r.new.stopped r.new.torn
+
+    abbrev span : DaySpan
+    span = span_of a first r.new.state.entries torn r.answer
+
+    begins : IsPrefix first r.new.state.entries
+    begins = record { rest = r.run.sound.begins.0; parts = r.run.sound.begins.1 }
+
+    stops : StopsShop (h.faults disk) (h.faults disk_after) r.new.stopped (all_replies r.tills) r.answer
+    stops = stops_since (h.faults disk) (h.faults opened.disk) (h.faults disk_after) r.new.stopped (all_replies r.tills) r.answer later
+        (subst (λ (d : D). StopsShop (h.faults opened.disk) (h.faults d) r.new.stopped (all_replies r.tills) r.answer) (sym r.disk) r.run.stops)
+
+    files : IsTrue h.tells → LeavesNow (h.told r.new.disk) (StandsForEnd opened.state.issuer r.new.state.entries torn)
+    files says = λ c left. either h.tells h.told h.faults h.coming opened r.new r.run.sound c ((r.run.sound.crashes says).whole c left)
+
+    kept : IsTrue h.tells → KeptDay (StandsSince issuer first r.new.state.entries torn) issuer r.new.state.entries torn (synced (h.told disk)) (h.told disk_after)
+    kept says =
+        subst (λ (d : D). KeptDay (StandsSince issuer first r.new.state.entries torn) issuer r.new.state.entries torn (synced (h.told disk)) (h.told d)) (sym r.disk)
+        (subst (λ (n : List ℕ). KeptDay (StandsSince n first r.new.state.entries torn) n r.new.state.entries torn (synced (h.told disk)) (h.told r.new.disk)) own (record {
+          each_moment = follows (synced (h.told disk)) (h.told opened.disk) (h.told r.new.disk) (IsFound opened.state.issuer first) (StandsBetween opened.state.issuer first r.new.state.entries torn) (StandsSince opened.state.issuer first r.new.state.entries torn)
+              (subst (λ (n : List ℕ). LeavesOnly (synced (h.told disk)) (h.told opened.disk) (IsFound n first)) (sym own) (any_moment says))
+              (weaker (h.told opened.disk) (h.told r.new.disk) _ (StandsBetween opened.state.issuer first r.new.state.entries torn) (r.run.sound.crashes says).since (between h.tells h.told h.faults h.coming opened r.new r.run.sound))
+              (λ c here. since_found opened.state.issuer first r.new.state.entries torn c begins here) (λ c here. inr here);
+          every_crash = files says;
+          reads = files says (h.told r.new.disk).content (inl (refl, reads r.new.disk says));
+        }))
+
+    session : DaySession a.kind.begun plan span
+    session = record {
+      opened = desk;
+      opens = opens;
+      sends = r.sends;
+      agreement = λ keeps agree.
+          let sent = (opens.lists (rules_tell keeps)).sent in
+          let there : Agree first desk.ledger.processed desk.ledger.sent =
+          subst (λ (ps : List _). Agree first ps desk.ledger.sent) (sym (opens.rules keeps)) (subst (λ (ss : List _). Agree first (a.kind.begun (desk_before a).ledger.processed (noted_pairs first)) ss) (sym sent) agree) in
+          let still = r.sends.agreement keeps there in
+          record { whole = still.whole; torn = still.torn; no_contradiction = still.no_contradiction };
+    }
+
+    images : IsTrue h.tells → StaysAgreed span → LeavesNow (h.told disk_after) (AgreesInFile issuer (desk_after a))
+    images says agrees =
+        subst (λ (d : D). LeavesNow (h.told d) (AgreesInFile issuer (desk_after a))) (sym r.disk)
+        (subst (λ (n : List ℕ). LeavesNow (h.told r.new.disk) (AgreesInFile n (desk_after a))) own (λ c left. in_file c (files says c left)))
+      where
+        in_file : (c : List ℕ) → StandsForEnd opened.state.issuer r.new.state.entries torn c → AgreesInFile opened.state.issuer (desk_after a) c
+        in_file c (inl x) = (_, x, agrees.whole)
+        in_file c (inr x) = (_, x, agrees.torn)
+
+    served : Served issuer asks plan (h.coming clock) (IsLater h.coming clock clock_after) disks a
+    served = record {
+      start = first;
+      tills = r.tills;
+      end = r.new.state.entries;
+      stopped = r.new.stopped;
+      torn = torn;
+      answer = r.answer;
+      found = found;
+      tills_are = r.tills_are;
+      served = subst (λ (c : C). AllByRecursion (TillServed issuer (h.coming c) first r.new.state.entries r.new.stopped asks) r.tills) same_clock
+          (subst (λ (n : List ℕ). AllByRecursion (TillServed n (h.coming opened.clock) first r.new.state.entries r.new.stopped asks) r.tills) own r.run.served);
+      others = λ till none. r.run.others till (none_of asks r.tills till r.tills_are none);
+      begins = begins;
+      legal = subst (λ (n : List ℕ). Legal n r.new.state.entries) own r.run.sound.legal;
+      linked = subst (λ (n : List ℕ). Linked n (recs r.new.state.entries)) own r.linked;
+      rising = r.rising;
+      stops = stops;
+      at_most_one = torn_one r.new.stopped r.new.torn;
+      by_a_fault = λ all faultless. none_torn (h.faults disk) (h.faults disk_after) (all_replies r.tills) r.answer r.new.stopped r.new.torn stops all faultless;
+      kept = kept;
+      session = session;
+      images = images;
+      rest = subst (λ (c : C). IsLater h.coming clock c) (sym r.clock) (subst (λ (c : C). IsLater h.coming c r.new.clock) same_clock r.run.sound.clock);
+    }
+
+    abbrev Failing : ℕ → ℕ → Type 0
+    Failing n m = (n < m) × (a.kind.faults a.agency_after < 2 ^ 64 - 1 → a.kind.faults a.agency + MAX_LINK_FAULTS ≤ a.kind.faults a.agency_after)
+
+    eight_failed : (n m : ℕ) → r.answer ≡ Err (drain.Undelivered n m) → Failing n m
+    eight_failed n m e = let u = r.sends.undelivered n m e in (u.0, λ below. let more = u.1 below in let same = opens.faults in omega (arith, more, same))
+
+    abbrev Ends : Detail → Type 0
+    Ends how = DayRunEnds (all_replies r.tills) r.answer (length (noted r.new.state.entries)) (length (recs r.new.state.entries)) (day_text asks r.tills r.new.state.entries) s how
+
+    failed : (how : Detail) → Ends how → (n m : ℕ) → how ≡ detail.Undelivered n m → Failing n m
+    failed how (undelivered x y all e w) n m is =
+        let one : x ≡ n = cc in
+        let two : y ≡ m = cc in
+        subst (λ (i : ℕ). Failing i m) one (subst (λ (j : ℕ). Failing x j) two (eight_failed x y e))
+    failed how (done all e same w) n m is = absurd cc
+    failed how (write_fault all e same w) n m is = absurd cc
+    failed how (contradiction evidence all e w) n m is = absurd cc
+    failed how (disk_fault memory sender some w) n m is = absurd cc
+    failed how (no_memory w) n m is = absurd cc
+
+    completed : (how : Detail) → Ends how → NothingRose s disks a → IsTrue a.kind.keeps_rules → AgreesAtStart a first → (how ≡ detail.Done) ⊎ (how ≡ detail.NoMemory)
+    completed how (done all e same w) none keeps agree = inl refl
+    completed how (no_memory w) none keeps agree = inr refl
+    completed how (write_fault all e same w) none keeps agree = absurd (none.sink w.risen)
+    completed how (undelivered n m all e w) none keeps agree =
+        let u = eight_failed n m e in
+        absurd (none.agency (λ below. let more = u.1 below in omega (arith, more)))
+    completed how (contradiction evidence all e w) none keeps agree = absurd ((session.agreement keeps agree).no_contradiction evidence e)
+    completed how (disk_fault memory sender some w) none keeps agree = absurd (none.disk (rose_day (h.faults disk) (h.faults disk_after) r.new.stopped (all_replies r.tills) r.answer stops some))
+
+    day_served : DayServed issuer asks plan (h.coming clock) (IsLater h.coming clock clock_after) s disks a end
+    unfolding served
+    day_served = record { day = served; ends = r.ends; undelivered = failed end r.ends; complete = completed end r.ends }
 
   -- the day of an opened store is one of its file, from its opening on
-  pub store_served : StoreServed tells told faults coming asks opened disk_after clock_after s end → TillsEnd issuer asks (coming clock) (LeftClock clocks) (IsLater coming clock clock_after) s disks end
-  unfolding served_opened
-  store_served (inl h) = inr (inr (inl (left_opened h)))
-  store_served (inr h) = inr (inr (inr (served_opened h, h.ends)))
+  pub store_day : StoreDayEnds (LeftSleeper z) h a.kind.begun plan asks (kind_of a) (desk_before a) (desk_after a) opened disk_after clock_after s end →
+      TillsEnd issuer asks plan (h.coming clock) (AllLeft clocks z a) (LeftTime clocks z) (IsLater h.coming clock clock_after) s disks a end
+  store_day (inl l) = inr (inr (inl (left_opened l.0 (inl l.1))))
+  store_day (inr d) = by_served d.served
+    where
+      by_served : (ShopLeft (LeftSleeper z) opened disk_after clock_after s end × (desk_after a ≡ d.opened)) ⊎ ShopRan h asks (kind_of a) d.opened (desk_after a) opened disk_after clock_after s end →
+          TillsEnd issuer asks plan (h.coming clock) (AllLeft clocks z a) (LeftTime clocks z) (IsLater h.coming clock clock_after) s disks a end
+      by_served (inl l) = inr (inr (inl (left_opened l.0 (inr (subst (λ (k : Desk). IsOpened (kind_of a) a.kind.begun plan first (desk_before a) k) (sym l.1) d.opens)))))
+      by_served (inr r) = inr (inr (inr (day_served d.opened d.opens r)))
 
 -- a till run by readings of one kind is one by readings of another kind that gives the same
 till_run_by : (issuer : List ℕ) (start end : List Entry) (old new : ℕ → Option ℕ) → ((k : ℕ) → old k ≡ new k) → {asks : List Asked} {replies : Replies} {seen : ℕ} {mark : Bool} → TillRun issuer old start end asks replies seen mark → TillRun issuer new start end asks replies seen mark
@@ -207,11 +269,11 @@ till_by issuer start end count asks old new same t h = record {
   at_most = h.at_most;
 }
 
--- the same end, said of other readings and of another clock
-pub tills_by : {D : Type 0} (issuer : List ℕ) (asks : List Asked) (old new : ℕ → Option ℕ) (untouched unread left leaves : Type 0) (s : Sinks) (k : Disks D) (end : Detail) → ((i : ℕ) → old i ≡ new i) → (untouched → unread) → (left → leaves) →
-    TillsEnd issuer asks old untouched left s k end → TillsEnd issuer asks new unread leaves s k end
-tills_by issuer asks old new untouched unread left leaves s k end same u l (inl h) = inl (record { ends = h.ends; wrote = h.wrote; disk = h.disk; rest = u h.rest })
-tills_by issuer asks old new untouched unread left leaves s k end same u l (inr (inl h)) = inr (inl (record {
+-- the same end, said of other readings, of another clock and of another sleeper
+pub tills_by : {D G : Type 0} (issuer : List ℕ) (asks : List Asked) (plan : Plan) (old new : ℕ → Option ℕ) (untouched unread unserved unasked' left leaves : Type 0) (s : Sinks) (k : Disks D) (a : Agencies G) (end : Detail) → ((i : ℕ) → old i ≡ new i) → (untouched → unread) → (unserved → unasked') → (left → leaves) →
+    TillsEnd issuer asks plan old untouched unserved left s k a end → TillsEnd issuer asks plan new unread unasked' leaves s k a end
+tills_by issuer asks plan old new untouched unread unserved unasked' left leaves s k a end same u v l (inl h) = inl (record { ends = h.ends; wrote = h.wrote; disk = h.disk; rest = u h.rest })
+tills_by issuer asks plan old new untouched unread unserved unasked' left leaves s k a end same u v l (inr (inl h)) = inr (inl (record {
   why = h.why;
   ends = h.ends;
   risen = h.risen;
@@ -220,22 +282,25 @@ tills_by issuer asks old new untouched unread left leaves s k end same u l (inr 
   wrote = h.wrote;
   rest = u h.rest;
 }))
-tills_by issuer asks old new untouched unread left leaves s k end same u l (inr (inr (inl h))) = inr (inr (inl (record {
+tills_by issuer asks plan old new untouched unread unserved unasked' left leaves s k a end same u v l (inr (inr (inl h))) = inr (inr (inl (record {
   ends = h.ends;
   start = h.start;
   found = h.found;
   kept = h.kept;
+  begun = h.begun;
   wrote = h.wrote;
-  rest = u h.rest;
+  rest = v h.rest;
 })))
-tills_by issuer asks old new untouched unread left leaves s k end same u l (inr (inr (inr h))) =
-    let p = h.0 in
-    inr (inr (inr (
-      record {
+tills_by issuer asks plan old new untouched unread unserved unasked' left leaves s k a end same u v l (inr (inr (inr h))) =
+    let p = h.day in
+    inr (inr (inr (record {
+      day = record {
         start = p.start;
         tills = p.tills;
         end = p.end;
         stopped = p.stopped;
+        torn = p.torn;
+        answer = p.answer;
         found = p.found;
         tills_are = p.tills_are;
         served = each_weaker (TillServed issuer old p.start p.end p.stopped asks) (TillServed issuer new p.start p.end p.stopped asks) p.tills (till_by issuer p.start p.end p.stopped asks old new same) p.served;
@@ -245,30 +310,38 @@ tills_by issuer asks old new untouched unread left leaves s k end same u l (inr 
         linked = p.linked;
         rising = p.rising;
         stops = p.stops;
+        at_most_one = p.at_most_one;
+        by_a_fault = p.by_a_fault;
         kept = p.kept;
-        clock = l p.clock;
-      },
-      h.1,
-    )))
+        session = p.session;
+        images = p.images;
+        rest = l p.rest;
+      };
+      ends = h.ends;
+      undelivered = h.undelivered;
+      complete = h.complete;
+    })))
 
-rose_served : {D : Type 0} (issuer : List ℕ) (asks : List Asked) (coming : ℕ → Option ℕ) (left : Type 0) (s : Sinks) (k : Disks D) (end : Detail) →
-    (p : Served issuer asks coming left k) → RunEnds (all_replies p.tills) (day_text asks p.tills p.end) s end → end ≡ detail.DiskFault → DiskRose k
-rose_served issuer asks coming left s k end p (disk_fault memory some wrote) is = rose_day (k.faults k.disk) (k.faults k.disk_after) p.stopped (all_replies p.tills) p.stops some
-rose_served issuer asks coming left s k end p (done all wrote) is = absurd cc
-rose_served issuer asks coming left s k end p (write_fault all wrote) is = absurd cc
-rose_served issuer asks coming left s k end p (no_memory wrote) is = absurd cc
+module _ {D G : Type 0} (issuer : List ℕ) (asks : List Asked) (plan : Plan) (coming : ℕ → Option ℕ) (s : Sinks) (k : Disks D) (a : Agencies G) where
+  rose_served : (left : Type 0) (end : Detail) (p : Served issuer asks plan coming left k a) → DayRunEnds (all_replies p.tills) p.answer (length (noted p.end)) (length (recs p.end)) (day_text asks p.tills p.end) s end → end ≡ detail.DiskFault → DiskRose k
+  rose_served left end p (disk_fault memory sender some w) is = rose_day (k.faults k.disk) (k.faults k.disk_after) p.stopped (all_replies p.tills) p.answer p.stops some
+  rose_served left end p (done all e same w) is = absurd cc
+  rose_served left end p (write_fault all e same w) is = absurd cc
+  rose_served left end p (undelivered n m all e w) is = absurd cc
+  rose_served left end p (contradiction evidence all e w) is = absurd cc
+  rose_served left end p (no_memory w) is = absurd cc
 
-pub rose_tills : {D : Type 0} (issuer : List ℕ) (asks : List Asked) (coming : ℕ → Option ℕ) (untouched left : Type 0) (s : Sinks) (k : Disks D) (end : Detail) →
-    TillsEnd issuer asks coming untouched left s k end → end ≡ detail.DiskFault → DiskRose k
-rose_tills issuer asks coming untouched left s k end (inl h) is = let none = sym h.ends ∙ is in absurd cc
-rose_tills issuer asks coming untouched left s k end (inr (inl h)) is = rose_opening h.why k h.risen (sym h.ends ∙ is)
-rose_tills issuer asks coming untouched left s k end (inr (inr (inl h))) is = let none = sym h.ends ∙ is in absurd cc
-rose_tills issuer asks coming untouched left s k end (inr (inr (inr h))) is = rose_served issuer asks coming left s k end h.0 h.1 is
+  rose_tills : (untouched unserved left : Type 0) (end : Detail) → TillsEnd issuer asks plan coming untouched unserved left s k a end → end ≡ detail.DiskFault → DiskRose k
+  rose_tills untouched unserved left end (inl h) is = let none = sym h.ends ∙ is in absurd cc
+  rose_tills untouched unserved left end (inr (inl h)) is = rose_opening h.why k h.risen (sym h.ends ∙ is)
+  rose_tills untouched unserved left end (inr (inr (inl h))) is = let none = sym h.ends ∙ is in absurd cc
+  rose_tills untouched unserved left end (inr (inr (inr h))) is = rose_served left end h.day h.ends is
 
 -- the end of a day that read its script is that of its tills
-pub day_ran : {D C : Type 0} (issuer : List ℕ) (d : Devices D C) (script : Script) (end : Detail) → IsGoodScript Full d.source script →
-    TillsEnd issuer script.asks (readings_of script.clock (d.clock.coming d.clock.clock)) (LeftClock d.clock) (LeavesDayClock d.clock script.clock) d.sink d.disk end → DayEnds issuer d end
+pub day_ran : {D C Z G : Type 0} (issuer : List ℕ) (d : AllDevices D C Z G) (script : Script) (end : Detail) → IsGoodScript Full d.devices.source script →
+    TillsEnd issuer script.asks script.plan (readings_of script.clock (d.devices.clock.coming d.devices.clock.clock)) (AllLeft d.devices.clock d.sleeper d.agency) (LeftTime d.devices.clock d.sleeper) (LeavesTime script.clock d.devices.clock d.sleeper) d.devices.sink d.devices.disk d.agency end →
+    DayEnds issuer d end
 day_ran issuer d script end good h = ran script end good (record {
   ends = h;
-  risen = rose_tills issuer script.asks (readings_of script.clock (d.clock.coming d.clock.clock)) (LeftClock d.clock) (LeavesDayClock d.clock script.clock) d.sink d.disk end h;
+  risen = rose_tills issuer script.asks script.plan (readings_of script.clock (d.devices.clock.coming d.devices.clock.clock)) d.devices.sink d.devices.disk d.agency (AllLeft d.devices.clock d.sleeper d.agency) (LeftTime d.devices.clock d.sleeper) (LeavesTime script.clock d.devices.clock d.sleeper) end h;
 })

@@ -1,15 +1,24 @@
 -- The lines of a till.
-use Rattle.std.proofs.Common.{◌≡◌, ℕ, ◌<◌, Bool, List, [], ◌∷◌, length, map, Result, refl, ap, ◌∙◌, arith}
+use Rattle.std.proofs.Common.{◌≡◌, ◌⊎◌, inr, ℕ, ◌<◌, Bool, false, List, [], ◌∷◌, length, map, Result, Err, refl, sym, subst, ap, ◌∙◌, arith}
 use Rattle.std.specs.Prelude.{◌||◌}
 use Rattle.std.specs.List.{flat_map, list_any}
 use Rattle.std.proofs.lemmas.List.Folds.{flat_map-map, list_any-append}
+use Rattle.ports.specs.Sinks.{FailedIn, Sinks, Wrote}
 use Rattle.journal.specs.declared.faults.StoreFault.{StoreFault}
+use Rattle.journal.specs.declared.faults.StoreFault.TheVariants as store
+use Rattle.sender.specs.declared.answers.DrainFault.{DrainFault}
+use Rattle.sender.specs.declared.answers.DrainFault.TheVariants as drain
 use Rattle.shop_core.specs.Asked.{Asked}
 use Rattle.shop_core.specs.declared.answers.Reply.{Reply}
+use Rattle.verifactu.specs.Beside.{DayRunEnds, sender_lacks_memory}
+use Rattle.verifactu.specs.Beside.DayRunEnds.{undelivered, contradiction, disk_fault, no_memory}
+use Rattle.verifactu.specs.Drained.{IsDiskAnswer, fault_end}
 use Rattle.verifactu.specs.Printed.{answers}
+use Rattle.verifactu.specs.Replies.{AllReplied, is_no_memory}
 use Rattle.verifactu.specs.Tills.{TillTold, all_replies}
 use Rattle.verifactu.specs.Works.{told_in}
 use Rattle.verifactu.specs.declared.tills.TillDay.{TillDay}
+use Rattle.verifactu.proofs.Finished.{either_part}
 
 -- without replies there are no answers
 pub no_answers : (asks : List Asked) (replies : List (Result Reply StoreFault)) → length replies < 1 → answers asks replies ≡ []
@@ -30,3 +39,13 @@ any_reply p days = ap (λ (l : List (Result Reply StoreFault)). list_any p l) (f
 pub same_numbers : (days : List TillDay) → map (λ (t : TillTold). t.till) (map told_in days) ≡ map (λ (d : TillDay). d.till) days
 same_numbers [] = refl
 same_numbers (d ∷ days) = ap (λ (l : List ℕ). d.till ∷ l) (same_numbers days)
+
+-- the end of a day whose sender failed so
+pub sender_ends : (replies : List (Result Reply StoreFault)) (answer : Result (Unit {0}) DrainFault) (fault : DrainFault) (n r : ℕ) (text : List ℕ) (s : Sinks) → answer ≡ Err fault → AllReplied replies → list_any is_no_memory replies ≡ false → sender_lacks_memory answer ≡ false → Wrote s text ⊎ FailedIn s text →
+    DayRunEnds replies answer n r text s (fault_end fault)
+sender_ends replies answer (drain.Undelivered x y) n r text s is all memory sender w = undelivered x y all is w
+sender_ends replies answer (drain.Contradiction evidence) n r text s is all memory sender w = contradiction evidence all is w
+sender_ends replies answer (drain.Store store.DiskFault) n r text s is all memory sender w = disk_fault memory sender (inr (subst (λ (a : Result (Unit {0}) DrainFault). IsDiskAnswer a) (sym is) tt)) w
+sender_ends replies answer (drain.Store (store.Stopped faults)) n r text s is all memory sender w = disk_fault memory sender (inr (subst (λ (a : Result (Unit {0}) DrainFault). IsDiskAnswer a) (sym is) tt)) w
+sender_ends replies answer (drain.Store store.NoMemory) n r text s is all memory sender w = no_memory (either_part s text w)
+sender_ends replies answer drain.NoMemory n r text s is all memory sender w = no_memory (either_part s text w)

@@ -121,7 +121,7 @@ module _ {D C Z G : Type 0} (issuer : List ℕ) (script : Script) (s : Sinks) (k
       timed (inl n) = inl (not_opened_by issuer (AllLeft own leap a) (AllLeft t z a) s k end (λ left. record { clock = clock; sleeper = sleeper; agency = left.agency }) n)
       timed (inr f) = inr (subst (λ (b : Bool). FileDrained issuer script.plan b line.0 s k a end) exact (subst (λ (m : ℕ). FileDrained issuer script.plan leap.tells m s k a end) at f))
 
-either_part : (s : Sinks) (text : List ℕ) → Wrote s text ⊎ FailedIn s text → WrotePart s text
+pub either_part : (s : Sinks) (text : List ℕ) → Wrote s text ⊎ FailedIn s text → WrotePart s text
 either_part s text (inl whole) = part_of_output s text (Ok tt) whole
 either_part s text (inr failed) = failed.part
 

@@ -25,3 +25,7 @@ pub mod DayRuns
 pub mod TillDays
 pub mod DayEnding
 pub mod DayTexts
+pub mod Turns
+pub mod Theirs
+pub mod Whole
+pub mod Joined

@@ -4,6 +4,7 @@ use Rattle.std.specs.Prelude.{◌≢◌, AllPairs, Contains}
 use Rattle.std.specs.List.{AllByRecursion, count_by, flat_map}
 use Rattle.std.proofs.lemmas.Bool.Decides.{nat_tests}
 use Rattle.std.proofs.lemmas.List.Elements.{All-weaker, Contains-append_left, Contains-append_right, filter_passes}
+use Rattle.std.proofs.lemmas.List.{length-append}
 use Rattle.std.proofs.lemmas.List.Sums.{sum_by-cons}
 use Rattle.chain_lock.specs.Known.{Known, IsNew, Fits, holders, owners, times_held, times_owned}
 use Rattle.chain_lock.specs.Lists.{StartsWith}
@@ -130,7 +131,7 @@ module _ {C : Type 0} (coming : C → ℕ → Option ℕ) (asks : List Asked) wh
         }
 
     module _ (size : length base ≡ length root.history) (rows : List (Row C)) (seat : Known Item (Root C)) (distinct : AreDistinct (map (λ (r : Row C). r.done.till) rows)) (news : AllByRecursion (λ (r : Row C). IsNew base root r.from) rows)
-        (seat_new : IsNew base root seat) (worked : AllByRecursion (Worked coming asks) rows) (fits : AllByRecursion (Fits log) (after_all rows ++ seat ∷ [])) (starts : StartsWith log base)
+        (bare : (till : ℕ) → OwnsNone till seat) (worked : AllByRecursion (Worked coming asks) rows) (fits : AllByRecursion (Fits log) (after_all rows ++ seat ∷ [])) (starts : StartsWith log base)
         (since : (n : ℕ) → length base ≤ n → n < length log → owners n (after_all rows ++ seat ∷ []) ≡ 1) where
       rows_fit : AllByRecursion (λ (r : Row C). Fits log (known_after r)) rows
       rows_fit = each_unmap (λ (r : Row C). known_after r) (Fits log) rows (each_front (Fits log) (after_all rows) seat fits).0
@@ -151,9 +152,6 @@ module _ {C : Type 0} (coming : C → ℕ → Option ℕ) (asks : List Asked) wh
       since_last : (n : ℕ) → length base ≤ n → n < length log → owners n passes ≡ 1
       since_last n a b = sym (owners_last n seat rows) ∙ since n a b
 
-      bare : (till : ℕ) → OwnsNone till seat
-      bare till = all_of_each (λ (z : ℕ × Item). is_of till z.1 ≡ false) seat.own (subst (λ (o : List (ℕ × Item)). AllByRecursion (λ (z : ℕ × Item). is_of till z.1 ≡ false) o) (sym seat_new.own) tt)
-
       abbrev Apart : ℕ → Known Item (Root C) → Known Item (Root C) → Type 0
       Apart till new k = (k ≡ new) ⊎ OwnsNone till k
 
@@ -173,14 +171,22 @@ module _ {C : Type 0} (coming : C → ℕ → Option ℕ) (asks : List Asked) wh
           (each_both (λ (r : Row C). AllByRecursion (Same (λ (x : Row C). x.done.till) r) rows) (λ (r : Row C). IsNew base root r.from) (λ (r : Row C). AllByRecursion (Same (λ (x : Row C). x.done.till) r) rows × IsNew base root r.from) rows (λ r s n. (s, n)) (apart_all (λ (x : Row C). x.done.till) rows distinct) news)
           (each_both (Worked coming asks) Told (λ (r : Row C). Worked coming asks r × Told r) rows (λ r w t. (w, t)) worked told)
 
-      -- no other till has a record since the start: the seat has asked for nothing, and owns as little
-      pub none_else : (till : ℕ) → AllByRecursion (λ (r : Row C). r.done.till ≢ till) rows → records_of till (drop (length base) log) ≡ []
-      none_else till other =
-          let apart = all_of_each (Apart till seat) passes (each_snoc (Apart till seat) (lasts rows) seat (each_map (λ (x : Row C). x.last) (Apart till seat) rows
-          (each_both (λ (r : Row C). r.done.till ≢ till) Told (λ (x : Row C). Apart till seat x.last) rows (λ r o t. inr (t.apart till (λ e. o (sym e)))) other told)) (inl refl)) in
-          what_is_taken till root base log seat seat [] [] passes seat_new begun (λ i d l. absurd (omega (arith, l))) starts seat_fits passes_fit apart since_last
+      -- a pass that is new fits
+      new_fits : (first : Known Item (Root C)) → IsNew base root first → Fits log first
+      new_fits first new = record {
+        begins = subst (λ (l : List Item). StartsWith log l) (sym new.seen) starts;
+        at_least = (let e = new.least in let f = ap (λ (l : List Item). length l) starts.1 in let g = length-append base starts.0 in omega (arith, e, f, g));
+        own = subst (λ (o : List (ℕ × Item)). All (λ (x : ℕ × Item). slice_get log x.0 ≡ Some x.1) o) (sym new.own) (λ i d l. absurd (omega (arith, l)));
+      }
 
-      -- where the list ends in a stop, a till was told that the disk failed
+      -- no other till has a record since the start: a new pass has asked for nothing, and no pass owns one
+      pub none_else : (first : Known Item (Root C)) → IsNew base root first → (till : ℕ) → AllByRecursion (λ (r : Row C). r.done.till ≢ till) rows → records_of till (drop (length base) log) ≡ []
+      none_else first new till other =
+          let apart = all_of_each (Apart till first) passes (each_snoc (Apart till first) (lasts rows) seat (each_map (λ (x : Row C). x.last) (Apart till first) rows
+          (each_both (λ (r : Row C). r.done.till ≢ till) Told (λ (x : Row C). Apart till first x.last) rows (λ r o t. inr (t.apart till (λ e. o (sym e)))) other told)) (inr (bare till))) in
+          what_is_taken till root base log first first [] [] passes new begun (λ i d l. absurd (omega (arith, l))) starts (new_fits first new) passes_fit apart since_last
+
+      -- where the list ends in a stop that isn't the seat's, a till was told that the disk failed
       clean_or_told : (rs : List (Row C)) → AllByRecursion Told rs → AllByRecursion (λ (r : Row C). AllByRecursion (λ (z : ℕ × Item). is_stop z.1 ≡ false) r.last.own) rs ⊎ Contains (flat_map (λ (r : Row C). r.done.answers.items) rs) (Err DiskFault)
       clean_or_told [] t = inl tt
       clean_or_told (r ∷ rs) t = both t.0.told.clean (clean_or_told rs t.1)
@@ -192,14 +198,14 @@ module _ {C : Type 0} (coming : C → ℕ → Option ℕ) (asks : List Asked) wh
           both (inl clean) (inl more) = inl (clean, more)
           both (inl clean) (inr told) = inr (Contains-append_right r.done.answers.items (flat_map (λ (s : Row C). s.done.answers.items) rs) (Err DiskFault) told)
 
-      pub stop_told : (n : ℕ) (x : Item) → slice_get log n ≡ Some x → is_stop x ≡ true → length base ≤ n → n < length log → Contains (flat_map (λ (r : Row C). r.done.answers.items) rows) (Err DiskFault)
-      stop_told n x there stops above below = decide (clean_or_told rows told)
+      pub stop_told : AllByRecursion (λ (z : ℕ × Item). is_stop z.1 ≡ false) seat.own → (n : ℕ) (x : Item) → slice_get log n ≡ Some x → is_stop x ≡ true → length base ≤ n → n < length log → Contains (flat_map (λ (r : Row C). r.done.answers.items) rows) (Err DiskFault)
+      stop_told seat_clean n x there stops above below = decide (clean_or_told rows told)
         where
           decide : AllByRecursion (λ (r : Row C). AllByRecursion (λ (z : ℕ × Item). is_stop z.1 ≡ false) r.last.own) rows ⊎ Contains (flat_map (λ (r : Row C). r.done.answers.items) rows) (Err DiskFault) → Contains (flat_map (λ (r : Row C). r.done.answers.items) rows) (Err DiskFault)
           decide (inr told) = told
           decide (inl clean) =
               let none = none_own log n x there stops passes (each_of_all (Fits log) passes passes_fit)
               (each_snoc (λ (k : Known Item (Root C)). AllByRecursion (λ (z : ℕ × Item). is_stop z.1 ≡ false) k.own) (lasts rows) seat (each_map (λ (r : Row C). r.last) (λ (k : Known Item (Root C)). AllByRecursion (λ (z : ℕ × Item). is_stop z.1 ≡ false) k.own) rows clean)
-              (subst (λ (o : List (ℕ × Item)). AllByRecursion (λ (z : ℕ × Item). is_stop z.1 ≡ false) o) (sym seat_new.own) tt)) in
+              seat_clean) in
               let one = since_last n above below in
               absurd (omega (arith, none, one))

@@ -28,6 +28,7 @@ use Rattle.sender.specs.Draining.{Scene, Drained, EndsWith}
 use Rattle.sender.specs.Sending.{Sending}
 use Rattle.sender.specs.Turning.{Deed, Nothing, Asked, Handed, Kind, Ends, SeenEnds, ReplyEnds}
 use Rattle.sender.proofs.Adding.{adds_then, turn_notes, turns_notes}
+use Rattle.verifactu.specs.Beside.{EndsStopped}
 use Rattle.verifactu.specs.Drained.{IsDiskAnswer, IsFaultless, torn_in}
 use Rattle.verifactu.proofs.Alone.{Closed, all_contained, all_seen, mine, own_before}
 use Rattle.verifactu.proofs.Agreed.{Stored}
@@ -52,23 +53,19 @@ untorn_adds kind exact start then old new result d faultless =
       | inr p ↦ subst (λ (r : Result (Unit {0}) DrainFault). IsFaultless r) p.0 faultless
     ]
 
-get_seam : (xs : List Item) (x : Item) → slice_get (xs ++ x ∷ []) (length xs) ≡ Some x
+pub get_seam : (xs : List Item) (x : Item) → slice_get (xs ++ x ∷ []) (length xs) ≡ Some x
 get_seam [] x = refl
 get_seam (y ∷ xs) x = get_seam xs x
 
--- the last item is a stop
-abbrev EndsStopped : List Item → Type 0
-EndsStopped items = (front : List Item) × (faults : ℕ) × (torn : Entry) × (items ≡ front ++ item.Stop faults torn ∷ [])
-
 -- a fault of the disk, in this call or in an earlier one
-abbrev IsDisk : StoreFault → Type 0
+abbrev pub IsDisk : StoreFault → Type 0
 IsDisk store.DiskFault = Unit {0}
 IsDisk (store.Stopped faults) = Unit {0}
 IsDisk store.NoMemory = ⊥
 
 noted_stopped : (look after : Sight) (lines : List Line) (fault : StoreFault) → IsDisk fault → NotedBy look after lines (Err fault) → EndsStopped after.items
-noted_stopped look after lines store.DiskFault d a = (_, _, _, a.adds.items)
-noted_stopped look after lines (store.Stopped faults) d a = (_, _, _, a.items)
+noted_stopped look after lines store.DiskFault d a = record { front = _; faults = _; torn = _; is = a.adds.items }
+noted_stopped look after lines (store.Stopped faults) d a = record { front = _; faults = _; torn = _; is = a.items }
 noted_stopped look after lines store.NoMemory d a = absurd d
 
 seen_stopped : (said : Option Replied) (shown : Waiting) (seen : List Seen) (look after : Sight) (doubt : Bool) (fault : StoreFault) → IsDisk fault → SeenEnds said shown seen look after (Err (send.Store fault)) doubt → EndsStopped after.items
@@ -77,7 +74,7 @@ seen_stopped said shown seen look after doubt fault d ends = noted_stopped look 
 reply_stopped : (shown : Waiting) (reply : Replied) (look after : Sight) (doubt : Bool) (fault : StoreFault) → IsDisk fault → ReplyEnds shown reply look after (Err (send.Store fault)) doubt → EndsStopped after.items
 reply_stopped shown reply look after doubt fault d ends = noted_stopped look after ends.0.1.lines fault d ends.0.1.noted
 
-ends_stopped : (old : Sending) (now : ℕ) (shown : Waiting) (look after : Sight) (deed : Deed) (fault : StoreFault) (new : Sending) → IsDisk fault → Ends old now shown look after deed (Err (send.Store fault)) new → EndsStopped after.items
+pub ends_stopped : (old : Sending) (now : ℕ) (shown : Waiting) (look after : Sight) (deed : Deed) (fault : StoreFault) (new : Sending) → IsDisk fault → Ends old now shown look after deed (Err (send.Store fault)) new → EndsStopped after.items
 ends_stopped old now shown look after Nothing fault new d ends = absurd ends.0
 ends_stopped old now shown look after (Asked (Ok seen)) fault new d ends = seen_stopped old.said shown seen look after new.doubt fault d ends.2.3
 ends_stopped old now shown look after (Asked (Err agency.Failed)) fault new d ends = let e = ends.2.0 in absurd cc
@@ -126,8 +123,8 @@ module _ {C : Type 0} (base log : List Item) (root : Root C) (tills : List (Know
       by_case : (n : Option ℕ) (t : Option Entry) → log ≡ map item.Entry es ++ stop_in n t → IsSome n
       by_case (Some n) t e = refl
       by_case None t e =
-          let all : AllByRecursion IsEntry (ends.0 ++ item.Stop ends.1 ends.2 ∷ []) = subst (λ (l : List Item). AllByRecursion IsEntry l) (sym e ∙ sym (all_seen base log root tills seat then closed) ∙ ends.3) (are_entries es) in
-          absurd (all_last ends.0 (item.Stop ends.1 ends.2) all)
+          let all : AllByRecursion IsEntry (ends.front ++ item.Stop ends.faults ends.torn ∷ []) = subst (λ (l : List Item). AllByRecursion IsEntry l) (sym e ∙ sym (all_seen base log root tills seat then closed) ∙ ends.is) (are_entries es) in
+          absurd (all_last ends.front (item.Stop ends.faults ends.torn) all)
 
   pub is_untorn : Adds AreNotes (sight_by seat) (sight_by then) → torn_in stopped torn ≡ []
   is_untorn adds = by_case stopped torn stored.log_is

@@ -17,6 +17,7 @@ pub mod Steps
 pub mod Drained
 pub mod Outcomes
 pub mod Drain
+pub mod Beside
 pub mod Tills
 pub mod Works
 pub mod Day

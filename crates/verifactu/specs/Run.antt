@@ -21,7 +21,7 @@ use Rattle.verifactu.specs.declared.words.Command.TheVariants.{Chain, Day, Drain
 -- when a command ends in this way
 abbrev pub CommandEnds : {D C Z G : Type 0} → Command → AllDevices D C Z G → Detail → Type 0
 CommandEnds (Chain issuer) a end = ChainEnds issuer a.devices end × NobodyCalled a
-CommandEnds (Day issuer) a end = DayEnds issuer a.devices end × NobodyCalled a
+CommandEnds (Day issuer) a end = DayEnds issuer a end
 CommandEnds (Drain issuer) a end = DrainEnds issuer a end
 CommandEnds Audit a end = AuditEnds a.devices.sink a.devices.disk end × OnlyReadsFile a.devices × NobodyCalled a
 CommandEnds (Link num host) a end = LinkEnds num host a.devices.sink a.devices.disk end × OnlyReadsFile a.devices × NobodyCalled a

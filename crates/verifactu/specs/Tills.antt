@@ -1,5 +1,5 @@
 -- What a shop's tills are told in a day, by the history at its end.
-use Rattle.std.specs.Prelude.{◌≡◌, ◌≢◌, ◌≤◌, ℕ, ◌+◌, ◌==◌, Bool, true, false, List, [], ◌∷◌, ◌++◌, filter, drop, flat_map}
+use Rattle.std.specs.Prelude.{◌≡◌, ◌≢◌, ◌⊎◌, ◌≤◌, ℕ, ◌+◌, ◌==◌, Bool, true, false, List, [], ◌∷◌, ◌++◌, filter, drop, flat_map}
 use Rattle.std.specs.Prelude.{length, Contains, Option, None, Some, Result, Ok, Err}
 use Rattle.std.specs.List.{AllByRecursion, list_any, range_with_len}
 use Rattle.chain_disk.specs.Told.{Told}
@@ -15,9 +15,11 @@ use Rattle.shop_core.specs.Asked.{Asked}
 use Rattle.shop_core.specs.Runs.{IsTakenAt, Tells}
 use Rattle.shop_core.specs.declared.answers.Reply.{Reply}
 use Rattle.shop_core.specs.declared.answers.Reply.TheVariants.{Taken, Again, Refused}
-use Rattle.till_calls.specs.Root.{Parts, root_of}
+use Rattle.till_calls.specs.Root.{Parts, Root}
 use Rattle.till_calls.specs.Sound.{IsSound}
+use Rattle.sender.specs.declared.answers.DrainFault.{DrainFault}
 use Rattle.verifactu.specs.Crashes.{IsPrefix}
+use Rattle.verifactu.specs.Drained.{IsDiskAnswer, IsFaultless}
 use Rattle.verifactu.specs.Replies.{Replies, AllGoOn}
 
 -- the asks of a till, in line order
@@ -109,25 +111,27 @@ TellsStop count (Err DiskFault) = Unit {0}
 TellsStop count (Err (Stopped faults)) = faults ≡ count
 TellsStop count (Err NoMemory) = Unit {0}
 
--- The disk failed, its count of faults having risen to this one. A till was told so, and the stop is told by this count
-pub record StoppedAt (faults faults_after count : ℕ) (replies : Replies) : Type 0 where
-  pub first : Contains replies (Err DiskFault)
+-- The disk failed, its count of faults having risen to this one. A till was told so, or the sender was, which may have found no
+-- memory to tell it. The stop is told by this count.
+pub record StoppedAt (faults faults_after count : ℕ) (replies : Replies) (answer : Result (Unit {0}) DrainFault) : Type 0 where
+  pub first : Contains replies (Err DiskFault) ⊎ (IsFaultless answer → ⊥)
   pub later : AllByRecursion (TellsStop count) replies
   pub risen : Rose faults count
   pub within : count ≤ faults_after
 
 -- whether the shop stopped, and at which count; the other counts of faults are those before the day and after it
-abbrev pub StopsShop : ℕ → ℕ → Option ℕ → Replies → Type 0
-StopsShop faults faults_after None replies = AllGoOn replies
-StopsShop faults faults_after (Some count) replies = StoppedAt faults faults_after count replies
+abbrev pub StopsShop : ℕ → ℕ → Option ℕ → Replies → Result (Unit {0}) DrainFault → Type 0
+StopsShop faults faults_after None replies answer = AllGoOn replies × (IsDiskAnswer answer → ⊥)
+StopsShop faults faults_after (Some count) replies answer = StoppedAt faults faults_after count replies answer
 
--- What a day of these tills alone makes of a store: its parts before the shop's start and after its close, and what each till was
--- told. No other till has a record since the start.
+-- What a day of these tills and of a sender makes of a shop: how the shop was at its start, the parts of its store after its close,
+-- what each till was told, and how the sending ended. No other till has a record since the start.
 pub record DayRun {D C : Type 0} (tells : Bool) (told : D → Told) (faults : D → ℕ) (coming : C → ℕ → Option ℕ)
-    (asks : List Asked) (old new : Parts D C) (tills : List TillTold) : Type 0 where
-  pub sound : IsSound tells told faults coming (root_of told faults old) new
+    (asks : List Asked) (root : Root C) (new : Parts D C) (tills : List TillTold) (answer : Result (Unit {0}) DrainFault) :
+    Type 0 where
+  pub sound : IsSound tells told faults coming root new
   pub served : AllByRecursion
-      (TillServed old.state.issuer (coming old.clock) old.state.entries new.state.entries new.stopped asks) tills
+      (TillServed root.issuer (coming root.clock) root.history new.state.entries new.stopped asks) tills
   pub others : (till : ℕ) → AllByRecursion (λ (t : TillTold). t.till ≢ till) tills →
-      own_of till (drop (length old.state.entries) new.state.entries) ≡ []
-  pub stops : StopsShop (faults old.disk) (faults new.disk) new.stopped (all_replies tills)
+      own_of till (drop (length root.history) new.state.entries) ≡ []
+  pub stops : StopsShop root.faults (faults new.disk) new.stopped (all_replies tills) answer

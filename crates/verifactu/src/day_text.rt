@@ -1,21 +1,24 @@
 // What is printed of a day, and how it ends.
-ghost use Rattle.std.specs.Prelude.{◌≡◌, ◌++◌, ◌∷◌, ℕ, List, map, flat_map, IfOk, OnOk};
+ghost use Rattle.std.specs.Prelude.{◌≡◌, ◌++◌, ◌∷◌, ℕ, List, map, flat_map, IfOk, OnOk, IsTrue};
 ghost use Rattle.std.specs.List.{list_any};
 ghost use Rattle.ports.specs.Sinks.{OutputIs, Sinks};
 ghost use Rattle.shop_core.specs.Asked.{Asked};
 ghost use Rattle.verifactu.specs.Day as spec;
-ghost use Rattle.verifactu.specs.Ending.{RunEnds};
+ghost use Rattle.verifactu.specs.Beside as beside;
+ghost use Rattle.verifactu.specs.Beside.{DayRunEnds};
 ghost use Rattle.verifactu.specs.Printed.{answers};
 ghost use Rattle.verifactu.specs.Replies as reply;
 ghost use Rattle.verifactu.specs.Tills.{all_replies, asks_of};
 ghost use Rattle.verifactu.specs.Works.{told_in};
 
+use crate::drain::fault_end;
 use crate::ending::{lacks_disk, lacks_memory};
 use crate::printed::Told;
 use crate::tills::TillDay;
 use journal::StoreFault;
 use ports::{Failed, NoMemory};
 use report::{AnswerLine, Answers, Detail, answers_text, listing_text};
+use sender::DrainFault;
 use shop_core::{Ask, Reply, State};
 use std::alloc::Global;
 
@@ -100,15 +103,43 @@ fn one_lacks_disk(days: &[TillDay]) -> bool
     days.iter().any(|day| lacks_disk(&day.answers))
 }
 
-/// The end of a day with these answers, whose text was written or not, in the order of `end_of`.
-pub fn end_of_day(days: &[TillDay], written: Result<(), Failed>) -> Detail
-    ensures { (text : List ℕ) (s : Sinks) → OutputIs s text written → RunEnds (all_replies (map told_in days.now)) text s result }
+// Whether the sender found no memory.
+fn sender_lacks_memory(answer: &Result<(), DrainFault>) -> bool
+    ensures { result ≡ beside.sender_lacks_memory answer.now }
+{
+    match answer {
+        Err(DrainFault::NoMemory | DrainFault::Store(StoreFault::NoMemory)) => true,
+        _ => false,
+    }
+}
+
+/// The end of a day with these answers of its tills and of its sender, whose text was written or not: want of memory before a
+/// fault of the disk, that before a contradiction and an undelivered drain, and these before a fault of the sink. A sender that is
+/// done has seen all lines noted; where they aren't after all, it is want of memory.
+pub fn end_of_day(
+    days: &[TillDay],
+    answer: &Result<(), DrainFault>,
+    all_noted: bool,
+    written: Result<(), Failed>,
+) -> Detail
+    ensures { (text : List ℕ) (s : Sinks) (noted_count records_count : ℕ) → (IsTrue all_noted → noted_count ≡ records_count) →
+        OutputIs s text written →
+        DayRunEnds (all_replies (map told_in days.now)) answer.now noted_count records_count text s result }
 {
     if one_lacks_memory(days) {
         return Detail::NoMemory;
     }
+    if sender_lacks_memory(answer) {
+        return Detail::NoMemory;
+    }
     if one_lacks_disk(days) {
         return Detail::DiskFault;
+    }
+    if let Err(fault) = answer {
+        return fault_end(*fault);
+    }
+    if !all_noted {
+        return Detail::NoMemory;
     }
     match written {
         Ok(()) => Detail::Done,

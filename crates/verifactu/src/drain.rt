@@ -20,6 +20,7 @@ use crate::draining::{DrainEnd, drain_shop};
 use crate::opening::opening_end;
 use crate::outside::Outside;
 use crate::scripts::read_source;
+use crate::session::begin;
 use agency_port::{Agency, Turns};
 use agency_rules::Plan;
 use chain_disk::Disk;
@@ -36,44 +37,6 @@ use sender::DrainFault;
 use shop_core::{State, a_history_notes_its_records, legal_is_chained};
 use std::alloc::Global;
 use std::sync::Wait;
-
-// The first records of a history, each with the line noted for it.
-fn noted_pairs(alloc: Global, state: &State) -> Result<Vec<(Sealed, Line)>, NoMemory>
-    ensures { IfOk result (λ pairs. pairs.items ≡ spec.noted_pairs state.now.entries) }
-{
-    let count = state.noted();
-    let mut pairs = Vec::new(alloc);
-    for n in 0..count {
-        let Some(sealed) = state.sealed(alloc, n + 1)? else {
-            return Ok(pairs);
-        };
-        let Some(line) = state.line(n + 1) else {
-            return Ok(pairs);
-        };
-        pairs.push((sealed, line))?;
-    }
-    Ok(pairs)
-}
-
-// Opens the agency's session with this plan and the pairs noted in the history.
-fn begin<G: Agency>(
-    alloc: Global,
-    plan: &Plan,
-    state: &State,
-    agency: &mut G,
-) -> Result<(), NoMemory>
-    ensures ok { OnOk result (IsOpened (record { tells = G.tells; keeps_rules = G.keeps_rules }) G.begun plan.now
-        state.now.entries
-        (record { ledger = G.ledger agency.old; faults = G.faults agency.old })
-        (record { ledger = G.ledger agency.new; faults = G.faults agency.new })) }
-    ensures err { OnErr result ((IsTrue G.tells → G.ledger agency.new ≡ G.ledger agency.old)
-        × (G.faults agency.new ≡ G.faults agency.old)) }
-{
-    a_history_notes_its_records();
-    state.is_legal();
-    let pairs = noted_pairs(alloc, state)?;
-    agency.begin(alloc, plan, &pairs)
-}
 
 // Opens the session and sends the waiting records in it.
 fn send<D: Disk, C: Clock, G: Agency, Z: Sleeper, R: Wait>(
@@ -132,8 +95,8 @@ fn store_end(fault: StoreFault) -> Detail
     }
 }
 
-// The end of a drain that failed so.
-fn fault_end(fault: DrainFault) -> Detail
+/// The end of a drain that failed so.
+pub fn fault_end(fault: DrainFault) -> Detail
     ensures { result ≡ spec.fault_end fault }
 {
     match fault {

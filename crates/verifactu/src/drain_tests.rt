@@ -17,12 +17,12 @@ use std::sync::Wait;
 use std::test::Fail;
 use std::thread::Threads;
 
-const DRAIN: &str = "drain shop.chain 89890001K";
+pub const DRAIN: &str = "drain shop.chain 89890001K";
 
 // 2025-01-02, 07:40 on the peninsular clock.
-const NEXT_DAY: u64 = 1_735_800_000;
+pub const NEXT_DAY: u64 = 1_735_800_000;
 
-const TWO: &str = "clock 1735722000 0\nsale 1 1 A F2 21:10000\nsale 1 2 A F2 21:10000\n";
+pub const TWO: &str = "clock 1735722000 0\nsale 1 1 A F2 21:10000\nsale 1 2 A F2 21:10000\n";
 
 const THREE: &str =
     "clock 1735722000 0\nsale 1 1 A F2 21:10000\nsale 1 2 A F2 21:10000\nsale 1 3 A F2 21:10000\n";
@@ -44,7 +44,7 @@ struct Left<G> {
 }
 
 // Runs a script on a disk by `chain`; what was printed, and the disk.
-fn chained(
+pub fn chained(
     rt: &(impl AllocGlobal + Threads + Wait + Sync),
     script: &str,
     disk: MemDisk,
@@ -58,7 +58,10 @@ fn chained(
 }
 
 // The file of these sales.
-fn file_of(rt: &(impl AllocGlobal + Threads + Wait + Sync), script: &str) -> Result<MemDisk, Fail> {
+pub fn file_of(
+    rt: &(impl AllocGlobal + Threads + Wait + Sync),
+    script: &str,
+) -> Result<MemDisk, Fail> {
     let (_, disk) = chained(rt, script, disk_of(rt.alloc(), &[], 0)?)?;
     Ok(disk)
 }
@@ -242,7 +245,7 @@ fn eight_link_faults_end_a_drain(rt: HostRuntime) -> Result<(), Fail> {
 }
 
 // The Huellas of the first two records of the file, which comes back.
-fn two_huellas(alloc: Global, disk: MemDisk) -> Result<(Huellas, MemDisk), Fail> {
+pub fn two_huellas(alloc: Global, disk: MemDisk) -> Result<(Huellas, MemDisk), Fail> {
     let Ok(issuer) = Nif::read("89890001K") else {
         return Err(Fail::from("a tax number"));
     };
@@ -267,7 +270,7 @@ fn none_seen(alloc: Global) -> Result<ToldAnswer, Fail> {
 }
 
 // An agency that says of two records that they came, and then that they didn't.
-fn forgetful(alloc: Global, huellas: Huellas) -> Result<ToldAgency, Fail> {
+pub fn forgetful(alloc: Global, huellas: Huellas) -> Result<ToldAgency, Fail> {
     let again = ReplyLine::Duplicado(State3::Correcto);
     let lines = ReplyLines::of(Vec::from_slice(alloc, &[again, again])?);
     if lines.as_slice().len() != huellas.as_slice().len() {

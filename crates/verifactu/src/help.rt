@@ -7,7 +7,7 @@ The invoicing chain of a shop with many tills, in VERI*FACTU mode.
 
 Usage:
   verifactu chain FILE NIF       answers the script on standard input
-  verifactu day FILE NIF         answers it with its tills beside each other
+  verifactu day FILE NIF         answers it by many tills at once, and sends it
   verifactu drain FILE NIF       sends the records that wait to a practice agency
   verifactu audit FILE           prints whether the file is a sound chain
   verifactu link FILE NUM HOST   prints the link of an invoice's QR code
@@ -35,8 +35,9 @@ A script has one command a line:
                            the invoice NUM, mended
   cancel TILL SERIAL NUM   the invoice NUM, cancelled
   vet NUM N CODE, warn NUM N CODE, wait SECONDS, link CALL FATE, link CALL late D
-                           the plan of the practice agency, for drain; chain does
-                           nothing by it. FATE is lost, taken, stale or again
+                           the plan of the practice agency, for day and drain;
+                           chain does nothing by it. FATE is lost, taken, stale
+                           or again
 KIND is F1, F2, F3 or R1 to R5. OPTION is to=KEY, rect=S, rect=I or
 ref=NUM@DD-MM-YYYY. LINE is CLASS:BASE, the base in cents; CLASS is 21, 10, 4,
 0, 21+, 10+, 4+, S2, N1, N2 or E1 to E6.
@@ -56,7 +57,7 @@ Status:
    5  standard output could not be written; the file keeps the records
    6  the file could not be read or written
    7  the file is damaged; standard error names the byte
-   8  drain gave up after eight faults of the link
+   8  day or drain gave up after eight faults of the link
    9  audit found the file broken; it printed where
   10  no memory
   11  the agency contradicts itself; standard error names the place

@@ -2,6 +2,9 @@
 //! prints the answers and the chain.
 #![tactic(auto)]
 
+mod beside;
+#[cfg(test)]
+mod beside_tests;
 mod chain;
 mod commands;
 mod day;
@@ -26,6 +29,9 @@ mod outside;
 mod printed;
 mod run;
 mod scripts;
+mod sending;
+mod serving;
+mod session;
 #[cfg(test)]
 mod tests;
 mod till_days;

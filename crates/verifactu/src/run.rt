@@ -44,8 +44,8 @@ where
     K: Sink,
     D: Disk + Send + Drop,
     C: Clock + Send + Drop,
-    Z: Sleeper,
-    G: Agency,
+    Z: Sleeper + Drop,
+    G: Agency + Drop,
     T: Gate + Sync,
     R: Threads + Wait + Sync,
     ensures { EndsAs (map string_bytes words.now) (record {
@@ -83,8 +83,8 @@ where
     K: Sink,
     D: Disk + Send + Drop,
     C: Clock + Send + Drop,
-    Z: Sleeper,
-    G: Agency,
+    Z: Sleeper + Drop,
+    G: Agency + Drop,
     T: Gate + Sync,
     R: Threads + Wait + Sync,
     requires { IsWithin command }

@@ -8,10 +8,10 @@ use Rattle.std.proofs.lemmas.List.FromFn.{length-range_with_len}
 use Rattle.file_commands.proofs.Bytewise.{took_nothing}
 use Rattle.ports.specs.Sinks.{this_sink}
 use Rattle.chain_store.specs.Store.{state_of}
-use Rattle.shop_core.specs.History.{History}
+use Rattle.shop_core.specs.History.{History, noted, recs}
 use Rattle.till_calls.specs.Root.{Parts, parts_of}
 use Rattle.verifactu.specs.Day.{day_text}
-use Rattle.verifactu.specs.Ending.{RunEnds}
+use Rattle.verifactu.specs.Beside.{DayRunEnds}
 use Rattle.verifactu.specs.Tills.{all_replies, has_asks, tills_of}
 use Rattle.verifactu.specs.Works.{told_in}
 use Rattle.verifactu.specs.declared.tills.TillDay.{TillDay}
@@ -36,32 +36,43 @@ serve-requires-clause-few g c =
     omega (arith, a, b, e, f)
 
 pub returns-in-Err : goal.returns-in-Err
-returns-in-Err g c = inl (record {
-  ends = refl;
-  wrote = took_nothing (g.K.Sink.taken c.args.sink.now);
-  disk = c.devices_of-disk.ensures.0 ∙ ap (λ (p : Parts g.row.D.Denot g.row.C.Denot). p.disk) c.in-Err.ensures.refused;
-  clock = c.devices_of-disk.ensures.1 ∙ ap (λ (p : Parts g.row.D.Denot g.row.C.Denot). p.clock) c.in-Err.ensures.refused;
-})
+returns-in-Err g c =
+    let e = c.without_day.ensures in
+    let same = c.in-Err.ensures.refused in
+    inl (
+      record {
+        ends = e.end;
+        wrote = took_nothing (g.K.Sink.taken c.args.sink.now);
+        disk = e.disk ∙ ap (λ (p : Parts g.row.D.Denot g.row.C.Denot). p.disk) same.0;
+        clock = e.clock ∙ ap (λ (p : Parts g.row.D.Denot g.row.C.Denot). p.clock) same.0;
+        rest = e.rest.0 ∙ same.2;
+      },
+      ap (λ (x : g.row.G.Denot). record { ledger = g.G.Agency.ledger x; faults = g.G.Agency.faults x }) (e.rest.1 ∙ same.1),
+    )
 
 pub returns-in-Ok : goal.returns-in-Ok
 returns-in-Ok g c =
     let asks = c.args.asks.now in
-    let days = c.in-Ok.field-0.tills.items in
+    let served = c.in-Ok.field-0 in
+    let days = served.tills.items in
     let tills = map told_in days in
-    let new = parts_of c.in-Ok.field-0.store in
+    let new = parts_of served.store in
     let run = c.in-Ok.ensures.day in
     let issuer = (state_of c.args.store).issuer in
     let sink = this_sink g.K.Sink.taken g.K.Sink.faults c.args.sink.now c.print_day-detail.new.sink in
-    let ends : RunEnds (all_replies tills) (day_text asks tills new.state.entries) sink c.print_day-detail.result =
-    subst (λ (h : History). RunEnds (all_replies tills) (day_text asks tills h.entries) sink c.print_day-detail.result) c.state.ensures
-    (subst (λ (l : List TillDay). RunEnds (all_replies (map told_in l)) (day_text asks (map told_in l) c.state.result.now.entries) sink c.print_day-detail.result) c.deref.ensures.value c.print_day-detail.ensures) in
+    let end = c.print_day-detail.result in
+    let ends : DayRunEnds (all_replies tills) served.answer (length (noted new.state.entries)) (length (recs new.state.entries)) (day_text asks tills new.state.entries) sink end =
+    subst (λ (h : History). DayRunEnds (all_replies tills) served.answer (length (noted h.entries)) (length (recs h.entries)) (day_text asks tills h.entries) sink end) c.state.ensures
+    (subst (λ (l : List TillDay). DayRunEnds (all_replies (map told_in l)) served.answer (length (noted c.state.result.now.entries)) (length (recs c.state.result.now.entries)) (day_text asks (map told_in l) c.state.result.now.entries) sink end) c.deref.ensures.value c.print_day-detail.ensures) in
     inr (record {
       new = new;
       tills = tills;
-      disk = c.devices_of-disk-in-Ok.ensures.0;
-      clock = c.devices_of-disk-in-Ok.ensures.1;
+      answer = served.answer;
+      disk = c.into_parts-disk.ensures.1;
+      clock = c.into_parts-disk.ensures.2;
       tills_are = same_numbers days ∙ c.in-Ok.ensures.same ∙ c.requires.tills;
       run = run;
+      sends = c.in-Ok.ensures.sends;
       linked = c.legal_is_chained.ensures.linked issuer new.state.entries run.sound.legal;
       rising = λ till. c.legal_is_chained.ensures.rising issuer new.state.entries till run.sound.legal;
       ends = ends;

@@ -1,7 +1,7 @@
 use Rattle.std.proofs.Common.{◌≡◌, map, List, ℕ, ap, sym, ◌∙◌, refl, rules, subst, All}
 use Rattle.std.proofs.lemmas.List.{map_push, same_from_push}
 use Rattle.std.proofs.lemmas.List.Elements.{All-push}
-use Rattle.till_calls.specs.Shop.{numbers, shop_id, till_knows, till_number, till_shop, tills_know}
+use Rattle.till_calls.specs.Shop.{numbers, till_knows, till_number, till_shop, tills_know, tills_shop}
 use Rattle.verifactu.specs.Works.{day_of, job_knows}
 use Rattle.verifactu.specs.declared.tills.Job.{Job}
 use Rattle.verifactu.specs.declared.tills.TillDay.{TillDay}
@@ -15,7 +15,7 @@ loop-day-preserved g c =
     let till = c.in-Some-pull.till in
     let last = same_from_push (numbers c.pull.new.self) (map (λ (d : TillDay). d.till) c.pop.new.self.items) (till_number till) day.till
     (sym c.in-Some-pull.ensures.some ∙ v.numbers ∙ ap (λ (l : List TillDay). map (λ (d : TillDay). d.till) l) c.in-Some.ensures.items ∙ map_push (λ (d : TillDay). d.till) c.pop.new.self.items day) in
-    let job : Job g.row.D.Denot g.row.C.Denot = record { shop = c.args.shop; till = till; answers = day.answers; saw = day.saw } in
+    let job : Job g.row.D.Denot g.row.C.Denot = record { till = till; answers = day.answers; saw = day.saw } in
     record {
       shop = c.in-Some-pull.ensures.shop.0 ∙ v.shop;
       made = c.in-Some-pull.ensures.shop.1 ∙ v.made;
@@ -24,6 +24,6 @@ loop-day-preserved g c =
       knows = put_back job_knows c.loop-day.jobs.items c.push_reserved.new.self.items job (tills_know c.loop-day.tills) (tills_know c.pull.new.self) (tills_know c.args.tills.now) (till_knows till) c.push_reserved.ensures.items refl c.in-Some-pull.ensures.knows v.knows;
       room = search rules;
       space = search rules;
-      own = subst (λ (l : List (Job g.row.D.Denot g.row.C.Denot)). All (λ (j : Job g.row.D.Denot g.row.C.Denot). (j.shop.now ≡ c.args.shop.now) × (till_shop j.till ≡ shop_id j.shop.now)) l) (sym c.push_reserved.ensures.items)
-          (All-push (λ (j : Job g.row.D.Denot g.row.C.Denot). (j.shop.now ≡ c.args.shop.now) × (till_shop j.till ≡ shop_id j.shop.now)) c.loop-day.jobs.items job v.own (refl, c.in-Some-pull.ensures.own ∙ v.shop ∙ c.requires.own));
+      own = subst (λ (l : List (Job g.row.D.Denot g.row.C.Denot)). All (λ (j : Job g.row.D.Denot g.row.C.Denot). till_shop j.till ≡ tills_shop c.args.tills.now) l) (sym c.push_reserved.ensures.items)
+          (All-push (λ (j : Job g.row.D.Denot g.row.C.Denot). till_shop j.till ≡ tills_shop c.args.tills.now) c.loop-day.jobs.items job v.own (c.in-Some-pull.ensures.own ∙ v.shop));
     }

@@ -1,6 +1,6 @@
 use Rattle.std.proofs.Common.{◌≡◌, ◌≤◌, ◌+◌, ◌++◌, map, vec_capacity, All}
 use Rattle.std.specs.Prelude.{reverse, vec_len}
-use Rattle.till_calls.specs.Shop.{made_tills, numbers, shop_id, till_shop, tills_know, tills_shop}
+use Rattle.till_calls.specs.Shop.{made_tills, numbers, till_shop, tills_know, tills_shop}
 use Rattle.verifactu.specs.Works.{day_of, job_knows}
 use Rattle.verifactu.proofs.tills.hand_out.Given as goal
 
@@ -13,7 +13,7 @@ invariant-loop-day g l = record {
   knows : tills_know l.tills ++ reverse (map job_knows l.jobs.items) ≡ tills_know l.fn.tills;
   room : vec_capacity l.days ≡ vec_capacity l.fn.days;
   space : vec_len l.days + vec_len l.jobs ≤ vec_capacity l.jobs;
-  own : All (λ j. (j.shop.now ≡ l.shop) × (till_shop j.till ≡ shop_id j.shop.now)) l.jobs.items;
+  own : All (λ j. till_shop j.till ≡ tills_shop l.fn.tills) l.jobs.items;
 }
 
 abbrev pub decreases-loop-day : goal.decreases-loop-day

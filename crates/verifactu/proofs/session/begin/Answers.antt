@@ -1,7 +1,7 @@
 use Rattle.std.proofs.Common.{◌≡◌, ◌∙◌, IsTrue, length}
 use Rattle.agency_port.specs.Ledger.{Begins}
 use Rattle.verifactu.proofs.Closing.{both_ok, opened_by}
-use Rattle.verifactu.proofs.drain.begin.Goals as goal
+use Rattle.verifactu.proofs.session.begin.Goals as goal
 
 pub returns-clause-ok : goal.returns-clause-ok
 returns-clause-ok g c =

@@ -3,7 +3,7 @@ use Rattle.record_fields.specs.declared.records.Sealed.{Sealed}
 use Rattle.record_fields.specs.declared.lines.Line.{Line}
 use Rattle.shop_core.specs.History.{recs, noted}
 use Rattle.verifactu.proofs.Pairs.{pair_more, pairs_all, pairs_end}
-use Rattle.verifactu.proofs.drain.noted_pairs.Goals as goal
+use Rattle.verifactu.proofs.session.noted_pairs.Goals as goal
 
 pub returns-in_default : goal.returns-in_default
 returns-in_default c =

@@ -1,0 +1,175 @@
+-- Turns of a day's sender, one after another.
+use Rattle.std.proofs.Common.{◌≡◌, ◌⊎◌, inl, inr, ℕ, ◌+◌, ◌-◌, ◌^◌, ◌<◌, ◌≤◌, List, [], ◌∷◌, ◌++◌, refl, sym, ◌∙◌, ap, subst, length, drop, Bool, false, IsTrue, Option, Result, Ok, Err, Some, slice_get, append_assoc, append-nil, arith}
+use Rattle.std.specs.Prelude.{Contains, IsErrOf, is_err}
+use Rattle.std.specs.List.{AllByRecursion}
+use Rattle.std.proofs.Math.Seq.{drop-append_seam}
+use Rattle.std.proofs.lemmas.List.Elements.{Contains-append_cases}
+use Rattle.std.proofs.lemmas.Option.{slice_get_within}
+use Rattle.record_fields.specs.declared.records.Sealed.{Sealed}
+use Rattle.record_fields.specs.declared.lines.Line.{Line}
+use Rattle.journal.specs.declared.faults.StoreFault.{StoreFault}
+use Rattle.journal.specs.declared.faults.StoreFault.TheVariants as store
+use Rattle.record_codec.specs.declared.entries.Entry.{Entry}
+use Rattle.shop_core.specs.declared.items.Item.{Item}
+use Rattle.shop_core.specs.declared.items.Item.TheVariants as item
+use Rattle.agency_port.specs.declared.messages.Message.{Message}
+use Rattle.agency_port.specs.declared.turns.Evidence.{Evidence}
+use Rattle.agency_port.specs.declared.turns.Told.{Told}
+use Rattle.once_world.specs.Agreement.{IsPrefix, Agree}
+use Rattle.once_world.specs.Outbox.{Sight, history_of, GainsOwnNotes}
+use Rattle.sender.specs.declared.answers.Turn.{Turn}
+use Rattle.sender.specs.declared.answers.SendFault.{SendFault}
+use Rattle.sender.specs.declared.answers.SendFault.TheVariants as send
+use Rattle.sender.specs.declared.answers.DrainFault.{DrainFault}
+use Rattle.sender.specs.declared.answers.DrainFault.TheVariants as drain
+use Rattle.sender.specs.declared.draining.TheConstants.{MAX_LINK_FAULTS}
+use Rattle.sender.specs.Agreeing.{Adds, AgreesIfTorn, AreNotes, AreNotesOrTorn, Gains, HasAt, InSession, IsCareful, KeepsAgreement, KeepsSession}
+use Rattle.sender.specs.Draining.{Drained, EndsWith, Scene, Turns, none, more}
+use Rattle.sender.specs.Lines.{IsCall, SaysCalls}
+use Rattle.sender.specs.Sending.{Sending}
+use Rattle.sender.specs.Turning.{Desk, Ends, Kind, Turned}
+use Rattle.sender.proofs.Adding.{adds_none, adds_then, has_front}
+use Rattle.sender.proofs.Causes.{turn_later}
+use Rattle.sender.proofs.Growing.{Growth, all_contained, gains_each}
+use Rattle.sender.proofs.Lists.{all_both, all_change}
+use Rattle.verifactu.specs.Beside.{EndsStopped, FailsEightTimes, SendsOn, sending_end}
+use Rattle.verifactu.specs.Drained.{IsDiskAnswer, IsFaultless}
+use Rattle.verifactu.proofs.Stops.{IsDisk, drained_stopped, ends_stopped, get_seam, untorn_adds}
+
+growth_of : (P : Item → Type 0) (a b : Sight) → Adds P a b → Growth a b
+growth_of P a b g = record {
+  items = g.items;
+  items_is = g.items_is;
+  own = g.own;
+  own_is = g.own_is;
+  low = g.low;
+  high = all_change (HasAt P b.items) (λ (p : ℕ). p < length b.items) (λ p h. slice_get_within b.items p h.0 h.1) g.own g.are;
+}
+
+none_there : (n : ℕ) → Contains [] n → ⊥
+none_there n c = let lt = c.1 in omega arith
+
+nothing_more : (own : List ℕ) → drop (length own) own ≡ []
+nothing_more own = ap (λ (xs : List ℕ). drop (length own) xs) (sym (append-nil own)) ∙ drop-append_seam own []
+
+-- nothing yet
+pub sends_none : (kind : Kind) (a : Sight) (k : Desk) (said : Sending) → SendsOn kind a a k k said said (Ok tt)
+sends_none kind a k said = record {
+  adds = adds_none AreNotesOrTorn a;
+  notes = λ faultless. adds_none AreNotes a;
+  stopped = λ disk. absurd disk;
+  session = λ keeps in_it gains. record { session = in_it; begins = record { rest = []; is = sym (append-nil k.ledger.processed) } };
+  no_contradiction = λ keeps in_it gains evidence is. absurd cc;
+  torn = λ keeps in_it gains items faults torn is own. absurd (none_there (length items) (subst (λ (ps : List ℕ). Contains ps (length items)) (nothing_more a.own) own));
+  careful = λ tells past h. h;
+  says = λ tells. record { session = []; is = sym (append-nil k.ledger.messages); calls = tt };
+  later = omega arith;
+  undelivered = λ n r is. absurd cc;
+}
+
+-- after turns that go on, more of them
+pub sends_then : (kind : Kind) (a b c : Sight) (k l m : Desk) (said mid then : Sending) (answer : Result (Unit {0}) DrainFault) → SendsOn kind a b k l said mid (Ok tt) → SendsOn kind b c l m mid then answer → SendsOn kind a c k m said then answer
+sends_then kind a b c k l m said mid then answer x y = record {
+  adds = adds_then AreNotesOrTorn a b c x.adds y.adds;
+  notes = λ faultless. adds_then AreNotes a b c notes (y.notes faultless);
+  stopped = y.stopped;
+  session = λ keeps in_it gains.
+      let each = both gains in
+      let first = x.session keeps in_it each.0 in
+      let next = y.session keeps first.session each.1 in
+      record {
+        session = next.session;
+        begins = record { rest = first.begins.rest ++ next.begins.rest; is = next.begins.is ∙ ap (λ (t : List (Sealed × Line)). t ++ next.begins.rest) first.begins.is ∙ append_assoc k.ledger.processed first.begins.rest next.begins.rest };
+      };
+  no_contradiction = λ keeps in_it gains. let each = both gains in y.no_contradiction keeps (x.session keeps in_it each.0).session each.1;
+  torn = λ keeps in_it gains items faults torn is own.
+      let each = both gains in
+      let first = x.session keeps in_it each.0 in
+      let whole : c.own ≡ a.own ++ (notes.own ++ y.adds.own) = y.adds.own_is ∙ ap (λ (ps : List ℕ). ps ++ y.adds.own) notes.own_is ∙ append_assoc a.own notes.own y.adds.own in
+      let gained : drop (length a.own) c.own ≡ notes.own ++ y.adds.own = ap (λ (ps : List ℕ). drop (length a.own) ps) whole ∙ drop-append_seam a.own (notes.own ++ y.adds.own) in
+      let later : drop (length b.own) c.own ≡ y.adds.own = ap (λ (ps : List ℕ). drop (length b.own) ps) y.adds.own_is ∙ drop-append_seam b.own y.adds.own in
+      by_part keeps first.session each.1 items faults torn is later (Contains-append_cases notes.own y.adds.own (length items) (subst (λ (ps : List ℕ). Contains ps (length items)) gained own));
+  careful = λ tells past h. y.careful tells past (x.careful tells past h);
+  says = λ tells. (let f = x.says tells in let s = y.says tells in record {
+    session = f.session ++ s.session;
+    is = s.is ∙ ap (λ (ms : List Message). ms ++ s.session) f.is ∙ append_assoc k.ledger.messages f.session s.session;
+    calls = all_both IsCall f.session s.session f.calls s.calls;
+  });
+  later = let e = x.later in let f = y.later in omega (arith, e, f);
+  undelivered = λ n r is. (let u = y.undelivered n r is in (u.0, λ below. let w = u.1 below in let e = x.later in omega (arith, w, e)));
+}
+  where
+    notes : Adds AreNotes a b
+    notes = x.notes tt
+
+    both : GainsOwnNotes a c → GainsOwnNotes a b × GainsOwnNotes b c
+    both gains = gains_each a b c (growth_of AreNotesOrTorn a b x.adds) (growth_of AreNotesOrTorn b c y.adds) gains
+
+    by_part : IsTrue kind.keeps_rules → InSession b l.ledger mid.said → GainsOwnNotes b c → (items : List Item) (faults : ℕ) (torn : Entry) → c.items ≡ items ++ item.Stop faults torn ∷ [] → drop (length b.own) c.own ≡ y.adds.own →
+        Contains notes.own (length items) ⊎ Contains y.adds.own (length items) → Agree (history_of c ++ torn ∷ []) m.ledger.processed m.ledger.sent
+    by_part keeps first gains items faults torn is later (inl early) =
+        let h = has_front AreNotes b.items y.adds.items (length items) (all_contained (HasAt AreNotes b.items) notes.own (length items) notes.are early) in
+        let e : Some h.0 ≡ Some (item.Stop faults torn) = sym (subst (λ (xs : List Item). slice_get xs (length items) ≡ Some h.0) (sym y.adds.items_is) h.1) ∙ ap (λ (xs : List Item). slice_get xs (length items)) is ∙ get_seam items (item.Stop faults torn) in
+        let f : h.0 ≡ item.Stop faults torn = (let g = e in cc) in
+        absurd (subst AreNotes f h.2)
+    by_part keeps first gains items faults torn is later (inr late) =
+        y.torn keeps first gains items faults torn is (subst (λ (ps : List ℕ). Contains ps (length items)) (sym later) late)
+
+-- a turn whose answer goes on, or is no fault of the disk, tore no notes
+pub untorn_end : (answer : Result Turn SendFault) → IsFaultless (sending_end answer) → IsErrOf answer (send.Store store.DiskFault) → ⊥
+untorn_end (Ok turn) f is = absurd cc
+untorn_end (Err send.LinkFault) f is = absurd cc
+untorn_end (Err (send.Contradiction evidence)) f is = absurd cc
+untorn_end (Err (send.Store fault)) f is = f
+untorn_end (Err send.NoMemory) f is = f
+
+-- a turn that answers a fault of the disk leaves a stop
+pub stopped_end : (kind : Kind) (desk desk_then : Desk) (before after : Sight) (old new : Sending) (now : ℕ) (answer : Result Turn SendFault) → Turned kind desk desk_then before after old new now answer → IsDiskAnswer (sending_end answer) → EndsStopped after.items
+stopped_end kind desk desk_then before after old new now (Ok turn) t disk = absurd disk
+stopped_end kind desk desk_then before after old new now (Err send.LinkFault) t disk = absurd disk
+stopped_end kind desk desk_then before after old new now (Err (send.Contradiction evidence)) t disk = absurd disk
+stopped_end kind desk desk_then before after old new now (Err send.NoMemory) t disk = absurd disk
+stopped_end kind desk desk_then before after old new now (Err (send.Store store.DiskFault)) t disk = ends_stopped old now t.shown t.look after t.deals.deed store.DiskFault new tt t.deals.ends
+stopped_end kind desk desk_then before after old new now (Err (send.Store (store.Stopped faults))) t disk = ends_stopped old now t.shown t.look after t.deals.deed (store.Stopped faults) new tt t.deals.ends
+stopped_end kind desk desk_then before after old new now (Err (send.Store store.NoMemory)) t disk = absurd disk
+
+-- turns that keep agreement end in no contradiction
+pub never_end : (answer : Result Turn SendFault) (before after : Sight) (k : Desk) (new : Desk) (said : Sending) → KeepsAgreement before after k.ledger new.ledger said.said answer → (evidence : Evidence) → IsErrOf (sending_end answer) (drain.Contradiction evidence) → ⊥
+never_end (Ok turn) before after k new said h evidence is = absurd cc
+never_end (Err send.LinkFault) before after k new said h evidence is = absurd cc
+never_end (Err (send.Contradiction e)) before after k new said h evidence is = h.gains
+never_end (Err (send.Store fault)) before after k new said h evidence is = absurd cc
+never_end (Err send.NoMemory) before after k new said h evidence is = absurd cc
+
+-- the turns beside the tills give up on no link
+pub delivers_end : (answer : Result Turn SendFault) (old new : Desk) → FailsEightTimes old new (sending_end answer)
+delivers_end (Ok turn) old new n r is = absurd cc
+delivers_end (Err send.LinkFault) old new n r is = absurd cc
+delivers_end (Err (send.Contradiction e)) old new n r is = absurd cc
+delivers_end (Err (send.Store fault)) old new n r is = absurd cc
+delivers_end (Err send.NoMemory) old new n r is = absurd cc
+
+turns_later : (kind : Kind) (exact : Bool) (start : Scene) (answers : List (Result Turn SendFault)) (links : ℕ) (scene : Scene) → Turns kind exact start answers links scene → start.desk.faults ≤ scene.desk.faults
+turns_later kind exact start answers links scene none = omega arith
+turns_later kind exact start answers links scene (more before_answers before_links mid answer then t turn on few) =
+    let a = turns_later kind exact start before_answers before_links mid t in
+    let b = turn_later kind mid.desk then.desk mid.sight then.sight mid.sending then.sending turn.now answer turn.turned in
+    omega (arith, a, b)
+
+-- a drain never lowers the agency's count of faults
+pub drained_later : (kind : Kind) (exact : Bool) (start then : Scene) (old new : List Told) (result : Result (Unit {0}) DrainFault) → Drained kind exact start then old new result → start.desk.faults ≤ then.desk.faults
+drained_later kind exact start then old new result d =
+    let a = turns_later kind exact start d.answers d.links d.scene d.made in
+    let b = turn_later kind d.scene.desk then.desk d.scene.sight then.sight d.scene.sending then.sending d.turn.now d.answer d.turn.turned in
+    omega (arith, a, b)
+
+-- where a drain gave up, lines were missing
+pub drained_missing : (kind : Kind) (exact : Bool) (start then : Scene) (old new : List Told) (result : Result (Unit {0}) DrainFault) → Drained kind exact start then old new result → (n r : ℕ) → IsErrOf result (drain.Undelivered n r) → n < r
+drained_missing kind exact start then old new result d n r is = elim d.ends [
+  | inl p ↦ (subst (λ (a : Result (Unit {0}) DrainFault). EndsWith d.links then.sight d.answer a) is p.1).2.some
+  | inr p ↦ absurd (let e = sym p.0 ∙ is in cc)
+]
+
+pub no_error : (answer : Result (Unit {0}) DrainFault) → is_err answer ≡ false → answer ≡ Ok tt
+no_error (Ok done) e = refl
+no_error (Err fault) e = absurd (let x = e in cc)

@@ -1,0 +1,51 @@
+use Rattle.std.proofs.Common.{◌≡◌, ◌∙◌, ℕ, List, inl, inr, refl, sym, ap, subst, map, All}
+use Rattle.file_commands.proofs.Bytewise.{took_nothing}
+use Rattle.ports.specs.Sinks.{this_sink}
+use Rattle.shop_core.specs.Asked.{Asked}
+use Rattle.shop_core.specs.History.{History}
+use Rattle.sender.specs.Turning.{Desk, Kind}
+use Rattle.till_calls.specs.Root.{Parts, parts_of}
+use Rattle.verifactu.specs.Day.{StoreServed}
+use Rattle.verifactu.specs.Drained.{IsOpened}
+use Rattle.verifactu.specs.Tills.{tills_of}
+use Rattle.verifactu.specs.Works.{HasRoom}
+use Rattle.verifactu.specs.declared.tills.TillDay.{TillDay}
+use Rattle.verifactu.proofs.day.day_opened.Goals as goal
+
+pub serve_opened-requires-clause-tills : goal.serve_opened-requires-clause-tills
+serve_opened-requires-clause-tills g c κs within = subst (λ (xs : List Asked). map (λ (d : TillDay). d.till) c.args.tills.items ≡ tills_of xs) (sym c.as_slice.ensures) c.requires.tills
+
+pub serve_opened-requires-clause-room : goal.serve_opened-requires-clause-room
+serve_opened-requires-clause-room g c κs within = subst (λ (xs : List Asked). All (HasRoom xs) c.args.tills.items) (sym c.as_slice.ensures) c.requires.room
+
+pub returns-in-Err : goal.returns-in-Err
+returns-in-Err g c =
+    let e = c.without_day.ensures in
+    let none = c.in-Err.ensures.err in
+    inl (
+      record {
+        ends = e.end;
+        wrote = took_nothing (g.K.Sink.taken c.args.sink.now);
+        disk = e.disk;
+        clock = e.clock;
+        rest = e.rest.0;
+      },
+      record {
+        lists = λ tells. ap (λ (x : g.row.G.Denot). g.G.Agency.ledger x) e.rest.1 ∙ none.0 tells;
+        faults = ap (λ (x : g.row.G.Denot). g.G.Agency.faults x) e.rest.1 ∙ none.1;
+      },
+    )
+
+pub returns-in-Ok : goal.returns-in-Ok
+returns-in-Ok g c =
+    let kind : Kind = record { tells = g.G.Agency.tells; keeps_rules = g.G.Agency.keeps_rules } in
+    let old : Desk = record { ledger = g.G.Agency.ledger c.args.agency; faults = g.G.Agency.faults c.args.agency } in
+    let opened : Desk = record { ledger = g.G.Agency.ledger c.begin.new.agency; faults = g.G.Agency.faults c.begin.new.agency } in
+    let new : Desk = record { ledger = g.G.Agency.ledger c.serve_opened.result.1.agency; faults = g.G.Agency.faults c.serve_opened.result.1.agency } in
+    let then = c.serve_opened.result.1 in
+    inr (record {
+      opened = opened;
+      opens = subst (λ (h : History). IsOpened kind g.G.Agency.begun c.args.script.now.plan h.entries old opened) c.state.ensures c.in-Ok.ensures.ok;
+      served = subst (λ (xs : List Asked). StoreServed (then.sleeper ≡ c.args.sleeper) (record { tells = g.D.Disk.tells; told = g.D.Disk.told; faults = g.D.Disk.faults; coming = g.C.Clock.coming }) xs kind opened new (parts_of c.args.store) then.disk then.clock
+          (this_sink g.K.Sink.taken g.K.Sink.faults c.args.sink.now c.serve_opened.new.sink) c.serve_opened.result.0) c.as_slice.ensures c.serve_opened.ensures;
+    })

@@ -1,0 +1,41 @@
+use Rattle.std.proofs.Common.{◌≡◌, ◌∙◌, sym, ap, subst, false, Result, Bool}
+use Rattle.chain_lock.specs.Known.{Known}
+use Rattle.once_world.specs.Outbox.{Sight}
+use Rattle.sender.specs.Turning.{Desk, Kind}
+use Rattle.sender.specs.declared.answers.DrainFault.{DrainFault}
+use Rattle.shop_core.specs.declared.items.Item.{Item}
+use Rattle.till_calls.specs.Mark.{sight_by}
+use Rattle.till_calls.specs.Root.{Root}
+use Rattle.till_calls.specs.Seat.{box_knows}
+use Rattle.till_calls.specs.Shop.{seat_knows}
+use Rattle.verifactu.specs.Beside.{SendsOn}
+use Rattle.verifactu.proofs.Stops.{drained_stopped, untorn_adds}
+use Rattle.verifactu.proofs.Turns.{drained_later, drained_missing, no_error, sends_then}
+use Rattle.verifactu.proofs.sending.drain_rest.Goals as goal
+
+pub returns-clause-sends : goal.returns-clause-sends
+returns-clause-sends g c = λ before desk sending x.
+    let kind : Kind = record { tells = g.G.Agency.tells; keeps_rules = g.G.Agency.keeps_rules } in
+    let mid : Desk = record { ledger = g.G.Agency.ledger c.args.sent.agency; faults = g.G.Agency.faults c.args.sent.agency } in
+    let new : Desk = record { ledger = g.G.Agency.ledger c.drain-answer.new.agency; faults = g.G.Agency.faults c.drain-answer.new.agency } in
+    let answer = c.drain-answer.result in
+    let a = sight_by (box_knows c.seat_box-outbox.result) in
+    let b = sight_by (box_knows c.drain-answer.new.outbox) in
+    let e = c.drain-answer.ensures in
+    let drained : SendsOn kind a b mid new c.args.sent.sender c.drain-answer.new.self answer = record {
+      adds = e.adds;
+      notes = untorn_adds _ _ _ _ _ _ _ e.drained;
+      stopped = drained_stopped _ _ _ _ _ _ _ e.drained;
+      session = e.agreement;
+      no_contradiction = e.no_contradiction;
+      torn = e.if_torn;
+      careful = e.careful;
+      says = e.says;
+      later = drained_later _ _ _ _ _ _ _ e.drained;
+      undelivered = λ n r is. (drained_missing _ _ _ _ _ _ _ e.drained n r is, e.undelivered n r is);
+    } in
+    let into : SendsOn kind (sight_by (seat_knows c.args.sent.seat)) (sight_by (seat_knows c.into_seat.result)) mid new c.args.sent.sender c.drain-answer.new.self answer =
+    subst (λ (k : Known Item (Root g.row.C.Denot)). SendsOn kind (sight_by k) (sight_by (seat_knows c.into_seat.result)) mid new c.args.sent.sender c.drain-answer.new.self answer) c.seat_box-outbox.ensures.knows
+    (subst (λ (k : Known Item (Root g.row.C.Denot)). SendsOn kind a (sight_by k) mid new c.args.sent.sender c.drain-answer.new.self answer) (sym c.into_seat.ensures.knows) drained) in
+    let first = subst (λ (r : Result (Unit {0}) DrainFault). SendsOn kind before (sight_by (seat_knows c.args.sent.seat)) desk mid sending c.args.sent.sender r) (no_error c.args.sent.answer (sym c.is_err.ensures.value ∙ c.if-is_err.false)) x in
+    sends_then kind before (sight_by (seat_knows c.args.sent.seat)) (sight_by (seat_knows c.into_seat.result)) desk mid new sending c.args.sent.sender c.drain-answer.new.self answer first into

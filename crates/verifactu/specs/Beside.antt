@@ -1,0 +1,167 @@
+-- What a day's sender leaves of its shop and of its agency, and how a day ends.
+use Rattle.std.specs.Prelude.{◌≡◌, ◌⊎◌, ℕ, ◌+◌, ◌-◌, ◌^◌, ◌<◌, ◌≤◌, List, [], ◌∷◌, ◌++◌, length, Bool, true, false, IsTrue, IsErrOf}
+use Rattle.std.specs.Prelude.{Option, Result, Ok, Err}
+use Rattle.std.specs.List.{list_any}
+use Rattle.ports.specs.Sinks.{Sinks, Wrote, FailedIn, WrotePart}
+use Rattle.chain_disk.specs.Told.{Told, LeavesNow, LeavesOnly}
+use Rattle.journal.specs.declared.faults.StoreFault.{StoreFault}
+use Rattle.journal.specs.declared.faults.StoreFault.TheVariants as store
+use Rattle.record_codec.specs.declared.entries.Entry.{Entry}
+use Rattle.shop_core.specs.History.{recs, noted}
+use Rattle.shop_core.specs.declared.items.Item.{Item}
+use Rattle.shop_core.specs.declared.items.Item.TheVariants as item
+use Rattle.agency_rules.specs.declared.plans.Plan.{Plan}
+use Rattle.agency_port.specs.Messages.{batches_in}
+use Rattle.agency_port.specs.declared.messages.Message.{Message}
+use Rattle.agency_port.specs.declared.turns.Evidence.{Evidence}
+use Rattle.once_world.specs.Agreement.{Agree}
+use Rattle.once_world.specs.Outbox.{GainsOwnNotes, Sight}
+use Rattle.sender.specs.Agreeing.{Adds, AgreesIfTorn, AreNotes, AreNotesOrTorn, InSession, IsCareful, KeepsSession}
+use Rattle.sender.specs.Dark.{AreRunsBy}
+use Rattle.sender.specs.Lines.{SaysCalls}
+use Rattle.sender.specs.Sending.{Sending}
+use Rattle.sender.specs.Turning.{Desk, Kind}
+use Rattle.sender.specs.declared.answers.Turn.{Turn}
+use Rattle.sender.specs.declared.answers.SendFault.{SendFault}
+use Rattle.sender.specs.declared.answers.SendFault.TheVariants as send
+use Rattle.sender.specs.declared.answers.DrainFault.{DrainFault}
+use Rattle.sender.specs.declared.answers.DrainFault.TheVariants as drain
+use Rattle.sender.specs.declared.draining.TheConstants.{MAX_LINK_FAULTS}
+use Rattle.report.specs.declared.ended.Detail.{Detail}
+use Rattle.report.specs.declared.ended.Detail.TheVariants as detail
+use Rattle.verifactu.specs.Crashes.{StandsForEnd}
+use Rattle.verifactu.specs.Drained.{Beginning, IsDiskAnswer, IsFaultless, IsOpened, SaysNothingBlindly, noted_pairs}
+use Rattle.verifactu.specs.Replies.{AllReplied, Replies, is_disk_fault, is_no_memory}
+
+-- the last item is a stop
+pub record EndsStopped (items : List Item) : Type 0 where
+  pub front : List Item
+  pub faults : ℕ
+  pub torn : Entry
+  pub is : items ≡ front ++ item.Stop faults torn ∷ []
+
+-- how the turns of a sender end at a turn with this answer: a fault of the link is passed over
+abbrev pub sending_end : Result Turn SendFault → Result (Unit {0}) DrainFault
+sending_end (Ok turn) = Ok tt
+sending_end (Err send.LinkFault) = Ok tt
+sending_end (Err (send.Contradiction evidence)) = Err (drain.Contradiction evidence)
+sending_end (Err (send.Store fault)) = Err (drain.Store fault)
+sending_end (Err send.NoMemory) = Err drain.NoMemory
+
+-- it is undelivered only where lines are missing and the agency failed eight times
+abbrev pub FailsEightTimes : Desk → Desk → Result (Unit {0}) DrainFault → Type 0
+FailsEightTimes old new answer = (noted_count records_count : ℕ) →
+    IsErrOf answer (drain.Undelivered noted_count records_count) →
+    (noted_count < records_count) × (new.faults < 2 ^ 64 - 1 → old.faults + MAX_LINK_FAULTS ≤ new.faults)
+
+-- Turns of one sender with one agency, between two sights of a shop to which others add beside it. What they added is their own
+-- notes, or the stop over them. In a session in which the agency keeps its rules and agreed, and no other notes came, it still
+-- agrees, also with what may be torn, and doesn't contradict itself.
+pub record SendsOn (kind : Kind) (before after : Sight) (old new : Desk) (sending sending_then : Sending)
+    (answer : Result (Unit {0}) DrainFault) : Type 0 where
+  pub adds : Adds AreNotesOrTorn before after
+  pub notes : IsFaultless answer → Adds AreNotes before after
+  pub stopped : IsDiskAnswer answer → EndsStopped after.items
+  pub session : IsTrue kind.keeps_rules → InSession before old.ledger sending.said → GainsOwnNotes before after →
+      KeepsSession before after old.ledger new.ledger sending_then.said
+  pub no_contradiction : IsTrue kind.keeps_rules → InSession before old.ledger sending.said → GainsOwnNotes before after →
+      (evidence : Evidence) → IsErrOf answer (drain.Contradiction evidence) → ⊥
+  pub torn : IsTrue kind.keeps_rules → InSession before old.ledger sending.said → GainsOwnNotes before after →
+      AgreesIfTorn before after new.ledger
+  -- no record is handed over blindly
+  pub careful : IsTrue kind.tells → (past : List Message) → IsCareful past before old.ledger.messages sending →
+      IsCareful past after new.ledger.messages sending_then
+  -- submissions and consultations alone were said
+  pub says : IsTrue kind.tells → SaysCalls old.ledger.messages new.ledger.messages
+  pub later : old.faults ≤ new.faults
+  pub undelivered : FailsEightTimes old new answer
+
+-- A day's sending: the history of its store at the start and at the end, with the entry behind it whose append failed; what the
+-- agency's kind tells, and its desk at the start and at the end; and how the sending ended.
+pub record DaySpan : Type 0 where
+  pub start : List Entry
+  pub end : List Entry
+  pub torn : List Entry
+  pub kind : Kind
+  pub old : Desk
+  pub new : Desk
+  pub answer : Result (Unit {0}) DrainFault
+
+-- with an agency that keeps its rules: it agrees with the history, and with what may be torn, and contradicts itself never
+pub record StaysAgreed (d : DaySpan) : Type 0 where
+  pub whole : Agree d.end d.new.ledger.processed d.new.ledger.sent
+  pub torn : Agree (d.end ++ d.torn) d.new.ledger.processed d.new.ledger.sent
+  pub no_contradiction : (evidence : Evidence) → IsErrOf d.answer (drain.Contradiction evidence) → ⊥
+
+-- what a new sender does beside tills and behind them, over an agency whose session is open
+pub record SendsBeside (d : DaySpan) : Type 0 where
+  -- where shop and agency agreed they still do
+  pub agreement : IsTrue d.kind.keeps_rules → Agree d.start d.old.ledger.processed d.old.ledger.sent → StaysAgreed d
+  -- no record is handed over again unless a consultation since has answered that it wasn't seen
+  pub careful : IsTrue d.kind.tells →
+      AreRunsBy (recs d.start) (length (noted d.start) + 1000) (batches_in d.old.ledger.messages) →
+      SaysNothingBlindly d.old.ledger.messages d.new.ledger.messages
+  pub says : IsTrue d.kind.tells → SaysCalls d.old.ledger.messages d.new.ledger.messages
+  pub later : d.old.faults ≤ d.new.faults
+  pub undelivered : FailsEightTimes d.old d.new d.answer
+
+-- no session was opened
+pub record IsUnbegun (kind : Kind) (old new : Desk) : Type 0 where
+  pub lists : IsTrue kind.tells → new.ledger ≡ old.ledger
+  pub faults : new.faults ≡ old.faults
+
+-- the sending from this desk of the agency on
+abbrev pub day_from : Desk → DaySpan → DaySpan
+day_from desk d = record {
+  start = d.start;
+  end = d.end;
+  torn = d.torn;
+  kind = d.kind;
+  old = desk;
+  new = d.new;
+  answer = d.answer;
+}
+
+-- One session was opened, with the plan and the pairs noted in the history at the start, and in it one new sender sent. Where shop
+-- and agency agreed once it was open, they still do.
+pub record DaySession (begun : Beginning) (plan : Plan) (d : DaySpan) : Type 0 where
+  pub opened : Desk
+  pub opens : IsOpened d.kind begun plan d.start d.old opened
+  pub sends : SendsBeside (day_from opened d)
+  pub agreement : IsTrue d.kind.keeps_rules →
+      Agree d.start (begun d.old.ledger.processed (noted_pairs d.start)) d.old.ledger.sent → StaysAgreed d
+
+-- Since some moment each crash leaves a file with P; now it leaves the history at the end, or that with the torn entry, and so
+-- reads the disk.
+pub record KeptDay (P : List ℕ → Type 0) (issuer : List ℕ) (end torn : List Entry) (since now : Told) : Type 0 where
+  pub each_moment : LeavesOnly since now P
+  pub every_crash : LeavesNow now (StandsForEnd issuer end torn)
+  pub reads : StandsForEnd issuer end torn now.content
+
+-- the sender found no memory
+abbrev pub sender_lacks_memory : Result (Unit {0}) DrainFault → Bool
+sender_lacks_memory (Ok done) = false
+sender_lacks_memory (Err (drain.Undelivered noted_count records_count)) = false
+sender_lacks_memory (Err (drain.Contradiction evidence)) = false
+sender_lacks_memory (Err (drain.Store store.DiskFault)) = false
+sender_lacks_memory (Err (drain.Store (store.Stopped faults))) = false
+sender_lacks_memory (Err (drain.Store store.NoMemory)) = true
+sender_lacks_memory (Err drain.NoMemory) = true
+
+-- How a day ends, by what its tills and its sender were told, by the two counts of its history, and by what the sink took of its
+-- text: want of memory before a fault of the disk, that before a contradiction and an undelivered drain, and these before a fault
+-- of the sink. It is done only where all records have noted lines.
+pub data DayRunEnds (replies : Replies) (answer : Result (Unit {0}) DrainFault) (noted_count records_count : ℕ) (text : List ℕ)
+    (s : Sinks) : Detail → Type 0 where
+  done : AllReplied replies → answer ≡ Ok tt → noted_count ≡ records_count → Wrote s text →
+      DayRunEnds replies answer noted_count records_count text s detail.Done
+  write_fault : AllReplied replies → answer ≡ Ok tt → noted_count ≡ records_count → FailedIn s text →
+      DayRunEnds replies answer noted_count records_count text s detail.WriteFault
+  undelivered : (n r : ℕ) → AllReplied replies → answer ≡ Err (drain.Undelivered n r) → Wrote s text ⊎ FailedIn s text →
+      DayRunEnds replies answer noted_count records_count text s (detail.Undelivered n r)
+  contradiction : (evidence : Evidence) → AllReplied replies → answer ≡ Err (drain.Contradiction evidence) →
+      Wrote s text ⊎ FailedIn s text → DayRunEnds replies answer noted_count records_count text s (detail.Contradiction evidence)
+  disk_fault : list_any is_no_memory replies ≡ false → sender_lacks_memory answer ≡ false →
+      (list_any is_disk_fault replies ≡ true) ⊎ IsDiskAnswer answer → Wrote s text ⊎ FailedIn s text →
+      DayRunEnds replies answer noted_count records_count text s detail.DiskFault
+  no_memory : WrotePart s text → DayRunEnds replies answer noted_count records_count text s detail.NoMemory

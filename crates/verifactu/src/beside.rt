@@ -1,0 +1,94 @@
+// The tills of a day and their sender, beside each other.
+ghost use Rattle.std.specs.Prelude.{◌≡◌, map, reverse, All, vec_len};
+ghost use Rattle.sender.specs.Sending.{fresh};
+ghost use Rattle.till_calls.specs.Mark.{mark_by, sight_by};
+ghost use Rattle.till_calls.specs.Shop.{seat_knows, seat_shop, shop_id, till_shop};
+ghost use Rattle.verifactu.specs.Beside.{SendsOn};
+ghost use Rattle.verifactu.specs.Works.{HasRoom, Ran, day_of, job_knows};
+
+use crate::sending::{Sent, send_part};
+use crate::tills::{Job, work_all};
+use agency_port::Agency;
+use chain_disk::Disk;
+use ports::{Clock, Gate, Sleeper};
+use shop_core::Ask;
+use std::alloc::Global;
+use std::sync::Wait;
+use std::sync::atomic::{AtomicBool, Ordering};
+use std::thread::{Threads, join};
+use till_calls::{SenderSeat, Shop};
+
+// Runs the tills, and once they have ended tells the sender to stop.
+fn till_part<D: Disk + Send, C: Clock + Send, T: Gate + Sync, R: Threads + Wait + Sync>(
+    rt: &R,
+    alloc: Global,
+    gate: &T,
+    shop: &Shop<D, C>,
+    asks: &[Ask],
+    mut jobs: Vec<Job<D, C>>,
+    stop: &AtomicBool,
+) -> Vec<Job<D, C>>
+    requires own { All (λ j. till_shop j.till ≡ shop_id shop.now) jobs.items }
+    requires room { All (λ j. HasRoom asks.now (day_of j)) jobs.items }
+    ensures ran { Ran C.coming asks.now (reverse (map day_of jobs.items)) (reverse (map job_knows jobs.items))
+        (reverse (map day_of result.items)) (reverse (map job_knows result.items)) }
+    ensures own { All (λ j. till_shop j.till ≡ shop_id shop.now) result.items }
+    ensures len { vec_len result ≡ vec_len jobs }
+{
+    work_all(rt, alloc, gate, shop, asks, &mut jobs);
+    stop.store(true, Ordering::SeqCst);
+    jobs
+}
+
+/// Runs the tills and a sender beside each other. Where no thread can be made the sender runs after the tills, and ends at once.
+pub(crate) fn beside<
+    D: Disk + Send,
+    C: Clock + Send,
+    G: Agency + Drop,
+    Z: Sleeper + Drop,
+    T: Gate + Sync,
+    R: Threads + Wait + Sync,
+>(
+    rt: &R,
+    alloc: Global,
+    gate: &T,
+    shop: &Shop<D, C>,
+    asks: &[Ask],
+    jobs: Vec<Job<D, C>>,
+    seat: SenderSeat<D, C>,
+    agency: G,
+    sleeper: Z,
+) -> (Vec<Job<D, C>>, Sent<D, C, G, Z>)
+    requires own { All (λ j. till_shop j.till ≡ shop_id shop.now) jobs.items }
+    requires room { All (λ j. HasRoom asks.now (day_of j)) jobs.items }
+    requires seat { seat_shop seat ≡ shop_id shop.now }
+    ensures ran { Ran C.coming asks.now (reverse (map day_of jobs.items)) (reverse (map job_knows jobs.items))
+        (reverse (map day_of result.0.items)) (reverse (map job_knows result.0.items)) }
+    ensures own { All (λ j. till_shop j.till ≡ shop_id shop.now) result.0.items }
+    ensures len { vec_len result.0 ≡ vec_len jobs }
+    ensures mark { mark_by (seat_shop result.1.seat) (seat_knows result.1.seat) ≡ mark_by (seat_shop seat) (seat_knows seat) }
+    ensures sends { SendsOn (record { tells = G.tells; keeps_rules = G.keeps_rules }) (sight_by (seat_knows seat))
+        (sight_by (seat_knows result.1.seat)) (record { ledger = G.ledger agency; faults = G.faults agency })
+        (record { ledger = G.ledger result.1.agency; faults = G.faults result.1.agency }) fresh result.1.sender
+        result.1.answer }
+{
+    let stop = AtomicBool::new(false);
+    let told = &stop;
+    join(
+        rt,
+        move || -> Vec<Job<D, C>>
+            requires { All (λ j. till_shop j.till ≡ shop_id shop.now) jobs.items
+                × All (λ j. HasRoom asks.now (day_of j)) jobs.items }
+            ensures { Ran C.coming asks.entry.now (reverse (map day_of jobs.items)) (reverse (map job_knows jobs.items))
+                (reverse (map day_of result.items)) (reverse (map job_knows result.items))
+                × All (λ j. till_shop j.till ≡ shop_id shop.entry.now) result.items × (vec_len result ≡ vec_len jobs) }
+        { till_part(rt, alloc, gate, shop, asks, jobs, told) },
+        move || -> Sent<D, C, G, Z>
+            requires { seat_shop seat ≡ shop_id shop.now }
+            ensures { (mark_by (seat_shop result.seat) (seat_knows result.seat) ≡ mark_by (seat_shop seat) (seat_knows seat))
+                × SendsOn (record { tells = G.tells; keeps_rules = G.keeps_rules }) (sight_by (seat_knows seat))
+                (sight_by (seat_knows result.seat)) (record { ledger = G.ledger agency; faults = G.faults agency })
+                (record { ledger = G.ledger result.agency; faults = G.faults result.agency }) fresh result.sender result.answer }
+        { send_part(rt, alloc, gate, shop, seat, agency, sleeper, told) },
+    )
+}

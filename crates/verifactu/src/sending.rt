@@ -1,0 +1,211 @@
+// The sender of a day: its turns beside the tills, and its drain behind them.
+ghost use Rattle.std.specs.Prelude.{◌≡◌, length, OnOk};
+ghost use Rattle.once_world.specs.Outbox.{Sight, history_of};
+ghost use Rattle.shop_core.specs.History.{noted, recs};
+ghost use Rattle.sender.specs.Sending.{Sending, fresh};
+ghost use Rattle.sender.specs.Turning.{Desk};
+ghost use Rattle.till_calls.specs.Mark.{mark_by, sight_by};
+ghost use Rattle.till_calls.specs.Shop.{seat_knows, seat_shop, shop_id};
+ghost use Rattle.verifactu.specs.Beside.{SendsOn, sending_end};
+
+use agency_port::{Agency, Turns};
+use chain_disk::Disk;
+use once_world::Outbox;
+use ports::{Clock, Gate, Sleeper};
+use sender::{DrainFault, SendFault, Sender, Turn};
+use std::alloc::Global;
+use std::sync::Wait;
+use std::sync::atomic::{AtomicBool, Ordering};
+use till_calls::{SenderSeat, Shop};
+
+/// A day's sender once it has ended: its seat, all that it took along, and how it ended. Ok says beside the tills that it was told
+/// to stop, and behind its drain that no record waits.
+#[derive(Drop)]
+pub(crate) struct Sent<D: Disk, C: Clock, G: Agency + Drop, Z: Sleeper + Drop> {
+    pub(crate) seat: SenderSeat<D, C>,
+    pub(crate) sender: Sender,
+    pub(crate) agency: G,
+    pub(crate) sleeper: Z,
+    pub(crate) answer: Result<(), DrainFault>,
+}
+
+// So many rests of the system's sleeper are two seconds.
+const RESTS: u32 = 40;
+
+// Sleeps towards this second in short rests, and looks at `stop` between them: tills that have ended wait for no second that
+// their sender alone waits for. Rests that leave the second as it was are those of a sleeper that leaps, which is asked to.
+fn sleep<R: Wait, Z: Sleeper>(rt: &R, sleeper: &mut Z, at: u64, stop: &AtomicBool) {
+    let begun = sleeper.now();
+    for _ in 0..RESTS {
+        if stop.load(Ordering::SeqCst) || sleeper.now() >= at {
+            return;
+        }
+        sleeper.rest(rt);
+    }
+    if sleeper.now() <= begun {
+        sleeper.wait_until(rt, at);
+    }
+}
+
+// What comes behind a turn: the gate hears of noted lines, and the sender rests where there is nothing to do yet, and behind a
+// fault of the link.
+fn pause<R: Wait, T: Gate, Z: Sleeper>(
+    rt: &R,
+    gate: &T,
+    sleeper: &mut Z,
+    stop: &AtomicBool,
+    answer: &Result<Turn, SendFault>,
+) {
+    match answer {
+        Ok(Turn::Noted { n }) => gate.noted(rt, *n),
+        Ok(Turn::WaitUntil(at)) => sleep(rt, sleeper, *at, stop),
+        Ok(Turn::Idle { .. }) | Err(SendFault::LinkFault) => sleeper.rest(rt),
+        _ => {}
+    }
+}
+
+// Whether the turns go on behind this one. A fault of the link is passed over.
+fn going_on(answer: Result<Turn, SendFault>) -> Result<(), DrainFault>
+    ensures { result ≡ sending_end answer }
+{
+    match answer {
+        Ok(_) | Err(SendFault::LinkFault) => Ok(()),
+        Err(SendFault::Contradiction(evidence)) => Err(DrainFault::Contradiction(evidence)),
+        Err(SendFault::Store(fault)) => Err(DrainFault::Store(fault)),
+        Err(SendFault::NoMemory) => Err(DrainFault::NoMemory),
+    }
+}
+
+// One turn, and what comes behind it.
+fn one_turn<R: Wait, T: Gate, O: Outbox, G: Agency, Z: Sleeper>(
+    rt: &R,
+    alloc: Global,
+    gate: &T,
+    outbox: &mut O,
+    sender: &mut Sender,
+    agency: &mut G,
+    sleeper: &mut Z,
+    stop: &AtomicBool,
+) -> Result<(), DrainFault>
+    ensures fixed { O.fixed outbox.new ≡ O.fixed outbox.old }
+    ensures sends { SendsOn (record { tells = G.tells; keeps_rules = G.keeps_rules }) (O.sight outbox.old) (O.sight outbox.new)
+        (record { ledger = G.ledger agency.old; faults = G.faults agency.old })
+        (record { ledger = G.ledger agency.new; faults = G.faults agency.new }) sender.old sender.new result }
+{
+    let now = sleeper.now();
+    let answer = sender.turn(rt, alloc, outbox, agency, now);
+    pause(rt, gate, sleeper, stop, &answer);
+    going_on(answer)
+}
+
+/// Makes turns until it is told to stop, or until one ends with a fault that isn't the link's.
+pub fn send_until<R: Wait, T: Gate, O: Outbox, G: Agency, Z: Sleeper>(
+    rt: &R,
+    alloc: Global,
+    gate: &T,
+    outbox: &mut O,
+    sender: &mut Sender,
+    agency: &mut G,
+    sleeper: &mut Z,
+    stop: &AtomicBool,
+) -> Result<(), DrainFault>
+    ensures fixed { O.fixed outbox.new ≡ O.fixed outbox.old }
+    ensures sends { SendsOn (record { tells = G.tells; keeps_rules = G.keeps_rules }) (O.sight outbox.old) (O.sight outbox.new)
+        (record { ledger = G.ledger agency.old; faults = G.faults agency.old })
+        (record { ledger = G.ledger agency.new; faults = G.faults agency.new }) sender.old sender.new result }
+{
+    for _ in rt.forever() {
+        if stop.load(Ordering::SeqCst) {
+            return Ok(());
+        }
+        if let Err(fault) = one_turn(rt, alloc, gate, outbox, sender, agency, sleeper, stop) {
+            return Err(fault);
+        }
+    }
+    unreachable!()
+}
+
+/// Sends from this seat by a new sender until it is told to stop.
+pub(crate) fn send_part<D: Disk, C: Clock, G: Agency + Drop, Z: Sleeper + Drop, T: Gate, R: Wait>(
+    rt: &R,
+    alloc: Global,
+    gate: &T,
+    shop: &Shop<D, C>,
+    seat: SenderSeat<D, C>,
+    mut agency: G,
+    mut sleeper: Z,
+    stop: &AtomicBool,
+) -> Sent<D, C, G, Z>
+    requires own { seat_shop seat ≡ shop_id shop.now }
+    ensures mark { mark_by (seat_shop result.seat) (seat_knows result.seat) ≡ mark_by (seat_shop seat) (seat_knows seat) }
+    ensures sends { SendsOn (record { tells = G.tells; keeps_rules = G.keeps_rules }) (sight_by (seat_knows seat))
+        (sight_by (seat_knows result.seat)) (record { ledger = G.ledger agency; faults = G.faults agency })
+        (record { ledger = G.ledger result.agency; faults = G.faults result.agency }) fresh result.sender result.answer }
+{
+    let mut outbox = shop.seat_box(seat);
+    let mut sender = Sender::new();
+    let answer = send_until(
+        rt,
+        alloc,
+        gate,
+        &mut outbox,
+        &mut sender,
+        &mut agency,
+        &mut sleeper,
+        stop,
+    );
+    Sent {
+        seat: outbox.into_seat(),
+        sender,
+        agency,
+        sleeper,
+        answer,
+    }
+}
+
+/// Drains with the same sender, unless a fault ended its turns.
+pub(crate) fn drain_rest<D: Disk, C: Clock, G: Agency + Drop, Z: Sleeper + Drop, R: Wait>(
+    rt: &R,
+    alloc: Global,
+    shop: &Shop<D, C>,
+    sent: Sent<D, C, G, Z>,
+) -> Sent<D, C, G, Z>
+    requires own { seat_shop sent.seat ≡ shop_id shop.now }
+    ensures mark { mark_by (seat_shop result.seat) (seat_knows result.seat)
+        ≡ mark_by (seat_shop sent.seat) (seat_knows sent.seat) }
+    ensures sends { (before : Sight) (old : Desk) (sending : Sending) →
+        SendsOn (record { tells = G.tells; keeps_rules = G.keeps_rules }) before (sight_by (seat_knows sent.seat)) old
+        (record { ledger = G.ledger sent.agency; faults = G.faults sent.agency }) sending sent.sender sent.answer →
+        SendsOn (record { tells = G.tells; keeps_rules = G.keeps_rules }) before (sight_by (seat_knows result.seat)) old
+        (record { ledger = G.ledger result.agency; faults = G.faults result.agency }) sending result.sender result.answer }
+    ensures delivered { OnOk result.answer (length (noted (history_of (sight_by (seat_knows result.seat))))
+        ≡ length (recs (history_of (sight_by (seat_knows result.seat))))) }
+{
+    if sent.answer.is_err() {
+        return sent;
+    }
+    let Sent {
+        seat,
+        mut sender,
+        mut agency,
+        mut sleeper,
+        answer: _,
+    } = sent;
+    let mut turns = Turns::new(alloc);
+    let mut outbox = shop.seat_box(seat);
+    let answer = sender.drain(
+        rt,
+        alloc,
+        &mut outbox,
+        &mut agency,
+        &mut sleeper,
+        &mut turns,
+    );
+    Sent {
+        seat: outbox.into_seat(),
+        sender,
+        agency,
+        sleeper,
+        answer,
+    }
+}
