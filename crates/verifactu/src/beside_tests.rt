@@ -84,8 +84,9 @@ fn usual_day(alloc: Global) -> Result<String, Fail> {
     Ok(script)
 }
 
-// Whether the lines of till 1 take T1-1 to T1-15 in order, and so many lines take anything.
-fn are_taken(alloc: Global, text: &str, count: u32) -> Result<bool, Fail> {
+// Whether the lines of till 1 take T1-1 to T1-15 in order, 43 lines take anything, and all is noted.
+fn is_usual_day(alloc: Global, text: &[u8]) -> Result<bool, Fail> {
+    let text = str::from_utf8(text).ok().ok_or("a text")?;
     let mut taken = 0u32;
     let mut first = 0u32;
     for line in text.lines() {
@@ -100,7 +101,7 @@ fn are_taken(alloc: Global, text: &str, count: u32) -> Result<bool, Fail> {
             }
         }
     }
-    Ok(first == 15 && taken == count)
+    Ok(first == 15 && taken == 43 && text.ends_with("\nchain 43 noted 43\n"))
 }
 
 #[test]
@@ -109,9 +110,7 @@ fn a_usual_day_of_three_tills(rt: HostRuntime) -> Result<(), Fail> {
     let script = usual_day(alloc)?;
     let left = day_of(&rt, script.as_str())?;
     assert_eq!(rt; left.ended, done());
-    let text = String::from_utf8(left.text).ok().ok_or("a text")?;
-    assert!(rt; are_taken(alloc, text.as_str(), 43)?);
-    assert_eq!(rt; text.lines().last(), Some("chain 43 noted 43"));
+    assert!(rt; is_usual_day(alloc, left.text.as_slice())?);
     assert_eq!(rt; left.agency.processed().len(), 43);
     Ok(())
 }
@@ -263,16 +262,23 @@ fn sent_once(
     let alloc = rt.alloc();
     let script = "sale 1 1 A F2 21:10000\nsale 2 1 B F2 21:10000\nsale 3 1 C F2 21:10000\n";
     let disk = disk_of(alloc, &[], failing)?;
-    let left = run_with(rt, DAY, script, disk, PracticeAgency::new(alloc), &OpenGate)?;
-    let day = left.ended;
-    let file = last_image(alloc, &left.disk, fill)?;
-    let left = run_with(rt, DRAIN, "", file, left.agency, &OpenGate)?;
-    let (text, _) = chained(rt, "", left.disk)?;
-    let records = left.agency.processed().len();
+    let Left {
+        ended: day,
+        disk,
+        agency,
+        ..
+    } = run_with(rt, DAY, script, disk, PracticeAgency::new(alloc), &OpenGate)?;
+    let file = last_image(alloc, &disk, fill)?;
+    let Left {
+        ended,
+        disk,
+        agency,
+        ..
+    } = run_with(rt, DRAIN, "", file, agency, &OpenGate)?;
+    let (text, _) = chained(rt, "", disk)?;
+    let records = agency.processed().len();
     let wanted = format!(in alloc; "chain {records} noted {records}\n")?;
-    let sent = left.ended == done()
-        && text.as_slice().ends_with(wanted.as_bytes())
-        && are_once(&left.agency);
+    let sent = ended == done() && text.as_slice().ends_with(wanted.as_bytes()) && are_once(&agency);
     Ok((day == done(), sent && (day == done() || day.status == 6)))
 }
 
