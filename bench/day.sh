@@ -1,7 +1,8 @@
 #!/bin/sh
-# Sales a second of `day`: 64 tills with 100 sales each beside one till with the same 6,400 sales, on a real file and on one in
-# memory (/dev/shm), where syncs cost nothing. Turns alternate, so that both kinds meet the same disk, and the medians count. The
-# tills wait for each other at each sale, so 64 of them gain nothing; they are to be no slower than one.
+# Sales a second of `day`, whose sender sends them: 64 tills with 100 sales each beside one till with the same 6,400 sales, on a
+# real file and on one in memory (/dev/shm), where syncs cost nothing. Turns alternate, so that both kinds meet the same disk, and
+# the medians count. The tills wait for each other at each sale; 64 of them are to be no slower than one, which is told and not
+# checked here.
 # Run by hand, on a machine that does nothing else: bench/day.sh [FOLDER ON THE DISK] [TURNS OF EACH]
 set -eu
 
@@ -34,7 +35,7 @@ turn() {
     "$program" day "$2/shop.chain" 89890001K <"$memory/$1" >"$memory/text"
     echo $(($(milliseconds) - begun)) >>"$memory/times.$1"
     [ "$(grep -c '^till .* taken ' "$memory/text")" = 6400 ] || { echo "not every sale was taken" >&2; exit 1; }
-    [ "$("$program" audit "$2/shop.chain" | cut -d ' ' -f 1-4)" = "sound 6400 noted 0" ] || { echo "no sound file" >&2; exit 1; }
+    [ "$("$program" audit "$2/shop.chain" | cut -d ' ' -f 1-4)" = "sound 6400 noted 6400" ] || { echo "no sound file" >&2; exit 1; }
 }
 
 # The median of the times of so many tills.
