@@ -1,5 +1,6 @@
 -- Which batches were handed over.
-use Rattle.std.proofs.Common.{ℕ, suc, List, [], ◌∷◌, ◌++◌, refl, ◌∙◌, arith, Option, Some, None, Bool, true, false, cond, length, length-append}
+use Rattle.std.proofs.Common.{ℕ, suc, List, [], ◌∷◌, ◌++◌, refl, ◌∙◌, arith, Option, Some, None, Bool, true, false, cond, length}
+use Rattle.std.proofs.Common.{length-append}
 use Rattle.std.specs.Prelude.{Contains}
 use Rattle.std.specs.List.{AllByRecursion, cons_option}
 use Rattle.std.proofs.Math.ListN.{get_or-append}
@@ -16,7 +17,8 @@ all_change : {A : Type 0} (P Q : A → Type 0) → ((x : A) → P x → Q x) →
 all_change P Q f [] a = tt
 all_change P Q f (x ∷ xs) a = (f x a.0, all_change P Q f xs a.1)
 
-all_both : {A : Type 0} (P : A → Type 0) (xs ys : List A) → AllByRecursion P xs → AllByRecursion P ys → AllByRecursion P (xs ++ ys)
+all_both : {A : Type 0} (P : A → Type 0) (xs ys : List A) → AllByRecursion P xs → AllByRecursion P ys →
+    AllByRecursion P (xs ++ ys)
 all_both P [] ys a b = b
 all_both P (x ∷ xs) ys a b = (a.0, all_both P xs ys a.1 b)
 
@@ -45,7 +47,8 @@ among_self : (sent : List (List Sealed)) → AreAmong sent sent
 among_self [] = tt
 among_self (x ∷ sent) = (first_one sent x, among_later sent sent x (among_self sent))
 
-late_step : (late : Bool) (o : Option (List Sealed)) (sent lates : List (List Sealed)) → AreAmong sent lates → AreAmong (cons_option o sent) (cons_option (cond late o None) lates)
+late_step : (late : Bool) (o : Option (List Sealed)) (sent lates : List (List Sealed)) → AreAmong sent lates →
+    AreAmong (cons_option o sent) (cons_option (cond late o None) lates)
 late_step true (Some b) sent lates a = (first_one sent b, among_later sent lates b a)
 late_step true None sent lates a = a
 late_step false (Some b) sent lates a = among_later sent lates b a
@@ -53,7 +56,8 @@ late_step false None sent lates a = a
 
 pub late_among : (call : ℕ) (log : List Logged) → AreAmong (sent_in log) (late_for call log)
 late_among call [] = tt
-late_among call (l ∷ log) = late_step (is_late call l) (batch_in l.message) (sent_in log) (late_for call log) (late_among call log)
+late_among call (l ∷ log) = late_step (is_late call l) (batch_in l.message) (sent_in log) (late_for call log)
+    (late_among call log)
 
 pub again_among : (fate : Option Fate) (sent : List (List Sealed)) → AreAmong sent (again_before fate sent)
 again_among None sent = tt
@@ -63,7 +67,8 @@ again_among (Some Stale) sent = tt
 again_among (Some Again) sent = among_self sent
 again_among (Some (Late calls)) sent = tt
 
-pub own_among : (fate : Option Fate) (sent : List (List Sealed)) (batch : List Sealed) → AreAmong (sent ++ batch ∷ []) (own_of fate batch)
+pub own_among : (fate : Option Fate) (sent : List (List Sealed)) (batch : List Sealed) → AreAmong (sent ++ batch ∷ [])
+    (own_of fate batch)
 own_among None sent batch = (at_end sent batch, tt)
 own_among (Some Lost) sent batch = tt
 own_among (Some Taken) sent batch = (at_end sent batch, tt)

@@ -1,5 +1,6 @@
 -- What follows from a consultation's row, and from a session's opening.
-use Rattle.std.proofs.Common.{◌≡◌, ℕ, ◌^◌, ◌<◌, ◌≤◌, List, [], ◌∷◌, ◌++◌, refl, sym, ◌∙◌, ap, subst, inl, arith, None, Result, Ok, Err, IfOk, Bool, true, false, cond, length, append-nil}
+use Rattle.std.proofs.Common.{◌≡◌, ℕ, ◌^◌, ◌<◌, ◌≤◌, List, [], ◌∷◌, ◌++◌, refl, sym, ◌∙◌, ap, subst, inl, arith, None, Result, Ok}
+use Rattle.std.proofs.Common.{Err, IfOk, Bool, true, false, cond, length, append-nil}
 use Rattle.ports.specs.Causes.{Rose}
 use Rattle.std.proofs.lemmas.List.{length-map}
 use Rattle.record_fields.specs.declared.lines.Line.{Line}
@@ -9,7 +10,8 @@ use Rattle.agency_rules.specs.declared.plans.Plan.{Plan}
 use Rattle.agency_port.specs.Answers.{looked, seen_of}
 use Rattle.agency_port.specs.Ledger.{counted, HasCause, IsAsked, Consults, Begins}
 use Rattle.agency_port.specs.Rules.{ConsultKeeps}
-use Rattle.agency_port.specs.Practice.{Practice, messages_of, sent_in, ledger_of, fate_of, is_faulty, processed_before, consultation_answer, faults_by, consulted, opened, IsRow}
+use Rattle.agency_port.specs.Practice.{Practice, messages_of, sent_in, ledger_of, fate_of, is_faulty, processed_before}
+use Rattle.agency_port.specs.Practice.{consultation_answer, faults_by, consulted, opened, IsRow}
 use Rattle.agency_port.specs.declared.answers.Seen.{Seen}
 use Rattle.agency_port.specs.declared.answers.AgencyFault.{AgencyFault}
 use Rattle.agency_port.specs.declared.answers.AgencyFault.TheVariants.{Failed, NoMemory}
@@ -34,14 +36,17 @@ ok_by : (t : Bool) (seen is : List Seen) → Ok seen ≡ cond t (Err Failed) (Ok
 ok_by true seen is e = absurd cc
 ok_by false seen is e = cc
 
-seen_is : (a : Practice) (huellas : List (List ℕ)) (seen : List Seen) → Ok seen ≡ consultation_answer a huellas → seen ≡ looked (processed_before a) huellas
+seen_is : (a : Practice) (huellas : List (List ℕ)) (seen : List Seen) → Ok seen ≡ consultation_answer a huellas →
+    seen ≡ looked (processed_before a) huellas
 seen_is a huellas seen e = ok_by (is_faulty (fate_of a)) seen (looked (processed_before a) huellas) e
 
-faults_are : (a new : Practice) (huellas : List (List ℕ)) → new ≡ consulted a huellas → new.faults ≡ faults_by (fate_of a) a.faults
+faults_are : (a new : Practice) (huellas : List (List ℕ)) → new ≡ consulted a huellas → new.faults ≡ faults_by (fate_of a)
+    a.faults
 faults_are a new huellas is = ap (λ (x : Practice). x.faults) is
 
 later_count : (a new : Practice) (huellas : List (List ℕ)) → new ≡ consulted a huellas → counted a.faults ≤ counted new.faults
-later_count a new huellas is = subst (λ (m : ℕ). counted a.faults ≤ counted m) (sym (faults_are a new huellas is)) (faults_later (fate_of a) a.faults)
+later_count a new huellas is = subst (λ (m : ℕ). counted a.faults ≤ counted m) (sym (faults_are a new huellas is))
+    (faults_later (fate_of a) a.faults)
 
 pub consult_cause : (a : Practice) (huellas : List (List ℕ)) (r : Result (List Seen) AgencyFault) (new : Practice) →
     IsRow r (consultation_answer a huellas) a new (consulted a huellas) → HasCause (counted a.faults) (counted new.faults) r
@@ -51,14 +56,21 @@ consult_cause a huellas (Err Failed) new row = record {
   failed = subst (λ (m : ℕ). Rose (counted a.faults) (counted m)) (sym (faults_are a new huellas row.1))
       (faults_rose (fate_of a) a.faults (failed_by (is_faulty (fate_of a)) (looked (processed_before a) huellas) row.0));
 }
-consult_cause a huellas (Err NoMemory) new row = record { later = (let e : counted new.faults ≡ counted a.faults = ap (λ (x : Practice). counted x.faults) row in omega arith); failed = tt }
+consult_cause a huellas (Err NoMemory) new row = record {
+  later = (let e : counted new.faults ≡ counted a.faults =
+      ap (λ (x : Practice). counted x.faults) row in omega arith);
+  failed = tt;
+}
 
 pub consult_count : (a : Practice) (huellas : List (List ℕ)) (r : Result (List Seen) AgencyFault) (new : Practice) →
-    IsRow r (consultation_answer a huellas) a new (consulted a huellas) → IfOk r (λ (seen : List Seen). length seen ≡ length huellas)
-consult_count a huellas (Ok seen) new row = ap length (seen_is a huellas seen row.0) ∙ length-map huellas (λ (h : List ℕ). seen_of (line_of (processed_before a) h))
+    IsRow r (consultation_answer a huellas) a new (consulted a huellas) →
+    IfOk r (λ (seen : List Seen). length seen ≡ length huellas)
+consult_count a huellas (Ok seen) new row = ap length (seen_is a huellas seen row.0) ∙ length-map huellas
+    (λ (h : List ℕ). seen_of (line_of (processed_before a) h))
 consult_count a huellas (Err why) new row = tt
 
-asked : (a new : Practice) (huellas : List (List ℕ)) (r : Result (List Seen) AgencyFault) → r ≡ consultation_answer a huellas → new ≡ consulted a huellas → IsAsked (ledger_of a) (ledger_of new) huellas r
+asked : (a new : Practice) (huellas : List (List ℕ)) (r : Result (List Seen) AgencyFault) → r ≡ consultation_answer a huellas →
+    new ≡ consulted a huellas → IsAsked (ledger_of a) (ledger_of new) huellas r
 asked a new huellas r e is =
     let entry : Logged = record { message = Consulted huellas (consultation_answer a huellas); comes = None } in
     record {
@@ -73,7 +85,8 @@ consult_lists a huellas (Ok seen) new row = asked a new huellas (Ok seen) row.0 
 consult_lists a huellas (Err Failed) new row = asked a new huellas (Err Failed) row.0 row.1
 consult_lists a huellas (Err NoMemory) new row = ap ledger_of row
 
-processed_is : (a new : Practice) (huellas : List (List ℕ)) → new ≡ consulted a huellas → new.processed ≡ delivered_all a.plan.verdicts a.processed (before_of a)
+processed_is : (a new : Practice) (huellas : List (List ℕ)) → new ≡ consulted a huellas → new.processed ≡ delivered_all
+    a.plan.verdicts a.processed (before_of a)
 processed_is a new huellas is = ap (λ (x : Practice). x.processed) is ∙ before_is a
 
 pub consult_rules : (a : Practice) (huellas : List (List ℕ)) (r : Result (List Seen) AgencyFault) (new : Practice) →
@@ -101,7 +114,8 @@ consult_rules a huellas (Err NoMemory) new row = record {
   answered = tt;
 }
 
-pub begin_lists : (a new : Practice) (plan : Plan) (noted : List (Sealed × Line)) → new ≡ opened a plan noted → Begins (ledger_of a) (ledger_of new) plan (length noted)
+pub begin_lists : (a new : Practice) (plan : Plan) (noted : List (Sealed × Line)) → new ≡ opened a plan noted →
+    Begins (ledger_of a) (ledger_of new) plan (length noted)
 begin_lists a new plan noted is =
     let entry : Logged = record { message = Begun plan (length noted); comes = None } in
     record {

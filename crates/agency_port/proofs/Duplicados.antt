@@ -1,5 +1,6 @@
 -- Which records of a batch are answered as new.
-use Rattle.std.proofs.Common.{◌≡◌, ℕ, zero, suc, List, [], ◌∷◌, ◌++◌, refl, sym, ◌∙◌, ap, Option, Some, None, Bool, length, map, slice_get, option_map}
+use Rattle.std.proofs.Common.{◌≡◌, ℕ, zero, suc, List, [], ◌∷◌, ◌++◌, refl, sym, ◌∙◌, ap, Option, Some, None, Bool, length, map}
+use Rattle.std.proofs.Common.{slice_get, option_map}
 use Rattle.std.proofs.lemmas.List.{map-append}
 use Rattle.record_fields.specs.declared.lines.Line.{Line}
 use Rattle.agency_rules.specs.declared.pairs.Delivered.{Delivered}
@@ -13,19 +14,22 @@ use Rattle.agency_port.specs.declared.answers.ReplyLine.TheVariants.{First}
 
 pub answers_join : MeetingsJoin → AnswersJoin
 answers_join join verdicts processed a b =
-    ap (map reply_line) (join verdicts processed a b) ∙ map-append reply_line (meetings verdicts processed a) (meetings verdicts (delivered verdicts processed a) b)
+    ap (map reply_line) (join verdicts processed a b) ∙ map-append reply_line (meetings verdicts processed a)
+    (meetings verdicts (delivered verdicts processed a) b)
 
 duplicado_is : (met : Delivered) → is_duplicado (reply_line met) ≡ is_again met
 duplicado_is (delivered_as.First line) = refl
 duplicado_is (delivered_as.Again line) = refl
 
-duplicado_at : (meetings : List Delivered) (i : ℕ) → option_map is_duplicado (slice_get (map reply_line meetings) i) ≡ option_map is_again (slice_get meetings i)
+duplicado_at : (meetings : List Delivered) (i : ℕ) → option_map is_duplicado (slice_get (map reply_line meetings) i) ≡ option_map
+    is_again (slice_get meetings i)
 duplicado_at [] i = refl
 duplicado_at (m ∷ meetings) zero = ap (λ (b : Bool). Some b) (duplicado_is m)
 duplicado_at (m ∷ meetings) (suc i) = duplicado_at meetings i
 
 pub duplicado_where : AgainWhereItCame → DuplicadoWhereItCame
-duplicado_where again verdicts processed before after s = duplicado_at (meetings verdicts processed (before ++ s ∷ after)) (length before) ∙ again verdicts processed before after s
+duplicado_where again verdicts processed before after s = duplicado_at (meetings verdicts processed (before ++ s ∷ after))
+    (length before) ∙ again verdicts processed before after s
 
 first_lines : (lines : List Line) → map reply_line (map delivered_as.First lines) ≡ map First lines
 first_lines [] = refl

@@ -1,5 +1,6 @@
 -- A log that goes on.
-use Rattle.std.proofs.Common.{◌≡◌, ℕ, ◌<◌, ◌+◌, ◌-◌, List, [], ◌∷◌, ◌++◌, refl, sym, ◌∙◌, ap, arith, Option, Some, None, option_to_list, length, length-append, filter_map, take, get_or, append-nil, slice_get}
+use Rattle.std.proofs.Common.{◌≡◌, ℕ, ◌<◌, ◌+◌, ◌-◌, List, [], ◌∷◌, ◌++◌, refl, sym, ◌∙◌, ap, arith, Option, Some, None}
+use Rattle.std.proofs.Common.{option_to_list, length, length-append, filter_map, take, get_or, append-nil, slice_get}
 use Rattle.std.proofs.lemmas.List.{take_more, map-append}
 use Rattle.std.proofs.lemmas.List.Elements.{filter_map-append}
 use Rattle.record_fields.specs.Picks.{last_of}
@@ -45,12 +46,16 @@ get_last xs x = rw (length_after xs x) (get_end xs x)
     get_end (y ∷ xs) x = get_end xs x
 
 -- the reply that was given last, from the end of the log
-pub last_here : (log before : List Logged) (l : Logged) (reply : Replied) → log ≡ before ++ l ∷ [] → Some reply ≡ reply_in l → Some reply ≡ last_reply log
+pub last_here : (log before : List Logged) (l : Logged) (reply : Replied) → log ≡ before ++ l ∷ [] → Some reply ≡ reply_in l →
+    Some reply ≡ last_reply log
 last_here log before l reply is said =
     sym (get_last (filter_map reply_in before) reply)
-    ∙ ap last_of (ap (λ (rs : List Replied). filter_map reply_in before ++ rs) (sym (one_of reply_in l (Some reply) (sym said))) ∙ sym (filter_map-append reply_in before (l ∷ [])) ∙ sym (ap (filter_map reply_in) is))
+    ∙ ap last_of (ap (λ (rs : List Replied). filter_map reply_in before ++ rs) (sym (one_of reply_in l (Some reply) (sym said))) ∙
+    sym (filter_map-append reply_in before (l ∷ [])) ∙ sym (ap (filter_map reply_in) is))
 
-pub last_before : (log before : List Logged) (l : Logged) → log ≡ before ++ l ∷ [] → None ≡ reply_in l → last_reply before ≡ last_reply log
+pub last_before : (log before : List Logged) (l : Logged) → log ≡ before ++ l ∷ [] → None ≡ reply_in l →
+    last_reply before ≡ last_reply log
 last_before log before l is said =
     ap last_of (sym (append-nil (filter_map reply_in before))
-    ∙ ap (λ (rs : List Replied). filter_map reply_in before ++ rs) (sym (one_of reply_in l None (sym said))) ∙ sym (filter_map-append reply_in before (l ∷ [])) ∙ sym (ap (filter_map reply_in) is))
+    ∙ ap (λ (rs : List Replied). filter_map reply_in before ++ rs) (sym (one_of reply_in l None (sym said))) ∙
+    sym (filter_map-append reply_in before (l ∷ [])) ∙ sym (ap (filter_map reply_in) is))

@@ -9,7 +9,8 @@ use Rattle.agency_port.specs.Ledger.{Names}
 use Rattle.agency_port.specs.Practice.{is_reply_to}
 
 pub decides : (reply : Replied) (batch : List Sealed) → Decides (is_reply_to reply batch) (Names reply batch)
-decides reply batch = slice_eq-Decides {A = List ℕ} {E = bytes_eq} bytes_eq-Decides reply.huellas (huellas_of batch) (is_reply_to reply batch) refl
+decides reply batch = slice_eq-Decides {A = List ℕ} {E = bytes_eq} bytes_eq-Decides reply.huellas (huellas_of batch)
+    (is_reply_to reply batch) refl
 
 pub named : (reply : Replied) (batch : List Sealed) → Names reply batch → is_reply_to reply batch ≡ true
 named reply batch e = (decides reply batch).1 e

@@ -1,5 +1,6 @@
 -- What follows from the rows of an agency that was told its answers.
-use Rattle.std.proofs.Common.{◌≡◌, ℕ, ◌+◌, ◌^◌, ◌<◌, ◌≤◌, List, [], ◌∷◌, ◌++◌, refl, sym, ◌∙◌, ap, subst, inl, arith, Result, Ok, Err, IfOk, OnOk, Bool, true, false, cond, ◌==◌, eqb-true, length, drop, append-nil}
+use Rattle.std.proofs.Common.{◌≡◌, ℕ, ◌+◌, ◌^◌, ◌<◌, ◌≤◌, List, [], ◌∷◌, ◌++◌, refl, sym, ◌∙◌, ap, subst, inl, arith, Result, Ok}
+use Rattle.std.proofs.Common.{Err, IfOk, OnOk, Bool, true, false, cond, ◌==◌, eqb-true, length, drop, append-nil}
 use Rattle.ports.specs.Causes.{Rose}
 use Rattle.std.proofs.lemmas.List.{drop-drop}
 use Rattle.std.proofs.lemmas.List.Elements.{filter_map-append}
@@ -9,7 +10,8 @@ use Rattle.agency_port.specs.Replied.{Replied}
 use Rattle.agency_port.specs.Messages.{batch_in, batches_in}
 use Rattle.agency_port.specs.Ledger.{counted, HasCause, StaleShows, Names, HandsOver, Submits, IsAsked, Consults, Begins}
 use Rattle.agency_port.specs.Practice.{is_reply_to, IsRow}
-use Rattle.agency_port.specs.Telling.{Telling, ledger_of, submission_answer, consultation_answer, faults_after, submitted, consulted, opened, used_up}
+use Rattle.agency_port.specs.Telling.{Telling, ledger_of, submission_answer, consultation_answer, faults_after, submitted}
+use Rattle.agency_port.specs.Telling.{consulted, opened, used_up}
 use Rattle.agency_port.specs.declared.answers.Seen.{Seen}
 use Rattle.agency_port.specs.declared.answers.AgencyFault.{AgencyFault}
 use Rattle.agency_port.specs.declared.answers.AgencyFault.TheVariants.{Failed, NoMemory}
@@ -20,7 +22,8 @@ use Rattle.agency_port.specs.declared.told.ToldAnswer.TheVariants as told
 use Rattle.agency_port.proofs.Replies.{decides}
 use Rattle.agency_port.proofs.Counts.{counted_later, counted_rose}
 
-pub sent_then : (messages : List Message) (m : Message) → batches_in (messages ++ m ∷ []) ≡ batches_in messages ++ batches_in (m ∷ [])
+pub sent_then : (messages : List Message) (m : Message) → batches_in (messages ++ m ∷ []) ≡ batches_in messages ++ batches_in
+    (m ∷ [])
 sent_then messages m = filter_map-append batch_in messages (m ∷ [])
 
 -- the answers that are left after one more
@@ -35,70 +38,108 @@ fits_by : (t : Bool) (kept reply : Replied) → Ok reply ≡ cond t (Ok kept) (E
 fits_by true kept reply e = let s : reply ≡ kept = cc in (s, refl)
 fits_by false kept reply e = absurd cc
 
-ok_named : (answers : List ToldAnswer) (batch : List Sealed) (reply : Replied) → Ok reply ≡ submission_answer answers batch → Names reply batch
+ok_named : (answers : List ToldAnswer) (batch : List Sealed) (reply : Replied) → Ok reply ≡ submission_answer answers batch →
+    Names reply batch
 ok_named [] batch reply e = absurd cc
 ok_named (told.Consulted seen ∷ rest) batch reply e = absurd cc
 ok_named (told.Submitted kept ∷ rest) batch reply e =
     let f = fits_by (is_reply_to kept batch) kept reply e in
     subst (λ (r : Replied). Names r batch) (sym f.0) ((decides kept batch).0 f.1)
 
-counts_by : (t : Bool) (n m : ℕ) (kept seen : List Seen) → t ≡ (n == m) → n ≡ length kept → Ok seen ≡ cond t (Ok kept) (Err Failed) → length seen ≡ m
+counts_by : (t : Bool) (n m : ℕ) (kept seen : List Seen) → t ≡ (n == m) → n ≡ length kept → Ok seen ≡ cond t (Ok kept)
+    (Err Failed) → length seen ≡ m
 counts_by true n m kept seen is len e =
     let s : seen ≡ kept = cc in ap length s ∙ sym len ∙ eqb-true n m (sym is)
 counts_by false n m kept seen is len e = absurd cc
 
-ok_counted : (answers : List ToldAnswer) (huellas : List (List ℕ)) (seen : List Seen) → Ok seen ≡ consultation_answer answers huellas → length seen ≡ length huellas
+ok_counted : (answers : List ToldAnswer) (huellas : List (List ℕ)) (seen : List Seen) → Ok seen ≡ consultation_answer answers
+    huellas → length seen ≡ length huellas
 ok_counted [] huellas seen e = absurd cc
 ok_counted (told.Submitted reply ∷ rest) huellas seen e = absurd cc
-ok_counted (told.Consulted kept ∷ rest) huellas seen e = counts_by (length kept == length huellas) (length kept) (length huellas) kept seen refl refl e
+ok_counted (told.Consulted kept ∷ rest) huellas seen e = counts_by (length kept == length huellas) (length kept) (length huellas)
+    kept seen refl refl e
 
 -- the count after an answer
-count_cause : {A : Type 0} (r answer : Result A AgencyFault) (n m : ℕ) → r ≡ answer → m ≡ faults_after answer n → HasCause (counted n) (counted m) r
-count_cause (Ok value) answer n m e is = record { later = subst (λ (k : ℕ). counted n ≤ counted k) (sym is) (count_later answer n); failed = tt }
+count_cause : {A : Type 0} (r answer : Result A AgencyFault) (n m : ℕ) → r ≡ answer → m ≡ faults_after answer n →
+    HasCause (counted n) (counted m) r
+count_cause (Ok value) answer n m e is = record {
+  later = subst (λ (k : ℕ). counted n ≤ counted k) (sym is)
+      (count_later answer n);
+  failed = tt;
+}
 count_cause (Err Failed) answer n m e is = record {
   later = subst (λ (k : ℕ). counted n ≤ counted k) (sym is) (count_later answer n);
-  failed = subst (λ (k : ℕ). Rose (counted n) (counted k)) (ap (λ (x : Result _ AgencyFault). faults_after x n) e ∙ sym is) (counted_rose n);
+  failed = subst (λ (k : ℕ). Rose (counted n) (counted k)) (ap (λ (x : Result _ AgencyFault). faults_after x n) e ∙ sym is)
+      (counted_rose n);
 }
-count_cause (Err NoMemory) answer n m e is = record { later = subst (λ (k : ℕ). counted n ≤ counted k) (sym is) (count_later answer n); failed = tt }
+count_cause (Err NoMemory) answer n m e is = record {
+  later = subst (λ (k : ℕ). counted n ≤ counted k) (sym is)
+      (count_later answer n);
+  failed = tt;
+}
 
 pub submit_cause : (a : Telling) (batch : List Sealed) (r : Result Replied AgencyFault) (new : Telling) →
     IsRow r (submission_answer a.answers batch) a new (submitted a batch) → HasCause (counted a.faults) (counted new.faults) r
-submit_cause a batch (Ok reply) new row = count_cause (Ok reply) (submission_answer a.answers batch) a.faults new.faults row.0 (ap (λ (x : Telling). x.faults) row.1)
-submit_cause a batch (Err Failed) new row = count_cause (Err Failed) (submission_answer a.answers batch) a.faults new.faults row.0 (ap (λ (x : Telling). x.faults) row.1)
-submit_cause a batch (Err NoMemory) new row = record { later = (let e : counted new.faults ≡ counted a.faults = ap (λ (x : Telling). counted x.faults) row in omega arith); failed = tt }
+submit_cause a batch (Ok reply) new row = count_cause (Ok reply) (submission_answer a.answers batch) a.faults new.faults row.0
+    (ap (λ (x : Telling). x.faults) row.1)
+submit_cause a batch (Err Failed) new row = count_cause (Err Failed) (submission_answer a.answers batch) a.faults new.faults row.0
+    (ap (λ (x : Telling). x.faults) row.1)
+submit_cause a batch (Err NoMemory) new row = record {
+  later = (let e : counted new.faults ≡ counted a.faults =
+      ap (λ (x : Telling). counted x.faults) row in omega arith);
+  failed = tt;
+}
 
 pub submit_stale : (a : Telling) (batch : List Sealed) (r : Result Replied AgencyFault) (new : Telling) →
-    IsRow r (submission_answer a.answers batch) a new (submitted a batch) → StaleShows (counted a.faults) (counted new.faults) batch r
+    IsRow r (submission_answer a.answers batch) a new (submitted a batch) → StaleShows (counted a.faults) (counted new.faults)
+    batch r
 submit_stale a batch (Ok reply) new row = λ other. absurd (other (ok_named a.answers batch reply row.0))
 submit_stale a batch (Err why) new row = tt
 
-handed : (a new : Telling) (batch : List Sealed) (r : Result Replied AgencyFault) → r ≡ submission_answer a.answers batch → new ≡ submitted a batch → HandsOver (ledger_of a) (ledger_of new) batch r
+handed : (a new : Telling) (batch : List Sealed) (r : Result Replied AgencyFault) → r ≡ submission_answer a.answers batch →
+    new ≡ submitted a batch → HandsOver (ledger_of a) (ledger_of new) batch r
 handed a new batch r e is = record {
-  sent = ap (λ (x : Telling). batches_in x.messages) is ∙ sent_then a.messages (Submitted batch (submission_answer a.answers batch));
-  messages = ap (λ (x : Telling). x.messages) is ∙ ap (λ (answer : Result Replied AgencyFault). a.messages ++ Submitted batch answer ∷ []) (sym e);
+  sent = ap (λ (x : Telling). batches_in x.messages) is ∙ sent_then a.messages
+      (Submitted batch (submission_answer a.answers batch));
+  messages = ap (λ (x : Telling). x.messages) is ∙ ap (λ (answer : Result Replied AgencyFault). a.messages ++ Submitted batch
+      answer ∷ []) (sym e);
 }
 
 pub submit_lists : (a : Telling) (batch : List Sealed) (r : Result Replied AgencyFault) (new : Telling) →
     IsRow r (submission_answer a.answers batch) a new (submitted a batch) → Submits (ledger_of a) (ledger_of new) batch r
 submit_lists a batch (Ok reply) new row = handed a new batch (Ok reply) row.0 row.1
 submit_lists a batch (Err Failed) new row = handed a new batch (Err Failed) row.0 row.1
-submit_lists a batch (Err NoMemory) new row = inl (record { sent = ap (λ (x : Telling). batches_in x.messages) row; messages = ap (λ (x : Telling). x.messages) row })
+submit_lists a batch (Err NoMemory) new row = inl (record {
+  sent = ap (λ (x : Telling). batches_in x.messages) row;
+  messages = ap (λ (x : Telling). x.messages) row;
+})
 
 pub consult_cause : (a : Telling) (huellas : List (List ℕ)) (r : Result (List Seen) AgencyFault) (new : Telling) →
-    IsRow r (consultation_answer a.answers huellas) a new (consulted a huellas) → HasCause (counted a.faults) (counted new.faults) r
-consult_cause a huellas (Ok seen) new row = count_cause (Ok seen) (consultation_answer a.answers huellas) a.faults new.faults row.0 (ap (λ (x : Telling). x.faults) row.1)
-consult_cause a huellas (Err Failed) new row = count_cause (Err Failed) (consultation_answer a.answers huellas) a.faults new.faults row.0 (ap (λ (x : Telling). x.faults) row.1)
-consult_cause a huellas (Err NoMemory) new row = record { later = (let e : counted new.faults ≡ counted a.faults = ap (λ (x : Telling). counted x.faults) row in omega arith); failed = tt }
+    IsRow r (consultation_answer a.answers huellas) a new (consulted a huellas) → HasCause (counted a.faults) (counted new.faults)
+    r
+consult_cause a huellas (Ok seen) new row = count_cause (Ok seen) (consultation_answer a.answers huellas) a.faults new.faults
+    row.0 (ap (λ (x : Telling). x.faults) row.1)
+consult_cause a huellas (Err Failed) new row = count_cause (Err Failed) (consultation_answer a.answers huellas) a.faults
+    new.faults row.0 (ap (λ (x : Telling). x.faults) row.1)
+consult_cause a huellas (Err NoMemory) new row = record {
+  later = (let e : counted new.faults ≡ counted a.faults =
+      ap (λ (x : Telling). counted x.faults) row in omega arith);
+  failed = tt;
+}
 
 pub consult_count : (a : Telling) (huellas : List (List ℕ)) (r : Result (List Seen) AgencyFault) (new : Telling) →
-    IsRow r (consultation_answer a.answers huellas) a new (consulted a huellas) → IfOk r (λ (seen : List Seen). length seen ≡ length huellas)
+    IsRow r (consultation_answer a.answers huellas) a new (consulted a huellas) →
+    IfOk r (λ (seen : List Seen). length seen ≡ length huellas)
 consult_count a huellas (Ok seen) new row = ok_counted a.answers huellas seen row.0
 consult_count a huellas (Err why) new row = tt
 
-asked : (a new : Telling) (huellas : List (List ℕ)) (r : Result (List Seen) AgencyFault) → r ≡ consultation_answer a.answers huellas → new ≡ consulted a huellas → IsAsked (ledger_of a) (ledger_of new) huellas r
+asked : (a new : Telling) (huellas : List (List ℕ)) (r : Result (List Seen) AgencyFault) → r ≡ consultation_answer a.answers
+    huellas → new ≡ consulted a huellas → IsAsked (ledger_of a) (ledger_of new) huellas r
 asked a new huellas r e is = record {
-  sent = ap (λ (x : Telling). batches_in x.messages) is ∙ sent_then a.messages (Consulted huellas (consultation_answer a.answers huellas)) ∙ append-nil (batches_in a.messages);
-  messages = ap (λ (x : Telling). x.messages) is ∙ ap (λ (answer : Result (List Seen) AgencyFault). a.messages ++ Consulted huellas answer ∷ []) (sym e);
+  sent = ap (λ (x : Telling). batches_in x.messages) is ∙ sent_then a.messages
+      (Consulted huellas (consultation_answer a.answers huellas)) ∙ append-nil (batches_in a.messages);
+  messages = ap (λ (x : Telling). x.messages) is ∙ ap (λ (answer : Result (List Seen) AgencyFault). a.messages ++ Consulted
+      huellas answer ∷ []) (sym e);
 }
 
 pub consult_lists : (a : Telling) (huellas : List (List ℕ)) (r : Result (List Seen) AgencyFault) (new : Telling) →
@@ -107,9 +148,11 @@ consult_lists a huellas (Ok seen) new row = asked a new huellas (Ok seen) row.0 
 consult_lists a huellas (Err Failed) new row = asked a new huellas (Err Failed) row.0 row.1
 consult_lists a huellas (Err NoMemory) new row = ap ledger_of row
 
-pub begin_lists : (a new : Telling) (plan : Plan) (pairs : ℕ) → new ≡ opened a plan pairs → Begins (ledger_of a) (ledger_of new) plan pairs
+pub begin_lists : (a new : Telling) (plan : Plan) (pairs : ℕ) → new ≡ opened a plan pairs → Begins (ledger_of a) (ledger_of new)
+    plan pairs
 begin_lists a new plan pairs is = record {
-  sent = ap (λ (x : Telling). batches_in x.messages) is ∙ sent_then a.messages (Begun plan pairs) ∙ append-nil (batches_in a.messages);
+  sent = ap (λ (x : Telling). batches_in x.messages) is ∙ sent_then a.messages (Begun plan pairs) ∙
+      append-nil (batches_in a.messages);
   messages = ap (λ (x : Telling). x.messages) is;
 }
 
@@ -119,5 +162,10 @@ on_ok (Ok done) P Q f h = f h
 on_ok (Err why) P Q f h = tt
 
 pub left_record : (answers : List ToldAnswer) (at : ℕ) (messages : List Message) (faults : ℕ) →
-    record { answers = drop (at + 1) answers; messages = messages; faults = faults } ≡ used_up (record { answers = drop at answers; messages = messages; faults = faults })
-left_record answers at messages faults = ap (λ (l : List ToldAnswer). record { answers = l; messages = messages; faults = faults }) (left_after answers at)
+    record { answers = drop (at + 1) answers; messages = messages; faults = faults } ≡ used_up
+    (record { answers = drop at answers; messages = messages; faults = faults })
+left_record answers at messages faults = ap (λ (l : List ToldAnswer). record {
+  answers = l;
+  messages = messages;
+  faults = faults;
+}) (left_after answers at)

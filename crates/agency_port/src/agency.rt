@@ -2,6 +2,7 @@
 ghost use Rattle.std.specs.Prelude.{◌≡◌, ◌≤◌, ◌-◌, ◌^◌, ℕ, List, Bool, IsTrue, length, Result, IfOk, OnOk, OnErr, ⊤};
 ghost use Rattle.record_fields.specs.declared.records.Sealed.{Sealed as AnySealed};
 ghost use Rattle.record_fields.specs.declared.lines.Line.{Line as AnyLine};
+ghost use Rattle.record_fields.specs.declared.lines.TheConstants.{BATCH};
 ghost use Rattle.ports.specs.declared.faults.NoMemory.{NoMemory as AnyNoMemory};
 ghost use Rattle.agency_rules.specs.declared.plans.Plan.{Plan as AnyPlan};
 ghost use Rattle.agency_port.specs.declared.answers.AgencyFault.{AgencyFault as AnyFault};
@@ -66,10 +67,10 @@ pub trait Agency {
         ensures rules { IsTrue keeps_rules → SubmitKeeps (ledger self.old) (ledger self.new) batch.now result }
         ensures row { submission self.old self.new batch.now result };
 
-    /// Asks what stands under 1 to 1000 Huellas; one answer for each, in order. Want of memory changes nothing that is told.
+    /// Asks what stands under 1 to `BATCH` Huellas; one answer for each, in order. Want of memory changes nothing that is told.
     fn consult(&mut self, alloc: Global, huellas: &Huellas) -> Result<SeenList, AgencyFault>
         requires some { 1 ≤ length huellas.now }
-        requires few { length huellas.now ≤ 1000 }
+        requires few { length huellas.now ≤ BATCH }
         ensures count { IfOk result (λ seen. length seen ≡ length huellas.now) }
         ensures cause { HasCause (faults self.old) (faults self.new) result }
         ensures lists { IsTrue tells → Consults (ledger self.old) (ledger self.new) huellas.now result }

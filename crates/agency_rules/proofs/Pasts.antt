@@ -1,5 +1,7 @@
 -- The past of an invoice after one more pair.
-use Rattle.std.proofs.Common.{◌≡◌, ◌⊎◌, ◌+◌, ◌-◌, List, [], ◌∷◌, ◌++◌, refl, sym, ◌∙◌, ap, subst, inl, inr, ℕ, ◌<◌, Bool, true, false, not, length, length-append, filter, append-nil, Some, slice_get, arith, take, get_or, bytes_eq, eq-eqb}
+use Rattle.std.proofs.Common.{◌≡◌, ◌⊎◌, ◌+◌, ◌-◌, List, [], ◌∷◌, ◌++◌, refl, sym, ◌∙◌, ap, subst, inl, inr, ℕ, ◌<◌, Bool, true}
+use Rattle.std.proofs.Common.{false, not, length, length-append, filter, append-nil, Some, slice_get, arith, take, get_or}
+use Rattle.std.proofs.Common.{bytes_eq, eq-eqb}
 use Rattle.std.proofs.lemmas.Slice.Eq.{bytes_eq-Decides}
 use Rattle.std.proofs.lemmas.List.{take_more}
 use Rattle.std.proofs.lemmas.List.Elements.{filter-append}
@@ -54,14 +56,17 @@ one_more mine p = length-append mine (p ∷ [])
 summed_more : (mine : List (Sealed × Line)) (p : Sealed × Line) → summed (mine ++ p ∷ []) ≡ past_after (summed mine) p.0.body p.1
 summed_more mine p = elim (by_cases (is_accepted p.1)) [
   | inl e ↦
-      let a : accepted (mine ++ p ∷ []) ≡ accepted mine ++ p ∷ [] = accepted_more mine p ∙ ap (λ (xs : List (Sealed × Line)). accepted mine ++ xs) (accepted_one p e) in
+      let a : accepted (mine ++ p ∷ []) ≡ accepted mine ++ p ∷ [] = accepted_more mine p ∙
+      ap (λ (xs : List (Sealed × Line)). accepted mine ++ xs) (accepted_one p e) in
       rw (a, one_more mine p, e, get_last (accepted mine) p) refl
   | inr e ↦
-      let a : accepted (mine ++ p ∷ []) ≡ accepted mine = accepted_more mine p ∙ ap (λ (xs : List (Sealed × Line)). accepted mine ++ xs) (refused_one p e) ∙ append-nil (accepted mine) in
+      let a : accepted (mine ++ p ∷ []) ≡ accepted mine = accepted_more mine p ∙ ap (λ (xs : List (Sealed × Line)). accepted mine
+      ++ xs) (refused_one p e) ∙ append-nil (accepted mine) in
       rw (a, one_more mine p, e) refl
 ]
 
-mine_more : (processed : List (Sealed × Line)) (p : Sealed × Line) (id : InvoiceId) → of_id (processed ++ p ∷ []) id ≡ of_id processed id ++ of_id (p ∷ []) id
+mine_more : (processed : List (Sealed × Line)) (p : Sealed × Line) (id : InvoiceId) → of_id (processed ++ p ∷ []) id ≡ of_id
+    processed id ++ of_id (p ∷ []) id
 mine_more processed p id = filter-append (λ (p : Sealed × Line). same_id (id_of p.0.body) id) processed (p ∷ [])
 
 mine_one : (p : Sealed × Line) (id : InvoiceId) → same_id (id_of p.0.body) id ≡ true → of_id (p ∷ []) id ≡ p ∷ []
@@ -74,13 +79,15 @@ other_one p id e = rw e refl
 pub past_more : (processed : List (Sealed × Line)) (p : Sealed × Line) (id : InvoiceId) → same_id (id_of p.0.body) id ≡ true →
     past_of (processed ++ p ∷ []) id ≡ past_after (past_of processed id) p.0.body p.1
 past_more processed p id e =
-    let a : of_id (processed ++ p ∷ []) id ≡ of_id processed id ++ p ∷ [] = mine_more processed p id ∙ ap (λ (xs : List (Sealed × Line)). of_id processed id ++ xs) (mine_one p id e) in
+    let a : of_id (processed ++ p ∷ []) id ≡ of_id processed id ++ p ∷ [] = mine_more processed p id ∙
+    ap (λ (xs : List (Sealed × Line)). of_id processed id ++ xs) (mine_one p id e) in
     ap summed a ∙ summed_more (of_id processed id) p
 
 pub past_still : (processed : List (Sealed × Line)) (p : Sealed × Line) (id : InvoiceId) → same_id (id_of p.0.body) id ≡ false →
     past_of (processed ++ p ∷ []) id ≡ past_of processed id
 past_still processed p id e =
-    let a : of_id (processed ++ p ∷ []) id ≡ of_id processed id = mine_more processed p id ∙ ap (λ (xs : List (Sealed × Line)). of_id processed id ++ xs) (other_one p id e) ∙ append-nil (of_id processed id) in
+    let a : of_id (processed ++ p ∷ []) id ≡ of_id processed id = mine_more processed p id ∙
+    ap (λ (xs : List (Sealed × Line)). of_id processed id ++ xs) (other_one p id e) ∙ append-nil (of_id processed id) in
     ap summed a
 
 pub same_bytes : (bs : List ℕ) → bytes_eq bs bs ≡ true
@@ -92,7 +99,8 @@ same_itself id = rw (same_bytes id.num, eq-eqb id.day id.day refl) refl
 pub past_next : (processed : List (Sealed × Line)) (s : Sealed) (line : Line) (body : Record) → s.body ≡ body →
     past_after (past_of processed (id_of body)) body line ≡ past_of (processed ++ (s, line) ∷ []) (id_of body)
 past_next processed s line body e =
-    let P : Record → Type 0 = λ (b : Record). past_after (past_of processed (id_of b)) b line ≡ past_of (processed ++ (s, line) ∷ []) (id_of b) in
+    let P : Record → Type 0 = λ (b : Record). past_after (past_of processed (id_of b)) b line ≡ past_of
+    (processed ++ (s, line) ∷ []) (id_of b) in
     subst P e (sym (past_more processed (s, line) (id_of s.body) (same_itself (id_of s.body))))
 
 pub after_refused : (past : Past) (body : Record) (line : Line) → is_accepted line ≡ false →
@@ -108,8 +116,10 @@ pub after_accepted : (past : Past) (body : Record) (line : Line) (held : Bool) �
 after_accepted past body line held e h = rw (e, h, gone_is body) refl
 
 -- the past after one more pair, of this invoice or of another
-pub past_step : (processed : List (Sealed × Line)) (p : Sealed × Line) (id : InvoiceId) (past then : Past) → past ≡ past_of processed id →
-    (same_id (id_of p.0.body) id ≡ true → then ≡ past_after past p.0.body p.1) → (same_id (id_of p.0.body) id ≡ false → then ≡ past) →
+pub past_step : (processed : List (Sealed × Line)) (p : Sealed × Line) (id : InvoiceId) (past then : Past) →
+    past ≡ past_of processed id →
+    (same_id (id_of p.0.body) id ≡ true → then ≡ past_after past p.0.body p.1) → (same_id (id_of p.0.body) id ≡ false →
+    then ≡ past) →
     then ≡ past_of (processed ++ p ∷ []) id
 past_step processed p id past then here same other = elim (by_cases (same_id (id_of p.0.body) id)) [
   | inl e ↦ same e ∙ ap (λ (q : Past). past_after q p.0.body p.1) here ∙ sym (past_more processed p id e)
@@ -117,10 +127,13 @@ past_step processed p id past then here same other = elim (by_cases (same_id (id
 ]
 
 -- the same, where the pair is the next one of a list
-pub past_step_in : (pairs : List (Sealed × Line)) (i : ℕ) (p : Sealed × Line) (id : InvoiceId) (past then : Past) → i < length pairs → p ≡ get_or pairs i p →
+pub past_step_in : (pairs : List (Sealed × Line)) (i : ℕ) (p : Sealed × Line) (id : InvoiceId) (past then : Past) →
+    i < length pairs → p ≡ get_or pairs i p →
     past ≡ past_of (take i pairs) id →
-    (same_id (id_of p.0.body) id ≡ true → then ≡ past_after past p.0.body p.1) → (same_id (id_of p.0.body) id ≡ false → then ≡ past) →
+    (same_id (id_of p.0.body) id ≡ true → then ≡ past_after past p.0.body p.1) → (same_id (id_of p.0.body) id ≡ false →
+    then ≡ past) →
     then ≡ past_of (take (i + 1) pairs) id
 past_step_in pairs i p id past then within is here same other =
     past_step (take i pairs) p id past then here same other
-    ∙ ap (λ (xs : List (Sealed × Line)). past_of xs id) (ap (λ (q : Sealed × Line). take i pairs ++ q ∷ []) is ∙ sym (take_more pairs i p within))
+    ∙ ap (λ (xs : List (Sealed × Line)). past_of xs id) (ap (λ (q : Sealed × Line). take i pairs ++ q ∷ []) is ∙
+    sym (take_more pairs i p within))

@@ -14,7 +14,8 @@ use Rattle.agency_rules.specs.Clashes.{alta_clash, anulacion_clash, clash}
 
 -- four rows
 abbrev pub short : Option Line → Bool → Option Cause → Option Line → Line
-short vet gone why warn = unwrap_or (first_of (vet ∷ when gone (Incorrecto cause.Gone) ∷ option_map (λ (w : Cause). Incorrecto w) why ∷ warn ∷ [])) Correcto
+short vet gone why warn = unwrap_or (first_of (vet ∷ when gone (Incorrecto cause.Gone) ∷ option_map (λ (w : Cause). Incorrecto w)
+    why ∷ warn ∷ [])) Correcto
 
 -- the rows of a record that is a new alta, one that mends an unheld or a held invoice, or one that cancels such a one
 abbrev long : Option Line → Bool → Bool → Bool → Bool → Bool → Bool → Bool → Option Line → Line
@@ -53,18 +54,22 @@ anulacion_rows None false false false warn = refl
 
 pub judged_shortly : (past : Past) (verdict : Option Verdict) (body : Record) →
     judge past verdict body ≡ short (vetted verdict) past.gone (clash past.held body) (warned verdict)
-judged_shortly past verdict (record_of.Alta a) = alta_rows (vetted verdict) past.gone past.held a.subsanacion (is_x a.rechazo) (warned verdict)
-judged_shortly past verdict (record_of.Anulacion a) = anulacion_rows (vetted verdict) past.gone past.held a.sin_registro (warned verdict)
+judged_shortly past verdict (record_of.Alta a) = alta_rows (vetted verdict) past.gone past.held a.subsanacion (is_x a.rechazo)
+    (warned verdict)
+judged_shortly past verdict (record_of.Anulacion a) = anulacion_rows (vetted verdict) past.gone past.held a.sin_registro
+    (warned verdict)
 
 -- a record without a vet, by the rows after it
 pub judged_gone : (past : Past) (verdict : Option Verdict) (body : Record) → vetted verdict ≡ None → past.gone ≡ true →
     Incorrecto cause.Gone ≡ judge past verdict body
 judged_gone past verdict body v g = rw (judged_shortly past verdict body, v, g) refl
 
-pub judged_clash : (past : Past) (verdict : Option Verdict) (body : Record) (why : Cause) → vetted verdict ≡ None → past.gone ≡ false →
+pub judged_clash : (past : Past) (verdict : Option Verdict) (body : Record) (why : Cause) → vetted verdict ≡ None →
+    past.gone ≡ false →
     clash past.held body ≡ Some why → Incorrecto why ≡ judge past verdict body
 judged_clash past verdict body why v g k = rw (judged_shortly past verdict body, v, g, k) refl
 
-pub judged_warned : (past : Past) (verdict : Option Verdict) (body : Record) (warn : Option Line) → vetted verdict ≡ None → past.gone ≡ false →
+pub judged_warned : (past : Past) (verdict : Option Verdict) (body : Record) (warn : Option Line) → vetted verdict ≡ None →
+    past.gone ≡ false →
     clash past.held body ≡ None → warned verdict ≡ warn → unwrap_or (first_of (warn ∷ [])) Correcto ≡ judge past verdict body
 judged_warned past verdict body warn v g k w = rw (judged_shortly past verdict body, v, g, k, w) refl

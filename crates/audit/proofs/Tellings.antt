@@ -14,4 +14,5 @@ read_tells damaged file (Sound history end) (stands _ _ is place) = inr (history
 read_tells damaged file (Broken place at what) is = damaged file place at what is
 
 pub tells : BrokenIsDamaged → VerdictTells
-tells damaged file end is = subst (λ (e : AuditEnd). IsSoundOrDamaged file e) (sym is.verdict_is) (read_tells damaged file is.read is.is_read)
+tells damaged file end is = subst (λ (e : AuditEnd). IsSoundOrDamaged file e) (sym is.verdict_is) (read_tells damaged file is.read
+    is.is_read)

@@ -32,7 +32,8 @@ data Ends (issuer : List ℕ) (entries : List Entry) (at : ℕ) (file : List ℕ
   at_frame : IsDamaged (drop at file) → Ends issuer entries at file (Broken (next_place entries) at what.Frame)
   at_body : (bytes : List ℕ) → IsCounted (drop at file) bytes → ((entry : Entry) → IsEncoding issuer entry bytes → ⊥) →
       Ends issuer entries at file (Broken (next_place entries) at what.Body)
-  at_entry : (bytes : List ℕ) (entry : Entry) (why : Break) → IsCounted (drop at file) bytes → IsEncoding issuer entry bytes → IsBreak issuer entries entry (Some why) →
+  at_entry : (bytes : List ℕ) (entry : Entry) (why : Break) → IsCounted (drop at file) bytes → IsEncoding issuer entry bytes →
+      IsBreak issuer entries entry (Some why) →
       Ends issuer entries at file (Broken (next_place entries) at (word_of why))
 
 record Stop (file : List ℕ) (end : AuditEnd) : Type 0 where
@@ -45,13 +46,15 @@ record Stop (file : List ℕ) (end : AuditEnd) : Type 0 where
 not_both : (bytes body : List ℕ) → IsClosed bytes → IsCounted bytes body → ⊥
 not_both bytes body closed counted = closed.shut (cc (sym closed.parts ∙ counted.parts))
 
-same_entry : EncodingsAreApart → (issuer : List ℕ) (a b : Entry) (x y : List ℕ) → IsEncoding issuer a x → IsEncoding issuer b y → x ≡ y → a ≡ b
+same_entry : EncodingsAreApart → (issuer : List ℕ) (a b : Entry) (x y : List ℕ) → IsEncoding issuer a x → IsEncoding issuer b y →
+    x ≡ y → a ≡ b
 same_entry apart issuer a b x y is is' same =
     let bytes : entry_bytes a ≡ entry_bytes b = sym is.bytes ∙ same ∙ is'.bytes in
     (apart issuer a b [] [] is.issuer is'.issuer is.fields is'.fields (ap (λ (l : List ℕ). l ++ []) bytes)).0
 
 -- an entry breaks a history by one word
-one_break : (issuer : List ℕ) (entries : List Entry) (entry : Entry) (a b : Break) → IsBreak issuer entries entry (Some a) → IsBreak issuer entries entry (Some b) → a ≡ b
+one_break : (issuer : List ℕ) (entries : List Entry) (entry : Entry) (a b : Break) → IsBreak issuer entries entry (Some a) →
+    IsBreak issuer entries entry (Some b) → a ≡ b
 one_break issuer entries (entry_of.Rec till serial s) Notes b is is' = absurd is
 one_break issuer entries (entry_of.Rec till serial s) Link Notes is is' = absurd is'
 one_break issuer entries (entry_of.Rec till serial s) Link Link is is' = refl
@@ -75,7 +78,8 @@ one_break issuer entries (entry_of.Notes first lines) Rule b is is' = absurd is
 
 module _ (one_frame : OneFrame) (apart : EncodingsAreApart) (headers : OneHeader) (stops : OneStop) (gates : StopsAtItsGate) where
   -- what follows is one thing
-  one_end : (issuer : List ℕ) (entries : List Entry) (at : ℕ) (file : List ℕ) (a b : AuditEnd) → Ends issuer entries at file a → Ends issuer entries at file b → a ≡ b
+  one_end : (issuer : List ℕ) (entries : List Entry) (at : ℕ) (file : List ℕ) (a b : AuditEnd) → Ends issuer entries at file a →
+      Ends issuer entries at file b → a ≡ b
   one_end issuer entries at file a b (at_closed c) (at_closed c') = refl
   one_end issuer entries at file a b (at_closed c) (at_frame d') = absurd (d'.not_closed c)
   one_end issuer entries at file a b (at_closed c) (at_body x' n' none') = absurd (not_both (drop at file) x' c n')
@@ -87,28 +91,35 @@ module _ (one_frame : OneFrame) (apart : EncodingsAreApart) (headers : OneHeader
   one_end issuer entries at file a b (at_body x n none) (at_closed c') = absurd (not_both (drop at file) x c' n)
   one_end issuer entries at file a b (at_body x n none) (at_frame d') = absurd (d'.not_counted x n)
   one_end issuer entries at file a b (at_body x n none) (at_body x' n' none') = refl
-  one_end issuer entries at file a b (at_body x n none) (at_entry x' e' why' n' is' br') = absurd (none e' (subst (λ (l : List ℕ). IsEncoding issuer e' l) (one_frame.1 (drop at file) x' x n' n) is'))
+  one_end issuer entries at file a b (at_body x n none) (at_entry x' e' why' n' is' br') =
+      absurd (none e' (subst (λ (l : List ℕ). IsEncoding issuer e' l) (one_frame.1 (drop at file) x' x n' n) is'))
   one_end issuer entries at file a b (at_entry x e why n is br) (at_closed c') = absurd (not_both (drop at file) x c' n)
   one_end issuer entries at file a b (at_entry x e why n is br) (at_frame d') = absurd (d'.not_counted x n)
-  one_end issuer entries at file a b (at_entry x e why n is br) (at_body x' n' none') = absurd (none' e (subst (λ (l : List ℕ). IsEncoding issuer e l) (one_frame.1 (drop at file) x x' n n') is))
+  one_end issuer entries at file a b (at_entry x e why n is br) (at_body x' n' none') =
+      absurd (none' e (subst (λ (l : List ℕ). IsEncoding issuer e l) (one_frame.1 (drop at file) x x' n n') is))
   one_end issuer entries at file a b (at_entry x e why n is br) (at_entry x' e' why' n' is' br') =
       let same : e' ≡ e = same_entry apart issuer e' e x' x is' is (one_frame.1 (drop at file) x' x n' n) in
-      let word : why ≡ why' = one_break issuer entries e why why' br (subst (λ (f : Entry). IsBreak issuer entries f (Some why')) same br') in
+      let word : why ≡ why' = one_break issuer entries e why why' br (subst (λ (f : Entry). IsBreak issuer entries f (Some why'))
+      same br') in
       ap (λ (w : Break). Broken (next_place entries) at (word_of w)) word
 
-  moved : (file : List ℕ) (end : AuditEnd) (issuer other : List ℕ) (entries others : List Entry) (at place : ℕ) → issuer ≡ other → entries ≡ others → at ≡ place →
+  moved : (file : List ℕ) (end : AuditEnd) (issuer other : List ℕ) (entries others : List Entry) (at place : ℕ) → issuer ≡ other →
+      entries ≡ others → at ≡ place →
       Ends other others place file end → Ends issuer entries at file end
   moved file end issuer other entries others at place i e p ends =
-      subst (λ (n : List ℕ). Ends n entries at file end) (sym i) (subst (λ (es : List Entry). Ends other es at file end) (sym e) (subst (λ (k : ℕ). Ends other others k file end) (sym p) ends))
+      subst (λ (n : List ℕ). Ends n entries at file end) (sym i) (subst (λ (es : List Entry). Ends other es at file end) (sym e)
+      (subst (λ (k : ℕ). Ends other others k file end) (sym p) ends))
 
   same_stop : (file : List ℕ) (a b : AuditEnd) → Stop file a → Stop file b → a ≡ b
   same_stop file a b x y =
       let one = stops x.issuer y.issuer x.entries y.entries x.at y.at file x.stop y.stop in
-      one_end x.issuer x.entries x.at file a b x.ends (moved file b x.issuer y.issuer x.entries y.entries x.at y.at one.0 one.1 one.2 y.ends)
+      one_end x.issuer x.entries x.at file a b x.ends (moved file b x.issuer y.issuer x.entries y.entries x.at y.at one.0 one.1
+      one.2 y.ends)
 
   -- a reading speaks of a file that isn't begun, of its header, or of where it stops
   placed : (file : List ℕ) (read : FileRead) → IsRead file read →
-      (IsNotBegun file × (verdict_of read ≡ Sound 0 0 None)) ⊎ (((at : ℕ) × IsHeaderDamaged file at × (verdict_of read ≡ Broken 1 at what.Header)) ⊎ Stop file (verdict_of read))
+      (IsNotBegun file × (verdict_of read ≡ Sound 0 0 None)) ⊎
+      (((at : ℕ) × IsHeaderDamaged file at × (verdict_of read ≡ Broken 1 at what.Header)) ⊎ Stop file (verdict_of read))
   placed file read (not_begun none) = inl (none, refl)
   placed file read (stands history _ is place) =
       let gate = gates history.issuer history.entries file is in
@@ -133,7 +144,8 @@ module _ (one_frame : OneFrame) (apart : EncodingsAreApart) (headers : OneHeader
     at = at;
     stop = record {
       sound = sound;
-      ends = λ entry other counted' encoding cont. none entry (subst (λ (l : List ℕ). IsEncoding issuer entry l) (one_frame.1 (drop at file) other bytes counted' counted) encoding);
+      ends = λ entry other counted' encoding cont. none entry (subst (λ (l : List ℕ). IsEncoding issuer entry l)
+          (one_frame.1 (drop at file) other bytes counted' counted) encoding);
     };
     ends = at_body bytes counted none;
   }))
@@ -144,32 +156,40 @@ module _ (one_frame : OneFrame) (apart : EncodingsAreApart) (headers : OneHeader
     stop = record {
       sound = sound;
       ends = λ other others counted' encoding' cont.
-          let same : other ≡ entry = same_entry apart issuer other entry others bytes encoding' encoding (one_frame.1 (drop at file) others bytes counted' counted) in
+          let same : other ≡ entry = same_entry apart issuer other entry others bytes encoding' encoding
+          (one_frame.1 (drop at file) others bytes counted' counted) in
           never (subst (λ (e : Entry). Continues issuer entries e) same cont);
     };
     ends = at_entry bytes entry why counted encoding broken;
   }))
 
   begun_only : (file issuer : List ℕ) → IsBegun issuer file → IsNotBegun file → ⊥
-  begun_only file issuer begun none = absurd (let same : header.Begun issuer 1 ≡ header.NotBegun = headers file (header.Begun issuer 1) header.NotBegun (begun, refl) none in cc)
+  begun_only file issuer begun none = absurd (let same : header.Begun issuer 1 ≡ header.NotBegun =
+      headers file (header.Begun issuer 1) header.NotBegun (begun, refl) none in cc)
 
   sound_only : (file issuer : List ℕ) (at : ℕ) → IsBegun issuer file → IsHeaderDamaged file at → ⊥
-  sound_only file issuer at begun damage = absurd (let same : header.Begun issuer 1 ≡ header.Damaged at = headers file (header.Begun issuer 1) (header.Damaged at) (begun, refl) damage in cc)
+  sound_only file issuer at begun damage = absurd (let same : header.Begun issuer 1 ≡ header.Damaged at =
+      headers file (header.Begun issuer 1) (header.Damaged at) (begun, refl) damage in cc)
 
   begun_or_damaged : (file : List ℕ) (at : ℕ) → IsNotBegun file → IsHeaderDamaged file at → ⊥
-  begun_or_damaged file at none damage = absurd (let same : header.NotBegun ≡ header.Damaged at = headers file header.NotBegun (header.Damaged at) none damage in cc)
+  begun_or_damaged file at none damage = absurd (let same : header.NotBegun ≡ header.Damaged at = headers file header.NotBegun
+      (header.Damaged at) none damage in cc)
 
   one_damage : (file : List ℕ) (at place : ℕ) → IsHeaderDamaged file at → IsHeaderDamaged file place → at ≡ place
-  one_damage file at place d d' = let same : header.Damaged at ≡ header.Damaged place = headers file (header.Damaged at) (header.Damaged place) d d' in cc same
+  one_damage file at place d d' = let same : header.Damaged at ≡ header.Damaged place = headers file (header.Damaged at)
+      (header.Damaged place) d d' in cc same
 
   one_place : (file : List ℕ) (a b : AuditEnd) →
-      (IsNotBegun file × (a ≡ Sound 0 0 None)) ⊎ (((at : ℕ) × IsHeaderDamaged file at × (a ≡ Broken 1 at what.Header)) ⊎ Stop file a) →
-      (IsNotBegun file × (b ≡ Sound 0 0 None)) ⊎ (((at : ℕ) × IsHeaderDamaged file at × (b ≡ Broken 1 at what.Header)) ⊎ Stop file b) → a ≡ b
+      (IsNotBegun file × (a ≡ Sound 0 0 None)) ⊎ (((at : ℕ) × IsHeaderDamaged file at × (a ≡ Broken 1 at what.Header)) ⊎
+      Stop file a) →
+      (IsNotBegun file × (b ≡ Sound 0 0 None)) ⊎ (((at : ℕ) × IsHeaderDamaged file at × (b ≡ Broken 1 at what.Header)) ⊎
+      Stop file b) → a ≡ b
   one_place file a b (inl x) (inl y) = x.1 ∙ sym y.1
   one_place file a b (inl x) (inr (inl y)) = absurd (begun_or_damaged file y.0 x.0 y.1)
   one_place file a b (inl x) (inr (inr y)) = absurd (begun_only file y.issuer y.stop.sound.header x.0)
   one_place file a b (inr (inl x)) (inl y) = absurd (begun_or_damaged file x.0 y.0 x.1)
-  one_place file a b (inr (inl x)) (inr (inl y)) = x.2 ∙ ap (λ (k : ℕ). Broken 1 k what.Header) (one_damage file x.0 y.0 x.1 y.1) ∙ sym y.2
+  one_place file a b (inr (inl x)) (inr (inl y)) = x.2 ∙ ap (λ (k : ℕ). Broken 1 k what.Header) (one_damage file x.0 y.0 x.1 y.1)
+      ∙ sym y.2
   one_place file a b (inr (inl x)) (inr (inr y)) = absurd (sound_only file y.issuer x.0 y.stop.sound.header x.1)
   one_place file a b (inr (inr x)) (inl y) = absurd (begun_only file x.issuer x.stop.sound.header y.0)
   one_place file a b (inr (inr x)) (inr (inl y)) = absurd (sound_only file x.issuer y.0 x.stop.sound.header y.1)
@@ -177,4 +197,5 @@ module _ (one_frame : OneFrame) (apart : EncodingsAreApart) (headers : OneHeader
 
   pub one_verdict : OneVerdict
   one_verdict file a b is is' =
-      is.verdict_is ∙ one_place file (verdict_of is.read) (verdict_of is'.read) (placed file is.read is.is_read) (placed file is'.read is'.is_read) ∙ sym is'.verdict_is
+      is.verdict_is ∙ one_place file (verdict_of is.read) (verdict_of is'.read) (placed file is.read is.is_read)
+      (placed file is'.read is'.is_read) ∙ sym is'.verdict_is

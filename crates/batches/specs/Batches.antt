@@ -1,12 +1,13 @@
--- Batches as the agency takes them: at most 1000 records (Orden HAC/1177/2024, the size of a submission), in the order of
+-- Batches as the agency takes them: at most BATCH records (Orden HAC/1177/2024, the size of a submission), in the order of
 -- their chain.
 use Rattle.std.specs.Prelude.{ℕ, ◌≤◌, List, length, map}
 use Rattle.record_fields.specs.declared.records.Sealed.{Sealed}
 use Rattle.record_fields.specs.Links.{LinkedRun}
+use Rattle.record_fields.specs.declared.lines.TheConstants.{BATCH}
 
 pub record IsBatch (records : List Sealed) : Type 0 where
   pub some : 1 ≤ length records
-  pub few : length records ≤ 1000
+  pub few : length records ≤ BATCH
   pub linked : LinkedRun records
 
 -- their Huellas, in order

@@ -1,14 +1,15 @@
 // A batch of records.
 ghost use Rattle.std.specs.Prelude.{◌≡◌, ◌↔◌, [], ◌∷◌, ◌++◌, take, IfOk, OnOk, OnErr, IfSome, IsNone};
 ghost use Rattle.record_fields.specs.Links.{LinkedRun};
+ghost use Rattle.record_fields.specs.declared.lines.TheConstants.{BATCH};
 ghost use Rattle.batches.specs.Batches.{IsBatch};
 
 use ports::NoMemory;
-use record_fields::Sealed;
+use record_fields::{BATCH, Sealed};
 use std::alloc::Global;
 use std::marker::Model;
 
-/// The records of one submission: 1 to 1000, each linked to the one before it.
+/// The records of one submission: 1 to `BATCH`, each linked to the one before it.
 #[derive(Drop)]
 pub struct Batch {
     records: Vec<Sealed>,
@@ -27,17 +28,17 @@ impl Model for Batch {
 }
 
 impl Batch {
-    /// The first 1000 waiting records, or all of them; None exactly where none waits.
+    /// The first `BATCH` waiting records, or all of them; None exactly where none waits.
     pub fn cut(alloc: Global, waiting: &[Sealed]) -> Result<Option<Batch>, NoMemory>
         requires { LinkedRun waiting.now }
         ensures none { IfOk result (λ cut. IsNone cut ↔ (waiting.now ≡ [])) }
-        ensures some { IfOk result (λ cut. IfSome cut (λ batch. batch ≡ take 1000 waiting.now)) }
+        ensures some { IfOk result (λ cut. IfSome cut (λ batch. batch ≡ take BATCH waiting.now)) }
     {
         if waiting.is_empty() {
             return Ok(None);
         }
         Ok(Some(Batch {
-            records: copied_records(alloc, first_1000(waiting))?,
+            records: copied_records(alloc, first_of(waiting))?,
         }))
     }
 
@@ -59,13 +60,13 @@ impl Batch {
     }
 }
 
-fn first_1000(records: &[Sealed]) -> &[Sealed]
-    ensures { result.now ≡ take 1000 records.now }
+fn first_of(records: &[Sealed]) -> &[Sealed]
+    ensures { result.now ≡ take BATCH records.now }
 {
-    if records.len() <= 1000 {
+    if records.len() <= BATCH as usize {
         return records;
     }
-    &records[..1000]
+    &records[..BATCH as usize]
 }
 
 fn copied_records(alloc: Global, records: &[Sealed]) -> Result<Vec<Sealed>, NoMemory>

@@ -1,5 +1,6 @@
 -- The image of a moment is one of those that the disk tells.
-use Rattle.std.proofs.Common.{◌≡◌, ◌<◌, ◌≤◌, ◌+◌, inl, inr, ℕ, List, [], ◌∷◌, ◌++◌, length, get_or, take, drop, refl, sym, ◌∙◌, ap, subst, arith, take-append-drop}
+use Rattle.std.proofs.Common.{◌≡◌, ◌<◌, ◌≤◌, ◌+◌, inl, inr, ℕ, List, [], ◌∷◌, ◌++◌, length, get_or, take, drop, refl, sym, ◌∙◌}
+use Rattle.std.proofs.Common.{ap, subst, arith, take-append-drop}
 use Rattle.std.proofs.lemmas.List.{take_all, drop_all, append-nil, length-take-le, length_push, get_or_push, get_or_append_left}
 use Rattle.std.proofs.lemmas.Bool.{cases_lt}
 use Rattle.chain_disk.specs.Told.{Told, Pending, IsImage, IsLeft, IsCovered, furthest, moment, pasted}
@@ -17,7 +18,8 @@ use Rattle.chain_disk.proofs.Replay.{told_push}
 pub pasted_past : (at : ℕ) (bytes content : List ℕ) → length content ≤ at → content ++ bytes ≡ pasted at bytes content
 pasted_past at bytes content past =
     sym (ap (λ (l : List ℕ). l ++ bytes ++ drop (at + length bytes) content) (take_all at content past)
-    ∙ ap (λ (l : List ℕ). content ++ bytes ++ l) (drop_all (at + length bytes) content (omega (arith, past))) ∙ append-nil (content ++ bytes))
+    ∙ ap (λ (l : List ℕ). content ++ bytes ++ l) (drop_all (at + length bytes) content (omega (arith, past))) ∙
+    append-nil (content ++ bytes))
 
 moment_after : (event : Event) (t : Told) → moment (after event t) ≡ moment t + 1
 moment_after (Wrote at bytes) t = omega arith
@@ -47,26 +49,34 @@ replayed-append [] b t = refl
 replayed-append (e ∷ a) b t = replayed-append a b (after e t)
 
 -- an image of the state after the first events is left at their moment
-pub image_left : (first : List ℕ) (events : List Event) (m : ℕ) (c : List ℕ) → m ≤ length events → IsImage (told_by first (take m events)).now c → IsLeft (told_by first events) m c
+pub image_left : (first : List ℕ) (events : List Event) (m : ℕ) (c : List ℕ) → m ≤ length events →
+    IsImage (told_by first (take m events)).now c → IsLeft (told_by first events) m c
 image_left first events m c within image =
     let t = told_by first (take m events) in
     let at : m ≡ moment t = omega (arith, moment_replayed (take m events) (fresh first), length-take-le m events within) in
     let left : IsLeft t m c = inl (at, image) in
-    let all : replayed (drop m events) t ≡ told_by first events = sym (replayed-append (take m events) (drop m events) (fresh first)) ∙ ap (λ (l : List Event). replayed l (fresh first)) (take-append-drop m events) in
+    let all : replayed (drop m events) t ≡ told_by first events = sym (replayed-append (take m events) (drop m events)
+    (fresh first)) ∙ ap (λ (l : List Event). replayed l (fresh first)) (take-append-drop m events) in
     subst (λ (u : Told). IsLeft u m c) all (left_replayed (drop m events) t m c left)
 
-pub state_start : (first : List ℕ) (state : State) → state.content.items ≡ first → state.synced.items ≡ first → state.ranges.items ≡ [] → IsState state (told_by first [])
+pub state_start : (first : List ℕ) (state : State) → state.content.items ≡ first → state.synced.items ≡ first →
+    state.ranges.items ≡ [] → IsState state (told_by first [])
 state_start first state content synced ranges = record { content = content; synced = synced; ranges = ranges }
 
-pub state_more : (first : List ℕ) (events : List Event) (i : ℕ) (event : Event) (old new : State) → take (i + 1) events ≡ take i events ++ event ∷ [] → IsState old (told_by first (take i events)) → IsStep event old new → IsState new (told_by first (take (i + 1) events))
-state_more first events i event old new more is step = subst (λ (t : Told). IsState new t) (sym (told_push first (take i events) (take (i + 1) events) event more)) (step (told_by first (take i events)) is)
+pub state_more : (first : List ℕ) (events : List Event) (i : ℕ) (event : Event) (old new : State) → take (i + 1) events ≡ take i
+    events ++ event ∷ [] → IsState old (told_by first (take i events)) → IsStep event old new →
+    IsState new (told_by first (take (i + 1) events))
+state_more first events i event old new more is step = subst (λ (t : Told). IsState new t)
+    (sym (told_push first (take i events) (take (i + 1) events) event more)) (step (told_by first (take i events)) is)
 
 -- the bytes so far
 pub record AreFilled (fill : Fill) (content : List ℕ) (p : Pending) (c : List ℕ) : Type 0 where
   pub kept : (j : ℕ) → j < length c → (IsInDoubt p j → ⊥) → get_or c j 0 ≡ get_or p.synced j 0
   pub in_doubt : (j : ℕ) → j < length c → IsInDoubt p j → get_or c j 0 ≡ fill_byte fill p.synced content j
 
-pub filled_more : (fill : Fill) (content : List ℕ) (p : Pending) (c : List ℕ) (b : ℕ) → AreFilled fill content p c → ((IsInDoubt p (length c) → ⊥) → b ≡ get_or p.synced (length c) 0) → (IsInDoubt p (length c) → b ≡ fill_byte fill p.synced content (length c)) → AreFilled fill content p (c ++ b ∷ [])
+pub filled_more : (fill : Fill) (content : List ℕ) (p : Pending) (c : List ℕ) (b : ℕ) → AreFilled fill content p c →
+    ((IsInDoubt p (length c) → ⊥) → b ≡ get_or p.synced (length c) 0) →
+    (IsInDoubt p (length c) → b ≡ fill_byte fill p.synced content (length c)) → AreFilled fill content p (c ++ b ∷ [])
 filled_more fill content p c b so_far sure doubtful = record {
   kept = λ j low free. elim (cases_lt j (length c)) [
     | inl before ↦ get_or_append_left c (b ∷ []) 0 j before ∙ so_far.kept j before free
@@ -78,14 +88,19 @@ filled_more fill content p c b so_far sure doubtful = record {
     | inl before ↦ get_or_append_left c (b ∷ []) 0 j before ∙ so_far.in_doubt j before doubt
     | inr last ↦ (
         let at : length c ≡ j = omega (arith, low, last, length_push c b) in
-        get_or_push c b 0 j at ∙ doubtful (subst (IsInDoubt p) (sym at) doubt) ∙ ap (λ (k : ℕ). fill_byte fill p.synced content k) at)
+        get_or_push c b 0 j at ∙ doubtful (subst (IsInDoubt p) (sym at) doubt) ∙ ap (λ (k : ℕ). fill_byte fill p.synced content k)
+        at)
   ];
 }
 
 pub filled_none : (fill : Fill) (content : List ℕ) (p : Pending) (c : List ℕ) → length c ≡ 0 → AreFilled fill content p c
-filled_none fill content p c none = record { kept = λ j low free. absurd (omega (arith, low, none)); in_doubt = λ j low doubt. absurd (omega (arith, low, none)) }
+filled_none fill content p c none = record {
+  kept = λ j low free. absurd (omega (arith, low, none));
+  in_doubt = λ j low doubt. absurd (omega (arith, low, none));
+}
 
-pub filled_all : (fill : Fill) (content : List ℕ) (p : Pending) (c : List ℕ) → AreFilled fill content p c → length c ≡ filled_length fill p → IsFilled fill content p c
+pub filled_all : (fill : Fill) (content : List ℕ) (p : Pending) (c : List ℕ) → AreFilled fill content p c →
+    length c ≡ filled_length fill p → IsFilled fill content p c
 filled_all fill content p c so_far size = record { size = size; kept = so_far.kept; in_doubt = so_far.in_doubt }
 
 filled_long : (fill : Fill) (p : Pending) → length p.synced ≤ filled_length fill p

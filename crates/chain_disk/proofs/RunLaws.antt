@@ -11,7 +11,11 @@ whole s = record { no_shorter = omega arith; no_longer = omega arith; kept = λ 
 pub settled_leaves : SettledLeaves
 settled_leaves t c quiet = (
   λ left. settled_now t c quiet left,
-  λ is. inl (refl, subst (λ (p : Pending). IsImage p c) (sym quiet) (subst (λ (l : List ℕ). IsImage (settled t.content) l) (sym is) (whole t.content))),
+  λ is. inl (
+    refl,
+    subst (λ (p : Pending). IsImage p c) (sym quiet) (subst (λ (l : List ℕ). IsImage (settled t.content) l)
+        (sym is) (whole t.content)),
+  ),
 )
 
 no_call : (t : Told) (c : List ℕ) (m : ℕ) → moment t ≤ m → IsLeft t m c → IsImage t.now c

@@ -69,7 +69,8 @@ written at bytes t = ranged at (length bytes) (pasted at bytes t.content) t
 
 -- a write that failed: it did nothing, or the range holds any bytes
 abbrev pub IsWriteFailed : ℕ → ℕ → Told → Told → Type 0
-IsWriteFailed at n old new = (new ≡ old) ⊎ ((content : List ℕ) × IsTorn at n old.content content × (new ≡ ranged at n content old))
+IsWriteFailed at n old new = (new ≡ old) ⊎ ((content : List ℕ) × IsTorn at n old.content content ×
+    (new ≡ ranged at n content old))
 
 -- the content with nothing pending
 abbrev pub settled : List ℕ → Pending

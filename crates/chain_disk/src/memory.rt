@@ -1,5 +1,6 @@
 // A disk in memory. It keeps a record of its writes and syncs, so that it answers for every moment.
-ghost use Rattle.std.specs.Prelude.{◌≡◌, ◌<◌, ◌≤◌, ◌+◌, [], ◌∷◌, ◌++◌, true, MatchOption, vec_len, vec_capacity, IsTrue, IsErr, Contains, ◌↔◌, length, IfOk, OnOk, OnErr};
+ghost use Rattle.std.specs.Prelude.{◌≡◌, ◌<◌, ◌≤◌, ◌+◌, [], ◌∷◌, ◌++◌, true, MatchOption, vec_len, vec_capacity, IsTrue, IsErr};
+ghost use Rattle.std.specs.Prelude.{Contains, ◌↔◌, length, IfOk, OnOk, OnErr};
 ghost use Rattle.ports.specs.Causes.{HasCause};
 ghost use Rattle.chain_disk.specs.Told.{pasted, IsRead, synced, written, IsSyncFailed, IsWriteFailed};
 ghost use Rattle.chain_disk.specs.Memory.{told_by, content_of, fresh};

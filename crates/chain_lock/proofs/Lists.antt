@@ -1,5 +1,7 @@
 -- Totals over the views, and beginnings of a list.
-use Rattle.std.proofs.Common.{◌≡◌, ◌≢◌, ℕ, zero, suc, ◌+◌, ◌<◌, ◌≤◌, ◌==◌, Bool, true, false, cond, List, [], ◌∷◌, ◌++◌, length, set, take, drop, Some, slice_get, All, refl, ap, sym, ◌∙◌, subst, arith, append_assoc, length-append}
+use Rattle.std.proofs.Common.{◌≡◌, ◌≢◌, ℕ, zero, suc, ◌+◌, ◌<◌, ◌≤◌, ◌==◌, Bool, true, false, cond, List, [], ◌∷◌, ◌++◌, length}
+use Rattle.std.proofs.Common.{set, take, drop, Some, slice_get, All, refl, ap, sym, ◌∙◌, subst, arith, append_assoc}
+use Rattle.std.proofs.Common.{length-append}
 use Rattle.std.proofs.lemmas.Bool.Decides.{nat_tests}
 use Rattle.std.proofs.lemmas.List.{append-nil}
 use mathlib.Core.Option.{some, some-injective, some-ne-none}
@@ -35,11 +37,14 @@ module _ {A : Type 0} (f : A → ℕ) where
   total_least (x ∷ xs) zero v e = let h : f x ≡ f v = ap f (some-injective x v e) in omega arith
   total_least (x ∷ xs) (suc i) v e = let h = total_least xs i v e in omega arith
 
-  pub total_two : (vs : List A) (i j : ℕ) (v w : A) → j ≢ i → get_elem? vs i ≡ some v → get_elem? vs j ≡ some w → f v + f w ≤ total f vs
+  pub total_two : (vs : List A) (i j : ℕ) (v w : A) → j ≢ i → get_elem? vs i ≡ some v → get_elem? vs j ≡ some w →
+      f v + f w ≤ total f vs
   total_two [] i j v w ne e e' = absurd (some-ne-none v (sym e))
   total_two (x ∷ xs) zero zero v w ne e e' = absurd (ne refl)
-  total_two (x ∷ xs) zero (suc j) v w ne e e' = let h : f x ≡ f v = ap f (some-injective x v e) in let t = total_least xs j w e' in omega arith
-  total_two (x ∷ xs) (suc i) zero v w ne e e' = let h : f x ≡ f w = ap f (some-injective x w e') in let t = total_least xs i v e in omega arith
+  total_two (x ∷ xs) zero (suc j) v w ne e e' = let h : f x ≡ f v = ap f (some-injective x v e) in
+      let t = total_least xs j w e' in omega arith
+  total_two (x ∷ xs) (suc i) zero v w ne e e' = let h : f x ≡ f w = ap f (some-injective x w e') in
+      let t = total_least xs i v e in omega arith
   total_two (x ∷ xs) (suc i) (suc j) v w ne e e' = let t = total_two xs i j v w (λ h. ne (ap suc h)) e e' in omega arith
 
   none_there : (vs : List A) → ((j : ℕ) (w : A) → get_elem? vs j ≡ some w → f w ≡ 0) → total f vs ≡ 0
@@ -47,10 +52,13 @@ module _ {A : Type 0} (f : A → ℕ) where
   none_there (x ∷ xs) h = let a = h 0 x refl in let b = none_there xs (λ j. h (suc j)) in omega arith
 
   -- where the others have none, the total is what one has
-  pub total_only : (vs : List A) (i : ℕ) (v : A) → get_elem? vs i ≡ some v → ((j : ℕ) (w : A) → j ≢ i → get_elem? vs j ≡ some w → f w ≡ 0) → total f vs ≡ f v
+  pub total_only : (vs : List A) (i : ℕ) (v : A) → get_elem? vs i ≡ some v → ((j : ℕ) (w : A) → j ≢ i → get_elem? vs j ≡ some w →
+      f w ≡ 0) → total f vs ≡ f v
   total_only [] i v e h = absurd (some-ne-none v (sym e))
-  total_only (x ∷ xs) zero v e h = let a : f x ≡ f v = ap f (some-injective x v e) in let b = none_there xs (λ j w. h (suc j) w (λ z. omega arith)) in omega arith
-  total_only (x ∷ xs) (suc i) v e h = let a = h 0 x (λ z. omega arith) refl in let b = total_only xs i v e (λ j w ne. h (suc j) w (λ z. ne (omega arith))) in omega arith
+  total_only (x ∷ xs) zero v e h = let a : f x ≡ f v = ap f (some-injective x v e) in
+      let b = none_there xs (λ j w. h (suc j) w (λ z. omega arith)) in omega arith
+  total_only (x ∷ xs) (suc i) v e h = let a = h 0 x (λ z. omega arith) refl in
+      let b = total_only xs i v e (λ j w ne. h (suc j) w (λ z. ne (omega arith))) in omega arith
 
 pub times_append : (k : ℕ) (xs ys : List ℕ) → times k (xs ++ ys) ≡ times k xs + times k ys
 times_append k [] ys = omega arith
@@ -118,7 +126,8 @@ module _ {I : Type 0} where
   stand_starts a b [] p q = tt
   stand_starts a b (x ∷ xs) p q = (get_starts a b x.0 x.1 p q.0, stand_starts a b xs p q.1)
 
-up_here : (c n k : ℕ) → n ≤ k → k < n + suc c → (n + 1 ≤ k → k < (n + 1) + c → times k (up_from (n + 1) c) ≡ 1) × (k < n + 1 → times k (up_from (n + 1) c) ≡ 0) × ((n + 1) + c ≤ k → times k (up_from (n + 1) c) ≡ 0)
+up_here : (c n k : ℕ) → n ≤ k → k < n + suc c → (n + 1 ≤ k → k < (n + 1) + c → times k (up_from (n + 1) c) ≡ 1) ×
+    (k < n + 1 → times k (up_from (n + 1) c) ≡ 0) × ((n + 1) + c ≤ k → times k (up_from (n + 1) c) ≡ 0)
     → cond (n == k) 1 0 + times k (up_from (n + 1) c) ≡ 1
 up_here c n k a b h = let h₀ = h.0 in let h₁ = h.1 in grind (arith, nat_tests)
 
@@ -126,9 +135,14 @@ up_else : (c n k : ℕ) → n ≢ k → times k (up_from (n + 1) c) ≡ 0 → co
 up_else c n k ne h = grind (arith, nat_tests)
 
 -- the numbers from n on, each once
-pub times_up : (c n k : ℕ) → (n ≤ k → k < n + c → times k (up_from n c) ≡ 1) × (k < n → times k (up_from n c) ≡ 0) × (n + c ≤ k → times k (up_from n c) ≡ 0)
+pub times_up : (c n k : ℕ) → (n ≤ k → k < n + c → times k (up_from n c) ≡ 1) × (k < n → times k (up_from n c) ≡ 0) ×
+    (n + c ≤ k → times k (up_from n c) ≡ 0)
 times_up zero n k = ((λ a b. absurd (omega arith)), (λ _. refl), (λ _. refl))
-times_up (suc c) n k = let h = times_up c (n + 1) k in ((λ a b. up_here c n k a b h), (λ l. up_else c n k (λ e. omega arith) (h.1 (omega arith))), (λ l. up_else c n k (λ e. omega arith) (h.2 (omega arith))))
+times_up (suc c) n k = let h = times_up c (n + 1) k in (
+  (λ a b. up_here c n k a b h),
+  (λ l. up_else c n k (λ e. omega arith) (h.1 (omega arith))),
+  (λ l. up_else c n k (λ e. omega arith) (h.2 (omega arith))),
+)
 
 module _ {A : Type 0} (P : A → Type 0) where
   pub each_snoc : (xs : List A) (y : A) → EachOf P xs → P y → EachOf P (xs ++ y ∷ [])
@@ -181,11 +195,14 @@ times_is k (n ∷ ns) = ap (λ w. cond (n == k) 1 0 + w) (times_is k ns) ∙ sym
 
 pub placed_is : {I : Type 0} (k : ℕ) (xs : List (ℕ × I)) → placed k xs ≡ count_by (λ x. x.0 == k) xs
 placed_is k [] = refl
-placed_is {I} k (x ∷ xs) = ap (λ w. cond (x.0 == k) 1 0 + w) (placed_is k xs) ∙ sym (sum_by-cons (λ (y : ℕ × I). cond (y.0 == k) 1 0) x xs)
+placed_is {I} k (x ∷ xs) = ap (λ w. cond (x.0 == k) 1 0 + w) (placed_is k xs) ∙
+    sym (sum_by-cons (λ (y : ℕ × I). cond (y.0 == k) 1 0) x xs)
 
-pub total_is : {A B : Type 0} (f : A → ℕ) (g : B → ℕ) (h : A → B) (xs : List A) → ((x : A) → f x ≡ g (h x)) → total f xs ≡ sum_by g (map h xs)
+pub total_is : {A B : Type 0} (f : A → ℕ) (g : B → ℕ) (h : A → B) (xs : List A) → ((x : A) → f x ≡ g (h x)) →
+    total f xs ≡ sum_by g (map h xs)
 total_is f g h [] same = refl
-total_is f g h (x ∷ xs) same = (ap (λ w. w + total f xs) (same x) ∙ ap (λ w. g (h x) + w) (total_is f g h xs same)) ∙ sym (sum_by-cons g (h x) (map h xs))
+total_is f g h (x ∷ xs) same = (ap (λ w. w + total f xs) (same x) ∙ ap (λ w. g (h x) + w) (total_is f g h xs same)) ∙
+    sym (sum_by-cons g (h x) (map h xs))
 
 pub each_image : {A B : Type 0} (P : B → Type 0) (h : A → B) (xs : List A) → EachOf (λ x. P (h x)) xs → EachOf P (map h xs)
 each_image P h [] e = tt

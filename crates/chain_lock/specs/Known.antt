@@ -43,7 +43,8 @@ module _ {I R : Type 0} where
     pub own : k.own ≡ []
     pub root_is : k.root ≡ Some root
 
-  -- One turn. Its act found the list `before`, which goes on from all that the pass knew, and `relates` holds of the root, of `before` and of the list afterwards.
+  -- One turn. Its act found the list `before`, which goes on from all that the pass knew, and `relates` holds of the root, of
+  -- `before` and of the list afterwards.
   -- The pass has then seen the list afterwards, and owns what was added
   pub record Turns (relates : R → List I → List I → Type 0) (old new : Known I R) : Type 0 where
     pub before : List I
@@ -54,7 +55,11 @@ module _ {I R : Type 0} where
     pub at_least : old.least ≤ length before
     pub at_most_one : length added ≤ 1
     pub related : relates home before (before ++ added)
-    pub after : new ≡ record old { seen = before ++ added; least = length (before ++ added); own = old.own ++ enumerate_from (length before) added }
+    pub after : new ≡ record old {
+      seen = before ++ added;
+      least = length (before ++ added);
+      own = old.own ++ enumerate_from (length before) added;
+    }
 
   -- the list goes on from all that the pass knew, and has its own items at their places
   pub record Fits (log : List I) (k : Known I R) : Type 0 where

@@ -1,5 +1,6 @@
 -- The rule of the lock's table, and what each step tells.
-use Rattle.std.specs.Prelude.{◌≡◌, ◌≢◌, ℕ, ◌<◌, ◌≤◌, true, false, List, [], ◌∷◌, ◌++◌, length, take, drop, max, Option, Some, None}
+use Rattle.std.specs.Prelude.{◌≡◌, ◌≢◌, ℕ, ◌<◌, ◌≤◌, true, false, List, [], ◌∷◌, ◌++◌, length, take, drop, max, Option, Some}
+use Rattle.std.specs.Prelude.{None}
 use Rattle.std.specs.List.{enumerate_from}
 use mathlib.Core.Option.{some, none}
 use lib.ListN.{get_elem?}
@@ -10,7 +11,15 @@ use Rattle.chain_lock.specs.Known.{Known}
 
 module _ {I R : Type 0} where
   abbrev pub first_view : List I → R → ℕ → View I R
-  first_view items root count = record { turning = false; numbers = up_from 0 count; seen = items; met = []; least = length items; own = []; root = Some root }
+  first_view items root count = record {
+    turning = false;
+    numbers = up_from 0 count;
+    seen = items;
+    met = [];
+    least = length items;
+    own = [];
+    root = Some root;
+  }
 
   -- what a view holds for its pass's caller
   abbrev pub known_of : View I R → Known I R
@@ -28,19 +37,24 @@ module _ {I R : Type 0} where
     pub stand : Stand log d.own
 
 -- What holds between any two steps, of the list `base` and the root `home` at opening and the count of passes
-pub record Kept {V I R : Type 0} (items : V → List I) (root : V → R) (base : List I) (home : R) (count : ℕ) (s : State (Option V) (View I R)) : Type 0 where
+pub record Kept {V I R : Type 0} (items : V → List I) (root : V → R) (base : List I) (home : R) (count : ℕ)
+    (s : State (Option V) (View I R)) : Type 0 where
   pub log : List I
   pub turn : ℕ
   pub holder : ℕ
   pub words : s.words ≡ length log ∷ turn ∷ []
   pub at_home : turn ≡ 0 → (y : V) × (s.homes ≡ some (Some y) ∷ []) × (items y ≡ log) × (root y ≡ home)
-  pub away : turn ≢ 0 → (turn ≡ 1) × (s.homes ≡ none ∷ []) × ((d : View I R) × (get_elem? s.views holder ≡ some d) × (d.turning ≡ true))
+  pub away : turn ≢ 0 → (turn ≡ 1) × (s.homes ≡ none ∷ []) × ((d : View I R) × (get_elem? s.views holder ≡ some d) ×
+      (d.turning ≡ true))
   pub begins : StartsWith log base
   pub each : (j : ℕ) (d : View I R) → get_elem? s.views j ≡ some d → Knows log home turn holder j d
   -- each number below the count is held once
-  pub numbers : (k : ℕ) → (k < count → total (λ (d : View I R). times k d.numbers) s.views ≡ 1) × (count ≤ k → total (λ (d : View I R). times k d.numbers) s.views ≡ 0)
+  pub numbers : (k : ℕ) → (k < count → total (λ (d : View I R). times k d.numbers) s.views ≡ 1) ×
+      (count ≤ k → total (λ (d : View I R). times k d.numbers) s.views ≡ 0)
   -- each place since opening is owned once, and no other
-  pub places : (k : ℕ) → (k < length base → total (λ (d : View I R). placed k d.own) s.views ≡ 0) × (length base ≤ k → k < length log → total (λ (d : View I R). placed k d.own) s.views ≡ 1) × (length log ≤ k → total (λ (d : View I R). placed k d.own) s.views ≡ 0)
+  pub places : (k : ℕ) → (k < length base → total (λ (d : View I R). placed k d.own) s.views ≡ 0) ×
+      (length base ≤ k → k < length log → total (λ (d : View I R). placed k d.own) s.views ≡ 1) ×
+      (length log ≤ k → total (λ (d : View I R). placed k d.own) s.views ≡ 0)
 
 module _ {V I R : Type 0} where
   -- a pass between two calls: it is not spent, holds no slot, and knows of as many items as it has seen
@@ -57,17 +71,34 @@ module _ {I R : Type 0} where
 
   -- it has added these items
   abbrev pub with_added : View I R → List I → View I R
-  with_added d added = record d { seen = d.seen ++ added; own = d.own ++ enumerate_from (length d.seen) added; least = length (d.seen ++ added) }
+  with_added d added = record d {
+    seen = d.seen ++ added;
+    own = d.own ++ enumerate_from (length d.seen) added;
+    least = length (d.seen ++ added);
+  }
 
   -- it has all but one of its numbers, and the new pass has that one
   abbrev pub split_left : View I R → View I R
   split_left d = record d { numbers = drop 1 d.numbers }
 
   abbrev pub split_right : View I R → View I R
-  split_right d = record { turning = false; numbers = take 1 d.numbers; seen = d.seen; met = []; least = d.least; own = []; root = d.root }
+  split_right d = record {
+    turning = false;
+    numbers = take 1 d.numbers;
+    seen = d.seen;
+    met = [];
+    least = d.least;
+    own = [];
+    root = d.root;
+  }
 
   abbrev pub joined : View I R → View I R → View I R
-  joined d e = record d { numbers = d.numbers ++ e.numbers; met = d.met ++ (e.seen ∷ e.met); least = larger d.least e.least; own = d.own ++ e.own }
+  joined d e = record d {
+    numbers = d.numbers ++ e.numbers;
+    met = d.met ++ (e.seen ∷ e.met);
+    least = larger d.least e.least;
+    own = d.own ++ e.own;
+  }
 
   -- a pass's knowledge alone, without numbers and items
   abbrev pub note_of : View I R → View I R

@@ -24,9 +24,12 @@ fn join_all<V: Recorded>(board: &Board<V>, place: &mut Place<V>, mut list: Vec<R
     requires rest { IsAtRest place.old.me }
     requires list { EachOf (λ s. s.place.table_id ≡ board.now.shared.table_id) list.items }
     ensures table { (place.new.table_id ≡ board.now.shared.table_id) × IsAtRest place.new.me }
-    ensures fits { (log : List V.Item) → FitsAll log place.new.me.0 → FitsAll log place.old.me.0 × EachOf (λ s. FitsAll log s.place.me.0) list.items }
-    ensures numbers { (n : ℕ) → times n place.new.me.0.numbers ≡ times n place.old.me.0.numbers + total (λ s. times n s.place.me.0.numbers) list.items }
-    ensures places { (n : ℕ) → placed n place.new.me.0.own ≡ placed n place.old.me.0.own + total (λ s. placed n s.place.me.0.own) list.items }
+    ensures fits { (log : List V.Item) → FitsAll log place.new.me.0 → FitsAll log place.old.me.0 ×
+        EachOf (λ s. FitsAll log s.place.me.0) list.items }
+    ensures numbers { (n : ℕ) → times n place.new.me.0.numbers ≡ times n place.old.me.0.numbers + total
+        (λ s. times n s.place.me.0.numbers) list.items }
+    ensures places { (n : ℕ) → placed n place.new.me.0.own ≡ placed n place.old.me.0.own + total (λ s. placed n s.place.me.0.own)
+        list.items }
 {
     while let Some(seat) = list.pop() {
         board.shared.join_seat::<Glue>(place, place_of(seat));
@@ -43,7 +46,8 @@ fn take_out<V: Recorded>(board: Board<V>, place: Place<V>) -> V
     ensures begins { StartsWith (V.items result) (V.items board.shared.key.value.value) }
     ensures fits { FitsAll (V.items result) place.me.0 }
     ensures before { (n : ℕ) → n < length (V.items board.shared.key.value.value) → placed n place.me.0.own ≡ 0 }
-    ensures since { (n : ℕ) → length (V.items board.shared.key.value.value) ≤ n → n < length (V.items result) → placed n place.me.0.own ≡ 1 }
+    ensures since { (n : ℕ) → length (V.items board.shared.key.value.value) ≤ n → n < length (V.items result) →
+        placed n place.me.0.own ≡ 1 }
 {
     let mut closed = board.close_with(place);
     let slot = closed.take(0);
@@ -64,7 +68,8 @@ impl<V: Recorded> ChainLock<V> {
         ensures begins { StartsWith (V.items result) (V.items (opening self)) }
         ensures each { All (Fits (V.items result)) (all_known passes) }
         ensures before { (n : ℕ) → n < length (V.items (opening self)) → owners n (all_known passes) ≡ 0 }
-        ensures since { (n : ℕ) → length (V.items (opening self)) ≤ n → n < length (V.items result) → owners n (all_known passes) ≡ 1 }
+        ensures since { (n : ℕ) → length (V.items (opening self)) ≤ n → n < length (V.items result) → owners n (all_known passes)
+            ≡ 1 }
     {
         let Passes { seats } = passes;
         let SeatList { mut list, of: _ } = seats;

@@ -166,7 +166,8 @@ impl<V: Recorded> ChainLock<V> {
     fn free(&self, place: &mut Place<V>)
         requires table { place.old.table_id ≡ self.now.board.shared.table_id }
         requires turn { place.old.me.0.turning ≡ true }
-        requires value { (y : V) × (place.old.me.1 ≡ (0, Some y) ∷ []) × (V.items y ≡ place.old.me.0.seen) × (place.old.me.0.root ≡ Some (V.root y)) }
+        requires value { (y : V) × (place.old.me.1 ≡ (0, Some y) ∷ []) × (V.items y ≡ place.old.me.0.seen) ×
+            (place.old.me.0.root ≡ Some (V.root y)) }
         ensures same { (place.new.table_id ≡ place.old.table_id) × (place.new.id ≡ place.old.id) }
         ensures view { place.new.me ≡ (record place.old.me.0 { turning = false }, []) }
     {
@@ -185,7 +186,8 @@ impl<V: Recorded> ChainLock<V> {
     fn turn_at<A: Act<V>, R: Wait>(&self, rt: &R, seat: &mut RestingPlace<V>, act: &mut A)
         requires { seat.old.place.table_id ≡ self.now.board.shared.table_id }
         ensures table { seat.new.place.table_id ≡ seat.old.place.table_id }
-        ensures turn { Turns (λ home before after. A.relates act.old home before act.new after) (known_of seat.old.place.me.0) (known_of seat.new.place.me.0) }
+        ensures turn { Turns (λ home before after. A.relates act.old home before act.new after) (known_of seat.old.place.me.0)
+            (known_of seat.new.place.me.0) }
     {
         let mut value = self.take(rt, &mut seat.place);
         let before = value.recorded();
@@ -200,7 +202,8 @@ impl<V: Recorded> ChainLock<V> {
     pub fn turn<A: Act<V>, R: Wait>(&self, rt: &R, pass: &mut Pass<V>, act: &mut A)
         requires { pass_lock pass.old ≡ lock_id self.now }
         ensures lock { pass_lock pass.new ≡ pass_lock pass.old }
-        ensures turn { Turns (λ home before after. A.relates act.old home before act.new after) (known pass.old) (known pass.new) }
+        ensures turn { Turns (λ home before after. A.relates act.old home before act.new after)
+            (known pass.old) (known pass.new) }
         ensures seen { KnowsOfSeen (known pass.new) }
     {
         self.turn_at(rt, &mut pass.seat, act);

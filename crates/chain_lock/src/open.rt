@@ -44,7 +44,8 @@ fn deal<V: Recorded>(
     requires first { place.me ≡ (first_view (V.items value.now.value) (V.root value.now.value) passes, []) }
     ensures count { vec_len list.new ≡ passes }
     ensures room { vec_capacity list.new ≡ vec_capacity list.old }
-    ensures each { EachOf (λ s. (s.place.table_id ≡ board.now.shared.table_id) × IsNew (V.items value.now.value) (V.root value.now.value) (known_of s.place.me.0)) list.new.items }
+    ensures each { EachOf (λ s. (s.place.table_id ≡ board.now.shared.table_id) × IsNew (V.items value.now.value)
+        (V.root value.now.value) (known_of s.place.me.0)) list.new.items }
     ensures whole { (n : ℕ) → n < passes → total (λ s. times n s.place.me.0.numbers) list.new.items ≡ 1 }
 {
     let _ = value;
@@ -62,7 +63,9 @@ fn lay<V: Recorded>(
     passes: u16,
 ) -> Result<(Board<V>, Place<V>), Refused<V>>
     requires { 0 < passes }
-    ensures ok { IfOk result (λ r. (r.0.shared.table_id.words ≡ 2) × (r.0.shared.table_id.slots ≡ 1) × (r.0.shared.key.count ≡ passes) × (r.0.shared.key.value.value ≡ value) × (r.1.table_id ≡ r.0.shared.table_id) × (r.1.me ≡ (first_view (V.items value) (V.root value) passes, []))) }
+    ensures ok { IfOk result (λ r. (r.0.shared.table_id.words ≡ 2) × (r.0.shared.table_id.slots ≡ 1) ×
+        (r.0.shared.key.count ≡ passes) × (r.0.shared.key.value.value ≡ value) × (r.1.table_id ≡ r.0.shared.table_id) ×
+        (r.1.me ≡ (first_view (V.items value) (V.root value) passes, []))) }
     ensures err { IfErr result (λ e. e.value ≡ value) }
 {
     let length = value.recorded();

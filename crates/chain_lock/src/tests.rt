@@ -113,7 +113,8 @@ fn add_beside_glances<R: Threads + Wait + Sync>(
 ) -> ((Pass<Ledger>, Vec<u64>), (Pass<Ledger>, bool))
     requires { (pass_lock adds ≡ lock_id lock.now) × (pass_lock glances ≡ lock_id lock.now) }
     ensures locks { (pass_lock result.0.0 ≡ pass_lock adds) × (pass_lock result.1.0 ≡ pass_lock glances) }
-    ensures numbers { ((known result.0.0).numbers ≡ (known adds).numbers) × ((known result.1.0).numbers ≡ (known glances).numbers) }
+    ensures numbers { ((known result.0.0).numbers ≡ (known adds).numbers)
+        × ((known result.1.0).numbers ≡ (known glances).numbers) }
 {
     join(
         rt,
@@ -149,7 +150,8 @@ fn three_threads<R: Threads + Wait + Sync>(
         || -> ((Pass<Ledger>, Vec<u64>), (Pass<Ledger>, bool))
             requires { (pass_lock b ≡ lock_id lock) × (pass_lock c ≡ lock_id lock) }
             ensures locks { (pass_lock result.0.0 ≡ pass_lock b) × (pass_lock result.1.0 ≡ pass_lock c) }
-            ensures numbers { ((known result.0.0).numbers ≡ (known b).numbers) × ((known result.1.0).numbers ≡ (known c).numbers) }
+            ensures numbers { ((known result.0.0).numbers ≡ (known b).numbers)
+                × ((known result.1.0).numbers ≡ (known c).numbers) }
         { add_beside_glances(rt, &lock, b, c, second) },
     );
     let last = lock.glance(&mut c);

@@ -10,5 +10,6 @@ use Rattle.chain_store.specs.declared.loading.Loaded.TheVariants.{NotBegun, Begu
 pub loaded_none : (file : List ℕ) → IsRead file read.NotBegun → IsLoaded file NotBegun
 loaded_none file (not_begun none) = none
 
-pub loaded_sound : (file : List ℕ) (history : History) (end : ℕ) → IsRead file (read.Sound history end) → IsLoaded file (Begun history end)
+pub loaded_sound : (file : List ℕ) (history : History) (end : ℕ) → IsRead file (read.Sound history end) →
+    IsLoaded file (Begun history end)
 loaded_sound file history end (stands _ _ is place) = (is, place)

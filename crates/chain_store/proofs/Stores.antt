@@ -1,5 +1,6 @@
 -- What an append makes of a store's file.
-use Rattle.std.proofs.Common.{◌≡◌, inl, inr, ℕ, ◌+◌, ◌≤◌, List, [], ◌∷◌, ◌++◌, length, length-append, arith, refl, sym, subst, Bool, Option, Some}
+use Rattle.std.proofs.Common.{◌≡◌, inl, inr, ℕ, ◌+◌, ◌≤◌, List, [], ◌∷◌, ◌++◌, length, length-append, arith, refl, sym, subst}
+use Rattle.std.proofs.Common.{Bool, Option, Some}
 use Rattle.std.proofs.lemmas.List.{map-append}
 use Rattle.chain_disk.specs.Told.{Told, LeavesNow, LeavesOnly}
 use Rattle.chain_disk.specs.Runs.{leaves_now, started_settled, weaker}
@@ -15,15 +16,18 @@ use Rattle.shop_core.specs.Files.{furthest_gate}
 use Rattle.chain_store.specs.Ready.{Holds, IsReady}
 use Rattle.shop_core.specs.Files.{StandsFor, StandsBeforeOrWith, AreEncoded, bodies_of}
 
-encoded_more : (issuer : List ℕ) (entries : List Entry) (entry : Entry) → AreEncoded issuer entries → IsEncoding issuer entry (entry_bytes entry) →
+encoded_more : (issuer : List ℕ) (entries : List Entry) (entry : Entry) → AreEncoded issuer entries →
+    IsEncoding issuer entry (entry_bytes entry) →
     AreEncoded issuer (entries ++ entry ∷ [])
 encoded_more issuer [] entry all is = (is, tt)
 encoded_more issuer (e ∷ entries) entry all is = (all.0, encoded_more issuer entries entry all.1 is)
 
-bodies_more : (entries : List Entry) (entry : Entry) → bodies_of (entries ++ entry ∷ []) ≡ bodies_of entries ++ entry_bytes entry ∷ []
+bodies_more : (entries : List Entry) (entry : Entry) → bodies_of (entries ++ entry ∷ []) ≡ bodies_of entries ++ entry_bytes entry
+    ∷ []
 bodies_more entries entry = map-append entry_bytes entries (entry ∷ [])
 
-pub encoding_of : (issuer : List ℕ) (entry : Entry) → HasIssuer issuer entry → AreFields entry → IsEncoding issuer entry (entry_bytes entry)
+pub encoding_of : (issuer : List ℕ) (entry : Entry) → HasIssuer issuer entry → AreFields entry →
+    IsEncoding issuer entry (entry_bytes entry)
 encoding_of issuer entry own fields = record { issuer = own; fields = fields; bytes = refl }
 
 -- an entry on its way into a file that holds this history
@@ -33,21 +37,31 @@ pub record Adding (history : History) (gate : ℕ) (t : Told) (entry : Entry) : 
   pub encoding : IsEncoding history.issuer entry (entry_bytes entry)
   pub next : Legal history.issuer (history.entries ++ entry ∷ [])
 
-pub stands : (history : History) (gate : ℕ) (t : Told) → Holds history gate t → Legal history.issuer history.entries → StandsFor history.issuer history.entries t.content
+pub stands : (history : History) (gate : ℕ) (t : Told) → Holds history gate t → Legal history.issuer history.entries →
+    StandsFor history.issuer history.entries t.content
 stands history gate t h legal = record { frames = h.file.file; encoded = h.encoded; legal = legal }
 
 -- where no call of the disk is made, a crash leaves the history
-pub untouched : (history : History) (gate : ℕ) (t : Told) → Holds history gate t → Legal history.issuer history.entries → LeavesOnly t t (StandsFor history.issuer history.entries)
-untouched history gate t h legal = started_settled t (StandsFor history.issuer history.entries) h.file.nothing_pending (stands history gate t h legal)
+pub untouched : (history : History) (gate : ℕ) (t : Told) → Holds history gate t → Legal history.issuer history.entries →
+    LeavesOnly t t (StandsFor history.issuer history.entries)
+untouched history gate t h legal = started_settled t (StandsFor history.issuer history.entries) h.file.nothing_pending
+    (stands history gate t h legal)
 
-pub untouched_around : (history : History) (gate : ℕ) (t : Told) (entry : Entry) → Holds history gate t → Legal history.issuer history.entries →
+pub untouched_around : (history : History) (gate : ℕ) (t : Told) (entry : Entry) → Holds history gate t →
+    Legal history.issuer history.entries →
     LeavesOnly t t (StandsBeforeOrWith history.issuer history.entries entry)
 untouched_around history gate t entry h legal =
-    weaker t t (StandsFor history.issuer history.entries) (StandsBeforeOrWith history.issuer history.entries entry) (untouched history gate t h legal) (λ c s. inl s)
+    weaker t t (StandsFor history.issuer history.entries) (StandsBeforeOrWith history.issuer history.entries entry)
+    (untouched history gate t h legal) (λ c s. inl s)
 
-around : {history : History} {gate : ℕ} {t : Told} {entry : Entry} → Adding history gate t entry → (c : List ℕ) → IsBeforeOrAfter history.issuer (bodies_of history.entries) (entry_bytes entry) c →
+around : {history : History} {gate : ℕ} {t : Told} {entry : Entry} → Adding history gate t entry → (c : List ℕ) →
+    IsBeforeOrAfter history.issuer (bodies_of history.entries) (entry_bytes entry) c →
     StandsBeforeOrWith history.issuer history.entries entry c
-around {history} {gate} {t} {entry} a c (inl before) = inl (record { frames = before; encoded = a.holds.encoded; legal = a.legal })
+around {history} {gate} {t} {entry} a c (inl before) = inl (record {
+  frames = before;
+  encoded = a.holds.encoded;
+  legal = a.legal;
+})
 around {history} {gate} {t} {entry} a c (inr after) = inr (record {
   frames = subst (λ (bs : List (List ℕ)). IsFile history.issuer bs c) (sym (bodies_more history.entries entry)) after;
   encoded = encoded_more history.issuer history.entries entry a.holds.encoded a.encoding;
@@ -55,15 +69,20 @@ around {history} {gate} {t} {entry} a c (inr after) = inr (record {
 })
 
 -- what a crash in an append leaves
-pub appended : {history : History} {gate : ℕ} {t u : Told} {entry : Entry} {body : List ℕ} → Adding history gate t entry → body ≡ entry_bytes entry →
-    LeavesOnly t u (IsBeforeOrAfter history.issuer (bodies_of history.entries) body) → LeavesOnly t u (StandsBeforeOrWith history.issuer history.entries entry)
+pub appended : {history : History} {gate : ℕ} {t u : Told} {entry : Entry} {body : List ℕ} → Adding history gate t entry →
+    body ≡ entry_bytes entry →
+    LeavesOnly t u (IsBeforeOrAfter history.issuer (bodies_of history.entries) body) →
+    LeavesOnly t u (StandsBeforeOrWith history.issuer history.entries entry)
 appended {history} {gate} {t} {u} {entry} {body} a is only =
-    weaker t u (IsBeforeOrAfter history.issuer (bodies_of history.entries) (entry_bytes entry)) (StandsBeforeOrWith history.issuer history.entries entry)
+    weaker t u (IsBeforeOrAfter history.issuer (bodies_of history.entries) (entry_bytes entry)) (StandsBeforeOrWith history.issuer
+    history.entries entry)
     (subst (λ (b : List ℕ). LeavesOnly t u (IsBeforeOrAfter history.issuer (bodies_of history.entries) b)) is only) (around a)
 
 -- the file after it
-pub holds_more : {history : History} {gate gate' : ℕ} {t u : Told} {entry : Entry} {body : List ℕ} {room : Option Entry} → Adding history gate t entry → body ≡ entry_bytes entry →
-    IsAt history.issuer (bodies_of history.entries ++ body ∷ []) gate' u → Holds (record { issuer = history.issuer; entries = history.entries ++ entry ∷ []; room = room }) gate' u
+pub holds_more : {history : History} {gate gate' : ℕ} {t u : Told} {entry : Entry} {body : List ℕ} {room : Option Entry} →
+    Adding history gate t entry → body ≡ entry_bytes entry →
+    IsAt history.issuer (bodies_of history.entries ++ body ∷ []) gate' u →
+    Holds (record { issuer = history.issuer; entries = history.entries ++ entry ∷ []; room = room }) gate' u
 holds_more {history} {gate} {gate'} {t} {u} {entry} {body} {room} a is at = record {
   file =
       subst (λ (bs : List (List ℕ)). IsAt history.issuer bs gate' u) (sym (bodies_more history.entries entry))
@@ -71,11 +90,13 @@ holds_more {history} {gate} {gate'} {t} {u} {entry} {body} {room} a is at = reco
   encoded = encoded_more history.issuer history.entries entry a.holds.encoded a.encoding;
 }
 
-pub gate_more : (entries : List Entry) (entry : Entry) (gate gate' : ℕ) (body : List ℕ) → gate ≤ furthest_gate entries → gate' ≡ gate + 5 + length body → IsBody body →
+pub gate_more : (entries : List Entry) (entry : Entry) (gate gate' : ℕ) (body : List ℕ) → gate ≤ furthest_gate entries →
+    gate' ≡ gate + 5 + length body → IsBody body →
     gate' ≤ furthest_gate (entries ++ entry ∷ [])
 gate_more entries entry gate gate' body le e is = let n = length-append entries (entry ∷ []) in let f = is.1 in omega arith
 
-pub adding : (history : History) (gate : ℕ) (t : Told) (entry : Entry) → FitsItsBytes → GoesOn → Holds history gate t → Legal history.issuer history.entries →
+pub adding : (history : History) (gate : ℕ) (t : Told) (entry : Entry) → FitsItsBytes → GoesOn → Holds history gate t →
+    Legal history.issuer history.entries →
     Continues history.issuer history.entries entry → AreFields entry → Adding history gate t entry
 adding history gate t entry fits goes_on holds legal continues fields = record {
   holds = holds;
@@ -85,17 +106,23 @@ adding history gate t entry fits goes_on holds legal continues fields = record {
 }
 
 -- a store whose journal stopped
-pub ready_stopped : (tells : Bool) (history : History) (stopped : Option ℕ) (gate : ℕ) (t : Told) (faults : ℕ) → gate ≤ furthest_gate history.entries → stopped ≡ Some faults →
+pub ready_stopped : (tells : Bool) (history : History) (stopped : Option ℕ) (gate : ℕ) (t : Told) (faults : ℕ) →
+    gate ≤ furthest_gate history.entries → stopped ≡ Some faults →
     IsReady tells history stopped gate t
 ready_stopped tells history stopped gate t faults place e = record { place = place; holds = λ none said. absurd cc }
 
 -- with room made in the state
-pub holds_roomy : (history new : History) (gate : ℕ) (t : Told) → new.issuer ≡ history.issuer → new.entries ≡ history.entries → Holds history gate t → Holds new gate t
+pub holds_roomy : (history new : History) (gate : ℕ) (t : Told) → new.issuer ≡ history.issuer → new.entries ≡ history.entries →
+    Holds history gate t → Holds new gate t
 holds_roomy history new gate t i e h = record {
-  file = subst (λ (n : List ℕ). IsAt n (bodies_of new.entries) gate t) (sym i) (subst (λ (es : List Entry). IsAt history.issuer (bodies_of es) gate t) (sym e) h.file);
-  encoded = subst (λ (n : List ℕ). AreEncoded n new.entries) (sym i) (subst (λ (es : List Entry). AreEncoded history.issuer es) (sym e) h.encoded);
+  file = subst (λ (n : List ℕ). IsAt n (bodies_of new.entries) gate t) (sym i)
+      (subst (λ (es : List Entry). IsAt history.issuer (bodies_of es) gate t) (sym e) h.file);
+  encoded = subst (λ (n : List ℕ). AreEncoded n new.entries) (sym i) (subst (λ (es : List Entry). AreEncoded history.issuer es)
+      (sym e) h.encoded);
 }
 
 -- with nothing pending, a crash leaves the history
-pub on_disk : (history : History) (gate : ℕ) (t : Told) → Holds history gate t → Legal history.issuer history.entries → LeavesNow t (StandsFor history.issuer history.entries)
-on_disk history gate t h legal = leaves_now t (StandsFor history.issuer history.entries) h.file.nothing_pending (stands history gate t h legal)
+pub on_disk : (history : History) (gate : ℕ) (t : Told) → Holds history gate t → Legal history.issuer history.entries →
+    LeavesNow t (StandsFor history.issuer history.entries)
+on_disk history gate t h legal = leaves_now t (StandsFor history.issuer history.entries) h.file.nothing_pending
+    (stands history gate t h legal)

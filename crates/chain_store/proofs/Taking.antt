@@ -19,13 +19,15 @@ use Rattle.shop_core.specs.declared.receipts.Receipt.{Receipt}
 use Rattle.chain_store.specs.Ready.{Takes}
 use Rattle.shop_core.specs.Files.{StandsFor, StandsAround, StandsBeforeOrWith}
 
-stands_around : (issuer : List ℕ) (entries : List Entry) (planned : Planned) (file : List ℕ) → StandsFor issuer entries file → StandsAround issuer entries planned file
+stands_around : (issuer : List ℕ) (entries : List Entry) (planned : Planned) (file : List ℕ) → StandsFor issuer entries file →
+    StandsAround issuer entries planned file
 stands_around issuer entries (Again receipt) file s = s
 stands_around issuer entries (Refused why) file s = s
 stands_around issuer entries (Made entry) file s = inl s
 
 -- where nothing is added and no call of the disk is made
-pub not_made : (old : History) (ask : Asked) (coming coming_after : ℕ → Option ℕ) (tells : Bool) (t : Told) (told : Result Reply StoreFault) (seconds : ℕ) →
+pub not_made : (old : History) (ask : Asked) (coming coming_after : ℕ → Option ℕ) (tells : Bool) (t : Told)
+    (told : Result Reply StoreFault) (seconds : ℕ) →
     IsTold (coming 0) seconds → MovedBy 1 coming coming_after → IsReply old.issuer old.entries ask seconds told [] →
     (IsTrue tells → LeavesOnly t t (StandsFor old.issuer old.entries)) → Takes old old ask coming coming_after tells t t told
 not_made old ask coming coming_after tells t told seconds reading moved reply only = record {
@@ -36,36 +38,47 @@ not_made old ask coming coming_after tells t told seconds reading moved reply on
   gained = [];
   entries = sym (append-nil old.entries);
   reply = reply;
-  any_moment = λ says. weaker t t (StandsFor old.issuer old.entries) (StandsAround old.issuer old.entries (answer old.issuer old.entries ask seconds)) (only says)
+  any_moment = λ says. weaker t t (StandsFor old.issuer old.entries) (StandsAround old.issuer old.entries
+      (answer old.issuer old.entries ask seconds)) (only says)
       (λ c s. stands_around old.issuer old.entries (answer old.issuer old.entries ask seconds) c s);
 }
 
 -- the reply of an answer that makes nothing
-pub told_again : (issuer : List ℕ) (entries : List Entry) (planned : Planned) (r : Receipt) → planned ≡ Again r → Tells entries planned (reply_of.Again r) []
+pub told_again : (issuer : List ℕ) (entries : List Entry) (planned : Planned) (r : Receipt) → planned ≡ Again r →
+    Tells entries planned (reply_of.Again r) []
 told_again issuer entries planned r e = subst (λ (p : Planned). Tells entries p (reply_of.Again r) []) (sym e) (refl, refl)
 
-pub told_refused : (issuer : List ℕ) (entries : List Entry) (planned : Planned) (why : Refusal) → planned ≡ Refused why → Tells entries planned (reply_of.Refused why) []
-told_refused issuer entries planned why e = subst (λ (p : Planned). Tells entries p (reply_of.Refused why) []) (sym e) (refl, refl)
+pub told_refused : (issuer : List ℕ) (entries : List Entry) (planned : Planned) (why : Refusal) → planned ≡ Refused why →
+    Tells entries planned (reply_of.Refused why) []
+told_refused issuer entries planned why e = subst (λ (p : Planned). Tells entries p (reply_of.Refused why) []) (sym e)
+    (refl, refl)
 
 abbrev gained_by : Result Reply StoreFault → Entry → List Entry
 gained_by (Ok reply) entry = entry ∷ []
 gained_by (Err fault) entry = []
 
-entries_by : (old new : History) (entry : Entry) (told : Result Reply StoreFault) → IfOk told (λ _. new.entries ≡ old.entries ++ entry ∷ []) → OnErr told (new.entries ≡ old.entries) →
+entries_by : (old new : History) (entry : Entry) (told : Result Reply StoreFault) →
+    IfOk told (λ _. new.entries ≡ old.entries ++ entry ∷ []) → OnErr told (new.entries ≡ old.entries) →
     new.entries ≡ old.entries ++ gained_by told entry
 entries_by old new entry (Ok reply) ok err = ok
 entries_by old new entry (Err fault) ok err = err ∙ sym (append-nil old.entries)
 
-reply_by : (issuer : List ℕ) (entries : List Entry) (ask : Asked) (seconds : ℕ) (entry : Entry) (told : Result Reply StoreFault) → answer issuer entries ask seconds ≡ Made entry →
+reply_by : (issuer : List ℕ) (entries : List Entry) (ask : Asked) (seconds : ℕ) (entry : Entry) (told : Result Reply StoreFault) →
+    answer issuer entries ask seconds ≡ Made entry →
     IfOk told (λ reply. IsTaken entries entry reply) → IsReply issuer entries ask seconds told (gained_by told entry)
-reply_by issuer entries ask seconds entry (Ok reply) made taken = subst (λ (p : Planned). Tells entries p reply (entry ∷ [])) (sym made) (taken, refl)
+reply_by issuer entries ask seconds entry (Ok reply) made taken = subst (λ (p : Planned). Tells entries p reply (entry ∷ []))
+    (sym made) (taken, refl)
 reply_by issuer entries ask seconds entry (Err fault) made taken = refl
 
 -- where a record was made
-pub made : (old new : History) (ask : Asked) (coming coming_after : ℕ → Option ℕ) (tells : Bool) (t u : Told) (told : Result Reply StoreFault) (seconds : ℕ) (entry : Entry) →
-    IsTold (coming 0) seconds → MovedBy 1 coming coming_after → new.issuer ≡ old.issuer → answer old.issuer old.entries ask seconds ≡ Made entry →
-    IfOk told (λ reply. IsTaken old.entries entry reply) → IfOk told (λ _. new.entries ≡ old.entries ++ entry ∷ []) → OnErr told (new.entries ≡ old.entries) →
-    (IsTrue tells → LeavesOnly t u (StandsBeforeOrWith old.issuer old.entries entry)) → Takes old new ask coming coming_after tells t u told
+pub made : (old new : History) (ask : Asked) (coming coming_after : ℕ → Option ℕ) (tells : Bool) (t u : Told)
+    (told : Result Reply StoreFault) (seconds : ℕ) (entry : Entry) →
+    IsTold (coming 0) seconds → MovedBy 1 coming coming_after → new.issuer ≡ old.issuer → answer old.issuer old.entries ask
+    seconds ≡ Made entry →
+    IfOk told (λ reply. IsTaken old.entries entry reply) → IfOk told (λ _. new.entries ≡ old.entries ++ entry ∷ []) →
+    OnErr told (new.entries ≡ old.entries) →
+    (IsTrue tells → LeavesOnly t u (StandsBeforeOrWith old.issuer old.entries entry)) → Takes old new ask coming coming_after
+    tells t u told
 made old new ask coming coming_after tells t u told seconds entry reading moved issuer planned taken ok err only = record {
   seconds = seconds;
   reading = reading;
@@ -77,6 +90,7 @@ made old new ask coming coming_after tells t u told seconds entry reading moved 
   any_moment = λ says. subst (λ (p : Planned). LeavesOnly t u (StandsAround old.issuer old.entries p)) (sym planned) (only says);
 }
 
-pub both_taken : (P Q R : Reply → Type 0) (told : Result Reply StoreFault) → IfOk told (λ reply. P reply × Q reply × R reply) → IfOk told P × IfOk told R
+pub both_taken : (P Q R : Reply → Type 0) (told : Result Reply StoreFault) → IfOk told (λ reply. P reply × Q reply × R reply) →
+    IfOk told P × IfOk told R
 both_taken P Q R (Ok reply) h = (h.0, h.2)
 both_taken P Q R (Err fault) h = (tt, tt)

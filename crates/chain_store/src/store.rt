@@ -9,6 +9,7 @@ ghost use Rattle.std.specs.Int.{IsInRange};
 ghost use Rattle.shop_core.specs.Legal.{Continues};
 ghost use Rattle.shop_core.specs.Files.{StandsFor, StandsBeforeOrWith};
 ghost use Rattle.chain_store.specs.Ready.{IfNothingTaken, IsReady, Takes, Tears, TearsLines, noted_next};
+ghost use Rattle.record_fields.specs.declared.lines.TheConstants.{BATCH};
 
 use chain_disk::Disk;
 use journal::{Journal, JournalFault, StoreFault};
@@ -153,10 +154,10 @@ impl<D: Disk, C: Clock> Store<D, C> {
         }
     }
 
-    /// Keeps the agency's lines for the first records that have none: 1 to 1000 lines, and no more than such records.
+    /// Keeps the agency's lines for the first records that have none: 1 to `BATCH` lines, and no more than such records.
     pub fn note(&mut self, alloc: Global, lines: &[Line]) -> Result<(), StoreFault>
         requires ready { Ready D.tells D.told self.old }
-        requires count { IsInRange 1 1000 (length lines.now) }
+        requires count { IsInRange 1 BATCH (length lines.now) }
         requires within { length (noted self.old.state.entries) + length lines.now ≤ length (recs self.old.state.entries) }
         ensures ready { Ready D.tells D.told self.new }
         ensures issuer { self.new.state.issuer ≡ self.old.state.issuer }

@@ -1,5 +1,6 @@
 -- Texts written on from where they stand.
-use Rattle.std.proofs.Common.{◌≡◌, ℕ, ◌+◌, ◌-◌, ◌≤◌, min, List, [], ◌++◌, append-nil, sym, length, take, drop, arith, length-drop, length-take, Option, Some, None, Result, Ok, Err}
+use Rattle.std.proofs.Common.{◌≡◌, ℕ, ◌+◌, ◌-◌, ◌≤◌, min, List, [], ◌++◌, append-nil, sym, length, take, drop, arith, length-drop}
+use Rattle.std.proofs.Common.{length-take, Option, Some, None, Result, Ok, Err}
 use Rattle.std.proofs.KnownBytes.{Appends-trans}
 use Rattle.std.proofs.lemmas.List.{take_all, take_min, take-append-le}
 use Rattle.std.proofs.Math.Seq.{take-add, take-append-add}
@@ -7,7 +8,8 @@ use Rattle.std.specs.Io.KnownBytes.{Appends}
 use Rattle.ports.specs.declared.faults.Failed.{Failed}
 use Rattle.ports.specs.Sinks.{Sinks, FailedIn, OutputIs}
 
-pub take_on : (text : List ℕ) (done n : ℕ) → take (done + n) text ≡ take done text ++ take n (take (length text - done) (drop done text))
+pub take_on : (text : List ℕ) (done n : ℕ) → take (done + n) text ≡ take done text ++ take n
+    (take (length text - done) (drop done text))
 take_on text done n = rw (take_all (length text - done) (drop done text) (simp length-drop (omega arith))) (take-add done n text)
 
 pub rest_le : (text : List ℕ) (done n : ℕ) → n ≤ length (take (length text - done) (drop done text)) → n ≤ length text - done
@@ -26,14 +28,21 @@ failed_in_first s first second h = record {
 }
 
 -- the first of two texts was written, and then the second, or a front of it
-pub wrote_both : (taken mid taken_after : Option (List ℕ)) (faults between faults_after : ℕ) (first second : List ℕ) (r : Result (Unit {0}) Failed) →
+pub wrote_both : (taken mid taken_after : Option (List ℕ)) (faults between faults_after : ℕ) (first second : List ℕ)
+    (r : Result (Unit {0}) Failed) →
     Appends taken mid first → faults ≤ between →
     OutputIs (record { taken = mid; taken_after = taken_after; faults = between; faults_after = faults_after }) second r →
-    OutputIs (record { taken = taken; taken_after = taken_after; faults = faults; faults_after = faults_after }) (first ++ second) r
-wrote_both taken mid taken_after faults between faults_after first second (Ok u) a later h = Appends-trans taken mid taken_after first second a h
+    OutputIs (record { taken = taken; taken_after = taken_after; faults = faults; faults_after = faults_after }) (first ++ second)
+    r
+wrote_both taken mid taken_after faults between faults_after first second (Ok u) a later h = Appends-trans taken mid taken_after
+    first second a h
 wrote_both taken mid taken_after faults between faults_after first second (Err e) a later h = record {
   risen = λ below. let risen = h.risen below in omega (arith, risen);
-  part = (length first + h.part.0, rw (take-append-add first second h.part.0) (Appends-trans taken mid taken_after first (take h.part.0 second) a h.part.1));
+  part = (
+    length first + h.part.0,
+    rw (take-append-add first second h.part.0) (Appends-trans taken mid taken_after first
+        (take h.part.0 second) a h.part.1),
+  );
 }
 
 -- a sink that wasn't written to took nothing

@@ -14,13 +14,15 @@ pub length_read : (n : ℕ) → n ≤ FRAME → from_be_bytes w32 (length_bytes 
 unfolding length_bytes
 length_read n small = from_be_bytes-to_be_bytes_4 n (omega arith)
 
-pub length_of : (head : List ℕ) (n : ℕ) → length head ≡ 4 → ((i : ℕ) → get_or head i 0 < 256) → n ≡ from_be_bytes w32 head → length_bytes n ≡ head
+pub length_of : (head : List ℕ) (n : ℕ) → length head ≡ 4 → ((i : ℕ) → get_or head i 0 < 256) → n ≡ from_be_bytes w32 head →
+    length_bytes n ≡ head
 unfolding length_bytes
 length_of head n four bytes is = be_bytes_4 head n four bytes is
 
 -- two lengths with the same bytes are one
 pub same_length : (m n : ℕ) → m ≤ FRAME → n ≤ FRAME → length_bytes m ≡ length_bytes n → m ≡ n
-same_length m n small small' same = sym (length_read m small) ∙ ap (λ (l : List ℕ). from_be_bytes w32 l) same ∙ length_read n small'
+same_length m n small small' same = sym (length_read m small) ∙ ap (λ (l : List ℕ). from_be_bytes w32 l) same ∙
+    length_read n small'
 
 -- equal parts in front are equal, and so is what follows
 pub same_front : (a b x y : List ℕ) → length a ≡ length b → a ++ x ≡ b ++ y → (a ≡ b) × (x ≡ y)

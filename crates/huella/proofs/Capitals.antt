@@ -12,7 +12,12 @@ index_map f (x ∷ xs) (suc n) h = index_map f xs n (omega arith)
 capital : (n : ℕ) → n < 16 → to_ascii_uppercase (slice_index lower_digits n) ≡ slice_index upper_digits n
 capital n h = sym (index_map to_ascii_uppercase lower_digits n h)
 
-pub capitals : (bytes : List ℕ) → IsBytes bytes → map to_ascii_uppercase (encode_with lower_digits bytes) ≡ encode_with upper_digits bytes
+pub capitals : (bytes : List ℕ) → IsBytes bytes → map to_ascii_uppercase (encode_with lower_digits bytes) ≡ encode_with
+    upper_digits bytes
 unfolding encode_with
 capitals [] h = refl
-capitals (b ∷ bytes) h = rw (capital (b / 16) (let s = h 0 in omega arith), capital (b % 16) (omega arith), capitals bytes (λ i. h (suc i))) refl
+capitals (b ∷ bytes) h = rw (
+  capital (b / 16) (let s = h 0 in omega arith),
+  capital (b % 16) (omega arith),
+  capitals bytes (λ i. h (suc i)),
+) refl

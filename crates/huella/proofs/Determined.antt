@@ -14,7 +14,8 @@ use Rattle.record_fields.specs.declared.records.Record.TheVariants as record_of
 use Rattle.huella.specs.FieldText.{joined_fields, joined_cancel, alta_text, anulacion_text, field_text, previous_text}
 use Rattle.huella.specs.Stated.{IsMoment, IsStated, SameAlta, SameAnulacion, SameStated}
 use Rattle.huella.proofs.Splitting.{same_front, same_end, same_value}
-use Rattle.huella.proofs.Values.{length-date_text_of, length-moment_text_of, length-kind_text, kind_text_injective, plain_number, plain_amount, previous_text_injective}
+use Rattle.huella.proofs.Values.{length-date_text_of, length-moment_text_of, length-kind_text, kind_text_injective, plain_number}
+use Rattle.huella.proofs.Values.{plain_amount, previous_text_injective}
 
 -- what the laws of days, moments and amounts say
 pub record TextsDetermine : Type 0 where
@@ -40,7 +41,8 @@ unfolding joined_cancel
 after_first_name_of_cancel issuer num date previous moment = simp append_assoc
 
 -- the last part, with the Huella before it
-same_last : (p q : List ℕ) (m k : Moment) → p ++ (codes "&FechaHoraHusoGenRegistro=" ++ moment_text_of m) ≡ q ++ (codes "&FechaHoraHusoGenRegistro=" ++ moment_text_of k)
+same_last : (p q : List ℕ) (m k : Moment) → p ++ (codes "&FechaHoraHusoGenRegistro=" ++ moment_text_of m) ≡ q ++
+    (codes "&FechaHoraHusoGenRegistro=" ++ moment_text_of k)
     → (p ≡ q) × (moment_text_of m ≡ moment_text_of k)
 same_last p q m k e =
     let name = codes "&FechaHoraHusoGenRegistro=" in
@@ -49,15 +51,23 @@ same_last p q m k e =
     let same = same_end p q (name ++ moment_text_of m) (name ++ moment_text_of k) long e in
     (same.0, append_cancel_left name (moment_text_of m) (moment_text_of k) same.1)
 
-same_alta : TextsDetermine → (a b : Alta) → IsStated (record_of.Alta a) → IsStated (record_of.Alta b) → alta_text a ≡ alta_text b → SameAlta a b
+same_alta : TextsDetermine → (a b : Alta) → IsStated (record_of.Alta a) → IsStated (record_of.Alta b) →
+    alta_text a ≡ alta_text b → SameAlta a b
 same_alta by a b here there e =
     let grouped = sym (after_first_name _ _ _ _ _ _ _ _) ∙ e ∙ after_first_name _ _ _ _ _ _ _ _ in
-    let issuer = same_front a.issuer b.issuer _ _ (here.issuer.nine ∙ sym there.issuer.nine) (append_cancel_left (codes "IDEmisorFactura=") _ _ grouped) in
-    let num = same_value (codes "&FechaExpedicionFactura") a.id.num b.id.num _ _ refl (plain_number a.id.num here.id.num) (plain_number b.id.num there.id.num) (append_cancel_left (codes "&NumSerieFactura=") _ _ issuer.1) in
-    let day = same_front (date_text_of a.id.day) (date_text_of b.id.day) _ _ (length-date_text_of a.id.day ∙ sym (length-date_text_of b.id.day)) num.1 in
-    let kind = same_front (kind_text a.draft.kind) (kind_text b.draft.kind) _ _ (length-kind_text a.draft.kind ∙ sym (length-kind_text b.draft.kind)) (append_cancel_left (codes "&TipoFactura=") _ _ day.1) in
-    let tax = same_value (codes "&ImporteTotal") (amount_text (cuota a.draft.lines)) (amount_text (cuota b.draft.lines)) _ _ refl (plain_amount (cuota a.draft.lines)) (plain_amount (cuota b.draft.lines)) (append_cancel_left (codes "&CuotaTotal=") _ _ kind.1) in
-    let due = same_value (codes "&Huella") (amount_text (total a.draft.lines)) (amount_text (total b.draft.lines)) _ _ refl (plain_amount (total a.draft.lines)) (plain_amount (total b.draft.lines)) tax.1 in
+    let issuer = same_front a.issuer b.issuer _ _ (here.issuer.nine ∙ sym there.issuer.nine)
+    (append_cancel_left (codes "IDEmisorFactura=") _ _ grouped) in
+    let num = same_value (codes "&FechaExpedicionFactura") a.id.num b.id.num _ _ refl (plain_number a.id.num here.id.num)
+    (plain_number b.id.num there.id.num) (append_cancel_left (codes "&NumSerieFactura=") _ _ issuer.1) in
+    let day = same_front (date_text_of a.id.day) (date_text_of b.id.day) _ _ (length-date_text_of a.id.day ∙
+    sym (length-date_text_of b.id.day)) num.1 in
+    let kind = same_front (kind_text a.draft.kind) (kind_text b.draft.kind) _ _ (length-kind_text a.draft.kind ∙
+    sym (length-kind_text b.draft.kind)) (append_cancel_left (codes "&TipoFactura=") _ _ day.1) in
+    let tax = same_value (codes "&ImporteTotal") (amount_text (cuota a.draft.lines)) (amount_text (cuota b.draft.lines)) _ _ refl
+    (plain_amount (cuota a.draft.lines)) (plain_amount (cuota b.draft.lines)) (append_cancel_left (codes "&CuotaTotal=") _ _
+    kind.1) in
+    let due = same_value (codes "&Huella") (amount_text (total a.draft.lines)) (amount_text (total b.draft.lines)) _ _ refl
+    (plain_amount (total a.draft.lines)) (plain_amount (total b.draft.lines)) tax.1 in
     let last = same_last (previous_text a.link) (previous_text b.link) a.moment b.moment due.1 in
     record {
       issuer = issuer.0;
@@ -70,13 +80,18 @@ same_alta by a b here there e =
       moment = by.moment a.moment b.moment here.moment there.moment last.1;
     }
 
-same_anulacion : TextsDetermine → (a b : Anulacion) → IsStated (record_of.Anulacion a) → IsStated (record_of.Anulacion b) → anulacion_text a ≡ anulacion_text b → SameAnulacion a b
+same_anulacion : TextsDetermine → (a b : Anulacion) → IsStated (record_of.Anulacion a) → IsStated (record_of.Anulacion b) →
+    anulacion_text a ≡ anulacion_text b → SameAnulacion a b
 same_anulacion by a b here there e =
     let grouped = sym (after_first_name_of_cancel _ _ _ _ _) ∙ e ∙ after_first_name_of_cancel _ _ _ _ _ in
-    let issuer = same_front a.issuer b.issuer _ _ (here.issuer.nine ∙ sym there.issuer.nine) (append_cancel_left (codes "IDEmisorFacturaAnulada=") _ _ grouped) in
-    let num = same_value (codes "&FechaExpedicionFacturaAnulada") a.id.num b.id.num _ _ refl (plain_number a.id.num here.id.num) (plain_number b.id.num there.id.num) (append_cancel_left (codes "&NumSerieFacturaAnulada=") _ _ issuer.1) in
-    let day = same_front (date_text_of a.id.day) (date_text_of b.id.day) _ _ (length-date_text_of a.id.day ∙ sym (length-date_text_of b.id.day)) num.1 in
-    let last = same_last (previous_text a.link) (previous_text b.link) a.moment b.moment (append_cancel_left (codes "&Huella=") _ _ day.1) in
+    let issuer = same_front a.issuer b.issuer _ _ (here.issuer.nine ∙ sym there.issuer.nine)
+    (append_cancel_left (codes "IDEmisorFacturaAnulada=") _ _ grouped) in
+    let num = same_value (codes "&FechaExpedicionFacturaAnulada") a.id.num b.id.num _ _ refl (plain_number a.id.num here.id.num)
+    (plain_number b.id.num there.id.num) (append_cancel_left (codes "&NumSerieFacturaAnulada=") _ _ issuer.1) in
+    let day = same_front (date_text_of a.id.day) (date_text_of b.id.day) _ _ (length-date_text_of a.id.day ∙
+    sym (length-date_text_of b.id.day)) num.1 in
+    let last = same_last (previous_text a.link) (previous_text b.link) a.moment b.moment (append_cancel_left (codes "&Huella=") _
+    _ day.1) in
     record {
       issuer = issuer.0;
       num = num.0;

@@ -3,8 +3,10 @@ use Rattle.std.proofs.Common.{◌≡◌, ℕ, List, [], ◌∷◌, ◌++◌, cod
 use Rattle.huella.specs.FieldText.{joined_fields, joined_cancel}
 
 pub fed_joined : (issuer num date kind cuota total previous moment : List ℕ) →
-    (((((((([] ++ codes "IDEmisorFactura=" ++ issuer) ++ codes "&NumSerieFactura=" ++ num) ++ codes "&FechaExpedicionFactura=" ++ date)
-    ++ codes "&TipoFactura=" ++ kind) ++ codes "&CuotaTotal=" ++ cuota) ++ codes "&ImporteTotal=" ++ total) ++ codes "&Huella=" ++ previous)
+    (((((((([] ++ codes "IDEmisorFactura=" ++ issuer) ++ codes "&NumSerieFactura=" ++ num) ++ codes "&FechaExpedicionFactura=" ++
+    date)
+    ++ codes "&TipoFactura=" ++ kind) ++ codes "&CuotaTotal=" ++ cuota) ++ codes "&ImporteTotal=" ++ total) ++ codes "&Huella=" ++
+    previous)
     ++ codes "&FechaHoraHusoGenRegistro=" ++ moment) ≡ joined_fields issuer num date kind cuota total previous moment
 unfolding joined_fields
 fed_joined issuer num date kind cuota total previous moment = simp append_assoc

@@ -1,5 +1,6 @@
 -- A list that is joined of parts is taken apart again: by the lengths of its parts, or at a sign that none of them holds.
-use Rattle.std.proofs.Common.{◌≡◌, ℕ, List, [], ◌∷◌, ◌++◌, length, Bool, true, ◌==◌, not, refl, sym, ap, ◌∙◌, arith, append_assoc, length-append}
+use Rattle.std.proofs.Common.{◌≡◌, ℕ, List, [], ◌∷◌, ◌++◌, length, Bool, true, ◌==◌, not, refl, sym, ap, ◌∙◌, arith, append_assoc}
+use Rattle.std.proofs.Common.{length-append}
 use Rattle.std.specs.List.{list_all}
 use Rattle.std.proofs.lemmas.Bool.{and_parts}
 use Rattle.std.proofs.lemmas.List.{append_cancel_right}
@@ -40,7 +41,8 @@ split (c ∷ v) [] rest other p q e =
 split (c ∷ v) (d ∷ w) rest other p q e =
     let head : c ≡ d = cc in
     let tail : v ++ 61 ∷ rest ≡ w ++ 61 ∷ other = cc in
-    let same = split v w rest other (and_parts (not (c == 61)) (is_plain v) p).1 (and_parts (not (d == 61)) (is_plain w) q).1 tail in
+    let same = split v w rest other (and_parts (not (c == 61)) (is_plain v) p).1 (and_parts (not (d == 61)) (is_plain w) q).1 tail
+    in
     (cc (head, same.0), same.1)
 
 pub plain_append : (v w : List ℕ) → is_plain v ≡ true → is_plain w ≡ true → is_plain (v ++ w) ≡ true

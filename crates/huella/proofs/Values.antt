@@ -1,5 +1,6 @@
 -- What the values of a field text are like: their lengths, that they hold no `=`, and what they stand for.
-use Rattle.std.proofs.Common.{◌≡◌, ℕ, zero, suc, ◌+◌, ◌/◌, ◌%◌, ◌<◌, List, [], ◌∷◌, ◌++◌, length, get_or, map, codes, true, ◌==◌, not, cond, Some, ℤ, pos, negsuc, refl, sym, ap, ◌∙◌, arith}
+use Rattle.std.proofs.Common.{◌≡◌, ℕ, zero, suc, ◌+◌, ◌/◌, ◌%◌, ◌<◌, List, [], ◌∷◌, ◌++◌, length, get_or, map, codes, true, ◌==◌}
+use Rattle.std.proofs.Common.{not, cond, Some, ℤ, pos, negsuc, refl, sym, ap, ◌∙◌, arith}
 use Rattle.std.specs.Int.Digits.{digits_of, AllBelowBase}
 use Rattle.std.proofs.lemmas.Bool.{and_parts, and_from}
 use Rattle.std.proofs.lemmas.Bool.Decides.{nat_tests}
@@ -66,7 +67,8 @@ number_char c h = grind (arith, nat_tests)
 pub plain_number : (num : List ℕ) → is_num_serie num ≡ true → is_plain num ≡ true
 plain_number num h =
     let all = (and_parts _ _ (and_parts _ _ (and_parts _ _ h).0).0).1 in
-    list_all-from_AllPass (λ c. not (c == 61)) num (λ k d lt. number_char (get_or num k d) (AllPass-from_list_all is_number_char num all k d lt))
+    list_all-from_AllPass (λ c. not (c == 61)) num (λ k d lt. number_char (get_or num k d) (AllPass-from_list_all is_number_char
+    num all k d lt))
 
 -- amounts
 
@@ -104,7 +106,8 @@ digits_injective h k here there e =
     let same = sym (decode_of-encode_upper h here) ∙ ap decode_of e ∙ decode_of-encode_upper k there in
     cc
 
-pub previous_text_injective : (l m : Link) → IsLink l → IsLink m → previous_text l ≡ previous_text m → huella_before l ≡ huella_before m
+pub previous_text_injective : (l m : Link) → IsLink l → IsLink m → previous_text l ≡ previous_text m →
+    huella_before l ≡ huella_before m
 previous_text_injective First First here there e = refl
 previous_text_injective First (After id k) here there e =
     absurd (omega (arith, length-encode_with upper_digits k, there.long, ap length e))

@@ -1,5 +1,6 @@
 -- What a crash leaves while a file is created.
-use Rattle.std.proofs.Common.{◌≡◌, ◌<◌, ◌≤◌, ◌+◌, inl, inr, ℕ, List, [], ◌∷◌, ◌++◌, length, take, refl, sym, ◌∙◌, ap, subst, arith, length-append}
+use Rattle.std.proofs.Common.{◌≡◌, ◌<◌, ◌≤◌, ◌+◌, inl, inr, ℕ, List, [], ◌∷◌, ◌++◌, length, take, refl, sym, ◌∙◌, ap, subst}
+use Rattle.std.proofs.Common.{arith, length-append}
 use Rattle.std.proofs.lemmas.List.{append-nil, drop_all}
 use Rattle.std.proofs.lemmas.Bool.{cases_eq}
 use Rattle.chain_disk.specs.Told.{Told, LeavesOnly, IsImage, IsSettled, settled, pasted, written, synced, wider}
@@ -25,23 +26,47 @@ shut_already t not long quiet = by_content t.content refl not
     by_content : (content : List ℕ) → t.content ≡ content → IsNotBegun content → IsShut t
     by_content [] is none = absurd (omega (arith, ap length is, long))
     by_content (gate ∷ rest) is (inl short) = absurd (omega (arith, ap length is, long, short))
-    by_content (gate ∷ rest) is (inr both) = record { gate = gate; rest = rest; content = is; shut = both.0; short = both.1; nothing_pending = quiet }
+    by_content (gate ∷ rest) is (inr both) = record {
+      gate = gate;
+      rest = rest;
+      content = is;
+      shut = both.0;
+      short = both.1;
+      nothing_pending = quiet;
+    }
 
 pub pasted_first : (content : List ℕ) → length content ≤ 1 → pasted 0 (0 ∷ []) content ≡ 0 ∷ []
 pasted_first content short = ap (λ (l : List ℕ). 0 ∷ l) (drop_all 1 content short)
 
 module _ (t : Told) (not : IsNotBegun t.content) (quiet : IsSettled t) where
   pub at_start : (u : Told) → u ≡ t → Reached t IsNotBegun u t.content (settled t.content)
-  at_start u is = subst (λ (w : Told). Reached t IsNotBegun w t.content (settled t.content)) (sym is) (record { content_is = refl; now_is = quiet; so_far = started t IsNotBegun (λ c image. start_image t.content c not (subst (λ p. IsImage p c) quiet image)) })
+  at_start u is = subst (λ (w : Told). Reached t IsNotBegun w t.content (settled t.content)) (sym is) (record {
+    content_is = refl;
+    now_is = quiet;
+    so_far = started t IsNotBegun (λ c image. start_image t.content c not (subst (λ p. IsImage p c) quiet
+        image));
+  })
 
-  pub after_write : (short : length t.content ≤ 1) (u v : Told) → u ≡ t → v ≡ written 0 (0 ∷ []) u → Reached t IsNotBegun v (pasted 0 (0 ∷ []) t.content) (wider 0 1 (settled t.content))
+  pub after_write : (short : length t.content ≤ 1) (u v : Told) → u ≡ t → v ≡ written 0 (0 ∷ []) u →
+      Reached t IsNotBegun v (pasted 0 (0 ∷ []) t.content) (wider 0 1 (settled t.content))
   after_write short u v is ok = on_write (at_start u is) 0 (0 ∷ []) ok (λ c image. first_image t.content c short image)
 
-  pub after_sync : (short : length t.content ≤ 1) (u v w : Told) → u ≡ t → v ≡ written 0 (0 ∷ []) u → w ≡ synced v → Reached t IsNotBegun w (pasted 0 (0 ∷ []) t.content) (settled (pasted 0 (0 ∷ []) t.content))
-  after_sync short u v w is ok ok1 = on_sync (after_write short u v is ok) ok1 (λ c image. subst IsNotBegun (sym (settled_image _ c image ∙ pasted_first t.content short)) (inl refl))
+  pub after_sync : (short : length t.content ≤ 1) (u v w : Told) → u ≡ t → v ≡ written 0 (0 ∷ []) u → w ≡ synced v →
+      Reached t IsNotBegun w (pasted 0 (0 ∷ []) t.content) (settled (pasted 0 (0 ∷ []) t.content))
+  after_sync short u v w is ok ok1 = on_sync (after_write short u v is ok) ok1
+      (λ c image. subst IsNotBegun (sym (settled_image _ c image ∙ pasted_first t.content short)) (inl refl))
 
-  pub shut_now : (short : length t.content ≤ 1) (w : Told) → Reached t IsNotBegun w (pasted 0 (0 ∷ []) t.content) (settled (pasted 0 (0 ∷ []) t.content)) → IsShut w
-  shut_now short w r = record { gate = 0; rest = []; content = r.content_is ∙ pasted_first t.content short; shut = λ is. omega (arith, is); short = omega arith; nothing_pending = r.now_is ∙ ap (λ (l : List ℕ). settled l) (sym r.content_is) }
+  pub shut_now : (short : length t.content ≤ 1) (w : Told) → Reached t IsNotBegun w (pasted 0 (0 ∷ []) t.content)
+      (settled (pasted 0 (0 ∷ []) t.content)) → IsShut w
+  shut_now short w r = record {
+    gate = 0;
+    rest = [];
+    content = r.content_is ∙ pasted_first t.content short;
+    shut = λ is. omega (arith, is);
+    short = omega arith;
+    nothing_pending = r.now_is ∙ ap (λ (l : List ℕ). settled l)
+        (sym r.content_is);
+  }
 
 module _ (issuer bytes : List ℕ) (nif : IsNif issuer) (same : bytes ≡ header issuer ++ 0 ∷ []) where
   long : length bytes ≡ 19
@@ -49,7 +74,8 @@ module _ (issuer bytes : List ℕ) (nif : IsNif issuer) (same : bytes ≡ header
 
   -- all is written, and the first byte may be any
   gated_is : (t : Told) (x : ℕ) → IsShut t → gated t.content 0 x bytes ≡ x ∷ (header issuer ++ 0 ∷ [])
-  gated_is t x shut = ap (λ (l : List ℕ). x ∷ l) (ap (λ (l : List ℕ). bytes ++ l) (drop_all (0 + 1 + length bytes) t.content (omega (arith, ap length shut.content, shut.short, long))) ∙ append-nil bytes ∙ same)
+  gated_is t x shut = ap (λ (l : List ℕ). x ∷ l) (ap (λ (l : List ℕ). bytes ++ l) (drop_all (0 + 1 + length bytes) t.content
+      (omega (arith, ap length shut.content, shut.short, long))) ∙ append-nil bytes ∙ same)
 
   empty_file : IsFile issuer [] (1 ∷ (header issuer ++ 0 ∷ []))
   empty_file = record { gate = 0; rest = []; nif = nif; sizes = tt; shut = λ is. omega (arith, is); parts = refl }
@@ -60,7 +86,8 @@ module _ (issuer bytes : List ℕ) (nif : IsNif issuer) (same : bytes ≡ header
     | inr other ↦ inl (inr (other, omega (arith, ap length same, long)))
   ]
 
-  up_to : (content c : List ℕ) (gate : ℕ) (rest : List ℕ) → content ≡ gate ∷ rest → (gate ≡ 1 → ⊥) → take 1 c ≡ take 1 content → length c ≤ 20 → IsNotBegun c
+  up_to : (content c : List ℕ) (gate : ℕ) (rest : List ℕ) → content ≡ gate ∷ rest → (gate ≡ 1 → ⊥) → take 1 c ≡ take 1 content →
+      length c ≤ 20 → IsNotBegun c
   up_to content [] gate rest is shut front short = tt
   up_to content (x ∷ c) gate rest is shut front short =
       let fronts : x ∷ [] ≡ gate ∷ [] = front ∙ ap (λ (l : List ℕ). take 1 l) is in
@@ -68,14 +95,21 @@ module _ (issuer bytes : List ℕ) (nif : IsNif issuer) (same : bytes ≡ header
       inr ((λ one. shut (sym first ∙ one)), omega arith)
 
   pub image : (t : Told) (c : List ℕ) → IsShut t → IsCommitImage t.content 0 bytes c → IsNotBegunOrEmpty issuer c
-  image t c shut (inl up) = inl (up_to t.content c shut.gate shut.rest shut.content shut.shut up.same (omega (arith, up.no_longer, ap length shut.content, shut.short, long)))
+  image t c shut (inl up) = inl (up_to t.content c shut.gate shut.rest shut.content shut.shut up.same
+      (omega (arith, up.no_longer, ap length shut.content, shut.short, long)))
   image t c shut (inr is) = subst (IsNotBegunOrEmpty issuer) (sym (is.1 ∙ gated_is t is.0 shut)) (any_first is.0)
 
   pub created : (t u : Told) → IsShut t → IsCommitted t 0 bytes u → IsAt issuer [] 19 u
-  created t u shut now = record { file = subst (IsFile issuer []) (sym (now.content ∙ gated_is t 1 shut)) empty_file; place = refl; nothing_pending = now.nothing_pending }
+  created t u shut now = record {
+    file = subst (IsFile issuer []) (sym (now.content ∙ gated_is t 1 shut)) empty_file;
+    place = refl;
+    nothing_pending = now.nothing_pending;
+  }
 
-  pub creating : (t u v : Told) → LeavesOnly t u IsNotBegun → IsShut u → LeavesOnly u v (IsCommitImage u.content 0 bytes) → LeavesOnly t v (IsNotBegunOrEmpty issuer)
-  creating t u v first shut second = follows t u v IsNotBegun _ (IsNotBegunOrEmpty issuer) first second (λ c not. inl not) (λ c left. image u c shut left)
+  pub creating : (t u v : Told) → LeavesOnly t u IsNotBegun → IsShut u → LeavesOnly u v (IsCommitImage u.content 0 bytes) →
+      LeavesOnly t v (IsNotBegunOrEmpty issuer)
+  creating t u v first shut second = follows t u v IsNotBegun _ (IsNotBegunOrEmpty issuer) first second (λ c not. inl not)
+      (λ c left. image u c shut left)
 
 pub shut_within : (u : Told) → IsShut u → 0 < length u.content
 shut_within u shut = omega (arith, ap length shut.content)

@@ -51,7 +51,8 @@ one_damage file m n (no_nif has long other) (other_version has' other') = absurd
 one_damage file m n (no_nif has long other) (cut_in_issuer has' short') = absurd (omega (arith, short', long))
 one_damage file m n (no_nif has long other) (no_nif has' long' other') = refl
 
-not_damaged : (file : List ℕ) (m : ℕ) → (length file ≤ 1) ⊎ ((get_or file 0 0 ≢ 1) × (length file ≤ 20)) → IsHeaderDamaged file m → ⊥
+not_damaged : (file : List ℕ) (m : ℕ) → (length file ≤ 1) ⊎ ((get_or file 0 0 ≢ 1) × (length file ≤ 20)) →
+    IsHeaderDamaged file m → ⊥
 not_damaged file m (inl short) (closed far shut) = omega (arith, short, far)
 not_damaged file m (inr both) (closed far shut) = omega (arith, both.1, far)
 not_damaged file m (inl short) (cut_in_mark first low high) = omega (arith, short, low)
@@ -77,7 +78,8 @@ not_sound : (file issuer : List ℕ) → (length file ≤ 1) ⊎ ((get_or file 0
 not_sound file issuer (inl short) is = omega (arith, short, is.long)
 not_sound file issuer (inr both) is = both.0 is.versioned.marked.first
 
-same_begun : (issuer other : List ℕ) (version version' : ℕ) → issuer ≡ other → version ≡ version' → Begun issuer version ≡ Begun other version'
+same_begun : (issuer other : List ℕ) (version version' : ℕ) → issuer ≡ other → version ≡ version' → Begun issuer version ≡ Begun
+    other version'
 same_begun issuer other version version' i v = cc
 
 pub one_header : OneHeader
@@ -85,7 +87,8 @@ one_header file NotBegun NotBegun is is' = refl
 one_header file NotBegun (Begun issuer version) is is' = absurd (not_sound file issuer (not_begun file is) is'.0)
 one_header file NotBegun (Damaged at) is is' = absurd (not_damaged file at (not_begun file is) is')
 one_header file (Begun issuer version) NotBegun is is' = absurd (not_sound file issuer (not_begun file is') is.0)
-one_header file (Begun issuer version) (Begun other version') is is' = same_begun issuer other version version' (sym is.0.issuer_is ∙ is'.0.issuer_is) (is.1 ∙ sym is'.1)
+one_header file (Begun issuer version) (Begun other version') is is' = same_begun issuer other version version'
+    (sym is.0.issuer_is ∙ is'.0.issuer_is) (is.1 ∙ sym is'.1)
 one_header file (Begun issuer version) (Damaged at) is is' = absurd (sound file at issuer is.0 is')
 one_header file (Damaged at) NotBegun is is' = absurd (not_damaged file at (not_begun file is') is)
 one_header file (Damaged at) (Begun issuer version) is is' = absurd (sound file at issuer is'.0 is)

@@ -1,5 +1,6 @@
 -- A window of a file tells what stands at its start.
-use Rattle.std.proofs.Common.{◌≡◌, ◌≤◌, ◌+◌, ◌-◌, min, inl, inr, ℕ, List, ◌∷◌, ◌++◌, length, take, drop, sym, ◌∙◌, ap, arith, append_assoc, length-append, take-append-drop}
+use Rattle.std.proofs.Common.{◌≡◌, ◌≤◌, ◌+◌, ◌-◌, min, inl, inr, ℕ, List, ◌∷◌, ◌++◌, length, take, drop, sym, ◌∙◌, ap, arith}
+use Rattle.std.proofs.Common.{append_assoc, length-append, take-append-drop}
 use Rattle.std.proofs.lemmas.List.{length-take, length-take-le, length-drop, take_at, drop_at, take_min, take_all}
 use Rattle.std.proofs.lemmas.Bool.{cases_lt}
 use Rattle.chain_disk.specs.Told.{IsRead}
@@ -10,19 +11,23 @@ use Rattle.journal.specs.declared.reading.Step.{Step}
 use Rattle.journal.specs.declared.reading.Step.TheVariants.{Counted, Closed, Damaged}
 
 -- what was read, as a front of what is there
-pub read_window : (room : ℕ) (content : List ℕ) (at n : ℕ) (old new : List ℕ) → length old ≡ room → IsRead content at n old new → take n new ≡ take room (drop at content)
+pub read_window : (room : ℕ) (content : List ℕ) (at n : ℕ) (old new : List ℕ) → length old ≡ room → IsRead content at n old new →
+    take n new ≡ take room (drop at content)
 read_window room content at n old new long read =
     let rest = drop at content in
     let count : n ≡ min room (length rest) = omega (arith, read.count, long, length-drop at content) in
     let all : length (take n rest) ≡ n = length-take-le n rest (omega (arith, count)) in
-    ap (λ (l : List ℕ). take n l) read.bytes ∙ take_at (take n rest) (drop n old) n all ∙ ap (λ (k : ℕ). take k rest) count ∙ take_min room rest
+    ap (λ (l : List ℕ). take n l) read.bytes ∙ take_at (take n rest) (drop n old) n all ∙ ap (λ (k : ℕ). take k rest) count ∙
+    take_min room rest
 
 -- the body of a counted frame
-pub counted_body : (bytes body : List ℕ) (len : ℕ) → length body ≡ len → IsCounted bytes body → take (5 + len - 5) (drop 5 bytes) ≡ body
+pub counted_body : (bytes body : List ℕ) (len : ℕ) → length body ≡ len → IsCounted bytes body → take (5 + len - 5) (drop 5 bytes)
+    ≡ body
 counted_body bytes body len size counted =
     let head = 1 ∷ length_bytes (length body) in
     let five : length head ≡ 5 = omega (arith, length-length_bytes (length body)) in
-    let front : drop 5 bytes ≡ body ++ counted.rest = ap (λ (l : List ℕ). drop 5 l) counted.parts ∙ drop_at head (body ++ counted.rest) 5 five in
+    let front : drop 5 bytes ≡ body ++ counted.rest = ap (λ (l : List ℕ). drop 5 l) counted.parts ∙
+    drop_at head (body ++ counted.rest) 5 five in
     let n : 5 + len - 5 ≡ len = omega arith in
     ap (λ (k : ℕ). take k (drop 5 bytes)) n ∙ ap (λ (l : List ℕ). take len l) front ∙ take_at body counted.rest len size
 
@@ -33,7 +38,8 @@ counted_longer k bytes body counted =
       rest = counted.rest ++ drop k bytes;
       size = counted.size;
       followed = omega (arith, counted.followed, length-append counted.rest (drop k bytes));
-      parts = sym (take-append-drop k bytes) ∙ ap (λ (l : List ℕ). l ++ drop k bytes) counted.parts ∙ append_assoc head (body ++ counted.rest) (drop k bytes) ∙ ap (λ (l : List ℕ). head ++ l) (append_assoc body counted.rest (drop k bytes));
+      parts = sym (take-append-drop k bytes) ∙ ap (λ (l : List ℕ). l ++ drop k bytes) counted.parts ∙ append_assoc head
+          (body ++ counted.rest) (drop k bytes) ∙ ap (λ (l : List ℕ). head ++ l) (append_assoc body counted.rest (drop k bytes));
     }
 
 closed_longer : (k : ℕ) (bytes : List ℕ) → IsClosed (take k bytes) → IsClosed bytes
@@ -45,18 +51,27 @@ closed_longer k bytes closed = record {
 }
 
 -- a front of k bytes of parts whose first is shorter
-front_parts : (k : ℕ) (bytes first rest : List ℕ) → bytes ≡ first ++ rest → length first ≤ k → take k bytes ≡ first ++ take (k - length first) rest
+front_parts : (k : ℕ) (bytes first rest : List ℕ) → bytes ≡ first ++ rest → length first ≤ k → take k bytes ≡ first ++ take
+    (k - length first) rest
 front_parts k bytes first rest is short =
     let m = k - length first in
-    let split : bytes ≡ (first ++ take m rest) ++ drop m rest = is ∙ ap (λ (l : List ℕ). first ++ l) (sym (take-append-drop m rest)) ∙ sym (append_assoc first (take m rest) (drop m rest)) in
+    let split : bytes ≡ (first ++ take m rest) ++ drop m rest = is ∙ ap (λ (l : List ℕ). first ++ l)
+    (sym (take-append-drop m rest)) ∙ sym (append_assoc first (take m rest) (drop m rest)) in
     by_length split
   where
-    by_length : bytes ≡ (first ++ take (k - length first) rest) ++ drop (k - length first) rest → take k bytes ≡ first ++ take (k - length first) rest
+    by_length : bytes ≡ (first ++ take (k - length first) rest) ++ drop (k - length first) rest → take k bytes ≡ first ++ take
+        (k - length first) rest
     by_length split = elim (cases_lt (length rest) (k - length first)) [
       | inl less ↦ (
           let whole : take (k - length first) rest ≡ rest = take_all (k - length first) rest (omega (arith, less)) in
-          take_all k bytes (omega (arith, ap length is, length-append first rest, less)) ∙ is ∙ ap (λ (l : List ℕ). first ++ l) (sym whole))
-      | inr enough ↦ ap (λ (l : List ℕ). take k l) split ∙ take_at (first ++ take (k - length first) rest) (drop (k - length first) rest) k (omega (arith, length-append first (take (k - length first) rest), length-take-le (k - length first) rest enough))
+          take_all k bytes (omega (arith, ap length is, length-append first rest, less)) ∙ is ∙ ap (λ (l : List ℕ). first ++ l)
+          (sym whole))
+      | inr enough ↦ ap (λ (l : List ℕ). take k l) split ∙ take_at (first ++ take (k - length first) rest)
+          (drop (k - length first) rest) k (omega (
+            arith,
+            length-append first (take (k - length first) rest),
+            length-take-le (k - length first) rest enough,
+          ))
     ]
 
 counted_shorter : (bytes body : List ℕ) → IsCounted bytes body → IsCounted (take 4102 bytes) body
@@ -70,13 +85,23 @@ counted_shorter bytes body counted =
       rest = take m counted.rest;
       size = counted.size;
       followed = omega (arith, length-take m counted.rest, counted.followed, size, counted.size.1);
-      parts = front_parts 4102 bytes first counted.rest is (omega (arith, size, counted.size.1)) ∙ append_assoc head body (take m counted.rest);
+      parts = front_parts 4102 bytes first counted.rest is (omega (arith, size, counted.size.1)) ∙ append_assoc head body
+          (take m counted.rest);
     }
 
 closed_shorter : (bytes : List ℕ) → IsClosed bytes → IsClosed (take 4102 bytes)
-closed_shorter bytes closed = record { gate = closed.gate; rest = take 4101 closed.rest; parts = ap (λ (l : List ℕ). take 4102 l) closed.parts; shut = closed.shut }
+closed_shorter bytes closed = record {
+  gate = closed.gate;
+  rest = take 4101 closed.rest;
+  parts = ap (λ (l : List ℕ). take 4102 l)
+      closed.parts;
+  shut = closed.shut;
+}
 
 pub step_longer : (bytes body : List ℕ) (step : Step) → IsStep (take 4102 bytes) step body → IsStep bytes step body
 step_longer bytes body (Counted next) is = counted_longer 4102 bytes body is
 step_longer bytes body Closed is = closed_longer 4102 bytes is
-step_longer bytes body Damaged is = record { not_counted = λ b counted. is.not_counted b (counted_shorter bytes b counted); not_closed = λ closed. is.not_closed (closed_shorter bytes closed) }
+step_longer bytes body Damaged is = record {
+  not_counted = λ b counted. is.not_counted b (counted_shorter bytes b counted);
+  not_closed = λ closed. is.not_closed (closed_shorter bytes closed);
+}

@@ -6,15 +6,25 @@ use Rattle.frames.specs.Frames.{length_bytes, IsBody}
 use Rattle.frames.specs.Lengths.{length-length_bytes}
 use Rattle.journal.specs.File.{framed, AreBodies}
 
-pub framed-push : (bodies : List (List ℕ)) (body rest : List ℕ) → framed (bodies ++ body ∷ []) ++ rest ≡ framed bodies ++ (1 ∷ (length_bytes (length body) ++ (body ++ rest)))
+pub framed-push : (bodies : List (List ℕ)) (body rest : List ℕ) → framed (bodies ++ body ∷ []) ++ rest ≡ framed bodies ++
+    (1 ∷ (length_bytes (length body) ++ (body ++ rest)))
 framed-push [] body rest = simp (append_assoc, append-nil)
 framed-push (b ∷ bodies) body rest =
     simp append_assoc (ap (λ (l : List ℕ). 1 ∷ (length_bytes (length b) ++ (b ++ l))) (framed-push bodies body rest))
 
-pub length-framed-push : (bodies : List (List ℕ)) (body : List ℕ) → length (framed (bodies ++ body ∷ [])) ≡ length (framed bodies) + (length body + 5)
+pub length-framed-push : (bodies : List (List ℕ)) (body : List ℕ) → length (framed (bodies ++ body ∷ [])) ≡ length (framed bodies)
+    + (length body + 5)
 length-framed-push bodies body =
     let n = length_bytes (length body) in
-    omega (arith, ap length (sym (append-nil (framed (bodies ++ body ∷ [])))), ap length (framed-push bodies body []), length-append (framed bodies) (1 ∷ (n ++ (body ++ []))), length-append n (body ++ []), length-append body [], length-length_bytes (length body))
+    omega (
+      arith,
+      ap length (sym (append-nil (framed (bodies ++ body ∷ [])))),
+      ap length (framed-push bodies body []),
+      length-append (framed bodies) (1 ∷ (n ++ (body ++ []))),
+      length-append n (body ++ []),
+      length-append body [],
+      length-length_bytes (length body),
+    )
 
 pub AreBodies-push : (bodies : List (List ℕ)) (body : List ℕ) → AreBodies bodies → IsBody body → AreBodies (bodies ++ body ∷ [])
 AreBodies-push [] body are is = (is, tt)

@@ -1,5 +1,6 @@
 // The journal: a file of frames, and where the next one goes.
-ghost use Rattle.std.specs.Prelude.{◌≡◌, ◌<◌, ◌≤◌, ◌+◌, ◌^◌, ◌++◌, ◌∷◌, [], ◌↔◌, List, ℕ, length, IfOk, IfErr, OnOk, OnErr, IsErrOf, IsSome, IsTrue, None, Some};
+ghost use Rattle.std.specs.Prelude.{◌≡◌, ◌<◌, ◌≤◌, ◌+◌, ◌^◌, ◌++◌, ◌∷◌, [], ◌↔◌, List, ℕ, length, IfOk, IfErr, OnOk, OnErr};
+ghost use Rattle.std.specs.Prelude.{IsErrOf, IsSome, IsTrue, None, Some};
 ghost use Rattle.ports.specs.Causes.{Rose};
 ghost use Rattle.chain_disk.specs.Told.{LeavesOnly, LeavesNow, IsSettled};
 ghost use Rattle.frames.specs.Frames.{IsBody, frame};

@@ -1,5 +1,6 @@
 // Reads a file frame by frame.
-ghost use Rattle.std.specs.Prelude.{◌≡◌, ◌<◌, ◌^◌, ◌≤◌, ◌↔◌, slice_index, length, drop, codes, IsTrue, IfOk, IfSome, IfNone, MatchResult};
+ghost use Rattle.std.specs.Prelude.{◌≡◌, ◌<◌, ◌^◌, ◌≤◌, ◌↔◌, slice_index, length, drop, codes, IsTrue, IfOk, IfSome, IfNone};
+ghost use Rattle.std.specs.Prelude.{MatchResult};
 ghost use Rattle.ports.specs.Causes.{HasCause};
 ghost use Rattle.parties.specs.Nif.{IsNif};
 ghost use Rattle.journal.specs.Step.{IsStep, IsNext, KeepsBuffer};

@@ -1,5 +1,6 @@
 -- What the proofs need of lists.
-use Rattle.std.proofs.Common.{◌≡◌, ℕ, zero, suc, List, [], ◌∷◌, ◌++◌, refl, ◌∙◌, ap, subst, length, length-append, map, drop, ◌≤◌, ◌<◌, arith, append_assoc, get_or, bytes_eq, true, false}
+use Rattle.std.proofs.Common.{◌≡◌, ℕ, zero, suc, List, [], ◌∷◌, ◌++◌, refl, ◌∙◌, ap, subst, length, length-append, map, drop, ◌≤◌}
+use Rattle.std.proofs.Common.{◌<◌, arith, append_assoc, get_or, bytes_eq, true, false}
 use Rattle.std.proofs.lemmas.Bool.{cases_Bool}
 use Rattle.std.proofs.lemmas.Slice.Eq.{bytes_eq-Decides}
 use Rattle.std.specs.List.{AllByRecursion, Contains}
@@ -17,7 +18,8 @@ pub drop_front : {A : Type 0} (a b : List A) → drop (length a) (a ++ b) ≡ b
 drop_front [] b = refl
 drop_front (x ∷ a) b = drop_front a b
 
-all_at : {A : Type 0} (P : A → Type 0) (xs : List A) (k : ℕ) (x : A) → AllByRecursion P xs → k < length xs → get_or xs k x ≡ x → P x
+all_at : {A : Type 0} (P : A → Type 0) (xs : List A) (k : ℕ) (x : A) → AllByRecursion P xs → k < length xs → get_or xs k x ≡ x →
+    P x
 all_at P [] k x all lt e = absurd (omega arith)
 all_at P (y ∷ xs) zero x all lt e = let h : y ≡ x = e in subst P h all.0
 all_at P (y ∷ xs) (suc k) x all lt e = all_at P xs k x all.1 (omega arith) e
@@ -26,7 +28,8 @@ all_at P (y ∷ xs) (suc k) x all lt e = all_at P xs k x all.1 (omega arith) e
 pub all_contained : {A : Type 0} (P : A → Type 0) (xs : List A) (x : A) → AllByRecursion P xs → Contains xs x → P x
 all_contained P xs x all there = all_at P xs there.0 x all there.1 there.2
 
-pub all_both : {A : Type 0} (P : A → Type 0) (xs ys : List A) → AllByRecursion P xs → AllByRecursion P ys → AllByRecursion P (xs ++ ys)
+pub all_both : {A : Type 0} (P : A → Type 0) (xs ys : List A) → AllByRecursion P xs → AllByRecursion P ys →
+    AllByRecursion P (xs ++ ys)
 all_both P [] ys a b = b
 all_both P (x ∷ xs) ys a b = (a.0, all_both P xs ys a.1 b)
 
@@ -42,7 +45,8 @@ pub all_behind : {A : Type 0} (P : A → Type 0) (xs ys : List A) (y : A) → Al
 all_behind P [] ys y h = h.1
 all_behind P (x ∷ xs) ys y h = all_behind P xs ys y h.1
 
-pub all_change : {A : Type 0} (P Q : A → Type 0) → ((x : A) → P x → Q x) → (xs : List A) → AllByRecursion P xs → AllByRecursion Q xs
+pub all_change : {A : Type 0} (P Q : A → Type 0) → ((x : A) → P x → Q x) → (xs : List A) → AllByRecursion P xs →
+    AllByRecursion Q xs
 all_change P Q f [] a = tt
 all_change P Q f (x ∷ xs) a = (f x a.0, all_change P Q f xs a.1)
 
@@ -61,7 +65,13 @@ split_by f (x ∷ xs) (y ∷ a) b e =
     let t : map f xs ≡ a ++ b = cc in
     let h : f x ≡ y = cc in
     let p = split_by f xs a b t in
-    record { first = x ∷ p.first; second = p.second; is = ap (λ t. x ∷ t) p.is; first_is = (let q = p.first_is in cc); second_is = p.second_is }
+    record {
+      first = x ∷ p.first;
+      second = p.second;
+      is = ap (λ t. x ∷ t) p.is;
+      first_is = (let q = p.first_is in cc);
+      second_is = p.second_is;
+    }
 
 pub prefix_more : {A : Type 0} (xs ys zs : List A) → IsPrefix xs ys → IsPrefix xs (ys ++ zs)
 prefix_more xs ys zs p = record { rest = p.rest ++ zs; is = ap (λ t. t ++ zs) p.is ∙ append_assoc xs p.rest zs }

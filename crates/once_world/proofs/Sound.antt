@@ -1,5 +1,6 @@
 -- Every world is sound.
-use Rattle.std.proofs.Common.{◌≡◌, ℕ, List, [], ◌∷◌, ◌++◌, refl, sym, ◌∙◌, subst, Option, Some, None, Bool, true, false, cond, ◌&&◌, length, slice_get}
+use Rattle.std.proofs.Common.{◌≡◌, ℕ, List, [], ◌∷◌, ◌++◌, refl, sym, ◌∙◌, subst, Option, Some, None, Bool, true, false, cond}
+use Rattle.std.proofs.Common.{◌&&◌, length, slice_get}
 use Rattle.std.specs.List.{AllByRecursion}
 use Rattle.record_fields.specs.declared.lines.Line.{Line}
 use Rattle.record_fields.specs.declared.records.Sealed.{Sealed}
@@ -14,7 +15,8 @@ use Rattle.shop_core.specs.declared.answers.Planned.{Planned}
 use Rattle.shop_core.specs.declared.answers.Planned.TheVariants.{Again, Refused, Made}
 use Rattle.agency_rules.specs.declared.plans.Plan.{Plan}
 use Rattle.once_world.specs.Laws.{IsEvent, IsSound, EveryWorldIsSound}
-use Rattle.once_world.specs.World.{empty, appended, torn, may_send, after_send, after_delivery, after_look, after_note, torn_note, reopened, happens, happen, world}
+use Rattle.once_world.specs.World.{empty, appended, torn, may_send, after_send, after_delivery, after_look, after_note, torn_note}
+use Rattle.once_world.specs.World.{reopened, happens, happen, world}
 use Rattle.once_world.specs.declared.events.Event.{Event}
 use Rattle.once_world.specs.declared.events.Event.TheVariants as event
 use Rattle.once_world.specs.declared.world.World.{World}
@@ -29,46 +31,59 @@ legal_either : (b : Bool) (v w : World) → IsLegal v → IsLegal w → IsLegal 
 legal_either true v w h k = h
 legal_either false v w h k = k
 
-legal_appended : MadeContinues → GoesOn → (w : World) (ask : Asked) (seconds : ℕ) (planned : Planned) → IsAsked ask → answer w.state.issuer w.state.entries ask seconds ≡ planned → IsLegal w → IsLegal (appended w planned)
-legal_appended made goes w ask seconds (Made entry) asked e h = goes w.state.issuer w.state.entries entry h (made w.state.issuer w.state.entries ask seconds entry h asked e)
+legal_appended : MadeContinues → GoesOn → (w : World) (ask : Asked) (seconds : ℕ) (planned : Planned) → IsAsked ask →
+    answer w.state.issuer w.state.entries ask seconds ≡ planned → IsLegal w → IsLegal (appended w planned)
+legal_appended made goes w ask seconds (Made entry) asked e h = goes w.state.issuer w.state.entries entry h
+    (made w.state.issuer w.state.entries ask seconds entry h asked e)
 legal_appended made goes w ask seconds (Again receipt) asked e h = h
 legal_appended made goes w ask seconds (Refused why) asked e h = h
 
-legal_torn : MadeContinues → GoesOn → (w : World) (kept : Bool) (ask : Asked) (seconds : ℕ) (planned : Planned) → IsAsked ask → answer w.state.issuer w.state.entries ask seconds ≡ planned → IsLegal w → IsLegal (torn w kept planned)
-legal_torn made goes w true ask seconds (Made entry) asked e h = goes w.state.issuer w.state.entries entry h (made w.state.issuer w.state.entries ask seconds entry h asked e)
+legal_torn : MadeContinues → GoesOn → (w : World) (kept : Bool) (ask : Asked) (seconds : ℕ) (planned : Planned) → IsAsked ask →
+    answer w.state.issuer w.state.entries ask seconds ≡ planned → IsLegal w → IsLegal (torn w kept planned)
+legal_torn made goes w true ask seconds (Made entry) asked e h = goes w.state.issuer w.state.entries entry h
+    (made w.state.issuer w.state.entries ask seconds entry h asked e)
 legal_torn made goes w false ask seconds (Made entry) asked e h = h
 legal_torn made goes w kept ask seconds (Again receipt) asked e h = h
 legal_torn made goes w kept ask seconds (Refused why) asked e h = h
 
-legal_notes : GoesOn → (w : World) (lines : List Line) → Holds w.state.entries w.processed w.sent (Some lines) → IsLegal w → IsLegal (after_note w (Some lines))
+legal_notes : GoesOn → (w : World) (lines : List Line) → Holds w.state.entries w.processed w.sent (Some lines) → IsLegal w →
+    IsLegal (after_note w (Some lines))
 legal_notes goes w lines h legal =
-    goes w.state.issuer w.state.entries (Notes (length (noted w.state.entries)) lines) legal (lines_fit w.state.entries w.processed w.sent lines h.agree h.learnt_next)
+    goes w.state.issuer w.state.entries (Notes (length (noted w.state.entries)) lines) legal
+    (lines_fit w.state.entries w.processed w.sent lines h.agree h.learnt_next)
 
-legal_note : GoesOn → (w : World) (learnt : Option (List Line)) → w.learnt ≡ learnt → HoldsOf w → IsLegal w → IsLegal (after_note w learnt)
+legal_note : GoesOn → (w : World) (learnt : Option (List Line)) → w.learnt ≡ learnt → HoldsOf w → IsLegal w →
+    IsLegal (after_note w learnt)
 legal_note goes w None e h legal = legal
-legal_note goes w (Some lines) e h legal = legal_notes goes w lines (subst (λ (l : Option (List Line)). Holds w.state.entries w.processed w.sent l) e h) legal
+legal_note goes w (Some lines) e h legal = legal_notes goes w lines
+    (subst (λ (l : Option (List Line)). Holds w.state.entries w.processed w.sent l) e h) legal
 
-legal_torn_note : GoesOn → (w : World) (kept : Bool) (learnt : Option (List Line)) → w.learnt ≡ learnt → HoldsOf w → IsLegal w → IsLegal (torn_note w kept learnt)
+legal_torn_note : GoesOn → (w : World) (kept : Bool) (learnt : Option (List Line)) → w.learnt ≡ learnt → HoldsOf w → IsLegal w →
+    IsLegal (torn_note w kept learnt)
 legal_torn_note goes w kept None e h legal = legal
-legal_torn_note goes w true (Some lines) e h legal = legal_notes goes w lines (subst (λ (l : Option (List Line)). Holds w.state.entries w.processed w.sent l) e h) legal
+legal_torn_note goes w true (Some lines) e h legal = legal_notes goes w lines
+    (subst (λ (l : Option (List Line)). Holds w.state.entries w.processed w.sent l) e h) legal
 legal_torn_note goes w false (Some lines) e h legal = legal
 
 legal_coming : (plan : Plan) (w : World) (found : Option (List Sealed)) → IsLegal w → IsLegal (after_delivery plan w found)
 legal_coming plan w None legal = legal
 legal_coming plan w (Some batch) legal = legal
 
-legal_then : MadeContinues → GoesOn → (plan : Plan) (w : World) (e : Event) → IsEvent e → HoldsOf w → IsLegal w → IsLegal (happens plan w e)
+legal_then : MadeContinues → GoesOn → (plan : Plan) (w : World) (e : Event) → IsEvent e → HoldsOf w → IsLegal w →
+    IsLegal (happens plan w e)
 legal_then made goes plan w (event.Append ask seconds) asked h legal =
     let planned = answer w.state.issuer w.state.entries ask seconds in
     legal_either w.up (appended w planned) w (legal_appended made goes w ask seconds planned asked refl legal) legal
 legal_then made goes plan w (event.Send count) asked h legal = legal_either (may_send w count) (after_send w count) w legal legal
 legal_then made goes plan w (event.Deliver index) asked h legal = legal_coming plan w (slice_get w.sent index) legal
 legal_then made goes plan w event.Look asked h legal = legal_either (w.up && w.doubt) (after_look w) w legal legal
-legal_then made goes plan w event.Note asked h legal = legal_either w.up (after_note w w.learnt) w (legal_note goes w w.learnt refl h legal) legal
+legal_then made goes plan w event.Note asked h legal = legal_either w.up (after_note w w.learnt) w
+    (legal_note goes w w.learnt refl h legal) legal
 legal_then made goes plan w (event.Tear ask seconds kept) asked h legal =
     let planned = answer w.state.issuer w.state.entries ask seconds in
     legal_either w.up (torn w kept planned) w (legal_torn made goes w kept ask seconds planned asked refl legal) legal
-legal_then made goes plan w (event.TearNote kept) asked h legal = legal_either w.up (torn_note w kept w.learnt) w (legal_torn_note goes w kept w.learnt refl h legal) legal
+legal_then made goes plan w (event.TearNote kept) asked h legal = legal_either w.up (torn_note w kept w.learnt) w
+    (legal_torn_note goes w kept w.learnt refl h legal) legal
 legal_then made goes plan w event.Reopen asked h legal = legal_either w.up w (reopened w) legal legal
 
 -- what holds of a world after more events
@@ -77,7 +92,8 @@ record After (issuer : List ℕ) (w : World) : Type 0 where
   holds : HoldsOf w
   legal : IsLegal w
 
-along : MadeContinues → GoesOn → MakesRecords → AreLinked → SalesAreNew → (issuer : List ℕ) (plan : Plan) (events : List Event) (w : World) → AllByRecursion IsEvent events → After issuer w → After issuer (happen plan w events)
+along : MadeContinues → GoesOn → MakesRecords → AreLinked → SalesAreNew → (issuer : List ℕ) (plan : Plan) (events : List Event)
+    (w : World) → AllByRecursion IsEvent events → After issuer w → After issuer (happen plan w events)
 along made goes makes linked sales issuer plan [] w are a = a
 along made goes makes linked sales issuer plan (e ∷ events) w are a =
     let chain = chain_of linked sales w.state.issuer w.state.entries a.legal in
@@ -93,12 +109,14 @@ none_before issuer (x ∷ before) after entry e = absurd cc
 
 pub sound : MadeContinues → GoesOn → MakesRecords → AreLinked → SalesAreNew → EveryWorldIsSound
 sound made goes makes linked sales issuer plan events are =
-    let a = along made goes makes linked sales issuer plan events (empty issuer) are (record { same = refl; holds = holds_first issuer; legal = none_before issuer }) in
+    let a = along made goes makes linked sales issuer plan events (empty issuer) are
+    (record { same = refl; holds = holds_first issuer; legal = none_before issuer }) in
     let w = world issuer plan events in
     record {
       legal = subst (λ (n : List ℕ). Legal n w.state.entries) a.same a.legal;
       agree = a.holds.agree;
       learnt = a.holds.learnt_next;
-      once = once_of w.state.entries w.processed w.sent (chain_of linked sales w.state.issuer w.state.entries a.legal) a.holds.agree;
+      once = once_of w.state.entries w.processed w.sent (chain_of linked sales w.state.issuer w.state.entries a.legal)
+          a.holds.agree;
       sales = a.holds.no_refused_sale;
     }

@@ -7,6 +7,7 @@ use Rattle.record_fields.specs.declared.lines.Line.{Line}
 use Rattle.record_fields.specs.declared.lines.Line.TheVariants.{Correcto, ConErrores, Incorrecto}
 use Rattle.record_fields.specs.declared.lines.Cause.{Cause}
 use Rattle.record_fields.specs.declared.lines.Cause.TheVariants.{Vet, Held, NotHeld, Gone}
+use Rattle.record_fields.specs.declared.lines.TheConstants.{BATCH}
 use Rattle.record_codec.specs.declared.entries.Entry.{Entry}
 use Rattle.shop_core.specs.History.{recs, noted}
 
@@ -31,18 +32,18 @@ pub record IsRun (records batch : List Sealed) (from to : ℕ) : Type 0 where
   pub ends : length before + length batch ≤ to
 
 -- The processed records are the first ones of the chain. The noted lines are the first ones of theirs. Each batch that was
--- sent is a run of the chain that begins no later than just past the processed ones and ends at most 1000 past the noted ones.
+-- sent is a run of the chain that begins no later than just past the processed ones and ends at most BATCH past the noted ones.
 pub record Agree (entries : List Entry) (processed : List (Sealed × Line)) (sent : List (List Sealed)) : Type 0 where
   pub records : IsPrefix (records_of processed) (recs entries)
   pub lines : IsPrefix (noted entries) (lines_of processed)
   pub batches : AllByRecursion (λ (batch : List Sealed). IsRun (recs entries) batch (length processed)
-      (length (noted entries) + 1000)) sent
+      (length (noted entries) + BATCH)) sent
 
--- the lines are the agency's next ones: those just past the noted ones, 1 to 1000 of them
+-- the lines are the agency's next ones: those just past the noted ones, 1 to BATCH of them
 pub record AreNextLines (entries : List Entry) (processed : List (Sealed × Line)) (lines : List Line) : Type 0 where
   pub run : IsPrefix (noted entries ++ lines) (lines_of processed)
   pub some : 1 ≤ length lines
-  pub few : length lines ≤ 1000
+  pub few : length lines ≤ BATCH
 
 -- the lines that were learnt, where some were
 abbrev pub IsLearnt : List Entry → List (Sealed × Line) → Option (List Line) → Type 0

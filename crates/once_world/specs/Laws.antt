@@ -3,6 +3,7 @@ use Rattle.std.specs.Prelude.{◌≡◌, ℕ, ◌≤◌, List, [], ◌∷◌, �
 use Rattle.std.specs.List.{AllByRecursion, Contains}
 use Rattle.record_fields.specs.declared.records.Sealed.{Sealed}
 use Rattle.record_fields.specs.declared.lines.Line.{Line}
+use Rattle.record_fields.specs.declared.lines.TheConstants.{BATCH}
 use Rattle.record_codec.specs.declared.entries.Entry.{Entry}
 use Rattle.record_codec.specs.declared.entries.Entry.TheVariants.{Notes}
 use Rattle.shop_core.specs.History.{recs, noted, is_record, waiting}
@@ -47,7 +48,7 @@ RecordsKeepAgreement = (entries more : List Entry) (processed : List (Sealed × 
 
 abbrev pub SendingKeepsAgreement : Type 0
 SendingKeepsAgreement = (entries : List Entry) (processed : List (Sealed × Line)) (sent : List (List Sealed)) (count : ℕ) →
-    Agree entries processed sent → count ≤ 1000 → Agree entries processed (sent ++ take count (waiting entries) ∷ [])
+    Agree entries processed sent → count ≤ BATCH → Agree entries processed (sent ++ take count (waiting entries) ∷ [])
 
 abbrev pub NotingKeepsAgreement : Type 0
 NotingKeepsAgreement = (entries : List Entry) (processed : List (Sealed × Line)) (sent : List (List Sealed)) (lines : List Line) →

@@ -4,6 +4,7 @@ use Rattle.std.specs.Prelude.{ℕ, List, [], ◌∷◌, ◌++◌, length, take, 
 use Rattle.std.specs.Prelude.{slice_get, is_none, if◌then◌else◌}
 use Rattle.record_fields.specs.declared.records.Sealed.{Sealed}
 use Rattle.record_fields.specs.declared.lines.Line.{Line}
+use Rattle.record_fields.specs.declared.lines.TheConstants.{BATCH}
 use Rattle.record_codec.specs.declared.entries.Entry.{Entry}
 use Rattle.record_codec.specs.declared.entries.Entry.TheVariants.{Notes}
 use Rattle.shop_core.specs.Answer.{answer}
@@ -44,7 +45,7 @@ torn w kept (Again receipt) = w
 torn w kept (Refused why) = w
 
 abbrev pub may_send : World → ℕ → Bool
-may_send w count = w.up && not w.doubt && is_none w.learnt && nat_le 1 count && nat_le count 1000
+may_send w count = w.up && not w.doubt && is_none w.learnt && nat_le 1 count && nat_le count BATCH
     && nat_le count (length (waiting w.state.entries))
 
 -- the first waiting records go out, and whether they came is in doubt
@@ -61,11 +62,11 @@ abbrev pub learnt_lines : List Line → Option (List Line)
 learnt_lines [] = None
 learnt_lines (line ∷ lines) = Some (line ∷ lines)
 
--- the agency is asked for the first 1000 waiting records
+-- the agency is asked for the first BATCH waiting records
 abbrev pub after_look : World → World
 after_look w = record w {
   learnt = learnt_lines
-      (lines_in_front (answers_for w.processed (take 1000 (waiting w.state.entries))));
+      (lines_in_front (answers_for w.processed (take BATCH (waiting w.state.entries))));
   doubt = false;
 }
 

@@ -6,11 +6,11 @@ use shop_core::Ask;
 pub enum Event {
     /// The shop answers an ask, with the clock at these seconds since 1970, and keeps the record that is made.
     Append { ask: Ask, seconds: u64 },
-    /// The first `count` waiting records, 1 to 1000, are sent as a batch.
+    /// The first `count` waiting records, 1 to `BATCH`, are sent as a batch.
     Send { count: u16 },
     /// The batch of this index, from 0, among those that were ever sent comes to the agency.
     Deliver { index: u32 },
-    /// The agency is asked for the first 1000 waiting records.
+    /// The agency is asked for the first `BATCH` waiting records.
     Look,
     /// The lines that were learnt are noted.
     Note,

@@ -2,6 +2,7 @@
 ghost use Rattle.std.specs.Prelude.{◌≡◌, ◌≤◌, ◌↔◌, ℕ, length, IfOk, IsErrOf};
 ghost use Rattle.shop_core.specs.History as history;
 ghost use Rattle.once_world.specs.Outbox.{Sight, Grows, OwnWithin, HasStopped, ShowsWaiting, NotedBy, history_of};
+ghost use Rattle.record_fields.specs.declared.lines.TheConstants.{BATCH};
 
 use journal::StoreFault;
 use ports::NoMemory;
@@ -28,12 +29,12 @@ pub trait Outbox {
         ensures within { OwnWithin (sight self.new) }
         ensures shows { IfOk result (ShowsWaiting (sight self.new) max) };
 
-    /// Notes the lines of the next records, 1 to 1000 and no more than wait in what was seen. After `DiskFault` the shop has
+    /// Notes the lines of the next records, 1 to `BATCH` and no more than wait in what was seen. After `DiskFault` the shop has
     /// stopped, and these lines may stand in its file. `Stopped` comes exactly where an earlier call stopped it. Where notes
     /// of others came in between and the lines fit no more, nothing is added, as without memory.
     fn note<R: Wait>(&mut self, rt: &R, alloc: Global, lines: &[Line]) -> Result<(), StoreFault>
         requires some { 1 ≤ length lines.now }
-        requires few { length lines.now ≤ 1000 }
+        requires few { length lines.now ≤ BATCH }
         requires fits { length lines.now ≤ length (history.waiting (history_of (sight self.old))) }
         ensures fixed { fixed self.new ≡ fixed self.old }
         ensures grows { Grows (sight self.old) (sight self.new) }

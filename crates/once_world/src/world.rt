@@ -14,7 +14,7 @@ use batches::{Batch, Batches};
 use parties::Nif;
 use ports::NoMemory;
 use record_codec::Entry;
-use record_fields::Lines;
+use record_fields::{BATCH, Lines};
 use shop_core::{
     Ask, Planned, State, a_run_of_a_history_is_linked, a_sale_has_a_new_number, legal_is_chained,
     what_is_made_is_a_record,
@@ -95,7 +95,7 @@ impl World {
             && !self.doubt
             && self.learnt.is_none()
             && 1 <= count
-            && count <= 1000
+            && count <= BATCH
             && u32::from(count) <= waiting
     }
 
@@ -138,7 +138,7 @@ impl World {
     fn look(&mut self, alloc: Global) -> Result<(), NoMemory>
         ensures { OnOk result (self.new ≡ spec.after_look self.old) }
     {
-        let records = self.state.waiting_records(alloc, 1000)?;
+        let records = self.state.waiting_records(alloc, BATCH)?;
         let lines = lines_in_front(alloc, &self.processed, &records)?;
         self.learnt = if lines.is_empty() {
             None

@@ -1,7 +1,8 @@
 -- The tax numbers: their three shapes and their control bytes. Persons: Real Decreto 1065/2007, articles 19 and 20.
 -- Entities: Orden EHA/451/2008. That an entity's control may be the digit or the letter, whatever its first letter, is this
 -- project's own.
-use Rattle.std.specs.Prelude.{◌≡◌, ℕ, ◌+◌, ◌-◌, ◌*◌, ◌/◌, ◌%◌, ◌&&◌, ◌||◌, ◌==◌, nat_le, Bool, true, List, length, codes, slice_index, if◌then◌else◌}
+use Rattle.std.specs.Prelude.{◌≡◌, ℕ, ◌+◌, ◌-◌, ◌*◌, ◌/◌, ◌%◌, ◌&&◌, ◌||◌, ◌==◌, nat_le, Bool, true, List, length, codes}
+use Rattle.std.specs.Prelude.{slice_index, if◌then◌else◌}
 
 -- a byte of this kind
 abbrev pub is_digit : ℕ → Bool

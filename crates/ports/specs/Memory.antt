@@ -1,7 +1,8 @@
 -- What a device in memory holds, and what one call of it leaves.
 use Rattle.std.specs.Prelude.{◌≡◌, ℕ, ◌+◌, ◌-◌, ◌^◌, min, List, Contains, Result, MatchResult}
 
--- the bytes (a source's are those still to come, a sink's those it took), the numbers of the calls that fail, and the calls and failures so far
+-- the bytes (a source's are those still to come, a sink's those it took), the numbers of the calls that fail, and the calls and
+-- failures so far
 pub record Held : Type 0 where
   pub bytes : List ℕ
   pub failing : List ℕ

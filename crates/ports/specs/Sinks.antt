@@ -13,7 +13,12 @@ pub record Sinks : Type 0 where
 
 -- this sink in this call: of its kind, before and after
 abbrev pub this_sink : {K : Type 0} → (K → Option (List ℕ)) → (K → ℕ) → K → K → Sinks
-this_sink taken faults old new = record { taken = taken old; taken_after = taken new; faults = faults old; faults_after = faults new }
+this_sink taken faults old new = record {
+  taken = taken old;
+  taken_after = taken new;
+  faults = faults old;
+  faults_after = faults new;
+}
 
 abbrev pub WroteNothing : Sinks → Type 0
 WroteNothing s = Appends s.taken s.taken_after []

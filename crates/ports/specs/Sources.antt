@@ -11,7 +11,12 @@ pub record Sources : Type 0 where
 
 -- this source in this call: of its kind, before and after
 abbrev pub this_source : {S : Type 0} → (S → Option (List ℕ)) → (S → ℕ) → S → S → Sources
-this_source left faults old new = record { left = left old; left_after = left new; faults = faults old; faults_after = faults new }
+this_source left faults old new = record {
+  left = left old;
+  left_after = left new;
+  faults = faults old;
+  faults_after = faults new;
+}
 
 -- the source failed in the call
 abbrev pub SourceRose : Sources → Type 0

@@ -1,5 +1,6 @@
 // Devices in memory, which tell what they hold.
-ghost use Rattle.std.specs.Prelude.{◌≡◌, ℕ, ◌+◌, ◌*◌, ◌-◌, ◌^◌, ◌<◌, ◌≤◌, ◌↔◌, [], drop, take, length, min, vec_len, Some, slice_index, IsErr, IfOk};
+ghost use Rattle.std.specs.Prelude.{◌≡◌, ℕ, ◌+◌, ◌*◌, ◌-◌, ◌^◌, ◌<◌, ◌≤◌, ◌↔◌, [], drop, take, length, min, vec_len, Some};
+ghost use Rattle.std.specs.Prelude.{slice_index, IsErr, IfOk};
 ghost use Rattle.ports.specs.Causes.{HasCause};
 ghost use Rattle.ports.specs.Given.{Reads, Writes, IsWithin};
 ghost use Rattle.ports.specs.Memory.{Held, counted, IsListed, IsOneCall};
@@ -27,7 +28,12 @@ impl Model for MemSource {
 
     ghost Value = { Held };
 
-    ghost view = { λ s. record { bytes = drop s.at s.content.items; failing = s.listed.items; calls = s.call_count; faults = s.fault_count } };
+    ghost view = { λ s. record {
+      bytes = drop s.at s.content.items;
+      failing = s.listed.items;
+      calls = s.call_count;
+      faults = s.fault_count;
+    } };
 
     ghost invariant = { λ s. s.at ≤ vec_len s.content };
 }
@@ -98,7 +104,12 @@ impl Model for MemSink {
 
     ghost Value = { Held };
 
-    ghost view = { λ s. record { bytes = s.content.items; failing = s.listed.items; calls = s.call_count; faults = s.fault_count } };
+    ghost view = { λ s. record {
+      bytes = s.content.items;
+      failing = s.listed.items;
+      calls = s.call_count;
+      faults = s.fault_count;
+    } };
 }
 
 impl MemSink {
@@ -198,7 +209,8 @@ impl ListClock {
     /// A clock of these values, of which there is one at least.
     pub fn new(values: Vec<u64>) -> Self
         requires { 0 < vec_len values }
-        ensures { (k : ℕ) → ⟦<ListClock as Clock>⟧.coming result k ≡ Some (slice_index values.items (min k (vec_len values - 1))) }
+        ensures { (k : ℕ) →
+            ⟦<ListClock as Clock>⟧.coming result k ≡ Some (slice_index values.items (min k (vec_len values - 1))) }
     {
         ListClock {
             last: 0,

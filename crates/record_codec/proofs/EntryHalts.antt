@@ -1,5 +1,7 @@
 -- Where the readers of an entry's parts and of an entry halt.
-use Rattle.std.proofs.Common.{◌≡◌, ◌⊎◌, ℕ, zero, suc, ◌+◌, ◌-◌, ◌^◌, ◌≤◌, Bool, true, false, List, [], ◌∷◌, ◌++◌, length, take, drop, Option, Some, None, Result, Ok, Err, refl, sym, ap, subst, ◌∙◌, append_assoc, arith, inl, inr, ℤ}
+use Rattle.std.proofs.Common.{◌≡◌, ◌⊎◌, ℕ, zero, suc, ◌+◌, ◌-◌, ◌^◌, ◌≤◌, Bool, true, false, List, [], ◌∷◌, ◌++◌, length, take}
+use Rattle.std.proofs.Common.{drop, Option, Some, None, Result, Ok, Err, refl, sym, ap, subst, ◌∙◌, append_assoc, arith, inl, inr}
+use Rattle.std.proofs.Common.{ℤ}
 use Rattle.std.specs.Prelude.{⊤}
 use Rattle.std.specs.Int.{w16, w32, w64, to_be_bytes, cast_unsigned, IsInRange}
 use Rattle.std.specs.List.{flat_map, concat, AllByRecursion}
@@ -35,23 +37,40 @@ use Rattle.record_codec.specs.declared.entries.TheConstants.{LAST_TILL}
 use Rattle.record_codec.specs.declared.entries.Entry.{Entry}
 use Rattle.record_codec.specs.declared.entries.Entry.TheVariants.{Rec, Notes}
 use Rattle.record_codec.specs.declared.faults.BadEntry.TheVariants as bad
-use Rattle.record_codec.specs.Bytes.{text_bytes, id_bytes, customer_bytes, refs_bytes, tax_line_bytes, draft_bytes, link_bytes, line_bytes}
+use Rattle.record_codec.specs.Bytes.{text_bytes, id_bytes, customer_bytes, refs_bytes, tax_line_bytes, draft_bytes, link_bytes}
+use Rattle.record_codec.specs.Bytes.{line_bytes}
 use Rattle.record_codec.specs.Codes.{flag_code, kind_code, kinds, rect_code, rects, previo_code, previos, classes, of_code}
 use Rattle.record_codec.specs.Fields.{AreBytes, IsHuella, IsMoment, IsLink, IsLine, IsFullDraft, IsNoEncoding}
 use Rattle.record_codec.specs.Laws.{AFaultIsBehindWholeFields}
-use Rattle.record_codec.specs.Layout.{byte_field, id_fields, party_fields, customer_fields, refs_fields, tax_line_fields, breakdown_fields, draft_fields, link_fields, moment_fields, alta_fields, anulacion_fields, said_fields, entry_fields, front_of, IsLongestFront}
-use Rattle.record_codec.specs.Reading.{◌>>=◌, byte_at, fixed_at, text_at, number_at, number_in, flag_at, nif_in, base_in, offset_in, is_name, line_in, huella_at, id_at, party_at, customer_behind, customer_at, refs_at, tax_line_at, breakdown_at, draft_at, link_behind, link_at, moment_at, alta_at, anulacion_at, body_at, notes_at, rec_at, entry_behind, entry_at, entry_in, IsDecoded}
+use Rattle.record_codec.specs.Layout.{byte_field, id_fields, party_fields, customer_fields, refs_fields, tax_line_fields}
+use Rattle.record_codec.specs.Layout.{breakdown_fields, draft_fields, link_fields, moment_fields, alta_fields, anulacion_fields}
+use Rattle.record_codec.specs.Layout.{said_fields, entry_fields, front_of, IsLongestFront}
+use Rattle.record_codec.specs.Reading.{◌>>=◌, byte_at, fixed_at, text_at, number_at, number_in, flag_at, nif_in, base_in}
+use Rattle.record_codec.specs.Reading.{offset_in, is_name, line_in, huella_at, id_at, party_at, customer_behind, customer_at}
+use Rattle.record_codec.specs.Reading.{refs_at, tax_line_at, breakdown_at, draft_at, link_behind, link_at, moment_at, alta_at}
+use Rattle.record_codec.specs.Reading.{anulacion_at, body_at, notes_at, rec_at, entry_behind, entry_at, entry_in, IsDecoded}
 use Rattle.record_codec.proofs.BreakdownLemmas.{breakdown_from, breakdown_has}
-use Rattle.record_codec.proofs.EntryLemmas.{IsTextParty, IsTextCustomer, none_fits, some_fits, HasBase, id_is, id_reads, party_is, customer_reads, refs_reads, huella_behind, link_reads, moment_is, tax_line_is, tax_line_reads}
-use Rattle.record_codec.proofs.EntryReaders.{draft_of, draft_is, draft_full, draft_parted, draft_reads, IsAltaOf, alta_of, alta_is, alta_parted, IsAnulacionOf, anulacion_of, anulacion_is, anulacion_parted}
-use Rattle.record_codec.proofs.FieldHalts.{alone, Halts-text, Halts-number, Halts-byte_in, flag_halts, kind_halts, rect_halts, previo_halts, class_halts, nif_halts, huella_halts, base_halts, offset_halts, line_halts, Halts-counted}
+use Rattle.record_codec.proofs.EntryLemmas.{IsTextParty, IsTextCustomer, none_fits, some_fits, HasBase, id_is, id_reads, party_is}
+use Rattle.record_codec.proofs.EntryLemmas.{customer_reads, refs_reads, huella_behind, link_reads, moment_is, tax_line_is}
+use Rattle.record_codec.proofs.EntryLemmas.{tax_line_reads}
+use Rattle.record_codec.proofs.EntryReaders.{draft_of, draft_is, draft_full, draft_parted, draft_reads, IsAltaOf, alta_of}
+use Rattle.record_codec.proofs.EntryReaders.{alta_is, alta_parted, IsAnulacionOf, anulacion_of, anulacion_is, anulacion_parted}
+use Rattle.record_codec.proofs.FieldHalts.{alone, Halts-text, Halts-number, Halts-byte_in, flag_halts, kind_halts, rect_halts}
+use Rattle.record_codec.proofs.FieldHalts.{previo_halts, class_halts, nif_halts, huella_halts, base_halts, offset_halts}
+use Rattle.record_codec.proofs.FieldHalts.{line_halts, Halts-counted}
 use Rattle.record_codec.proofs.FieldLemmas.{Reads-text}
-use Rattle.record_codec.proofs.FieldReaders.{wide16, wide32, wide64, Reads-number, Reads-byte_in, flag_reads, kind_reads, rect_reads, previo_reads, class_reads, nif_reads, IsBase, line_reads}
+use Rattle.record_codec.proofs.FieldReaders.{wide16, wide32, wide64, Reads-number, Reads-byte_in, flag_reads, kind_reads}
+use Rattle.record_codec.proofs.FieldReaders.{rect_reads, previo_reads, class_reads, nif_reads, IsBase, line_reads}
 use Rattle.record_codec.proofs.Halts.{Begun, left_by, Halts, Halts-none, Halts-then, Halts-through, Halts-as, Halts-is, Halts-and}
-use Rattle.record_codec.proofs.LayoutLemmas.{id_whole, customer_whole, refs_whole, tax_line_whole, draft_whole, link_whole, said_whole, whole}
+use Rattle.record_codec.proofs.LayoutLemmas.{id_whole, customer_whole, refs_whole, tax_line_whole, draft_whole, link_whole}
+use Rattle.record_codec.proofs.LayoutLemmas.{said_whole, whole}
 use Rattle.record_codec.proofs.Readers.{pair_at, both_at}
 use Rattle.record_codec.proofs.RecordReaders as readers
-use Rattle.record_codec.proofs.RecordReaders.{said_bytes, IsBodyOf, body_reads, rec_of, rec_is, IsRecOf, rec_fits, rec_parted, counted_lines, notes_of, notes_is, AreLines, AreNotesOf, notes_parted, sort_of, IsEntryOf, IsBehind, alta_behind, behind_alta, anulacion_behind, behind_anulacion, notes_behind, behind_notes, entry_in_range, entry_reads, erred_at, in_takes, in_fails, not_refused}
+use Rattle.record_codec.proofs.RecordReaders.{said_bytes, IsBodyOf, body_reads, rec_of, rec_is, IsRecOf, rec_fits, rec_parted}
+use Rattle.record_codec.proofs.RecordReaders.{counted_lines, notes_of, notes_is, AreLines, AreNotesOf, notes_parted, sort_of}
+use Rattle.record_codec.proofs.RecordReaders.{IsEntryOf, IsBehind, alta_behind, behind_alta, anulacion_behind, behind_anulacion}
+use Rattle.record_codec.proofs.RecordReaders.{notes_behind, behind_notes, entry_in_range, entry_reads, erred_at, in_takes}
+use Rattle.record_codec.proofs.RecordReaders.{in_fails, not_refused}
 use Rattle.record_codec.proofs.ValueLemmas.{name_is, name_yes}
 
 -- ---- the parts of a record
@@ -61,7 +80,8 @@ id_of p = record { num = p.0; day = p.1 }
 
 id_halts : Halts id_at id_fields IsId
 id_halts =
-    Halts-is (λ bytes. (pair_at (text_at is_num_serie) (number_at w32 0 last_day)) bytes >>= λ (p : (List ℕ × (ℕ)) × List ℕ). Ok (id_of p.0, p.1)) id_at id_fields IsId
+    Halts-is (λ bytes. (pair_at (text_at is_num_serie) (number_at w32 0 last_day)) bytes >>= λ (p : (List ℕ × (ℕ)) × List ℕ). Ok
+    (id_of p.0, p.1)) id_at id_fields IsId
     (Halts-through (pair_at (text_at is_num_serie) (number_at w32 0 last_day)) id_of
     (λ (p : List ℕ × (ℕ)). ((text_bytes p.0) ∷ []) ++ (((to_be_bytes w32 p.1) ∷ [])))
     id_fields
@@ -84,7 +104,8 @@ sample_name = rw (is_utf8-from_IsUtf8 (65 ∷ []) (IsUtf8-from_ascii (65 ∷ [])
 
 party_halts : Halts party_at party_fields IsTextParty
 party_halts =
-    Halts-is (λ bytes. (pair_at (fixed_at 9 nif_in) (text_at is_name)) bytes >>= λ (p : (List ℕ × (List ℕ)) × List ℕ). Ok (named p.0, p.1)) party_at party_fields IsTextParty
+    Halts-is (λ bytes. (pair_at (fixed_at 9 nif_in) (text_at is_name)) bytes >>= λ (p : (List ℕ × (List ℕ)) × List ℕ). Ok
+    (named p.0, p.1)) party_at party_fields IsTextParty
     (Halts-through (pair_at (fixed_at 9 nif_in) (text_at is_name)) named
     (λ (p : List ℕ × (List ℕ)). ((p.0) ∷ []) ++ (((text_bytes p.1) ∷ [])))
     party_fields
@@ -111,19 +132,23 @@ no_fields : (customer : Option Party) → (is_there customer ≡ false) × IsTex
 no_fields None is = refl
 no_fields (Some party) is = let never = is.0 in absurd cc
 
-party_of : (customer : Option Party) → (is_there customer ≡ true) × IsTextCustomer customer → (party : Party) × IsTextParty party × (Some party ≡ customer)
+party_of : (customer : Option Party) → (is_there customer ≡ true) × IsTextCustomer customer → (party : Party) ×
+    IsTextParty party × (Some party ≡ customer)
 party_of None is = let never = is.0 in absurd cc
 party_of (Some party) is = (party, is.1 party refl, refl)
 
-customer_behind_halts : (flag : Bool) → Halts (customer_behind flag) behind_flag (λ customer. (is_there customer ≡ flag) × IsTextCustomer customer)
+customer_behind_halts : (flag : Bool) → Halts (customer_behind flag) behind_flag (λ customer. (is_there customer ≡ flag) ×
+    IsTextCustomer customer)
 customer_behind_halts false =
-    Halts-none {A = Option Party} None behind_flag (λ (customer : Option Party). (is_there customer ≡ false) × IsTextCustomer customer) (refl, none_fits) no_fields
+    Halts-none {A = Option Party} None behind_flag (λ (customer : Option Party). (is_there customer ≡ false) ×
+    IsTextCustomer customer) (refl, none_fits) no_fields
 customer_behind_halts true =
     Halts-through party_at (λ (party : Party). Some party) party_fields behind_flag IsTextParty
     (λ (customer : Option Party). (is_there customer ≡ true) × IsTextCustomer customer) party_halts
     (λ party is. ((refl, some_fits party is), refl)) party_of
 
-customer_laid : (customer : Option Party) → customer_fields customer ≡ byte_field (flag_code (is_there customer)) ∷ behind_flag customer
+customer_laid : (customer : Option Party) → customer_fields customer ≡ byte_field (flag_code (is_there customer)) ∷ behind_flag
+    customer
 customer_laid None = refl
 customer_laid (Some party) = refl
 
@@ -133,7 +158,8 @@ customer_halts =
     Halts-as (λ bytes. flag_at bytes >>= λ f. customer_behind f.0 f.1) customer_at
     (λ (customer : Option Party). byte_field (flag_code (is_there customer)) ∷ behind_flag customer) customer_fields
     (λ (customer : Option Party). ⊤ × IsTextCustomer customer) IsTextCustomer
-    (Halts-then flag_at customer_behind (λ flag. flag_code flag ∷ []) (λ flag. byte_field (flag_code flag) ∷ []) behind_flag (λ _. ⊤) IsTextCustomer is_there
+    (Halts-then flag_at customer_behind (λ flag. flag_code flag ∷ []) (λ flag. byte_field (flag_code flag) ∷ []) behind_flag
+    (λ _. ⊤) IsTextCustomer is_there
     flag_reads (λ flag. alone (flag_code flag ∷ [])) flag_halts (λ flag _. customer_behind_halts flag))
     (λ bytes. refl) customer_laid (λ customer fits. fits.1) (λ customer is. (tt, is))
 
@@ -148,7 +174,8 @@ line_of p = record { key = p.0; base = p.1 }
 
 tax_line_halts : Halts tax_line_at tax_line_fields HasBase
 tax_line_halts =
-    Halts-is (λ bytes. (pair_at (byte_at (of_code key_code classes)) (fixed_at 8 base_in)) bytes >>= λ (p : (LineKey × (ℤ)) × List ℕ). Ok (line_of p.0, p.1)) tax_line_at tax_line_fields HasBase
+    Halts-is (λ bytes. (pair_at (byte_at (of_code key_code classes)) (fixed_at 8 base_in)) bytes >>= λ (p : (LineKey × (ℤ)) ×
+    List ℕ). Ok (line_of p.0, p.1)) tax_line_at tax_line_fields HasBase
     (Halts-through (pair_at (byte_at (of_code key_code classes)) (fixed_at 8 base_in)) line_of
     (λ (p : LineKey × (ℤ)). ((key_code p.0 ∷ []) ∷ []) ++ (((to_be_bytes w64 (cast_unsigned w64 p.1)) ∷ [])))
     tax_line_fields
@@ -166,38 +193,56 @@ tax_line_halts =
 breakdown_halts : Halts breakdown_at breakdown_fields IsBreakdown
 unfolding breakdown_at
 breakdown_halts =
-    Halts-as breakdown_at breakdown_at breakdown_fields breakdown_fields (λ (lines : List TaxLine). IsInRange 1 MAX_LINES (length lines) × AllByRecursion HasBase lines) IsBreakdown
-    (Halts-counted (byte_at (number_in 1 MAX_LINES)) tax_line_at (λ n. n ∷ []) tax_line_bytes tax_line_fields (IsInRange 1 MAX_LINES) HasBase
-    (Reads-byte_in 1 MAX_LINES (omega arith)) (Halts-byte_in 1 MAX_LINES (omega arith) (omega arith)) tax_line_reads tax_line_whole tax_line_halts)
-    (λ bytes. refl) (λ lines. refl) (λ lines fits. breakdown_from lines fits.0 fits.1) (λ lines is. (is.few, breakdown_has lines is))
+    Halts-as breakdown_at breakdown_at breakdown_fields breakdown_fields (λ (lines : List TaxLine). IsInRange 1 MAX_LINES
+    (length lines) × AllByRecursion HasBase lines) IsBreakdown
+    (Halts-counted (byte_at (number_in 1 MAX_LINES)) tax_line_at (λ n. n ∷ []) tax_line_bytes tax_line_fields
+    (IsInRange 1 MAX_LINES) HasBase
+    (Reads-byte_in 1 MAX_LINES (omega arith)) (Halts-byte_in 1 MAX_LINES (omega arith) (omega arith)) tax_line_reads
+    tax_line_whole tax_line_halts)
+    (λ bytes. refl) (λ lines. refl) (λ lines fits. breakdown_from lines fits.0 fits.1)
+    (λ lines is. (is.few, breakdown_has lines is))
 
 draft_laid : (p : Kind × (Option RectKind × (Option Party × (List InvoiceId × List TaxLine)))) → draft_fields (draft_of p)
-    ≡ byte_field (kind_code p.0) ∷ byte_field (rect_code p.1.0) ∷ (customer_fields p.1.1.0 ++ (refs_fields p.1.1.1.0 ++ breakdown_fields p.1.1.1.1))
+    ≡ byte_field (kind_code p.0) ∷ byte_field (rect_code p.1.0) ∷
+    (customer_fields p.1.1.0 ++ (refs_fields p.1.1.1.0 ++ breakdown_fields p.1.1.1.1))
 draft_laid p =
     ap (λ (xs : List (List ℕ)). byte_field (kind_code p.0) ∷ byte_field (rect_code p.1.0) ∷ xs)
     (append_assoc (customer_fields p.1.1.0) (refs_fields p.1.1.1.0) (breakdown_fields p.1.1.1.1))
 
 draft_halts : Halts draft_at draft_fields IsFullDraft
 draft_halts =
-    Halts-is (λ bytes. (pair_at (byte_at (of_code kind_code kinds)) (pair_at (byte_at (of_code rect_code rects)) (pair_at customer_at (pair_at refs_at breakdown_at)))) bytes >>= λ (p : (Kind × (Option RectKind × (Option Party × (List InvoiceId × (List TaxLine))))) × List ℕ). Ok (draft_of p.0, p.1)) draft_at draft_fields IsFullDraft
-    (Halts-through (pair_at (byte_at (of_code kind_code kinds)) (pair_at (byte_at (of_code rect_code rects)) (pair_at customer_at (pair_at refs_at breakdown_at)))) draft_of
-    (λ (p : Kind × (Option RectKind × (Option Party × (List InvoiceId × (List TaxLine))))). ((kind_code p.0 ∷ []) ∷ []) ++ (((rect_code p.1.0 ∷ []) ∷ []) ++ (customer_fields p.1.1.0 ++ (refs_fields p.1.1.1.0 ++ (breakdown_fields p.1.1.1.1)))))
+    Halts-is (λ bytes. (pair_at (byte_at (of_code kind_code kinds)) (pair_at (byte_at (of_code rect_code rects))
+    (pair_at customer_at (pair_at refs_at breakdown_at)))) bytes >>= λ
+    (p : (Kind × (Option RectKind × (Option Party × (List InvoiceId × (List TaxLine))))) × List ℕ). Ok (draft_of p.0, p.1))
+    draft_at draft_fields IsFullDraft
+    (Halts-through (pair_at (byte_at (of_code kind_code kinds)) (pair_at (byte_at (of_code rect_code rects))
+    (pair_at customer_at (pair_at refs_at breakdown_at)))) draft_of
+    (λ (p : Kind × (Option RectKind × (Option Party × (List InvoiceId × (List TaxLine))))). ((kind_code p.0 ∷ []) ∷ []) ++
+    (((rect_code p.1.0 ∷ []) ∷ []) ++ (customer_fields p.1.1.0 ++ (refs_fields p.1.1.1.0 ++ (breakdown_fields p.1.1.1.1)))))
     draft_fields
-    (λ (p : Kind × (Option RectKind × (Option Party × (List InvoiceId × (List TaxLine))))). ⊤ × (⊤ × (IsTextCustomer p.1.1.0 × ((IsInRange 0 MAX_REFS (length p.1.1.1.0) × AllByRecursion IsId p.1.1.1.0) × (IsBreakdown p.1.1.1.1))))) IsFullDraft
-    (Halts-and (byte_at (of_code kind_code kinds)) (pair_at (byte_at (of_code rect_code rects)) (pair_at customer_at (pair_at refs_at breakdown_at)))
+    (λ (p : Kind × (Option RectKind × (Option Party × (List InvoiceId × (List TaxLine))))). ⊤ ×
+    (⊤ × (IsTextCustomer p.1.1.0 × ((IsInRange 0 MAX_REFS (length p.1.1.1.0) × AllByRecursion IsId p.1.1.1.0) ×
+    (IsBreakdown p.1.1.1.1))))) IsFullDraft
+    (Halts-and (byte_at (of_code kind_code kinds)) (pair_at (byte_at (of_code rect_code rects))
+    (pair_at customer_at (pair_at refs_at breakdown_at)))
     (λ (x : Kind). kind_code x ∷ []) (λ (x : Kind). ((kind_code x ∷ []) ∷ []))
-    (λ (p : Option RectKind × (Option Party × (List InvoiceId × (List TaxLine)))). ((rect_code p.0 ∷ []) ∷ []) ++ (customer_fields p.1.0 ++ (refs_fields p.1.1.0 ++ (breakdown_fields p.1.1.1))))
-    (λ (x : Kind). ⊤) (λ (p : Option RectKind × (Option Party × (List InvoiceId × (List TaxLine)))). ⊤ × (IsTextCustomer p.1.0 × ((IsInRange 0 MAX_REFS (length p.1.1.0) × AllByRecursion IsId p.1.1.0) × (IsBreakdown p.1.1.1))))
+    (λ (p : Option RectKind × (Option Party × (List InvoiceId × (List TaxLine)))). ((rect_code p.0 ∷ []) ∷ []) ++
+    (customer_fields p.1.0 ++ (refs_fields p.1.1.0 ++ (breakdown_fields p.1.1.1))))
+    (λ (x : Kind). ⊤) (λ (p : Option RectKind × (Option Party × (List InvoiceId × (List TaxLine)))). ⊤ ×
+    (IsTextCustomer p.1.0 × ((IsInRange 0 MAX_REFS (length p.1.1.0) × AllByRecursion IsId p.1.1.0) × (IsBreakdown p.1.1.1))))
     kind_reads (λ (x : Kind). alone (kind_code x ∷ [])) kind_halts
     (Halts-and (byte_at (of_code rect_code rects)) (pair_at customer_at (pair_at refs_at breakdown_at))
     (λ (x : Option RectKind). rect_code x ∷ []) (λ (x : Option RectKind). ((rect_code x ∷ []) ∷ []))
-    (λ (p : Option Party × (List InvoiceId × (List TaxLine))). customer_fields p.0 ++ (refs_fields p.1.0 ++ (breakdown_fields p.1.1)))
-    (λ (x : Option RectKind). ⊤) (λ (p : Option Party × (List InvoiceId × (List TaxLine))). IsTextCustomer p.0 × ((IsInRange 0 MAX_REFS (length p.1.0) × AllByRecursion IsId p.1.0) × (IsBreakdown p.1.1)))
+    (λ (p : Option Party × (List InvoiceId × (List TaxLine))). customer_fields p.0 ++
+    (refs_fields p.1.0 ++ (breakdown_fields p.1.1)))
+    (λ (x : Option RectKind). ⊤) (λ (p : Option Party × (List InvoiceId × (List TaxLine))). IsTextCustomer p.0 ×
+    ((IsInRange 0 MAX_REFS (length p.1.0) × AllByRecursion IsId p.1.0) × (IsBreakdown p.1.1)))
     rect_reads (λ (x : Option RectKind). alone (rect_code x ∷ [])) rect_halts
     (Halts-and customer_at (pair_at refs_at breakdown_at)
     (λ (x : Option Party). customer_bytes x) (λ (x : Option Party). customer_fields x)
     (λ (p : List InvoiceId × (List TaxLine)). refs_fields p.0 ++ (breakdown_fields p.1))
-    (λ (x : Option Party). IsTextCustomer x) (λ (p : List InvoiceId × (List TaxLine)). (IsInRange 0 MAX_REFS (length p.0) × AllByRecursion IsId p.0) × (IsBreakdown p.1))
+    (λ (x : Option Party). IsTextCustomer x) (λ (p : List InvoiceId × (List TaxLine)). (IsInRange 0 MAX_REFS (length p.0) ×
+    AllByRecursion IsId p.0) × (IsBreakdown p.1))
     customer_reads customer_whole customer_halts
     (Halts-and refs_at breakdown_at
     (λ (x : List InvoiceId). refs_bytes x) (λ (x : List InvoiceId). refs_fields x)
@@ -221,7 +266,8 @@ first_bare : (link : Link) → (is_after link ≡ false) × IsLink link → behi
 first_bare First is = refl
 first_bare (After id huella) is = let never = is.0 in absurd cc
 
-link_unmade : (link : Link) → (is_after link ≡ true) × IsLink link → (p : InvoiceId × List ℕ) × (IsId p.0 × IsHuella p.1) × (After p.0 p.1 ≡ link)
+link_unmade : (link : Link) → (is_after link ≡ true) × IsLink link → (p : InvoiceId × List ℕ) × (IsId p.0 × IsHuella p.1) ×
+    (After p.0 p.1 ≡ link)
 link_unmade First is = let never = is.0 in absurd cc
 link_unmade (After id huella) is = ((id, huella), is.1, refl)
 
@@ -229,8 +275,10 @@ link_behind_halts : (flag : Bool) → Halts (link_behind flag) behind_after (λ 
 link_behind_halts false =
     Halts-none First behind_after (λ (link : Link). (is_after link ≡ false) × IsLink link) (refl, tt) first_bare
 link_behind_halts true =
-    Halts-is (both_at id_at huella_at (λ p. After p.0 p.1)) (link_behind true) behind_after (λ (link : Link). (is_after link ≡ true) × IsLink link)
-    (Halts-through (pair_at id_at huella_at) (λ (p : InvoiceId × List ℕ). After p.0 p.1) (λ (p : InvoiceId × List ℕ). id_fields p.0 ++ p.1 ∷ []) behind_after
+    Halts-is (both_at id_at huella_at (λ p. After p.0 p.1)) (link_behind true) behind_after
+    (λ (link : Link). (is_after link ≡ true) × IsLink link)
+    (Halts-through (pair_at id_at huella_at) (λ (p : InvoiceId × List ℕ). After p.0 p.1) (λ (p : InvoiceId × List ℕ). id_fields
+    p.0 ++ p.1 ∷ []) behind_after
     (λ (p : InvoiceId × List ℕ). IsId p.0 × IsHuella p.1) (λ (link : Link). (is_after link ≡ true) × IsLink link)
     (Halts-and id_at huella_at id_bytes id_fields (λ (h : List ℕ). h ∷ []) IsId IsHuella id_reads id_whole id_halts huella_halts)
     (λ p fits. ((refl, fits), refl)) link_unmade)
@@ -244,8 +292,10 @@ link_halts : Halts link_at link_fields IsLink
 unfolding link_at
 link_halts =
     Halts-as (λ bytes. flag_at bytes >>= λ f. link_behind f.0 f.1) link_at
-    (λ (link : Link). byte_field (flag_code (is_after link)) ∷ behind_after link) link_fields (λ (link : Link). ⊤ × IsLink link) IsLink
-    (Halts-then flag_at link_behind (λ flag. flag_code flag ∷ []) (λ flag. byte_field (flag_code flag) ∷ []) behind_after (λ _. ⊤) IsLink is_after
+    (λ (link : Link). byte_field (flag_code (is_after link)) ∷ behind_after link) link_fields (λ (link : Link). ⊤ × IsLink link)
+    IsLink
+    (Halts-then flag_at link_behind (λ flag. flag_code flag ∷ []) (λ flag. byte_field (flag_code flag) ∷ []) behind_after (λ _. ⊤)
+    IsLink is_after
     flag_reads (λ flag. alone (flag_code flag ∷ [])) flag_halts (λ flag _. link_behind_halts flag))
     (λ bytes. refl) link_laid (λ link fits. fits.1) (λ link is. (tt, is))
 
@@ -254,7 +304,8 @@ moment_of p = record { seconds = p.0; offset_minutes = p.1 }
 
 moment_halts : Halts moment_at moment_fields IsMoment
 moment_halts =
-    Halts-is (λ bytes. (pair_at (number_at w64 CLOCK_FROM CLOCK_TO) (fixed_at 2 offset_in)) bytes >>= λ (p : (ℕ × (ℤ)) × List ℕ). Ok (moment_of p.0, p.1)) moment_at moment_fields IsMoment
+    Halts-is (λ bytes. (pair_at (number_at w64 CLOCK_FROM CLOCK_TO) (fixed_at 2 offset_in)) bytes >>= λ (p : (ℕ × (ℤ)) × List ℕ).
+    Ok (moment_of p.0, p.1)) moment_at moment_fields IsMoment
     (Halts-through (pair_at (number_at w64 CLOCK_FROM CLOCK_TO) (fixed_at 2 offset_in)) moment_of
     (λ (p : ℕ × (ℤ)). ((to_be_bytes w64 p.0) ∷ []) ++ (((to_be_bytes w16 (cast_unsigned w16 p.1)) ∷ [])))
     moment_fields
@@ -263,7 +314,8 @@ moment_halts =
     (λ (x : ℕ). to_be_bytes w64 x) (λ (x : ℕ). ((to_be_bytes w64 x) ∷ []))
     (λ (p : ℤ). ((to_be_bytes w16 (cast_unsigned w16 p)) ∷ []))
     (λ (x : ℕ). IsInRange CLOCK_FROM CLOCK_TO x) (λ (p : ℤ). IsStampOffset p)
-    (Reads-number w64 (2 ^ 64) wide64 CLOCK_FROM CLOCK_TO (omega arith)) (λ (x : ℕ). alone (to_be_bytes w64 x)) (Halts-number w64 (2 ^ 64) wide64 CLOCK_FROM CLOCK_TO (omega arith) (omega arith))
+    (Reads-number w64 (2 ^ 64) wide64 CLOCK_FROM CLOCK_TO (omega arith)) (λ (x : ℕ). alone (to_be_bytes w64 x))
+    (Halts-number w64 (2 ^ 64) wide64 CLOCK_FROM CLOCK_TO (omega arith) (omega arith))
     offset_halts)
     (λ p fits. (record { seconds = fits.0; offset = fits.1 }, refl))
     (λ m is. ((m.seconds, m.offset_minutes), (is.seconds, is.offset), refl)))
@@ -279,19 +331,29 @@ five a b c d e = simp append_assoc
 
 alta_halts : (issuer : List ℕ) → Halts (alta_at issuer) alta_fields (IsAltaOf issuer)
 alta_halts issuer =
-    Halts-is (λ bytes. (pair_at id_at (pair_at draft_at (pair_at flag_at (pair_at (byte_at (of_code previo_code previos)) (pair_at link_at moment_at))))) bytes >>= λ (p : (InvoiceId × (Draft × (Bool × (Previo × (Link × (Moment)))))) × List ℕ). Ok ((alta_of issuer) p.0, p.1)) (alta_at issuer) alta_fields (IsAltaOf issuer)
-    (Halts-through (pair_at id_at (pair_at draft_at (pair_at flag_at (pair_at (byte_at (of_code previo_code previos)) (pair_at link_at moment_at))))) (alta_of issuer)
-    (λ (p : InvoiceId × (Draft × (Bool × (Previo × (Link × (Moment)))))). id_fields p.0 ++ (draft_fields p.1.0 ++ (((flag_code p.1.1.0 ∷ []) ∷ []) ++ (((previo_code p.1.1.1.0 ∷ []) ∷ []) ++ (link_fields p.1.1.1.1.0 ++ (moment_fields p.1.1.1.1.1))))))
+    Halts-is (λ bytes. (pair_at id_at (pair_at draft_at (pair_at flag_at (pair_at (byte_at (of_code previo_code previos))
+    (pair_at link_at moment_at))))) bytes >>= λ (p : (InvoiceId × (Draft × (Bool × (Previo × (Link × (Moment)))))) × List ℕ).
+    Ok ((alta_of issuer) p.0, p.1)) (alta_at issuer) alta_fields (IsAltaOf issuer)
+    (Halts-through (pair_at id_at (pair_at draft_at (pair_at flag_at (pair_at (byte_at (of_code previo_code previos))
+    (pair_at link_at moment_at))))) (alta_of issuer)
+    (λ (p : InvoiceId × (Draft × (Bool × (Previo × (Link × (Moment)))))). id_fields p.0 ++
+    (draft_fields p.1.0 ++ (((flag_code p.1.1.0 ∷ []) ∷ []) ++ (((previo_code p.1.1.1.0 ∷ []) ∷ []) ++
+    (link_fields p.1.1.1.1.0 ++ (moment_fields p.1.1.1.1.1))))))
     alta_fields
-    (λ (p : InvoiceId × (Draft × (Bool × (Previo × (Link × (Moment)))))). IsId p.0 × (IsFullDraft p.1.0 × (⊤ × (⊤ × (IsLink p.1.1.1.1.0 × (IsMoment p.1.1.1.1.1)))))) (IsAltaOf issuer)
-    (Halts-and id_at (pair_at draft_at (pair_at flag_at (pair_at (byte_at (of_code previo_code previos)) (pair_at link_at moment_at))))
+    (λ (p : InvoiceId × (Draft × (Bool × (Previo × (Link × (Moment)))))). IsId p.0 ×
+    (IsFullDraft p.1.0 × (⊤ × (⊤ × (IsLink p.1.1.1.1.0 × (IsMoment p.1.1.1.1.1)))))) (IsAltaOf issuer)
+    (Halts-and id_at (pair_at draft_at (pair_at flag_at (pair_at (byte_at (of_code previo_code previos))
+    (pair_at link_at moment_at))))
     (λ (x : InvoiceId). id_bytes x) (λ (x : InvoiceId). id_fields x)
-    (λ (p : Draft × (Bool × (Previo × (Link × (Moment))))). draft_fields p.0 ++ (((flag_code p.1.0 ∷ []) ∷ []) ++ (((previo_code p.1.1.0 ∷ []) ∷ []) ++ (link_fields p.1.1.1.0 ++ (moment_fields p.1.1.1.1)))))
-    (λ (x : InvoiceId). IsId x) (λ (p : Draft × (Bool × (Previo × (Link × (Moment))))). IsFullDraft p.0 × (⊤ × (⊤ × (IsLink p.1.1.1.0 × (IsMoment p.1.1.1.1)))))
+    (λ (p : Draft × (Bool × (Previo × (Link × (Moment))))). draft_fields p.0 ++ (((flag_code p.1.0 ∷ []) ∷ []) ++
+    (((previo_code p.1.1.0 ∷ []) ∷ []) ++ (link_fields p.1.1.1.0 ++ (moment_fields p.1.1.1.1)))))
+    (λ (x : InvoiceId). IsId x) (λ (p : Draft × (Bool × (Previo × (Link × (Moment))))). IsFullDraft p.0 ×
+    (⊤ × (⊤ × (IsLink p.1.1.1.0 × (IsMoment p.1.1.1.1)))))
     id_reads id_whole id_halts
     (Halts-and draft_at (pair_at flag_at (pair_at (byte_at (of_code previo_code previos)) (pair_at link_at moment_at)))
     (λ (x : Draft). draft_bytes x) (λ (x : Draft). draft_fields x)
-    (λ (p : Bool × (Previo × (Link × (Moment)))). ((flag_code p.0 ∷ []) ∷ []) ++ (((previo_code p.1.0 ∷ []) ∷ []) ++ (link_fields p.1.1.0 ++ (moment_fields p.1.1.1))))
+    (λ (p : Bool × (Previo × (Link × (Moment)))). ((flag_code p.0 ∷ []) ∷ []) ++ (((previo_code p.1.0 ∷ []) ∷ []) ++
+    (link_fields p.1.1.0 ++ (moment_fields p.1.1.1))))
     (λ (x : Draft). IsFullDraft x) (λ (p : Bool × (Previo × (Link × (Moment)))). ⊤ × (⊤ × (IsLink p.1.1.0 × (IsMoment p.1.1.1))))
     draft_reads draft_whole draft_halts
     (Halts-and flag_at (pair_at (byte_at (of_code previo_code previos)) (pair_at link_at moment_at))
@@ -312,21 +374,27 @@ alta_halts issuer =
     moment_halts)))))
     (λ p fits. (
       (record { id = fits.0; draft = fits.1.0; link = fits.1.1.1.1.0; moment = fits.1.1.1.1.1 }, refl),
-      five (id_fields p.0) (draft_fields p.1.0) (byte_field (flag_code p.1.1.0) ∷ byte_field (previo_code p.1.1.1.0) ∷ []) (link_fields p.1.1.1.1.0) (moment_fields p.1.1.1.1.1),
+      five (id_fields p.0) (draft_fields p.1.0) (byte_field (flag_code p.1.1.0) ∷ byte_field (previo_code p.1.1.1.0) ∷ [])
+          (link_fields p.1.1.1.1.0) (moment_fields p.1.1.1.1.1),
     ))
     (alta_parted issuer))
     (alta_is issuer)
 
 anulacion_halts : (issuer : List ℕ) → Halts (anulacion_at issuer) anulacion_fields (IsAnulacionOf issuer)
 anulacion_halts issuer =
-    Halts-is (λ bytes. (pair_at id_at (pair_at flag_at (pair_at flag_at (pair_at link_at moment_at)))) bytes >>= λ (p : (InvoiceId × (Bool × (Bool × (Link × (Moment))))) × List ℕ). Ok ((anulacion_of issuer) p.0, p.1)) (anulacion_at issuer) anulacion_fields (IsAnulacionOf issuer)
+    Halts-is (λ bytes. (pair_at id_at (pair_at flag_at (pair_at flag_at (pair_at link_at moment_at)))) bytes >>= λ
+    (p : (InvoiceId × (Bool × (Bool × (Link × (Moment))))) × List ℕ). Ok ((anulacion_of issuer) p.0, p.1))
+    (anulacion_at issuer) anulacion_fields (IsAnulacionOf issuer)
     (Halts-through (pair_at id_at (pair_at flag_at (pair_at flag_at (pair_at link_at moment_at)))) (anulacion_of issuer)
-    (λ (p : InvoiceId × (Bool × (Bool × (Link × (Moment))))). id_fields p.0 ++ (((flag_code p.1.0 ∷ []) ∷ []) ++ (((flag_code p.1.1.0 ∷ []) ∷ []) ++ (link_fields p.1.1.1.0 ++ (moment_fields p.1.1.1.1)))))
+    (λ (p : InvoiceId × (Bool × (Bool × (Link × (Moment))))). id_fields p.0 ++ (((flag_code p.1.0 ∷ []) ∷ []) ++
+    (((flag_code p.1.1.0 ∷ []) ∷ []) ++ (link_fields p.1.1.1.0 ++ (moment_fields p.1.1.1.1)))))
     anulacion_fields
-    (λ (p : InvoiceId × (Bool × (Bool × (Link × (Moment))))). IsId p.0 × (⊤ × (⊤ × (IsLink p.1.1.1.0 × (IsMoment p.1.1.1.1))))) (IsAnulacionOf issuer)
+    (λ (p : InvoiceId × (Bool × (Bool × (Link × (Moment))))). IsId p.0 × (⊤ × (⊤ × (IsLink p.1.1.1.0 × (IsMoment p.1.1.1.1)))))
+    (IsAnulacionOf issuer)
     (Halts-and id_at (pair_at flag_at (pair_at flag_at (pair_at link_at moment_at)))
     (λ (x : InvoiceId). id_bytes x) (λ (x : InvoiceId). id_fields x)
-    (λ (p : Bool × (Bool × (Link × (Moment)))). ((flag_code p.0 ∷ []) ∷ []) ++ (((flag_code p.1.0 ∷ []) ∷ []) ++ (link_fields p.1.1.0 ++ (moment_fields p.1.1.1))))
+    (λ (p : Bool × (Bool × (Link × (Moment)))). ((flag_code p.0 ∷ []) ∷ []) ++ (((flag_code p.1.0 ∷ []) ∷ []) ++
+    (link_fields p.1.1.0 ++ (moment_fields p.1.1.1))))
     (λ (x : InvoiceId). IsId x) (λ (p : Bool × (Bool × (Link × (Moment)))). ⊤ × (⊤ × (IsLink p.1.1.0 × (IsMoment p.1.1.1))))
     id_reads id_whole id_halts
     (Halts-and flag_at (pair_at flag_at (pair_at link_at moment_at))
@@ -347,41 +415,53 @@ anulacion_halts issuer =
     moment_halts))))
     (λ p fits. (
       (record { id = fits.0; link = fits.1.1.1.0; moment = fits.1.1.1.1 }, refl),
-      four (id_fields p.0) (byte_field (flag_code p.1.0) ∷ byte_field (flag_code p.1.1.0) ∷ []) (link_fields p.1.1.1.0) (moment_fields p.1.1.1.1),
+      four (id_fields p.0) (byte_field (flag_code p.1.0) ∷ byte_field (flag_code p.1.1.0) ∷ []) (link_fields p.1.1.1.0)
+          (moment_fields p.1.1.1.1),
     ))
     (anulacion_parted issuer))
     (anulacion_is issuer)
 
 body_halts : (alta : Bool) (issuer : List ℕ) → Halts (body_at alta issuer) said_fields (IsBodyOf alta issuer)
 body_halts true issuer =
-    Halts-through (alta_at issuer) (λ alta. record_of.Alta alta) alta_fields said_fields (IsAltaOf issuer) (IsBodyOf true issuer) (alta_halts issuer)
+    Halts-through (alta_at issuer) (λ alta. record_of.Alta alta) alta_fields said_fields (IsAltaOf issuer) (IsBodyOf true issuer)
+    (alta_halts issuer)
     (λ alta fits. ((refl, fits), refl)) (readers.alta_parted issuer)
 body_halts false issuer =
-    Halts-through (anulacion_at issuer) (λ anulacion. record_of.Anulacion anulacion) anulacion_fields said_fields (IsAnulacionOf issuer) (IsBodyOf false issuer)
+    Halts-through (anulacion_at issuer) (λ anulacion. record_of.Anulacion anulacion) anulacion_fields said_fields
+    (IsAnulacionOf issuer) (IsBodyOf false issuer)
     (anulacion_halts issuer) (λ anulacion fits. ((refl, fits), refl)) (readers.anulacion_parted issuer)
 
 -- what follows the first byte of an entry
 abbrev behind_sort : Entry → List (List ℕ)
 behind_sort (Rec till serial sealed) = byte_field till ∷ to_be_bytes w32 serial ∷ said_fields sealed.body ++ sealed.huella ∷ []
-behind_sort (Notes first lines) = to_be_bytes w32 first ∷ to_be_bytes w16 (length lines) ∷ flat_map (λ (line : Line). line_bytes line ∷ []) lines
+behind_sort (Notes first lines) = to_be_bytes w32 first ∷ to_be_bytes w16 (length lines) ∷ flat_map
+    (λ (line : Line). line_bytes line ∷ []) lines
 
 rec_halts : (alta : Bool) (issuer : List ℕ) → Halts (rec_at alta issuer) behind_sort (IsRecOf alta issuer)
 rec_halts alta issuer =
-    Halts-is (λ bytes. (pair_at (byte_at (number_in 1 LAST_TILL)) (pair_at (number_at w32 1 4_294_967_295) (pair_at (body_at alta issuer) huella_at))) bytes >>= λ (p : (ℕ × (ℕ × (Record × (List ℕ)))) × List ℕ). Ok (rec_of p.0, p.1)) (rec_at alta issuer) behind_sort (IsRecOf alta issuer)
-    (Halts-through (pair_at (byte_at (number_in 1 LAST_TILL)) (pair_at (number_at w32 1 4_294_967_295) (pair_at (body_at alta issuer) huella_at))) rec_of
-    (λ (p : ℕ × (ℕ × (Record × (List ℕ)))). ((p.0 ∷ []) ∷ []) ++ (((to_be_bytes w32 p.1.0) ∷ []) ++ (said_fields p.1.1.0 ++ (((p.1.1.1) ∷ [])))))
+    Halts-is (λ bytes. (pair_at (byte_at (number_in 1 LAST_TILL)) (pair_at (number_at w32 1 4_294_967_295)
+    (pair_at (body_at alta issuer) huella_at))) bytes >>= λ (p : (ℕ × (ℕ × (Record × (List ℕ)))) × List ℕ). Ok
+    (rec_of p.0, p.1)) (rec_at alta issuer) behind_sort (IsRecOf alta issuer)
+    (Halts-through (pair_at (byte_at (number_in 1 LAST_TILL)) (pair_at (number_at w32 1 4_294_967_295)
+    (pair_at (body_at alta issuer) huella_at))) rec_of
+    (λ (p : ℕ × (ℕ × (Record × (List ℕ)))). ((p.0 ∷ []) ∷ []) ++ (((to_be_bytes w32 p.1.0) ∷ []) ++
+    (said_fields p.1.1.0 ++ (((p.1.1.1) ∷ [])))))
     behind_sort
-    (λ (p : ℕ × (ℕ × (Record × (List ℕ)))). IsInRange 1 LAST_TILL p.0 × (IsInRange 1 4_294_967_295 p.1.0 × (IsBodyOf alta issuer p.1.1.0 × (IsHuella p.1.1.1)))) (IsRecOf alta issuer)
-    (Halts-and (byte_at (number_in 1 LAST_TILL)) (pair_at (number_at w32 1 4_294_967_295) (pair_at (body_at alta issuer) huella_at))
+    (λ (p : ℕ × (ℕ × (Record × (List ℕ)))). IsInRange 1 LAST_TILL p.0 × (IsInRange 1 4_294_967_295 p.1.0 ×
+    (IsBodyOf alta issuer p.1.1.0 × (IsHuella p.1.1.1)))) (IsRecOf alta issuer)
+    (Halts-and (byte_at (number_in 1 LAST_TILL)) (pair_at (number_at w32 1 4_294_967_295) (pair_at (body_at alta issuer)
+    huella_at))
     (λ (x : ℕ). x ∷ []) (λ (x : ℕ). ((x ∷ []) ∷ []))
     (λ (p : ℕ × (Record × (List ℕ))). ((to_be_bytes w32 p.0) ∷ []) ++ (said_fields p.1.0 ++ (((p.1.1) ∷ []))))
-    (λ (x : ℕ). IsInRange 1 LAST_TILL x) (λ (p : ℕ × (Record × (List ℕ))). IsInRange 1 4_294_967_295 p.0 × (IsBodyOf alta issuer p.1.0 × (IsHuella p.1.1)))
+    (λ (x : ℕ). IsInRange 1 LAST_TILL x) (λ (p : ℕ × (Record × (List ℕ))). IsInRange 1 4_294_967_295 p.0 ×
+    (IsBodyOf alta issuer p.1.0 × (IsHuella p.1.1)))
     (Reads-byte_in 1 LAST_TILL (omega arith)) (λ (x : ℕ). alone (x ∷ [])) (Halts-byte_in 1 LAST_TILL (omega arith) (omega arith))
     (Halts-and (number_at w32 1 4_294_967_295) (pair_at (body_at alta issuer) huella_at)
     (λ (x : ℕ). to_be_bytes w32 x) (λ (x : ℕ). ((to_be_bytes w32 x) ∷ []))
     (λ (p : Record × (List ℕ)). said_fields p.0 ++ (((p.1) ∷ [])))
     (λ (x : ℕ). IsInRange 1 4_294_967_295 x) (λ (p : Record × (List ℕ)). IsBodyOf alta issuer p.0 × (IsHuella p.1))
-    (Reads-number w32 (2 ^ 32) wide32 1 4_294_967_295 (omega arith)) (λ (x : ℕ). alone (to_be_bytes w32 x)) (Halts-number w32 (2 ^ 32) wide32 1 4_294_967_295 (omega arith) (omega arith))
+    (Reads-number w32 (2 ^ 32) wide32 1 4_294_967_295 (omega arith)) (λ (x : ℕ). alone (to_be_bytes w32 x))
+    (Halts-number w32 (2 ^ 32) wide32 1 4_294_967_295 (omega arith) (omega arith))
     (Halts-and (body_at alta issuer) huella_at
     (λ (x : Record). said_bytes x) (λ (x : Record). said_fields x)
     (λ (p : List ℕ). ((p) ∷ []))
@@ -392,24 +472,30 @@ rec_halts alta issuer =
     (rec_parted alta issuer))
     (rec_is alta issuer)
 
-lines_halt : Halts counted_lines (λ lines. to_be_bytes w16 (length lines) ∷ flat_map (λ (line : Line). line_bytes line ∷ []) lines) AreLines
+lines_halt : Halts counted_lines (λ lines. to_be_bytes w16 (length lines) ∷ flat_map (λ (line : Line). line_bytes line ∷ [])
+    lines) AreLines
 lines_halt =
-    Halts-counted (number_at w16 1 BATCH) (fixed_at 3 line_in) (to_be_bytes w16) line_bytes (λ (line : Line). line_bytes line ∷ []) (IsInRange 1 BATCH) IsLine
-    (Reads-number w16 (2 ^ 16) wide16 1 BATCH (omega arith)) (Halts-number w16 (2 ^ 16) wide16 1 BATCH (omega arith) (omega arith))
+    Halts-counted (number_at w16 1 BATCH) (fixed_at 3 line_in) (to_be_bytes w16) line_bytes (λ (line : Line). line_bytes line ∷
+    []) (IsInRange 1 BATCH) IsLine
+    (Reads-number w16 (2 ^ 16) wide16 1 BATCH (omega arith)) (Halts-number w16 (2 ^ 16) wide16 1 BATCH (omega arith)
+    (omega arith))
     line_reads (λ line. alone (line_bytes line)) line_halts
 
 notes_halts : Halts notes_at behind_sort AreNotesOf
 notes_halts =
-    Halts-is (λ bytes. (pair_at (number_at w32 0 4_294_967_295) counted_lines) bytes >>= λ (p : (ℕ × (List Line)) × List ℕ). Ok (notes_of p.0, p.1)) notes_at behind_sort AreNotesOf
+    Halts-is (λ bytes. (pair_at (number_at w32 0 4_294_967_295) counted_lines) bytes >>= λ (p : (ℕ × (List Line)) × List ℕ). Ok
+    (notes_of p.0, p.1)) notes_at behind_sort AreNotesOf
     (Halts-through (pair_at (number_at w32 0 4_294_967_295) counted_lines) notes_of
-    (λ (p : ℕ × (List Line)). ((to_be_bytes w32 p.0) ∷ []) ++ ((to_be_bytes w16 (length p.1) ∷ flat_map (λ (line : Line). line_bytes line ∷ []) p.1)))
+    (λ (p : ℕ × (List Line)). ((to_be_bytes w32 p.0) ∷ []) ++
+    ((to_be_bytes w16 (length p.1) ∷ flat_map (λ (line : Line). line_bytes line ∷ []) p.1)))
     behind_sort
     (λ (p : ℕ × (List Line)). IsInRange 0 4_294_967_295 p.0 × (AreLines p.1)) AreNotesOf
     (Halts-and (number_at w32 0 4_294_967_295) counted_lines
     (λ (x : ℕ). to_be_bytes w32 x) (λ (x : ℕ). ((to_be_bytes w32 x) ∷ []))
     (λ (p : List Line). (to_be_bytes w16 (length p) ∷ flat_map (λ (line : Line). line_bytes line ∷ []) p))
     (λ (x : ℕ). IsInRange 0 4_294_967_295 x) (λ (p : List Line). AreLines p)
-    (Reads-number w32 (2 ^ 32) wide32 0 4_294_967_295 (omega arith)) (λ (x : ℕ). alone (to_be_bytes w32 x)) (Halts-number w32 (2 ^ 32) wide32 0 4_294_967_295 (omega arith) (omega arith))
+    (Reads-number w32 (2 ^ 32) wide32 0 4_294_967_295 (omega arith)) (λ (x : ℕ). alone (to_be_bytes w32 x))
+    (Halts-number w32 (2 ^ 32) wide32 0 4_294_967_295 (omega arith) (omega arith))
     lines_halt)
     (λ p fits. (record { first = let small = fits.0 in omega arith; few = fits.1.0; lines = fits.1.1 }, refl))
     (notes_parted))
@@ -417,13 +503,16 @@ notes_halts =
 
 -- ---- an entry
 
-behind_halts : (sort : ℕ) (issuer : List ℕ) → IsInRange 1 3 sort → Halts (entry_behind sort issuer) behind_sort (IsBehind sort issuer)
+behind_halts : (sort : ℕ) (issuer : List ℕ) → IsInRange 1 3 sort → Halts (entry_behind sort issuer) behind_sort
+    (IsBehind sort issuer)
 behind_halts zero issuer within = let low = within.0 in absurd (omega arith)
 behind_halts (suc zero) issuer within =
-    Halts-as (rec_at true issuer) (entry_behind 1 issuer) behind_sort behind_sort (IsRecOf true issuer) (IsBehind 1 issuer) (rec_halts true issuer)
+    Halts-as (rec_at true issuer) (entry_behind 1 issuer) behind_sort behind_sort (IsRecOf true issuer) (IsBehind 1 issuer)
+    (rec_halts true issuer)
     (λ bytes. refl) (λ entry. refl) (alta_behind issuer) (behind_alta issuer)
 behind_halts (suc (suc zero)) issuer within =
-    Halts-as (rec_at false issuer) (entry_behind 2 issuer) behind_sort behind_sort (IsRecOf false issuer) (IsBehind 2 issuer) (rec_halts false issuer)
+    Halts-as (rec_at false issuer) (entry_behind 2 issuer) behind_sort behind_sort (IsRecOf false issuer) (IsBehind 2 issuer)
+    (rec_halts false issuer)
     (λ bytes. refl) (λ entry. refl) (anulacion_behind issuer) (behind_anulacion issuer)
 behind_halts (suc (suc (suc zero))) issuer within =
     Halts-as notes_at (entry_behind 3 issuer) behind_sort behind_sort AreNotesOf (IsBehind 3 issuer) notes_halts
@@ -440,7 +529,8 @@ entry_halts issuer =
     Halts-as (λ bytes. byte_at (number_in 1 3) bytes >>= λ sort. entry_behind sort.0 issuer sort.1) (entry_at issuer)
     (λ (entry : Entry). byte_field (sort_of entry) ∷ behind_sort entry) entry_fields
     (λ (entry : Entry). IsInRange 1 3 (sort_of entry) × IsEntryOf issuer entry) (IsEntryOf issuer)
-    (Halts-then (byte_at (number_in 1 3)) (λ sort. entry_behind sort issuer) (λ sort. sort ∷ []) (λ sort. byte_field sort ∷ []) behind_sort
+    (Halts-then (byte_at (number_in 1 3)) (λ sort. entry_behind sort issuer) (λ sort. sort ∷ []) (λ sort. byte_field sort ∷ [])
+    behind_sort
     (IsInRange 1 3) (IsEntryOf issuer) sort_of (Reads-byte_in 1 3 (omega arith)) (λ sort. alone (sort ∷ []))
     (Halts-byte_in 1 3 (omega arith) (omega arith)) (λ sort within. behind_halts sort issuer within))
     (λ bytes. refl) entry_laid (λ entry fits. fits.1) (λ entry is. (entry_in_range entry, is))
@@ -459,7 +549,8 @@ left_is : (issuer bytes : List ℕ) (left : ℕ) → Refused issuer bytes left �
 left_is issuer bytes left (inl f) = ap left_by f
 left_is issuer bytes left (inr w) = ap left_by w.1 ∙ w.2
 
-begun_at : (issuer bytes : List ℕ) (left : ℕ) → AreBytes bytes → Refused issuer bytes left → Begun entry_fields (IsEntryOf issuer) bytes left
+begun_at : (issuer bytes : List ℕ) (left : ℕ) → AreBytes bytes → Refused issuer bytes left → Begun entry_fields (IsEntryOf issuer)
+    bytes left
 begun_at issuer bytes left are (inl f) = (entry_halts issuer).begun bytes left are f
 begun_at issuer bytes left are (inr w) =
     let t = (entry_reads issuer).takes bytes w.0.0 w.0.1 are w.1 in
@@ -474,14 +565,17 @@ begun_at issuer bytes left are (inr w) =
       long = w.2;
     }
 
-fronts : (bytes : List ℕ) (at left : ℕ) (parts before after : List (List ℕ)) (rest : List ℕ) → at + left ≡ length bytes → parts ≡ before ++ after
+fronts : (bytes : List ℕ) (at left : ℕ) (parts before after : List (List ℕ)) (rest : List ℕ) → at + left ≡ length bytes →
+    parts ≡ before ++ after
     → bytes ≡ concat before ++ rest → length rest ≡ left → concat (take (length before) parts) ≡ take at bytes
 fronts bytes at left parts before after rest sum split is long =
     let here : length (concat before) ≡ at = omega (arith, sum, ap length is, length-append (concat before) rest, long) in
-    let fields : take (length before) parts ≡ before = ap (take (length before)) split ∙ take_at before after (length before) refl in
+    let fields : take (length before) parts ≡ before = ap (take (length before)) split ∙ take_at before after (length before) refl
+    in
     ap concat fields ∙ sym (ap (take at) is ∙ take_at (concat before) rest at here)
 
-place : (issuer bytes : List ℕ) (at : ℕ) → AreBytes bytes → IsDecoded issuer bytes (Err (bad.At at)) → IsLongestFront issuer bytes at
+place : (issuer bytes : List ℕ) (at : ℕ) → AreBytes bytes → IsDecoded issuer bytes (Err (bad.At at)) → IsLongestFront issuer bytes
+    at
 place issuer bytes at are decoded =
     let left = decoded.0 in
     let how = refused issuer bytes left decoded.1 in
@@ -489,9 +583,21 @@ place issuer bytes at are decoded =
     let sum = decoded.2 in
     record {
       within = omega (arith, sum);
-      begun = (b.value, length b.before, (b.fits.1, (b.fits.0, fronts bytes at left (entry_fields b.value) b.before b.after b.rest sum b.split b.is b.long)));
+      begun = (
+        b.value,
+        length b.before,
+        (
+          b.fits.1,
+          (
+            b.fits.0,
+            fronts bytes at left (entry_fields b.value) b.before b.after b.rest
+                sum b.split b.is b.long,
+          ),
+        ),
+      );
       most = λ entry n rest issuer_is fields is.
-          let enough : left_by (entry_at issuer bytes) ≤ length rest = (entry_halts issuer).most bytes entry (take n (entry_fields entry)) (drop n (entry_fields entry)) rest are (fields, issuer_is)
+          let enough : left_by (entry_at issuer bytes) ≤ length rest = (entry_halts issuer).most bytes entry
+          (take n (entry_fields entry)) (drop n (entry_fields entry)) rest are (fields, issuer_is)
           (sym (take-append-drop n (entry_fields entry))) is in
           let least : left ≤ length rest = subst (λ (m : ℕ). m ≤ length rest) (left_is issuer bytes left how) enough in
           omega (arith, sum, least, ap length is, length-append (concat (take n (entry_fields entry))) rest);
@@ -499,7 +605,8 @@ place issuer bytes at are decoded =
 
 -- ---- there is one longest front
 
-reached : (issuer bytes : List ℕ) (one other : ℕ) → IsLongestFront issuer bytes one → IsLongestFront issuer bytes other → one ≤ other
+reached : (issuer bytes : List ℕ) (one other : ℕ) → IsLongestFront issuer bytes one → IsLongestFront issuer bytes other →
+    one ≤ other
 reached issuer bytes one other a b =
     let entry = a.begun.0 in
     let n = a.begun.1 in

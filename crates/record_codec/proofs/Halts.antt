@@ -1,5 +1,6 @@
 -- Where a reader halts: behind as many whole fields of a value as the bytes begin with.
-use Rattle.std.proofs.Common.{◌≡◌, ◌⊎◌, ℕ, ◌≤◌, List, [], ◌∷◌, ◌++◌, length, Ok, Err, refl, sym, ap, subst, ◌∙◌, append_assoc, arith, inl, inr}
+use Rattle.std.proofs.Common.{◌≡◌, ◌⊎◌, ℕ, ◌≤◌, List, [], ◌∷◌, ◌++◌, length, Ok, Err, refl, sym, ap, subst, ◌∙◌, append_assoc}
+use Rattle.std.proofs.Common.{arith, inl, inr}
 use Rattle.std.specs.List.{concat}
 use Rattle.std.proofs.lemmas.List.{append-nil}
 use Rattle.std.proofs.lemmas.List.Folds.{concat-append}
@@ -33,7 +34,8 @@ pub record Halts {A : Type 0} (read : List ℕ → Reading A) (parts : A → Lis
 -- a reader leaves no more than it was given
 pub shorter : {A : Type 0} (read : List ℕ → Reading A) (parts : A → List (List ℕ)) (Fits : A → Type 0) → Halts read parts Fits
     → (bytes : List ℕ) → AreBytes bytes → left_by (read bytes) ≤ length bytes
-shorter read parts Fits halts bytes are = halts.most bytes halts.sample [] (parts halts.sample) bytes are halts.sample_fits refl refl
+shorter read parts Fits halts bytes are = halts.most bytes halts.sample [] (parts halts.sample) bytes are halts.sample_fits refl
+    refl
 
 -- ---- one field
 
@@ -71,7 +73,16 @@ Halts-one read spell Fits reads whole value fits = record {
   sample = value;
   sample_fits = fits;
   begun = λ bytes left are e.
-      record { value = value; fits = fits; before = []; after = spell value ∷ []; rest = bytes; split = refl; is = refl; long = sym (whole bytes left e) };
+      record {
+        value = value;
+        fits = fits;
+        before = [];
+        after = spell value ∷ [];
+        rest = bytes;
+        split = refl;
+        is = refl;
+        long = sym (whole bytes left e);
+      };
   most = one_most read spell Fits reads;
 }
 
@@ -129,7 +140,8 @@ Halts-then {A} {B} first second spell parts parts_too Fits FitsToo key reads spe
               before = b.before;
               after = b.after ++ parts_too next.sample;
               rest = b.rest;
-              split = rw same.0 (ap (λ (xs : List (List ℕ)). xs ++ parts_too next.sample) b.split ∙ append_assoc b.before b.after (parts_too next.sample));
+              split = rw same.0 (ap (λ (xs : List (List ℕ)). xs ++ parts_too next.sample) b.split ∙ append_assoc b.before b.after
+                  (parts_too next.sample));
               is = b.is;
               long = b.long;
             })
@@ -143,8 +155,10 @@ Halts-then {A} {B} first second spell parts parts_too Fits FitsToo key reads spe
               before = parts w.0.0 ++ b.before;
               after = b.after;
               rest = b.rest;
-              split = rw same (ap (λ (xs : List (List ℕ)). parts w.0.0 ++ xs) b.split ∙ sym (append_assoc (parts w.0.0) b.before b.after));
-              is = t.parts ∙ ap (λ (xs : List ℕ). xs ++ w.0.1) (spelled w.0.0) ∙ ap (λ (xs : List ℕ). concat (parts w.0.0) ++ xs) b.is
+              split = rw same (ap (λ (xs : List (List ℕ)). parts w.0.0 ++ xs) b.split ∙
+                  sym (append_assoc (parts w.0.0) b.before b.after));
+              is = t.parts ∙ ap (λ (xs : List ℕ). xs ++ w.0.1) (spelled w.0.0) ∙ ap (λ (xs : List ℕ). concat (parts w.0.0) ++ xs)
+                  b.is
                   ∙ sym (append_assoc (concat (parts w.0.0)) (concat b.before) b.rest)
                   ∙ ap (λ (xs : List ℕ). xs ++ b.rest) (sym (concat-append (parts w.0.0) b.before));
               long = b.long;
@@ -157,12 +171,15 @@ Halts-then {A} {B} first second spell parts parts_too Fits FitsToo key reads spe
             shorter (second x.0) parts_too (λ b. (key b ≡ x.0) × FitsToo b) (two x.0 t.fits) x.1 t.rest_fits)
         | inr w ↦ (
             let front : concat before ≡ spell (key value) ++ concat w.0 =
-            ap concat w.1 ∙ concat-append (parts (key value)) w.0 ∙ ap (λ (xs : List ℕ). xs ++ concat w.0) (sym (spelled (key value))) in
+            ap concat w.1 ∙ concat-append (parts (key value)) w.0 ∙ ap (λ (xs : List ℕ). xs ++ concat w.0)
+            (sym (spelled (key value))) in
             let there : bytes ≡ spell (key value) ++ (concat w.0 ++ rest) =
             is ∙ ap (λ (xs : List ℕ). xs ++ rest) front ∙ append_assoc (spell (key value)) (concat w.0) rest in
-            let got : first bytes ≡ Ok (key value, concat w.0 ++ rest) = ap first there ∙ reads.again (key value) (concat w.0 ++ rest) fits.0 in
+            let got : first bytes ≡ Ok (key value, concat w.0 ++ rest) = ap first there ∙ reads.again (key value)
+            (concat w.0 ++ rest) fits.0 in
             let t = reads.takes bytes (key value) (concat w.0 ++ rest) are got in
-            let next = (two (key value) fits.0).most (concat w.0 ++ rest) value w.0 after rest t.rest_fits (refl, fits.1) w.2 refl in
+            let next = (two (key value) fits.0).most (concat w.0 ++ rest) value w.0 after rest t.rest_fits (refl, fits.1) w.2 refl
+            in
             rw got next)
       ];
 }
@@ -177,7 +194,8 @@ left_made (Err left) make n le = le
 
 -- ---- what is made of what was read
 
-pub Halts-through : {A B : Type 0} (read : List ℕ → Reading A) (make : A → B) (parts : A → List (List ℕ)) (parts_made : B → List (List ℕ))
+pub Halts-through : {A B : Type 0} (read : List ℕ → Reading A) (make : A → B) (parts : A → List (List ℕ)) (parts_made : B →
+    List (List ℕ))
     (Fits : A → Type 0) (FitsMade : B → Type 0) → Halts read parts Fits
     → ((a : A) → Fits a → FitsMade (make a) × (parts_made (make a) ≡ parts a))
     → ((b : B) → FitsMade b → (a : A) × Fits a × (make a ≡ b))
@@ -190,7 +208,16 @@ Halts-through {A} {B} read make parts parts_made Fits FitsMade halts made unmade
         | inl f ↦ (
             let b = halts.begun bytes left are f in
             let m = made b.value b.fits in
-            record { value = make b.value; fits = m.0; before = b.before; after = b.after; rest = b.rest; split = m.1 ∙ b.split; is = b.is; long = b.long })
+            record {
+              value = make b.value;
+              fits = m.0;
+              before = b.before;
+              after = b.after;
+              rest = b.rest;
+              split = m.1 ∙ b.split;
+              is = b.is;
+              long = b.long;
+            })
         | inr w ↦ absurd (given_not (make w.0.0, w.0.1) left w.2)
       ];
   most = λ bytes value before after rest are fits split is.
@@ -208,27 +235,40 @@ Halts-as read same parts parts_same Fits FitsSame halts is parted to back = reco
   sample_fits = to halts.sample halts.sample_fits;
   begun = λ bytes left are e.
       let b = halts.begun bytes left are (sym (is bytes) ∙ e) in
-      record { value = b.value; fits = to b.value b.fits; before = b.before; after = b.after; rest = b.rest; split = parted b.value ∙ b.split; is = b.is; long = b.long };
+      record {
+        value = b.value;
+        fits = to b.value b.fits;
+        before = b.before;
+        after = b.after;
+        rest = b.rest;
+        split = parted b.value ∙ b.split;
+        is = b.is;
+        long = b.long;
+      };
   most = λ bytes value before after rest are fits split there.
       rw (is bytes) (halts.most bytes value before after rest are (back value fits) (sym (parted value) ∙ split) there);
 }
 
 pub Halts-is : {A : Type 0} (read same : List ℕ → Reading A) (parts : A → List (List ℕ)) (Fits : A → Type 0)
     → Halts read parts Fits → ((bytes : List ℕ) → same bytes ≡ read bytes) → Halts same parts Fits
-Halts-is read same parts Fits halts is = Halts-as read same parts parts Fits Fits halts is (λ a. refl) (λ a fits. fits) (λ a fits. fits)
+Halts-is read same parts Fits halts is = Halts-as read same parts parts Fits Fits halts is (λ a. refl) (λ a fits. fits)
+    (λ a fits. fits)
 
 -- ---- one reader after another
 
 abbrev pair_of : {A B : Type 0} → A → B → A × B
 pair_of a b = (a, b)
 
-pub Halts-and : {A B : Type 0} (one : List ℕ → Reading A) (two : List ℕ → Reading B) (spell : A → List ℕ) (parts : A → List (List ℕ))
+pub Halts-and : {A B : Type 0} (one : List ℕ → Reading A) (two : List ℕ → Reading B) (spell : A → List ℕ) (parts : A →
+    List (List ℕ))
     (parts_too : B → List (List ℕ)) (Fits : A → Type 0) (FitsToo : B → Type 0)
     → Reads one spell Fits → ((a : A) → spell a ≡ concat (parts a)) → Halts one parts Fits → Halts two parts_too FitsToo
     → Halts {A = A × B} (pair_at one two) (λ p. parts p.0 ++ parts_too p.1) (λ p. Fits p.0 × FitsToo p.1)
 Halts-and {A} {B} one two spell parts parts_too Fits FitsToo reads spelled first second =
-    Halts-then one (λ (a : A) bytes. two bytes >>= λ b. made_at (pair_of a b.0) b.1) spell parts (λ (p : A × B). parts_too p.1) Fits (λ (p : A × B). FitsToo p.1)
+    Halts-then one (λ (a : A) bytes. two bytes >>= λ b. made_at (pair_of a b.0) b.1) spell parts (λ (p : A × B). parts_too p.1)
+    Fits (λ (p : A × B). FitsToo p.1)
     (λ (p : A × B). p.0) reads spelled first
-    (λ a fits. Halts-through two (λ (b : B). pair_of a b) parts_too (λ (p : A × B). parts_too p.1) FitsToo (λ (p : A × B). (p.0 ≡ a) × FitsToo p.1) second
+    (λ a fits. Halts-through two (λ (b : B). pair_of a b) parts_too (λ (p : A × B). parts_too p.1) FitsToo
+    (λ (p : A × B). (p.0 ≡ a) × FitsToo p.1) second
     (λ b is. ((refl, is), refl))
     (λ p is. (p.1, is.1, ap (λ (x : A). pair_of x p.1) (sym is.0))))

@@ -17,11 +17,15 @@ use Rattle.record_fields.specs.declared.records.Link.TheVariants.{First, After}
 use Rattle.record_fields.specs.declared.records.Record.{Record}
 use Rattle.record_fields.specs.declared.records.Record.TheVariants as record_of
 use Rattle.record_codec.specs.declared.entries.Entry.TheVariants.{Rec, Notes}
-use Rattle.record_codec.specs.Bytes.{text_bytes, id_bytes, party_bytes, customer_bytes, refs_bytes, tax_line_bytes, breakdown_bytes, draft_bytes, link_bytes, moment_bytes, alta_bytes, anulacion_bytes, line_bytes, record_bytes, entry_bytes}
+use Rattle.record_codec.specs.Bytes.{text_bytes, id_bytes, party_bytes, customer_bytes, refs_bytes, tax_line_bytes}
+use Rattle.record_codec.specs.Bytes.{breakdown_bytes, draft_bytes, link_bytes, moment_bytes, alta_bytes, anulacion_bytes}
+use Rattle.record_codec.specs.Bytes.{line_bytes, record_bytes, entry_bytes}
 use Rattle.record_codec.specs.Codes.{kind_code, rect_code}
 use Rattle.record_codec.specs.Laws.{AnEncodingIsItsFields}
 use Rattle.record_codec.proofs.RecordReaders.{said_bytes}
-use Rattle.record_codec.specs.Layout.{byte_field, id_fields, party_fields, customer_fields, refs_fields, tax_line_fields, breakdown_fields, draft_fields, link_fields, moment_fields, alta_fields, anulacion_fields, said_fields, entry_fields}
+use Rattle.record_codec.specs.Layout.{byte_field, id_fields, party_fields, customer_fields, refs_fields, tax_line_fields}
+use Rattle.record_codec.specs.Layout.{breakdown_fields, draft_fields, link_fields, moment_fields, alta_fields, anulacion_fields}
+use Rattle.record_codec.specs.Layout.{said_fields, entry_fields}
 
 -- two fields
 two : (x y : List ℕ) → x ++ y ≡ concat (x ∷ y ∷ [])
@@ -32,7 +36,8 @@ all : {A : Type 0} (spell : A → List ℕ) (parts : A → List (List ℕ)) → 
     → flat_map spell xs ≡ concat (flat_map parts xs)
 all spell parts each [] = refl
 all spell parts each (x ∷ xs) =
-    ap (λ (ys : List ℕ). ys ++ flat_map spell xs) (each x) ∙ ap (λ (ys : List ℕ). concat (parts x) ++ ys) (all spell parts each xs)
+    ap (λ (ys : List ℕ). ys ++ flat_map spell xs) (each x) ∙ ap (λ (ys : List ℕ). concat (parts x) ++ ys)
+    (all spell parts each xs)
     ∙ sym (concat-append (parts x) (flat_map parts xs))
 
 joined : {x y : List ℕ} (xs ys : List (List ℕ)) → x ≡ concat xs → y ≡ concat ys → x ++ y ≡ concat (xs ++ ys)
@@ -83,12 +88,14 @@ moment_whole moment = simp append-nil
 pub alta_whole : (alta : Alta) → alta_bytes alta ≡ concat (alta_fields alta)
 unfolding alta_bytes
 alta_whole alta =
-    rw (id_whole alta.id, draft_whole alta.draft, link_whole alta.link, moment_whole alta.moment) (simp (concat-append, append_assoc, append-nil))
+    rw (id_whole alta.id, draft_whole alta.draft, link_whole alta.link, moment_whole alta.moment)
+    (simp (concat-append, append_assoc, append-nil))
 
 pub anulacion_whole : (anulacion : Anulacion) → anulacion_bytes anulacion ≡ concat (anulacion_fields anulacion)
 unfolding anulacion_bytes
 anulacion_whole anulacion =
-    rw (id_whole anulacion.id, link_whole anulacion.link, moment_whole anulacion.moment) (simp (concat-append, append_assoc, append-nil))
+    rw (id_whole anulacion.id, link_whole anulacion.link, moment_whole anulacion.moment)
+    (simp (concat-append, append_assoc, append-nil))
 
 line_whole : (line : Line) → line_bytes line ≡ concat (line_bytes line ∷ [])
 line_whole line = sym (append-nil (line_bytes line))

@@ -60,7 +60,8 @@ moment_fields moment = to_be_bytes w64 moment.seconds ∷ to_be_bytes w16 (cast_
 abbrev pub alta_fields : Alta → List (List ℕ)
 alta_fields alta =
     id_fields alta.id ++ draft_fields alta.draft
-    ++ byte_field (flag_code alta.subsanacion) ∷ byte_field (previo_code alta.rechazo) ∷ [] ++ link_fields alta.link ++ moment_fields alta.moment
+    ++ byte_field (flag_code alta.subsanacion) ∷ byte_field (previo_code alta.rechazo) ∷ [] ++ link_fields alta.link ++
+    moment_fields alta.moment
 
 abbrev pub anulacion_fields : Anulacion → List (List ℕ)
 anulacion_fields anulacion =

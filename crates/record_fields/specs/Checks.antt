@@ -8,7 +8,9 @@ use Rattle.record_fields.specs.Picks.{first_of, when}
 use Rattle.record_fields.specs.declared.drafts.Draft.{Draft}
 use Rattle.record_fields.specs.declared.checks.TheConstants.{MAX_REFS, SIMPLIFIED_LIMIT}
 use Rattle.record_fields.specs.declared.checks.DraftFault.{DraftFault}
-use Rattle.record_fields.specs.declared.checks.DraftFault.TheVariants.{CustomerMissing, CustomerUnwanted, RectMissing, RectUnwanted, RefsMissing, RefsUnwanted, TooManyRefs, OverSimplified}
+use Rattle.record_fields.specs.declared.checks.DraftFault.TheVariants.{CustomerMissing, CustomerUnwanted, RectMissing}
+use Rattle.record_fields.specs.declared.checks.DraftFault.TheVariants.{RectUnwanted, RefsMissing, RefsUnwanted, TooManyRefs}
+use Rattle.record_fields.specs.declared.checks.DraftFault.TheVariants.{OverSimplified}
 
 -- it must be there and isn't
 abbrev pub is_missing : Need → Bool → Bool
@@ -35,5 +37,6 @@ draft_fault draft = let needs = needs_of draft.kind in first_of (
     ∷ when (is_missing needs.refs (has_refs draft)) RefsMissing
     ∷ when (is_unwanted needs.refs (has_refs draft)) RefsUnwanted
     ∷ when (nat_lt MAX_REFS (length draft.refs)) (TooManyRefs (length draft.refs))
-    ∷ when (is_simplified draft.kind && nat_lt SIMPLIFIED_LIMIT (unsigned_abs (total draft.lines))) (OverSimplified (total draft.lines))
+    ∷ when (is_simplified draft.kind && nat_lt SIMPLIFIED_LIMIT (unsigned_abs (total draft.lines)))
+    (OverSimplified (total draft.lines))
     ∷ [])

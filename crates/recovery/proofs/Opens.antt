@@ -12,10 +12,20 @@ use Rattle.shop_core.specs.Files.{StandsFor, bodies_of}
 pub begun : (issuer : List ℕ) (t : Told) → Legal issuer [] → LeavesNow t (IsFile issuer []) → LeavesNow t (StandsFor issuer [])
 begun issuer t legal only = λ c left. record { frames = only c left; encoded = tt; legal = legal }
 
-pub at_some : (issuer : List ℕ) (entries : List Entry) (end : ℕ) (t : Told) → StandsFor issuer entries t.content → end ≡ closing_gate (bodies_of entries) → IsSettled t → IsAtSome end t
-at_some issuer entries end t stands place quiet = ∣ (issuer, bodies_of entries, record { file = stands.frames; place = place; nothing_pending = quiet }) ∣₁
+pub at_some : (issuer : List ℕ) (entries : List Entry) (end : ℕ) (t : Told) → StandsFor issuer entries t.content →
+    end ≡ closing_gate (bodies_of entries) → IsSettled t → IsAtSome end t
+at_some issuer entries end t stands place quiet = ∣ (
+  issuer,
+  bodies_of entries,
+  record {
+    file = stands.frames;
+    place = place;
+    nothing_pending = quiet;
+  },
+) ∣₁
 
-pub stays : (issuer : List ℕ) (entries : List Entry) (t : Told) → StandsFor issuer entries t.content → IsSettled t → LeavesNow t (StandsFor issuer entries)
+pub stays : (issuer : List ℕ) (entries : List Entry) (t : Told) → StandsFor issuer entries t.content → IsSettled t →
+    LeavesNow t (StandsFor issuer entries)
 stays issuer entries t stands quiet = leaves_now t (StandsFor issuer entries) quiet stands
 
 found_empty : (issuer c : List ℕ) → Legal issuer [] → IsNotBegunOrEmpty issuer c → IsFound issuer [] c
@@ -23,8 +33,11 @@ found_empty issuer c legal (inl not_begun) = inl (not_begun, refl)
 found_empty issuer c legal (inr file) = inr (record { frames = file; encoded = tt; legal = legal })
 
 -- while a file is begun, each crash leaves the empty history
-pub begins : (issuer : List ℕ) (t u : Told) → Legal issuer [] → LeavesOnly t u (IsNotBegunOrEmpty issuer) → LeavesOnly t u (IsFound issuer [])
-begins issuer t u legal only = weaker t u (IsNotBegunOrEmpty issuer) (IsFound issuer []) only (λ c left. found_empty issuer c legal left)
+pub begins : (issuer : List ℕ) (t u : Told) → Legal issuer [] → LeavesOnly t u (IsNotBegunOrEmpty issuer) →
+    LeavesOnly t u (IsFound issuer [])
+begins issuer t u legal only = weaker t u (IsNotBegunOrEmpty issuer) (IsFound issuer []) only (λ c left. found_empty issuer c
+    legal left)
 
-pub holds_on : (issuer : List ℕ) (entries : List Entry) (t : Told) → StandsFor issuer entries t.content → IsSettled t → LeavesOnly t t (IsFound issuer entries)
+pub holds_on : (issuer : List ℕ) (entries : List Entry) (t : Told) → StandsFor issuer entries t.content → IsSettled t →
+    LeavesOnly t t (IsFound issuer entries)
 holds_on issuer entries t stands quiet = started_settled t (IsFound issuer entries) quiet (inr stands)

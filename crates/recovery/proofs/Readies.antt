@@ -7,16 +7,20 @@ use Rattle.shop_core.specs.History.{History}
 use Rattle.chain_store.specs.Ready.{IsReady}
 
 -- of a file that was begun
-pub ready_empty : (tells : Bool) (issuer : List ℕ) (history : History) (stopped : Option ℕ) (gate : ℕ) (t : Told) → history ≡ record { issuer = issuer; entries = []; room = None } →
+pub ready_empty : (tells : Bool) (issuer : List ℕ) (history : History) (stopped : Option ℕ) (gate : ℕ) (t : Told) →
+    history ≡ record { issuer = issuer; entries = []; room = None } →
     gate ≡ 19 → (IsTrue tells → IsAt issuer [] gate t) → IsReady tells history stopped gate t
-ready_empty tells issuer history stopped gate t made at file = subst (λ (h : History). IsReady tells h stopped gate t) (sym made) (record {
-  place = omega arith;
-  holds = λ going told. record { file = file told; encoded = tt };
-})
+ready_empty tells issuer history stopped gate t made at file = subst (λ (h : History). IsReady tells h stopped gate t) (sym made)
+    (record {
+      place = omega arith;
+      holds = λ going told. record { file = file told; encoded = tt };
+    })
 
 -- of a file that was read
-pub ready_held : (tells : Bool) (history : History) (stopped : Option ℕ) (gate : ℕ) (t : Told) → gate ≤ furthest_gate history.entries →
-    (IsTrue tells → (StandsFor history.issuer history.entries t.content × (gate ≡ closing_gate (bodies_of history.entries))) × IsSettled t) → IsReady tells history stopped gate t
+pub ready_held : (tells : Bool) (history : History) (stopped : Option ℕ) (gate : ℕ) (t : Told) →
+    gate ≤ furthest_gate history.entries →
+    (IsTrue tells → (StandsFor history.issuer history.entries t.content × (gate ≡ closing_gate (bodies_of history.entries))) ×
+    IsSettled t) → IsReady tells history stopped gate t
 ready_held tells history stopped gate t place found = record {
   place = place;
   holds = λ going told.

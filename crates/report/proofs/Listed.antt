@@ -1,5 +1,7 @@
 -- Records listed from a place on.
-use Rattle.std.proofs.Common.{◌≡◌, ℕ, zero, suc, ◌+◌, ◌-◌, ◌<◌, ◌≤◌, List, [], ◌∷◌, ◌++◌, length, drop, flat_map, append_assoc, append-nil, refl, sym, ◌∙◌, ap, arith, Option, Some, None, slice_get, Bool, true, false, cond, eqb, inl, inr}
+use Rattle.std.proofs.Common.{◌≡◌, ℕ, zero, suc, ◌+◌, ◌-◌, ◌<◌, ◌≤◌, List, [], ◌∷◌, ◌++◌, length, drop, flat_map, append_assoc}
+use Rattle.std.proofs.Common.{append-nil, refl, sym, ◌∙◌, ap, arith, Option, Some, None, slice_get, Bool, true, false, cond, eqb}
+use Rattle.std.proofs.Common.{inl, inr}
 use Rattle.std.proofs.lemmas.Bool.{cases_Bool, eqb-true}
 use Rattle.std.proofs.Math.ListN.{drop_of_length-le}
 use Rattle.std.specs.List.{enumerate_from}
@@ -17,7 +19,8 @@ else_part true x y e = absurd cc
 else_part false x y e = refl
 
 pub at_next : {A : Type 0} (xs : List A) (k : ℕ) → at_place xs (k + 1) ≡ slice_get xs k
-at_next xs k = else_part (eqb (k + 1) 0) None (slice_get xs (k + 1 - 1)) (not_zero (k + 1) (omega arith)) ∙ (let e : k + 1 - 1 ≡ k = omega arith in ap (slice_get xs) e)
+at_next xs k = else_part (eqb (k + 1) 0) None (slice_get xs (k + 1 - 1)) (not_zero (k + 1) (omega arith)) ∙
+    (let e : k + 1 - 1 ≡ k = omega arith in ap (slice_get xs) e)
 
 same_some : {A : Type 0} (x y : A) → ◌≡◌ {A = Option A} (Some x) (Some y) → x ≡ y
 same_some x y e = cc
@@ -34,11 +37,14 @@ drop_none (y ∷ xs) zero e = absurd cc
 drop_none (y ∷ xs) (suc n) e = drop_none xs n e
 
 -- one more
-pub listed_more : (spell : ℕ × Sealed → List ℕ) (xs : List Sealed) (n : ℕ) (x : Sealed) (text text' whole : List ℕ) → at_place xs (n + 1) ≡ Some x → text' ≡ text ++ spell (n + 1, x)
-    → text ++ flat_map spell (enumerate_from (n + 1) (drop n xs)) ≡ whole → text' ++ flat_map spell (enumerate_from (n + 1 + 1) (drop (n + 1) xs)) ≡ whole
+pub listed_more : (spell : ℕ × Sealed → List ℕ) (xs : List Sealed) (n : ℕ) (x : Sealed) (text text' whole : List ℕ) →
+    at_place xs (n + 1) ≡ Some x → text' ≡ text ++ spell (n + 1, x)
+    → text ++ flat_map spell (enumerate_from (n + 1) (drop n xs)) ≡ whole →
+    text' ++ flat_map spell (enumerate_from (n + 1 + 1) (drop (n + 1) xs)) ≡ whole
 listed_more spell xs n x text text' whole here more so_far =
     let z : n + 1 ≡ suc n = omega arith in
-    let cut : drop n xs ≡ x ∷ drop (n + 1) xs = drop_at xs n x (sym (at_next xs n) ∙ here) ∙ ap (λ (k : ℕ). x ∷ drop k xs) (sym z) in
+    let cut : drop n xs ≡ x ∷ drop (n + 1) xs = drop_at xs n x (sym (at_next xs n) ∙ here) ∙ ap (λ (k : ℕ). x ∷ drop k xs) (sym z)
+    in
     ap (λ (t : List ℕ). t ++ flat_map spell (enumerate_from (n + 1 + 1) (drop (n + 1) xs))) more
     ∙ append_assoc text (spell (n + 1, x)) (flat_map spell (enumerate_from (n + 1 + 1) (drop (n + 1) xs)))
     ∙ sym (ap (λ (ys : List Sealed). text ++ flat_map spell (enumerate_from (n + 1) ys)) cut) ∙ so_far
@@ -51,7 +57,8 @@ all_listed spell xs n text whole none so_far =
 -- none is left
 pub listed_none : (spell : ℕ × Sealed → List ℕ) (xs : List Sealed) (n : ℕ) (text whole : List ℕ) → at_place xs (n + 1) ≡ None
     → text ++ flat_map spell (enumerate_from (n + 1) (drop n xs)) ≡ whole → text ≡ whole
-listed_none spell xs n text whole here so_far = all_listed spell xs n text whole (drop_none xs n (sym (at_next xs n) ∙ here)) so_far
+listed_none spell xs n text whole here so_far = all_listed spell xs n text whole (drop_none xs n (sym (at_next xs n) ∙ here))
+    so_far
 
 pub listed_all : (spell : ℕ × Sealed → List ℕ) (xs : List Sealed) (n : ℕ) (text whole : List ℕ) → length xs ≤ n
     → text ++ flat_map spell (enumerate_from (n + 1) (drop n xs)) ≡ whole → text ≡ whole

@@ -1,5 +1,6 @@
 -- The sums of one record more.
-use Rattle.std.proofs.Common.{◌≡◌, ℕ, zero, suc, ◌+◌, ◌≤◌, ℤ, pos, ◌+ℤ◌, Bool, true, false, cond, append-nil, List, [], ◌∷◌, ◌++◌, length, length-append, map, count_by, take, refl, sym, ◌∙◌, ap, arith, Some, None, slice_get}
+use Rattle.std.proofs.Common.{◌≡◌, ℕ, zero, suc, ◌+◌, ◌≤◌, ℤ, pos, ◌+ℤ◌, Bool, true, false, cond, append-nil, List, [], ◌∷◌, ◌++◌}
+use Rattle.std.proofs.Common.{length, length-append, map, count_by, take, refl, sym, ◌∙◌, ap, arith, Some, None, slice_get}
 use Rattle.std.proofs.lemmas.List.{map-append, take_more, take_all}
 use Rattle.std.proofs.lemmas.List.Elements.{filter_map-append}
 use Rattle.std.proofs.lemmas.List.Sums.{fold_push, sum_by_push}
@@ -20,9 +21,15 @@ sum_push : (f : Alta → ℤ) (xs : List Alta) (a : Alta) → sum_of (map f (xs 
 sum_push f xs a = ap sum_of (map-append f xs (a ∷ [])) ∙ fold_push ◌+ℤ◌ (pos 0) (map f xs) (f a)
 
 sums_by : List Alta → ℕ → Sums
-sums_by xs n = record { altas = length xs; anulaciones = n; bases = sum_of (map (λ (a : Alta). bases a.draft.lines) xs); cuotas = sum_of (map (λ (a : Alta). cuota a.draft.lines) xs) }
+sums_by xs n = record {
+  altas = length xs;
+  anulaciones = n;
+  bases = sum_of (map (λ (a : Alta). bases a.draft.lines) xs);
+  cuotas = sum_of (map (λ (a : Alta). cuota a.draft.lines) xs);
+}
 
-altas_one : (xs : List Sealed) (x : Sealed) (found : List Alta) → altas (x ∷ []) ≡ found → altas (xs ++ x ∷ []) ≡ altas xs ++ found
+altas_one : (xs : List Sealed) (x : Sealed) (found : List Alta) → altas (x ∷ []) ≡ found → altas (xs ++ x ∷ []) ≡ altas xs ++
+    found
 altas_one xs x found e = filter_map-append (λ (s : Sealed). alta_in s.body) xs (x ∷ []) ∙ ap (λ (l : List Alta). altas xs ++ l) e
 
 counted : (xs : List Sealed) (x : Sealed) (b : Bool) → is_anulacion x.body ≡ b →
@@ -34,11 +41,27 @@ counted xs x b e =
 added_alta : (xs : List Alta) (n : ℕ) (a : Alta) → sums_by (xs ++ a ∷ []) n ≡ added (sums_by xs n) (record_of.Alta a)
 unfolding sums_by
 added_alta xs n a =
-    ap (λ (k : ℕ). record { altas = k; anulaciones = n; bases = sum_of (map (λ (a : Alta). bases a.draft.lines) (xs ++ a ∷ [])); cuotas = sum_of (map (λ (a : Alta). cuota a.draft.lines) (xs ++ a ∷ [])) })
+    ap (λ (k : ℕ). record {
+      altas = k;
+      anulaciones = n;
+      bases = sum_of (map (λ (a : Alta). bases a.draft.lines) (xs ++ a ∷ []));
+      cuotas = sum_of (map (λ (a : Alta). cuota a.draft.lines) (xs ++ a ∷ []));
+    })
     (length-append xs (a ∷ []))
-    ∙ ap (λ (z : ℤ). record { altas = length xs + 1; anulaciones = n; bases = z; cuotas = sum_of (map (λ (a : Alta). cuota a.draft.lines) (xs ++ a ∷ [])) })
+    ∙ ap (λ (z : ℤ). record {
+      altas = length xs + 1;
+      anulaciones = n;
+      bases = z;
+      cuotas = sum_of (map (λ (a : Alta). cuota a.draft.lines) (xs ++ a ∷ []));
+    })
     (sum_push (λ (a : Alta). bases a.draft.lines) xs a)
-    ∙ ap (λ (z : ℤ). record { altas = length xs + 1; anulaciones = n; bases = sum_of (map (λ (a : Alta). bases a.draft.lines) xs) +ℤ bases a.draft.lines; cuotas = z })
+    ∙ ap (λ (z : ℤ). record {
+      altas = length xs + 1;
+      anulaciones = n;
+      bases = sum_of (map (λ (a : Alta). bases a.draft.lines) xs)
+          +ℤ bases a.draft.lines;
+      cuotas = z;
+    })
     (sum_push (λ (a : Alta). cuota a.draft.lines) xs a)
 
 sums_push : (xs : List Sealed) (x : Sealed) (b : Record) → x.body ≡ b → sums (xs ++ x ∷ []) ≡ added (sums xs) b
@@ -46,21 +69,26 @@ unfolding sums_by
 sums_push xs x (record_of.Alta a) e =
     let kind : is_anulacion x.body ≡ false = rw e refl in
     let one : altas (x ∷ []) ≡ a ∷ [] = rw e refl in
-    let same : count_by (λ (s : Sealed). is_anulacion s.body) (xs ++ x ∷ []) ≡ count_by (λ (s : Sealed). is_anulacion s.body) xs = counted xs x false kind ∙ omega arith in
-    ap (λ (l : List Alta). sums_by l (count_by (λ (s : Sealed). is_anulacion s.body) (xs ++ x ∷ []))) (altas_one xs x (a ∷ []) one)
+    let same : count_by (λ (s : Sealed). is_anulacion s.body) (xs ++ x ∷ []) ≡ count_by (λ (s : Sealed). is_anulacion s.body) xs =
+    counted xs x false kind ∙ omega arith in
+    ap (λ (l : List Alta). sums_by l (count_by (λ (s : Sealed). is_anulacion s.body) (xs ++ x ∷ [])))
+    (altas_one xs x (a ∷ []) one)
     ∙ ap (λ (n : ℕ). sums_by (altas xs ++ a ∷ []) n) same
     ∙ added_alta (altas xs) (count_by (λ (s : Sealed). is_anulacion s.body) xs) a
 sums_push xs x (record_of.Anulacion a) e =
     let kind : is_anulacion x.body ≡ true = rw e refl in
     let one : altas (x ∷ []) ≡ [] = rw e refl in
-    ap (λ (l : List Alta). sums_by l (count_by (λ (s : Sealed). is_anulacion s.body) (xs ++ x ∷ []))) (altas_one xs x [] one ∙ append-nil (altas xs))
+    ap (λ (l : List Alta). sums_by l (count_by (λ (s : Sealed). is_anulacion s.body) (xs ++ x ∷ []))) (altas_one xs x [] one ∙
+    append-nil (altas xs))
     ∙ ap (λ (n : ℕ). sums_by (altas xs) n) (counted xs x true kind)
 
 -- one record more
-pub sums_more : (xs : List Sealed) (n : ℕ) (x : Sealed) (old new : Sums) → at_place xs (n + 1) ≡ Some x → old ≡ sums (take n xs) → new ≡ added old x.body → new ≡ sums (take (n + 1) xs)
+pub sums_more : (xs : List Sealed) (n : ℕ) (x : Sealed) (old new : Sums) → at_place xs (n + 1) ≡ Some x → old ≡ sums (take n xs) →
+    new ≡ added old x.body → new ≡ sums (take (n + 1) xs)
 sums_more xs n x old new here was is =
     let found : slice_get xs n ≡ Some x = sym (at_next xs n) ∙ here in
-    let more : take (n + 1) xs ≡ take n xs ++ x ∷ [] = take_more xs n x (slice_get_within xs n x found) ∙ ap (λ (y : Sealed). take n xs ++ y ∷ []) (get_or_from_slice_get xs n x x found) in
+    let more : take (n + 1) xs ≡ take n xs ++ x ∷ [] = take_more xs n x (slice_get_within xs n x found) ∙
+    ap (λ (y : Sealed). take n xs ++ y ∷ []) (get_or_from_slice_get xs n x x found) in
     is ∙ ap (λ (s : Sums). added s x.body) was ∙ sym (sums_push (take n xs) x x.body refl) ∙ ap sums (sym more)
 
 -- none is left

@@ -4,11 +4,14 @@ use Rattle.std.specs.Fmt.{signed_decimal}
 use Rattle.journal.specs.declared.faults.StoreFault.{StoreFault}
 use Rattle.journal.specs.declared.faults.StoreFault.TheVariants.{DiskFault, Stopped, NoMemory}
 use Rattle.record_fields.specs.declared.checks.DraftFault.{DraftFault}
-use Rattle.record_fields.specs.declared.checks.DraftFault.TheVariants.{CustomerMissing, CustomerUnwanted, RectMissing, RectUnwanted, RefsMissing, RefsUnwanted, TooManyRefs, OverSimplified}
+use Rattle.record_fields.specs.declared.checks.DraftFault.TheVariants.{CustomerMissing, CustomerUnwanted, RectMissing}
+use Rattle.record_fields.specs.declared.checks.DraftFault.TheVariants.{RectUnwanted, RefsMissing, RefsUnwanted, TooManyRefs}
+use Rattle.record_fields.specs.declared.checks.DraftFault.TheVariants.{OverSimplified}
 use Rattle.huella.specs.FieldText.{huella_text}
 use Rattle.shop_core.specs.declared.receipts.Receipt.{Receipt}
 use Rattle.shop_core.specs.declared.answers.Refusal.{Refusal}
-use Rattle.shop_core.specs.declared.answers.Refusal.TheVariants.{Passed, BadDraft, Unknown, Cancelled, RefNotSimplified, ChainFull, ClockRange, HuellaTwice}
+use Rattle.shop_core.specs.declared.answers.Refusal.TheVariants.{Passed, BadDraft, Unknown, Cancelled, RefNotSimplified}
+use Rattle.shop_core.specs.declared.answers.Refusal.TheVariants.{ChainFull, ClockRange, HuellaTwice}
 use Rattle.shop_core.specs.declared.answers.Reply.{Reply}
 use Rattle.shop_core.specs.declared.answers.Reply.TheVariants.{Taken, Again, Refused}
 use Rattle.report.specs.declared.answers.AnswerLine.{AnswerLine}

@@ -70,7 +70,8 @@ line_text (Some (Incorrecto why)) = cause_text why
 -- PLACE BODY HUELLA LINE
 abbrev pub record_line : ℕ → Sealed → Option Line → List ℕ
 record_line place s line =
-    decimal place ++ codes " " ++ body_text s.body ++ codes " " ++ huella_text s.huella ++ codes " " ++ line_text line ++ codes "\n"
+    decimal place ++ codes " " ++ body_text s.body ++ codes " " ++ huella_text s.huella ++ codes " " ++ line_text line ++ codes
+    "\n"
 
 -- a line for each record, in order of their places
 abbrev pub listing : List Entry → List ℕ

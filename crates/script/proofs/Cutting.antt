@@ -1,5 +1,7 @@
 -- A text cut at its first place of a byte.
-use Rattle.std.proofs.Common.{◌≡◌, ◌≢◌, ◌⊎◌, inl, inr, ℕ, ◌+◌, ◌-◌, ◌<◌, ◌≤◌, List, [], ◌∷◌, length, take, drop, get_or, refl, sym, ap, arith, Option, Some, None, Bool, true, false, not, cond, ◌==◌, nat_lt, position, length-drop, MatchOption, All}
+use Rattle.std.proofs.Common.{◌≡◌, ◌≢◌, ◌⊎◌, inl, inr, ℕ, ◌+◌, ◌-◌, ◌<◌, ◌≤◌, List, [], ◌∷◌, length, take, drop, get_or, refl}
+use Rattle.std.proofs.Common.{sym, ap, arith, Option, Some, None, Bool, true, false, not, cond, ◌==◌, nat_lt, position}
+use Rattle.std.proofs.Common.{length-drop, MatchOption, All}
 use Rattle.std.specs.List.{position_or_len}
 use Rattle.std.proofs.Math.Seq.{take-length}
 use Rattle.std.proofs.lemmas.Bool.{ltb-true}
@@ -66,25 +68,31 @@ abbrev pub Cuts : Option (List ℕ × List ℕ) → Option (Bor (List ℕ) × Bo
 Cuts cut r = MatchOption r (cut ≡ None) (λ (x : Bor (List ℕ) × Bor (List ℕ)). cut ≡ Some (x.0.now, x.1.now))
 
 first_cut : (c : ℕ) (bs : List ℕ) (r : Option (Bor (List ℕ) × Bor (List ℕ)))
-    → MatchOption r (position_or_len (λ b. b == c) bs ≡ length bs) (λ (x : Bor (List ℕ) × Bor (List ℕ)). (position_or_len (λ b. b == c) bs < length bs) × (x.0.now ≡ before_first (λ b. b == c) bs) × (x.1.now ≡ after_first (λ b. b == c) bs))
+    → MatchOption r (position_or_len (λ b. b == c) bs ≡ length bs) (λ (x : Bor (List ℕ) × Bor (List ℕ)).
+    (position_or_len (λ b. b == c) bs < length bs) × (x.0.now ≡ before_first (λ b. b == c) bs) ×
+    (x.1.now ≡ after_first (λ b. b == c) bs))
     → Cuts (cut_at_first c bs) r
 first_cut c bs None h = rw (has_not c bs h) refl
 first_cut c bs (Some x) h = rw (has_yes c bs h.0, h.1, h.2) refl
 
-pub at_first : (c : ℕ) (bs : List ℕ) (r : Option (Bor (List ℕ) × Bor (List ℕ))) → IsSplitOnceResult c bs r → c < 128 → Cuts (cut_at_first c bs) r
+pub at_first : (c : ℕ) (bs : List ℕ) (r : Option (Bor (List ℕ) × Bor (List ℕ))) → IsSplitOnceResult c bs r → c < 128 →
+    Cuts (cut_at_first c bs) r
 at_first c bs r h small = first_cut c bs r (split_once_first c bs r h small)
 
 no_sign : (bs : List ℕ) → NoCharPasses (λ d. d == 64) bs → has 64 bs ≡ false
-no_sign bs h = list_any_none (λ b. b == 64) bs (λ k d lt. ne_eqb (get_or bs k d) 64 (rw (get_or_default bs k d 0 lt) (NoCharPasses-char 64 bs k h (omega arith) lt)))
+no_sign bs h = list_any_none (λ b. b == 64) bs (λ k d lt. ne_eqb (get_or bs k d) 64 (rw (get_or_default bs k d 0 lt)
+    (NoCharPasses-char 64 bs k h (omega arith) lt)))
 
 there_is : (bs : List ℕ) (i : ℕ) → i < length bs → get_or bs i 0 ≡ 64 → has 64 bs ≡ true
 there_is bs i lt e = list_any_at (λ b. b == 64) bs i 0 lt (eq-eqb (get_or bs i 0) 64 e)
 
-after_it : (bs : List ℕ) (i k : ℕ) → NoCharPasses (λ d. d == 64) (drop (i + 1) bs) → i + 1 ≤ k → k < length bs → get_or bs k 0 ≢ 64
+after_it : (bs : List ℕ) (i k : ℕ) → NoCharPasses (λ d. d == 64) (drop (i + 1) bs) → i + 1 ≤ k → k < length bs →
+    get_or bs k 0 ≢ 64
 after_it bs i k h low high e =
     let within : k - (i + 1) < length (drop (i + 1) bs) = omega (arith, length-drop (i + 1) bs) in
     let same : i + 1 + (k - (i + 1)) ≡ k = omega arith in
-    NoCharPasses-char 64 (drop (i + 1) bs) (k - (i + 1)) h (omega arith) within (rw (get_or-drop (i + 1) bs (k - (i + 1)) 0, same) e)
+    NoCharPasses-char 64 (drop (i + 1) bs) (k - (i + 1)) h (omega arith) within (rw (get_or-drop (i + 1) bs (k - (i + 1)) 0, same)
+    e)
 
 past_it : (bs : List ℕ) (i : ℕ) → i < length bs → get_or bs i 0 ≡ 64 → NoCharPasses (λ d. d == 64) (drop (i + 1) bs)
     → suffix_len (λ b. not (b == 64)) bs ≡ length bs - (i + 1)
@@ -103,7 +111,8 @@ last_at bs i lt e h =
     rw (there_is bs i lt e, n, front, back) refl
 
 abbrev IsLastCut : List ℕ → Option (Bor (List ℕ) × Bor (List ℕ)) → Type 0
-IsLastCut bs r = MatchOption r (RFindsChar 64 bs None) (λ (x : Bor (List ℕ) × Bor (List ℕ)). SplitsAroundMatch (RFindsChar 64) bs x.0.now x.1.now)
+IsLastCut bs r = MatchOption r (RFindsChar 64 bs None) (λ (x : Bor (List ℕ) × Bor (List ℕ)). SplitsAroundMatch (RFindsChar 64) bs
+    x.0.now x.1.now)
 
 pub at_last : (bs : List ℕ) (r : Option (Bor (List ℕ) × Bor (List ℕ))) → IsLastCut bs r → Cuts (cut_at_last 64 bs) r
 at_last bs None h = rw (no_sign bs h) refl
@@ -120,7 +129,8 @@ position_there : (c : ℕ) (bs : List ℕ) → has c bs ≡ true → position_or
 position_there c bs h =
     elim (lt_or (position_or_len (λ b. b == c) bs) (length bs)) [
       | inl lt ↦ lt
-      | inr le ↦ let no = list_any_none (λ b. b == c) bs (λ k d lt. fails_before_first (λ b. b == c) bs k d (omega arith)) in absurd cc
+      | inr le ↦ let no = list_any_none (λ b. b == c) bs (λ k d lt. fails_before_first (λ b. b == c) bs k d (omega arith)) in
+          absurd cc
     ]
 
 none_there : (c : ℕ) (bs : List ℕ) → has c bs ≡ false → All (λ b. (b == c) ≡ false) bs
@@ -132,8 +142,10 @@ none_there c bs h k d lt =
 
 -- what a cut in two tells
 same_cut : (x y : List ℕ × List ℕ) → Some x ≡ Some y → (x.0 ≡ y.0) × (x.1 ≡ y.1)
-same_cut x y e =
-    (ap (λ (o : Option (List ℕ × List ℕ)). option_map_or (λ (p : List ℕ × List ℕ). p.0) o x.0) e, ap (λ (o : Option (List ℕ × List ℕ)). option_map_or (λ (p : List ℕ × List ℕ). p.1) o x.1) e)
+same_cut x y e = (
+  ap (λ (o : Option (List ℕ × List ℕ)). option_map_or (λ (p : List ℕ × List ℕ). p.0) o x.0) e,
+  ap (λ (o : Option (List ℕ × List ℕ)). option_map_or (λ (p : List ℕ × List ℕ). p.1) o x.1) e,
+)
 
 pub cut_parts : (c : ℕ) (bs front back : List ℕ) → cut_at_first c bs ≡ Some (front, back)
     → (has c bs ≡ true) × (before_first (λ b. b == c) bs ≡ front) × (after_first (λ b. b == c) bs ≡ back)
@@ -154,7 +166,8 @@ no_parts c bs e =
       | inr no_it ↦ no_it
     ]
 
-pub parts_there : (c : ℕ) (bs front back : List ℕ) → cut_at_first c bs ≡ Some (front, back) → parts_of c bs ≡ front ∷ parts_of c back
+pub parts_there : (c : ℕ) (bs front back : List ℕ) → cut_at_first c bs ≡ Some (front, back) → parts_of c bs ≡ front ∷ parts_of c
+    back
 parts_there c bs front back e =
     let p = cut_parts c bs front back e in
     rw (← p.1, ← p.2) (slice_split_first (λ b. b == c) bs 0 (position_there c bs p.0))

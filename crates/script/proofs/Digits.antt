@@ -1,5 +1,6 @@
 -- Numbers that are read, and those that are none.
-use Rattle.std.proofs.Common.{◌≡◌, ◌≢◌, ℕ, ◌≤◌, ◌<◌, List, refl, sym, subst, arith, inl, inr, min, Bool, true, false, ◌&&◌, nat_le, bytes_eq, if◌then◌else◌, Option, Some, None}
+use Rattle.std.proofs.Common.{◌≡◌, ◌≢◌, ℕ, ◌≤◌, ◌<◌, List, refl, sym, subst, arith, inl, inr, min, Bool, true, false, ◌&&◌}
+use Rattle.std.proofs.Common.{nat_le, bytes_eq, if◌then◌else◌, Option, Some, None}
 use Rattle.std.specs.Str.Parse.{digits_value}
 use Rattle.std.proofs.lemmas.Bool.{and_parts, cases_Bool, cases_order, leb-true}
 use Rattle.std.proofs.lemmas.Bool.Decides.{nat_tests}
@@ -34,7 +35,8 @@ above_high low high d h = grind (arith, nat_tests)
 moved : (low high n d : ℕ) (b : Bool) → n ≡ d → (nat_le low n && nat_le n high) ≡ b → (nat_le low d && nat_le d high) ≡ b
 moved low high n d b same h = subst (λ (m : ℕ). (nat_le low m && nat_le m high) ≡ b) same h
 
-pub number_yes : (low high n : ℕ) (text : List ℕ) → high ≤ MAX_CENTS → whole_text (digits_value 10 text) ≡ text → n ≡ min (digits_value 10 text) WHOLE_LIMIT
+pub number_yes : (low high n : ℕ) (text : List ℕ) → high ≤ MAX_CENTS → whole_text (digits_value 10 text) ≡ text →
+    n ≡ min (digits_value 10 text) WHOLE_LIMIT
     → (nat_le low n && nat_le n high) ≡ true → Some n ≡ number_in low high text
 number_yes low high n text most is small within =
     let d = digits_value 10 text in

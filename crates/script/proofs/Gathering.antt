@@ -1,12 +1,13 @@
 -- Items gathered one after another.
-use Rattle.std.proofs.Common.{◌≡◌, List, [], ◌∷◌, ◌++◌, map, filter_map, refl, Option, Some, None, Bool, true, false, not, is_some}
+use Rattle.std.proofs.Common.{◌≡◌, List, [], ◌∷◌, ◌++◌, map, filter_map, refl, Option, Some, None, Bool, true, false, not}
+use Rattle.std.proofs.Common.{is_some}
 use Rattle.std.specs.Option.{option_or}
 use Rattle.std.proofs.lemmas.List.Elements.{filter_map-append}
 use Rattle.record_fields.specs.Picks.{first_of}
 use Rattle.script.specs.Gathered.{IsGathered}
-use Rattle.script.specs.Items.{to_in, rect_in, ref_in, line_in}
+use Rattle.script.specs.Options.{to_in, rect_in, ref_in, line_in}
 use Rattle.script.specs.declared.drafts.Gathered.{Gathered}
-use Rattle.script.specs.declared.items.Item.{Item}
+use Rattle.script.specs.declared.options.Item.{Item}
 
 first_one : {B : Type 0} (o : Option B) → first_of (o ∷ []) ≡ o
 first_one None = refl
@@ -17,7 +18,8 @@ first_step : {B : Type 0} (o : Option B) (xs ys : List (Option B)) (p : Option B
 first_step None xs ys p h = h
 first_step (Some x) xs ys p h = refl
 
-pub first_more : {A B : Type 0} (f : A → Option B) (xs : List A) (x : A) → first_of (map f (xs ++ x ∷ [])) ≡ option_or (first_of (map f xs)) (f x)
+pub first_more : {A B : Type 0} (f : A → Option B) (xs : List A) (x : A) → first_of (map f (xs ++ x ∷ [])) ≡ option_or
+    (first_of (map f xs)) (f x)
 first_more f [] x = first_one (f x)
 first_more f (y ∷ xs) x = first_step (f y) (map f xs) (map f (xs ++ x ∷ [])) (f x) (first_more f xs x)
 
@@ -35,7 +37,8 @@ or_none (Some x) = refl
 
 pub gathered_more : (items : List Item) (item : Item) (old new : Gathered) → IsGathered items old
     → new.customer ≡ option_or old.customer (to_in item) → new.rect ≡ option_or old.rect (rect_in item)
-    → new.refs.items ≡ old.refs.items ++ filter_map ref_in (item ∷ []) → new.lines.items ≡ old.lines.items ++ filter_map line_in (item ∷ [])
+    → new.refs.items ≡ old.refs.items ++ filter_map ref_in (item ∷ []) → new.lines.items ≡ old.lines.items ++ filter_map line_in
+    (item ∷ [])
     → IsGathered (items ++ item ∷ []) new
 gathered_more items item old new g customer rect refs lines = record {
   customer = rw (first_more to_in items item, ← g.customer) customer;

@@ -1,5 +1,6 @@
 -- Values that are found by their texts.
-use Rattle.std.proofs.Common.{◌≡◌, ◌≢◌, ℕ, suc, zero, ◌+◌, ◌<◌, ◌≤◌, List, [], ◌∷◌, refl, sym, ◌∙◌, ap, arith, Option, Some, None, Bool, true, false, bytes_eq, ◌==◌, ◌⊎◌, inl, inr, IfSome}
+use Rattle.std.proofs.Common.{◌≡◌, ◌≢◌, ℕ, suc, zero, ◌+◌, ◌<◌, ◌≤◌, List, [], ◌∷◌, refl, sym, ◌∙◌, ap, arith, Option, Some, None}
+use Rattle.std.proofs.Common.{Bool, true, false, bytes_eq, ◌==◌, ◌⊎◌, inl, inr, IfSome}
 use Rattle.std.proofs.lemmas.Slice.Eq.{bytes_eq-Decides}
 use Rattle.std.specs.List.{range_with_len}
 use Rattle.std.proofs.lemmas.Bool.Decides.{nat_tests}
@@ -10,7 +11,9 @@ use Rattle.script.specs.Readings.{named, kinds, classes, kind_of, class_of, firs
 use Rattle.stamps.specs.Text.{date_text_of}
 use Rattle.tax_lines.specs.Classes.{key_text}
 use Rattle.tax_lines.specs.declared.classes.LineKey.{LineKey}
-use Rattle.tax_lines.specs.declared.classes.LineKey.TheVariants.{General, Reduced, SuperReduced, Zero, GeneralSurcharge, ReducedSurcharge, SuperReducedSurcharge, S2, N1, N2, E1, E2, E3, E4, E5, E6}
+use Rattle.tax_lines.specs.declared.classes.LineKey.TheVariants.{General, Reduced, SuperReduced, Zero, GeneralSurcharge}
+use Rattle.tax_lines.specs.declared.classes.LineKey.TheVariants.{ReducedSurcharge, SuperReducedSurcharge, S2, N1, N2, E1, E2, E3}
+use Rattle.tax_lines.specs.declared.classes.LineKey.TheVariants.{E4, E5, E6}
 
 cases : (b : Bool) → (b ≡ true) ⊎ (b ≡ false)
 cases true = inl refl
@@ -72,7 +75,8 @@ class_there E6 = refl
 pub class_is : (text : List ℕ) (r : Option LineKey) → IfSome r (λ (key : LineKey). text ≡ key_text key)
     → ((key : LineKey) → text ≡ key_text key → r ≡ Some key) → r ≡ class_of text
 unfolding class_of
-class_is text None value complete = none_unless (class_of text) (λ y e. let h = complete y (found key_text classes text y e) in cc)
+class_is text None value complete = none_unless (class_of text) (λ y e. let h = complete y (found key_text classes text y e) in
+    cc)
 class_is text (Some key) value complete = sym (ap class_of value ∙ class_there key)
 
 -- days
@@ -94,7 +98,8 @@ below text a (suc n) y e =
       | inr no_it ↦ let h = below text (a + 1) n y (rw no_it at e) in omega arith
     ]
 
-absent : (text : List ℕ) (a n k : ℕ) → named date_text_of (range_with_len a n) text ≡ None → a ≤ k → k < a + n → text ≢ date_text_of k
+absent : (text : List ℕ) (a n k : ℕ) → named date_text_of (range_with_len a n) text ≡ None → a ≤ k → k < a + n →
+    text ≢ date_text_of k
 absent text a zero k e low high t = absurd (omega arith)
 absent text a (suc n) k e low high t =
     elim (cases (bytes_eq text (date_text_of a))) [
@@ -111,7 +116,8 @@ unfolding first_days
 day_none n text none = none_unless (named date_text_of (range_with_len 0 n) text)
     (λ y e. let small = below text 0 n y e in none y (omega arith) (found date_text_of (range_with_len 0 n) text y e))
 
-day_some : (n : ℕ) (text : List ℕ) (day : ℕ) → day < n → text ≡ date_text_of day → ((k m : ℕ) → date_text_of k ≡ date_text_of m → k ≡ m)
+day_some : (n : ℕ) (text : List ℕ) (day : ℕ) → day < n → text ≡ date_text_of day → ((k m : ℕ) → date_text_of k ≡ date_text_of m →
+    k ≡ m)
     → (o : Option ℕ) → named date_text_of (first_days n) text ≡ o → Some day ≡ o
 unfolding first_days
 day_some n text day lt t law None e = absurd (absent text 0 n day e (omega arith) (omega arith) t)

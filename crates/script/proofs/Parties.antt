@@ -1,5 +1,6 @@
 -- Tax numbers, names and breakdowns, by the tests of the definitions.
-use Rattle.std.proofs.Common.{◌≡◌, ◌⊎◌, ℕ, ◌-◌, ◌<◌, List, [], ◌∷◌, length, get_or, refl, subst, arith, Some, is_some, Bool, true, false, not, ◌&&◌, ◌||◌, ◌==◌, nat_le, position, Ok, Err}
+use Rattle.std.proofs.Common.{◌≡◌, ◌⊎◌, ℕ, ◌-◌, ◌<◌, List, [], ◌∷◌, length, get_or, refl, subst, arith, Some, is_some, Bool, true}
+use Rattle.std.proofs.Common.{false, not, ◌&&◌, ◌||◌, ◌==◌, nat_le, position, Ok, Err}
 use Rattle.std.specs.Int.{IsInRange, IsOutOfRange}
 use Rattle.std.proofs.lemmas.Bool.Decides.{nat_tests}
 use Rattle.parties.specs.Nif.{IsNif, is_person, is_entity, is_controlled}
@@ -52,14 +53,16 @@ out_of_range n h = grind (arith, nat_tests)
 pub name_yes : (t : List ℕ) → IsName t → is_name t ≡ true
 unfolding is_name
 name_yes t n =
-    rw (in_range (length t) 120 n.long, n.plain, other (get_or t 0 0) 32 n.first, other (get_or t (length t - 1) 0) 32 n.last) refl
+    rw (in_range (length t) 120 n.long, n.plain, other (get_or t 0 0) 32 n.first, other (get_or t (length t - 1) 0) 32 n.last)
+    refl
 
 edge : (a b : ℕ) → (a ≡ 32) ⊎ (b ≡ 32) → ((a == 32) || (b == 32)) ≡ true
 edge a b h = grind (arith, nat_tests)
 
 pub name_no : (t : List ℕ) (fault : NameFault) → (fault ≡ name.NoMemory → ⊥) → IsNameReading t (Err fault) → is_name t ≡ false
 unfolding is_name
-name_no t (name.Length n) other h = let out : IsOutOfRange 1 120 (length t) = rw (← h.0) h.1 in rw (out_of_range (length t) out) refl
+name_no t (name.Length n) other h = let out : IsOutOfRange 1 120 (length t) = rw (← h.0) h.1 in
+    rw (out_of_range (length t) out) refl
 name_no t (name.Char at) other h = rw (in_range (length t) 120 h.0, h.1) refl
 name_no t name.Edge other h = rw (in_range (length t) 120 h.0, h.1, edge (get_or t 0 0) (get_or t (length t - 1) 0) h.2) refl
 name_no t name.NoMemory other h = absurd (other refl)
@@ -78,27 +81,32 @@ too_many n h = grind (arith, nat_tests)
 pub many_lines : (lines : List TaxLine) → 12 < length lines → is_breakdown lines ≡ false
 unfolding is_breakdown
 many_lines lines h =
-    let n : nat_le (length lines) 12 ≡ false = too_many (length lines) h in and_no (nat_le 1 (length lines)) (nat_le (length lines) 12) (not (is_some (position is_past lines))) n
+    let n : nat_le (length lines) 12 ≡ false = too_many (length lines) h in
+    and_no (nat_le 1 (length lines)) (nat_le (length lines) 12) (not (is_some (position is_past lines))) n
 
 pub past_line : (lines : List TaxLine) (i : ℕ) → position is_past lines ≡ Some i → is_breakdown lines ≡ false
 unfolding is_breakdown
-past_line lines i e = and_last (nat_le 1 (length lines) && nat_le (length lines) 12) (not (is_some (position is_past lines))) (rw e refl)
+past_line lines i e = and_last (nat_le 1 (length lines) && nat_le (length lines) 12) (not (is_some (position is_past lines)))
+    (rw e refl)
 
-pub named_ok : (fields : List (List ℕ)) (text own : List ℕ) → text ≡ join_with_byte 32 fields → is_left fields ≡ true → IsName text → own ≡ text
+pub named_ok : (fields : List (List ℕ)) (text own : List ℕ) → text ≡ join_with_byte 32 fields → is_left fields ≡ true →
+    IsName text → own ≡ text
     → name_said fields ≡ Ok own
 named_ok [] text own j left is e = absurd cc
 named_ok (field ∷ fields) text own j left is e =
     let said : ok_or (such is_name text) word.Name ≡ Ok own = rw (name_yes text is, e) refl in
     subst (λ (t : List ℕ). ok_or (such is_name t) word.Name ≡ Ok own) j said
 
-pub named_not : (fields : List (List ℕ)) (text : List ℕ) (fault : NameFault) → text ≡ join_with_byte 32 fields → is_left fields ≡ true
+pub named_not : (fields : List (List ℕ)) (text : List ℕ) (fault : NameFault) → text ≡ join_with_byte 32 fields →
+    is_left fields ≡ true
     → (fault ≡ name.NoMemory → ⊥) → IsNameReading text (Err fault) → name_said fields ≡ Err word.Name
 named_not [] text fault j left other h = absurd cc
 named_not (field ∷ fields) text fault j left other h =
     let said : ok_or {T = List ℕ} (such is_name text) word.Name ≡ Err word.Name = rw (name_no text fault other h) refl in
     subst (λ (t : List ℕ). ok_or {T = List ℕ} (such is_name t) word.Name ≡ Err word.Name) j said
 
-pub lines_no : (lines : List TaxLine) (fault : LinesFault) → (fault ≡ lines_fault.NoMemory → ⊥) → IsBreakdownOf lines (Err fault) → is_breakdown lines ≡ false
+pub lines_no : (lines : List TaxLine) (fault : LinesFault) → (fault ≡ lines_fault.NoMemory → ⊥) → IsBreakdownOf lines (Err fault)
+    → is_breakdown lines ≡ false
 lines_no lines lines_fault.NoLines other h = no_lines lines h
 lines_no lines (lines_fault.TooMany n) other h = let more = h.1 in many_lines lines (omega (arith, h.0))
 lines_no lines (lines_fault.Range i) other h = past_line lines i h.1

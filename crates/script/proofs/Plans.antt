@@ -1,5 +1,7 @@
 -- What the lines plan is in its ranges, and stands once.
-use Rattle.std.proofs.Common.{◌≡◌, ◌∙◌, ℕ, ◌+◌, ◌≤◌, List, [], ◌∷◌, ◌++◌, count_by, filter_map, refl, sym, ap, subst, arith, inl, inr, Option, Some, None, Bool, true, false, ◌&&◌, ◌==◌, bytes_eq, cond, find, option_map, unwrap_or, Ok, append_assoc, IfSome}
+use Rattle.std.proofs.Common.{◌≡◌, ◌∙◌, ℕ, ◌+◌, ◌≤◌, List, [], ◌∷◌, ◌++◌, count_by, filter_map, refl, sym, ap, subst, arith, inl}
+use Rattle.std.proofs.Common.{inr, Option, Some, None, Bool, true, false, ◌&&◌, ◌==◌, bytes_eq, cond, find, option_map, unwrap_or}
+use Rattle.std.proofs.Common.{Ok, append_assoc, IfSome}
 use Rattle.std.specs.List.{AllByRecursion}
 use Rattle.std.specs.Option.{option_or}
 use Rattle.std.proofs.lemmas.Bool.{and_parts, cases_Bool, eqb-true}
@@ -34,7 +36,8 @@ all_more Q (y ∷ ys) x all h = (all.0, all_more Q ys x all.1 h)
 
 -- none is found where none is counted
 
-found_none : {A B : Type 0} (p : A → Bool) (f : A → B) (b : Bool) (x : A) (xs : List A) → option_map f (cond b (Some x) (find p xs)) ≡ None → b ≡ false
+found_none : {A B : Type 0} (p : A → Bool) (f : A → B) (b : Bool) (x : A) (xs : List A) →
+    option_map f (cond b (Some x) (find p xs)) ≡ None → b ≡ false
 found_none p f true x xs e = absurd cc
 found_none p f false x xs e = refl
 
@@ -44,22 +47,28 @@ none_counted {A} {B} p f (x ∷ xs) e =
     let no = found_none p f (p x) x xs e in
     let rest : option_map f (find p xs) ≡ None = subst (λ (b : Bool). option_map f (cond b (Some x) (find p xs)) ≡ None) no e in
     let zero : ◌≡◌ {A = ℕ} (cond (p x) 1 0) 0 = ap (λ (b : Bool). cond {A = ℕ} b 1 0) no in
-    let parts : count_by p (x ∷ xs) ≡ (0 + cond (p x) 1 0) + count_by p xs = sum_by-append (λ (y : A). cond (p y) 1 0) (x ∷ []) xs in
+    let parts : count_by p (x ∷ xs) ≡ (0 + cond (p x) 1 0) + count_by p xs = sum_by-append (λ (y : A). cond (p y) 1 0) (x ∷ []) xs
+    in
     omega (arith, parts, zero, none_counted p f xs rest)
 
-one_more : {A : Type 0} (p : A → Bool) (xs : List A) (x : A) → count_by p xs ≤ 1 → (p x ≡ true → count_by p xs ≡ 0) → count_by p (xs ++ x ∷ []) ≤ 1
+one_more : {A : Type 0} (p : A → Bool) (xs : List A) (x : A) → count_by p xs ≤ 1 → (p x ≡ true → count_by p xs ≡ 0) →
+    count_by p (xs ++ x ∷ []) ≤ 1
 one_more {A} p xs x few none =
-    let sum : count_by p (xs ++ x ∷ []) ≡ count_by p xs + (0 + cond (p x) 1 0) = sum_by-append (λ (y : A). cond (p y) 1 0) xs (x ∷ []) in
+    let sum : count_by p (xs ++ x ∷ []) ≡ count_by p xs + (0 + cond (p x) 1 0) = sum_by-append (λ (y : A). cond (p y) 1 0) xs
+    (x ∷ []) in
     elim (cases_Bool (p x)) [
-      | inl holds ↦ let one : ◌≡◌ {A = ℕ} (cond (p x) 1 0) 1 = ap (λ (b : Bool). cond {A = ℕ} b 1 0) holds in omega (arith, sum, one, none holds)
-      | inr fails ↦ let zero : ◌≡◌ {A = ℕ} (cond (p x) 1 0) 0 = ap (λ (b : Bool). cond {A = ℕ} b 1 0) fails in omega (arith, sum, zero, few)
+      | inl holds ↦ let one : ◌≡◌ {A = ℕ} (cond (p x) 1 0) 1 = ap (λ (b : Bool). cond {A = ℕ} b 1 0) holds in
+          omega (arith, sum, one, none holds)
+      | inr fails ↦ let zero : ◌≡◌ {A = ℕ} (cond (p x) 1 0) 0 = ap (λ (b : Bool). cond {A = ℕ} b 1 0) fails in
+          omega (arith, sum, zero, few)
     ]
 
 unplanned : (verdicts : List PlannedVerdict) (wait : Option ℕ) (fates : List PlannedFate) → Sound verdicts wait fates
     → Sound (verdicts ++ []) (option_or wait None) (fates ++ [])
 unplanned verdicts wait fates s = rw (append-nil verdicts, append-nil fates, ← or_none wait) s
 
-more_verdict : (verdicts : List PlannedVerdict) (wait : Option ℕ) (fates : List PlannedFate) (v : PlannedVerdict) → Sound verdicts wait fates
+more_verdict : (verdicts : List PlannedVerdict) (wait : Option ℕ) (fates : List PlannedFate) (v : PlannedVerdict) →
+    Sound verdicts wait fates
     → IsPlannedVerdict v → verdict_for verdicts v.num v.n ≡ None → Sound (verdicts ++ v ∷ []) (option_or wait None) (fates ++ [])
 more_verdict verdicts wait fates v s fits new =
     let same = unplanned verdicts wait fates s in
@@ -71,12 +80,14 @@ more_verdict verdicts wait fates v s fits new =
           let parts = and_parts (bytes_eq v.num num) (v.n == n) yes in
           let number : v.num ≡ num = (bytes_eq-Decides v.num num).0 parts.0 in
           let nth : v.n ≡ n = eqb-true v.n n parts.1 in
-          let none : verdict_for verdicts num n ≡ None = subst (λ (k : ℕ). verdict_for verdicts num k ≡ None) nth (subst (λ (t : List ℕ). verdict_for verdicts t v.n ≡ None) number new) in
+          let none : verdict_for verdicts num n ≡ None = subst (λ (k : ℕ). verdict_for verdicts num k ≡ None) nth
+          (subst (λ (t : List ℕ). verdict_for verdicts t v.n ≡ None) number new) in
           none_counted (is_on num n) (λ (w : PlannedVerdict). w.verdict) verdicts none);
       one_fate = same.one_fate;
     }
 
-more_fate : (verdicts : List PlannedVerdict) (wait : Option ℕ) (fates : List PlannedFate) (f : PlannedFate) → Sound verdicts wait fates
+more_fate : (verdicts : List PlannedVerdict) (wait : Option ℕ) (fates : List PlannedFate) (f : PlannedFate) →
+    Sound verdicts wait fates
     → IsPlannedCall f → fate_at fates f.call ≡ None → Sound (verdicts ++ []) (option_or wait None) (fates ++ f ∷ [])
 more_fate verdicts wait fates f s fits new =
     let same = unplanned verdicts wait fates s in
@@ -90,7 +101,8 @@ more_fate verdicts wait fates f s fits new =
           none_counted (is_of call) (λ (g : PlannedFate). g.fate) fates none);
     }
 
-more_wait : (verdicts : List PlannedVerdict) (wait : Option ℕ) (fates : List PlannedFate) (seconds : ℕ) → Sound verdicts wait fates
+more_wait : (verdicts : List PlannedVerdict) (wait : Option ℕ) (fates : List PlannedFate) (seconds : ℕ) →
+    Sound verdicts wait fates
     → seconds ≤ MAX_WAIT → wait ≡ None → Sound (verdicts ++ []) (option_or wait (Some seconds)) (fates ++ [])
 more_wait verdicts wait fates seconds s few none =
     let same = unplanned verdicts wait fates s in
@@ -106,7 +118,8 @@ more_wait verdicts wait fates seconds s few none =
 abbrev IsSound : Above → Type 0
 IsSound above = Sound above.verdicts above.wait above.fates
 
-said_sound : (form : Form) (above : Above) (text : List ℕ) (meaning : Line) → line_said form above text ≡ Ok meaning → IsSound above → IsSound (with_line above meaning)
+said_sound : (form : Form) (above : Above) (text : List ℕ) (meaning : Line) → line_said form above text ≡ Ok meaning →
+    IsSound above → IsSound (with_line above meaning)
 said_sound form above text meaning e s =
     line_gives form above (λ (m : Line). IsSound (with_line above m)) (record {
       skip = unplanned above.verdicts above.wait above.fates s;
@@ -118,20 +131,24 @@ said_sound form above text meaning e s =
       link = λ fate fits first. more_fate above.verdicts above.wait above.fates fate s fits first;
     }) text meaning e
 
-all_sound : (form : Form) (before : List Line) (lines : List (List ℕ)) (meanings : List Line) → EachSays form before lines meanings → IsSound (above_of before)
+all_sound : (form : Form) (before : List Line) (lines : List (List ℕ)) (meanings : List Line) → EachSays form before lines
+    meanings → IsSound (above_of before)
     → IsSound (above_of (before ++ meanings))
 all_sound form before [] [] h s = subst (λ (b : List Line). IsSound (above_of b)) (sym (append-nil before)) s
 all_sound form before [] (m ∷ ms) h s = absurd h
 all_sound form before (l ∷ ls) [] h s = absurd h
 all_sound form before (l ∷ ls) (m ∷ ms) h s =
-    let one : IsSound (above_of (before ++ m ∷ [])) = subst IsSound (sym (above_more before m)) (said_sound form (above_of before) l m h.0 s) in
-    subst (λ (b : List Line). IsSound (above_of b)) (append_assoc before (m ∷ []) ms) (all_sound form (before ++ m ∷ []) ls ms h.1 one)
+    let one : IsSound (above_of (before ++ m ∷ [])) = subst IsSound (sym (above_more before m)) (said_sound form (above_of before)
+    l m h.0 s) in
+    subst (λ (b : List Line). IsSound (above_of b)) (append_assoc before (m ∷ []) ms) (all_sound form (before ++ m ∷ []) ls ms h.1
+    one)
 
 waits : (o : Option ℕ) → IfSome o (λ seconds. seconds ≤ MAX_WAIT) → unwrap_or o FIRST_WAIT ≤ MAX_WAIT
 waits None h = omega arith
 waits (Some seconds) h = h
 
-pub plan_sound : (form : Form) (lines : List (List ℕ)) (meanings : List Line) → EachSays form [] lines meanings → IsPlanned (plan_of meanings)
+pub plan_sound : (form : Form) (lines : List (List ℕ)) (meanings : List Line) → EachSays form [] lines meanings →
+    IsPlanned (plan_of meanings)
 plan_sound form lines meanings h =
     let s = all_sound form [] lines meanings h (record {
       verdicts_fit = tt;

@@ -1,6 +1,9 @@
 -- Lines of a script, read one after another.
 use mathlib.Core.Path.{fun_ext}
-use Rattle.std.proofs.Common.{◌≡◌, ◌∙◌, ℕ, ◌+◌, ◌≤◌, ◌<◌, List, [], ◌∷◌, ◌++◌, length, map, filter_map, count_by, refl, sym, ap, subst, append_assoc, length-append, arith, Option, Some, None, is_some, Bool, true, false, not, ◌==◌, nat_le, cond, if◌then◌else◌, get_or, codes, bytes_eq, Result, Ok, Err, IfOk, IfSome, inl, inr, ◌&&◌, Vec, Global, IsUtf8}
+use Rattle.std.proofs.Common.{◌≡◌, ◌∙◌, ℕ, ◌+◌, ◌≤◌, ◌<◌, List, [], ◌∷◌, ◌++◌, length, map, filter_map, count_by, refl, sym, ap}
+use Rattle.std.proofs.Common.{subst, append_assoc, length-append, arith, Option, Some, None, is_some, Bool, true, false, not}
+use Rattle.std.proofs.Common.{◌==◌, nat_le, cond, if◌then◌else◌, get_or, codes, bytes_eq, Result, Ok, Err, IfOk, IfSome, inl, inr}
+use Rattle.std.proofs.Common.{◌&&◌, Vec, Global, IsUtf8}
 use Rattle.std.specs.BTreeMap.{btree_map_len}
 use Rattle.std.specs.Int.{IsInRange}
 use Rattle.std.specs.Option.{ok_or, option_or}
@@ -34,13 +37,17 @@ use Rattle.series.specs.Numbers.{is_num_serie}
 use Rattle.script.specs.Planned.{IsPlannedVerdict, IsPlannedFate, IsPlannedCall}
 use Rattle.script.specs.Readings.{is_key, is_nif, fate_of}
 use Rattle.script.specs.Kept.{Answers, IsNew, IsRead, known, party_of}
-use Rattle.script.specs.Lines.{Above, above_of, said, line_said, fields_said, form_said, clock_said, customer_said, command_said, request_said, name_said, has_commands, is_skipped, verdict_of, verdict_said, wait_said, late_said, fate_said, link_said, planned_said, clock_in, ask_in, party_in, verdict_in, wait_in, fate_in, is_command, is_customer}
+use Rattle.script.specs.Lines.{Above, above_of, said, line_said, fields_said, form_said, clock_said, customer_said, command_said}
+use Rattle.script.specs.Lines.{request_said, name_said, has_commands, is_skipped, verdict_of, verdict_said, wait_said, late_said}
+use Rattle.script.specs.Lines.{fate_said, link_said, planned_said, clock_in, ask_in, party_in, verdict_in, wait_in, fate_in}
+use Rattle.script.specs.Lines.{is_command, is_customer}
 use Rattle.script.specs.Script.{EachSays, IsFirstBad}
 use Rattle.script.specs.declared.customers.Customers.{Customers}
 use Rattle.script.specs.declared.faults.Fault.{Fault}
 use Rattle.script.specs.declared.faults.Fault.TheVariants as fault
 use Rattle.script.specs.declared.forms.Form.{Form}
-use Rattle.script.specs.declared.limits.TheConstants.{MAX_START, MAX_STEP, MAX_CUSTOMERS, MAX_COMMANDS, MAX_NTH, MAX_CODE, MAX_WAIT, MAX_CALL, MAX_LATE}
+use Rattle.script.specs.declared.limits.TheConstants.{MAX_START, MAX_STEP, MAX_CUSTOMERS, MAX_COMMANDS, MAX_NTH, MAX_CODE}
+use Rattle.script.specs.declared.limits.TheConstants.{MAX_WAIT, MAX_CALL, MAX_LATE}
 use Rattle.script.specs.declared.lines.Line.{Line}
 use Rattle.script.specs.declared.lines.Line.TheVariants as line
 use Rattle.script.specs.declared.planning.Judging.{Judging}
@@ -52,11 +59,13 @@ use Rattle.script.proofs.Gathering.{first_more, or_none}
 
 -- an answer of an earlier step is handed on
 
-pub passes_on : {A B : Type 0} (bad : Fault) (first : Result A Word) (next : A → Result B Word) → Answers {A = A} first (Err bad) → Answers {A = B} (and_then first next) (Err bad)
+pub passes_on : {A B : Type 0} (bad : Fault) (first : Result A Word) (next : A → Result B Word) → Answers {A = A} first (Err bad)
+    → Answers {A = B} (and_then first next) (Err bad)
 passes_on (fault.Bad w) first next h = rw h refl
 passes_on fault.NoMemory first next h = tt
 
-pub answers_along : {B : Type 0} (one other : Result B Word) (answer : Result B Fault) → one ≡ other → Answers other answer → Answers one answer
+pub answers_along : {B : Type 0} (one other : Result B Word) (answer : Result B Fault) → one ≡ other → Answers other answer →
+    Answers one answer
 answers_along {B} one other answer e h = subst (λ (r : Result B Word). Answers r answer) (sym e) h
 
 -- a line that is read, and one that is no text
@@ -64,7 +73,8 @@ answers_along {B} one other answer e h = subst (λ (r : Result B Word). Answers 
 other_than : (a b : ℕ) → (a ≡ b → ⊥) → (a == b) ≡ false
 other_than a b h = grind (arith, nat_tests)
 
-pub read_on : (form : Form) (above : Above) (text : List ℕ) → (length text == 0) ≡ false → (get_or text 0 0 ≡ 35 → ⊥) → IsUtf8 text
+pub read_on : (form : Form) (above : Above) (text : List ℕ) → (length text == 0) ≡ false → (get_or text 0 0 ≡ 35 → ⊥) →
+    IsUtf8 text
     → line_said form above text ≡ fields_said form above (parts_of 32 text)
 read_on form above text some hash utf8 = rw (some, other_than (get_or text 0 0) 35 hash, is_utf8-from_IsUtf8 text utf8) refl
 
@@ -72,9 +82,11 @@ not_utf8 : (text : List ℕ) (b : Bool) → is_utf8 text ≡ b → (IsUtf8 text 
 not_utf8 text true e h = absurd (h (IsUtf8-from_is_utf8 text e))
 not_utf8 text false e h = e
 
-pub no_text : (form : Form) (above : Above) (text : List ℕ) → (length text == 0) ≡ false → (get_or text 0 0 ≡ 35 → ⊥) → (IsUtf8 text → ⊥)
+pub no_text : (form : Form) (above : Above) (text : List ℕ) → (length text == 0) ≡ false → (get_or text 0 0 ≡ 35 → ⊥) →
+    (IsUtf8 text → ⊥)
     → line_said form above text ≡ Err word.Utf8
-no_text form above text some hash utf8 = rw (some, other_than (get_or text 0 0) 35 hash, not_utf8 text (is_utf8 text) refl utf8) refl
+no_text form above text some hash utf8 = rw (some, other_than (get_or text 0 0) 35 hash, not_utf8 text (is_utf8 text) refl utf8)
+    refl
 
 -- what a line that says something says
 
@@ -93,19 +105,25 @@ pub record Gives (form : Form) (above : Above) (P : Line → Type 0) : Type 0 wh
   pub clock : (start step : ℕ) → above.clock ≡ None → P (line.Clock start step)
   pub customer : (key : List ℕ) (party : Party) → above.party key ≡ None → P (line.Customer key party)
   pub command : (ask : Asked) → has_commands form ≡ true → above.commands < MAX_COMMANDS → P (line.Command ask)
-  pub verdict : (verdict : PlannedVerdict) → IsPlannedVerdict verdict → verdict_for above.verdicts verdict.num verdict.n ≡ None → P (line.Verdict verdict)
+  pub verdict : (verdict : PlannedVerdict) → IsPlannedVerdict verdict → verdict_for above.verdicts verdict.num verdict.n ≡ None →
+      P (line.Verdict verdict)
   pub wait : (seconds : ℕ) → seconds ≤ MAX_WAIT → above.wait ≡ None → P (line.Wait seconds)
   pub link : (fate : PlannedFate) → IsPlannedCall fate → fate_at above.fates fate.call ≡ None → P (line.Link fate)
 
-clock_shape : (P : Line → Type 0) (above : Above) (a b : Result ℕ Word) (o : Option Word) → ((start step : ℕ) → above.clock ≡ None → P (line.Clock start step))
-    → IfOk (and_then a (λ start. and_then b (λ step. word_or o (unless_any (when (is_some above.clock) word.Twice ∷ []) (Ok (line.Clock start step)))))) P
+clock_shape : (P : Line → Type 0) (above : Above) (a b : Result ℕ Word) (o : Option Word) →
+    ((start step : ℕ) → above.clock ≡ None → P (line.Clock start step))
+    → IfOk (and_then a (λ start. and_then b (λ step. word_or o (unless_any (when (is_some above.clock) word.Twice ∷ [])
+    (Ok (line.Clock start step)))))) P
 clock_shape P above (Err w) b o h = tt
 clock_shape P above (Ok start) (Err w) o h = tt
 clock_shape P above (Ok start) (Ok step) (Some w) h = tt
 clock_shape P above (Ok start) (Ok step) None h = once P above.clock (line.Clock start step) (h start step)
 
-customer_shape : (P : Line → Type 0) (above : Above) (o : Option Word) (a b n : Result (List ℕ) Word) → ((key : List ℕ) (party : Party) → above.party key ≡ None → P (line.Customer key party))
-    → IfOk (word_or o (and_then a (λ key. and_then b (λ nif. and_then n (λ name. unless_any (when (is_some (above.party key)) word.Twice ∷ []) (Ok (line.Customer key (record { nif = nif; name = name })))))))) P
+customer_shape : (P : Line → Type 0) (above : Above) (o : Option Word) (a b n : Result (List ℕ) Word) →
+    ((key : List ℕ) (party : Party) → above.party key ≡ None → P (line.Customer key party))
+    → IfOk (word_or o (and_then a (λ key. and_then b (λ nif. and_then n
+    (λ name. unless_any (when (is_some (above.party key)) word.Twice ∷ [])
+    (Ok (line.Customer key (record { nif = nif; name = name })))))))) P
 customer_shape P above (Some w) a b n h = tt
 customer_shape P above None (Err w) b n h = tt
 customer_shape P above None (Ok key) (Err w) n h = tt
@@ -117,14 +135,18 @@ room : (n : ℕ) → nat_le MAX_COMMANDS n ≡ false → n < MAX_COMMANDS
 room n h = grind (arith, nat_tests)
 
 -- in a script with commands, below so many of them
-command_shape : (P : Line → Type 0) (commands many : Bool) (a b : Result ℕ Word) (r : Result Request Word) → ((ask : Asked) → commands ≡ true → many ≡ false → P (line.Command ask))
-    → IfOk (unless_any (when (not commands) word.Command ∷ when many word.TooMany ∷ []) (and_then a (λ till. and_then b (λ serial. and_then r (λ request. Ok (line.Command (record { till = till; serial = serial; request = request }))))))) P
+command_shape : (P : Line → Type 0) (commands many : Bool) (a b : Result ℕ Word) (r : Result Request Word) →
+    ((ask : Asked) → commands ≡ true → many ≡ false → P (line.Command ask))
+    → IfOk (unless_any (when (not commands) word.Command ∷ when many word.TooMany ∷ [])
+    (and_then a (λ till. and_then b (λ serial. and_then r
+    (λ request. Ok (line.Command (record { till = till; serial = serial; request = request }))))))) P
 command_shape P false many a b r h = tt
 command_shape P true true a b r h = tt
 command_shape P true false (Err w) b r h = tt
 command_shape P true false (Ok till) (Err w) r h = tt
 command_shape P true false (Ok till) (Ok serial) (Err w) h = tt
-command_shape P true false (Ok till) (Ok serial) (Ok request) h = h (record { till = till; serial = serial; request = request }) refl refl
+command_shape P true false (Ok till) (Ok serial) (Ok request) h = h (record { till = till; serial = serial; request = request })
+    refl refl
 
 -- a number is in the range that it was read for
 
@@ -143,18 +165,21 @@ found : {A : Type 0} (Q : A → Type 0) (o : Option A) (w : Word) → IfSome o Q
 found Q None w h = tt
 found Q (Some x) w h = h
 
-first_range : (low high : ℕ) (fields : List (List ℕ)) (w : Word) → IfOk (first_field fields (number_in low high) w) (IsInRange low high)
+first_range : (low high : ℕ) (fields : List (List ℕ)) (w : Word) → IfOk (first_field fields (number_in low high) w)
+    (IsInRange low high)
 first_range low high [] w = tt
 first_range low high (field ∷ fields) w =
     let n = digits_value 10 field in
     found (IsInRange low high) (number_in low high field) w (ranged low high n (bytes_eq field (whole_text n)))
 
-late_shape : (a : Result ℕ Word) (o : Option Word) → IfOk a (IsInRange 1 MAX_LATE) → IfOk (and_then a (λ calls. word_or o (Ok (Late calls)))) IsPlannedFate
+late_shape : (a : Result ℕ Word) (o : Option Word) → IfOk a (IsInRange 1 MAX_LATE) →
+    IfOk (and_then a (λ calls. word_or o (Ok (Late calls)))) IsPlannedFate
 late_shape (Err w) o h = tt
 late_shape (Ok calls) (Some w) h = tt
 late_shape (Ok calls) None h = h
 
-word_shape : (a : Result Fate Word) (o : Option Word) → IfOk a IsPlannedFate → IfOk (and_then a (λ fate. word_or o (Ok fate))) IsPlannedFate
+word_shape : (a : Result Fate Word) (o : Option Word) → IfOk a IsPlannedFate → IfOk (and_then a (λ fate. word_or o (Ok fate)))
+    IsPlannedFate
 word_shape (Err w) o h = tt
 word_shape (Ok fate) (Some w) h = tt
 word_shape (Ok fate) None h = h
@@ -166,7 +191,8 @@ one_word false false true d = tt
 one_word false false false true = tt
 one_word false false false false = tt
 
-fate_choice : (b : Bool) (one other : Result Fate Word) → IfOk one IsPlannedFate → IfOk other IsPlannedFate → IfOk (if b then one else other) IsPlannedFate
+fate_choice : (b : Bool) (one other : Result Fate Word) → IfOk one IsPlannedFate → IfOk other IsPlannedFate →
+    IfOk (if b then one else other) IsPlannedFate
 fate_choice true one other h k = h
 fate_choice false one other h k = k
 
@@ -174,20 +200,27 @@ fate_fits : (fields : List (List ℕ)) → IfOk (fate_said fields) IsPlannedFate
 fate_fits [] = tt
 fate_fits (field ∷ fields) =
     let left : Option Word = first_of (when (is_left fields) word.Fields ∷ []) in
-    fate_choice (bytes_eq field (codes "late")) (late_said fields) (and_then (ok_or (fate_of field) word.Fate) (λ (fate : Fate). word_or left (Ok fate)))
-    (late_shape (field_at 0 fields (number_in 1 MAX_LATE) word.Number) (first_of (when (is_left (past 1 fields)) word.Fields ∷ [])) (first_range 1 MAX_LATE fields word.Number))
+    fate_choice (bytes_eq field (codes "late")) (late_said fields) (and_then (ok_or (fate_of field) word.Fate)
+    (λ (fate : Fate). word_or left (Ok fate)))
+    (late_shape (field_at 0 fields (number_in 1 MAX_LATE) word.Number)
+    (first_of (when (is_left (past 1 fields)) word.Fields ∷ [])) (first_range 1 MAX_LATE fields word.Number))
     (word_shape (ok_or (fate_of field) word.Fate) left
-    (found IsPlannedFate (fate_of field) word.Fate (one_word (bytes_eq field (codes "lost")) (bytes_eq field (codes "taken")) (bytes_eq field (codes "stale")) (bytes_eq field (codes "again")))))
+    (found IsPlannedFate (fate_of field) word.Fate (one_word (bytes_eq field (codes "lost")) (bytes_eq field (codes "taken"))
+    (bytes_eq field (codes "stale")) (bytes_eq field (codes "again")))))
 
 verdict_fits : (judging : Judging) (num : List ℕ) (n code : ℕ) → IsInRange 1 MAX_NTH n → IsInRange 1 MAX_CODE code
     → IsPlannedVerdict (record { num = num; n = n; verdict = verdict_of judging code })
 verdict_fits judging.Vet num n code h k = (h, k)
 verdict_fits judging.Warn num n code h k = (h, k)
 
-verdict_shape : (P : Line → Type 0) (judging : Judging) (above : Above) (a : Result (List ℕ) Word) (b d : Result ℕ Word) (o : Option Word)
+verdict_shape : (P : Line → Type 0) (judging : Judging) (above : Above) (a : Result (List ℕ) Word) (b d : Result ℕ Word)
+    (o : Option Word)
     → IfOk b (IsInRange 1 MAX_NTH) → IfOk d (IsInRange 1 MAX_CODE)
-    → ((verdict : PlannedVerdict) → IsPlannedVerdict verdict → verdict_for above.verdicts verdict.num verdict.n ≡ None → P (line.Verdict verdict))
-    → IfOk (and_then a (λ num. and_then b (λ n. and_then d (λ code. word_or o (unless_any (when (is_some (verdict_for above.verdicts num n)) word.Twice ∷ []) (Ok (line.Verdict (record { num = num; n = n; verdict = verdict_of judging code })))))))) P
+    → ((verdict : PlannedVerdict) → IsPlannedVerdict verdict → verdict_for above.verdicts verdict.num verdict.n ≡ None →
+    P (line.Verdict verdict))
+    → IfOk (and_then a (λ num. and_then b (λ n. and_then d (λ code. word_or o
+    (unless_any (when (is_some (verdict_for above.verdicts num n)) word.Twice ∷ [])
+    (Ok (line.Verdict (record { num = num; n = n; verdict = verdict_of judging code })))))))) P
 verdict_shape P judging above (Err w) b d o nth coded h = tt
 verdict_shape P judging above (Ok num) (Err w) d o nth coded h = tt
 verdict_shape P judging above (Ok num) (Ok n) (Err w) o nth coded h = tt
@@ -203,44 +236,57 @@ wait_shape P above (Err w) o range h = tt
 wait_shape P above (Ok seconds) (Some w) range h = tt
 wait_shape P above (Ok seconds) None range h = once P above.wait (line.Wait seconds) (h seconds range.1)
 
-link_shape : (P : Line → Type 0) (above : Above) (a : Result ℕ Word) (b : Result Fate Word) → IfOk a (IsInRange 1 MAX_CALL) → IfOk b IsPlannedFate
+link_shape : (P : Line → Type 0) (above : Above) (a : Result ℕ Word) (b : Result Fate Word) → IfOk a (IsInRange 1 MAX_CALL) →
+    IfOk b IsPlannedFate
     → ((fate : PlannedFate) → IsPlannedCall fate → fate_at above.fates fate.call ≡ None → P (line.Link fate))
-    → IfOk (and_then a (λ call. and_then b (λ fate. unless_any (when (is_some (fate_at above.fates call)) word.Twice ∷ []) (Ok (line.Link (record { call = call; fate = fate })))))) P
+    → IfOk (and_then a (λ call. and_then b (λ fate. unless_any (when (is_some (fate_at above.fates call)) word.Twice ∷ [])
+    (Ok (line.Link (record { call = call; fate = fate })))))) P
 link_shape P above (Err w) b range fits h = tt
 link_shape P above (Ok call) (Err w) range fits h = tt
 link_shape P above (Ok call) (Ok fate) range fits h =
-    let planned : PlannedFate = record { call = call; fate = fate } in once P (fate_at above.fates call) (line.Link planned) (h planned (range, fits))
+    let planned : PlannedFate = record { call = call; fate = fate } in once P (fate_at above.fates call) (line.Link planned)
+    (h planned (range, fits))
 
-command_gives : (form : Form) (above : Above) (P : Line → Type 0) → Gives form above P → (command : Command) (fields : List (List ℕ)) → IfOk (command_said form above command fields) P
+command_gives : (form : Form) (above : Above) (P : Line → Type 0) → Gives form above P →
+    (command : Command) (fields : List (List ℕ)) → IfOk (command_said form above command fields) P
 command_gives form above P g command fields =
-    command_shape P (has_commands form) (nat_le MAX_COMMANDS above.commands) (field_at 0 fields (number_in 1 64) word.Till) (field_at 1 fields (number_in 1 4_294_967_295) word.Number)
+    command_shape P (has_commands form) (nat_le MAX_COMMANDS above.commands) (field_at 0 fields (number_in 1 64) word.Till)
+    (field_at 1 fields (number_in 1 4_294_967_295) word.Number)
     (request_said command above.party (past 2 fields)) (λ ask full few. g.command ask full (room above.commands few))
 
-verdict_gives : (form : Form) (above : Above) (P : Line → Type 0) → Gives form above P → (judging : Judging) (fields : List (List ℕ)) → IfOk (verdict_said judging above fields) P
+verdict_gives : (form : Form) (above : Above) (P : Line → Type 0) → Gives form above P →
+    (judging : Judging) (fields : List (List ℕ)) → IfOk (verdict_said judging above fields) P
 verdict_gives form above P g judging fields =
-    verdict_shape P judging above (field_at 0 fields (such is_num_serie) word.Num) (field_at 1 fields (number_in 1 MAX_NTH) word.Number)
+    verdict_shape P judging above (field_at 0 fields (such is_num_serie) word.Num) (field_at 1 fields (number_in 1 MAX_NTH)
+    word.Number)
     (field_at 2 fields (number_in 1 MAX_CODE) word.Number) (first_of (when (is_left (past 3 fields)) word.Fields ∷ []))
     (first_range 1 MAX_NTH (past 1 fields) word.Number) (first_range 1 MAX_CODE (past 2 fields) word.Number) g.verdict
 
-choice : (P : Line → Type 0) (b : Bool) (one other : Result Line Word) → IfOk one P → IfOk other P → IfOk (if b then one else other) P
+choice : (P : Line → Type 0) (b : Bool) (one other : Result Line Word) → IfOk one P → IfOk other P →
+    IfOk (if b then one else other) P
 choice P true one other h k = h
 choice P false one other h k = k
 
-planned_gives : (form : Form) (above : Above) (P : Line → Type 0) → Gives form above P → (verb : List ℕ) (fields : List (List ℕ)) → IfOk (planned_said above verb fields) P
+planned_gives : (form : Form) (above : Above) (P : Line → Type 0) → Gives form above P → (verb : List ℕ) (fields : List (List ℕ))
+    → IfOk (planned_said above verb fields) P
 planned_gives form above P g verb fields =
     let linked = if bytes_eq verb (codes "link") then link_said above fields else Err word.Verb in
     let waited = if bytes_eq verb (codes "wait") then wait_said above fields else linked in
     let warned = if bytes_eq verb (codes "warn") then verdict_said judging.Warn above fields else waited in
-    choice P (bytes_eq verb (codes "vet")) (verdict_said judging.Vet above fields) warned (verdict_gives form above P g judging.Vet fields)
-    (choice P (bytes_eq verb (codes "warn")) (verdict_said judging.Warn above fields) waited (verdict_gives form above P g judging.Warn fields)
+    choice P (bytes_eq verb (codes "vet")) (verdict_said judging.Vet above fields) warned
+    (verdict_gives form above P g judging.Vet fields)
+    (choice P (bytes_eq verb (codes "warn")) (verdict_said judging.Warn above fields) waited
+    (verdict_gives form above P g judging.Warn fields)
     (choice P (bytes_eq verb (codes "wait")) (wait_said above fields) linked
-    (wait_shape P above (field_at 0 fields (number_in 0 MAX_WAIT) word.Number) (first_of (when (is_left (past 1 fields)) word.Fields ∷ []))
+    (wait_shape P above (field_at 0 fields (number_in 0 MAX_WAIT) word.Number)
+    (first_of (when (is_left (past 1 fields)) word.Fields ∷ []))
     (first_range 0 MAX_WAIT fields word.Number) g.wait)
     (choice P (bytes_eq verb (codes "link")) (link_said above fields) (Err word.Verb)
     (link_shape P above (field_at 0 fields (number_in 1 MAX_CALL) word.Number) (fate_said (past 1 fields))
     (first_range 1 MAX_CALL fields word.Number) (fate_fits (past 1 fields)) g.link) tt)))
 
-form_gives : (form : Form) (above : Above) (P : Line → Type 0) → Gives form above P → (verb : List ℕ) (fields : List (List ℕ)) → IfOk (form_said form above verb fields) P
+form_gives : (form : Form) (above : Above) (P : Line → Type 0) → Gives form above P → (verb : List ℕ) (fields : List (List ℕ)) →
+    IfOk (form_said form above verb fields) P
 form_gives form above P g verb fields =
     let cancelled = command_said form above command.Cancel fields in
     let fixed = command_said form above command.Fix fields in
@@ -251,27 +297,34 @@ form_gives form above P g verb fields =
     let second = if bytes_eq verb (codes "sale") then sold else third in
     let first = if bytes_eq verb (codes "customer") then customer_said above fields else second in
     choice P (bytes_eq verb (codes "clock")) (clock_said above fields) first
-    (clock_shape P above (field_at 0 fields (number_in 0 MAX_START) word.Number) (field_at 1 fields (number_in 0 MAX_STEP) word.Number)
+    (clock_shape P above (field_at 0 fields (number_in 0 MAX_START) word.Number) (field_at 1 fields (number_in 0 MAX_STEP)
+    word.Number)
     (first_of (when (is_left (past 2 fields)) word.Fields ∷ [])) g.clock)
     (choice P (bytes_eq verb (codes "customer")) (customer_said above fields) second
-    (customer_shape P above (first_of (when (nat_le MAX_CUSTOMERS above.customers) word.TooMany ∷ [])) (field_at 0 fields (such is_key) word.Customer)
+    (customer_shape P above (first_of (when (nat_le MAX_CUSTOMERS above.customers) word.TooMany ∷ []))
+    (field_at 0 fields (such is_key) word.Customer)
     (field_at 1 fields (such is_nif) word.Nif) (name_said (past 2 fields)) g.customer)
     (choice P (bytes_eq verb (codes "sale")) sold third (command_gives form above P g command.Sale fields)
     (choice P (bytes_eq verb (codes "fix")) fixed last (command_gives form above P g command.Fix fields)
-    (choice P (bytes_eq verb (codes "cancel")) cancelled planned (command_gives form above P g command.Cancel fields) (planned_gives form above P g verb fields)))))
+    (choice P (bytes_eq verb (codes "cancel")) cancelled planned (command_gives form above P g command.Cancel fields)
+    (planned_gives form above P g verb fields)))))
 
-fields_give : (form : Form) (above : Above) (P : Line → Type 0) → Gives form above P → (fields : List (List ℕ)) → IfOk (fields_said form above fields) P
+fields_give : (form : Form) (above : Above) (P : Line → Type 0) → Gives form above P → (fields : List (List ℕ)) →
+    IfOk (fields_said form above fields) P
 fields_give form above P g [] = tt
 fields_give form above P g (verb ∷ fields) = form_gives form above P g verb fields
 
-pub line_gives : (form : Form) (above : Above) (P : Line → Type 0) → Gives form above P → (text : List ℕ) (meaning : Line) → line_said form above text ≡ Ok meaning → P meaning
+pub line_gives : (form : Form) (above : Above) (P : Line → Type 0) → Gives form above P → (text : List ℕ) (meaning : Line) →
+    line_said form above text ≡ Ok meaning → P meaning
 line_gives form above P g text meaning e =
     let fields = fields_said form above (parts_of 32 text) in
     let utf8 = first_of (when (not (is_utf8 text)) word.Utf8 ∷ []) in
     subst (λ (r : Result Line Word). IfOk r P) e
-    (choice P (is_skipped text) (Ok line.Skip) (word_or utf8 fields) g.skip (worded_gives P utf8 fields (fields_give form above P g (parts_of 32 text))))
+    (choice P (is_skipped text) (Ok line.Skip) (word_or utf8 fields) g.skip
+    (worded_gives P utf8 fields (fields_give form above P g (parts_of 32 text))))
 
-pub said_is_new : (form : Form) (above : Above) (text : List ℕ) (meaning : Line) → line_said form above text ≡ Ok meaning → IsNew above meaning
+pub said_is_new : (form : Form) (above : Above) (text : List ℕ) (meaning : Line) → line_said form above text ≡ Ok meaning →
+    IsNew above meaning
 said_is_new form above text meaning e =
     line_gives form above (IsNew above) (record {
       skip = tt;
@@ -285,7 +338,8 @@ said_is_new form above text meaning e =
 
 -- without commands no line asks for anything
 
-no_ask : (form : Form) (above : Above) (text : List ℕ) (meaning : Line) → has_commands form ≡ false → line_said form above text ≡ Ok meaning → ask_in meaning ≡ None
+no_ask : (form : Form) (above : Above) (text : List ℕ) (meaning : Line) → has_commands form ≡ false → line_said form above text ≡
+    Ok meaning → ask_in meaning ≡ None
 no_ask form above text meaning none e =
     line_gives form above (λ (m : Line). ask_in m ≡ None) (record {
       skip = refl;
@@ -297,10 +351,12 @@ no_ask form above text meaning none e =
       link = λ fate fits first. refl;
     }) text meaning e
 
-skipped : (meaning : Line) (meanings : List Line) → ask_in meaning ≡ None → filter_map ask_in meanings ≡ [] → filter_map ask_in (meaning ∷ meanings) ≡ []
+skipped : (meaning : Line) (meanings : List Line) → ask_in meaning ≡ None → filter_map ask_in meanings ≡ [] →
+    filter_map ask_in (meaning ∷ meanings) ≡ []
 skipped meaning meanings none rest = rw none rest
 
-pub no_asks : (form : Form) (before : List Line) (lines : List (List ℕ)) (meanings : List Line) → has_commands form ≡ false → EachSays form before lines meanings
+pub no_asks : (form : Form) (before : List Line) (lines : List (List ℕ)) (meanings : List Line) → has_commands form ≡ false →
+    EachSays form before lines meanings
     → filter_map ask_in meanings ≡ []
 no_asks form before [] [] none h = refl
 no_asks form before [] (m ∷ ms) none h = absurd h
@@ -333,7 +389,15 @@ record IsSame (one other : Above) : Type 0 where
 
 same_above : (one other : Above) → IsSame one other → one ≡ other
 same_above one other s =
-    let party : one.party ≡ other.party = fun_ext s.party in rw (s.clock, s.commands, s.customers, party, s.verdicts, s.wait, s.fates) refl
+    let party : one.party ≡ other.party = fun_ext s.party in rw (
+      s.clock,
+      s.commands,
+      s.customers,
+      party,
+      s.verdicts,
+      s.wait,
+      s.fates,
+    ) refl
 
 pub above_more : (before : List Line) (meaning : Line) → above_of (before ++ meaning ∷ []) ≡ with_line (above_of before) meaning
 above_more before meaning =
@@ -348,10 +412,13 @@ above_more before meaning =
     })
 
 -- one line more was read
-read_more : (before : List Line) (meaning : Line) (old new : SoFar) → IsRead before old → IsSame (known new) (with_line (known old) meaning)
-    → new.asks.items ≡ old.asks.items ++ filter_map ask_in (meaning ∷ []) → length new.asks.items ≤ MAX_COMMANDS → IsRead (before ++ meaning ∷ []) new
+read_more : (before : List Line) (meaning : Line) (old new : SoFar) → IsRead before old →
+    IsSame (known new) (with_line (known old) meaning)
+    → new.asks.items ≡ old.asks.items ++ filter_map ask_in (meaning ∷ []) → length new.asks.items ≤ MAX_COMMANDS →
+    IsRead (before ++ meaning ∷ []) new
 read_more before meaning old new r same asks few = record {
-  above = same_above (known new) (with_line (known old) meaning) same ∙ ap (λ (above : Above). with_line above meaning) r.above ∙ sym (above_more before meaning);
+  above = same_above (known new) (with_line (known old) meaning) same ∙ ap (λ (above : Above). with_line above meaning) r.above ∙
+      sym (above_more before meaning);
   asks = rw (filter_map-append ask_in before (meaning ∷ []), ← r.asks) asks;
   few = few;
 }
@@ -394,7 +461,8 @@ party_new key other party of true e none =
     subst (λ (o : Option Party). Some party ≡ option_or o (Some party)) (sym none ∙ ap of same) refl
 party_new key other party of false e none = or_none (of other)
 
-pub read_customer : (before : List Line) (read : SoFar) (customers : Customers) (key : List ℕ) (party : Party) → IsRead before read → party_of read.customers key ≡ None
+pub read_customer : (before : List Line) (read : SoFar) (customers : Customers) (key : List ℕ) (party : Party) →
+    IsRead before read → party_of read.customers key ≡ None
     → btree_map_len customers.by_key ≡ btree_map_len read.customers.by_key + 1
     → ((other : List ℕ) → party_of customers other ≡ (if bytes_eq key other then Some party else party_of read.customers other))
     → IsRead (before ++ line.Customer key party ∷ []) (record read { customers = customers })
@@ -411,7 +479,8 @@ read_customer before read customers key party r none count found =
     })
     (sym (append-nil _)) r.few
 
-pub read_command : (before : List Line) (read : SoFar) (ask : Asked) (asks : Vec Asked Global) → IsRead before read → length read.asks.items < MAX_COMMANDS → asks.items ≡ read.asks.items ++ ask ∷ []
+pub read_command : (before : List Line) (read : SoFar) (ask : Asked) (asks : Vec Asked Global) → IsRead before read →
+    length read.asks.items < MAX_COMMANDS → asks.items ≡ read.asks.items ++ ask ∷ []
     → IsRead (before ++ line.Command ask ∷ []) (record read { asks = asks })
 read_command before read ask asks r less e =
     let more = ap length e ∙ length-append read.asks.items (ask ∷ []) in
@@ -425,7 +494,8 @@ read_command before read ask asks r less e =
       fates = sym (append-nil read.fates);
     }) e (omega arith)
 
-pub read_verdict : (before : List Line) (read : SoFar) (verdict : PlannedVerdict) (verdicts : List PlannedVerdict) → IsRead before read → verdicts ≡ read.verdicts ++ verdict ∷ []
+pub read_verdict : (before : List Line) (read : SoFar) (verdict : PlannedVerdict) (verdicts : List PlannedVerdict) →
+    IsRead before read → verdicts ≡ read.verdicts ++ verdict ∷ []
     → IsRead (before ++ line.Verdict verdict ∷ []) (record read { verdicts = verdicts })
 read_verdict before read verdict verdicts r e =
     read_more before (line.Verdict verdict) read (record read { verdicts = verdicts }) r (record {
@@ -451,7 +521,8 @@ read_wait before read seconds r none =
       fates = sym (append-nil read.fates);
     }) (sym (append-nil _)) r.few
 
-pub read_link : (before : List Line) (read : SoFar) (fate : PlannedFate) (fates : List PlannedFate) → IsRead before read → fates ≡ read.fates ++ fate ∷ []
+pub read_link : (before : List Line) (read : SoFar) (fate : PlannedFate) (fates : List PlannedFate) → IsRead before read →
+    fates ≡ read.fates ++ fate ∷ []
     → IsRead (before ++ line.Link fate ∷ []) (record read { fates = fates })
 read_link before read fate fates r e =
     read_more before (line.Link fate) read (record read { fates = fates }) r (record {
@@ -467,44 +538,57 @@ read_link before read fate fates r e =
 -- all lines, those that were read and those to come
 
 each_more : (form : Form) (before : List Line) (lines : List (List ℕ)) (meanings : List Line) (text : List ℕ) (meaning : Line)
-    → EachSays form before lines meanings → said form (before ++ meanings) text ≡ Ok meaning → EachSays form before (lines ++ text ∷ []) (meanings ++ meaning ∷ [])
-each_more form before [] [] text meaning h e = (subst (λ (b : List Line). said form b text ≡ Ok meaning) (append-nil before) e, tt)
+    → EachSays form before lines meanings → said form (before ++ meanings) text ≡ Ok meaning →
+    EachSays form before (lines ++ text ∷ []) (meanings ++ meaning ∷ [])
+each_more form before [] [] text meaning h e = (
+  subst (λ (b : List Line). said form b text ≡ Ok meaning) (append-nil before) e,
+  tt,
+)
 each_more form before [] (x ∷ xs) text meaning h e = absurd h
 each_more form before (l ∷ ls) [] text meaning h e = absurd h
-each_more form before (l ∷ ls) (x ∷ xs) text meaning h e =
-    (h.0, each_more form (before ++ x ∷ []) ls xs text meaning h.1 (subst (λ (b : List Line). said form b text ≡ Ok meaning) (sym (append_assoc before (x ∷ []) xs)) e))
+each_more form before (l ∷ ls) (x ∷ xs) text meaning h e = (
+  h.0,
+  each_more form (before ++ x ∷ []) ls xs text meaning h.1 (subst (λ (b : List Line). said form b text ≡ Ok meaning)
+      (sym (append_assoc before (x ∷ []) xs)) e),
+)
 
 abbrev pub to_come : List (List ℕ) → List (List ℕ)
 to_come lines = map strip_carriage_return lines
 
 -- all lines are those that were read and those to come, and as many were numbered as were read
-pub record IsPartway (form : Form) (all front left : List (List ℕ)) (meanings : List Line) (number : ℕ) (read : SoFar) : Type 0 where
-  pub split : all ≡ front ++ to_come left
-  pub each : EachSays form [] front meanings
-  pub numbered : number ≡ length front
-  pub good : IsRead meanings read
+pub record IsPartway (form : Form) (all front left : List (List ℕ)) (meanings : List Line) (number : ℕ) (read : SoFar) : Type 0
+  where
+    pub split : all ≡ front ++ to_come left
+    pub each : EachSays form [] front meanings
+    pub numbered : number ≡ length front
+    pub good : IsRead meanings read
 
 said_here : (form : Form) (meanings : List Line) (read : SoFar) (line text : List ℕ) (answer : Result Line Word)
-    → IsRead meanings read → line ≡ strip_carriage_return text → line_said form (known read) line ≡ answer → said form meanings (strip_carriage_return text) ≡ answer
+    → IsRead meanings read → line ≡ strip_carriage_return text → line_said form (known read) line ≡ answer →
+    said form meanings (strip_carriage_return text) ≡ answer
 said_here form meanings read line text answer r e h =
-    subst (λ (above : Above). line_said form above (strip_carriage_return text) ≡ answer) r.above (subst (λ (l : List ℕ). line_said form (known read) l ≡ answer) e h)
+    subst (λ (above : Above). line_said form above (strip_carriage_return text) ≡ answer) r.above
+    (subst (λ (l : List ℕ). line_said form (known read) l ≡ answer) e h)
 
 onward : (all front left after : List (List ℕ)) (text : List ℕ) → all ≡ front ++ to_come left → left ≡ text ∷ after
     → all ≡ front ++ strip_carriage_return text ∷ to_come after
 onward all front left after text split e = split ∙ ap (λ (ls : List (List ℕ)). front ++ to_come ls) e
 
-pub next_line : (form : Form) (all front left after : List (List ℕ)) (meanings : List Line) (line text : List ℕ) (meaning : Line) (number : ℕ) (read new : SoFar)
+pub next_line : (form : Form) (all front left after : List (List ℕ)) (meanings : List Line) (line text : List ℕ) (meaning : Line)
+    (number : ℕ) (read new : SoFar)
     → IsPartway form all front left meanings number read → left ≡ text ∷ after → line ≡ strip_carriage_return text
     → line_said form (known read) line ≡ Ok meaning → IsRead (meanings ++ meaning ∷ []) new
     → IsPartway form all (front ++ strip_carriage_return text ∷ []) after (meanings ++ meaning ∷ []) (number + 1) new
 next_line form all front left after meanings line text meaning number read new h e cut is good = record {
   split = onward all front left after text h.split e ∙ sym (append_assoc front (strip_carriage_return text ∷ []) (to_come after));
-  each = each_more form [] front meanings (strip_carriage_return text) meaning h.each (said_here form meanings read line text (Ok meaning) h.good cut is);
+  each = each_more form [] front meanings (strip_carriage_return text) meaning h.each (said_here form meanings read line text
+      (Ok meaning) h.good cut is);
   numbered = ap (λ k. k + 1) h.numbered ∙ sym (length-append front (strip_carriage_return text ∷ []));
   good = good;
 }
 
-pub first_bad : (form : Form) (all front left after : List (List ℕ)) (meanings : List Line) (line text : List ℕ) (w : Word) (number : ℕ) (read : SoFar)
+pub first_bad : (form : Form) (all front left after : List (List ℕ)) (meanings : List Line) (line text : List ℕ) (w : Word)
+    (number : ℕ) (read : SoFar)
     → IsPartway form all front left meanings number read → left ≡ text ∷ after → line ≡ strip_carriage_return text
     → line_said form (known read) line ≡ Err w → IsFirstBad form all (number + 1) w
 first_bad form all front left after meanings line text w number read h e cut is = record {

@@ -1,5 +1,6 @@
 -- Tables of what is planned, with one line more.
-use Rattle.std.proofs.Common.{◌≡◌, ◌∙◌, sym, ap, refl, ℕ, List, [], ◌∷◌, ◌++◌, Bool, true, false, cond, nat_eq, bytes_eq, ◌&&◌, find, Option, Some, None, option_map, is_some}
+use Rattle.std.proofs.Common.{◌≡◌, ◌∙◌, sym, ap, refl, ℕ, List, [], ◌∷◌, ◌++◌, Bool, true, false, cond, nat_eq, bytes_eq, ◌&&◌}
+use Rattle.std.proofs.Common.{find, Option, Some, None, option_map, is_some}
 use Rattle.std.specs.HashSet.{HashSet, Updates}
 use Rattle.agency_rules.specs.declared.plans.PlannedFate.{PlannedFate}
 use Rattle.agency_rules.specs.declared.plans.PlannedVerdict.{PlannedVerdict}
@@ -15,7 +16,8 @@ found_next true true y o p h = refl
 found_next true false y o p h = refl
 found_next false c y o p h = h
 
-find_more : {A : Type 0} (test : A → Bool) (xs : List A) (x : A) → is_some (find test (xs ++ x ∷ [])) ≡ cond (test x) true (is_some (find test xs))
+find_more : {A : Type 0} (test : A → Bool) (xs : List A) (x : A) → is_some (find test (xs ++ x ∷ [])) ≡ cond (test x) true
+    (is_some (find test xs))
 find_more test [] x = found_first (test x) x
 find_more test (y ∷ xs) x = found_next (test y) (test x) y (find test (xs ++ x ∷ [])) (find test xs) (find_more test xs x)
 
@@ -29,11 +31,13 @@ found_more f test xs x =
     mapped f (find test (xs ++ x ∷ [])) ∙ find_more test xs x ∙ ap (λ b. cond (test x) true b) (sym (mapped f (find test xs)))
 
 pub one_more_record : {S : Type 0} (verdicts : List PlannedVerdict) (verdict : PlannedVerdict) (old new : HashSet (List ℕ × ℕ) S)
-    → AreRecordsOf verdicts old → Updates is_same_record old new (verdict.num, verdict.n) true → AreRecordsOf (verdicts ++ verdict ∷ []) new
+    → AreRecordsOf verdicts old → Updates is_same_record old new (verdict.num, verdict.n) true →
+    AreRecordsOf (verdicts ++ verdict ∷ []) new
 one_more_record verdicts verdict old new h updates num n =
     let same = is_same_record (verdict.num, verdict.n) (num, n) in
     updates.0 (num, n) ∙ ap (λ b. cond same true b) (h num n)
-    ∙ sym (found_more (λ (v : PlannedVerdict). v.verdict) (λ (v : PlannedVerdict). bytes_eq v.num num && nat_eq v.n n) verdicts verdict)
+    ∙ sym (found_more (λ (v : PlannedVerdict). v.verdict) (λ (v : PlannedVerdict). bytes_eq v.num num && nat_eq v.n n) verdicts
+    verdict)
 
 pub one_more_call : {S : Type 0} (fates : List PlannedFate) (fate : PlannedFate) (old new : HashSet ℕ S)
     → AreCallsOf fates old → Updates nat_eq old new fate.call true → AreCallsOf (fates ++ fate ∷ []) new

@@ -8,10 +8,10 @@ use Rattle.shop_core.specs.declared.words.Word.{Word}
 use Rattle.shop_core.specs.declared.words.Word.TheVariants.{Lines}
 use Rattle.tax_lines.specs.declared.lines.TaxLine.{TaxLine}
 use Rattle.script.specs.Fields.{unless_any}
-use Rattle.script.specs.Items.{to_in, rect_in, ref_in, line_in, draft_of}
+use Rattle.script.specs.Options.{to_in, rect_in, ref_in, line_in, draft_of}
 use Rattle.script.specs.Readings.{is_breakdown}
 use Rattle.script.specs.declared.drafts.Gathered.{Gathered}
-use Rattle.script.specs.declared.items.Item.{Item}
+use Rattle.script.specs.declared.options.Item.{Item}
 
 -- what these items are together
 pub record IsGathered (items : List Item) (gathered : Gathered) : Type 0 where

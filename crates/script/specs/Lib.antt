@@ -2,7 +2,7 @@ pub mod Cuts
 pub mod Numbers
 pub mod Fields
 pub mod Readings
-pub mod Items
+pub mod Options
 pub mod Lines
 pub mod Script
 pub mod Kept

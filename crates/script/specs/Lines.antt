@@ -24,7 +24,7 @@ use Rattle.shop_core.specs.declared.words.Word.{Word}
 use Rattle.shop_core.specs.declared.words.Word.TheVariants as word
 use Rattle.script.specs.Cuts.{parts_of}
 use Rattle.script.specs.Fields.{and_then, unless_any, such, past, field_at, ends_at}
-use Rattle.script.specs.Items.{draft_said}
+use Rattle.script.specs.Options.{draft_said}
 use Rattle.script.specs.Numbers.{number_in}
 use Rattle.script.specs.Readings.{kind_of, fate_of, is_key, is_nif, is_name}
 use Rattle.script.specs.declared.forms.Form.{Form}

@@ -1,15 +1,15 @@
 // The draft of an invoice, from the fields past its kind.
 ghost use Rattle.std.specs.Prelude.{◌≡◌, ◌++◌, ◌∷◌, [], List, ℕ};
 ghost use Rattle.invoice_kinds.specs.declared.kind.Kind.{Kind as AnyKind};
-ghost use Rattle.script.specs.declared.items.Item.{Item as AnyItem};
-ghost use Rattle.script.specs.Items.{draft_said};
+ghost use Rattle.script.specs.declared.options.Item.{Item as AnyItem};
+ghost use Rattle.script.specs.Options.{draft_said};
 ghost use Rattle.script.specs.Kept.{Answers, party_of};
 ghost use Rattle.script.specs.Gathered.{IsGathered, Gathers, breakdown_said, gathered_said};
 
 use crate::customers::Customers;
 use crate::faults::Fault;
 use crate::fields::Fields;
-use crate::items::{Item, Seen, said_by};
+use crate::options::{Item, Seen, said_by};
 use invoice_kinds::{Kind, RectKind};
 use parties::Party;
 use ports::NoMemory;

@@ -5,9 +5,9 @@ ghost use Rattle.script.specs.Kept.{known};
 ghost use Rattle.script.specs.Lines as spec;
 
 use crate::fields::Fields;
-use crate::items::is_word;
 use crate::limits::{MAX_CALL, MAX_CODE, MAX_LATE, MAX_NTH, MAX_WAIT};
 use crate::lines::Line;
+use crate::options::is_word;
 use crate::readings::{fate_of, num, number};
 use crate::scripts::SoFar;
 use agency_rules::{Fate, PlannedFate, PlannedVerdict, Verdict};

@@ -8,11 +8,19 @@ use Rattle.sender.specs.Agreeing.{BeginsCareful, AgreedAreRuns, BeginsInSession,
 use Rattle.sender.proofs.Lists.{all_change}
 
 pub begins_careful : BeginsCareful
-begins_careful past seen legal runs = record { session = []; is = sym (append-nil past); never = tt; legal = legal; runs = runs; light = λ e. absurd cc }
+begins_careful past seen legal runs = record {
+  session = [];
+  is = sym (append-nil past);
+  never = tt;
+  legal = legal;
+  runs = runs;
+  light = λ e. absurd cc;
+}
 
 pub agreed_runs : AgreedAreRuns
 agreed_runs entries processed sent agree =
-    all_change (λ (batch : List Sealed). IsRun (recs entries) batch (length processed) (length (noted entries) + 1000)) (λ (batch : List Sealed). IsRunBy (recs entries) batch (length (noted entries) + 1000))
+    all_change (λ (batch : List Sealed). IsRun (recs entries) batch (length processed) (length (noted entries) + 1000))
+    (λ (batch : List Sealed). IsRunBy (recs entries) batch (length (noted entries) + 1000))
     (λ batch run. record { before = run.before; after = run.after; run = run.run; ends = run.ends }) sent agree.batches
 
 pub begins_in_session : BeginsInSession

@@ -13,24 +13,29 @@ use Rattle.sender.specs.declared.answers.SendFault.TheVariants.{LinkFault}
 use Rattle.sender.specs.Sending.{Sending}
 use Rattle.sender.specs.Turning.{Deed, Nothing, Asked, Handed, Kind, Desk, Dealt, RestEnds, SeenEnds, ReplyEnds, Ends, Turned}
 
-later : (kind : Kind) (desk desk_then : Desk) (shown : Waiting) (deed : Deed) → Dealt kind desk desk_then shown deed → desk.faults ≤ desk_then.faults
+later : (kind : Kind) (desk desk_then : Desk) (shown : Waiting) (deed : Deed) → Dealt kind desk desk_then shown deed →
+    desk.faults ≤ desk_then.faults
 later kind desk desk_then shown Nothing dealt = let e = ap (λ (d : Desk). d.faults) dealt in omega arith
 later kind desk desk_then shown (Asked answer) dealt = dealt.0.later
 later kind desk desk_then shown (Handed answer) dealt = dealt.0.later
 
-pub turn_later : (kind : Kind) (desk desk_then : Desk) (before after : Sight) (old new : Sending) (now : ℕ) (result : Result Turn SendFault) → Turned kind desk desk_then before after old new now result → desk.faults ≤ desk_then.faults
+pub turn_later : (kind : Kind) (desk desk_then : Desk) (before after : Sight) (old new : Sending) (now : ℕ)
+    (result : Result Turn SendFault) → Turned kind desk desk_then before after old new now result → desk.faults ≤ desk_then.faults
 turn_later kind desk desk_then before after old new now result t = later kind desk desk_then t.shown t.deals.deed t.deals.dealt
 
 no_link_at_rest : (old : Sending) (now : ℕ) (shown : Waiting) → RestEnds old now shown (Err LinkFault) → ⊥
 no_link_at_rest old now shown ends = ends
 
-no_link_seen : (said : Option Replied) (shown : Waiting) (seen : List Seen) (look after : Sight) (doubt : Bool) → SeenEnds said shown seen look after (Err LinkFault) doubt → ⊥
+no_link_seen : (said : Option Replied) (shown : Waiting) (seen : List Seen) (look after : Sight) (doubt : Bool) →
+    SeenEnds said shown seen look after (Err LinkFault) doubt → ⊥
 no_link_seen said shown seen look after doubt ends = ends
 
-no_link_told : (shown : Waiting) (reply : Replied) (look after : Sight) (doubt : Bool) → ReplyEnds shown reply look after (Err LinkFault) doubt → ⊥
+no_link_told : (shown : Waiting) (reply : Replied) (look after : Sight) (doubt : Bool) → ReplyEnds shown reply look after
+    (Err LinkFault) doubt → ⊥
 no_link_told shown reply look after doubt ends = ends
 
-link : (kind : Kind) (desk desk_then : Desk) (look after : Sight) (shown : Waiting) (old new : Sending) (now : ℕ) (deed : Deed) → Dealt kind desk desk_then shown deed → Ends old now shown look after deed (Err LinkFault) new →
+link : (kind : Kind) (desk desk_then : Desk) (look after : Sight) (shown : Waiting) (old new : Sending) (now : ℕ) (deed : Deed) →
+    Dealt kind desk desk_then shown deed → Ends old now shown look after deed (Err LinkFault) new →
     Rose desk.faults desk_then.faults
 link kind desk desk_then look after shown old new now Nothing dealt ends = absurd ends.0
 link kind desk desk_then look after shown old new now (Asked (Ok seen)) dealt ends = absurd ends.2.3
@@ -43,7 +48,9 @@ link kind desk desk_then look after shown old new now (Handed (Ok reply)) dealt 
 link kind desk desk_then look after shown old new now (Handed (Err agency.Failed)) dealt ends = dealt.0.failed
 link kind desk desk_then look after shown old new now (Handed (Err agency.NoMemory)) dealt ends = (let e = ends.3.0 in absurd cc)
 
-pub turn_link : (kind : Kind) (desk desk_then : Desk) (before after : Sight) (old new : Sending) (now : ℕ) (result : Result Turn SendFault) → Turned kind desk desk_then before after old new now result → IsErrOf result LinkFault →
+pub turn_link : (kind : Kind) (desk desk_then : Desk) (before after : Sight) (old new : Sending) (now : ℕ)
+    (result : Result Turn SendFault) → Turned kind desk desk_then before after old new now result → IsErrOf result LinkFault →
     Rose desk.faults desk_then.faults
 turn_link kind desk desk_then before after old new now result t is =
-    link kind desk desk_then t.look after t.shown old new now t.deals.deed t.deals.dealt (subst (λ (r : Result Turn SendFault). Ends old now t.shown t.look after t.deals.deed r new) is t.deals.ends)
+    link kind desk desk_then t.look after t.shown old new now t.deals.deed t.deals.dealt
+    (subst (λ (r : Result Turn SendFault). Ends old now t.shown t.look after t.deals.deed r new) is t.deals.ends)

@@ -1,5 +1,6 @@
 -- What a drain tells are the lines of its messages.
-use Rattle.std.proofs.Common.{◌≡◌, inl, inr, ℕ, List, [], ◌∷◌, ◌++◌, sym, ◌∙◌, ap, subst, append_assoc, append-nil, filter_map, Option, Result, Bool, IsTrue}
+use Rattle.std.proofs.Common.{◌≡◌, inl, inr, ℕ, List, [], ◌∷◌, ◌++◌, sym, ◌∙◌, ap, subst, append_assoc, append-nil, filter_map}
+use Rattle.std.proofs.Common.{Option, Result, Bool, IsTrue}
 use Rattle.agency_port.specs.declared.messages.Message.{Message}
 use Rattle.agency_port.specs.declared.turns.Told.{Told}
 use Rattle.sender.specs.declared.answers.Turn.{Turn}
@@ -17,27 +18,43 @@ record SaidSoFar (old new : List Message) (lines : List Told) : Type 0 where
   said : new ≡ old ++ messages
   of_them : LinesOf messages lines
 
-one_more : (old mid new : List Message) (lines : List Told) (answer : Result Turn SendFault) → SaidSoFar old mid lines → TellsOf mid new answer → SaidSoFar old new (lines ++ told_list answer)
-one_more old mid new lines answer s (inl q) = record { messages = s.messages; said = q.0 ∙ s.said; of_them = quiet_line s.messages lines (told_in answer) s.of_them q.1 }
+one_more : (old mid new : List Message) (lines : List Told) (answer : Result Turn SendFault) → SaidSoFar old mid lines →
+    TellsOf mid new answer → SaidSoFar old new (lines ++ told_list answer)
+one_more old mid new lines answer s (inl q) = record {
+  messages = s.messages;
+  said = q.0 ∙ s.said;
+  of_them = quiet_line s.messages lines (told_in answer) s.of_them q.1;
+}
 one_more old mid new lines answer s (inr p) = record {
   messages = s.messages ++ p.message ∷ [];
   said = p.said ∙ ap (λ (ms : List Message). ms ++ p.message ∷ []) s.said ∙ append_assoc old s.messages (p.message ∷ []);
-  of_them = subst (λ (o : Option Told). LinesOf (s.messages ++ p.message ∷ []) (lines ++ list_of o)) (sym p.told) (line_of s.messages lines p.message p.line s.of_them p.of_it);
+  of_them = subst (λ (o : Option Told). LinesOf (s.messages ++ p.message ∷ []) (lines ++ list_of o)) (sym p.told)
+      (line_of s.messages lines p.message p.line s.of_them p.of_it);
 }
 
-turns_tell : (kind : Kind) (exact : Bool) (begin : Scene) (answers : List (Result Turn SendFault)) (links : ℕ) (scene : Scene) → IsTrue kind.tells → Turns kind exact begin answers links scene →
+turns_tell : (kind : Kind) (exact : Bool) (begin : Scene) (answers : List (Result Turn SendFault)) (links : ℕ) (scene : Scene) →
+    IsTrue kind.tells → Turns kind exact begin answers links scene →
     SaidSoFar begin.desk.ledger.messages scene.desk.ledger.messages (filter_map told_in answers)
-turns_tell kind exact begin answers links scene tells none = record { messages = []; said = sym (append-nil begin.desk.ledger.messages); of_them = no_line }
+turns_tell kind exact begin answers links scene tells none = record {
+  messages = [];
+  said = sym (append-nil begin.desk.ledger.messages);
+  of_them = no_line;
+}
 turns_tell kind exact begin answers links scene tells (more before_answers before_links mid answer then t turn on below) =
-    subst (λ (ts : List Told). SaidSoFar begin.desk.ledger.messages then.desk.ledger.messages ts) (sym (told_split before_answers answer))
-    (one_more begin.desk.ledger.messages mid.desk.ledger.messages then.desk.ledger.messages (filter_map told_in before_answers) answer (turns_tell kind exact begin before_answers before_links mid tells t)
+    subst (λ (ts : List Told). SaidSoFar begin.desk.ledger.messages then.desk.ledger.messages ts)
+    (sym (told_split before_answers answer))
+    (one_more begin.desk.ledger.messages mid.desk.ledger.messages then.desk.ledger.messages (filter_map told_in before_answers)
+    answer (turns_tell kind exact begin before_answers before_links mid tells t)
     (turn_tells kind mid.desk then.desk mid.sight then.sight mid.sending then.sending turn.now answer turn.turned tells))
 
-pub drained_tells : (kind : Kind) (exact : Bool) (begin then : Scene) (old new : List Told) (result : Result (Unit {0}) DrainFault) → Drained kind exact begin then old new result → IsTrue kind.tells →
+pub drained_tells : (kind : Kind) (exact : Bool) (begin then : Scene) (old new : List Told)
+    (result : Result (Unit {0}) DrainFault) → Drained kind exact begin then old new result → IsTrue kind.tells →
     DrainTells begin.desk.ledger.messages then.desk.ledger.messages old new result
 drained_tells kind exact begin then old new result d tells =
-    let s = one_more begin.desk.ledger.messages d.scene.desk.ledger.messages then.desk.ledger.messages (filter_map told_in d.answers) d.answer (turns_tell kind exact begin d.answers d.links d.scene tells d.made)
-    (turn_tells kind d.scene.desk then.desk d.scene.sight then.sight d.scene.sending then.sending d.turn.now d.answer d.turn.turned tells) in
+    let s = one_more begin.desk.ledger.messages d.scene.desk.ledger.messages then.desk.ledger.messages
+    (filter_map told_in d.answers) d.answer (turns_tell kind exact begin d.answers d.links d.scene tells d.made)
+    (turn_tells kind d.scene.desk then.desk d.scene.sight then.sight d.scene.sending then.sending d.turn.now d.answer
+    d.turn.turned tells) in
     record {
       messages = s.messages;
       said = s.said;
@@ -45,6 +62,13 @@ drained_tells kind exact begin then old new result d tells =
       of_them = s.of_them;
       told = elim d.ends [
         | inl p ↦ inl (p.0 ∙ ap (λ (ts : List Told). old ++ ts) (told_split d.answers d.answer))
-        | inr p ↦ inr (p.0, (told_list d.answer, ap (λ (ts : List Told). ts ++ told_list d.answer) p.1 ∙ append_assoc old (filter_map told_in d.answers) (told_list d.answer)))
+        | inr p ↦ inr (
+          p.0,
+          (
+            told_list d.answer,
+            ap (λ (ts : List Told). ts ++ told_list d.answer) p.1 ∙ append_assoc old
+                (filter_map told_in d.answers) (told_list d.answer),
+          ),
+        )
       ];
     }

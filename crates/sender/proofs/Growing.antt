@@ -1,5 +1,6 @@
 -- What a shop gained in several turns, and that notes of its own alone in all are notes of its own alone in each.
-use Rattle.std.proofs.Common.{◌≡◌, inl, inr, ℕ, zero, suc, ◌+◌, ◌<◌, ◌≤◌, List, [], ◌∷◌, ◌++◌, sym, ◌∙◌, ap, subst, length, length-append, drop, arith, append_assoc, append-nil, get_or, Option, Result, Ok, Err, Bool}
+use Rattle.std.proofs.Common.{◌≡◌, inl, inr, ℕ, zero, suc, ◌+◌, ◌<◌, ◌≤◌, List, [], ◌∷◌, ◌++◌, sym, ◌∙◌, ap, subst, length}
+use Rattle.std.proofs.Common.{length-append, drop, arith, append_assoc, append-nil, get_or, Option, Result, Ok, Err, Bool}
 use Rattle.std.proofs.Math.Seq.{drop-append_seam}
 use Rattle.std.proofs.lemmas.List.Elements.{Contains-append_cases}
 use Rattle.std.specs.Prelude.{Contains}
@@ -23,7 +24,8 @@ use Rattle.sender.specs.Sending.{Sending}
 use Rattle.sender.specs.Turning.{Deed, Nothing, Asked, Handed, Kind, Desk, SeenEnds, ReplyEnds, Ends, Turned}
 use Rattle.sender.proofs.Lists.{all_both, all_change}
 
-all_at : {A : Type 0} (P : A → Type 0) (xs : List A) (k : ℕ) (x : A) → AllByRecursion P xs → k < length xs → get_or xs k x ≡ x → P x
+all_at : {A : Type 0} (P : A → Type 0) (xs : List A) (k : ℕ) (x : A) → AllByRecursion P xs → k < length xs → get_or xs k x ≡ x →
+    P x
 all_at P [] k x all lt e = absurd (omega arith)
 all_at P (y ∷ xs) zero x all lt e = let h : y ≡ x = e in subst P h all.0
 all_at P (y ∷ xs) (suc k) x all lt e = all_at P xs k x all.1 (omega arith) e
@@ -41,7 +43,14 @@ pub record Growth (before after : Sight) : Type 0 where
   pub high : AllByRecursion (λ (p : ℕ). p < length after.items) own
 
 pub no_growth : (s : Sight) → Growth s s
-no_growth s = record { items = []; items_is = sym (append-nil s.items); own = []; own_is = sym (append-nil s.own); low = tt; high = tt }
+no_growth s = record {
+  items = [];
+  items_is = sym (append-nil s.items);
+  own = [];
+  own_is = sym (append-nil s.own);
+  low = tt;
+  high = tt;
+}
 
 pub growth_then : (a b c : Sight) → Growth a b → Growth b c → Growth a c
 growth_then a b c g h =
@@ -56,13 +65,22 @@ growth_then a b c g h =
       items_is = h.items_is ∙ ap (λ (xs : List Item). xs ++ h.items) g.items_is ∙ append_assoc a.items g.items h.items;
       own = g.own ++ h.own;
       own_is = h.own_is ∙ ap (λ (xs : List ℕ). xs ++ h.own) g.own_is ∙ append_assoc a.own g.own h.own;
-      low = all_both (λ (p : ℕ). length a.items ≤ p) g.own h.own g.low (all_change (λ (p : ℕ). length b.items ≤ p) (λ (p : ℕ). length a.items ≤ p) (λ p q. omega arith) h.own h.low);
-      high = all_both (λ (p : ℕ). p < length c.items) g.own h.own (all_change (λ (p : ℕ). p < length b.items) (λ (p : ℕ). p < length c.items) (λ p q. omega arith) g.own g.high) h.high;
+      low = all_both (λ (p : ℕ). length a.items ≤ p) g.own h.own g.low (all_change (λ (p : ℕ). length b.items ≤ p)
+          (λ (p : ℕ). length a.items ≤ p) (λ p q. omega arith) h.own h.low);
+      high = all_both (λ (p : ℕ). p < length c.items) g.own h.own (all_change (λ (p : ℕ). p < length b.items)
+          (λ (p : ℕ). p < length c.items) (λ p q. omega arith) g.own g.high) h.high;
     }
 
 -- a grown shop that added nothing of its own, or one item
 pub quiet_growth : (before after : Sight) → Grows before after → after.own ≡ before.own → Growth before after
-quiet_growth before after g own = record { items = g.items.rest; items_is = g.items.is; own = []; own_is = own ∙ sym (append-nil before.own); low = tt; high = tt }
+quiet_growth before after g own = record {
+  items = g.items.rest;
+  items_is = g.items.is;
+  own = [];
+  own_is = own ∙ sym (append-nil before.own);
+  low = tt;
+  high = tt;
+}
 
 own_growth : (before after : Sight) (item : List Item → Item) → AddsOwn before after item → Growth before after
 own_growth before after item a =
@@ -80,7 +98,8 @@ own_growth before after item a =
       high = (omega arith, tt);
     }
 
-noted_growth : (look after : Sight) (lines : List Line) (answer : Result (Unit {0}) StoreFault) → Grows look after → NotedBy look after lines answer → Growth look after
+noted_growth : (look after : Sight) (lines : List Line) (answer : Result (Unit {0}) StoreFault) → Grows look after →
+    NotedBy look after lines answer → Growth look after
 noted_growth look after lines (Ok done) g n = own_growth look after _ n
 noted_growth look after lines (Err store.DiskFault) g n = own_growth look after _ n.adds
 noted_growth look after lines (Err (store.Stopped faults)) g n = quiet_growth look after g n.own
@@ -89,21 +108,27 @@ noted_growth look after lines (Err store.NoMemory) g n = quiet_growth look after
 same_growth : (look after : Sight) → after ≡ look → Growth look after
 same_growth look after e = subst (λ (s : Sight). Growth look s) (sym e) (no_growth look)
 
-seen_growth : (said : Option Replied) (shown : Waiting) (seen : List Seen) (look after : Sight) (result : Result Turn SendFault) (doubt : Bool) → SeenEnds said shown seen look after result doubt → Growth look after
-seen_growth said shown seen look after (Ok (Noted n)) doubt ends = noted_growth look after ends.0.lines (Ok tt) ends.0.grows ends.0.noted
+seen_growth : (said : Option Replied) (shown : Waiting) (seen : List Seen) (look after : Sight) (result : Result Turn SendFault)
+    (doubt : Bool) → SeenEnds said shown seen look after result doubt → Growth look after
+seen_growth said shown seen look after (Ok (Noted n)) doubt ends = noted_growth look after ends.0.lines (Ok tt) ends.0.grows
+    ends.0.noted
 seen_growth said shown seen look after (Ok Cleared) doubt ends = same_growth look after ends.1
 seen_growth said shown seen look after (Err (Contradiction evidence)) doubt ends = same_growth look after ends.1
-seen_growth said shown seen look after (Err (Store fault)) doubt ends = noted_growth look after ends.0.1.lines (Err fault) ends.0.1.grows ends.0.1.noted
+seen_growth said shown seen look after (Err (Store fault)) doubt ends = noted_growth look after ends.0.1.lines (Err fault)
+    ends.0.1.grows ends.0.1.noted
 seen_growth said shown seen look after (Err NoMemory) doubt ends = same_growth look after ends.0
 seen_growth said shown seen look after (Ok (Idle records)) doubt ends = absurd ends
 seen_growth said shown seen look after (Ok (WaitUntil at)) doubt ends = absurd ends
 seen_growth said shown seen look after (Ok (Doubt place)) doubt ends = absurd ends
 seen_growth said shown seen look after (Err LinkFault) doubt ends = absurd ends
 
-reply_growth : (shown : Waiting) (reply : Replied) (look after : Sight) (result : Result Turn SendFault) (doubt : Bool) → ReplyEnds shown reply look after result doubt → Growth look after
-reply_growth shown reply look after (Ok (Noted n)) doubt ends = noted_growth look after ends.0.lines (Ok tt) ends.0.grows ends.0.noted
+reply_growth : (shown : Waiting) (reply : Replied) (look after : Sight) (result : Result Turn SendFault) (doubt : Bool) →
+    ReplyEnds shown reply look after result doubt → Growth look after
+reply_growth shown reply look after (Ok (Noted n)) doubt ends = noted_growth look after ends.0.lines (Ok tt) ends.0.grows
+    ends.0.noted
 reply_growth shown reply look after (Ok (Doubt place)) doubt ends = same_growth look after ends.1
-reply_growth shown reply look after (Err (Store fault)) doubt ends = noted_growth look after ends.0.1.lines (Err fault) ends.0.1.grows ends.0.1.noted
+reply_growth shown reply look after (Err (Store fault)) doubt ends = noted_growth look after ends.0.1.lines (Err fault)
+    ends.0.1.grows ends.0.1.noted
 reply_growth shown reply look after (Err NoMemory) doubt ends = same_growth look after ends.0
 reply_growth shown reply look after (Ok (Idle records)) doubt ends = absurd ends
 reply_growth shown reply look after (Ok (WaitUntil at)) doubt ends = absurd ends
@@ -111,9 +136,11 @@ reply_growth shown reply look after (Ok Cleared) doubt ends = absurd ends
 reply_growth shown reply look after (Err LinkFault) doubt ends = absurd ends
 reply_growth shown reply look after (Err (Contradiction evidence)) doubt ends = absurd ends
 
-pub ends_growth : (old : Sending) (now : ℕ) (shown : Waiting) (look after : Sight) (deed : Deed) (result : Result Turn SendFault) (new : Sending) → Ends old now shown look after deed result new → Growth look after
+pub ends_growth : (old : Sending) (now : ℕ) (shown : Waiting) (look after : Sight) (deed : Deed) (result : Result Turn SendFault)
+    (new : Sending) → Ends old now shown look after deed result new → Growth look after
 ends_growth old now shown look after Nothing result new ends = same_growth look after ends.2
-ends_growth old now shown look after (Asked (Ok seen)) result new ends = seen_growth old.said shown seen look after result new.doubt ends.2.3
+ends_growth old now shown look after (Asked (Ok seen)) result new ends = seen_growth old.said shown seen look after result
+    new.doubt ends.2.3
 ends_growth old now shown look after (Asked (Err agency.Failed)) result new ends = same_growth look after ends.2.2
 ends_growth old now shown look after (Asked (Err agency.NoMemory)) result new ends = same_growth look after ends.2.2
 ends_growth old now shown look after (Handed (Ok reply)) result new ends = elim ends.3 [
@@ -123,9 +150,11 @@ ends_growth old now shown look after (Handed (Ok reply)) result new ends = elim 
 ends_growth old now shown look after (Handed (Err agency.Failed)) result new ends = same_growth look after ends.3.2
 ends_growth old now shown look after (Handed (Err agency.NoMemory)) result new ends = same_growth look after ends.3.2
 
-pub turn_growth : (kind : Kind) (desk desk_then : Desk) (before after : Sight) (old new : Sending) (now : ℕ) (result : Result Turn SendFault) → Turned kind desk desk_then before after old new now result → Growth before after
+pub turn_growth : (kind : Kind) (desk desk_then : Desk) (before after : Sight) (old new : Sending) (now : ℕ)
+    (result : Result Turn SendFault) → Turned kind desk desk_then before after old new now result → Growth before after
 turn_growth kind desk desk_then before after old new now result t =
-    growth_then before t.look after (quiet_growth before t.look t.grows t.own) (ends_growth old now t.shown t.look after t.deals.deed result new t.deals.ends)
+    growth_then before t.look after (quiet_growth before t.look t.grows t.own) (ends_growth old now t.shown t.look after
+    t.deals.deed result new t.deals.ends)
 
 own_front : (own : List ℕ) (at : ℕ) (xs ys : List Item) → AreOwnNotes own at (xs ++ ys) → AreOwnNotes own at xs
 own_front own at [] ys h = tt
@@ -133,16 +162,19 @@ own_front own at (recorded.Entry (Rec till serial sealed) ∷ xs) ys h = own_fro
 own_front own at (recorded.Entry (notes_of first lines) ∷ xs) ys h = (h.0, own_front own (at + 1) xs ys h.1)
 own_front own at (recorded.Stop faults torn ∷ xs) ys h = own_front own (at + 1) xs ys h
 
-own_back : (own : List ℕ) (at to : ℕ) (xs ys : List Item) → to ≡ at + length xs → AreOwnNotes own at (xs ++ ys) → AreOwnNotes own to ys
+own_back : (own : List ℕ) (at to : ℕ) (xs ys : List Item) → to ≡ at + length xs → AreOwnNotes own at (xs ++ ys) →
+    AreOwnNotes own to ys
 own_back own at to [] ys e h = let same : at ≡ to = omega arith in subst (λ (k : ℕ). AreOwnNotes own k ys) same h
 own_back own at to (recorded.Entry (Rec till serial sealed) ∷ xs) ys e h = own_back own (at + 1) to xs ys (omega arith) h
 own_back own at to (recorded.Entry (notes_of first lines) ∷ xs) ys e h = own_back own (at + 1) to xs ys (omega arith) h.1
 own_back own at to (recorded.Stop faults torn ∷ xs) ys e h = own_back own (at + 1) to xs ys (omega arith) h
 
 -- places past the items, and places before them, play no part
-own_low : (first second : List ℕ) (at : ℕ) (xs : List Item) (to : ℕ) → at + length xs ≤ to → AllByRecursion (λ (p : ℕ). to ≤ p) second → AreOwnNotes (first ++ second) at xs → AreOwnNotes first at xs
+own_low : (first second : List ℕ) (at : ℕ) (xs : List Item) (to : ℕ) → at + length xs ≤ to → AllByRecursion (λ (p : ℕ). to ≤ p)
+    second → AreOwnNotes (first ++ second) at xs → AreOwnNotes first at xs
 own_low first second at [] to le high h = tt
-own_low first second at (recorded.Entry (Rec till serial sealed) ∷ xs) to le high h = own_low first second (at + 1) xs to (omega arith) high h
+own_low first second at (recorded.Entry (Rec till serial sealed) ∷ xs) to le high h = own_low first second (at + 1) xs to
+    (omega arith) high h
 own_low first second at (recorded.Entry (notes_of number lines) ∷ xs) to le high h = (
   elim (Contains-append_cases first second at h.0) [
     | inl c ↦ c
@@ -152,9 +184,11 @@ own_low first second at (recorded.Entry (notes_of number lines) ∷ xs) to le hi
 )
 own_low first second at (recorded.Stop faults torn ∷ xs) to le high h = own_low first second (at + 1) xs to (omega arith) high h
 
-own_high : (first second : List ℕ) (at : ℕ) (xs : List Item) (from : ℕ) → from ≤ at → AllByRecursion (λ (p : ℕ). p < from) first → AreOwnNotes (first ++ second) at xs → AreOwnNotes second at xs
+own_high : (first second : List ℕ) (at : ℕ) (xs : List Item) (from : ℕ) → from ≤ at → AllByRecursion (λ (p : ℕ). p < from) first →
+    AreOwnNotes (first ++ second) at xs → AreOwnNotes second at xs
 own_high first second at [] from le low h = tt
-own_high first second at (recorded.Entry (Rec till serial sealed) ∷ xs) from le low h = own_high first second (at + 1) xs from (omega arith) low h
+own_high first second at (recorded.Entry (Rec till serial sealed) ∷ xs) from le low h = own_high first second (at + 1) xs from
+    (omega arith) low h
 own_high first second at (recorded.Entry (notes_of number lines) ∷ xs) from le low h = (
   elim (Contains-append_cases first second at h.0) [
     | inl c ↦ absurd (let q = all_contained (λ (p : ℕ). p < from) first at low c in omega arith)
@@ -162,20 +196,29 @@ own_high first second at (recorded.Entry (notes_of number lines) ∷ xs) from le
   ],
   own_high first second (at + 1) xs from (omega arith) low h.1,
 )
-own_high first second at (recorded.Stop faults torn ∷ xs) from le low h = own_high first second (at + 1) xs from (omega arith) low h
+own_high first second at (recorded.Stop faults torn ∷ xs) from le low h = own_high first second (at + 1) xs from (omega arith) low
+    h
 
 -- what was gained, as the growth has it
-gained_as : (before after : Sight) (g : Growth before after) → GainsOwnNotes before after → AreOwnNotes g.own (length before.items) g.items
+gained_as : (before after : Sight) (g : Growth before after) → GainsOwnNotes before after →
+    AreOwnNotes g.own (length before.items) g.items
 gained_as before after g gains =
-    let own : drop (length before.own) after.own ≡ g.own = ap (λ (xs : List ℕ). drop (length before.own) xs) g.own_is ∙ drop-append_seam before.own g.own in
-    let items : drop (length before.items) after.items ≡ g.items = ap (λ (xs : List Item). drop (length before.items) xs) g.items_is ∙ drop-append_seam before.items g.items in
-    subst (λ (xs : List Item). AreOwnNotes g.own (length before.items) xs) items (subst (λ (ps : List ℕ). AreOwnNotes ps (length before.items) (drop (length before.items) after.items)) own gains)
+    let own : drop (length before.own) after.own ≡ g.own = ap (λ (xs : List ℕ). drop (length before.own) xs) g.own_is ∙
+    drop-append_seam before.own g.own in
+    let items : drop (length before.items) after.items ≡ g.items = ap (λ (xs : List Item). drop (length before.items) xs)
+    g.items_is ∙ drop-append_seam before.items g.items in
+    subst (λ (xs : List Item). AreOwnNotes g.own (length before.items) xs) items
+    (subst (λ (ps : List ℕ). AreOwnNotes ps (length before.items) (drop (length before.items) after.items)) own gains)
 
-as_gained : (before after : Sight) (g : Growth before after) → AreOwnNotes g.own (length before.items) g.items → GainsOwnNotes before after
+as_gained : (before after : Sight) (g : Growth before after) → AreOwnNotes g.own (length before.items) g.items →
+    GainsOwnNotes before after
 as_gained before after g own_notes =
-    let own : drop (length before.own) after.own ≡ g.own = ap (λ (xs : List ℕ). drop (length before.own) xs) g.own_is ∙ drop-append_seam before.own g.own in
-    let items : drop (length before.items) after.items ≡ g.items = ap (λ (xs : List Item). drop (length before.items) xs) g.items_is ∙ drop-append_seam before.items g.items in
-    subst (λ (xs : List Item). AreOwnNotes (drop (length before.own) after.own) (length before.items) xs) (sym items) (subst (λ (ps : List ℕ). AreOwnNotes ps (length before.items) g.items) (sym own) own_notes)
+    let own : drop (length before.own) after.own ≡ g.own = ap (λ (xs : List ℕ). drop (length before.own) xs) g.own_is ∙
+    drop-append_seam before.own g.own in
+    let items : drop (length before.items) after.items ≡ g.items = ap (λ (xs : List Item). drop (length before.items) xs)
+    g.items_is ∙ drop-append_seam before.items g.items in
+    subst (λ (xs : List Item). AreOwnNotes (drop (length before.own) after.own) (length before.items) xs) (sym items)
+    (subst (λ (ps : List ℕ). AreOwnNotes ps (length before.items) g.items) (sym own) own_notes)
 
 -- in all, so in each
 pub gains_each : (a b c : Sight) → Growth a b → Growth b c → GainsOwnNotes a c → GainsOwnNotes a b × GainsOwnNotes b c
@@ -185,6 +228,8 @@ gains_each a b c g h gains =
     let e = ap length g.items_is in
     let x = length-append a.items g.items in
     let to : length b.items ≡ length a.items + length g.items = omega arith in (
-      as_gained a b g (own_low g.own h.own (length a.items) g.items (length b.items) (omega arith) h.low (own_front (g.own ++ h.own) (length a.items) g.items h.items all)),
-      as_gained b c h (own_high g.own h.own (length b.items) h.items (length b.items) (omega arith) g.high (own_back (g.own ++ h.own) (length a.items) (length b.items) g.items h.items to all)),
+      as_gained a b g (own_low g.own h.own (length a.items) g.items (length b.items) (omega arith) h.low
+          (own_front (g.own ++ h.own) (length a.items) g.items h.items all)),
+      as_gained b c h (own_high g.own h.own (length b.items) h.items (length b.items) (omega arith) g.high
+          (own_back (g.own ++ h.own) (length a.items) (length b.items) g.items h.items to all)),
     )

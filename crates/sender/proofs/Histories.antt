@@ -13,4 +13,8 @@ pub grown : (before look : Sight) (g : Grows before look) → history_of look �
 grown before look g = ap entries_of g.items.is ∙ entries_both before.items g.items.rest
 
 pub stays : (look after : Sight) → Legal look.issuer (history_of look) → after ≡ look → Grows look after
-stays look after legal e = subst (λ (s : Sight). Grows look s) (sym e) (record { issuer = refl; items = record { rest = []; is = sym (append-nil look.items) }; legal = legal })
+stays look after legal e = subst (λ (s : Sight). Grows look s) (sym e) (record {
+  issuer = refl;
+  items = record { rest = []; is = sym (append-nil look.items) };
+  legal = legal;
+})

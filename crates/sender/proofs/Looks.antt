@@ -1,5 +1,6 @@
 -- What a look shows fits.
-use Rattle.std.proofs.Common.{◌≡◌, ◌≢◌, ◌+◌, ◌^◌, List, ◌++◌, drop, Option, Some, IfSome, sym, ◌∙◌, ap, subst, length, take, ◌<◌, ◌≤◌, arith}
+use Rattle.std.proofs.Common.{◌≡◌, ◌≢◌, ◌+◌, ◌^◌, List, ◌++◌, drop, Option, Some, IfSome, sym, ◌∙◌, ap, subst, length, take, ◌<◌}
+use Rattle.std.proofs.Common.{◌≤◌, arith}
 use Rattle.std.proofs.lemmas.List.{length-take, length-drop, take_all, take-append-drop}
 use Rattle.record_fields.specs.declared.records.Sealed.{Sealed}
 use Rattle.shop_core.specs.History.{recs, noted, waiting}
@@ -29,7 +30,8 @@ counts look shown l =
     record { some = omega arith; few = omega arith; fits = omega arith; room = omega arith }
 
 -- where the two counts differ some record waits
-pub is_look : NotedWithinRecords → (look : Sight) (shown : Waiting) → ShowsWaiting look 1000 shown → Legal look.issuer (history_of look) → (shown.noted ≢ shown.records) → shown.records < 2 ^ 32 → IsLook look shown
+pub is_look : NotedWithinRecords → (look : Sight) (shown : Waiting) → ShowsWaiting look 1000 shown →
+    Legal look.issuer (history_of look) → (shown.noted ≢ shown.records) → shown.records < 2 ^ 32 → IsLook look shown
 is_look within look shown shows legal differ small =
     let w = within look.issuer (history_of look) legal in
     let n = shows.noted_count in
@@ -37,10 +39,13 @@ is_look within look shown shows legal differ small =
     record { shows = shows; legal = legal; some = omega arith; small = small }
 
 -- the batch that is cut is all that is shown
-pub cut_all : (look : Sight) (shown : Waiting) (records : List Sealed) (cut : Option (List Sealed)) (batch : List Sealed) → IsLook look shown → records ≡ shown.list → cut ≡ Some batch → IfSome cut (λ (b : List Sealed). b ≡ take 1000 records) → batch ≡ shown.list
+pub cut_all : (look : Sight) (shown : Waiting) (records : List Sealed) (cut : Option (List Sealed)) (batch : List Sealed) →
+    IsLook look shown → records ≡ shown.list → cut ≡ Some batch → IfSome cut (λ (b : List Sealed). b ≡ take 1000 records) →
+    batch ≡ shown.list
 cut_all look shown records cut batch l is e some =
     let few = (counts look shown l).few in
-    let cut_is : batch ≡ take 1000 records = subst (λ (o : Option (List Sealed)). IfSome o (λ (b : List Sealed). b ≡ take 1000 records)) e some in
+    let cut_is : batch ≡ take 1000 records = subst (λ (o : Option (List Sealed)). IfSome o (λ (b : List Sealed). b ≡ take 1000
+    records)) e some in
     cut_is ∙ ap (λ (xs : List Sealed). take 1000 xs) is ∙ take_all 1000 shown.list few
 
 -- what is shown is linked
@@ -49,6 +54,7 @@ shown_linked linked look shown l =
     let entries = history_of look in
     let k = length (noted entries) in
     let split : recs entries ≡ take k (recs entries) ++ (take 1000 (waiting entries) ++ drop 1000 (waiting entries)) =
-    sym (take-append-drop k (recs entries)) ∙ ap (λ (xs : List Sealed). take k (recs entries) ++ xs) (sym (take-append-drop 1000 (waiting entries))) in
+    sym (take-append-drop k (recs entries)) ∙ ap (λ (xs : List Sealed). take k (recs entries) ++ xs)
+    (sym (take-append-drop 1000 (waiting entries))) in
     subst (λ (xs : List Sealed). LinkedRun xs) (sym l.shows.first)
     (linked look.issuer entries (take k (recs entries)) (take 1000 (waiting entries)) (drop 1000 (waiting entries)) l.legal split)

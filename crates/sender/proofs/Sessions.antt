@@ -13,38 +13,67 @@ use Rattle.sender.proofs.Keeping.{turn_keeps}
 use Rattle.sender.proofs.Careful.{AreLinked, turn_careful}
 use Rattle.sender.proofs.Growing.{Growth, no_growth, growth_then, turn_growth, gains_each}
 
-pub is_turn_growth : (kind : Kind) (exact : Bool) (before after : Scene) (answer : Result Turn SendFault) → IsTurn kind exact before after answer → Growth before.sight after.sight
-is_turn_growth kind exact before after answer t = turn_growth kind before.desk after.desk before.sight after.sight before.sending after.sending t.now answer t.turned
+pub is_turn_growth : (kind : Kind) (exact : Bool) (before after : Scene) (answer : Result Turn SendFault) →
+    IsTurn kind exact before after answer → Growth before.sight after.sight
+is_turn_growth kind exact before after answer t = turn_growth kind before.desk after.desk before.sight after.sight before.sending
+    after.sending t.now answer t.turned
 
-pub turns_growth : (kind : Kind) (exact : Bool) (start : Scene) (answers : List (Result Turn SendFault)) (links : ℕ) (scene : Scene) → Turns kind exact start answers links scene → Growth start.sight scene.sight
+pub turns_growth : (kind : Kind) (exact : Bool) (start : Scene) (answers : List (Result Turn SendFault)) (links : ℕ)
+    (scene : Scene) → Turns kind exact start answers links scene → Growth start.sight scene.sight
 turns_growth kind exact start answers links scene none = no_growth start.sight
 turns_growth kind exact start answers links scene (more before_answers before_links mid answer then t turn on few) =
-    growth_then start.sight mid.sight then.sight (turns_growth kind exact start before_answers before_links mid t) (is_turn_growth kind exact mid then answer turn)
+    growth_then start.sight mid.sight then.sight (turns_growth kind exact start before_answers before_links mid t)
+    (is_turn_growth kind exact mid then answer turn)
 
 prefix_same : {A : Type 0} (xs : List A) → IsPrefix xs xs
 prefix_same xs = record { rest = []; is = sym (append-nil xs) }
 
 prefix_then : {A : Type 0} (xs ys zs : List A) → IsPrefix xs ys → IsPrefix ys zs → IsPrefix xs zs
-prefix_then xs ys zs p q = record { rest = p.rest ++ q.rest; is = q.is ∙ ap (λ t. t ++ q.rest) p.is ∙ append_assoc xs p.rest q.rest }
+prefix_then xs ys zs p q = record {
+  rest = p.rest ++ q.rest;
+  is = q.is ∙ ap (λ t. t ++ q.rest) p.is ∙ append_assoc xs p.rest
+      q.rest;
+}
 
 abbrev Keeps : Scene → Scene → Type 0
 Keeps start scene = KeepsSession start.sight scene.sight start.desk.ledger scene.desk.ledger scene.sending.said
 
-pub one_keeps : Known → (kind : Kind) (exact : Bool) (start mid then : Scene) (answer : Result Turn SendFault) → (IsTrue kind.keeps_rules → IsTrue kind.tells) → IsTrue kind.keeps_rules → IsTurn kind exact mid then answer → GainsOwnNotes mid.sight then.sight → Keeps start mid →
+pub one_keeps : Known → (kind : Kind) (exact : Bool) (start mid then : Scene) (answer : Result Turn SendFault) →
+    (IsTrue kind.keeps_rules → IsTrue kind.tells) → IsTrue kind.keeps_rules → IsTurn kind exact mid then answer →
+    GainsOwnNotes mid.sight then.sight → Keeps start mid →
     Keeps start then × KeepsAgreement mid.sight then.sight mid.desk.ledger then.desk.ledger then.sending.said answer
 one_keeps known kind exact start mid then answer tells keeps turn gains k =
-    let t = turn_keeps known kind mid.desk then.desk mid.sight then.sight mid.sending then.sending turn.now answer turn.turned tells keeps k.session.agree k.session.said_seen gains in
-    (record { session = t.session; begins = prefix_then start.desk.ledger.processed mid.desk.ledger.processed then.desk.ledger.processed k.begins t.begins }, t)
+    let t = turn_keeps known kind mid.desk then.desk mid.sight then.sight mid.sending then.sending turn.now answer turn.turned
+    tells keeps k.session.agree k.session.said_seen gains in (
+      record {
+        session = t.session;
+        begins = prefix_then start.desk.ledger.processed mid.desk.ledger.processed
+            then.desk.ledger.processed k.begins t.begins;
+      },
+      t,
+    )
 
-pub turns_keep : Known → (kind : Kind) (exact : Bool) (start : Scene) (answers : List (Result Turn SendFault)) (links : ℕ) (scene : Scene) → (IsTrue kind.keeps_rules → IsTrue kind.tells) → IsTrue kind.keeps_rules →
-    Agree (history_of start.sight) start.desk.ledger.processed start.desk.ledger.sent → AreSeen start.desk.ledger.processed start.sending.said → Turns kind exact start answers links scene → GainsOwnNotes start.sight scene.sight → Keeps start scene
-turns_keep known kind exact start answers links scene tells keeps agree seen none gains = record { session = record { agree = agree; said_seen = seen }; begins = prefix_same start.desk.ledger.processed }
-turns_keep known kind exact start answers links scene tells keeps agree seen (more before_answers before_links mid answer then t turn on few) gains =
-    let each = gains_each start.sight mid.sight then.sight (turns_growth kind exact start before_answers before_links mid t) (is_turn_growth kind exact mid then answer turn) gains in
-    (one_keeps known kind exact start mid then answer tells keeps turn each.1 (turns_keep known kind exact start before_answers before_links mid tells keeps agree seen t each.0)).0
+pub turns_keep : Known → (kind : Kind) (exact : Bool) (start : Scene) (answers : List (Result Turn SendFault)) (links : ℕ)
+    (scene : Scene) → (IsTrue kind.keeps_rules → IsTrue kind.tells) → IsTrue kind.keeps_rules →
+    Agree (history_of start.sight) start.desk.ledger.processed start.desk.ledger.sent → AreSeen start.desk.ledger.processed
+    start.sending.said → Turns kind exact start answers links scene → GainsOwnNotes start.sight scene.sight →
+    Keeps start scene
+turns_keep known kind exact start answers links scene tells keeps agree seen none gains =
+    record { session = record { agree = agree; said_seen = seen }; begins = prefix_same start.desk.ledger.processed }
+turns_keep known kind exact start answers links scene tells keeps agree seen (more before_answers before_links mid answer then t
+    turn on few) gains =
+    let each = gains_each start.sight mid.sight then.sight (turns_growth kind exact start before_answers before_links mid t)
+    (is_turn_growth kind exact mid then answer turn) gains in
+    (one_keeps known kind exact start mid then answer tells keeps turn each.1 (turns_keep known kind exact start before_answers
+    before_links mid tells keeps agree seen t each.0)).0
 
-pub turns_careful : AreLinked → (past : List Message) (kind : Kind) (exact : Bool) (start : Scene) (answers : List (Result Turn SendFault)) (links : ℕ) (scene : Scene) → IsTrue kind.tells → Turns kind exact start answers links scene →
-    IsCareful past start.sight start.desk.ledger.messages start.sending → IsCareful past scene.sight scene.desk.ledger.messages scene.sending
+pub turns_careful : AreLinked → (past : List Message) (kind : Kind) (exact : Bool) (start : Scene)
+    (answers : List (Result Turn SendFault)) (links : ℕ) (scene : Scene) → IsTrue kind.tells → Turns kind exact start answers
+    links scene →
+    IsCareful past start.sight start.desk.ledger.messages start.sending → IsCareful past scene.sight scene.desk.ledger.messages
+    scene.sending
 turns_careful linked past kind exact start answers links scene tells none care = care
-turns_careful linked past kind exact start answers links scene tells (more before_answers before_links mid answer then t turn on few) care =
-    turn_careful linked past kind mid.desk then.desk mid.sight then.sight mid.sending then.sending turn.now answer turn.turned tells (turns_careful linked past kind exact start before_answers before_links mid tells t care)
+turns_careful linked past kind exact start answers links scene tells (more before_answers before_links mid answer then t turn on
+    few) care =
+    turn_careful linked past kind mid.desk then.desk mid.sight then.sight mid.sending then.sending turn.now answer turn.turned
+    tells (turns_careful linked past kind exact start before_answers before_links mid tells t care)

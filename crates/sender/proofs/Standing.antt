@@ -1,5 +1,7 @@
 -- How many turns a drain may still take.
-use Rattle.std.proofs.Common.{◌≡◌, inl, inr, ℕ, zero, suc, ◌+◌, ◌*◌, ◌<◌, ◌≤◌, List, [], ◌∷◌, ◌++◌, refl, sym, ◌∙◌, ap, subst, length, length-append, map, take, drop, arith, append-nil, Option, Some, None, true, false, Bool, nat_le, ◌||◌}
+use Rattle.std.proofs.Common.{◌≡◌, inl, inr, ℕ, zero, suc, ◌+◌, ◌*◌, ◌<◌, ◌≤◌, List, [], ◌∷◌, ◌++◌, refl, sym, ◌∙◌, ap, subst}
+use Rattle.std.proofs.Common.{length, length-append, map, take, drop, arith, append-nil, Option, Some, None, true, false, Bool}
+use Rattle.std.proofs.Common.{nat_le, ◌||◌}
 use Rattle.std.specs.Prelude.{IsSome}
 use Rattle.std.specs.List.{AllByRecursion}
 use Rattle.std.proofs.lemmas.Bool.{cases_Bool, le-leb, leb-false}
@@ -39,11 +41,16 @@ pub record IsSure (entries : List Entry) (sending : Sending) : Type 0 where
 -- where a drain stands, with so many turns that it may still take: b batches hold the records that wait
 pub data Stand (entries : List Entry) (sending : Sending) (moment left : ℕ) : Type 0 where
   over : length (waiting entries) ≡ 0 → 1 ≤ left → Stand entries sending moment left
-  rested : (b : ℕ) → length (waiting entries) ≤ 1000 * b → sending.doubt ≡ false → 2 * b + 2 ≤ left → Stand entries sending moment left
-  waited : (b : ℕ) → length (waiting entries) ≤ 1000 * b → length (waiting entries) < 1000 → sending.doubt ≡ false → due_at sending.pace ≤ moment → 2 * b + 1 ≤ left → Stand entries sending moment left
-  unsure : (b : ℕ) → length (waiting entries) ≤ 1000 * b → sending.doubt ≡ true → 2 * b + 3 ≤ left → Stand entries sending moment left
-  sure : (b : ℕ) → length (waiting entries) ≤ 1000 * b → sending.doubt ≡ true → IsSure entries sending → 2 * b + 1 ≤ left → Stand entries sending moment left
-  sure_last : length (waiting entries) ≤ 1000 → sending.doubt ≡ true → IsSure entries sending → 2 ≤ left → Stand entries sending moment left
+  rested : (b : ℕ) → length (waiting entries) ≤ 1000 * b → sending.doubt ≡ false → 2 * b + 2 ≤ left → Stand entries sending moment
+      left
+  waited : (b : ℕ) → length (waiting entries) ≤ 1000 * b → length (waiting entries) < 1000 → sending.doubt ≡ false →
+      due_at sending.pace ≤ moment → 2 * b + 1 ≤ left → Stand entries sending moment left
+  unsure : (b : ℕ) → length (waiting entries) ≤ 1000 * b → sending.doubt ≡ true → 2 * b + 3 ≤ left → Stand entries sending moment
+      left
+  sure : (b : ℕ) → length (waiting entries) ≤ 1000 * b → sending.doubt ≡ true → IsSure entries sending → 2 * b + 1 ≤ left →
+      Stand entries sending moment left
+  sure_last : length (waiting entries) ≤ 1000 → sending.doubt ≡ true → IsSure entries sending → 2 ≤ left →
+      Stand entries sending moment left
 
 pub some_left : (entries : List Entry) (sending : Sending) (moment left : ℕ) → Stand entries sending moment left → 1 ≤ left
 some_left entries sending moment left (over w l) = l
@@ -54,7 +61,8 @@ some_left entries sending moment left (sure b w d s l) = omega arith
 some_left entries sending moment left (sure_last w d s l) = omega arith
 
 -- a drain begins
-pub stand_first : (entries : List Entry) (sending : Sending) (moment batches : ℕ) → length (waiting entries) ≤ 1000 * batches → Stand entries sending moment (2 * batches + 3)
+pub stand_first : (entries : List Entry) (sending : Sending) (moment batches : ℕ) → length (waiting entries) ≤ 1000 * batches →
+    Stand entries sending moment (2 * batches + 3)
 stand_first entries sending moment batches le = elim (cases_Bool sending.doubt) [
   | inl d ↦ unsure batches le d (omega arith)
   | inr d ↦ rested batches le d (omega arith)
@@ -72,13 +80,17 @@ none_more : {A : Type 0} (xs ys : List A) → length (xs ++ ys) ≤ length xs �
 none_more xs [] le = refl
 none_more xs (y ∷ ys) le = absurd (omega (arith, length-append xs (y ∷ ys)))
 
-pub recs_grow : (before after : Sight) → Growth before after → length (recs (history_of before)) ≤ length (recs (history_of after))
+pub recs_grow : (before after : Sight) → Growth before after → length (recs (history_of before)) ≤ length
+    (recs (history_of after))
 recs_grow before after g =
-    let is : history_of after ≡ history_of before ++ entries_of g.items = ap entries_of g.items_is ∙ entries_both before.items g.items in
+    let is : history_of after ≡ history_of before ++ entries_of g.items = ap entries_of g.items_is ∙ entries_both before.items
+    g.items in
     let e = ap (λ (es : List Entry). length (recs es)) is ∙ ap length (recs_both (history_of before) (entries_of g.items)) in
     omega (arith, e, length-append (recs (history_of before)) (recs (entries_of g.items)))
 
-pub same_shop : Known → (before look after : Sight) (shown : Waiting) (g : Grows before look) → look.own ≡ before.own → Growth look after → ShowsWaiting look 1000 shown → GainsOwnNotes before after → length (recs (history_of after)) ≤ length (recs (history_of before)) →
+pub same_shop : Known → (before look after : Sight) (shown : Waiting) (g : Grows before look) → look.own ≡ before.own →
+    Growth look after → ShowsWaiting look 1000 shown → GainsOwnNotes before after → length (recs (history_of after)) ≤ length
+    (recs (history_of before)) →
     SameShop before look after shown g
 same_shop known before look after shown g own growth shows gains few =
     let each = gains_each before look after (quiet_growth before look g own) growth gains in
@@ -89,10 +101,12 @@ same_shop known before look after shown g own growth shows gains few =
     let len = ap length r in
     let later = recs_grow look after growth in
     let empty : recs rest ≡ [] = none_more (recs (history_of before)) (recs rest) (omega arith) in
-    let records : recs (history_of look) ≡ recs (history_of before) = r ∙ ap (λ (xs : List Sealed). recs (history_of before) ++ xs) empty ∙ append-nil (recs (history_of before)) in
+    let records : recs (history_of look) ≡ recs (history_of before) = r ∙ ap (λ (xs : List Sealed). recs (history_of before) ++
+    xs) empty ∙ append-nil (recs (history_of before)) in
     let lines : noted (history_of look) ≡ noted (history_of before) = ap noted is ∙ noted_same (history_of before) rest are in
     let w : waiting (history_of look) ≡ waiting (history_of before) =
-    ap (λ (xs : List Sealed). drop (length (noted (history_of look))) xs) records ∙ ap (λ (ls : List Line). drop (length ls) (recs (history_of before))) lines in
+    ap (λ (xs : List Sealed). drop (length (noted (history_of look))) xs) records ∙
+    ap (λ (ls : List Line). drop (length ls) (recs (history_of before))) lines in
     let n = shows.noted_count in
     let c = shows.records_count in
     let a = ap length records in
@@ -107,7 +121,8 @@ same_shop known before look after shown g own growth shows gains few =
 
 -- where the waiting time has passed a submission is due
 pub never_waits : (pace : Pace) (now waiting_count : ℕ) → due_at pace ≤ now → is_due pace now waiting_count ≡ false → ⊥
-never_waits pace now waiting_count le e = (let t : is_due pace now waiting_count ≡ true = or_true (nat_le 1000 waiting_count) (nat_le (due_at pace) now) (le-leb (due_at pace) now le) in in_both (is_due pace now waiting_count) t e)
+never_waits pace now waiting_count le e = (let t : is_due pace now waiting_count ≡ true = or_true (nat_le 1000 waiting_count)
+    (nat_le (due_at pace) now) (le-leb (due_at pace) now le) in in_both (is_due pace now waiting_count) t e)
   where
     or_true : (a b : Bool) → b ≡ true → (a || b) ≡ true
     or_true true b h = refl
@@ -118,32 +133,44 @@ never_waits pace now waiting_count le e = (let t : is_due pace now waiting_count
 
 -- fewer than 1000 wait where none is due
 pub few_wait : (pace : Pace) (now waiting_count : ℕ) → is_due pace now waiting_count ≡ false → waiting_count < 1000
-few_wait pace now waiting_count e = (let f : nat_le 1000 waiting_count ≡ false = first_false (nat_le 1000 waiting_count) (nat_le (due_at pace) now) e in leb-false 1000 waiting_count f)
+few_wait pace now waiting_count e = (let f : nat_le 1000 waiting_count ≡ false = first_false (nat_le 1000 waiting_count)
+    (nat_le (due_at pace) now) e in leb-false 1000 waiting_count f)
   where
     first_false : (a b : Bool) → (a || b) ≡ false → a ≡ false
     first_false true b h = absurd cc
     first_false false b h = refl
 
 -- a consultation of what the agency has processed shows all of it
-all_was : (processed : List (Sealed × Line)) (huellas : List (List ℕ)) (lines : List Line) (rest : ℕ) → AllByRecursion (λ (h : List ℕ). IsSome (line_of processed h)) huellas → looked processed huellas ≡ map Was lines ++ unseen_ones rest →
+all_was : (processed : List (Sealed × Line)) (huellas : List (List ℕ)) (lines : List Line) (rest : ℕ) →
+    AllByRecursion (λ (h : List ℕ). IsSome (line_of processed h)) huellas → looked processed huellas ≡ map Was lines ++
+    unseen_ones rest →
     length lines ≡ length huellas
 all_was processed [] [] rest all e = refl
 all_was processed [] (line ∷ lines) rest all e = absurd cc
-all_was processed (h ∷ huellas) lines rest all e = here (line_of processed h) refl all.0 lines e (λ ls f. all_was processed huellas ls rest all.1 f)
+all_was processed (h ∷ huellas) lines rest all e = here (line_of processed h) refl all.0 lines e
+    (λ ls f. all_was processed huellas ls rest all.1 f)
   where
-    here : (o : Option Line) → line_of processed h ≡ o → IsSome o → (lines : List Line) → looked processed (h ∷ huellas) ≡ map Was lines ++ unseen_ones rest →
-        ((ls : List Line) → looked processed huellas ≡ map Was ls ++ unseen_ones rest → length ls ≡ length huellas) → length lines ≡ length (h ∷ huellas)
+    here : (o : Option Line) → line_of processed h ≡ o → IsSome o → (lines : List Line) → looked processed (h ∷ huellas) ≡ map Was
+        lines ++ unseen_ones rest →
+        ((ls : List Line) → looked processed huellas ≡ map Was ls ++ unseen_ones rest → length ls ≡ length huellas) →
+        length lines ≡ length (h ∷ huellas)
     here None is some lines e later = absurd (let q : false ≡ true = some in cc)
-    here (Some line) is some [] e later = absurd (not_unseen rest (ap (λ (o : Option Line). seen_of o ∷ looked processed huellas) (sym is) ∙ e))
+    here (Some line) is some [] e later = absurd (not_unseen rest (ap (λ (o : Option Line). seen_of o ∷ looked processed huellas)
+        (sym is) ∙ e))
       where
         not_unseen : (rest : ℕ) → Was line ∷ looked processed huellas ≡ unseen_ones rest → ⊥
         not_unseen zero e = absurd cc
         not_unseen (suc rest) e = absurd cc
-    here (Some line) is some (x ∷ lines) e later = (let f : looked processed huellas ≡ map Was lines ++ unseen_ones rest = cc in let l = later lines f in omega arith)
+    here (Some line) is some (x ∷ lines) e later = (let f : looked processed huellas ≡ map Was lines ++ unseen_ones rest = cc in
+        let l = later lines f in omega arith)
 
-pub sure_all : (processed : List (Sealed × Line)) (entries : List Entry) (sending : Sending) (seen : List Seen) (lines : List Line) → IsSure entries sending → AreSeen processed sending.said → seen ≡ looked processed (huellas_of (take 1000 (waiting entries))) → IsFront seen lines →
+pub sure_all : (processed : List (Sealed × Line)) (entries : List Entry) (sending : Sending) (seen : List Seen)
+    (lines : List Line) → IsSure entries sending → AreSeen processed sending.said →
+    seen ≡ looked processed (huellas_of (take 1000 (waiting entries))) → IsFront seen lines →
     length lines ≡ length (take 1000 (waiting entries))
 sure_all processed entries sending seen lines s there is front =
     let all : AreSeen processed (Some s.reply) = subst (λ (o : Option Replied). AreSeen processed o) s.said there in
-    let named : AllByRecursion (λ (h : List ℕ). IsSome (line_of processed h)) (huellas_of (take 1000 (waiting entries))) = subst (λ (hs : List (List ℕ)). AllByRecursion (λ (h : List ℕ). IsSome (line_of processed h)) hs) s.names all in
-    all_was processed (huellas_of (take 1000 (waiting entries))) lines front.rest named (sym is ∙ front.is) ∙ length-map (take 1000 (waiting entries)) (λ (t : Sealed). t.huella)
+    let named : AllByRecursion (λ (h : List ℕ). IsSome (line_of processed h)) (huellas_of (take 1000 (waiting entries))) =
+    subst (λ (hs : List (List ℕ)). AllByRecursion (λ (h : List ℕ). IsSome (line_of processed h)) hs) s.names all in
+    all_was processed (huellas_of (take 1000 (waiting entries))) lines front.rest named (sym is ∙ front.is) ∙
+    length-map (take 1000 (waiting entries)) (λ (t : Sealed). t.huella)

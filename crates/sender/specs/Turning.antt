@@ -2,6 +2,7 @@
 use Rattle.std.specs.Prelude.{◌≡◌, ◌⊎◌, ℕ, ◌+◌, ◌-◌, ◌^◌, ◌<◌, ◌≤◌, List, [], map, length, Bool, true, false, Option, Some}
 use Rattle.std.specs.Prelude.{None, Result, Ok, Err, IsTrue, ⊤}
 use Rattle.record_fields.specs.declared.lines.Line.{Line}
+use Rattle.record_fields.specs.declared.lines.TheConstants.{BATCH}
 use Rattle.pacing.specs.Due.{is_due, due_at}
 use Rattle.batches.specs.Batches.{huellas_of}
 use Rattle.agency_port.specs.Replied.{Replied}
@@ -42,7 +43,7 @@ pub record Notes (look after : Sight) (AreLines : List Line → Type 0) (count :
   pub lines : List Line
   pub are : AreLines lines
   pub some : 1 ≤ length lines
-  pub few : length lines ≤ 1000
+  pub few : length lines ≤ BATCH
   pub count_is : count ≡ length lines
   pub grows : Grows look after
   pub noted : NotedBy look after lines answer
@@ -169,7 +170,7 @@ Dealt kind old new shown (Handed answer) =
 
 -- what a look shows: at least one record waits
 pub record IsLook (look : Sight) (shown : Waiting) : Type 0 where
-  pub shows : ShowsWaiting look 1000 shown
+  pub shows : ShowsWaiting look BATCH shown
   pub legal : Legal look.issuer (history_of look)
   pub some : shown.noted < shown.records
   pub small : shown.records < 2 ^ 32
@@ -194,12 +195,12 @@ pub record Deals (kind : Kind) (desk desk_then : Desk) (look after : Sight) (sho
   pub dealt : Dealt kind desk desk_then shown deed
   pub ends : Ends old now shown look after deed result new
 
--- One turn: a look at the first 1000 waiting records, at most one call of the agency, and at most one note.
+-- One turn: a look at the first BATCH waiting records, at most one call of the agency, and at most one note.
 pub record Turned (kind : Kind) (desk desk_then : Desk) (before after : Sight) (old new : Sending) (now : ℕ)
     (result : Result Turn SendFault) : Type 0 where
   pub look : Sight
   pub grows : Grows before look
   pub own : look.own ≡ before.own
   pub shown : Waiting
-  pub shows : ShowsWaiting look 1000 shown
+  pub shows : ShowsWaiting look BATCH shown
   pub deals : Deals kind desk desk_then look after shown old new now result

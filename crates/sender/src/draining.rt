@@ -9,6 +9,7 @@ ghost use Rattle.sender.specs.Agreeing.{IsCareful};
 ghost use Rattle.sender.specs.declared.draining.TheConstants.{MAX_LINK_FAULTS};
 ghost use Rattle.sender.specs.Lines.{DrainTells, SaysCalls};
 ghost use Rattle.sender.specs.Draining.{told_in, told_list, moment_after, LinksAfter, Made, Drained, IsBounded};
+ghost use Rattle.record_fields.specs.declared.lines.TheConstants.{BATCH};
 
 use crate::laws::what_is_known;
 use crate::{DrainFault, SendFault, Sender, Turn};
@@ -207,7 +208,7 @@ impl Sender {
         ensures bound { IsTrue G.keeps_rules → InSession (O.sight outbox.old) (G.ledger agency.old) self.old.said →
             GainsOwnNotes (O.sight outbox.old) (O.sight outbox.new) →
             length (recs (history_of (O.sight outbox.new))) ≤ length (recs (history_of (O.sight outbox.old))) →
-            (batches : ℕ) → length (waiting (history_of (O.sight outbox.old))) ≤ 1000 * batches →
+            (batches : ℕ) → length (waiting (history_of (O.sight outbox.old))) ≤ BATCH * batches →
             IsBounded batches turns.old turns.new }
     {
         legal_is_chained();

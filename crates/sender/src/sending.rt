@@ -13,6 +13,7 @@ ghost use Rattle.agency_port.specs.Ledger.{Names};
 ghost use Rattle.sender.specs.Draining.{CountsOf};
 ghost use Rattle.sender.specs.Lines.{TellsOf, SaysCalls};
 ghost use Rattle.sender.specs.Turning.{NoteEnds, IsLook, Deals, Replies, Turned, count_waiting};
+ghost use Rattle.record_fields.specs.declared.lines.TheConstants.{BATCH};
 
 use crate::draining::Counted;
 use crate::evidence::learn;
@@ -75,7 +76,7 @@ impl Sender {
         lines: &[Line],
     ) -> Result<Turn, SendFault>
         requires some { 1 ≤ length lines.now }
-        requires few { length lines.now ≤ 1000 }
+        requires few { length lines.now ≤ BATCH }
         requires fits { length lines.now ≤ length (history.waiting (history_of (O.sight outbox.old))) }
         ensures ends { NoteEnds (O.sight outbox.old) (O.sight outbox.new) lines.now result self.old self.new }
         ensures fixed { O.fixed outbox.new ≡ O.fixed outbox.old }
@@ -207,7 +208,7 @@ impl Sender {
         shown: &Waiting,
         now: u64,
     ) -> Result<Turn, SendFault>
-        requires shows { ShowsWaiting (O.sight outbox.old) 1000 shown.now }
+        requires shows { ShowsWaiting (O.sight outbox.old) BATCH shown.now }
         requires legal { Legal (O.sight outbox.old).issuer (history_of (O.sight outbox.old)) }
         ensures ends { Deals (record { tells = G.tells; keeps_rules = G.keeps_rules })
             (record { ledger = G.ledger agency.old; faults = G.faults agency.old })
@@ -260,7 +261,7 @@ impl Sender {
         }
     }
 
-    /// One turn: a look at the first 1000 waiting records. In doubt it asks the agency for them; otherwise it hands them over
+    /// One turn: a look at the first `BATCH` waiting records. In doubt it asks the agency for them; otherwise it hands them over
     /// as a batch, where a submission is due at this second. What the agency says is noted.
     pub fn turn<R: Wait, O: Outbox, G: Agency>(
         &mut self,

@@ -1,5 +1,6 @@
 -- What follows of the numbers of a series: they are numbers of invoices, and give their series and their place back.
-use Rattle.std.specs.Prelude.{◌≡◌, ◌≢◌, ℕ, ◌+◌, ◌-◌, ◌%◌, ◌^◌, ◌<◌, ◌≤◌, List, [], ◌∷◌, ◌++◌, length, take, drop, Bool, true, false, ◌&&◌, nat_le, ◌==◌, not, decimal, refl}
+use Rattle.std.specs.Prelude.{◌≡◌, ◌≢◌, ℕ, ◌+◌, ◌-◌, ◌%◌, ◌^◌, ◌<◌, ◌≤◌, List, [], ◌∷◌, ◌++◌, length, take, drop, Bool, true}
+use Rattle.std.specs.Prelude.{false, ◌&&◌, nat_le, ◌==◌, not, decimal, refl}
 use Rattle.std.proofs.Common.{ap, sym, ◌∙◌, arith, get_or, length-append}
 use Rattle.std.specs.List.{list_all, suffix_len}
 use Rattle.std.proofs.lemmas.Bool.{and_parts, and_from, not_from_true, not_from_false, eq-eqb, ne_eqb, le-leb, leb-true}
@@ -22,7 +23,8 @@ more_digits : (ds : List ℕ) (n : ℕ) → list_all is_digit ds ≡ true → n 
 more_digits ds n all h = rw (list_all-append, all, one_digit n h) refl
 
 digits : (n : ℕ) → n < 2 ^ 64 → list_all is_digit (decimal n) ≡ true
-digits = decimal_by_steps (λ n ds. list_all is_digit ds ≡ true) one_digit (λ n ds h all. more_digits ds (n % 10) all (omega arith))
+digits = decimal_by_steps (λ n ds. list_all is_digit ds ≡ true) one_digit (λ n ds h all. more_digits ds (n % 10) all
+    (omega arith))
 
 from_digit : (c : ℕ) → is_digit c ≡ true → 48 ≤ c
 from_digit c h = grind (arith, nat_tests)
@@ -93,7 +95,8 @@ series_char c h = grind (arith, nat_tests)
 digit_char : (c : ℕ) → is_digit c ≡ true → is_number_char c ≡ true
 digit_char c h = grind (arith, nat_tests)
 
-chars : (name : List ℕ) (n : ℕ) → list_all is_series_char name ≡ true → n < 2 ^ 64 → list_all is_number_char (number_text name n) ≡ true
+chars : (name : List ℕ) (n : ℕ) → list_all is_series_char name ≡ true → n < 2 ^ 64 → list_all is_number_char (number_text name n)
+    ≡ true
 chars name n all small =
     rw (
       list_all-append,

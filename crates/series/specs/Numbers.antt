@@ -5,7 +5,8 @@ use Rattle.std.specs.List.{list_all, before_last}
 
 -- one of `A-Z a-z 0-9 / _`
 abbrev pub is_series_char : ℕ → Bool
-is_series_char c = (nat_le 48 c && nat_le c 57) || (nat_le 65 c && nat_le c 90) || (nat_le 97 c && nat_le c 122) || (c == 47) || (c == 95)
+is_series_char c = (nat_le 48 c && nat_le c 57) || (nat_le 65 c && nat_le c 90) || (nat_le 97 c && nat_le c 122) || (c == 47) ||
+    (c == 95)
 
 -- the name of a series: 1 to 20 of these
 abbrev pub is_series : List ℕ → Bool

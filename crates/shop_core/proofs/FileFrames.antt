@@ -11,23 +11,30 @@ use Rattle.shop_core.specs.Legal.{Legal, GoesOn}
 use Rattle.shop_core.specs.FileLaws.{SoundBegins, SoundGoesOn, SoundEnds}
 use Rattle.shop_core.specs.Files.{IsSoundUpTo, AreEncoded, bodies_of}
 
-pub encoded_more : (issuer : List ℕ) (entries : List Entry) (entry : Entry) → AreEncoded issuer entries → IsEncoding issuer entry (entry_bytes entry) → AreEncoded issuer (entries ++ entry ∷ [])
+pub encoded_more : (issuer : List ℕ) (entries : List Entry) (entry : Entry) → AreEncoded issuer entries →
+    IsEncoding issuer entry (entry_bytes entry) → AreEncoded issuer (entries ++ entry ∷ [])
 encoded_more issuer [] entry all is = (is, tt)
 encoded_more issuer (e ∷ entries) entry all is = (all.0, encoded_more issuer entries entry all.1 is)
 
-pub bodies_more : (entries : List Entry) (entry : Entry) → bodies_of (entries ++ entry ∷ []) ≡ bodies_of entries ++ entry_bytes entry ∷ []
+pub bodies_more : (entries : List Entry) (entry : Entry) → bodies_of (entries ++ entry ∷ []) ≡ bodies_of entries ++ entry_bytes
+    entry ∷ []
 bodies_more entries entry = map-append entry_bytes entries (entry ∷ [])
 
 -- a counted frame of an entry that continues the history is sound too
-pub sound_more : WalkGoesOn → (issuer : List ℕ) (entries : List Entry) (at : ℕ) (file body : List ℕ) (entry : Entry) → Legal issuer (entries ++ entry ∷ []) →
-    IsSoundUpTo issuer entries at file → IsCounted (drop at file) body → IsEncoding issuer entry body → IsSoundUpTo issuer (entries ++ entry ∷ []) (at + 5 + length body) file
+pub sound_more : WalkGoesOn → (issuer : List ℕ) (entries : List Entry) (at : ℕ) (file body : List ℕ) (entry : Entry) →
+    Legal issuer (entries ++ entry ∷ []) →
+    IsSoundUpTo issuer entries at file → IsCounted (drop at file) body → IsEncoding issuer entry body →
+    IsSoundUpTo issuer (entries ++ entry ∷ []) (at + 5 + length body) file
 sound_more goes_on issuer entries at file body entry legal sound counted encoding =
-    let walk : AreFrames file (bodies_of entries ++ body ∷ []) (at + 5 + length body) = goes_on file (bodies_of entries) at body sound.frames counted in
-    let same : bodies_of entries ++ body ∷ [] ≡ bodies_of (entries ++ entry ∷ []) = ap (λ (b : List ℕ). bodies_of entries ++ b ∷ []) encoding.bytes ∙ sym (bodies_more entries entry) in
+    let walk : AreFrames file (bodies_of entries ++ body ∷ []) (at + 5 + length body) = goes_on file (bodies_of entries) at body
+    sound.frames counted in
+    let same : bodies_of entries ++ body ∷ [] ≡ bodies_of (entries ++ entry ∷ []) =
+    ap (λ (b : List ℕ). bodies_of entries ++ b ∷ []) encoding.bytes ∙ sym (bodies_more entries entry) in
     record {
       header = sound.header;
       frames = subst (λ (bs : List (List ℕ)). AreFrames file bs (at + 5 + length body)) same walk;
-      encoded = encoded_more issuer entries entry sound.encoded (subst (λ (b : List ℕ). IsEncoding issuer entry b) encoding.bytes encoding);
+      encoded = encoded_more issuer entries entry sound.encoded (subst (λ (b : List ℕ). IsEncoding issuer entry b) encoding.bytes
+          encoding);
       legal = legal;
     }
 
@@ -36,7 +43,12 @@ nothing_legal issuer [] after entry is = absurd cc
 nothing_legal issuer (x ∷ before) after entry is = absurd cc
 
 pub sound_begins : WalkBegins → SoundBegins
-sound_begins begins issuer file header = record { header = header; frames = begins file; encoded = tt; legal = nothing_legal issuer }
+sound_begins begins issuer file header = record {
+  header = header;
+  frames = begins file;
+  encoded = tt;
+  legal = nothing_legal issuer;
+}
 
 pub sound_goes_on : WalkGoesOn → GoesOn → SoundGoesOn
 sound_goes_on walk goes_on issuer entries at file body entry sound counted encoding next =

@@ -22,7 +22,8 @@ record Behind (file : List ℕ) (at : ℕ) : Type 0 where
   stop : StopsAt issuer entries at file
   open_gate : IsClosed (drop at file) → ⊥
 
-placed : OneFrame → EncodingsAreApart → (file : List ℕ) (at : ℕ) → IsDamagedFile file at → IsHeaderDamaged file at ⊎ Behind file at
+placed : OneFrame → EncodingsAreApart → (file : List ℕ) (at : ℕ) → IsDamagedFile file at → IsHeaderDamaged file at ⊎
+    Behind file at
 placed frame apart file at (in_header _ damage) = inl damage
 placed frame apart file at (no_frame issuer entries _ sound damaged) = inr (record {
   issuer = issuer;
@@ -35,7 +36,8 @@ placed frame apart file at (no_entry issuer entries _ body sound counted none) =
   entries = entries;
   stop = record {
     sound = sound;
-    ends = λ entry other counted' encoding next. none entry (subst (λ (l : List ℕ). IsEncoding issuer entry l) (frame.1 (drop at file) other body counted' counted) encoding);
+    ends = λ entry other counted' encoding next. none entry (subst (λ (l : List ℕ). IsEncoding issuer entry l)
+        (frame.1 (drop at file) other body counted' counted) encoding);
   };
   open_gate = λ closed. not_both (drop at file) body closed counted;
 })
@@ -45,20 +47,24 @@ placed frame apart file at (not_next issuer entries _ body entry sound counted e
   stop = record {
     sound = sound;
     ends = λ other bytes counted' encoding' next.
-        let same : other ≡ entry = same_entry apart issuer other entry bytes body encoding' encoding (frame.1 (drop at file) bytes body counted' counted) in
+        let same : other ≡ entry = same_entry apart issuer other entry bytes body encoding' encoding
+        (frame.1 (drop at file) bytes body counted' counted) in
         never (subst (λ (e : Entry). Continues issuer entries e) same next);
   };
   open_gate = λ closed. not_both (drop at file) body closed counted;
 })
 
 sound_header : OneHeader → (file issuer : List ℕ) (at : ℕ) → IsBegun issuer file → IsHeaderDamaged file at → ⊥
-sound_header one file issuer at begun damage = absurd (let same : Begun issuer 1 ≡ Damaged at = one file (Begun issuer 1) (Damaged at) (begun, refl) damage in cc)
+sound_header one file issuer at begun damage = absurd (let same : Begun issuer 1 ≡ Damaged at = one file (Begun issuer 1)
+    (Damaged at) (begun, refl) damage in cc)
 
 begun_header : OneHeader → (file issuer : List ℕ) → IsBegun issuer file → IsNotBegun file → ⊥
-begun_header one file issuer begun none = absurd (let same : Begun issuer 1 ≡ NotBegun = one file (Begun issuer 1) NotBegun (begun, refl) none in cc)
+begun_header one file issuer begun none = absurd (let same : Begun issuer 1 ≡ NotBegun = one file (Begun issuer 1) NotBegun
+    (begun, refl) none in cc)
 
 pub one_damage : OneFrame → EncodingsAreApart → OneHeader → OneStop → OneDamage
-one_damage frame apart header stops file at place damage damage' = same (placed frame apart file at damage) (placed frame apart file place damage')
+one_damage frame apart header stops file at place damage damage' = same (placed frame apart file at damage)
+    (placed frame apart file place damage')
   where
     same : IsHeaderDamaged file at ⊎ Behind file at → IsHeaderDamaged file place ⊎ Behind file place → at ≡ place
     same (inl h) (inl h') = let is : Damaged at ≡ Damaged place = header file (Damaged at) (Damaged place) h h' in cc is
@@ -79,10 +85,12 @@ sound_or_damaged frame apart header stops gates issuer entries file at stands da
 
 pub one_history : OneStop → StopsAtItsGate → OneHistory
 one_history stops gates issuer other entries others file stands stands' =
-    let one = stops issuer other entries others (closing_gate (bodies_of entries)) (closing_gate (bodies_of others)) file (gates issuer entries file stands).0 (gates other others file stands').0 in
+    let one = stops issuer other entries others (closing_gate (bodies_of entries)) (closing_gate (bodies_of others)) file
+    (gates issuer entries file stands).0 (gates other others file stands').0 in
     (one.0, one.1)
 
-not_begun_damaged : OneFrame → EncodingsAreApart → OneHeader → (file : List ℕ) (at : ℕ) → IsNotBegun file → IsDamagedFile file at → ⊥
+not_begun_damaged : OneFrame → EncodingsAreApart → OneHeader → (file : List ℕ) (at : ℕ) → IsNotBegun file →
+    IsDamagedFile file at → ⊥
 not_begun_damaged frame apart header file at none damage =
     elim (placed frame apart file at damage) [
       | inl h ↦ absurd (let same : NotBegun ≡ Damaged at = header file NotBegun (Damaged at) none h in cc)

@@ -16,12 +16,14 @@ pub not_both : (bytes body : List ℕ) → IsClosed bytes → IsCounted bytes bo
 not_both bytes body closed counted = closed.shut (cc (sym closed.parts ∙ counted.parts))
 
 -- bytes are the encoding of one entry
-pub same_entry : EncodingsAreApart → (issuer : List ℕ) (a b : Entry) (x y : List ℕ) → IsEncoding issuer a x → IsEncoding issuer b y → x ≡ y → a ≡ b
+pub same_entry : EncodingsAreApart → (issuer : List ℕ) (a b : Entry) (x y : List ℕ) → IsEncoding issuer a x →
+    IsEncoding issuer b y → x ≡ y → a ≡ b
 same_entry apart issuer a b x y is is' same =
     let bytes : entry_bytes a ≡ entry_bytes b = sym is.bytes ∙ same ∙ is'.bytes in
     (apart issuer a b [] [] is.issuer is'.issuer is.fields is'.fields (ap (λ (l : List ℕ). l ++ []) bytes)).0
 
-same_entries : EncodingsAreApart → (issuer : List ℕ) (a b : List Entry) → AreEncoded issuer a → AreEncoded issuer b → bodies_of a ≡ bodies_of b → a ≡ b
+same_entries : EncodingsAreApart → (issuer : List ℕ) (a b : List Entry) → AreEncoded issuer a → AreEncoded issuer b →
+    bodies_of a ≡ bodies_of b → a ≡ b
 same_entries apart issuer [] [] are are' same = refl
 same_entries apart issuer [] (y ∷ b) are are' same = absurd cc
 same_entries apart issuer (x ∷ a) [] are are' same = absurd cc
@@ -38,7 +40,8 @@ record Longer (issuer : List ℕ) (entries others : List Entry) (body : List ℕ
   longer : others ≡ entries ++ entry ∷ rest
   encoding : IsEncoding issuer entry body
 
-more_entries : EncodingsAreApart → (issuer : List ℕ) (a b : List Entry) (body : List ℕ) (more : List (List ℕ)) → AreEncoded issuer a → AreEncoded issuer b →
+more_entries : EncodingsAreApart → (issuer : List ℕ) (a b : List Entry) (body : List ℕ) (more : List (List ℕ)) →
+    AreEncoded issuer a → AreEncoded issuer b →
     bodies_of b ≡ bodies_of a ++ body ∷ more → Longer issuer a b body
 more_entries apart issuer [] [] body more are are' same = absurd cc
 more_entries apart issuer [] (y ∷ b) body more are are' same =
@@ -52,7 +55,8 @@ more_entries apart issuer (x ∷ a) (y ∷ b) body more are are' same =
     let on = more_entries apart issuer a b body more are.1 are'.1 tails in
     record { entry = on.entry; rest = on.rest; longer = cc (first, on.longer); encoding = on.encoding }
 
-no_more : EncodingsAreApart → (issuer : List ℕ) (a b : List Entry) (at place : ℕ) (file : List ℕ) → StopsAt issuer a at file → IsSoundUpTo issuer b place file →
+no_more : EncodingsAreApart → (issuer : List ℕ) (a b : List Entry) (at place : ℕ) (file : List ℕ) → StopsAt issuer a at file →
+    IsSoundUpTo issuer b place file →
     GoOn (drop at file) (bodies_of a) (bodies_of b) → ⊥
 no_more apart issuer a b at place file stop sound on =
     let m = more_entries apart issuer a b on.body on.more stop.sound.encoded sound.encoded on.longer in

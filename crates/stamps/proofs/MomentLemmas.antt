@@ -65,7 +65,8 @@ same_day xs local other ahead more a b =
     let year : here.year ≡ there.year = omega arith in
     let month = same_number here.month there.month a.month_tens b.month_tens a.month_ones b.month_ones in
     let day = same_number here.day there.day a.day_tens b.day_tens a.day_ones b.day_ones in
-    date_at_injective (local / 86_400) (other / 86_400) (sym (same_date here _ _ _ (sym year) (sym month) (sym day)) ∙ same_date there _ _ _ refl refl refl)
+    date_at_injective (local / 86_400) (other / 86_400) (sym (same_date here _ _ _ (sym year) (sym month) (sym day)) ∙
+    same_date there _ _ _ refl refl refl)
 
 -- seconds are those of their day, hour, minute and second
 same_clock : (local other : ℕ) → local / 86_400 ≡ other / 86_400 → local % 86_400 / 3600 ≡ other % 86_400 / 3600
@@ -111,7 +112,8 @@ same_moment m k seconds offset =
 pub moment_text_of_injective : (m k : Moment) → IsStampOffset m.offset_minutes → IsStampOffset k.offset_minutes
     → moment_text_of m ≡ moment_text_of k → m ≡ k
 moment_text_of_injective m k here there e =
-    let same = local_text_of_injective (local_seconds_of m) (local_seconds_of k) (unsigned_abs m.offset_minutes) (unsigned_abs k.offset_minutes) e in
+    let same = local_text_of_injective (local_seconds_of m) (local_seconds_of k) (unsigned_abs m.offset_minutes)
+    (unsigned_abs k.offset_minutes) e in
     let offset = same_offset m.offset_minutes k.offset_minutes here there same.1 in
     let seconds : m.seconds ≡ k.seconds = omega (arith, same.0, same.1) in
     same_moment m k seconds offset

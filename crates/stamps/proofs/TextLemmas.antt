@@ -37,7 +37,10 @@ digits_injective : (m n : ℕ) → 48 + m / 10 ≡ 48 + n / 10 → 48 + m % 10 �
 digits_injective m n tens ones = omega arith
 
 -- the date whose digits stand in a date's text is that date
-pub IsDateText-date : (xs : List ℕ) (n : ℕ) (century year month day : ℕ) → IsDateText xs n → get_or xs 6 0 ≡ 48 + century / 10 → get_or xs 7 0 ≡ 48 + century % 10 → get_or xs 8 0 ≡ 48 + year / 10 → get_or xs 9 0 ≡ 48 + year % 10 → get_or xs 3 0 ≡ 48 + month / 10 → get_or xs 4 0 ≡ 48 + month % 10 → get_or xs 0 0 ≡ 48 + day / 10 → get_or xs 1 0 ≡ 48 + day % 10 → date_at n ≡ ymd (century * 100 + year) month day
+pub IsDateText-date : (xs : List ℕ) (n : ℕ) (century year month day : ℕ) → IsDateText xs n → get_or xs 6 0 ≡ 48 + century / 10 →
+    get_or xs 7 0 ≡ 48 + century % 10 → get_or xs 8 0 ≡ 48 + year / 10 → get_or xs 9 0 ≡ 48 + year % 10 →
+    get_or xs 3 0 ≡ 48 + month / 10 → get_or xs 4 0 ≡ 48 + month % 10 → get_or xs 0 0 ≡ 48 + day / 10 → get_or xs 1 0 ≡ 48 + day %
+    10 → date_at n ≡ ymd (century * 100 + year) month day
 IsDateText-date xs n century year month day is a b c d e f g h =
     let century-is = digits_injective ((date_at n).year / 100) century (sym is.thousands ∙ a) (sym is.hundreds ∙ b) in
     let year-is = digits_injective ((date_at n).year % 100) year (sym is.tens ∙ c) (sym is.ones ∙ d) in

@@ -1,5 +1,6 @@
 -- The peninsular clock, by Directive 2000/84/EC: `CET-1CEST,M3.5.0,M10.5.0/3`. Moments are seconds since 1970 on a clock at UTC.
-use Rattle.std.specs.Prelude.{ℕ, ◌+◌, ◌-◌, ◌*◌, ◌/◌, ◌%◌, ◌&&◌, nat_lt, nat_le, Bool, ℤ, pos, unsigned_abs, ◌≡◌, ◌⊎◌, if◌then◌else◌}
+use Rattle.std.specs.Prelude.{ℕ, ◌+◌, ◌-◌, ◌*◌, ◌/◌, ◌%◌, ◌&&◌, nat_lt, nat_le, Bool, ℤ, pos, unsigned_abs, ◌≡◌, ◌⊎◌}
+use Rattle.std.specs.Prelude.{if◌then◌else◌}
 use Rattle.std.specs.Int.{IsInRange}
 use Rattle.jiff.specs.Words.{days_in_month}
 use Rattle.stamps.specs.Civil.{date_at, day_number}

@@ -1,5 +1,6 @@
 -- Totals grow by one line after another, and stay far within the range of amounts.
-use Rattle.std.proofs.Common.{◌≡◌, inl, inr, ℕ, zero, suc, [], ◌∷◌, ◌+◌, ◌*◌, ◌/◌, ◌<◌, ◌≤◌, List, length, get_or, take, refl, sym, ap, subst, ◌∙◌, arith, map, ℤ, pos, negsuc, ◌+ℤ◌, unsigned_abs}
+use Rattle.std.proofs.Common.{◌≡◌, inl, inr, ℕ, zero, suc, [], ◌∷◌, ◌+◌, ◌*◌, ◌/◌, ◌<◌, ◌≤◌, List, length, get_or, take, refl}
+use Rattle.std.proofs.Common.{sym, ap, subst, ◌∙◌, arith, map, ℤ, pos, negsuc, ◌+ℤ◌, unsigned_abs}
 use Rattle.std.specs.Prelude.{position, Some, None}
 use Rattle.std.specs.List.{position_or_len}
 use Rattle.std.proofs.Math.Nat.{mul-le-mul}
@@ -10,7 +11,8 @@ use Rattle.std.proofs.lemmas.Bool.{ltb-false, lt-ltb, cases_lt}
 use Rattle.amounts.specs.Amount.{tax, with_sign_of}
 use Rattle.tax_lines.specs.declared.lines.TaxLine.{TaxLine}
 use Rattle.tax_lines.specs.declared.classes.LineKey.{LineKey}
-use Rattle.tax_lines.specs.declared.classes.LineKey.TheVariants.{General, Reduced, SuperReduced, GeneralSurcharge, ReducedSurcharge, SuperReducedSurcharge}
+use Rattle.tax_lines.specs.declared.classes.LineKey.TheVariants.{General, Reduced, SuperReduced, GeneralSurcharge}
+use Rattle.tax_lines.specs.declared.classes.LineKey.TheVariants.{ReducedSurcharge, SuperReducedSurcharge}
 use Rattle.tax_lines.specs.Classes.{rate_of, surcharge_of}
 use Rattle.tax_lines.specs.Totals.{line_tax, sum_of, cuota, bases, TotalsAreSmall}
 use Rattle.tax_lines.specs.Breakdown.{is_past, IsBreakdown}
@@ -62,13 +64,15 @@ pub line_tax_bound : (line : TaxLine) → unsigned_abs line.base ≤ 9_999_999_9
 line_tax_bound line low =
     let rate = tax_bound line.base (rate_of line.key) 9_999_999_999 low (rate_bound line.key) in
     let surcharge = tax_bound line.base (surcharge_of line.key) 9_999_999_999 low (surcharge_bound line.key) in
-    let both = abs_sum (tax line.base (rate_of line.key)) (tax line.base (surcharge_of line.key)) 2_500_000_001 2_500_000_001 (omega arith) (omega arith) in
+    let both = abs_sum (tax line.base (rate_of line.key)) (tax line.base (surcharge_of line.key)) 2_500_000_001 2_500_000_001
+    (omega arith) (omega arith) in
     omega arith
 
 none_past : (lines : List TaxLine) → position is_past lines ≡ None → length lines ≤ position_or_len is_past lines
 none_past lines h =
     elim (cases_lt (position_or_len is_past lines) (length lines)) [
-      | inl lt ↦ let t = lt-ltb (position_or_len is_past lines) (length lines) lt in let e : Some (position_or_len is_past lines) ≡ None = rw t at h in cc
+      | inl lt ↦ let t = lt-ltb (position_or_len is_past lines) (length lines) lt in let e : Some (position_or_len is_past lines)
+          ≡ None = rw t at h in cc
       | inr ge ↦ ge
     ]
 
@@ -80,9 +84,11 @@ base_bound lines i d is h =
     ltb-false 9_999_999_999 (unsigned_abs (get_or lines i d).base) (fails_before_first is_past lines i d (omega arith))
 
 -- a loop's line is the line at its index
-pub item_bound : (lines : List TaxLine) (i : ℕ) (line : TaxLine) → IsBreakdown lines → i < length lines → line ≡ get_or lines i line
+pub item_bound : (lines : List TaxLine) (i : ℕ) (line : TaxLine) → IsBreakdown lines → i < length lines →
+    line ≡ get_or lines i line
     → unsigned_abs line.base ≤ 9_999_999_999
-item_bound lines i line is h e = subst (λ (l : TaxLine). unsigned_abs l.base ≤ 9_999_999_999) (sym e) (base_bound lines i line is h)
+item_bound lines i line is h e = subst (λ (l : TaxLine). unsigned_abs l.base ≤ 9_999_999_999) (sym e)
+    (base_bound lines i line is h)
 
 pub cuota_step : (lines : List TaxLine) (i : ℕ) (line : TaxLine) (sum tax : ℤ) → i < length lines → line ≡ get_or lines i line
     → sum ≡ cuota (take i lines) → tax ≡ line_tax line → sum +ℤ tax ≡ cuota (take (i + 1) lines)
@@ -94,7 +100,8 @@ pub bases_step : (lines : List TaxLine) (i : ℕ) (line : TaxLine) (sum : ℤ) �
 bases_step lines i line sum h e so_far =
     rw so_far (ap (λ (l : TaxLine). bases (take i lines) +ℤ l.base) e ∙ sym (bases_more lines i line h))
 
-bases_within : (lines : List TaxLine) (d : TaxLine) → IsBreakdown lines → (i : ℕ) → i ≤ length lines → unsigned_abs (bases (take i lines)) ≤ 9_999_999_999 * i
+bases_within : (lines : List TaxLine) (d : TaxLine) → IsBreakdown lines → (i : ℕ) → i ≤ length lines →
+    unsigned_abs (bases (take i lines)) ≤ 9_999_999_999 * i
 unfolding bases
 bases_within lines d is zero h = omega arith
 bases_within lines d is (suc i) h =
@@ -104,7 +111,8 @@ bases_within lines d is (suc i) h =
     let z : suc i ≡ i + 1 = omega arith in
     rw z (rw (bases_more lines i d (omega (arith, h))) (omega (arith, both)))
 
-cuota_within : (lines : List TaxLine) (d : TaxLine) → IsBreakdown lines → (i : ℕ) → i ≤ length lines → unsigned_abs (cuota (take i lines)) ≤ 5_000_000_002 * i
+cuota_within : (lines : List TaxLine) (d : TaxLine) → IsBreakdown lines → (i : ℕ) → i ≤ length lines →
+    unsigned_abs (cuota (take i lines)) ≤ 5_000_000_002 * i
 unfolding cuota
 cuota_within lines d is zero h = omega arith
 cuota_within lines d is (suc i) h =
@@ -121,6 +129,8 @@ totals_small (line ∷ lines) is =
     let few = is.few.1 in
     let n = length (line ∷ lines) in
     let all : take n (line ∷ lines) ≡ line ∷ lines = take_all n (line ∷ lines) (omega arith) in
-    let of_bases : unsigned_abs (bases (line ∷ lines)) ≤ 9_999_999_999 * n = subst (λ (ls : List TaxLine). unsigned_abs (bases ls) ≤ 9_999_999_999 * n) all (bases_within (line ∷ lines) line is n (omega arith)) in
-    let of_cuota : unsigned_abs (cuota (line ∷ lines)) ≤ 5_000_000_002 * n = subst (λ (ls : List TaxLine). unsigned_abs (cuota ls) ≤ 5_000_000_002 * n) all (cuota_within (line ∷ lines) line is n (omega arith)) in
+    let of_bases : unsigned_abs (bases (line ∷ lines)) ≤ 9_999_999_999 * n = subst (λ (ls : List TaxLine). unsigned_abs (bases ls)
+    ≤ 9_999_999_999 * n) all (bases_within (line ∷ lines) line is n (omega arith)) in
+    let of_cuota : unsigned_abs (cuota (line ∷ lines)) ≤ 5_000_000_002 * n = subst (λ (ls : List TaxLine). unsigned_abs (cuota ls)
+    ≤ 5_000_000_002 * n) all (cuota_within (line ∷ lines) line is n (omega arith)) in
     (omega (arith, few, of_bases), omega (arith, few, of_cuota))

@@ -3,7 +3,9 @@
 -- words and their codes are this project's own.
 use Rattle.std.specs.Prelude.{ℕ, List, codes}
 use Rattle.tax_lines.specs.declared.classes.LineKey.{LineKey}
-use Rattle.tax_lines.specs.declared.classes.LineKey.TheVariants.{General, Reduced, SuperReduced, Zero, GeneralSurcharge, ReducedSurcharge, SuperReducedSurcharge, S2, N1, N2, E1, E2, E3, E4, E5, E6}
+use Rattle.tax_lines.specs.declared.classes.LineKey.TheVariants.{General, Reduced, SuperReduced, Zero, GeneralSurcharge}
+use Rattle.tax_lines.specs.declared.classes.LineKey.TheVariants.{ReducedSurcharge, SuperReducedSurcharge, S2, N1, N2, E1, E2, E3}
+use Rattle.tax_lines.specs.declared.classes.LineKey.TheVariants.{E4, E5, E6}
 
 -- the rate of the tax
 abbrev pub rate_of : LineKey → ℕ

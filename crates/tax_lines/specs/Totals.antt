@@ -27,4 +27,5 @@ total lines = bases lines +ℤ cuota lines
 
 -- how large the totals of a breakdown get
 abbrev pub TotalsAreSmall : Type 0
-TotalsAreSmall = (lines : List TaxLine) → IsBreakdown lines → (unsigned_abs (bases lines) ≤ 120_000_000_000) × (unsigned_abs (cuota lines) ≤ 100_000_000_000)
+TotalsAreSmall = (lines : List TaxLine) → IsBreakdown lines → (unsigned_abs (bases lines) ≤ 120_000_000_000) ×
+    (unsigned_abs (cuota lines) ≤ 100_000_000_000)

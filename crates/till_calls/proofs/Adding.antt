@@ -1,5 +1,6 @@
 -- What a till's run adds to the list, told of the list at the end.
-use Rattle.std.proofs.Common.{◌≡◌, ◌⊎◌, inl, inr, ℕ, zero, suc, ◌<◌, ◌≤◌, false, List, [], ◌∷◌, length, drop, All, Option, Result, refl, ap, sym, subst, arith}
+use Rattle.std.proofs.Common.{◌≡◌, ◌⊎◌, inl, inr, ℕ, zero, suc, ◌<◌, ◌≤◌, false, List, [], ◌∷◌, length, drop, All, Option, Result}
+use Rattle.std.proofs.Common.{refl, ap, sym, subst, arith}
 use Rattle.std.specs.Prelude.{◌≢◌}
 use Rattle.std.proofs.lemmas.List.{length-append}
 use Rattle.chain_lock.specs.Known.{Known, IsNew, Fits, owners}
@@ -23,22 +24,32 @@ each_weaker : {X : Type 0} (P Q : X → Type 0) (xs : List X) → ((x : X) → P
 each_weaker P Q [] f h = tt
 each_weaker P Q (x ∷ xs) f h = (f x h.0, each_weaker P Q xs f h.1)
 
-module _ {C : Type 0} (coming : C → ℕ → Option ℕ) (till : ℕ) (root : Root C) (items : List Item) (old new : Known Item (Root C)) (asks : List Asked) (replies : List (Result Reply StoreFault))
-    (fresh : IsNew items root old) (run : TillRun coming old asks replies new) (own : All (λ (a : Asked). a.till ≡ till) asks) where
-  served : IsServed till replies (length items) new
-  served = serves_run till (length items) coming old new asks replies (all_each (λ (a : Asked). a.till ≡ till) asks own) (served_new till (length items) items root old refl fresh) run
+module _ {C : Type 0} (coming : C → ℕ → Option ℕ) (till : ℕ) (root : Root C) (items : List Item) (old new : Known Item (Root C))
+    (asks : List Asked) (replies : List (Result Reply StoreFault))
+    (fresh : IsNew items root old) (run : TillRun coming old asks replies new) (own : All (λ (a : Asked). a.till ≡ till) asks)
+  where
+    served : IsServed till replies (length items) new
+    served = serves_run till (length items) coming old new asks replies (all_each (λ (a : Asked). a.till ≡ till) asks own)
+        (served_new till (length items) items root old refl fresh) run
 
-  pub adds_for_no_other : (other : ℕ) → other ≢ till → OwnsNone other new
-  adds_for_no_other other apart = each_all (λ (x : ℕ × Item). is_of other x.1 ≡ false) new.own (served.others other apart)
+    pub adds_for_no_other : (other : ℕ) → other ≢ till → OwnsNone other new
+    adds_for_no_other other apart = each_all (λ (x : ℕ × Item). is_of other x.1 ≡ false) new.own (served.others other apart)
 
-  either_way : (k : Known Item (Root C)) → (k ≡ new) ⊎ OwnsNone till k → (k ≡ new) ⊎ EachOf (λ (x : ℕ × Item). is_of till x.1 ≡ false) k.own
-  either_way k (inl same) = inl same
-  either_way k (inr none) = inr (all_each (λ (x : ℕ × Item). is_of till x.1 ≡ false) k.own none)
+    either_way : (k : Known Item (Root C)) → (k ≡ new) ⊎ OwnsNone till k → (k ≡ new) ⊎
+        EachOf (λ (x : ℕ × Item). is_of till x.1 ≡ false) k.own
+    either_way k (inl same) = inl same
+    either_way k (inr none) = inr (all_each (λ (x : ℕ × Item). is_of till x.1 ≡ false) k.own none)
 
-  pub adds_what_is_taken : (log : List Item) (passes : List (Known Item (Root C))) → StartsWith log items → Fits log new → All (Fits log) passes → All (λ (k : Known Item (Root C)). (k ≡ new) ⊎ OwnsNone till k) passes →
-      ((n : ℕ) → length items ≤ n → n < length log → owners n passes ≡ 1) → AreTaken replies (records_of till (drop (length items) log))
-  adds_what_is_taken log passes begins fit fits apart since =
-      let longer : length new.seen ≤ length log = (let e = ap (λ (l : List Item). length l) fit.begins.1 in let f = length-append new.seen fit.begins.0 in omega (arith, e, f)) in
-      let each = each_weaker _ (λ (k : Known Item (Root C)). (k ≡ new) ⊎ EachOf (λ (x : ℕ × Item). is_of till x.1 ≡ false) k.own) passes either_way (all_each (λ (k : Known Item (Root C)). (k ≡ new) ⊎ OwnsNone till k) passes apart) in
-      let e = its_own (is_of till) log new items begins.0 passes begins.1 each (all_each (Fits log) passes fits) fit (rises_more (length items) (length new.seen) (length log) new.own longer served.rises) since in
-      subst (λ (l : List Item). AreTaken replies l) (sym e) served.taken
+    pub adds_what_is_taken : (log : List Item) (passes : List (Known Item (Root C))) → StartsWith log items → Fits log new →
+        All (Fits log) passes → All (λ (k : Known Item (Root C)). (k ≡ new) ⊎ OwnsNone till k) passes →
+        ((n : ℕ) → length items ≤ n → n < length log → owners n passes ≡ 1) →
+        AreTaken replies (records_of till (drop (length items) log))
+    adds_what_is_taken log passes begins fit fits apart since =
+        let longer : length new.seen ≤ length log = (let e = ap (λ (l : List Item). length l) fit.begins.1 in
+        let f = length-append new.seen fit.begins.0 in omega (arith, e, f)) in
+        let each = each_weaker _ (λ (k : Known Item (Root C)). (k ≡ new) ⊎ EachOf (λ (x : ℕ × Item). is_of till x.1 ≡ false)
+        k.own)
+        passes either_way (all_each (λ (k : Known Item (Root C)). (k ≡ new) ⊎ OwnsNone till k) passes apart) in
+        let e = its_own (is_of till) log new items begins.0 passes begins.1 each (all_each (Fits log) passes fits) fit
+        (rises_more (length items) (length new.seen) (length log) new.own longer served.rises) since in
+        subst (λ (l : List Item). AreTaken replies l) (sym e) served.taken

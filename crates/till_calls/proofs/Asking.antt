@@ -1,5 +1,6 @@
 -- What a till's ask does to a sound shop, and what its list of items then is.
-use Rattle.std.proofs.Common.{◌≡◌, ◌⊎◌, ◌↔◌, inl, inr, ℕ, ◌≤◌, length, length-append, List, [], ◌∷◌, ◌++◌, map, ◌+◌, sym, ◌∙◌, ap, subst, refl, Bool, IsTrue, IsSome, is_some, true, Option, Some, None, Result, Ok, Err}
+use Rattle.std.proofs.Common.{◌≡◌, ◌⊎◌, ◌↔◌, inl, inr, ℕ, ◌≤◌, length, length-append, List, [], ◌∷◌, ◌++◌, map, ◌+◌, sym, ◌∙◌, ap}
+use Rattle.std.proofs.Common.{subst, refl, Bool, IsTrue, IsSome, is_some, true, Option, Some, None, Result, Ok, Err}
 use Rattle.std.specs.Prelude.{OnOk}
 use Rattle.std.proofs.lemmas.List.{append-nil, map-append, length-map}
 use Rattle.chain_disk.specs.Told.{Told, LeavesNow}
@@ -36,43 +37,59 @@ no_entry (Some count) None = refl
 no_entry (Some count) (Some torn) = refl
 
 pub entries_in : {D C : Type 0} (p : Parts D C) → entries_of (items_in p) ≡ p.state.entries
-entries_in p = entries_in_map p.state.entries (stop_in p.stopped p.torn) ∙ ap (λ (l : List Entry). p.state.entries ++ l) (no_entry p.stopped p.torn) ∙ append-nil p.state.entries
+entries_in p = entries_in_map p.state.entries (stop_in p.stopped p.torn) ∙ ap (λ (l : List Entry). p.state.entries ++ l)
+    (no_entry p.stopped p.torn) ∙ append-nil p.state.entries
 
 none_stop : (stopped : Option ℕ) (torn : Option Entry) → stopped ≡ None → stop_in stopped torn ≡ []
 none_stop None torn e = refl
 none_stop (Some count) torn e = absurd cc
 
 pub items_going : {D C : Type 0} (p : Parts D C) → p.stopped ≡ None → items_in p ≡ map item.Entry p.state.entries
-items_going p e = ap (λ (l : List Item). map item.Entry p.state.entries ++ l) (none_stop p.stopped p.torn e) ∙ append-nil (map item.Entry p.state.entries)
+items_going p e = ap (λ (l : List Item). map item.Entry p.state.entries ++ l) (none_stop p.stopped p.torn e) ∙
+    append-nil (map item.Entry p.state.entries)
 
-pub items_stopped : {D C : Type 0} (p : Parts D C) (count : ℕ) (torn : Entry) → p.stopped ≡ Some count → p.torn ≡ Some torn → items_in p ≡ map item.Entry p.state.entries ++ item.Stop count torn ∷ []
+pub items_stopped : {D C : Type 0} (p : Parts D C) (count : ℕ) (torn : Entry) → p.stopped ≡ Some count → p.torn ≡ Some torn →
+    items_in p ≡ map item.Entry p.state.entries ++ item.Stop count torn ∷ []
 items_stopped p count torn e f = rw (e, f) refl
 
 pub count_going : {D C : Type 0} (p : Parts D C) → p.stopped ≡ None → length (items_in p) ≡ length p.state.entries
 count_going p e = ap (λ (l : List Item). length l) (items_going p e) ∙ length-map p.state.entries (λ (e : Entry). item.Entry e)
 
-pub count_stopped : {D C : Type 0} (p : Parts D C) (count : ℕ) (torn : Entry) → p.stopped ≡ Some count → p.torn ≡ Some torn → length (items_in p) ≡ length p.state.entries + 1
+pub count_stopped : {D C : Type 0} (p : Parts D C) (count : ℕ) (torn : Entry) → p.stopped ≡ Some count → p.torn ≡ Some torn →
+    length (items_in p) ≡ length p.state.entries + 1
 count_stopped p count torn e f =
-    ap (λ (l : List Item). length l) (items_stopped p count torn e f) ∙ length-append (map item.Entry p.state.entries) (item.Stop count torn ∷ []) ∙ ap (λ (n : ℕ). n + 1) (length-map p.state.entries (λ (e : Entry). item.Entry e))
+    ap (λ (l : List Item). length l) (items_stopped p count torn e f) ∙ length-append (map item.Entry p.state.entries)
+    (item.Stop count torn ∷ []) ∙ ap (λ (n : ℕ). n + 1) (length-map p.state.entries (λ (e : Entry). item.Entry e))
 
 pub some_count : (o : Option ℕ) → is_some o ≡ true → (count : ℕ) × (o ≡ Some count)
 some_count None e = absurd cc
 some_count (Some count) e = (count, refl)
 
-adds_of : (planned : Planned) (history : List Entry) (reply : Reply) (gained : List Entry) → Tells history planned reply gained → (gained ≡ []) ⊎ ((e : Entry) × (gained ≡ e ∷ []))
+adds_of : (planned : Planned) (history : List Entry) (reply : Reply) (gained : List Entry) → Tells history planned reply gained →
+    (gained ≡ []) ⊎ ((e : Entry) × (gained ≡ e ∷ []))
 adds_of (Again receipt) history reply gained t = inl t.1
 adds_of (Refused why) history reply gained t = inl t.1
 adds_of (Made e) history reply gained t = inr (e, t.1)
 
 -- an ask adds one item or none
-pub till_adds : {C : Type 0} (coming : C → ℕ → Option ℕ) (ask : Asked) (reply : Result Reply StoreFault) (root : Root C) (before after : List Item) → TillDoes coming ask reply root before after →
+pub till_adds : {C : Type 0} (coming : C → ℕ → Option ℕ) (ask : Asked) (reply : Result Reply StoreFault) (root : Root C)
+    (before after : List Item) → TillDoes coming ask reply root before after →
     MayAdd before after
 till_adds coming ask (Ok reply) root before after a =
     elim (adds_of (answer root.issuer a.history ask a.seconds) a.history reply a.gained a.tells) [
-      | inl none ↦ inl (a.after_is ∙ ap (λ (l : List Entry). map item.Entry (a.history ++ l)) none ∙ ap (λ (l : List Entry). map item.Entry l) (append-nil a.history) ∙ sym a.going_on)
-      | inr one ↦ inr (item.Entry one.0, a.after_is ∙ ap (λ (l : List Entry). map item.Entry (a.history ++ l)) one.1 ∙ map-append item.Entry a.history (one.0 ∷ []) ∙ ap (λ (l : List Item). l ++ item.Entry one.0 ∷ []) (sym a.going_on))
+      | inl none ↦ inl (a.after_is ∙ ap (λ (l : List Entry). map item.Entry (a.history ++ l)) none ∙
+          ap (λ (l : List Entry). map item.Entry l) (append-nil a.history) ∙ sym a.going_on)
+      | inr one ↦ inr (
+        item.Entry one.0,
+        a.after_is ∙ ap (λ (l : List Entry). map item.Entry (a.history ++ l)) one.1 ∙
+            map-append item.Entry a.history (one.0 ∷ []) ∙ ap (λ (l : List Item). l ++ item.Entry one.0 ∷ []) (sym a.going_on),
+      )
     ]
-till_adds coming ask (Err DiskFault) root before after t = inr (item.Stop t.count t.torn, t.after_is ∙ ap (λ (l : List Item). l ++ item.Stop t.count t.torn ∷ []) (sym t.going_on))
+till_adds coming ask (Err DiskFault) root before after t = inr (
+  item.Stop t.count t.torn,
+  t.after_is ∙
+      ap (λ (l : List Item). l ++ item.Stop t.count t.torn ∷ []) (sym t.going_on),
+)
 till_adds coming ask (Err (Stopped count)) root before after s = inl s.0
 till_adds coming ask (Err NoMemory) root before after e = inl e.0
 
@@ -94,7 +111,8 @@ module _ {D C : Type 0} (tells : Bool) (told : D → Told) (faults : D → ℕ) 
   abbrev Outcome : Parts D C → Asked → Result Reply StoreFault → Parts D C → Type 0
   Outcome p ask r q = IsSound tells told faults coming root q × TillTurn coming ask r root (items_in p) (items_in q)
 
-  reading_of : (p : Parts D C) (seconds : ℕ) → IsSound tells told faults coming root p → IsTold (coming p.clock 0) seconds → IsReading coming root seconds
+  reading_of : (p : Parts D C) (seconds : ℕ) → IsSound tells told faults coming root p → IsTold (coming p.clock 0) seconds →
+      IsReading coming root seconds
   reading_of p seconds s told_it = record {
     number = s.clock.number + 0;
     told = subst (λ (o : Option ℕ). IsTold o seconds) (s.clock.moved 0) told_it;
@@ -106,16 +124,20 @@ module _ {D C : Type 0} (tells : Bool) (told : D → Told) (faults : D → ℕ) 
     begins = subst (λ (es : List Entry). StartsWith es root.history) (sym (entries_in q)) s.begins;
   }
 
-  outcome : (p q : Parts D C) (ask : Asked) (r : Result Reply StoreFault) → IsSound tells told faults coming root q → TillDoes coming ask r root (items_in p) (items_in q) → Outcome p ask r q
+  outcome : (p q : Parts D C) (ask : Asked) (r : Result Reply StoreFault) → IsSound tells told faults coming root q →
+      TillDoes coming ask r root (items_in p) (items_in q) → Outcome p ask r q
   outcome p q ask r s does = (s, record { list = list_of q s; does = does })
 
-  took_going : (p q : Parts D C) (ask : Asked) (r : Result Reply StoreFault) → IsSound tells told faults coming root p → p.stopped ≡ None → Took p q ask r → Outcome p ask r q
+  took_going : (p q : Parts D C) (ask : Asked) (r : Result Reply StoreFault) → IsSound tells told faults coming root p →
+      p.stopped ≡ None → Took p q ask r → Outcome p ask r q
   took_going p q ask (Ok reply) s going t =
       let takes = t.takes going in
       let planned = answer p.state.issuer p.state.entries ask takes.seconds in
       let clock : IsLater coming root.clock q.clock = later_more coming root.clock p.clock q.clock 1 s.clock takes.moved in
-      let sound = sound_gains tells told faults coming root p q takes.gained (StandsAround p.state.issuer p.state.entries planned) s going t.going_on.1 t.ready takes.issuer t.legal takes.entries clock
-      takes.any_moment (λ c h. between_around root.issuer root.history p.state.entries takes.gained planned reply c s.begins takes.reply (subst (λ (n : List ℕ). StandsAround n p.state.entries planned c) s.issuer h))
+      let sound = sound_gains tells told faults coming root p q takes.gained (StandsAround p.state.issuer p.state.entries planned)
+      s going t.going_on.1 t.ready takes.issuer t.legal takes.entries clock
+      takes.any_moment (λ c h. between_around root.issuer root.history p.state.entries takes.gained planned reply c s.begins
+      takes.reply (subst (λ (n : List ℕ). StandsAround n p.state.entries planned c) s.issuer h))
       t.acknowledged t.later in
       outcome p q ask (Ok reply) sound (record {
         history = p.state.entries;
@@ -123,16 +145,19 @@ module _ {D C : Type 0} (tells : Bool) (told : D → Told) (faults : D → ℕ) 
         seconds = takes.seconds;
         reading = reading_of p takes.seconds s takes.reading;
         gained = takes.gained;
-        tells = subst (λ (n : List ℕ). Tells p.state.entries (answer n p.state.entries ask takes.seconds) reply takes.gained) s.issuer takes.reply;
+        tells = subst (λ (n : List ℕ). Tells p.state.entries (answer n p.state.entries ask takes.seconds) reply takes.gained)
+            s.issuer takes.reply;
         after_is = items_going q t.going_on.1 ∙ ap (λ (es : List Entry). map item.Entry es) takes.entries;
       })
   took_going p q ask (Err DiskFault) s going t =
       let takes = t.takes going in
       let tears = t.torn refl in
       let fault = t.fault refl in
-      let same : q.state.entries ≡ p.state.entries = takes.entries ∙ ap (λ (l : List Entry). p.state.entries ++ l) takes.reply ∙ append-nil p.state.entries in
+      let same : q.state.entries ≡ p.state.entries = takes.entries ∙ ap (λ (l : List Entry). p.state.entries ++ l) takes.reply ∙
+      append-nil p.state.entries in
       let clock : IsLater coming root.clock q.clock = later_more coming root.clock p.clock q.clock 1 s.clock takes.moved in
-      let sound = sound_stops tells told faults coming root p q tears.entry (faults q.disk) s going fault.1 tears.entry_is refl t.ready takes.issuer same tears.continues clock tears.any_moment fault.0 t.later in
+      let sound = sound_stops tells told faults coming root p q tears.entry (faults q.disk) s going fault.1 tears.entry_is refl
+      t.ready takes.issuer same tears.continues clock tears.any_moment fault.0 t.later in
       let stopped : HasStopped faults root q (faults q.disk) = sound.stop (faults q.disk) fault.1 in
       outcome p q ask (Err DiskFault) sound (record {
         history = p.state.entries;
@@ -143,13 +168,16 @@ module _ {D C : Type 0} (tells : Bool) (told : D → Told) (faults : D → ℕ) 
         made = subst (λ (n : List ℕ). answer n p.state.entries ask tears.seconds ≡ Made tears.entry) s.issuer tears.made;
         count = faults q.disk;
         rose = stopped.rose;
-        after_is = items_stopped q (faults q.disk) tears.entry fault.1 tears.entry_is ∙ ap (λ (es : List Entry). map item.Entry es ++ item.Stop (faults q.disk) tears.entry ∷ []) same;
+        after_is = items_stopped q (faults q.disk) tears.entry fault.1 tears.entry_is ∙
+            ap (λ (es : List Entry). map item.Entry es ++ item.Stop (faults q.disk) tears.entry ∷ []) same;
       })
-  took_going p q ask (Err (Stopped count)) s going t = absurd (let x : ◌≡◌ {A = Option ℕ} None (Some count) = sym going ∙ (t.stopped count).0 refl in cc)
+  took_going p q ask (Err (Stopped count)) s going t = absurd (let x : ◌≡◌ {A = Option ℕ} None (Some count) = sym going ∙
+      (t.stopped count).0 refl in cc)
   took_going p q ask (Err NoMemory) s going t =
       let takes = t.takes going in
       let disk = t.no_memory refl in
-      let same : q.state.entries ≡ p.state.entries = takes.entries ∙ ap (λ (l : List Entry). p.state.entries ++ l) takes.reply ∙ append-nil p.state.entries in
+      let same : q.state.entries ≡ p.state.entries = takes.entries ∙ ap (λ (l : List Entry). p.state.entries ++ l) takes.reply ∙
+      append-nil p.state.entries in
       let clock : IsLater coming root.clock q.clock = later_more coming root.clock p.clock q.clock 1 s.clock takes.moved in
       let goes : q.stopped ≡ None = disk.1 ∙ going in
       let sound = sound_stays tells told faults coming root p q s going goes disk.0 t.ready takes.issuer same clock in
@@ -158,31 +186,54 @@ module _ {D C : Type 0} (tells : Bool) (told : D → Told) (faults : D → ℕ) 
         record { history = p.state.entries; entries = items_going p going },
       )
 
-  took_stopped : (p q : Parts D C) (ask : Asked) (r : Result Reply StoreFault) (count : ℕ) → IsSound tells told faults coming root p → p.stopped ≡ Some count → Took p q ask r → Outcome p ask r q
+  took_stopped : (p q : Parts D C) (ask : Asked) (r : Result Reply StoreFault) (count : ℕ) → IsSound tells told faults coming root
+      p → p.stopped ≡ Some count → Took p q ask r → Outcome p ask r q
   took_stopped p q ask r count s stopped t =
       let here : HasStopped faults root p count = s.stop count stopped in
       let is : r ≡ Err (Stopped count) = (t.stopped count).1 stopped in
       let same : q ≡ p = t.untouched (rw stopped refl) in
-      let sound : IsSound tells told faults coming root q = subst (λ (z : Parts D C). IsSound tells told faults coming root z) (sym same) s in
-      outcome p q ask r sound (subst (λ (x : Result Reply StoreFault). TillDoes coming ask x root (items_in p) (items_in q)) (sym is) (
+      let sound : IsSound tells told faults coming root q = subst (λ (z : Parts D C). IsSound tells told faults coming root z)
+      (sym same) s in
+      outcome p q ask r sound (subst (λ (x : Result Reply StoreFault). TillDoes coming ask x root (items_in p) (items_in q))
+      (sym is) (
         ap (λ (z : Parts D C). items_in z) same,
         record { history = p.state.entries; torn = here.torn; items_are = items_stopped p count here.torn stopped here.torn_is },
       ))
 
   -- an ask for whose copy there is no memory, of a shop that goes on, and of one that has stopped
-  pub declines : (p : Parts D C) (ask : Asked) → IsSound tells told faults coming root p → p.stopped ≡ None → TillTurn coming ask (Err NoMemory) root (items_in p) (items_in p)
-  declines p ask s going = record { list = list_of p s; does = (refl, record { history = p.state.entries; entries = items_going p going }) }
+  pub declines : (p : Parts D C) (ask : Asked) → IsSound tells told faults coming root p → p.stopped ≡ None →
+      TillTurn coming ask (Err NoMemory) root (items_in p) (items_in p)
+  declines p ask s going = record {
+    list = list_of p s;
+    does = (
+      refl,
+      record {
+        history = p.state.entries;
+        entries = items_going p going;
+      },
+    );
+  }
 
-  pub declines_stopped : (p : Parts D C) (ask : Asked) (count : ℕ) → IsSound tells told faults coming root p → p.stopped ≡ Some count →
+  pub declines_stopped : (p : Parts D C) (ask : Asked) (count : ℕ) → IsSound tells told faults coming root p →
+      p.stopped ≡ Some count →
       TillTurn coming ask (Err (Stopped count)) root (items_in p) (items_in p)
   declines_stopped p ask count s stopped =
       let here : HasStopped faults root p count = s.stop count stopped in
       record {
         list = list_of p s;
-        does = (refl, record { history = p.state.entries; torn = here.torn; items_are = items_stopped p count here.torn stopped here.torn_is });
+        does = (
+          refl,
+          record {
+            history = p.state.entries;
+            torn = here.torn;
+            items_are = items_stopped p count here.torn stopped
+                here.torn_is;
+          },
+        );
       }
 
-  pub took : (p q : Parts D C) (ask : Asked) (r : Result Reply StoreFault) → IsSound tells told faults coming root p → Took p q ask r → Outcome p ask r q
+  pub took : (p q : Parts D C) (ask : Asked) (r : Result Reply StoreFault) → IsSound tells told faults coming root p →
+      Took p q ask r → Outcome p ask r q
   took p q ask r s t = by_stop p.stopped refl
     where
       by_stop : (o : Option ℕ) → p.stopped ≡ o → Outcome p ask r q

@@ -1,5 +1,6 @@
 -- A sound shop stays so over one call of its store.
-use Rattle.std.proofs.Common.{◌≡◌, inl, inr, ℕ, ◌+◌, ◌≤◌, List, [], ◌∷◌, ◌++◌, append_assoc, sym, ◌∙◌, ap, subst, refl, arith, add_assoc, zero-add, Bool, IsTrue, Option, Some, None}
+use Rattle.std.proofs.Common.{◌≡◌, inl, inr, ℕ, ◌+◌, ◌≤◌, List, [], ◌∷◌, ◌++◌, append_assoc, sym, ◌∙◌, ap, subst, refl, arith}
+use Rattle.std.proofs.Common.{add_assoc, zero-add, Bool, IsTrue, Option, Some, None}
 use Rattle.std.proofs.lemmas.List.{append-nil}
 use Rattle.chain_disk.specs.Told.{Told, LeavesOnly, LeavesNow, moment}
 use Rattle.chain_disk.specs.Runs.{follows, weaker, started_settled, leaves_now}
@@ -17,11 +18,13 @@ use Rattle.shop_core.specs.declared.answers.Reply.{Reply}
 use Rattle.till_calls.specs.Root.{Root, Parts, with_torn, root_of}
 use Rattle.till_calls.specs.Sound.{StandsBetween, Leaves, IsLater, IsSound}
 
-pub none_torn : (history : List Entry) (stopped : Option ℕ) (torn : Option Entry) → stopped ≡ None → with_torn history stopped torn ≡ history
+pub none_torn : (history : List Entry) (stopped : Option ℕ) (torn : Option Entry) → stopped ≡ None →
+    with_torn history stopped torn ≡ history
 none_torn history None torn e = refl
 none_torn history (Some count) torn e = absurd cc
 
-pub some_torn : (history : List Entry) (stopped : Option ℕ) (torn : Option Entry) (count : ℕ) (entry : Entry) → stopped ≡ Some count → torn ≡ Some entry →
+pub some_torn : (history : List Entry) (stopped : Option ℕ) (torn : Option Entry) (count : ℕ) (entry : Entry) →
+    stopped ≡ Some count → torn ≡ Some entry →
     with_torn history stopped torn ≡ history ++ entry ∷ []
 some_torn history stopped torn count entry e f = rw (e, f) refl
 
@@ -31,31 +34,60 @@ front_more start entries gained h = (h.0 ++ gained, ap (λ (es : List Entry). es
 front_all : (entries : List Entry) → StartsWith entries entries
 front_all entries = ([], sym (append-nil entries))
 
-between_more : (issuer : List ℕ) (start end gained : List Entry) (c : List ℕ) → StandsBetween issuer start end c → StandsBetween issuer start (end ++ gained) c
-between_more issuer start end gained c h = record { history = h.history; stands = h.stands; begins = h.begins; within = front_more h.history end gained h.within }
+between_more : (issuer : List ℕ) (start end gained : List Entry) (c : List ℕ) → StandsBetween issuer start end c →
+    StandsBetween issuer start (end ++ gained) c
+between_more issuer start end gained c h = record {
+  history = h.history;
+  stands = h.stands;
+  begins = h.begins;
+  within = front_more h.history end gained h.within;
+}
 
-between_all : (issuer : List ℕ) (start entries gained : List Entry) (c : List ℕ) → StartsWith entries start → StandsFor issuer entries c → StandsBetween issuer start (entries ++ gained) c
-between_all issuer start entries gained c begins stands = record { history = entries; stands = stands; begins = begins; within = front_more entries entries gained (front_all entries) }
+between_all : (issuer : List ℕ) (start entries gained : List Entry) (c : List ℕ) → StartsWith entries start →
+    StandsFor issuer entries c → StandsBetween issuer start (entries ++ gained) c
+between_all issuer start entries gained c begins stands = record {
+  history = entries;
+  stands = stands;
+  begins = begins;
+  within = front_more entries entries gained (front_all entries);
+}
 
-between_whole : (issuer : List ℕ) (start entries gained : List Entry) (c : List ℕ) → StartsWith entries start → StandsFor issuer (entries ++ gained) c → StandsBetween issuer start (entries ++ gained) c
-between_whole issuer start entries gained c begins stands = record { history = entries ++ gained; stands = stands; begins = front_more start entries gained begins; within = front_all (entries ++ gained) }
+between_whole : (issuer : List ℕ) (start entries gained : List Entry) (c : List ℕ) → StartsWith entries start →
+    StandsFor issuer (entries ++ gained) c → StandsBetween issuer start (entries ++ gained) c
+between_whole issuer start entries gained c begins stands = record {
+  history = entries ++ gained;
+  stands = stands;
+  begins = front_more start entries gained begins;
+  within = front_all (entries ++ gained);
+}
 
-pub between_with : (issuer : List ℕ) (start entries : List Entry) (entry : Entry) (c : List ℕ) → StartsWith entries start → StandsBeforeOrWith issuer entries entry c →
+pub between_with : (issuer : List ℕ) (start entries : List Entry) (entry : Entry) (c : List ℕ) → StartsWith entries start →
+    StandsBeforeOrWith issuer entries entry c →
     StandsBetween issuer start (entries ++ entry ∷ []) c
 between_with issuer start entries entry c begins (inl before) = between_all issuer start entries (entry ∷ []) c begins before
 between_with issuer start entries entry c begins (inr with_it) = between_whole issuer start entries (entry ∷ []) c begins with_it
 
-pub between_around : (issuer : List ℕ) (start entries gained : List Entry) (planned : Planned) (reply : Reply) (c : List ℕ) → StartsWith entries start → Tells entries planned reply gained →
+pub between_around : (issuer : List ℕ) (start entries gained : List Entry) (planned : Planned) (reply : Reply) (c : List ℕ) →
+    StartsWith entries start → Tells entries planned reply gained →
     StandsAround issuer entries planned c → StandsBetween issuer start (entries ++ gained) c
-between_around issuer start entries gained (Again receipt) reply c begins tells stands = between_all issuer start entries gained c begins stands
-between_around issuer start entries gained (Refused why) reply c begins tells stands = between_all issuer start entries gained c begins stands
+between_around issuer start entries gained (Again receipt) reply c begins tells stands = between_all issuer start entries gained c
+    begins stands
+between_around issuer start entries gained (Refused why) reply c begins tells stands = between_all issuer start entries gained c
+    begins stands
 between_around issuer start entries gained (Made entry) reply c begins tells stands =
-    subst (λ (es : List Entry). StandsBetween issuer start (entries ++ es) c) (sym tells.1) (between_with issuer start entries entry c begins stands)
+    subst (λ (es : List Entry). StandsBetween issuer start (entries ++ es) c) (sym tells.1) (between_with issuer start entries
+    entry c begins stands)
 
-pub later_more : {C : Type 0} (coming : C → ℕ → Option ℕ) (start now next : C) (n : ℕ) → IsLater coming start now → MovedBy n (coming now) (coming next) → IsLater coming start next
-later_more coming start now next n h moved = record { number = h.number + n; moved = λ k. moved k ∙ h.moved (n + k) ∙ ap (coming start) (sym (add_assoc h.number n k)) }
+pub later_more : {C : Type 0} (coming : C → ℕ → Option ℕ) (start now next : C) (n : ℕ) → IsLater coming start now →
+    MovedBy n (coming now) (coming next) → IsLater coming start next
+later_more coming start now next n h moved = record {
+  number = h.number + n;
+  moved = λ k. moved k ∙ h.moved (n + k) ∙
+      ap (coming start) (sym (add_assoc h.number n k));
+}
 
-pub later_same : {C : Type 0} (coming : C → ℕ → Option ℕ) (start now next : C) → IsLater coming start now → next ≡ now → IsLater coming start next
+pub later_same : {C : Type 0} (coming : C → ℕ → Option ℕ) (start now next : C) → IsLater coming start now → next ≡ now →
+    IsLater coming start next
 later_same {C = C} coming start now next h e = subst (λ (c : C). IsLater coming start c) (sym e) h
 
 module _ {D C : Type 0} (tells : Bool) (told : D → Told) (faults : D → ℕ) (coming : C → ℕ → Option ℕ) (root : Root C) where
@@ -63,22 +95,28 @@ module _ {D C : Type 0} (tells : Bool) (told : D → Told) (faults : D → ℕ) 
   Sound p = IsSound tells told faults coming root p
 
   -- the store goes on, with these entries more
-  pub sound_gains : (p q : Parts D C) (gained : List Entry) (P : List ℕ → Type 0) → Sound p → p.stopped ≡ None → q.stopped ≡ None →
-      IsReady tells q.state q.stopped q.gate (told q.disk) → q.state.issuer ≡ p.state.issuer → Legal q.state.issuer q.state.entries → q.state.entries ≡ p.state.entries ++ gained →
+  pub sound_gains : (p q : Parts D C) (gained : List Entry) (P : List ℕ → Type 0) → Sound p → p.stopped ≡ None →
+      q.stopped ≡ None →
+      IsReady tells q.state q.stopped q.gate (told q.disk) → q.state.issuer ≡ p.state.issuer →
+      Legal q.state.issuer q.state.entries → q.state.entries ≡ p.state.entries ++ gained →
       IsLater coming root.clock q.clock → (IsTrue tells → LeavesOnly (told p.disk) (told q.disk) P) →
       ((c : List ℕ) → P c → StandsBetween root.issuer root.history (p.state.entries ++ gained) c) →
-      (IsTrue tells → LeavesNow (told q.disk) (StandsFor q.state.issuer q.state.entries)) → faults p.disk ≤ faults q.disk → Sound q
+      (IsTrue tells → LeavesNow (told q.disk) (StandsFor q.state.issuer q.state.entries)) → faults p.disk ≤ faults q.disk →
+      Sound q
   sound_gains p q gained P s going goes ready issuer legal entries clock only between now later = record {
     ready = ready;
     issuer = own;
     legal = subst (λ (n : List ℕ). Legal n q.state.entries) own legal;
-    begins = subst (λ (es : List Entry). StartsWith es root.history) (sym entries) (front_more root.history p.state.entries gained s.begins);
+    begins = subst (λ (es : List Entry). StartsWith es root.history) (sym entries) (front_more root.history p.state.entries gained
+        s.begins);
     clock = clock;
-    crashes = λ says. subst (λ (es : List Entry). Leaves root q.state.entries es (told q.disk)) (sym (none_torn q.state.entries q.stopped q.torn goes)) (record {
-      since = subst (λ (es : List Entry). LeavesOnly root.told (told q.disk) (StandsBetween root.issuer root.history es)) (sym entries)
-          (follows root.told (told p.disk) (told q.disk) _ P _ (s.crashes says).since (only says) (λ c h. older c h) between);
-      whole = λ c left. inl (subst (λ (n : List ℕ). StandsFor n q.state.entries c) own (now says c left));
-    });
+    crashes = λ says. subst (λ (es : List Entry). Leaves root q.state.entries es (told q.disk))
+        (sym (none_torn q.state.entries q.stopped q.torn goes)) (record {
+          since = subst (λ (es : List Entry). LeavesOnly root.told (told q.disk) (StandsBetween root.issuer root.history es))
+              (sym entries)
+              (follows root.told (told p.disk) (told q.disk) _ P _ (s.crashes says).since (only says) (λ c h. older c h) between);
+          whole = λ c left. inl (subst (λ (n : List ℕ). StandsFor n q.state.entries c) own (now says c left));
+        });
     stop = λ count e. absurd (let x : ◌≡◌ {A = Option ℕ} None (Some count) = sym goes ∙ e in cc);
     later = omega (arith, s.later, later);
   }
@@ -86,12 +124,16 @@ module _ {D C : Type 0} (tells : Bool) (told : D → Told) (faults : D → ℕ) 
       own : q.state.issuer ≡ root.issuer
       own = issuer ∙ s.issuer
 
-      older : (c : List ℕ) → StandsBetween root.issuer root.history (with_torn p.state.entries p.stopped p.torn) c → StandsBetween root.issuer root.history (p.state.entries ++ gained) c
-      older c h = between_more root.issuer root.history p.state.entries gained c (subst (λ (es : List Entry). StandsBetween root.issuer root.history es c) (none_torn p.state.entries p.stopped p.torn going) h)
+      older : (c : List ℕ) → StandsBetween root.issuer root.history (with_torn p.state.entries p.stopped p.torn) c →
+          StandsBetween root.issuer root.history (p.state.entries ++ gained) c
+      older c h = between_more root.issuer root.history p.state.entries gained c
+          (subst (λ (es : List Entry). StandsBetween root.issuer root.history es c) (none_torn p.state.entries p.stopped p.torn
+          going) h)
 
   -- the disk was not called
   pub sound_stays : (p q : Parts D C) → Sound p → p.stopped ≡ None → q.stopped ≡ None → q.disk ≡ p.disk →
-      IsReady tells q.state q.stopped q.gate (told q.disk) → q.state.issuer ≡ p.state.issuer → q.state.entries ≡ p.state.entries → IsLater coming root.clock q.clock → Sound q
+      IsReady tells q.state q.stopped q.gate (told q.disk) → q.state.issuer ≡ p.state.issuer → q.state.entries ≡ p.state.entries →
+      IsLater coming root.clock q.clock → Sound q
   sound_stays p q s going goes disk ready issuer entries clock = record {
     ready = ready;
     issuer = issuer ∙ s.issuer;
@@ -103,15 +145,19 @@ module _ {D C : Type 0} (tells : Bool) (told : D → Told) (faults : D → ℕ) 
         none_torn q.state.entries q.stopped q.torn goes ∙ entries ∙ sym (none_torn p.state.entries p.stopped p.torn going) in
         subst (λ (es : List Entry). Leaves root q.state.entries es (told q.disk)) (sym same)
         (subst (λ (d : D). Leaves root q.state.entries (with_torn p.state.entries p.stopped p.torn) (told d)) (sym disk)
-        (subst (λ (es : List Entry). Leaves root es (with_torn p.state.entries p.stopped p.torn) (told p.disk)) (sym entries) (s.crashes says)));
+        (subst (λ (es : List Entry). Leaves root es (with_torn p.state.entries p.stopped p.torn) (told p.disk)) (sym entries)
+        (s.crashes says)));
     stop = λ count e. absurd (let x : ◌≡◌ {A = Option ℕ} None (Some count) = sym goes ∙ e in cc);
     later = subst (λ (d : D). root.faults ≤ faults d) (sym disk) s.later;
   }
 
   -- the disk failed while an entry was added
-  pub sound_stops : (p q : Parts D C) (entry : Entry) (count : ℕ) → Sound p → p.stopped ≡ None → q.stopped ≡ Some count → q.torn ≡ Some entry → count ≡ faults q.disk →
-      IsReady tells q.state q.stopped q.gate (told q.disk) → q.state.issuer ≡ p.state.issuer → q.state.entries ≡ p.state.entries → Continues p.state.issuer p.state.entries entry →
-      IsLater coming root.clock q.clock → (IsTrue tells → LeavesOnly (told p.disk) (told q.disk) (StandsBeforeOrWith p.state.issuer p.state.entries entry)) →
+  pub sound_stops : (p q : Parts D C) (entry : Entry) (count : ℕ) → Sound p → p.stopped ≡ None → q.stopped ≡ Some count →
+      q.torn ≡ Some entry → count ≡ faults q.disk →
+      IsReady tells q.state q.stopped q.gate (told q.disk) → q.state.issuer ≡ p.state.issuer → q.state.entries ≡ p.state.entries →
+      Continues p.state.issuer p.state.entries entry →
+      IsLater coming root.clock q.clock → (IsTrue tells → LeavesOnly (told p.disk) (told q.disk)
+      (StandsBeforeOrWith p.state.issuer p.state.entries entry)) →
       Rose (faults p.disk) (faults q.disk) → faults p.disk ≤ faults q.disk → Sound q
   sound_stops p q entry count s going stopped torn count_is ready issuer entries continues clock only rose later = record {
     ready = ready;
@@ -122,34 +168,50 @@ module _ {D C : Type 0} (tells : Bool) (told : D → Told) (faults : D → ℕ) 
     crashes = λ says.
         let here = only says in
         let whole : with_torn q.state.entries q.stopped q.torn ≡ p.state.entries ++ entry ∷ [] =
-        some_torn q.state.entries q.stopped q.torn count entry stopped torn ∙ ap (λ (es : List Entry). es ++ entry ∷ []) entries in
+        some_torn q.state.entries q.stopped q.torn count entry stopped torn ∙ ap (λ (es : List Entry). es ++ entry ∷ []) entries
+        in
         subst (λ (es : List Entry). Leaves root q.state.entries es (told q.disk)) (sym whole)
         (subst (λ (es : List Entry). Leaves root es (p.state.entries ++ entry ∷ []) (told q.disk)) (sym entries) (record {
-          since = follows root.told (told p.disk) (told q.disk) _ _ _ (s.crashes says).since here (λ c h. older c h) (λ c h. between_with root.issuer root.history p.state.entries entry c s.begins (own c h));
+          since = follows root.told (told p.disk) (told q.disk) _ _ _ (s.crashes says).since here (λ c h. older c h)
+              (λ c h. between_with root.issuer root.history p.state.entries entry c s.begins (own c h));
           whole = λ c left. own c (here.each (moment (told q.disk)) c here.later left);
         }));
     stop = λ other e. record {
       torn = entry;
       torn_is = torn;
-      continues = subst (λ (es : List Entry). Continues root.issuer es entry) (sym entries) (subst (λ (n : List ℕ). Continues n p.state.entries entry) s.issuer continues);
-      rose = let same : other ≡ count = (let x : ◌≡◌ {A = Option ℕ} (Some other) (Some count) = sym e ∙ stopped in cc) in rose_of other same;
-      within = let same : other ≡ count = (let x : ◌≡◌ {A = Option ℕ} (Some other) (Some count) = sym e ∙ stopped in cc) in omega (arith, same, count_is);
+      continues = subst (λ (es : List Entry). Continues root.issuer es entry) (sym entries)
+          (subst (λ (n : List ℕ). Continues n p.state.entries entry) s.issuer continues);
+      rose = let same : other ≡ count = (let x : ◌≡◌ {A = Option ℕ} (Some other) (Some count) = sym e ∙ stopped in cc) in
+          rose_of other same;
+      within = let same : other ≡ count = (let x : ◌≡◌ {A = Option ℕ} (Some other) (Some count) = sym e ∙ stopped in cc) in
+          omega (arith, same, count_is);
     };
     later = omega (arith, s.later, later);
   }
     where
-      own : (c : List ℕ) → StandsBeforeOrWith p.state.issuer p.state.entries entry c → StandsBeforeOrWith root.issuer p.state.entries entry c
+      own : (c : List ℕ) → StandsBeforeOrWith p.state.issuer p.state.entries entry c → StandsBeforeOrWith root.issuer
+          p.state.entries entry c
       own c h = subst (λ (n : List ℕ). StandsBeforeOrWith n p.state.entries entry c) s.issuer h
 
-      older : (c : List ℕ) → StandsBetween root.issuer root.history (with_torn p.state.entries p.stopped p.torn) c → StandsBetween root.issuer root.history (p.state.entries ++ entry ∷ []) c
-      older c h = between_more root.issuer root.history p.state.entries (entry ∷ []) c (subst (λ (es : List Entry). StandsBetween root.issuer root.history es c) (none_torn p.state.entries p.stopped p.torn going) h)
+      older : (c : List ℕ) → StandsBetween root.issuer root.history (with_torn p.state.entries p.stopped p.torn) c →
+          StandsBetween root.issuer root.history (p.state.entries ++ entry ∷ []) c
+      older c h = between_more root.issuer root.history p.state.entries (entry ∷ []) c
+          (subst (λ (es : List Entry). StandsBetween root.issuer root.history es c) (none_torn p.state.entries p.stopped p.torn
+          going) h)
 
       rose_of : (other : ℕ) → other ≡ count → Rose root.faults other
-      rose_of other same = λ small. let strict = rose in omega (arith, same, count_is, s.later, strict (omega (arith, small, same, count_is)))
+      rose_of other same = λ small. let strict = rose in omega (
+        arith,
+        same,
+        count_is,
+        s.later,
+        strict (omega (arith, small, same, count_is)),
+      )
 
 -- a store that begins
 module _ {D C : Type 0} (tells : Bool) (told : D → Told) (faults : D → ℕ) (coming : C → ℕ → Option ℕ) where
-  pub sound_at_start : (p : Parts D C) → p.stopped ≡ None → IsReady tells p.state p.stopped p.gate (told p.disk) → Legal p.state.issuer p.state.entries →
+  pub sound_at_start : (p : Parts D C) → p.stopped ≡ None → IsReady tells p.state p.stopped p.gate (told p.disk) →
+      Legal p.state.issuer p.state.entries →
       IsSound tells told faults coming (root_of told faults p) p
   sound_at_start p going ready legal = record {
     ready = ready;
@@ -159,11 +221,23 @@ module _ {D C : Type 0} (tells : Bool) (told : D → Told) (faults : D → ℕ) 
     clock = record { number = 0; moved = λ k. ap (coming p.clock) (sym (zero-add k)) };
     crashes = λ says.
         let holds : Holds p.state p.gate (told p.disk) = ready.holds going says in
-        let stands : StandsFor p.state.issuer p.state.entries (told p.disk).content = record { frames = holds.file.file; encoded = holds.encoded; legal = legal } in
-        subst (λ (es : List Entry). Leaves (root_of told faults p) p.state.entries es (told p.disk)) (sym (none_torn p.state.entries p.stopped p.torn going)) (record {
-          since = weaker (told p.disk) (told p.disk) (StandsFor p.state.issuer p.state.entries) _ (started_settled (told p.disk) (StandsFor p.state.issuer p.state.entries) holds.file.nothing_pending stands)
-              (λ c h. record { history = p.state.entries; stands = h; begins = front_all p.state.entries; within = front_all p.state.entries });
-          whole = λ c left. inl (leaves_now (told p.disk) (StandsFor p.state.issuer p.state.entries) holds.file.nothing_pending stands c left);
+        let stands : StandsFor p.state.issuer p.state.entries (told p.disk).content = record {
+          frames = holds.file.file;
+          encoded = holds.encoded;
+          legal = legal;
+        } in
+        subst (λ (es : List Entry). Leaves (root_of told faults p) p.state.entries es (told p.disk))
+        (sym (none_torn p.state.entries p.stopped p.torn going)) (record {
+          since = weaker (told p.disk) (told p.disk) (StandsFor p.state.issuer p.state.entries) _ (started_settled (told p.disk)
+              (StandsFor p.state.issuer p.state.entries) holds.file.nothing_pending stands)
+              (λ c h. record {
+                history = p.state.entries;
+                stands = h;
+                begins = front_all p.state.entries;
+                within = front_all p.state.entries;
+              });
+          whole = λ c left. inl (leaves_now (told p.disk) (StandsFor p.state.issuer p.state.entries) holds.file.nothing_pending
+              stands c left);
         });
     stop = λ count e. absurd (let x : ◌≡◌ {A = Option ℕ} None (Some count) = sym going ∙ e in cc);
     later = omega arith;

@@ -1,5 +1,6 @@
 -- What the seat's note does to a sound shop.
-use Rattle.std.proofs.Common.{◌≡◌, ◌↔◌, inl, inr, ℕ, ◌≤◌, length, List, [], ◌∷◌, ◌++◌, map, sym, ◌∙◌, ap, subst, refl, Bool, IsTrue, Option, Some, None, Result, Ok, Err}
+use Rattle.std.proofs.Common.{◌≡◌, ◌↔◌, inl, inr, ℕ, ◌≤◌, length, List, [], ◌∷◌, ◌++◌, map, sym, ◌∙◌, ap, subst, refl, Bool}
+use Rattle.std.proofs.Common.{IsTrue, Option, Some, None, Result, Ok, Err}
 use Rattle.std.specs.Prelude.{OnOk, OnErr}
 use Rattle.std.proofs.lemmas.List.{map-append}
 use Rattle.chain_disk.specs.Told.{Told, LeavesNow, LeavesOnly}
@@ -22,7 +23,8 @@ use Rattle.till_calls.specs.Turns.{SeatDoes, SeatTurn, Notes_behind}
 use Rattle.till_calls.proofs.Asking.{entries_in, items_going, items_stopped, list_of}
 use Rattle.till_calls.proofs.Keeping.{sound_gains, sound_stays, sound_stops, between_with, later_same}
 
-pub seat_adds : {C : Type 0} (lines : List Line) (r : Result (Unit {0}) StoreFault) (root : Root C) (before after : List Item) → SeatDoes lines r root before after → MayAdd before after
+pub seat_adds : {C : Type 0} (lines : List Line) (r : Result (Unit {0}) StoreFault) (root : Root C) (before after : List Item) →
+    SeatDoes lines r root before after → MayAdd before after
 seat_adds lines (Ok done) root before after a = inr (item.Entry (Notes_behind before lines), a.after_is)
 seat_adds lines (Err DiskFault) root before after t = inr (item.Stop t.count (Notes_behind before lines), t.after_is)
 seat_adds lines (Err (Stopped count)) root before after s = inl s.0
@@ -37,7 +39,8 @@ module _ {D C : Type 0} (tells : Bool) (told : D → Told) (faults : D → ℕ) 
     pub added : OnOk r (q.state.entries ≡ p.state.entries ++ Notes (length (noted p.state.entries)) lines ∷ [])
     pub same : OnErr r (q.state.entries ≡ p.state.entries)
     pub clock : q.clock ≡ p.clock
-    pub any_moment : IsTrue tells → LeavesOnly (told p.disk) (told q.disk) (StandsBeforeOrWith p.state.issuer p.state.entries (Notes (length (noted p.state.entries)) lines))
+    pub any_moment : IsTrue tells → LeavesOnly (told p.disk) (told q.disk) (StandsBeforeOrWith p.state.issuer p.state.entries
+        (Notes (length (noted p.state.entries)) lines))
     pub acknowledged : OnOk r (IsTrue tells → LeavesNow (told q.disk) (StandsFor q.state.issuer q.state.entries))
     pub going_on : OnOk r ((p.stopped ≡ None) × (q.stopped ≡ None))
     pub no_memory : r ≡ Err NoMemory → (q.disk ≡ p.disk) × (q.stopped ≡ p.stopped)
@@ -49,21 +52,26 @@ module _ {D C : Type 0} (tells : Bool) (told : D → Told) (faults : D → ℕ) 
   behind : (p : Parts D C) (lines : List Line) → Notes (length (noted p.state.entries)) lines ≡ Notes_behind (items_in p) lines
   behind p lines = ap (λ (es : List Entry). Notes (length (noted es)) lines) (sym (entries_in p))
 
-  pub notes : (p q : Parts D C) (lines : List Line) (r : Result (Unit {0}) StoreFault) → IsSound tells told faults coming root p → p.stopped ≡ None → Noted p q lines r →
+  pub notes : (p q : Parts D C) (lines : List Line) (r : Result (Unit {0}) StoreFault) → IsSound tells told faults coming root p →
+      p.stopped ≡ None → Noted p q lines r →
       IsSound tells told faults coming root q × SeatTurn lines r root (items_in p) (items_in q)
   notes p q lines (Ok done) s going t =
       let e = Notes (length (noted p.state.entries)) lines in
       let clock : IsLater coming root.clock q.clock = later_same coming root.clock p.clock q.clock s.clock t.clock in
-      let sound = sound_gains tells told faults coming root p q (e ∷ []) (StandsBeforeOrWith p.state.issuer p.state.entries e) s going t.going_on.1 t.ready t.issuer t.legal t.added clock t.any_moment
-      (λ c h. between_with root.issuer root.history p.state.entries e c s.begins (subst (λ (n : List ℕ). StandsBeforeOrWith n p.state.entries e c) s.issuer h)) t.acknowledged t.later in (
+      let sound = sound_gains tells told faults coming root p q (e ∷ []) (StandsBeforeOrWith p.state.issuer p.state.entries e) s
+      going t.going_on.1 t.ready t.issuer t.legal t.added clock t.any_moment
+      (λ c h. between_with root.issuer root.history p.state.entries e c s.begins
+      (subst (λ (n : List ℕ). StandsBeforeOrWith n p.state.entries e c) s.issuer h)) t.acknowledged t.later in (
         sound,
         record {
           list = list_of tells told faults coming root q sound;
           does = record {
             history = p.state.entries;
             going_on = items_going p going;
-            after_is = items_going q t.going_on.1 ∙ ap (λ (es : List Entry). map item.Entry es) t.added ∙ map-append (λ (x : Entry). item.Entry x) p.state.entries (e ∷ [])
-                ∙ ap (λ (l : List Item). l ++ item.Entry e ∷ []) (sym (items_going p going)) ∙ ap (λ (x : Entry). items_in p ++ item.Entry x ∷ []) (behind p lines);
+            after_is = items_going q t.going_on.1 ∙ ap (λ (es : List Entry). map item.Entry es) t.added ∙
+                map-append (λ (x : Entry). item.Entry x) p.state.entries (e ∷ [])
+                ∙ ap (λ (l : List Item). l ++ item.Entry e ∷ []) (sym (items_going p going)) ∙
+                ap (λ (x : Entry). items_in p ++ item.Entry x ∷ []) (behind p lines);
           };
         },
       )
@@ -72,7 +80,8 @@ module _ {D C : Type 0} (tells : Bool) (told : D → Told) (faults : D → ℕ) 
       let fault = t.fault refl in
       let torn : q.torn ≡ Some e = (t.torn refl).entry_is in
       let clock : IsLater coming root.clock q.clock = later_same coming root.clock p.clock q.clock s.clock t.clock in
-      let sound = sound_stops tells told faults coming root p q e (faults q.disk) s going fault.1 torn refl t.ready t.issuer t.same (t.torn refl).continues clock t.any_moment fault.0 t.later in
+      let sound = sound_stops tells told faults coming root p q e (faults q.disk) s going fault.1 torn refl t.ready t.issuer
+      t.same (t.torn refl).continues clock t.any_moment fault.0 t.later in
       let stopped : HasStopped faults root q (faults q.disk) = sound.stop (faults q.disk) fault.1 in (
         sound,
         record {
@@ -82,16 +91,20 @@ module _ {D C : Type 0} (tells : Bool) (told : D → Told) (faults : D → ℕ) 
             going_on = items_going p going;
             count = faults q.disk;
             rose = stopped.rose;
-            after_is = items_stopped q (faults q.disk) e fault.1 torn ∙ ap (λ (es : List Entry). map item.Entry es ++ item.Stop (faults q.disk) e ∷ []) t.same
-                ∙ ap (λ (l : List Item). l ++ item.Stop (faults q.disk) e ∷ []) (sym (items_going p going)) ∙ ap (λ (x : Entry). items_in p ++ item.Stop (faults q.disk) x ∷ []) (behind p lines);
+            after_is = items_stopped q (faults q.disk) e fault.1 torn ∙ ap (λ (es : List Entry). map item.Entry es ++ item.Stop
+                (faults q.disk) e ∷ []) t.same
+                ∙ ap (λ (l : List Item). l ++ item.Stop (faults q.disk) e ∷ []) (sym (items_going p going)) ∙
+                ap (λ (x : Entry). items_in p ++ item.Stop (faults q.disk) x ∷ []) (behind p lines);
           };
         },
       )
-  notes p q lines (Err (Stopped count)) s going t = absurd (let x : ◌≡◌ {A = Option ℕ} None (Some count) = sym going ∙ (t.stopped count).0 refl in cc)
+  notes p q lines (Err (Stopped count)) s going t = absurd (let x : ◌≡◌ {A = Option ℕ} None (Some count) = sym going ∙
+      (t.stopped count).0 refl in cc)
   notes p q lines (Err NoMemory) s going t =
       let disk = t.no_memory refl in
       let goes : q.stopped ≡ None = disk.1 ∙ going in
-      let sound = sound_stays tells told faults coming root p q s going goes disk.0 t.ready t.issuer t.same (later_same coming root.clock p.clock q.clock s.clock t.clock) in (
+      let sound = sound_stays tells told faults coming root p q s going goes disk.0 t.ready t.issuer t.same
+      (later_same coming root.clock p.clock q.clock s.clock t.clock) in (
         sound,
         record {
           list = list_of tells told faults coming root q sound;
@@ -103,14 +116,27 @@ module _ {D C : Type 0} (tells : Bool) (told : D → Told) (faults : D → ℕ) 
       )
 
   -- nothing was done
-  pub nothing : (p : Parts D C) (lines : List Line) → IsSound tells told faults coming root p → p.stopped ≡ None → SeatTurn lines (Err NoMemory) root (items_in p) (items_in p)
-  nothing p lines s going = record { list = list_of tells told faults coming root p s; does = (refl, record { history = p.state.entries; entries = items_going p going }) }
+  pub nothing : (p : Parts D C) (lines : List Line) → IsSound tells told faults coming root p → p.stopped ≡ None →
+      SeatTurn lines (Err NoMemory) root (items_in p) (items_in p)
+  nothing p lines s going = record {
+    list = list_of tells told faults coming root p s;
+    does = (refl, record { history = p.state.entries; entries = items_going p going });
+  }
 
-  pub stopped_already : (p : Parts D C) (lines : List Line) (count : ℕ) → IsSound tells told faults coming root p → p.stopped ≡ Some count →
+  pub stopped_already : (p : Parts D C) (lines : List Line) (count : ℕ) → IsSound tells told faults coming root p →
+      p.stopped ≡ Some count →
       SeatTurn lines (Err (Stopped count)) root (items_in p) (items_in p)
   stopped_already p lines count s stopped =
       let here : HasStopped faults root p count = s.stop count stopped in
       record {
         list = list_of tells told faults coming root p s;
-        does = (refl, record { history = p.state.entries; torn = here.torn; items_are = items_stopped p count here.torn stopped here.torn_is });
+        does = (
+          refl,
+          record {
+            history = p.state.entries;
+            torn = here.torn;
+            items_are = items_stopped p count here.torn stopped
+                here.torn_is;
+          },
+        );
       }

@@ -17,25 +17,30 @@ use Rattle.till_calls.specs.contracts.shop.Shop as shop
 use Rattle.till_calls.specs.contracts.tills.Till as till
 use Rattle.till_calls.specs.contracts.tills.TillNumber as number
 
-pub kept_send : (D C : RattleType) (g : disk.Ghosts D.Denot) (h : clock.Ghosts C.Denot) → IsSend D → IsSend C → IsSend (kept.the_row D C g h)
+pub kept_send : (D C : RattleType) (g : disk.Ghosts D.Denot) (h : clock.Ghosts C.Denot) → IsSend D → IsSend C →
+    IsSend (kept.the_row D C g h)
 kept_send D C g h d c = search (sendable, crosses) depth 100 fits 20000
 
-till_fields : (D C : RattleType) (g : disk.Ghosts D.Denot) (h : clock.Ghosts C.Denot) → IsSend D → IsSend C → IsSend (Struct (shape (till.the_type D C g h)))
+till_fields : (D C : RattleType) (g : disk.Ghosts D.Denot) (h : clock.Ghosts C.Denot) → IsSend D → IsSend C →
+    IsSend (Struct (shape (till.the_type D C g h)))
 till_fields D C g h d c =
     let k = kept_send D C g h d c in
     let p = pass.the_field_send (kept.the_row D C g h) item.the_row (root.the_row C) k in
     let n : IsSend number.the_row = search (sendable, crosses) depth 100 fits 20000 in
     struct_send (shape (till.the_type D C g h)) (p, (n, tt))
 
-pub till_send : (D C : RattleType) (g : disk.Ghosts D.Denot) (h : clock.Ghosts C.Denot) → IsSend D → IsSend C → IsSend (till.the_row D C g h)
+pub till_send : (D C : RattleType) (g : disk.Ghosts D.Denot) (h : clock.Ghosts C.Denot) → IsSend D → IsSend C →
+    IsSend (till.the_row D C g h)
 till_send D C g h d c = let fields = till_fields D C g h d c in search (sendable, crosses, fields)
 
-pub shop_sync : (D C : RattleType) (g : disk.Ghosts D.Denot) (e : Dict) (h : clock.Ghosts C.Denot) (f : Dict) → IsSend D → IsSend C → IsSync (shop.the_row D C g h)
+pub shop_sync : (D C : RattleType) (g : disk.Ghosts D.Denot) (e : Dict) (h : clock.Ghosts C.Denot) (f : Dict) → IsSend D →
+    IsSend C → IsSync (shop.the_row D C g h)
 shop_sync D C g e h f d c =
     let k = kept_send D C g h d c in
     let l = lock.the_field_sync (kept.the_row D C g h) item.the_row (root.the_row C) (recorded.ghosts D C g e h f) k in
     let fields : IsSync (Struct (shape (shop.the_type D C g h))) = struct_sync (shape (shop.the_type D C g h)) (l, tt) in
     search (sendable, crosses, fields)
 
-pub till_field_send : (D C : RattleType) (g : disk.Ghosts D.Denot) (h : clock.Ghosts C.Denot) → IsSend D → IsSend C → IsSend (till.the_field D C g h).row
+pub till_field_send : (D C : RattleType) (g : disk.Ghosts D.Denot) (h : clock.Ghosts C.Denot) → IsSend D → IsSend C →
+    IsSend (till.the_field D C g h).row
 till_field_send D C g h d c = till_fields D C g h d c

@@ -1,5 +1,6 @@
 -- A link is ASCII.
-use Rattle.std.proofs.Common.{◌≡◌, ℕ, ◌/◌, ◌%◌, ◌<◌, ◌&&◌, Bool, true, false, ltb, List, [], ◌∷◌, ◌++◌, refl, arith, inl, inr, IsAscii, codes}
+use Rattle.std.proofs.Common.{◌≡◌, ℕ, ◌/◌, ◌%◌, ◌<◌, ◌&&◌, Bool, true, false, ltb, List, [], ◌∷◌, ◌++◌, refl, arith, inl, inr}
+use Rattle.std.proofs.Common.{IsAscii, codes}
 use Rattle.std.specs.Fmt.{digit_glyph}
 use Rattle.std.specs.List.{list_all}
 use Rattle.std.proofs.lemmas.Bool.{and_parts, cases_Bool, ltb-true}
@@ -43,8 +44,10 @@ beginning_low : (host : Host) → list_all (λ c. ltb c 128) (beginning host) �
 beginning_low Real = refl
 beginning_low Practice = refl
 
-add : (text name value : List ℕ) → IsAscii text → list_all (λ c. ltb c 128) name ≡ true → IsAscii ((text ++ name) ++ encoded value)
-add text name value ascii is = IsAscii-append (text ++ name) (encoded value) (IsAscii-append text name ascii (low name is)) (encoded_ascii value)
+add : (text name value : List ℕ) → IsAscii text → list_all (λ c. ltb c 128) name ≡ true →
+    IsAscii ((text ++ name) ++ encoded value)
+add text name value ascii is = IsAscii-append (text ++ name) (encoded value) (IsAscii-append text name ascii (low name is))
+    (encoded_ascii value)
 
 pub link_ascii : (host : Host) (nif num date importe : List ℕ) → IsAscii (joined_link host nif num date importe)
 unfolding joined_link

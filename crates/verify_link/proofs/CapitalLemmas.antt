@@ -1,5 +1,7 @@
 -- Texts with their escapes in capitals: how they join and part.
-use Rattle.std.proofs.Common.{◌≡◌, ℕ, ◌+◌, ◌-◌, ◌/◌, ◌%◌, ◌<◌, ◌≤◌, Bool, true, false, not, ◌&&◌, cond, eqb, List, [], ◌∷◌, ◌++◌, length, take, drop, get_or, zero, suc, ◌||◌, refl, sym, ap, ◌∙◌, arith, inl, inr, length-append, take-append-drop}
+use Rattle.std.proofs.Common.{◌≡◌, ℕ, ◌+◌, ◌-◌, ◌/◌, ◌%◌, ◌<◌, ◌≤◌, Bool, true, false, not, ◌&&◌, cond, eqb, List, [], ◌∷◌, ◌++◌}
+use Rattle.std.proofs.Common.{length, take, drop, get_or, zero, suc, ◌||◌, refl, sym, ap, ◌∙◌, arith, inl, inr, length-append}
+use Rattle.std.proofs.Common.{take-append-drop}
 use Rattle.std.specs.Char.{to_ascii_uppercase}
 use Rattle.std.specs.Fmt.{digit_glyph}
 use Rattle.std.specs.List.{list_all}
@@ -42,7 +44,8 @@ unfolding capitals
 length-capitals due [] = refl
 length-capitals due (b ∷ rest) = omega (arith, length-capitals (due_past due b) rest)
 
-pub capitals-append : (due : ℕ) (front rest : List ℕ) → capitals due (front ++ rest) ≡ capitals due front ++ capitals (due_after due front) rest
+pub capitals-append : (due : ℕ) (front rest : List ℕ) → capitals due (front ++ rest) ≡ capitals due front ++ capitals
+    (due_after due front) rest
 unfolding capitals due_after
 capitals-append due [] rest = refl
 capitals-append due (b ∷ front) rest = ap (λ x. shown due b ∷ x) (capitals-append (due_past due b) front rest)
@@ -74,7 +77,8 @@ unfolding due_after
 due_after-encoded [] = rw encoded-nil refl
 due_after-encoded (b ∷ bs) =
     elim (cases_Bool (is_plain b)) [
-      | inl plain ↦ rw (encoded-plain b bs plain) (ap (λ e. due_after (cond e 2 0) (encoded bs)) (plain_percent b plain) ∙ due_after-encoded bs)
+      | inl plain ↦ rw (encoded-plain b bs plain) (ap (λ e. due_after (cond e 2 0) (encoded bs)) (plain_percent b plain) ∙
+          due_after-encoded bs)
       | inr escaped ↦ (
           let high = digit_glyph true (b / 16 % 16) in
           let low = digit_glyph true (b % 16) in
@@ -174,7 +178,8 @@ pub capitals-plain : (text : List ℕ) → has_no_percent text ≡ true → capi
 capitals-plain [] plain = capitals-nil 0
 capitals-plain (b ∷ rest) plain =
     let tests = and_parts (not (eqb b 37)) (has_no_percent rest) plain in
-    capitals-cons 0 b rest ∙ ap (λ e. b ∷ capitals (cond e 2 0) rest) (not_true (eqb b 37) tests.0) ∙ ap (λ x. b ∷ x) (capitals-plain rest tests.1)
+    capitals-cons 0 b rest ∙ ap (λ e. b ∷ capitals (cond e 2 0) rest) (not_true (eqb b 37) tests.0) ∙
+    ap (λ x. b ∷ x) (capitals-plain rest tests.1)
 
 -- ---- texts that agree but in the case of their escapes
 
@@ -209,7 +214,8 @@ two_steps true far due few = refl
 two_steps false true due few = refl
 two_steps false false due few = let none : due - 1 - 1 ≡ 0 = omega arith in rw none refl
 
-behind_later : (text : List ℕ) (k : ℕ) → is_behind_percent text (suc (suc k)) ≡ (eqb (get_or text (suc k) 0) 37 || eqb (get_or text k 0) 37)
+behind_later : (text : List ℕ) (k : ℕ) → is_behind_percent text (suc (suc k)) ≡ (eqb (get_or text (suc k) 0) 37 || eqb
+    (get_or text k 0) 37)
 behind_later text k =
     let near : suc (suc k) - 1 ≡ suc k = omega arith in
     let far : suc (suc k) - 2 ≡ k = omega arith in
@@ -225,7 +231,8 @@ none_due text (suc (suc k)) within =
     let due = due_after 0 (take k text) in
     let e = due_next 0 text (suc k) (omega arith) in
     let f = due_next 0 text k (omega arith) in
-    rw (e, f, behind_later text k) (two_steps (eqb (get_or text (suc k) 0) 37) (eqb (get_or text k 0) 37) due (few_due 0 (take k text) (omega arith)))
+    rw (e, f, behind_later text k) (two_steps (eqb (get_or text (suc k) 0) 37) (eqb (get_or text k 0) 37) due
+    (few_due 0 (take k text) (omega arith)))
 
 -- what the text has there in capitals
 abbrev capital_byte : List ℕ → ℕ → ℕ
@@ -251,5 +258,6 @@ capitals_from text written agree =
 pub agree_from : (text written : List ℕ) → capitals 0 text ≡ written → AgreeButInCase text written
 agree_from text written is = record {
   long = sym (length-capitals 0 text) ∙ ap length is;
-  bytes = λ k within. eq-eqb (capital_byte text k) (get_or written k 0) (sym (capital_is text k within) ∙ ap (λ x. get_or x k 0) is);
+  bytes = λ k within. eq-eqb (capital_byte text k) (get_or written k 0) (sym (capital_is text k within) ∙ ap (λ x. get_or x k 0)
+      is);
 }

@@ -1,5 +1,6 @@
 -- A text has one reading, want of memory aside.
-use Rattle.std.proofs.Common.{◌≡◌, ◌≢◌, ℕ, zero, suc, ◌+◌, ◌<◌, List, length, drop, refl, sym, ap, ◌∙◌, subst, arith, inl, inr, Result, Ok, Err}
+use Rattle.std.proofs.Common.{◌≡◌, ◌≢◌, ℕ, zero, suc, ◌+◌, ◌<◌, List, length, drop, refl, sym, ap, ◌∙◌, subst, arith, inl, inr}
+use Rattle.std.proofs.Common.{Result, Ok, Err}
 use Rattle.std.proofs.lemmas.Bool.{both_ways, cases_order}
 use Rattle.verify_link.specs.declared.parts.Host.{Host}
 use Rattle.verify_link.specs.declared.parts.LinkParts.{LinkParts}
@@ -7,7 +8,8 @@ use Rattle.verify_link.specs.declared.parts.LinkFault.{LinkFault}
 use Rattle.verify_link.specs.declared.parts.LinkFault.TheVariants.{Prefix, Field, Escape, NoMemory}
 use Rattle.verify_link.specs.Encoding.{encoded, AgreeButInCase, IsFirstBadEscape}
 use Rattle.verify_link.specs.Link.{beginning, link_text, IsLinkParts}
-use Rattle.verify_link.specs.Reading.{Begins, name_of, value_of, IsFieldValue, IsField, HasPlace, after_beginning, after_field, IsWrongField, unnamed, no_value, HasBadEscape, IsFieldFault, IsFirstFault, IsLinkReading}
+use Rattle.verify_link.specs.Reading.{Begins, name_of, value_of, IsFieldValue, IsField, HasPlace, after_beginning, after_field}
+use Rattle.verify_link.specs.Reading.{IsWrongField, unnamed, no_value, HasBadEscape, IsFieldFault, IsFirstFault, IsLinkReading}
 use Rattle.verify_link.proofs.CapitalLemmas.{capitals_from}
 use Rattle.verify_link.proofs.DecodingLemmas.{none_bad}
 use Rattle.verify_link.proofs.LinkLemmas.{same_host, read_back, DaysDiffer, AmountsDiffer}
@@ -46,7 +48,8 @@ one_place : (text : List ℕ) (i at other : ℕ) → HasPlace text i at → HasP
 one_place text zero at other here there =
     let a = first_place text at here in
     let b = first_place text other there in
-    let same : a.host ≡ b.host = same_host a.host b.host (drop (length (beginning a.host)) text) (drop (length (beginning b.host)) text) (sym a.begins ∙ b.begins) in
+    let same : a.host ≡ b.host = same_host a.host b.host (drop (length (beginning a.host)) text) (drop (length (beginning b.host))
+    text) (sym a.begins ∙ b.begins) in
     a.place ∙ ap (λ h. length (beginning h)) same ∙ sym b.place
 one_place text (suc i) at other here there =
     let a = next_place text i (suc i) at here refl in
@@ -67,17 +70,20 @@ earlier text i (suc k) at placed before =
 
 -- ---- faults
 
-right_or_wrong : (text : List ℕ) (i place : ℕ) (said : List ℕ) → IsFieldValue i said → IsField i (drop place text) said → ¬ (IsWrongField i (drop place text))
+right_or_wrong : (text : List ℕ) (i place : ℕ) (said : List ℕ) → IsFieldValue i said → IsField i (drop place text) said →
+    ¬ (IsWrongField i (drop place text))
 right_or_wrong text i place said valid right (unnamed none) = none right.named
 right_or_wrong text i place said valid right (no_value named whole none) = none said valid right.value
 
 -- a right field has none, want of memory aside
-no_fault : (text : List ℕ) (i place : ℕ) (said : List ℕ) (fault : LinkFault) → IsFieldValue i said → IsField i (drop place text) said
+no_fault : (text : List ℕ) (i place : ℕ) (said : List ℕ) (fault : LinkFault) → IsFieldValue i said → IsField i (drop place text)
+    said
     → IsFieldFault i place text fault → fault ≡ NoMemory
 no_fault text i place said Prefix valid right is = absurd is
 no_fault text i place said (Field j) valid right is = absurd (right_or_wrong text i place said valid right is.1)
 no_fault text i place said (Escape at) valid right is =
-    let bad = is.2 in absurd (both_ways _ (none_bad said (value_of i (drop place text)) bad.in_value (capitals_from (value_of i (drop place text)) (encoded said) right.value)) bad.first.bad)
+    let bad = is.2 in absurd (both_ways _ (none_bad said (value_of i (drop place text)) bad.in_value
+    (capitals_from (value_of i (drop place text)) (encoded said) right.value)) bad.first.bad)
 no_fault text i place said NoMemory valid right is = refl
 
 one_bad : (text : List ℕ) (k j : ℕ) → IsFirstBadEscape text k → IsFirstBadEscape text j → k ≡ j
@@ -117,7 +123,8 @@ one_first text a b one two some more =
       | inl same ↦ (
           let moved = subst (λ (n : ℕ). HasPlace text n one.place) same one.placed in
           let place = one_place text two.i one.place two.place moved two.placed in
-          let fault = subst (λ (n : ℕ). IsFieldFault two.i n text a) place (subst (λ (n : ℕ). IsFieldFault n one.place text a) same one.fault_of) in
+          let fault = subst (λ (n : ℕ). IsFieldFault two.i n text a) place (subst (λ (n : ℕ). IsFieldFault n one.place text a)
+          same one.fault_of) in
           one_fault text two.i two.place a b fault two.fault_of some more)
       | inr (inl less) ↦ (
           let before = (earlier text one.i two.i two.place two.placed less).1 in
@@ -138,10 +145,13 @@ begun text i at (after_field j before said placed valid right) = begun text j be
 
 -- ---- readings
 
-other_than : (text : List ℕ) (a b : LinkFault) → IsLinkReading text (Err a) → IsLinkReading text (Err b) → a ≢ NoMemory → b ≢ NoMemory → a ≡ b
+other_than : (text : List ℕ) (a b : LinkFault) → IsLinkReading text (Err a) → IsLinkReading text (Err b) → a ≢ NoMemory →
+    b ≢ NoMemory → a ≡ b
 other_than text Prefix Prefix is other some more = refl
-other_than text Prefix (Field k) is other some more = let it = begun text other.i other.place other.placed in absurd (is it.0 it.1)
-other_than text Prefix (Escape to) is other some more = let it = begun text other.i other.place other.placed in absurd (is it.0 it.1)
+other_than text Prefix (Field k) is other some more = let it = begun text other.i other.place other.placed in
+    absurd (is it.0 it.1)
+other_than text Prefix (Escape to) is other some more = let it = begun text other.i other.place other.placed in
+    absurd (is it.0 it.1)
 other_than text Prefix NoMemory is other some more = absurd (more refl)
 other_than text (Field j) Prefix is other some more = let it = begun text is.i is.place is.placed in absurd (other it.0 it.1)
 other_than text (Field j) (Field k) is other some more = one_first text (Field j) (Field k) is other some more
@@ -164,10 +174,14 @@ err_differs a b same = ap failed same
 
 of_link : DaysDiffer → AmountsDiffer → (text : List ℕ) (p : LinkParts) → IsLinkParts p × AgreeButInCase text (link_text p)
     → (r : Result LinkParts LinkFault) → IsLinkReading text r → r ≢ Err NoMemory → r ≡ Ok p
-of_link days amounts text p link (Ok q) is some = ap read (read_back days amounts text p link.0 (capitals_from text (link_text p) link.1) (Ok q) is)
-of_link days amounts text p link (Err fault) is some = absurd (some (err_differs fault NoMemory (read_back days amounts text p link.0 (capitals_from text (link_text p) link.1) (Err fault) is)))
+of_link days amounts text p link (Ok q) is some = ap read (read_back days amounts text p link.0 (capitals_from text (link_text p)
+    link.1) (Ok q) is)
+of_link days amounts text p link (Err fault) is some = absurd
+    (some (err_differs fault NoMemory (read_back days amounts text p link.0 (capitals_from text (link_text p) link.1) (Err fault)
+    is)))
 
-pub one_reading : DaysDiffer → AmountsDiffer → (text : List ℕ) (r s : Result LinkParts LinkFault) → IsLinkReading text r → IsLinkReading text s
+pub one_reading : DaysDiffer → AmountsDiffer → (text : List ℕ) (r s : Result LinkParts LinkFault) → IsLinkReading text r →
+    IsLinkReading text s
     → r ≢ Err NoMemory → s ≢ Err NoMemory → r ≡ s
 one_reading days amounts text r (Ok p) is other some more = of_link days amounts text p other r is some
 one_reading days amounts text (Ok q) (Err b) is other some more = sym (of_link days amounts text q is (Err b) other more)

@@ -1,5 +1,6 @@
 -- Encoded bytes, and the set of those that are escaped.
-use Rattle.std.proofs.Common.{◌≡◌, ℕ, ◌/◌, ◌%◌, ◌<◌, Bool, true, false, not, cond, List, [], ◌∷◌, ◌++◌, length, get_or, All, refl, sym, ap, ◌∙◌, subst, inl, inr, zero-add}
+use Rattle.std.proofs.Common.{◌≡◌, ℕ, ◌/◌, ◌%◌, ◌<◌, Bool, true, false, not, cond, List, [], ◌∷◌, ◌++◌, length, get_or, All, refl}
+use Rattle.std.proofs.Common.{sym, ap, ◌∙◌, subst, inl, inr, zero-add}
 use Rattle.std.specs.Fmt.{digit_glyph}
 use Rattle.std.specs.List.{list_all, range_with_len}
 use Rattle.std.proofs.lemmas.Bool.{cond-true, cond-false, cases_Bool}
@@ -44,7 +45,8 @@ all_agree = refl
 agrees_at : (b : ℕ) → b < 256 → agrees b ≡ true
 agrees_at b small =
     let within : b < length (range_with_len 0 256) = small in
-    let there : agrees (get_or (range_with_len 0 256) b 0) ≡ true = AllPass-from_list_all agrees (range_with_len 0 256) all_agree b 0 within in
+    let there : agrees (get_or (range_with_len 0 256) b 0) ≡ true = AllPass-from_list_all agrees (range_with_len 0 256) all_agree
+    b 0 within in
     let same : get_or (range_with_len 0 256) b 0 ≡ b = get_or-range_with_len 0 256 b 0 small ∙ zero-add b in
     subst (λ (x : ℕ). agrees x ≡ true) same there
 
@@ -66,6 +68,8 @@ percent_encode-encoded (b ∷ bs) small =
     let rest = percent_encode-encoded bs (All-tail IsByte b bs small) in
     let is = escapes b (All-head IsByte b bs small) in
     elim (cases_Bool (is_plain b)) [
-      | inl plain ↦ percent_encode_kept escaped_set b bs (is ∙ ap not plain) ∙ ap (λ x. b ∷ x) rest ∙ sym (encoded-plain b bs plain)
-      | inr escaped ↦ percent_encode_escaped escaped_set b bs (is ∙ ap not escaped) ∙ ap (λ x. percent_encode_byte b ++ x) rest ∙ sym (escaped_step b bs escaped)
+      | inl plain ↦ percent_encode_kept escaped_set b bs (is ∙ ap not plain) ∙ ap (λ x. b ∷ x) rest ∙
+          sym (encoded-plain b bs plain)
+      | inr escaped ↦ percent_encode_escaped escaped_set b bs (is ∙ ap not escaped) ∙ ap (λ x. percent_encode_byte b ++ x) rest ∙
+          sym (escaped_step b bs escaped)
     ]

@@ -1,5 +1,6 @@
 -- A field in its place, and its faults.
-use Rattle.std.proofs.Common.{◌≡◌, ◌≢◌, ℕ, ◌+◌, ◌-◌, ◌≤◌, Bool, true, false, eqb, List, length, take, drop, refl, sym, ap, ◌∙◌, subst, arith, IsAscii, length-drop}
+use Rattle.std.proofs.Common.{◌≡◌, ◌≢◌, ℕ, ◌+◌, ◌-◌, ◌≤◌, Bool, true, false, eqb, List, length, take, drop, refl, sym, ap, ◌∙◌}
+use Rattle.std.proofs.Common.{subst, arith, IsAscii, length-drop}
 use Rattle.std.specs.List.{starts_with, before_first, position_or_len}
 use Rattle.std.proofs.Math.Seq.{take-length}
 use Rattle.std.proofs.lemmas.List.{drop-drop, length-take}
@@ -7,7 +8,8 @@ use Rattle.std.proofs.lemmas.List.Prefix.{front_fits}
 use Rattle.std.proofs.lemmas.Bool.{cond_both}
 use Rattle.percent_encoding.specs.Percent.{percent_decode}
 use Rattle.verify_link.specs.Encoding.{encoded, AgreeButInCase, is_bad_escape, IsFirstBadEscape}
-use Rattle.verify_link.specs.Reading.{Begins, name_of, is_ampersand, value_in, value_of, IsFieldValue, IsWrongField, HasBadEscape, IsWholeField, IsFieldAt, unnamed, no_value}
+use Rattle.verify_link.specs.Reading.{Begins, name_of, is_ampersand, value_in, value_of, IsFieldValue, IsWrongField, HasBadEscape}
+use Rattle.verify_link.specs.Reading.{IsWholeField, IsFieldAt, unnamed, no_value}
 use Rattle.verify_link.proofs.BeginsLemmas.{begins_from, begins_not}
 use Rattle.verify_link.proofs.CapitalLemmas.{capitals_from}
 use Rattle.verify_link.proofs.DecodingLemmas.{decoded}
@@ -28,7 +30,8 @@ is_unnamed i at text name r name_is is fails =
     unnamed (begins_not (name_of i) (drop at text) name r (is ∙ ap (λ s. starts_with eqb s name) (tail_is at text)) name_is fails)
 
 pub value_is : (i at : ℕ) (text name value : List ℕ) → name ≡ name_of i
-    → value ≡ value_in i (take (length text - (at + length name)) (drop (at + length name) text)) → value ≡ value_of i (drop at text)
+    → value ≡ value_in i (take (length text - (at + length name)) (drop (at + length name) text)) →
+    value ≡ value_of i (drop at text)
 value_is i at text name value name_is is =
     is ∙ ap (value_in i) (tail_is (at + length name) text) ∙ ap (λ x. value_in i (drop (at + length x) text)) name_is
     ∙ sym (ap (value_in i) (drop-drop (length (name_of i)) at text))
@@ -52,7 +55,8 @@ pub other_value : (i at : ℕ) (text value : List ℕ) → Begins (name_of i) (d
     → ((said : List ℕ) → IsAscii said → ¬ (AgreeButInCase value (encoded said))) → IsWrongField i (drop at text)
 other_value i at text value named is whole none =
     no_value named (λ k. subst (λ (v : List ℕ). is_bad_escape v k ≡ false) is (whole k))
-    (λ said valid same. none said (value_ascii i said valid) (subst (λ (v : List ℕ). AgreeButInCase v (encoded said)) (sym is) same))
+    (λ said valid same. none said (value_ascii i said valid) (subst (λ (v : List ℕ). AgreeButInCase v (encoded said)) (sym is)
+    same))
 
 -- a value is no longer than what it is taken from
 length-value_in : (i : ℕ) (after : List ℕ) → length (value_in i after) ≤ length after
@@ -67,7 +71,13 @@ pub whole_field : (i at : ℕ) (text name value said : List ℕ) → name ≡ na
 whole_field i at text name value said name_is named is whole same within =
     let name_fits = front_fits (drop at text) (name_of i) (drop (length (name_of i)) (drop at text)) named in
     let value_fits : length value ≤ length (drop at text) - length (name_of i) =
-    omega (arith, ap length is, length-value_in i (drop (length (name_of i)) (drop at text)), length-drop (length (name_of i)) (drop at text)) in
+    omega (
+      arith,
+      ap length is,
+      length-value_in i (drop (length (name_of i)) (drop at text)),
+      length-drop (length (name_of i))
+          (drop at text),
+    ) in
     record {
       field = record { named = named; value = subst (λ (v : List ℕ). AgreeButInCase v (encoded said)) is same.1 };
       decoded = same.0 ∙ ap percent_decode is;
@@ -81,14 +91,20 @@ pub wrong_value : (i at end : ℕ) (text said : List ℕ) → IsWholeField i tex
     → ((other : List ℕ) → IsFieldValue i other → said ≢ other) → IsWrongField i (drop at text)
 wrong_value i at end text said it none =
     no_value it.field.named it.whole
-    (λ other valid same. none other valid (it.decoded ∙ decoded other (value_of i (drop at text)) (value_ascii i other valid) (capitals_from (value_of i (drop at text)) (encoded other) same)))
+    (λ other valid same. none other valid (it.decoded ∙ decoded other (value_of i (drop at text)) (value_ascii i other valid)
+    (capitals_from (value_of i (drop at text)) (encoded other) same)))
 
 -- and one whose value says what it may
-pub right_value : (i at end : ℕ) (text said valid : List ℕ) → IsWholeField i text at said end → IsFieldValue i valid → said ≡ valid
+pub right_value : (i at end : ℕ) (text said valid : List ℕ) → IsWholeField i text at said end → IsFieldValue i valid →
+    said ≡ valid
     → IsFieldAt i text at valid end
 right_value i at end text said valid it is same = record {
   valid = is;
-  field = record { named = it.field.named; value = subst (λ (x : List ℕ). AgreeButInCase (value_of i (drop at text)) (encoded x)) same it.field.value };
+  field = record {
+    named = it.field.named;
+    value = subst (λ (x : List ℕ). AgreeButInCase (value_of i (drop at text)) (encoded x))
+        same it.field.value;
+  };
   ends = it.ends;
   within = it.within;
 }

@@ -1,5 +1,7 @@
 -- A text that is a link has its fields in their places, and is the link of no other parts.
-use Rattle.std.proofs.Common.{◌≡◌, ℕ, zero, suc, ◌+◌, ◌/◌, ◌%◌, ◌<◌, true, false, not, cond, eqb, List, [], ◌∷◌, ◌++◌, length, take, drop, get_or, refl, sym, ap, ◌∙◌, arith, inl, inr, append_assoc, Result, Ok, Err, MatchResult, ℤ, take-append-drop}
+use Rattle.std.proofs.Common.{◌≡◌, ℕ, zero, suc, ◌+◌, ◌/◌, ◌%◌, ◌<◌, true, false, not, cond, eqb, List, [], ◌∷◌, ◌++◌, length}
+use Rattle.std.proofs.Common.{take, drop, get_or, refl, sym, ap, ◌∙◌, arith, inl, inr, append_assoc, Result, Ok, Err, MatchResult}
+use Rattle.std.proofs.Common.{ℤ, take-append-drop}
 use Rattle.std.specs.Fmt.{digit_glyph}
 use Rattle.std.specs.List.{before_first, position_or_len}
 use Rattle.std.proofs.lemmas.Bool.{cases_Bool, cond-true, cond-false, both_ways}
@@ -14,9 +16,12 @@ use Rattle.verify_link.specs.declared.parts.LinkFault.{LinkFault}
 use Rattle.verify_link.specs.declared.parts.LinkFault.TheVariants.{Prefix, Field, Escape, NoMemory}
 use Rattle.verify_link.specs.Encoding.{is_plain, encoded}
 use Rattle.verify_link.specs.Link.{beginning, link_text, IsLinkParts}
-use Rattle.verify_link.specs.Reading.{Begins, name_of, value_in, value_of, is_ampersand, IsFieldValue, HasPlace, after_beginning, after_field, IsWrongField, unnamed, no_value, IsLinkReading}
+use Rattle.verify_link.specs.Reading.{Begins, name_of, value_in, value_of, is_ampersand, IsFieldValue, HasPlace, after_beginning}
+use Rattle.verify_link.specs.Reading.{after_field, IsWrongField, unnamed, no_value, IsLinkReading}
 use Rattle.verify_link.proofs.EncodingLemmas.{encoded-nil, encoded-plain, encoded-escaped}
-use Rattle.verify_link.proofs.CapitalLemmas.{capitals, capitals_from, agree_from, due_past, shown, due_after, due_after-encoded, capitals-nil, capitals-cons, capitals-encoded, length-capitals, capitals-plain, joined, parts_of, unchanged, same_parts, has_no_percent}
+use Rattle.verify_link.proofs.CapitalLemmas.{capitals, capitals_from, agree_from, due_past, shown, due_after, due_after-encoded}
+use Rattle.verify_link.proofs.CapitalLemmas.{capitals-nil, capitals-cons, capitals-encoded, length-capitals, capitals-plain}
+use Rattle.verify_link.proofs.CapitalLemmas.{joined, parts_of, unchanged, same_parts, has_no_percent}
 use Rattle.verify_link.proofs.DecodingLemmas.{decoded, none_bad}
 use Rattle.verify_link.proofs.ValueLemmas.{value_ascii}
 use Rattle.verify_link.proofs.PlaceLemmas.{name_plain, name_due, beginning_plain, beginning_due, link_of_fields}
@@ -26,7 +31,8 @@ use Rattle.verify_link.proofs.PlaceLemmas.{name_plain, name_due, beginning_plain
 shown_ampersand : (due b : ℕ) → eqb (shown due b) 38 ≡ eqb b 38
 shown_ampersand due b = grind (arith, nat_tests)
 
-first_in_capitals : (due : ℕ) (text : List ℕ) → position_or_len is_ampersand (capitals due text) ≡ position_or_len is_ampersand text
+first_in_capitals : (due : ℕ) (text : List ℕ) → position_or_len is_ampersand (capitals due text) ≡ position_or_len is_ampersand
+    text
 first_in_capitals due [] = ap (position_or_len is_ampersand) (capitals-nil due)
 first_in_capitals due (b ∷ rest) =
     ap (position_or_len is_ampersand) (capitals-cons due b rest)
@@ -39,23 +45,28 @@ plain_ampersand b plain = grind (arith, nat_tests)
 glyph_ampersand : (d : ℕ) → d < 16 → eqb (digit_glyph true d) 38 ≡ false
 glyph_ampersand d small = grind (arith, nat_tests)
 
-passed : (b n m : ℕ) (rest : List ℕ) → eqb b 38 ≡ false → position_or_len is_ampersand rest ≡ n → m ≡ 1 + n → position_or_len is_ampersand (b ∷ rest) ≡ m
-passed b n m rest other is sum = ap (λ e. cond (not e) (1 + position_or_len is_ampersand rest) 0) other ∙ ap (λ k. 1 + k) is ∙ sym sum
+passed : (b n m : ℕ) (rest : List ℕ) → eqb b 38 ≡ false → position_or_len is_ampersand rest ≡ n → m ≡ 1 + n →
+    position_or_len is_ampersand (b ∷ rest) ≡ m
+passed b n m rest other is sum = ap (λ e. cond (not e) (1 + position_or_len is_ampersand rest) 0) other ∙ ap (λ k. 1 + k) is ∙
+    sym sum
 
 -- encoded bytes have none
-first_after : (said rest : List ℕ) → position_or_len is_ampersand rest ≡ 0 → position_or_len is_ampersand (encoded said ++ rest) ≡ length (encoded said)
+first_after : (said rest : List ℕ) → position_or_len is_ampersand rest ≡ 0 → position_or_len is_ampersand (encoded said ++ rest) ≡
+    length (encoded said)
 first_after [] rest none = rw encoded-nil none
 first_after (b ∷ bs) rest none =
     let tail = first_after bs rest none in
     elim (cases_Bool (is_plain b)) [
-      | inl plain ↦ rw (encoded-plain b bs plain) (passed b (length (encoded bs)) _ (encoded bs ++ rest) (plain_ampersand b plain) tail (omega arith))
+      | inl plain ↦ rw (encoded-plain b bs plain) (passed b (length (encoded bs)) _ (encoded bs ++ rest) (plain_ampersand b plain)
+          tail (omega arith))
       | inr escaped ↦ (
           let high = digit_glyph true (b / 16 % 16) in
           let low = digit_glyph true (b % 16) in
           let after = encoded bs ++ rest in
           let n = length (encoded bs) in
           let third = passed low n (1 + n) after (glyph_ampersand (b % 16) (omega arith)) tail refl in
-          let second = passed high (1 + n) (2 + n) (low ∷ after) (glyph_ampersand (b / 16 % 16) (omega arith)) third (omega arith) in
+          let second = passed high (1 + n) (2 + n) (low ∷ after) (glyph_ampersand (b / 16 % 16) (omega arith)) third (omega arith)
+          in
           rw (encoded-escaped b bs escaped) (passed 37 (2 + n) _ (high ∷ low ∷ after) refl second (omega arith)))
     ]
 
@@ -68,7 +79,8 @@ value_found : (i : ℕ) (text said rest : List ℕ) → capitals 0 text ≡ enco
 value_found i text said rest is last inner =
     elim (cases_Bool (eqb i 3)) [
       | inl end ↦ (
-          ap (capitals 0) (cond-true (eqb i 3) text (before_first is_ampersand text) end) ∙ is ∙ ap (λ x. encoded said ++ x) (last end) ∙ append-nil (encoded said))
+          ap (capitals 0) (cond-true (eqb i 3) text (before_first is_ampersand text) end) ∙ is ∙ ap (λ x. encoded said ++ x)
+          (last end) ∙ append-nil (encoded said))
       | inr more ↦ (
           let place : position_or_len is_ampersand text ≡ length (encoded said) =
           sym (first_in_capitals 0 text) ∙ ap (position_or_len is_ampersand) is ∙ first_after said rest (inner more) in
@@ -133,7 +145,8 @@ said_valid (suc (suc (suc i))) p valid = (p.total, valid.total, refl)
 
 -- ---- beginnings
 
-begins_with : (front text rest : List ℕ) → capitals 0 text ≡ front ++ rest → has_no_percent front ≡ true → due_after 0 front ≡ 0 → Begins front text
+begins_with : (front text rest : List ℕ) → capitals 0 text ≡ front ++ rest → has_no_percent front ≡ true → due_after 0 front ≡ 0 →
+    Begins front text
 begins_with front text rest is plain none =
     let parts = parts_of text front rest is none in
     let same : take (length front) text ≡ front = unchanged (take (length front) text) front parts.front_is plain in
@@ -161,14 +174,16 @@ found : (i at : ℕ) (text : List ℕ) (p : LinkParts) → i < 4 → capitals 0 
 found i at text p within is =
     let name = name_of i in
     let bytes = encoded (said_by i p) in
-    let whole : capitals 0 (drop at text) ≡ name ++ (bytes ++ after i p) = is ∙ tail_is i p within ∙ append_assoc name bytes (after i p) in
+    let whole : capitals 0 (drop at text) ≡ name ++ (bytes ++ after i p) = is ∙ tail_is i p within ∙ append_assoc name bytes
+    (after i p) in
     let parts = parts_of (drop at text) name (bytes ++ after i p) whole (name_due i) in
     let here = drop (length name) (drop at text) in
     let value = value_found i here (said_by i p) (after i p) parts.rest_is (tail_last i p) (λ _. tail_inner i p) in
     let lengths : length (value_in i here) ≡ length bytes = sym (length-capitals 0 (value_in i here)) ∙ ap length value in
     let rests = parts_of here bytes (after i p) parts.rest_is (due_after-encoded (said_by i p)) in
     let place : drop (length (value_in i here)) here ≡ drop (at + length name + length (value_in i here)) text =
-    ap (drop (length (value_in i here))) (drop-drop (length name) at text) ∙ drop-drop (length (value_in i here)) (at + length name) text in
+    ap (drop (length (value_in i here))) (drop-drop (length name) at text) ∙ drop-drop (length (value_in i here))
+    (at + length name) text in
     record {
       named = begins_with name (drop at text) (bytes ++ after i p) whole (name_plain i) (name_due i);
       value = value;
@@ -182,12 +197,14 @@ from_beginning host text p is begins =
     let front = beginning host in
     let rest = capitals 0 (drop (length front) text) in
     let there : front ++ rest ≡ beginning p.host ++ tail 0 p =
-    sym (ap (capitals 0) begins ∙ joined front (drop (length front) text) front (capitals-plain front (beginning_plain host)) (beginning_due host))
+    sym (ap (capitals 0) begins ∙ joined front (drop (length front) text) front (capitals-plain front (beginning_plain host))
+    (beginning_due host))
     ∙ is ∙ whole p in
     let same : host ≡ p.host = same_host host p.host rest (tail 0 p) there in
     append_cancel_left front rest (tail 0 p) (there ∙ ap (λ k. beginning k ++ tail 0 p) (sym same))
 
-in_place : (text : List ℕ) (p : LinkParts) → capitals 0 text ≡ link_text p → (i at : ℕ) → i < 5 → HasPlace text i at → capitals 0 (drop at text) ≡ tail i p
+in_place : (text : List ℕ) (p : LinkParts) → capitals 0 text ≡ link_text p → (i at : ℕ) → i < 5 → HasPlace text i at →
+    capitals 0 (drop at text) ≡ tail i p
 unfolding tail
 in_place text p is i at within (after_beginning host begins) = from_beginning host text p is begins
 in_place text p is i at within (after_field j place said placed valid right) =
@@ -197,7 +214,8 @@ in_place text p is i at within (after_field j place said placed valid right) =
 
 not_wrong : (i at : ℕ) (text : List ℕ) (p : LinkParts) → IsLinkParts p → Found i at text p → ¬ (IsWrongField i (drop at text))
 not_wrong i at text p valid it (unnamed none) = none it.named
-not_wrong i at text p valid it (no_value named good none) = none (said_by i p) (said_valid i p valid) (agree_from (value_of i (drop at text)) (encoded (said_by i p)) it.value)
+not_wrong i at text p valid it (no_value named good none) = none (said_by i p) (said_valid i p valid)
+    (agree_from (value_of i (drop at text)) (encoded (said_by i p)) it.value)
 
 -- ---- no other parts
 
@@ -209,16 +227,21 @@ same_field i q p valid_q valid_p is =
     let left = encoded (said_by i q) in
     let right = encoded (said_by i p) in
     let rests : left ++ after i q ≡ right ++ after i p =
-    append_cancel_left name (left ++ after i q) (right ++ after i p) (sym (append_assoc name left (after i q)) ∙ is ∙ append_assoc name right (after i p)) in
+    append_cancel_left name (left ++ after i q) (right ++ after i p) (sym (append_assoc name left (after i q)) ∙ is ∙
+    append_assoc name right (after i p)) in
     let lengths : length left ≡ length right =
-    sym (first_after (said_by i q) (after i q) (tail_inner i q)) ∙ ap (position_or_len is_ampersand) rests ∙ first_after (said_by i p) (after i p) (tail_inner i p) in
+    sym (first_after (said_by i q) (after i q) (tail_inner i q)) ∙ ap (position_or_len is_ampersand) rests ∙
+    first_after (said_by i p) (after i p) (tail_inner i p) in
     let halves = same_parts left right (after i q) (after i p) lengths rests in
-    let one = decoded (said_by i q) left (value_ascii i (said_by i q) (said_valid i q valid_q)) (capitals-encoded (said_by i q)) in
-    let other = decoded (said_by i p) left (value_ascii i (said_by i p) (said_valid i p valid_p)) (capitals-encoded (said_by i q) ∙ halves.0) in
+    let one = decoded (said_by i q) left (value_ascii i (said_by i q) (said_valid i q valid_q)) (capitals-encoded (said_by i q))
+    in
+    let other = decoded (said_by i p) left (value_ascii i (said_by i p) (said_valid i p valid_p)) (capitals-encoded (said_by i q)
+    ∙ halves.0) in
     (sym one ∙ other, halves.1)
 
 -- parts with equal fields
-made : (p : LinkParts) (host : Host) (nif num : List ℕ) (day : ℕ) (total : ℤ) → host ≡ p.host → nif ≡ p.nif → num ≡ p.num → day ≡ p.day → total ≡ p.total
+made : (p : LinkParts) (host : Host) (nif num : List ℕ) (day : ℕ) (total : ℤ) → host ≡ p.host → nif ≡ p.nif → num ≡ p.num →
+    day ≡ p.day → total ≡ p.total
     → ◌≡◌ {A = LinkParts} (record { host = host; nif = nif; num = num; day = day; total = total }) p
 made p host nif num day total a b c d e = rw (a, b, c, d, e) refl
 
@@ -245,17 +268,23 @@ same_link days amounts q p valid_q valid_p is =
 -- ---- what the reading of a link gives
 
 pub read_back : DaysDiffer → AmountsDiffer → (text : List ℕ) (p : LinkParts) → IsLinkParts p → capitals 0 text ≡ link_text p
-    → (r : Result LinkParts LinkFault) → IsLinkReading text r → MatchResult r (λ (q : LinkParts). q ≡ p) (λ (fault : LinkFault). fault ≡ NoMemory)
-read_back days amounts text p valid is (Ok q) reading = same_link days amounts q p reading.0 valid (sym (capitals_from text (link_text q) reading.1) ∙ is)
+    → (r : Result LinkParts LinkFault) → IsLinkReading text r → MatchResult r (λ (q : LinkParts). q ≡ p)
+    (λ (fault : LinkFault). fault ≡ NoMemory)
+read_back days amounts text p valid is (Ok q) reading = same_link days amounts q p reading.0 valid
+    (sym (capitals_from text (link_text q) reading.1) ∙ is)
 read_back days amounts text p valid is (Err Prefix) reading =
-    absurd (reading p.host (begins_with (beginning p.host) text (tail 0 p) (is ∙ whole p) (beginning_plain p.host) (beginning_due p.host)))
+    absurd (reading p.host (begins_with (beginning p.host) text (tail 0 p) (is ∙ whole p) (beginning_plain p.host)
+    (beginning_due p.host)))
 read_back days amounts text p valid is (Err (Field j)) reading =
-    let here = found reading.i reading.place text p reading.within (in_place text p is reading.i reading.place (omega (arith, reading.within)) reading.placed) in
+    let here = found reading.i reading.place text p reading.within (in_place text p is reading.i reading.place
+    (omega (arith, reading.within)) reading.placed) in
     absurd (not_wrong reading.i reading.place text p valid here reading.fault_of.1)
 read_back days amounts text p valid is (Err (Escape at)) reading =
-    let here = found reading.i reading.place text p reading.within (in_place text p is reading.i reading.place (omega (arith, reading.within)) reading.placed) in
+    let here = found reading.i reading.place text p reading.within (in_place text p is reading.i reading.place
+    (omega (arith, reading.within)) reading.placed) in
     let bad = reading.fault_of.2 in
-    absurd (both_ways _ (none_bad (said_by reading.i p) (value_of reading.i (drop reading.place text)) bad.in_value here.value) bad.first.bad)
+    absurd (both_ways _ (none_bad (said_by reading.i p) (value_of reading.i (drop reading.place text)) bad.in_value here.value)
+    bad.first.bad)
 read_back days amounts text p valid is (Err NoMemory) reading = refl
 
 -- ---- a link has its escapes in capitals
@@ -266,13 +295,16 @@ kept i p rest is =
     let bytes = encoded (said_by i p) in
     ap (capitals 0) (append_assoc name bytes rest)
     ∙ joined name (bytes ++ rest) name (capitals-plain name (name_plain i)) (name_due i)
-    ∙ ap (λ x. name ++ x) (joined bytes rest bytes (capitals-encoded (said_by i p)) (due_after-encoded (said_by i p)) ∙ ap (λ x. bytes ++ x) is)
+    ∙ ap (λ x. name ++ x) (joined bytes rest bytes (capitals-encoded (said_by i p)) (due_after-encoded (said_by i p)) ∙
+    ap (λ x. bytes ++ x) is)
     ∙ sym (append_assoc name bytes rest)
 
 pub capitals-link : (p : LinkParts) → capitals 0 (link_text p) ≡ link_text p
 unfolding after tail
 capitals-link p =
     let front = beginning p.host in
-    let rest : capitals 0 (tail 0 p) ≡ tail 0 p = kept 0 p (after 0 p) (kept 1 p (after 1 p) (kept 2 p (after 2 p) (kept 3 p [] (capitals-nil 0)))) in
-    ap (capitals 0) (whole p) ∙ joined front (tail 0 p) front (capitals-plain front (beginning_plain p.host)) (beginning_due p.host)
+    let rest : capitals 0 (tail 0 p) ≡ tail 0 p = kept 0 p (after 0 p)
+    (kept 1 p (after 1 p) (kept 2 p (after 2 p) (kept 3 p [] (capitals-nil 0)))) in
+    ap (capitals 0) (whole p) ∙ joined front (tail 0 p) front (capitals-plain front (beginning_plain p.host))
+    (beginning_due p.host)
     ∙ ap (λ x. front ++ x) rest ∙ sym (whole p)

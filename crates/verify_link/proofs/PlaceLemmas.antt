@@ -1,5 +1,6 @@
 -- Fields that stand in their places make a link.
-use Rattle.std.proofs.Common.{◌≡◌, ℕ, zero, suc, ◌+◌, ◌<◌, true, not, eqb, List, [], ◌++◌, length, take, drop, refl, sym, ap, ◌∙◌, subst, arith, append_assoc, Err, take-append-drop}
+use Rattle.std.proofs.Common.{◌≡◌, ℕ, zero, suc, ◌+◌, ◌<◌, true, not, eqb, List, [], ◌++◌, length, take, drop, refl, sym, ap, ◌∙◌}
+use Rattle.std.proofs.Common.{subst, arith, append_assoc, Err, take-append-drop}
 use Rattle.std.specs.List.{before_first}
 use Rattle.std.proofs.Math.Seq.{drop-length, take-length}
 use Rattle.std.proofs.lemmas.List.{drop-drop, append-nil}
@@ -14,16 +15,33 @@ use Rattle.verify_link.specs.declared.parts.LinkFault.{LinkFault}
 use Rattle.verify_link.specs.declared.parts.LinkFault.TheVariants.{Prefix, Field, Escape, NoMemory}
 use Rattle.verify_link.specs.Encoding.{encoded}
 use Rattle.verify_link.specs.Link.{beginning, joined_link, link_text}
-use Rattle.verify_link.specs.Reading.{Begins, name_of, value_in, is_ampersand, IsFieldAt, HasPlace, after_field, IsFieldFault, IsLinkReading}
-use Rattle.verify_link.proofs.CapitalLemmas.{capitals, capitals_from, due_after, due_after-encoded, capitals-nil, capitals-plain, has_no_percent, joined}
+use Rattle.verify_link.specs.Reading.{Begins, name_of, value_in, is_ampersand, IsFieldAt, HasPlace, after_field, IsFieldFault}
+use Rattle.verify_link.specs.Reading.{IsLinkReading}
+use Rattle.verify_link.proofs.CapitalLemmas.{capitals, capitals_from, due_after, due_after-encoded, capitals-nil, capitals-plain}
+use Rattle.verify_link.proofs.CapitalLemmas.{has_no_percent, joined}
 
-pub place_next : (i at end : ℕ) (text said : List ℕ) → HasPlace text i at → IsFieldAt i text at said end → HasPlace text (suc i) end
-place_next i at end text said placed it = subst (λ (e : ℕ). HasPlace text (suc i) e) (sym it.ends) (after_field i at said placed it.valid it.field)
+pub place_next : (i at end : ℕ) (text said : List ℕ) → HasPlace text i at → IsFieldAt i text at said end →
+    HasPlace text (suc i) end
+place_next i at end text said placed it = subst (λ (e : ℕ). HasPlace text (suc i) e) (sym it.ends)
+    (after_field i at said placed it.valid it.field)
 
-pub fault_reading : (i place : ℕ) (text : List ℕ) (fault : LinkFault) → i < 4 → HasPlace text i place → IsFieldFault i place text fault → IsLinkReading text (Err fault)
+pub fault_reading : (i place : ℕ) (text : List ℕ) (fault : LinkFault) → i < 4 → HasPlace text i place →
+    IsFieldFault i place text fault → IsLinkReading text (Err fault)
 fault_reading i place text Prefix within placed is = absurd is
-fault_reading i place text (Field j) within placed is = record { i = i; within = within; place = place; placed = placed; fault_of = is }
-fault_reading i place text (Escape at) within placed is = record { i = i; within = within; place = place; placed = placed; fault_of = is }
+fault_reading i place text (Field j) within placed is = record {
+  i = i;
+  within = within;
+  place = place;
+  placed = placed;
+  fault_of = is;
+}
+fault_reading i place text (Escape at) within placed is = record {
+  i = i;
+  within = within;
+  place = place;
+  placed = placed;
+  fault_of = is;
+}
 fault_reading i place text NoMemory within placed is = tt
 
 -- the names have no `%`
@@ -57,7 +75,8 @@ front_of i after =
     (λ _. ap (λ n. take n after) (length-prefix_len (λ b. not (is_ampersand b)) after))
 
 pub parted : (i : ℕ) (after : List ℕ) → value_in i after ++ drop (length (value_in i after)) after ≡ after
-parted i after = ap (λ v. v ++ drop (length (value_in i after)) after) (sym (front_of i after)) ∙ take-append-drop (length (value_in i after)) after
+parted i after = ap (λ v. v ++ drop (length (value_in i after)) after) (sym (front_of i after)) ∙ take-append-drop
+    (length (value_in i after)) after
 
 -- what a field says, and what follows
 pub field_text : (i at end : ℕ) (text said : List ℕ) → IsFieldAt i text at said end
@@ -72,18 +91,22 @@ field_text i at end text said it =
     ap (capitals 0) it.field.named ∙ joined name after name (capitals-plain name (name_plain i)) (name_due i)
     ∙ ap (λ x. name ++ x) (
     ap (capitals 0) (sym (parted i after))
-    ∙ joined value (drop (length value) after) (encoded said) (capitals_from value (encoded said) it.field.value) (due_after-encoded said)
+    ∙ joined value (drop (length value) after) (encoded said) (capitals_from value (encoded said) it.field.value)
+    (due_after-encoded said)
     ∙ ap (λ x. encoded said ++ capitals 0 x) rest)
     ∙ sym (append_assoc name (encoded said) (capitals 0 (drop end text)))
 
 joined_in_turn : (b n e n1 e1 n2 e2 n3 e3 : List ℕ)
-    → b ++ ((n ++ e) ++ ((n1 ++ e1) ++ ((n2 ++ e2) ++ ((n3 ++ e3) ++ [])))) ≡ (((((((b ++ n) ++ e) ++ n1) ++ e1) ++ n2) ++ e2) ++ n3) ++ e3
+    → b ++ ((n ++ e) ++ ((n1 ++ e1) ++ ((n2 ++ e2) ++ ((n3 ++ e3) ++ [])))) ≡ (((((((b ++ n) ++ e) ++ n1) ++ e1) ++ n2) ++ e2) ++
+    n3) ++ e3
 joined_in_turn b n e n1 e1 n2 e2 n3 e3 = simp (append_assoc, append-nil)
 
-pub link_of_fields : (p : LinkParts) → beginning p.host ++ ((name_of 0 ++ encoded p.nif) ++ ((name_of 1 ++ encoded p.num) ++ ((name_of 2 ++ encoded (date_text_of p.day)) ++ ((name_of 3 ++ encoded (amount_text p.total)) ++ [])))) ≡ link_text p
+pub link_of_fields : (p : LinkParts) → beginning p.host ++ ((name_of 0 ++ encoded p.nif) ++ ((name_of 1 ++ encoded p.num) ++
+    ((name_of 2 ++ encoded (date_text_of p.day)) ++ ((name_of 3 ++ encoded (amount_text p.total)) ++ [])))) ≡ link_text p
 unfolding joined_link
 link_of_fields p =
-    joined_in_turn (beginning p.host) (name_of 0) (encoded p.nif) (name_of 1) (encoded p.num) (name_of 2) (encoded (date_text_of p.day)) (name_of 3) (encoded (amount_text p.total))
+    joined_in_turn (beginning p.host) (name_of 0) (encoded p.nif) (name_of 1) (encoded p.num) (name_of 2)
+    (encoded (date_text_of p.day)) (name_of 3) (encoded (amount_text p.total))
 
 -- four fields after a beginning are the link of what they say
 pub whole_link : (text : List ℕ) (p : LinkParts) (at end last : ℕ) → Begins (beginning p.host) text
@@ -93,10 +116,13 @@ pub whole_link : (text : List ℕ) (p : LinkParts) (at end last : ℕ) → Begin
 whole_link text p at end last begins nif num day total =
     let front = beginning p.host in
     let start : capitals 0 text ≡ front ++ capitals 0 (drop (length front) text) =
-    ap (capitals 0) begins ∙ joined front (drop (length front) text) front (capitals-plain front (beginning_plain p.host)) (beginning_due p.host) in
+    ap (capitals 0) begins ∙ joined front (drop (length front) text) front (capitals-plain front (beginning_plain p.host))
+    (beginning_due p.host) in
     let none : capitals 0 (drop (length text) text) ≡ [] = ap (capitals 0) (drop-length text) ∙ capitals-nil 0 in
-    let fourth = field_text 3 last (length text) text (amount_text p.total) total ∙ ap (λ x. (name_of 3 ++ encoded (amount_text p.total)) ++ x) none in
-    let third = field_text 2 end last text (date_text_of p.day) day ∙ ap (λ x. (name_of 2 ++ encoded (date_text_of p.day)) ++ x) fourth in
+    let fourth = field_text 3 last (length text) text (amount_text p.total) total ∙
+    ap (λ x. (name_of 3 ++ encoded (amount_text p.total)) ++ x) none in
+    let third = field_text 2 end last text (date_text_of p.day) day ∙ ap (λ x. (name_of 2 ++ encoded (date_text_of p.day)) ++ x)
+    fourth in
     let second = field_text 1 at end text p.num num ∙ ap (λ x. (name_of 1 ++ encoded p.num) ++ x) third in
     let first = field_text 0 (length front) at text p.nif nif ∙ ap (λ x. (name_of 0 ++ encoded p.nif) ++ x) second in
     start ∙ ap (λ x. front ++ x) first ∙ link_of_fields p

@@ -1,5 +1,6 @@
 -- What a field may say is ASCII, so it is a text.
-use Rattle.std.proofs.Common.{◌≡◌, ◌⊎◌, ◌+◌, ◌/◌, ◌%◌, ◌<◌, ◌≤◌, ◌&&◌, ◌||◌, inl, inr, ℕ, zero, suc, Bool, true, false, List, [], ◌∷◌, ◌++◌, map, refl, arith, ℤ, pos, negsuc, IsTrue, subst, sym, codes}
+use Rattle.std.proofs.Common.{◌≡◌, ◌⊎◌, ◌+◌, ◌/◌, ◌%◌, ◌<◌, ◌≤◌, ◌&&◌, ◌||◌, inl, inr, ℕ, zero, suc, Bool, true, false, List, []}
+use Rattle.std.proofs.Common.{◌∷◌, ◌++◌, map, refl, arith, ℤ, pos, negsuc, IsTrue, subst, sym, codes}
 use Rattle.std.specs.Str.{IsAscii, IsUtf8}
 use Rattle.std.specs.Int.Digits.{digits_of}
 use Rattle.std.specs.List.{list_all, AllByRecursion}
@@ -36,7 +37,8 @@ num_ascii text is = chars_ascii text (num_all text is)
 -- days
 
 two_ascii : (n : ℕ) (rest : List ℕ) → n < 100 → IsAscii rest → IsAscii ((48 + n / 10) ∷ (48 + n % 10) ∷ rest)
-two_ascii n rest small ascii = IsAscii-cons (48 + n / 10) ((48 + n % 10) ∷ rest) (omega arith) (IsAscii-cons (48 + n % 10) rest (omega arith) ascii)
+two_ascii n rest small ascii = IsAscii-cons (48 + n / 10) ((48 + n % 10) ∷ rest) (omega arith) (IsAscii-cons (48 + n % 10) rest
+    (omega arith) ascii)
 
 date_ascii : (n : ℕ) → n ≤ last_day → IsAscii (date_text_of n)
 unfolding date_text_of
@@ -49,7 +51,8 @@ date_ascii n within =
     let months = (48 + date.month / 10) ∷ (48 + date.month % 10) ∷ 45 ∷ years in
     let ends_ascii : IsAscii ends = two_ascii (date.year % 100) [] (omega arith) IsAscii-nil in
     let years_ascii : IsAscii years = two_ascii (date.year / 100) ends (omega arith) ends_ascii in
-    let months_ascii : IsAscii months = two_ascii date.month (45 ∷ years) (omega (arith, bounds.1)) (IsAscii-cons 45 years (omega arith) years_ascii) in
+    let months_ascii : IsAscii months = two_ascii date.month (45 ∷ years) (omega (arith, bounds.1))
+    (IsAscii-cons 45 years (omega arith) years_ascii) in
     two_ascii date.day (45 ∷ months) (omega (arith, bounds.2)) (IsAscii-cons 45 months (omega arith) months_ascii)
 
 -- amounts
@@ -68,9 +71,11 @@ cents_ascii : (n : ℕ) → IsAscii (cents_text n)
 unfolding cents_text
 cents_ascii n =
     let cents = (48 + n % 100 / 10) ∷ (48 + n % 10) ∷ [] in
-    let cents_low : IsAscii cents = IsAscii-cons (48 + n % 100 / 10) ((48 + n % 10) ∷ []) (omega arith) (IsAscii-cons (48 + n % 10) [] (omega arith) IsAscii-nil) in
+    let cents_low : IsAscii cents = IsAscii-cons (48 + n % 100 / 10) ((48 + n % 10) ∷ []) (omega arith)
+    (IsAscii-cons (48 + n % 10) [] (omega arith) IsAscii-nil) in
     IsAscii-append (whole_text (n / 100) ++ codes ".") cents
-    (IsAscii-append (whole_text (n / 100)) (codes ".") (whole_ascii (n / 100)) (IsAscii-cons 46 [] (omega arith) IsAscii-nil)) cents_low
+    (IsAscii-append (whole_text (n / 100)) (codes ".") (whole_ascii (n / 100)) (IsAscii-cons 46 [] (omega arith) IsAscii-nil))
+    cents_low
 
 amount_ascii : (v : ℤ) → IsAscii (amount_text v)
 unfolding amount_text

@@ -1,5 +1,6 @@
 -- What the reading of a link gives. A link has four fields, counted from 0: nif, numserie, fecha and importe.
-use Rattle.std.specs.Prelude.{◌≡◌, ⊤, ℕ, zero, suc, ◌+◌, ◌<◌, ◌≤◌, List, ◌++◌, length, drop, codes, Bool, false, ◌==◌, if◌then◌else◌, IsTrue, ℤ, Result, Ok, Err}
+use Rattle.std.specs.Prelude.{◌≡◌, ⊤, ℕ, zero, suc, ◌+◌, ◌<◌, ◌≤◌, List, ◌++◌, length, drop, codes, Bool, false, ◌==◌}
+use Rattle.std.specs.Prelude.{if◌then◌else◌, IsTrue, ℤ, Result, Ok, Err}
 use Rattle.std.specs.List.{before_first}
 use Rattle.amounts.specs.Amount.{IsCents}
 use Rattle.amounts.specs.Text.{amount_text}

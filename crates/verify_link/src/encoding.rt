@@ -1,5 +1,6 @@
 // Values of a link, percent-encoded and read.
-ghost use Rattle.std.specs.Prelude.{◌≡◌, ℕ, List, ◌++◌, IfOk, OnOk, MatchBool, MatchOption, IfSome, IfNone, IsAscii, ◌<◌, length, false, slice_index};
+ghost use Rattle.std.specs.Prelude.{◌≡◌, ℕ, List, ◌++◌, IfOk, OnOk, MatchBool, MatchOption, IfSome, IfNone, IsAscii, ◌<◌, length};
+ghost use Rattle.std.specs.Prelude.{false, slice_index};
 ghost use Rattle.std.specs.String.{string_bytes};
 ghost use Rattle.std.specs.Char.{is_digit};
 ghost use Rattle.percent_encoding.specs.Percent.{percent_decode as decoded_bytes};

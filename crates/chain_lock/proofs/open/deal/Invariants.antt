@@ -12,6 +12,7 @@ invariant-loop-made g l = record {
   new : IsNew (g.V.Recorded.items l.value.value) (g.V.Recorded.root l.value.value) (known_of l.place.me.0);
   count : vec_len l.list + 1 ≡ l.made;
   room : vec_capacity l.list ≡ vec_capacity l.fn.list;
-  each : EachOf (λ p. (p.place.table_id ≡ l.board.shared.table_id) × IsNew (g.V.Recorded.items l.value.value) (g.V.Recorded.root l.value.value) (known_of p.place.me.0)) l.list.items;
+  each : EachOf (λ p. (p.place.table_id ≡ l.board.shared.table_id) × IsNew (g.V.Recorded.items l.value.value)
+      (g.V.Recorded.root l.value.value) (known_of p.place.me.0)) l.list.items;
   whole : (n : ℕ) → n < l.fn.passes → total (λ p. times n p.place.me.0.numbers) l.list.items + times n l.place.me.0.numbers ≡ 1;
 }

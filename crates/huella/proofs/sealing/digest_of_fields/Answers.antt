@@ -15,4 +15,5 @@ returns c =
     let h8 = c.feed_link.ensures _ h6 in
     let h9 = c.feed-7.ensures _ h8 in
     let a = c.args in
-    c.finalize.ensures _ h9 ∙ ap sha256 (fed_joined a.issuer.now a.num.now a.date.now a.kind.now a.cuota.now a.total.now (previous_text a.link.now) a.moment.now)
+    c.finalize.ensures _ h9 ∙ ap sha256 (fed_joined a.issuer.now a.num.now a.date.now a.kind.now a.cuota.now a.total.now
+    (previous_text a.link.now) a.moment.now)

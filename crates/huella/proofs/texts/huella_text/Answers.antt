@@ -8,4 +8,5 @@ pub returns : goal.returns
 returns c =
     let bytes : IsBytes c.args.huella.now = λ i. let f = c.fits-huella i in omega arith in
     c.make_ascii_uppercase.ensures.after ∙ ap (map to_ascii_uppercase) c.in-Ok.ensures.written
-    ∙ capitals c.as_slice.result.now (subst (λ (xs : List ℕ). IsBytes xs) (sym c.as_slice.ensures) bytes) ∙ ap encode_upper c.as_slice.ensures
+    ∙ capitals c.as_slice.result.now (subst (λ (xs : List ℕ). IsBytes xs) (sym c.as_slice.ensures) bytes) ∙
+    ap encode_upper c.as_slice.ensures

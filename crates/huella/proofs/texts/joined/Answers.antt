@@ -19,4 +19,5 @@ returns c =
       c.in_ok-add.ensures,
       c.new-text.ensures.items,
     )
-    (fed_joined a.issuer.now a.num.now a.date.now a.kind.now a.cuota.now a.total.now (previous_digits (option_copied a.previous)) a.moment.now)
+    (fed_joined a.issuer.now a.num.now a.date.now a.kind.now a.cuota.now a.total.now (previous_digits (option_copied a.previous))
+    a.moment.now)

@@ -8,38 +8,49 @@ pub returns-in_err-write_at-clause-any_moment : goal.returns-in_err-write_at-cla
 returns-in_err-write_at-clause-any_moment g c = λ tells quiet.
     let t = g.D.Disk.told c.args.disk.now in
     let within = c.requires.within tells in
-    on_write_failed (at_start t c.args.gate c.args.bytes.now within quiet) (c.args.gate + 1) (length c.args.bytes.now) (c.in_err-write_at.ensures.err tells) (λ f image. behind_image t.content f c.args.bytes.now c.args.gate within image)
+    on_write_failed (at_start t c.args.gate c.args.bytes.now within quiet) (c.args.gate + 1) (length c.args.bytes.now)
+    (c.in_err-write_at.ensures.err tells) (λ f image. behind_image t.content f c.args.bytes.now c.args.gate within image)
 
 pub returns-in_err-sync-clause-any_moment : goal.returns-in_err-sync-clause-any_moment
 returns-in_err-sync-clause-any_moment g c = λ tells quiet.
     let t = g.D.Disk.told c.args.disk.now in
     let within = c.requires.within tells in
-    on_sync_failed (after_write t c.args.gate c.args.bytes.now within quiet _ (c.in_ok-write_at.ensures.ok tells)) (c.in_err-sync.ensures.err tells) (λ f image. behind_image t.content f c.args.bytes.now c.args.gate within image)
+    on_sync_failed (after_write t c.args.gate c.args.bytes.now within quiet _ (c.in_ok-write_at.ensures.ok tells))
+    (c.in_err-sync.ensures.err tells) (λ f image. behind_image t.content f c.args.bytes.now c.args.gate within image)
 
 pub write_at-requires-2 : goal.write_at-requires-2
-write_at-requires-2 g c = λ tells. gate_there (g.D.Disk.told c.args.disk.now) (g.D.Disk.told c.write_at.new.self) (g.D.Disk.told c.sync.new.self) c.args.gate c.args.bytes.now (c.requires.within tells) (c.in_ok-write_at.ensures.ok tells) (c.in_ok-sync.ensures.ok tells)
+write_at-requires-2 g c = λ tells. gate_there (g.D.Disk.told c.args.disk.now) (g.D.Disk.told c.write_at.new.self)
+    (g.D.Disk.told c.sync.new.self) c.args.gate c.args.bytes.now (c.requires.within tells) (c.in_ok-write_at.ensures.ok tells)
+    (c.in_ok-sync.ensures.ok tells)
 
 pub returns-in_err-write_at-2-clause-any_moment : goal.returns-in_err-write_at-2-clause-any_moment
 returns-in_err-write_at-2-clause-any_moment g c = λ tells quiet.
     let t = g.D.Disk.told c.args.disk.now in
     let within = c.requires.within tells in
-    on_write_failed (after_sync t c.args.gate c.args.bytes.now within quiet _ _ (c.in_ok-write_at.ensures.ok tells) (c.in_ok-sync.ensures.ok tells)) c.args.gate 1 (c.in_err-write_at-2.ensures.err tells) (λ f image. gate_image t.content c.args.bytes.now c.args.gate within f image)
+    on_write_failed (after_sync t c.args.gate c.args.bytes.now within quiet _ _ (c.in_ok-write_at.ensures.ok tells)
+    (c.in_ok-sync.ensures.ok tells)) c.args.gate 1 (c.in_err-write_at-2.ensures.err tells) (λ f image. gate_image t.content
+    c.args.bytes.now c.args.gate within f image)
 
 pub returns-in_err-sync-2-clause-any_moment : goal.returns-in_err-sync-2-clause-any_moment
 returns-in_err-sync-2-clause-any_moment g c = λ tells quiet.
     let t = g.D.Disk.told c.args.disk.now in
     let within = c.requires.within tells in
-    on_sync_failed (after_gate t c.args.gate c.args.bytes.now within quiet _ _ _ (c.in_ok-write_at.ensures.ok tells) (c.in_ok-sync.ensures.ok tells) (c.in_ok-write_at-2.ensures.ok tells)) (c.in_err-sync-2.ensures.err tells) (λ f image. gate_image t.content c.args.bytes.now c.args.gate within f image)
+    on_sync_failed (after_gate t c.args.gate c.args.bytes.now within quiet _ _ _ (c.in_ok-write_at.ensures.ok tells)
+    (c.in_ok-sync.ensures.ok tells) (c.in_ok-write_at-2.ensures.ok tells)) (c.in_err-sync-2.ensures.err tells)
+    (λ f image. gate_image t.content c.args.bytes.now c.args.gate within f image)
 
 pub returns-clause-ok : goal.returns-clause-ok
 returns-clause-ok g c = λ tells quiet.
     let t = g.D.Disk.told c.args.disk.now in
     let within = c.requires.within tells in
-    committed t c.args.gate c.args.bytes.now within quiet _ (after_all t c.args.gate c.args.bytes.now within quiet _ _ _ _ (c.in_ok-write_at.ensures.ok tells) (c.in_ok-sync.ensures.ok tells) (c.in_ok-write_at-2.ensures.ok tells) (c.in_ok-sync-2.ensures.ok tells))
+    committed t c.args.gate c.args.bytes.now within quiet _ (after_all t c.args.gate c.args.bytes.now within quiet _ _ _ _
+    (c.in_ok-write_at.ensures.ok tells) (c.in_ok-sync.ensures.ok tells) (c.in_ok-write_at-2.ensures.ok tells)
+    (c.in_ok-sync-2.ensures.ok tells))
 
 pub returns-clause-any_moment : goal.returns-clause-any_moment
 returns-clause-any_moment g c = λ tells quiet.
     let t = g.D.Disk.told c.args.disk.now in
     let within = c.requires.within tells in
-    let all = after_all t c.args.gate c.args.bytes.now within quiet _ _ _ _ (c.in_ok-write_at.ensures.ok tells) (c.in_ok-sync.ensures.ok tells) (c.in_ok-write_at-2.ensures.ok tells) (c.in_ok-sync-2.ensures.ok tells) in
+    let all = after_all t c.args.gate c.args.bytes.now within quiet _ _ _ _ (c.in_ok-write_at.ensures.ok tells)
+    (c.in_ok-sync.ensures.ok tells) (c.in_ok-write_at-2.ensures.ok tells) (c.in_ok-sync-2.ensures.ok tells) in
     all.so_far

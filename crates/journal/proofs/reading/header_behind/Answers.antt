@@ -2,13 +2,33 @@ use Rattle.journal.specs.Header.IsHeaderDamaged.{no_mark, other_version, cut_in_
 use Rattle.journal.proofs.reading.header_behind.Goals as goal
 
 pub returns-then-not-is_mark : goal.returns-then-not-is_mark
-returns-then-not-is_mark c = no_mark c.requires.long c.requires.first (λ is. let m = c.is_mark.ensures in cc (m.1 is, c.if-not-is_mark.true))
+returns-then-not-is_mark c = no_mark c.requires.long c.requires.first (λ is. let m = c.is_mark.ensures in
+    cc (m.1 is, c.if-not-is_mark.true))
 
 pub returns-then-file-ne1 : goal.returns-then-file-ne1
-returns-then-file-ne1 c = other_version (record { long = c.requires.long; first = c.requires.first; mark = c.is_mark.ensures.0 c.if-not-is_mark.false }) c.if-file-ne1.true
+returns-then-file-ne1 c = other_version (record {
+  long = c.requires.long;
+  first = c.requires.first;
+  mark = c.is_mark.ensures.0 c.if-not-is_mark.false;
+}) c.if-file-ne1.true
 
 pub returns-then-file-lt-HEADER : goal.returns-then-file-lt-HEADER
-returns-then-file-lt-HEADER c = cut_in_issuer (record { marked = record { long = c.requires.long; first = c.requires.first; mark = c.is_mark.ensures.0 c.if-not-is_mark.false }; version = c.if-file-ne1.false }) c.if-file-lt-HEADER.true
+returns-then-file-lt-HEADER c = cut_in_issuer (record {
+  marked = record {
+    long = c.requires.long;
+    first = c.requires.first;
+    mark = c.is_mark.ensures.0 c.if-not-is_mark.false;
+  };
+  version = c.if-file-ne1.false;
+}) c.if-file-lt-HEADER.true
 
 pub returns-in-None : goal.returns-in-None
-returns-in-None c = no_nif (record { marked = record { long = c.requires.long; first = c.requires.first; mark = c.is_mark.ensures.0 c.if-not-is_mark.false }; version = c.if-file-ne1.false }) c.if-file-lt-HEADER.false c.in-None.ensures.none
+returns-in-None c = no_nif (record {
+  marked = record {
+    long = c.requires.long;
+    first = c.requires.first;
+    mark = c.is_mark.ensures.0 c.if-not-is_mark.false;
+  };
+  version = c.if-file-ne1.false;
+}) c.if-file-lt-HEADER.false
+    c.in-None.ensures.none

@@ -6,4 +6,5 @@ use Rattle.journal.proofs.tests.create.Goals as goal
 
 pub create-requires : goal.create-requires
 create-requires c = λ tells.
-    subst (λ (t : Told). IsNotBegun t.content × IsSettled t) (sym (c.new-disk.ensures.told ∙ ap fresh c.new.ensures.items)) (tt, refl)
+    subst (λ (t : Told). IsNotBegun t.content × IsSettled t) (sym (c.new-disk.ensures.told ∙ ap fresh c.new.ensures.items))
+    (tt, refl)

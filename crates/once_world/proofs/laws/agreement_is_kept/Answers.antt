@@ -1,4 +1,5 @@
-use Rattle.once_world.proofs.Agreements.{agree_begun, stand_once, agree_records, next_records, agree_sent, agree_delivered, agree_noted}
+use Rattle.once_world.proofs.Agreements.{agree_begun, stand_once, agree_records, next_records, agree_sent, agree_delivered}
+use Rattle.once_world.proofs.Agreements.{agree_noted}
 use Rattle.once_world.proofs.laws.agreement_is_kept.Goals as goal
 
 pub returns-clause-begun : goal.returns-clause-begun

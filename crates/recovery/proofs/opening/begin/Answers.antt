@@ -37,10 +37,13 @@ returns-in-Ok-clause-any_moment g c tells =
     (begins issuer old now legal (c.in-Ok.ensures.any_moment tells)))
 
 pub of-requires-clause-ready : goal.of-requires-clause-ready
-of-requires-clause-ready g c = ready_empty g.D.Disk.tells c.args.issuer.now c.empty-state.result _ _ _ c.empty-state.ensures c.in-Ok.ensures.place c.in-Ok.ensures.empty
+of-requires-clause-ready g c = ready_empty g.D.Disk.tells c.args.issuer.now c.empty-state.result _ _ _ c.empty-state.ensures
+    c.in-Ok.ensures.place c.in-Ok.ensures.empty
 
 pub returns-in-Ok-clause-ready : goal.returns-in-Ok-clause-ready
 returns-in-Ok-clause-ready g c =
     let parts = c.of.ensures.parts in
-    subst (λ (j : _). IsReady g.D.Disk.tells c.of.result.state (stopped_of j) (end_of j) (g.D.Disk.told (disk_of j))) (sym parts.1)
-    (ready_empty g.D.Disk.tells c.args.issuer.now c.of.result.state _ _ _ (parts.0 ∙ c.empty-state.ensures) c.in-Ok.ensures.place c.in-Ok.ensures.empty)
+    subst (λ (j : _). IsReady g.D.Disk.tells c.of.result.state (stopped_of j) (end_of j) (g.D.Disk.told (disk_of j)))
+    (sym parts.1)
+    (ready_empty g.D.Disk.tells c.args.issuer.now c.of.result.state _ _ _ (parts.0 ∙ c.empty-state.ensures) c.in-Ok.ensures.place
+    c.in-Ok.ensures.empty)

@@ -62,10 +62,13 @@ returns-clause-ready g c =
     let parts = c.at.ensures.parts in
     let made = c.of.ensures.parts in
     subst (λ (j : _). IsReady g.D.Disk.tells c.of.result.state (stopped_of j) (end_of j) (g.D.Disk.told (disk_of j))) (sym made.1)
-    (subst (λ (h : History). IsReady g.D.Disk.tells h (stopped_of c.at.result) (end_of c.at.result) (g.D.Disk.told (disk_of c.at.result))) (sym made.0)
-    (subst (λ (d : _). IsReady g.D.Disk.tells c.args.state (stopped_of c.at.result) (end_of c.at.result) (g.D.Disk.told d)) (sym parts.0)
+    (subst (λ (h : History). IsReady g.D.Disk.tells h (stopped_of c.at.result) (end_of c.at.result)
+    (g.D.Disk.told (disk_of c.at.result))) (sym made.0)
+    (subst (λ (d : _). IsReady g.D.Disk.tells c.args.state (stopped_of c.at.result) (end_of c.at.result) (g.D.Disk.told d))
+    (sym parts.0)
     (subst (λ (n : ℕ). IsReady g.D.Disk.tells c.args.state (stopped_of c.at.result) n (g.D.Disk.told c.args.disk)) (sym parts.1)
-    (ready_held g.D.Disk.tells c.args.state (stopped_of c.at.result) c.args.end (g.D.Disk.told c.args.disk) c.requires.near c.requires.holds))))
+    (ready_held g.D.Disk.tells c.args.state (stopped_of c.at.result) c.args.end (g.D.Disk.told c.args.disk) c.requires.near
+    c.requires.holds))))
 
 pub returns-clause-same : goal.returns-clause-same
 returns-clause-same g c =

@@ -9,9 +9,11 @@ use Rattle.report.proofs.listing.put_listing.Goals as goal
 pub loop-n-preserved : goal.loop-n-preserved
 loop-n-preserved c =
     let entries = c.args.state.now.entries in
-    listed_more (λ (p : ℕ × Sealed). record_line p.0 p.1 (line_at entries p.0)) (recs entries) c.loop-n.n c.in-Some.sealed c.loop-n.text.items c.put_record.new.text.items _
+    listed_more (λ (p : ℕ × Sealed). record_line p.0 p.1 (line_at entries p.0)) (recs entries) c.loop-n.n c.in-Some.sealed
+    c.loop-n.text.items c.put_record.new.text.items _
     (sym c.in_ok-sealed.ensures ∙ c.in-Some.is)
-    (c.in_ok-put_record.ensures ∙ ap (λ (l : Option Line). c.loop-n.text.items ++ record_line (c.loop-n.n + 1) c.in-Some.sealed l) c.line.ensures)
+    (c.in_ok-put_record.ensures ∙ ap (λ (l : Option Line). c.loop-n.text.items ++ record_line (c.loop-n.n + 1) c.in-Some.sealed l)
+    c.line.ensures)
     c.loop-n.invariant
 
 pub returns-in_default : goal.returns-in_default
@@ -24,4 +26,5 @@ pub returns : goal.returns
 returns c =
     let entries = c.args.state.now.entries in
     let past = c.records-n-end.ensures.count in
-    listed_all (λ (p : ℕ × Sealed). record_line p.0 p.1 (line_at entries p.0)) (recs entries) c.loop-n.n c.loop-n.text.items _ (omega (arith, past)) c.loop-n.invariant
+    listed_all (λ (p : ℕ × Sealed). record_line p.0 p.1 (line_at entries p.0)) (recs entries) c.loop-n.n c.loop-n.text.items _
+    (omega (arith, past)) c.loop-n.invariant

@@ -7,5 +7,6 @@ use Rattle.report.proofs.listing.put_listing.Given as goal
 
 abbrev pub invariant-loop-n : goal.invariant-loop-n
 invariant-loop-n l =
-    l.text.items ++ flat_map (λ (p : ℕ × Sealed). record_line p.0 p.1 (line_at l.state.entries p.0)) (enumerate_from (l.n + 1) (drop l.n (recs l.state.entries)))
+    l.text.items ++ flat_map (λ (p : ℕ × Sealed). record_line p.0 p.1 (line_at l.state.entries p.0))
+    (enumerate_from (l.n + 1) (drop l.n (recs l.state.entries)))
     ≡ l.initial.text.items ++ listing l.state.entries

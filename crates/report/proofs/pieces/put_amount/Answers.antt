@@ -16,4 +16,5 @@ returns-else-cents-lt0 c =
     let same = to_z-of_z w64 c.args.cents c.ranges.cents in
     let size = rw (c.unsigned_abs-else-cents-lt0.ensures.value, same) at c.put_cents-else-cents-lt0.ensures in
     let sign = rw same at c.if-cents-lt0.false in
-    on_ok c.put_cents-else-cents-lt0.result (positive c.args.cents c.args.text.now.items c.put_cents-else-cents-lt0.new.text.items sign) size
+    on_ok c.put_cents-else-cents-lt0.result (positive c.args.cents c.args.text.now.items c.put_cents-else-cents-lt0.new.text.items
+    sign) size

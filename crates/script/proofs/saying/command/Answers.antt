@@ -12,6 +12,12 @@ use Rattle.script.proofs.saying.command.Goals as goal
 pub returns-in-Err : goal.returns-in-Err
 returns-in-Err c =
     let asked = request_said c.args.command (party_of c.args.read.now.customers) c.number-2.new.fields in
-    let made : Request → Result Line Word = λ request. Ok (Command (record { till = c.in_ok-till.till; serial = c.in_ok-serial.serial; request = request })) in
-    let same : command_said c.args.form (known c.args.read.now) c.args.command c.args.fields.now ≡ and_then asked made = search rules in
-    answers_along (command_said c.args.form (known c.args.read.now) c.args.command c.args.fields.now) (and_then asked made) (Err c.in-Err.fault) same (passes_on c.in-Err.fault asked made c.in-Err.ensures)
+    let made : Request → Result Line Word = λ request. Ok (Command (record {
+      till = c.in_ok-till.till;
+      serial = c.in_ok-serial.serial;
+      request = request;
+    })) in
+    let same : command_said c.args.form (known c.args.read.now) c.args.command c.args.fields.now ≡ and_then asked made =
+    search rules in
+    answers_along (command_said c.args.form (known c.args.read.now) c.args.command c.args.fields.now) (and_then asked made)
+    (Err c.in-Err.fault) same (passes_on c.in-Err.fault asked made c.in-Err.ensures)

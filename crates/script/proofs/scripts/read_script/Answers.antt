@@ -44,8 +44,10 @@ loop-text-preserved c =
     record {
       front = inv.front ++ strip_carriage_return c.in-Some.text.now ∷ [];
       meanings = inv.meanings ++ c.in-Ok.line ∷ [];
-      partway = next_line c.args.form (lines_of c.args.bytes.now) inv.front c.loop-text.lines c.next.new.self inv.meanings c.without_return.result.now c.in-Some.text.now
-          c.in-Ok.line c.loop-text.number c.loop-text.read c.add.new.self inv.partway c.in-Some.ensures c.without_return.ensures c.in-Ok.ensures
+      partway = next_line c.args.form (lines_of c.args.bytes.now) inv.front c.loop-text.lines c.next.new.self inv.meanings
+          c.without_return.result.now c.in-Some.text.now
+          c.in-Ok.line c.loop-text.number c.loop-text.read c.add.new.self inv.partway c.in-Some.ensures c.without_return.ensures
+          c.in-Ok.ensures
           (c.in_ok-add-in-Ok.ensures inv.meanings inv.partway.good);
       size = let fewer = ap length c.in-Some.ensures in omega (arith, inv.size, fewer);
     }
@@ -56,8 +58,10 @@ returns-clause-script c =
     record {
       meanings = inv.meanings;
       each = subst (λ (lines : List (List ℕ)). EachSays c.args.form [] lines inv.meanings)
-          (all_read (lines_of c.args.bytes.now) inv.front c.loop-text.lines inv.partway.split c.in_default.ensures) inv.partway.each;
-      clock = ap (λ (script : Script). script.clock) c.into_script.ensures ∙ ap (λ (above : Above). above.clock) inv.partway.good.above;
+          (all_read (lines_of c.args.bytes.now) inv.front c.loop-text.lines inv.partway.split c.in_default.ensures)
+          inv.partway.each;
+      clock = ap (λ (script : Script). script.clock) c.into_script.ensures ∙ ap (λ (above : Above). above.clock)
+          inv.partway.good.above;
       asks = ap (λ (script : Script). script.asks) c.into_script.ensures ∙ inv.partway.good.asks;
       plan = ap (λ (script : Script). script.plan) c.into_script.ensures ∙ ap planned_above inv.partway.good.above;
     }

@@ -8,4 +8,8 @@ offset n (inl e) = inl (rw e (omega (arith, ints)))
 offset n (inr e) = inr (rw e (omega (arith, ints)))
 
 pub invariant_of-result : goal.invariant_of-result
-invariant_of-result c = (c.is_stamp_seconds.ensures.0 c.if-not-is_stamp_seconds.false, offset c.offset_at.result c.offset_at.ensures.either)
+invariant_of-result c = (
+  c.is_stamp_seconds.ensures.0 c.if-not-is_stamp_seconds.false,
+  offset c.offset_at.result
+      c.offset_at.ensures.either,
+)

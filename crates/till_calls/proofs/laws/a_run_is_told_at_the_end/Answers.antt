@@ -5,4 +5,5 @@ use Rattle.till_calls.proofs.laws.a_run_is_told_at_the_end.Goals as goal
 
 pub returns : goal.returns
 returns g c = λ root items log old new asks replies fresh fits run.
-    told_at_end g.C.Clock.coming root log (length items) old new asks replies (let e = ap (λ (l : List Item). length l) fresh.seen in omega (arith, e)) fresh.root_is fits.begins run
+    told_at_end g.C.Clock.coming root log (length items) old new asks replies (let e = ap (λ (l : List Item). length l) fresh.seen
+    in omega (arith, e)) fresh.root_is fits.begins run

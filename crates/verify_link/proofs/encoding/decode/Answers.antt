@@ -10,7 +10,8 @@ use Rattle.verify_link.proofs.encoding.decode.Goals as goal
 pub returns-else-agree_but_in_case : goal.returns-else-agree_but_in_case
 returns-else-agree_but_in_case c = λ said ascii agree.
     let value = c.args.value.now in
-    let bytes : c.append_to.new.out.items ≡ percent_decode value = rw (c.in_ok-append_to.ensures.ok, c.new-bytes.ensures.items) c.percent_decode.ensures.bytes in
+    let bytes : c.append_to.new.out.items ≡ percent_decode value = rw (c.in_ok-append_to.ensures.ok, c.new-bytes.ensures.items)
+    c.percent_decode.ensures.bytes in
     let again : string_bytes c.encode_onto.new.text ≡ encoded said =
     rw (c.in_ok-encode_onto.ensures, c.new-again.ensures.bytes, c.deref.ensures.value, bytes)
     (ap encoded (decoded said value ascii (capitals_from value (encoded said) agree))) in

@@ -10,4 +10,5 @@ use Rattle.verify_link.proofs.encoding.encode_onto.Goals as goal
 pub returns : goal.returns
 returns c =
     let small = All-from_get_or IsByte c.args.value.now 0 (λ i within. omega (arith, c.type_inv.value i)) in
-    c.in_ok-append_to.ensures.ok ∙ ap (λ x. string_bytes c.args.text.now ++ x) (c.percent_encode.ensures.text ∙ percent_encode-encoded c.args.value.now small)
+    c.in_ok-append_to.ensures.ok ∙ ap (λ x. string_bytes c.args.text.now ++ x) (c.percent_encode.ensures.text ∙
+    percent_encode-encoded c.args.value.now small)

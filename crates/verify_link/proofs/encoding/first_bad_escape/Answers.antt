@@ -4,7 +4,8 @@ use Rattle.verify_link.specs.Encoding.{is_bad_escape}
 use Rattle.verify_link.proofs.DecodingLemmas.{none_past}
 use Rattle.verify_link.proofs.encoding.first_bad_escape.Goals as goal
 
-none_at_all : (text : List ℕ) (i : ℕ) → length text ≤ i → ((j : ℕ) → j < i → is_bad_escape text j ≡ false) → (k : ℕ) → is_bad_escape text k ≡ false
+none_at_all : (text : List ℕ) (i : ℕ) → length text ≤ i → ((j : ℕ) → j < i → is_bad_escape text j ≡ false) → (k : ℕ) →
+    is_bad_escape text k ≡ false
 none_at_all text i end none k =
     elim (cases_order k i) [
       | inl same ↦ none_past text k (omega (arith, same, end))

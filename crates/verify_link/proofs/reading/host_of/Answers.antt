@@ -6,7 +6,8 @@ use Rattle.verify_link.specs.declared.parts.Host.TheVariants.{Real, Practice}
 use Rattle.verify_link.proofs.BeginsLemmas.{begins_from, begins_not}
 use Rattle.verify_link.proofs.reading.host_of.Goals as goal
 
-of_neither : (text : List ℕ) → ¬ (Begins (beginning Real) text) → ¬ (Begins (beginning Practice) text) → (host : Host) → ¬ (Begins (beginning host) text)
+of_neither : (text : List ℕ) → ¬ (Begins (beginning Real) text) → ¬ (Begins (beginning Practice) text) → (host : Host) →
+    ¬ (Begins (beginning host) text)
 of_neither text real practice Real = real
 of_neither text real practice Practice = practice
 

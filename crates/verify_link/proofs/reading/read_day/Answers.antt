@@ -12,5 +12,6 @@ returns-clause-err c = (
 
 pub returns-in-Some-clause-ok : goal.returns-in-Some-clause-ok
 returns-in-Some-clause-ok c =
-    right_value 2 c.args.at c.in_ok-bytes.end c.args.text.now c.in_ok-bytes.bytes.items (date_text_of c.in-Some.day) c.in_ok-bytes.ensures.ok
+    right_value 2 c.args.at c.in_ok-bytes.end c.args.text.now c.in_ok-bytes.bytes.items (date_text_of c.in-Some.day)
+    c.in_ok-bytes.ensures.ok
     (c.in-Some.day, c.in-Some.ensures.value.0, refl) (sym c.deref.ensures.value ∙ c.in-Some.ensures.value.1)

@@ -9,7 +9,8 @@ use Rattle.verify_link.proofs.CapitalLemmas.{agree_from}
 use Rattle.verify_link.proofs.PlaceLemmas.{place_next, fault_reading, whole_link}
 use Rattle.verify_link.proofs.reading.read_fields.Goals as goal
 
-placed : (host : Host) (text front : List ℕ) → front ≡ beginning host → Begins (beginning host) text → HasPlace text 0 (length front)
+placed : (host : Host) (text front : List ℕ) → front ≡ beginning host → Begins (beginning host) text →
+    HasPlace text 0 (length front)
 placed host text front is begins = subst (λ (n : ℕ). HasPlace text 0 n) (ap length (sym is)) (after_beginning host begins)
 
 pub returns-in_err-nif : goal.returns-in_err-nif
@@ -48,8 +49,21 @@ returns-in_err-total c =
 pub returns : goal.returns
 returns c =
     let text = c.args.text.now in
-    let parts : LinkParts = record { host = c.args.host; nif = c.in_ok-nif.nif; num = c.in_ok-num.num; day = c.in_ok-day.day; total = c.in_ok-total.total } in
-    let nif = subst (λ (n : ℕ). IsFieldAt 0 text n c.in_ok-nif.nif c.in_ok-nif.at) (ap length c.beginning.ensures) c.in_ok-nif.ensures.ok in (
-      record { nif = nif.valid; num = c.in_ok-num.ensures.ok.valid; day = c.in_ok-day.ensures.day; total = c.in_ok-total.ensures.total },
-      agree_from text (link_text parts) (whole_link text parts c.in_ok-nif.at c.in_ok-num.at c.in_ok-day.at c.requires nif c.in_ok-num.ensures.ok c.in_ok-day.ensures.ok c.in_ok-total.ensures.ok),
+    let parts : LinkParts = record {
+      host = c.args.host;
+      nif = c.in_ok-nif.nif;
+      num = c.in_ok-num.num;
+      day = c.in_ok-day.day;
+      total = c.in_ok-total.total;
+    } in
+    let nif = subst (λ (n : ℕ). IsFieldAt 0 text n c.in_ok-nif.nif c.in_ok-nif.at) (ap length c.beginning.ensures)
+    c.in_ok-nif.ensures.ok in (
+      record {
+        nif = nif.valid;
+        num = c.in_ok-num.ensures.ok.valid;
+        day = c.in_ok-day.ensures.day;
+        total = c.in_ok-total.ensures.total;
+      },
+      agree_from text (link_text parts) (whole_link text parts c.in_ok-nif.at c.in_ok-num.at c.in_ok-day.at c.requires nif
+          c.in_ok-num.ensures.ok c.in_ok-day.ensures.ok c.in_ok-total.ensures.ok),
     )

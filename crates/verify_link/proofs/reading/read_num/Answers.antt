@@ -7,7 +7,8 @@ pub returns-clause-err : goal.returns-clause-err
 returns-clause-err c = (
   refl,
   wrong_value 1 c.args.at c.in_ok-bytes.end c.args.text.now c.in_ok-bytes.bytes.items c.in_ok-bytes.ensures.ok
-      (λ other valid same. c.in-None.ensures.none (subst (λ (x : List ℕ). IsTrue (is_num_serie x)) (sym (c.deref.ensures.value ∙ same)) valid)),
+      (λ other valid same. c.in-None.ensures.none (subst (λ (x : List ℕ). IsTrue (is_num_serie x))
+      (sym (c.deref.ensures.value ∙ same)) valid)),
 )
 
 pub returns-in-Some-clause-ok : goal.returns-in-Some-clause-ok

@@ -15,6 +15,7 @@ pub returns-in-Some-clause-ok : goal.returns-in-Some-clause-ok
 returns-in-Some-clause-ok c =
     let text = c.args.text.now in
     let said = amount_text c.in-Some.total in
-    subst (λ (e : ℕ). IsFieldAt 3 text c.args.at said e) (last_ends c.args.at c.in_ok-bytes._end text c.in_ok-bytes.bytes.items c.in_ok-bytes.ensures.ok c.requires)
+    subst (λ (e : ℕ). IsFieldAt 3 text c.args.at said e) (last_ends c.args.at c.in_ok-bytes._end text c.in_ok-bytes.bytes.items
+    c.in_ok-bytes.ensures.ok c.requires)
     (right_value 3 c.args.at c.in_ok-bytes._end text c.in_ok-bytes.bytes.items said c.in_ok-bytes.ensures.ok
     (c.in-Some.total, c.in-Some.ensures.value.0, refl) (sym c.deref.ensures.value ∙ c.in-Some.ensures.value.1))

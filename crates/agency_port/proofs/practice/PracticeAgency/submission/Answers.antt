@@ -12,4 +12,5 @@ returns-in-Ok c =
 
 pub returns-in-Err : goal.returns-in-Err
 returns-in-Err c =
-    c.cut_back.ensures ∙ cut_back c.args.self.now c.try_submission.new.self c.processed_count-count.result c.in-Err.ensures.err c.processed_count-count.ensures
+    c.cut_back.ensures ∙ cut_back c.args.self.now c.try_submission.new.self c.processed_count-count.result c.in-Err.ensures.err
+    c.processed_count-count.ensures

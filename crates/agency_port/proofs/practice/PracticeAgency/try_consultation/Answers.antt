@@ -18,4 +18,5 @@ returns-clause-said c =
     c.in_ok-answer.ensures
     ∙ ap (λ (f : Option Fate). seen_by f now huellas) (same_fate s.plan log s.calls fate c.self.invariant c.at-fate.ensures)
     ∙ ap (λ (ps : List (Sealed × Line)). seen_by (fate_at s.plan.fates (number log)) ps huellas)
-    (same_before s.plan s.pairs now log c.deref.result.now s.fault_count s.calls fate c.self.invariant c.deref.ensures.value c.at-fate.ensures c.in_ok-deliver_before.ensures.ok))
+    (same_before s.plan s.pairs now log c.deref.result.now s.fault_count s.calls fate c.self.invariant c.deref.ensures.value
+    c.at-fate.ensures c.in_ok-deliver_before.ensures.ok))

@@ -10,7 +10,8 @@ returns-clause-lists c =
     let a = c.args.self.now in
     let new = c.open.new.self in
     let noted = c.args.noted.now in
-    on_ok c.open.result (new ≡ opened a c.args.plan.now noted) (IsTrue true → Begins (ledger_of a) (ledger_of new) c.args.plan.now (length noted))
+    on_ok c.open.result (new ≡ opened a c.args.plan.now noted) (IsTrue true → Begins (ledger_of a) (ledger_of new) c.args.plan.now
+    (length noted))
     (λ is tells. begin_lists a new c.args.plan.now noted is) c.open.ensures.ok
 
 pub returns-clause-rules : goal.returns-clause-rules

@@ -11,5 +11,7 @@ returns-clause-lists c =
     let a = c.args.self.now in
     let new = c.say.new.self in
     let pairs = length c.args.noted.now in
-    on_ok c.say.result (new ≡ saying a (Begun c.in_ok-copied.field-0 pairs)) (IsTrue true → Begins (ledger_of a) (ledger_of new) c.args.plan.now pairs)
-    (λ is tells. begin_lists a new c.args.plan.now pairs (is ∙ ap (λ (p : Plan). opened a p pairs) c.in_ok-copied.ensures)) c.say.ensures.ok
+    on_ok c.say.result (new ≡ saying a (Begun c.in_ok-copied.field-0 pairs)) (IsTrue true → Begins (ledger_of a) (ledger_of new)
+    c.args.plan.now pairs)
+    (λ is tells. begin_lists a new c.args.plan.now pairs (is ∙ ap (λ (p : Plan). opened a p pairs) c.in_ok-copied.ensures))
+    c.say.ensures.ok

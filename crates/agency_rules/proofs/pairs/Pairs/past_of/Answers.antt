@@ -8,5 +8,6 @@ pub returns-clause-bound : goal.returns-clause-bound
 returns-clause-bound c =
     let pairs = c.self.inside.list.items in
     let id = c.args.id.now in
-    let is : c.at.result.count ≡ (past_of pairs id).count = ap (λ (q : Past). q.count) (c.at.ensures ∙ c.self.invariant.pasts_are id) in
+    let is : c.at.result.count ≡ (past_of pairs id).count = ap (λ (q : Past). q.count) (c.at.ensures ∙ c.self.invariant.pasts_are
+    id) in
     omega (arith, is, few_of_one pairs id, c.self.invariant.few)

@@ -6,23 +6,32 @@ use Rattle.chain_disk.proofs.memory.MemDiskDisk.write_at.Goals as goal
 
 pub invariant_of-self : goal.invariant_of-self
 invariant_of-self c =
-    let events = either_way c.note.result c.args.self.now.events.items c.note.new.events.items (Tore c.args.at (length c.args.bytes.now)) c.note.ensures.ok c.note.ensures.err in
-    record { content = content_either c.args.self.now.first.items _ c.args.self.now.events.items c.note.new.events.items (Tore c.args.at (length c.args.bytes.now)) events c.args.self.now.content refl }
+    let events = either_way c.note.result c.args.self.now.events.items c.note.new.events.items
+    (Tore c.args.at (length c.args.bytes.now)) c.note.ensures.ok c.note.ensures.err in
+    record {
+      content = content_either c.args.self.now.first.items _ c.args.self.now.events.items c.note.new.events.items
+          (Tore c.args.at (length c.args.bytes.now)) events c.args.self.now.content refl;
+    }
 
 pub returns-then-next_fails-clause-err : goal.returns-then-next_fails-clause-err
 returns-then-next_fails-clause-err c = λ tells.
-    let events = either_way c.note.result c.args.self.now.events.items c.note.new.events.items (Tore c.args.at (length c.args.bytes.now)) c.note.ensures.ok c.note.ensures.err in
-    write_failed_either c.args.self.now.first.items c.args.self.now.events.items c.note.new.events.items c.args.at (length c.args.bytes.now) events
+    let events = either_way c.note.result c.args.self.now.events.items c.note.new.events.items
+    (Tore c.args.at (length c.args.bytes.now)) c.note.ensures.ok c.note.ensures.err in
+    write_failed_either c.args.self.now.first.items c.args.self.now.events.items c.note.new.events.items c.args.at
+    (length c.args.bytes.now) events
 
 pub invariant_of-self-in-Ok : goal.invariant_of-self-in-Ok
 invariant_of-self-in-Ok c =
     let event = c.in-Ok.ensures.event in
     record {
-      content = content_wrote c.args.self.now.first.items (content_of c.args.self.now.first.items c.args.self.now.current) (content_of c.args.self.now.first.items c.note_write.new.current) c.args.bytes.now c.args.self.now.events.items c.note_write.new.events.items c.args.at event.0 event.2 event.1
+      content = content_wrote c.args.self.now.first.items (content_of c.args.self.now.first.items c.args.self.now.current)
+          (content_of c.args.self.now.first.items c.note_write.new.current) c.args.bytes.now c.args.self.now.events.items
+          c.note_write.new.events.items c.args.at event.0 event.2 event.1
           c.args.self.now.content (rw c.deref-2.ensures.value at c.in-Ok.ensures.content);
     }
 
 pub returns-in-Ok-clause-ok : goal.returns-in-Ok-clause-ok
 returns-in-Ok-clause-ok c = λ tells.
     let event = c.in-Ok.ensures.event in
-    write_told c.args.self.now.first.items c.args.bytes.now c.args.self.now.events.items c.note_write.new.events.items c.args.at event.0 event.2 event.1
+    write_told c.args.self.now.first.items c.args.bytes.now c.args.self.now.events.items c.note_write.new.events.items c.args.at
+    event.0 event.2 event.1

@@ -19,7 +19,8 @@ returns-in_default-reserve-clause-any_moment g c tells =
 pub unreachable-requires : goal.unreachable-requires
 unreachable-requires g c =
     let faults = c.in-Err-Stopped.field-0-0 in
-    let stopped = (c.append.ensures.stopped faults).0 (c.in-Err-Stopped.is ∙ ap (λ (e : JournalFault). Err e) c.in-Err-Stopped.field-0-is) in
+    let stopped = (c.append.ensures.stopped faults).0 (c.in-Err-Stopped.is ∙ ap (λ (e : JournalFault). Err e)
+    c.in-Err-Stopped.field-0-is) in
     let going_on = c.requires.going_on in
     absurd cc
 
@@ -29,15 +30,20 @@ returns-in-Ok-append-clause-ready g c =
     let entry = c.args.entry in
     let is = c.as_slice.ensures ∙ c.in-Ok.ensures in
     let new : c.apply.new.self ≡ record { issuer = s.issuer; entries = s.entries ++ entry ∷ []; room = None } =
-    c.apply.ensures ∙ ap (λ (h : History). record { issuer = h.issuer; entries = h.entries ++ entry ∷ []; room = None }) c.in-Ok-reserve.ensures.ok in
-    let body : IsBody c.as_slice.result.now = subst (λ (b : List ℕ). IsBody b) (sym is) (c.an_encoding_is_a_body.ensures entry c.fields_are_valid.ensures) in
-    subst (λ (h : History). IsReady g.D.Disk.tells h (stopped_of c.append.new.self) (end_of c.append.new.self) (g.D.Disk.told (disk_of c.append.new.self))) (sym new)
+    c.apply.ensures ∙ ap (λ (h : History). record { issuer = h.issuer; entries = h.entries ++ entry ∷ []; room = None })
+    c.in-Ok-reserve.ensures.ok in
+    let body : IsBody c.as_slice.result.now = subst (λ (b : List ℕ). IsBody b) (sym is) (c.an_encoding_is_a_body.ensures entry
+    c.fields_are_valid.ensures) in
+    subst (λ (h : History). IsReady g.D.Disk.tells h (stopped_of c.append.new.self) (end_of c.append.new.self)
+    (g.D.Disk.told (disk_of c.append.new.self))) (sym new)
     (record {
-      place = gate_more s.entries entry (end_of c.args.self.now.journal) (end_of c.append.new.self) c.as_slice.result.now c.requires.ready.place c.in-Ok-append.ensures.place body;
+      place = gate_more s.entries entry (end_of c.args.self.now.journal) (end_of c.append.new.self) c.as_slice.result.now
+          c.requires.ready.place c.in-Ok-append.ensures.place body;
       holds = λ none tells.
           let holds = c.requires.ready.holds refl tells in
           let a =
-          adding s (end_of c.args.self.now.journal) (g.D.Disk.told (disk_of c.args.self.now.journal)) entry c.what_continues_fits_its_bytes.ensures c.a_legal_history_goes_on.ensures holds
+          adding s (end_of c.args.self.now.journal) (g.D.Disk.told (disk_of c.args.self.now.journal)) entry
+          c.what_continues_fits_its_bytes.ensures c.a_legal_history_goes_on.ensures holds
           c.is_legal.ensures c.requires.continues c.fields_are_valid.ensures in
           holds_more a is (c.in-Ok-append.ensures.acknowledged tells s.issuer _ holds.file);
     })
@@ -49,7 +55,8 @@ returns-in-Ok-append-clause-any_moment g c tells =
     let is = c.as_slice.ensures ∙ c.in-Ok.ensures in
     let holds = c.requires.ready.holds refl tells in
     let a =
-    adding s (end_of c.args.self.now.journal) (g.D.Disk.told (disk_of c.args.self.now.journal)) entry c.what_continues_fits_its_bytes.ensures c.a_legal_history_goes_on.ensures holds
+    adding s (end_of c.args.self.now.journal) (g.D.Disk.told (disk_of c.args.self.now.journal)) entry
+    c.what_continues_fits_its_bytes.ensures c.a_legal_history_goes_on.ensures holds
     c.is_legal.ensures c.requires.continues c.fields_are_valid.ensures in
     appended a is (c.append.ensures.any_moment c.requires.going_on tells s.issuer _ holds.file)
 
@@ -60,7 +67,8 @@ returns-in-Err-DiskFault-clause-any_moment g c tells =
     let is = c.as_slice.ensures ∙ c.in-Ok.ensures in
     let holds = c.requires.ready.holds refl tells in
     let a =
-    adding s (end_of c.args.self.now.journal) (g.D.Disk.told (disk_of c.args.self.now.journal)) entry c.what_continues_fits_its_bytes.ensures c.a_legal_history_goes_on.ensures holds
+    adding s (end_of c.args.self.now.journal) (g.D.Disk.told (disk_of c.args.self.now.journal)) entry
+    c.what_continues_fits_its_bytes.ensures c.a_legal_history_goes_on.ensures holds
     c.is_legal.ensures c.requires.continues c.fields_are_valid.ensures in
     appended a is (c.append.ensures.any_moment c.requires.going_on tells s.issuer _ holds.file)
 
@@ -70,6 +78,9 @@ returns-in-Ok-append-clause-acknowledged g c tells =
     let entry = c.args.entry in
     let next = c.a_legal_history_goes_on.ensures s.issuer s.entries entry c.is_legal.ensures c.requires.continues in
     let new : c.apply.new.self ≡ record { issuer = s.issuer; entries = s.entries ++ entry ∷ []; room = None } =
-    c.apply.ensures ∙ ap (λ (h : History). record { issuer = h.issuer; entries = h.entries ++ entry ∷ []; room = None }) c.in-Ok-reserve.ensures.ok in
-    let legal : Legal c.apply.new.self.issuer c.apply.new.self.entries = subst (λ (h : History). Legal h.issuer h.entries) (sym new) next in
-    on_disk c.apply.new.self (end_of c.append.new.self) (g.D.Disk.told (disk_of c.append.new.self)) ((returns-in-Ok-append-clause-ready g c).holds c.in-Ok-append.ensures.going_on.1 tells) legal
+    c.apply.ensures ∙ ap (λ (h : History). record { issuer = h.issuer; entries = h.entries ++ entry ∷ []; room = None })
+    c.in-Ok-reserve.ensures.ok in
+    let legal : Legal c.apply.new.self.issuer c.apply.new.self.entries = subst (λ (h : History). Legal h.issuer h.entries)
+    (sym new) next in
+    on_disk c.apply.new.self (end_of c.append.new.self) (g.D.Disk.told (disk_of c.append.new.self))
+    ((returns-in-Ok-append-clause-ready g c).holds c.in-Ok-append.ensures.going_on.1 tells) legal

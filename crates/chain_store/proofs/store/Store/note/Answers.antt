@@ -4,4 +4,5 @@ use Rattle.chain_store.proofs.store.Store.note.Goals as goal
 
 pub returns-in_default-from_slice-clause-any_moment : goal.returns-in_default-from_slice-clause-any_moment
 returns-in_default-from_slice-clause-any_moment g c going_on tells =
-    untouched_around c.args.self.now.state (end_of c.args.self.now.journal) _ _ (c.requires.ready.holds going_on tells) c.is_legal.ensures
+    untouched_around c.args.self.now.state (end_of c.args.self.now.journal) _ _ (c.requires.ready.holds going_on tells)
+    c.is_legal.ensures

@@ -12,32 +12,39 @@ use Rattle.chain_store.proofs.store.Store.take.Goals as goal
 
 pub returns-in-Err-clause-takes : goal.returns-in-Err-clause-takes
 returns-in-Err-clause-takes g c going_on =
-    not_made c.args.self.now.state c.args.ask.now _ _ g.D.Disk.tells _ (Err StoreFault.NoMemory) c.now-seconds.result c.now-seconds.ensures.told c.now-seconds.ensures.moved refl
-    (λ tells. untouched c.args.self.now.state (end_of c.args.self.now.journal) _ (c.requires.holds going_on tells) c.is_legal.ensures)
+    not_made c.args.self.now.state c.args.ask.now _ _ g.D.Disk.tells _ (Err StoreFault.NoMemory) c.now-seconds.result
+    c.now-seconds.ensures.told c.now-seconds.ensures.moved refl
+    (λ tells. untouched c.args.self.now.state (end_of c.args.self.now.journal) _ (c.requires.holds going_on tells)
+    c.is_legal.ensures)
 
 pub returns-in-Ok-Again-clause-takes : goal.returns-in-Ok-Again-clause-takes
 returns-in-Ok-Again-clause-takes g c going_on =
     let s = c.args.self.now.state in
     let planned = answer s.issuer s.entries c.args.ask.now c.now-seconds.result in
-    not_made s c.args.ask.now _ _ g.D.Disk.tells _ (Ok (reply.Again c.in-Ok-Again.receipt)) c.now-seconds.result c.now-seconds.ensures.told c.now-seconds.ensures.moved
+    not_made s c.args.ask.now _ _ g.D.Disk.tells _ (Ok (reply.Again c.in-Ok-Again.receipt)) c.now-seconds.result
+    c.now-seconds.ensures.told c.now-seconds.ensures.moved
     (told_again s.issuer s.entries planned c.in-Ok-Again.receipt (sym c.in-Ok-Again.ensures.answer ∙ c.in-Ok-Again.field-0-is))
     (λ tells. untouched s (end_of c.args.self.now.journal) _ (c.requires.holds going_on tells) c.is_legal.ensures)
 
 pub returns-in-Ok-Again-clause-acknowledged : goal.returns-in-Ok-Again-clause-acknowledged
 returns-in-Ok-Again-clause-acknowledged g c tells =
-    on_disk c.args.self.now.state (end_of c.args.self.now.journal) _ (c.requires.holds (sym c.in_default.ensures) tells) c.is_legal.ensures
+    on_disk c.args.self.now.state (end_of c.args.self.now.journal) _ (c.requires.holds (sym c.in_default.ensures) tells)
+    c.is_legal.ensures
 
 pub returns-in-Ok-Refused-clause-takes : goal.returns-in-Ok-Refused-clause-takes
 returns-in-Ok-Refused-clause-takes g c going_on =
     let s = c.args.self.now.state in
     let planned = answer s.issuer s.entries c.args.ask.now c.now-seconds.result in
-    not_made s c.args.ask.now _ _ g.D.Disk.tells _ (Ok (reply.Refused c.in-Ok-Refused.why)) c.now-seconds.result c.now-seconds.ensures.told c.now-seconds.ensures.moved
-    (told_refused s.issuer s.entries planned c.in-Ok-Refused.why (sym c.in-Ok-Refused.ensures.answer ∙ c.in-Ok-Refused.field-0-is))
+    not_made s c.args.ask.now _ _ g.D.Disk.tells _ (Ok (reply.Refused c.in-Ok-Refused.why)) c.now-seconds.result
+    c.now-seconds.ensures.told c.now-seconds.ensures.moved
+    (told_refused s.issuer s.entries planned c.in-Ok-Refused.why (sym c.in-Ok-Refused.ensures.answer ∙
+    c.in-Ok-Refused.field-0-is))
     (λ tells. untouched s (end_of c.args.self.now.journal) _ (c.requires.holds going_on tells) c.is_legal.ensures)
 
 pub returns-in-Ok-Refused-clause-acknowledged : goal.returns-in-Ok-Refused-clause-acknowledged
 returns-in-Ok-Refused-clause-acknowledged g c tells =
-    on_disk c.args.self.now.state (end_of c.args.self.now.journal) _ (c.requires.holds (sym c.in_default.ensures) tells) c.is_legal.ensures
+    on_disk c.args.self.now.state (end_of c.args.self.now.journal) _ (c.requires.holds (sym c.in_default.ensures) tells)
+    c.is_legal.ensures
 
 pub returns-in-Ok-Made-clause-takes : goal.returns-in-Ok-Made-clause-takes
 returns-in-Ok-Made-clause-takes g c going_on =
@@ -45,8 +52,11 @@ returns-in-Ok-Made-clause-takes g c going_on =
     let entry = c.in-Ok-Made.entry in
     let t = c.take_made.ensures in
     let both =
-    both_taken (λ (r : Reply). IsTaken s.entries entry r) (λ r. stopped_of c.take_made.new.self.journal ≡ None) (λ r. c.take_made.new.self.state.entries ≡ s.entries ++ entry ∷ [])
+    both_taken (λ (r : Reply). IsTaken s.entries entry r) (λ r. stopped_of c.take_made.new.self.journal ≡ None)
+    (λ r. c.take_made.new.self.state.entries ≡ s.entries ++ entry ∷ [])
     c.take_made.result t.taken in
-    made s c.take_made.new.self.state c.args.ask.now _ _ g.D.Disk.tells _ _ c.take_made.result c.now-seconds.result entry c.now-seconds.ensures.told
-    (subst (λ (k : g.row.C.Denot). MovedBy 1 (g.C.Clock.coming c.args.self.now.clock) (g.C.Clock.coming k)) (sym t.clock) c.now-seconds.ensures.moved)
+    made s c.take_made.new.self.state c.args.ask.now _ _ g.D.Disk.tells _ _ c.take_made.result c.now-seconds.result entry
+    c.now-seconds.ensures.told
+    (subst (λ (k : g.row.C.Denot). MovedBy 1 (g.C.Clock.coming c.args.self.now.clock) (g.C.Clock.coming k)) (sym t.clock)
+    c.now-seconds.ensures.moved)
     t.issuer (sym c.in-Ok-Made.ensures.answer ∙ c.in-Ok-Made.field-0-is) both.0 both.1 t.same t.any_moment

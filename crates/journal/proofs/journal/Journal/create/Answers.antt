@@ -11,7 +11,8 @@ returns-in-Ok-clause-every_crash g c = λ tells.
 pub returns-in-Err-clause-content_err : goal.returns-in-Err-clause-content_err
 returns-in-Err-clause-content_err g c = λ tells.
     let now = c.set_up.ensures.any_moment tells in
-    now.each _ (g.D.Disk.told c.set_up.new.disk).content now.later (inl (refl, g.met.D.Disk.reads_an_image c.set_up.new.disk tells))
+    now.each _ (g.D.Disk.told c.set_up.new.disk).content now.later
+    (inl (refl, g.met.D.Disk.reads_an_image c.set_up.new.disk tells))
 
 pub invariant_of-result : goal.invariant_of-result
 invariant_of-result g c = record { ready = λ going tells. ∣ (c.args.issuer.now, [], c.in-Ok.ensures.ok tells) ∣₁ }

@@ -10,11 +10,13 @@ rest_is : (content : List ℕ) (at : ℕ) → take (length content - at) (drop a
 rest_is content at = rw (← length-drop at content) (take-length (drop at content))
 
 -- what was left is what was given and what is left
-given_and_left : (content given : List ℕ) (at n : ℕ) → take n given ≡ take n (drop at content) → drop at content ≡ take n given ++ drop (at + n) content
+given_and_left : (content given : List ℕ) (at n : ℕ) → take n given ≡ take n (drop at content) → drop at content ≡ take n given ++
+    drop (at + n) content
 given_and_left content given at n e = rw (e, ← drop-drop n at content) (sym (take-append-drop n (drop at content)))
 
 -- where nothing was given to a buffer with room, nothing is left
-none_left : (content : List ℕ) (at n room : ℕ) → n ≡ min room (length (drop at content)) → n ≡ 0 → 0 < room → drop (at + n) content ≡ []
+none_left : (content : List ℕ) (at n room : ℕ) → n ≡ min room (length (drop at content)) → n ≡ 0 → 0 < room →
+    drop (at + n) content ≡ []
 none_left content at n room e none some =
     drop_of_length-le content (let left : length (drop at content) ≡ length content - at = length-drop at content in omega arith)
 

@@ -7,12 +7,20 @@ pub loop-init : goal.loop-init
 loop-init g c = record { next = tt; finite = tt; fixed = refl; going = start_going _ _ _ _ }
 
 pub loop-preserved : goal.loop-preserved
-loop-preserved g c = record { next = tt; finite = tt; fixed = c.drain_turn.ensures.fixed ∙ c.loop.invariant.fixed; going = goes_on _ _ _ _ _ _ _ _ _ _ c.drain_turn.result c.in_ok-drain_turn.field-0 c.loop.invariant.going c.drain_turn.ensures.made c.in_ok-drain_turn.was c.if-branch.false }
+loop-preserved g c = record {
+  next = tt;
+  finite = tt;
+  fixed = c.drain_turn.ensures.fixed ∙ c.loop.invariant.fixed;
+  going = goes_on _ _ _ _ _ _ _ _ _ _ c.drain_turn.result c.in_ok-drain_turn.field-0 c.loop.invariant.going
+      c.drain_turn.ensures.made c.in_ok-drain_turn.was c.if-branch.false;
+}
 
 pub returns-then-branch-clause-drained : goal.returns-then-branch-clause-drained
-returns-then-branch-clause-drained g c = is_over _ _ _ _ _ _ _ _ _ _ c.drain_turn.result c.in_ok-drain_turn.field-0 c.loop.invariant.going c.drain_turn.ensures.made c.in_ok-drain_turn.was c.if-branch.true
+returns-then-branch-clause-drained g c = is_over _ _ _ _ _ _ _ _ _ _ c.drain_turn.result c.in_ok-drain_turn.field-0
+    c.loop.invariant.going c.drain_turn.ensures.made c.in_ok-drain_turn.was c.if-branch.true
 
 pub returns-in_err-drain_turn-clause-drained : goal.returns-in_err-drain_turn-clause-drained
 returns-in_err-drain_turn-clause-drained g c =
     let p = err_from_is_err_and c.from_residual.result c.from_residual.ensures.1 in
-    rw (p.1, p.2) (stops _ _ _ _ _ _ _ _ _ _ c.drain_turn.result c.in_err-drain_turn.field-0.0 c.loop.invariant.going c.drain_turn.ensures.made c.in_err-drain_turn.was)
+    rw (p.1, p.2) (stops _ _ _ _ _ _ _ _ _ _ c.drain_turn.result c.in_err-drain_turn.field-0.0 c.loop.invariant.going
+    c.drain_turn.ensures.made c.in_err-drain_turn.was)

@@ -26,7 +26,8 @@ overflow_add-result-in-Ok-Doubt g c =
 pub note-requires-clause-few : goal.note-requires-clause-few
 note-requires-clause-few g c =
     let s = subst (λ (s : Sorted). SortedAs c.args.batch.now c.args.reply s) c.in-Ok-All.field-0-is c.in-Ok-All.ensures in
-    let m = as_many c.args.reply c.args.batch.now c.in-Ok-All.lines c.requires.names (ap length (sym c.lines-matched.ensures.value) ∙ c.lines-matched.ensures.matched) s.1 in
+    let m = as_many c.args.reply c.args.batch.now c.in-Ok-All.lines c.requires.names
+    (ap length (sym c.lines-matched.ensures.value) ∙ c.lines-matched.ensures.matched) s.1 in
     let few = (counts _ c.args.shown.now c.requires.look).few in
     let b = ap length c.requires.all in
     let l = ap length c.as_slice.ensures in
@@ -35,7 +36,8 @@ note-requires-clause-few g c =
 pub note-requires-clause-fits : goal.note-requires-clause-fits
 note-requires-clause-fits g c =
     let s = subst (λ (s : Sorted). SortedAs c.args.batch.now c.args.reply s) c.in-Ok-All.field-0-is c.in-Ok-All.ensures in
-    let m = as_many c.args.reply c.args.batch.now c.in-Ok-All.lines c.requires.names (ap length (sym c.lines-matched.ensures.value) ∙ c.lines-matched.ensures.matched) s.1 in
+    let m = as_many c.args.reply c.args.batch.now c.in-Ok-All.lines c.requires.names
+    (ap length (sym c.lines-matched.ensures.value) ∙ c.lines-matched.ensures.matched) s.1 in
     let fits = (counts _ c.args.shown.now c.requires.look).fits in
     let b = ap length c.requires.all in
     let l = ap length c.as_slice.ensures in
@@ -52,7 +54,10 @@ returns-in-Ok-All-clause-ends g c =
     let some = n.some in
     let few = n.few in
     let pace : c.told.new.self ≡ record { last = c.args.self.now.pace.last; wait = c.args.reply.wait } =
-    c.told.ensures ∙ ap (λ (k : ℕ). record { last = c.self.inside.at_pace.last; wait = k }) c.wait.ensures ∙ ap (λ (t : Sending). record { last = t.pace.last; wait = c.args.reply.wait }) c.self.view_is in
-    reply_noted (record { doubt = c.self.inside.in_doubt; pace = c.told.new.self; said = Some c.args.reply }) c.note.new.self c.args.self.now.pace.last c.args.shown.now c.args.reply _ _ c.as_slice.result.now c.note.result
-    (c.requires.names ∙ ap huellas_of c.requires.all) matched pace refl (ap (λ (t : Sending). t.doubt) c.self.view_is ∙ c.requires.doubt) (omega arith) (omega arith)
+    c.told.ensures ∙ ap (λ (k : ℕ). record { last = c.self.inside.at_pace.last; wait = k }) c.wait.ensures ∙
+    ap (λ (t : Sending). record { last = t.pace.last; wait = c.args.reply.wait }) c.self.view_is in
+    reply_noted (record { doubt = c.self.inside.in_doubt; pace = c.told.new.self; said = Some c.args.reply }) c.note.new.self
+    c.args.self.now.pace.last c.args.shown.now c.args.reply _ _ c.as_slice.result.now c.note.result
+    (c.requires.names ∙ ap huellas_of c.requires.all) matched pace refl (ap (λ (t : Sending). t.doubt) c.self.view_is ∙
+    c.requires.doubt) (omega arith) (omega arith)
     (s.1 ∙ ap (λ (ls : List Line). map First ls) (sym c.as_slice.ensures)) c.note.ensures.ends

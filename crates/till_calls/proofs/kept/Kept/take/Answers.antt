@@ -7,7 +7,8 @@ use Rattle.till_calls.proofs.Asking.{Took, took}
 use Rattle.till_calls.proofs.kept.Kept.take.Goals as goal
 use Rattle.till_calls.proofs.kept.Kept.take.Given.{Over}
 
-facts : (g : Over) (c : goal.After-is_legal g) → Took g.D.Disk.tells g.D.Disk.told g.D.Disk.faults g.C.Clock.coming (root_of g.D.Disk.told g.D.Disk.faults (parts_of c.self.inside.start.value))
+facts : (g : Over) (c : goal.After-is_legal g) → Took g.D.Disk.tells g.D.Disk.told g.D.Disk.faults g.C.Clock.coming
+    (root_of g.D.Disk.told g.D.Disk.faults (parts_of c.self.inside.start.value))
     (parts_of c.self.inside.store) (parts_of c.take-reply.new.self) c.args.ask.now c.take-reply.result
 facts g c =
     let e = c.take-reply.ensures in
@@ -27,11 +28,15 @@ facts g c =
 
 pub invariant_of-self : goal.invariant_of-self
 invariant_of-self g c =
-    (took g.D.Disk.tells g.D.Disk.told g.D.Disk.faults g.C.Clock.coming (root_of g.D.Disk.told g.D.Disk.faults (parts_of c.self.inside.start.value))
-    (parts_of c.self.inside.store) (parts_of c.take-reply.new.self) c.args.ask.now c.take-reply.result c.self.invariant (facts g c)).0
+    (took g.D.Disk.tells g.D.Disk.told g.D.Disk.faults g.C.Clock.coming (root_of g.D.Disk.told g.D.Disk.faults
+    (parts_of c.self.inside.start.value))
+    (parts_of c.self.inside.store) (parts_of c.take-reply.new.self) c.args.ask.now c.take-reply.result c.self.invariant
+    (facts g c)).0
 
 pub returns-clause-turn : goal.returns-clause-turn
 returns-clause-turn g c =
-    let turn = (took g.D.Disk.tells g.D.Disk.told g.D.Disk.faults g.C.Clock.coming (root_of g.D.Disk.told g.D.Disk.faults (parts_of c.self.inside.start.value))
-    (parts_of c.self.inside.store) (parts_of c.take-reply.new.self) c.args.ask.now c.take-reply.result c.self.invariant (facts g c)).1 in
+    let turn = (took g.D.Disk.tells g.D.Disk.told g.D.Disk.faults g.C.Clock.coming (root_of g.D.Disk.told g.D.Disk.faults
+    (parts_of c.self.inside.start.value))
+    (parts_of c.self.inside.store) (parts_of c.take-reply.new.self) c.args.ask.now c.take-reply.result c.self.invariant
+    (facts g c)).1 in
     rw (← c.self.view_is) turn

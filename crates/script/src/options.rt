@@ -1,6 +1,6 @@
 // The options and the lines of an invoice, field by field.
 ghost use Rattle.std.specs.Prelude.{◌≡◌, ◌∷◌, ◌++◌, [], ℕ, List, bytes_eq};
-ghost use Rattle.script.specs.Items as spec;
+ghost use Rattle.script.specs.Options as spec;
 ghost use Rattle.script.specs.Kept.{Answers, party_of};
 
 use crate::customers::Customers;

@@ -20,9 +20,9 @@ use Rattle.script.specs.Cuts.{has, cut_at_first, cut_at_last}
 use Rattle.script.specs.Fields.{and_then, unless_any, such}
 use Rattle.script.specs.Numbers.{cents_of}
 use Rattle.script.specs.Readings.{rect_of, day_of, class_of, is_breakdown}
-use Rattle.script.specs.declared.items.Item.{Item}
-use Rattle.script.specs.declared.items.Item.TheVariants.{To, Rect, Ref, Line}
-use Rattle.script.specs.declared.items.Seen.{Seen}
+use Rattle.script.specs.declared.options.Item.{Item}
+use Rattle.script.specs.declared.options.Item.TheVariants.{To, Rect, Ref, Line}
+use Rattle.script.specs.declared.options.Seen.{Seen}
 
 -- a field that holds `=` is an option
 abbrev pub is_option : List ℕ → Bool

@@ -1,5 +1,5 @@
 use Rattle.script.proofs.Cutting.{cut_parts}
-use Rattle.script.proofs.items.said_by.Goals as goal
+use Rattle.script.proofs.options.said_by.Goals as goal
 
 pub returns-in-Some : goal.returns-in-Some
 returns-in-Some c =
