@@ -1,2 +1,3 @@
 pub mod PaddingLemmas
 pub mod NumberLemmas
+pub mod NumLemmas

@@ -3,36 +3,18 @@ use Rattle.std.proofs.Common.{◌≡◌, ◌⊎◌, ◌+◌, ◌/◌, ◌%◌, �
 use Rattle.std.proofs.Common.{◌∷◌, ◌++◌, map, refl, arith, ℤ, pos, negsuc, IsTrue, subst, sym, codes}
 use Rattle.std.specs.Str.{IsAscii, IsUtf8}
 use Rattle.std.specs.Int.Digits.{digits_of}
-use Rattle.std.specs.List.{list_all, AllByRecursion}
-use Rattle.std.proofs.lemmas.Bool.{and_parts}
-use Rattle.std.proofs.lemmas.Bool.Decides.{nat_tests}
+use Rattle.std.specs.List.{AllByRecursion}
 use Rattle.std.proofs.lemmas.Int.Digits.{all_below_base_digits_of}
 use Rattle.std.proofs.lemmas.Str.{IsUtf8-from_ascii, IsAscii-append}
 use Rattle.std.proofs.lemmas.Str.Ascii.{IsAscii-nil, IsAscii-cons}
 use Rattle.amounts.specs.Text.{whole_text, cents_text, amount_text}
 use Rattle.parties.proofs.NifLemmas.{nif_ascii}
-use Rattle.series.specs.Numbers.{is_num_serie, is_number_char}
+use Rattle.series.specs.Numbers.{is_num_serie}
+use Rattle.series.proofs.NumLemmas.{num_ascii}
 use Rattle.stamps.specs.Civil.{last_day, date_at}
 use Rattle.stamps.specs.Text.{date_text_of}
 use Rattle.stamps.proofs.CivilLemmas.{date_at-bounds}
 use Rattle.verify_link.specs.Reading.{IsFieldValue}
-
--- numbers
-
-char_low : (c : ℕ) → is_number_char c ≡ true → c < 128
-char_low c is = grind (arith, nat_tests)
-
-chars_ascii : (text : List ℕ) → list_all is_number_char text ≡ true → IsAscii text
-chars_ascii [] all = IsAscii-nil
-chars_ascii (c ∷ rest) all =
-    let parts = and_parts (is_number_char c) (list_all is_number_char rest) all in
-    IsAscii-cons c rest (char_low c parts.0) (chars_ascii rest parts.1)
-
-num_all : (text : List ℕ) → is_num_serie text ≡ true → list_all is_number_char text ≡ true
-num_all text is = grind (arith, nat_tests)
-
-num_ascii : (text : List ℕ) → IsTrue (is_num_serie text) → IsAscii text
-num_ascii text is = chars_ascii text (num_all text is)
 
 -- days
 
