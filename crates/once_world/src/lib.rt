@@ -8,8 +8,6 @@ mod laws;
 mod looks;
 mod outbox;
 mod plain;
-#[cfg(test)]
-mod tests;
 mod world;
 
 pub use events::Event;

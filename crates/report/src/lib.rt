@@ -10,8 +10,6 @@ mod listing;
 mod pieces;
 mod records;
 mod summary;
-#[cfg(test)]
-mod tests;
 mod turns;
 mod verdicts;
 

@@ -18,8 +18,6 @@ mod readings;
 mod requests;
 mod saying;
 mod scripts;
-#[cfg(test)]
-mod tests;
 
 pub use forms::Form;
 pub use limits::{

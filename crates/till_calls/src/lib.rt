@@ -13,8 +13,6 @@ mod laws;
 mod root;
 mod seat;
 mod shop;
-#[cfg(test)]
-mod tests;
 mod tills;
 mod turns;
 

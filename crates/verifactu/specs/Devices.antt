@@ -48,6 +48,21 @@ pub record Agencies (G : Type 0) : Type 0 where
   pub agency : G
   pub agency_after : G
 
+-- this agency in this call: of its kind, before and after
+abbrev pub this_agency : {G : Type 0} → AgencyKind G → G → G → Agencies G
+this_agency kind old new = record { kind = kind; agency = old; agency_after = new }
+
+-- what the kind of an agency that is G tells
+abbrev pub agency_kind : {G : Type 0} → Bool → Bool → (G → Ledger) → (G → ℕ) →
+    (List (Sealed × Line) → List (Sealed × Line) → List (Sealed × Line)) → AgencyKind G
+agency_kind tells keeps_rules ledger faults begun = record {
+  tells = tells;
+  keeps_rules = keeps_rules;
+  ledger = ledger;
+  faults = faults;
+  begun = begun;
+}
+
 abbrev pub LeftAgency : {G : Type 0} → Agencies G → Type 0
 LeftAgency a = a.agency_after ≡ a.agency
 
@@ -85,6 +100,14 @@ pub record AllDevices (D C Z G : Type 0) : Type 0 where
   pub devices : Devices D C
   pub sleeper : Sleepers Z
   pub agency : Agencies G
+
+-- these in this call
+abbrev pub this_call : {D C Z G : Type 0} → Sources → Sinks → Disks D → Clocks C → Sleepers Z → Agencies G → AllDevices D C Z G
+this_call source sink disk clock sleeper agency = record {
+  devices = record { source = source; sink = sink; disk = disk; clock = clock };
+  sleeper = sleeper;
+  agency = agency;
+}
 
 -- neither the sleeper nor the agency was touched
 pub record NobodyCalled {D C Z G : Type 0} (a : AllDevices D C Z G) : Type 0 where

@@ -14,7 +14,7 @@ ghost use Rattle.till_calls.specs.Root.{parts_of};
 ghost use Rattle.till_calls.specs.Sound.{IsLater};
 ghost use Rattle.verifactu.specs.Beside.{DayRunEnds};
 ghost use Rattle.verifactu.specs.Day.{DayEnds, LeftTime, StoreDayEnds, StoreServed, TillsEnd, day_text};
-ghost use Rattle.verifactu.specs.Devices.{this_clock, this_sleeper};
+ghost use Rattle.verifactu.specs.Devices.{agency_kind, this_agency, this_call, this_clock, this_sleeper};
 ghost use Rattle.verifactu.specs.Drain.{AllLeft, LeavesTime};
 ghost use Rattle.verifactu.specs.Readings.{readings_of};
 ghost use Rattle.verifactu.specs.Tills.{all_replies, tills_of};
@@ -68,20 +68,13 @@ where
     T: Gate + Sync,
     R: Threads + Wait + Sync,
     ensures status { result.0.status ≡ status_of result.0.detail }
-    ensures ends { DayEnds issuer.now (record {
-      devices = record {
-        source = this_source S.left S.faults source.old source.new;
-        sink = this_sink K.taken K.faults sink.old sink.new;
-        disk = this_disk D.tells D.told D.faults outside.disk result.1.disk;
-        clock = this_clock C.coming outside.clock result.1.clock;
-      };
-      sleeper = this_sleeper Z.tells Z.moment outside.sleeper result.1.sleeper;
-      agency = record {
-        kind = record { tells = G.tells; keeps_rules = G.keeps_rules; ledger = G.ledger; faults = G.faults; begun = G.begun };
-        agency = outside.agency;
-        agency_after = result.1.agency;
-      };
-    }) result.0.detail }
+    ensures ends { DayEnds issuer.now (this_call
+        (this_source S.left S.faults source.old source.new)
+        (this_sink K.taken K.faults sink.old sink.new)
+        (this_disk D.tells D.told D.faults outside.disk result.1.disk)
+        (this_clock C.coming outside.clock result.1.clock)
+        (this_sleeper Z.tells Z.moment outside.sleeper result.1.sleeper)
+        (this_agency (agency_kind G.tells G.keeps_rules G.ledger G.faults G.begun) outside.agency result.1.agency)) result.0.detail }
 {
     let (detail, outside) = day(rt, alloc, issuer, source, sink, outside, gate);
     (ended_as(detail), outside)
@@ -105,20 +98,13 @@ where
     G: Agency + Drop,
     T: Gate + Sync,
     R: Threads + Wait + Sync,
-    ensures { DayEnds issuer.now (record {
-      devices = record {
-        source = this_source S.left S.faults source.old source.new;
-        sink = this_sink K.taken K.faults sink.old sink.new;
-        disk = this_disk D.tells D.told D.faults outside.disk result.1.disk;
-        clock = this_clock C.coming outside.clock result.1.clock;
-      };
-      sleeper = this_sleeper Z.tells Z.moment outside.sleeper result.1.sleeper;
-      agency = record {
-        kind = record { tells = G.tells; keeps_rules = G.keeps_rules; ledger = G.ledger; faults = G.faults; begun = G.begun };
-        agency = outside.agency;
-        agency_after = result.1.agency;
-      };
-    }) result.0 }
+    ensures { DayEnds issuer.now (this_call
+        (this_source S.left S.faults source.old source.new)
+        (this_sink K.taken K.faults sink.old sink.new)
+        (this_disk D.tells D.told D.faults outside.disk result.1.disk)
+        (this_clock C.coming outside.clock result.1.clock)
+        (this_sleeper Z.tells Z.moment outside.sleeper result.1.sleeper)
+        (this_agency (agency_kind G.tells G.keeps_rules G.ledger G.faults G.begun) outside.agency result.1.agency)) result.0 }
 {
     match read_source(alloc, source, Form::Full) {
         Err(fault) => (fault.detail(), outside),
@@ -146,22 +132,14 @@ where
     R: Threads + Wait + Sync,
     ensures { TillsEnd issuer.now script.now.asks script.now.plan (readings_of script.now.clock (C.coming outside.clock))
         (AllLeft (this_clock C.coming outside.clock result.1.clock)
-        (this_sleeper Z.tells Z.moment outside.sleeper result.1.sleeper) (record {
-          kind = record { tells = G.tells; keeps_rules = G.keeps_rules; ledger = G.ledger; faults = G.faults; begun = G.begun };
-          agency = outside.agency;
-          agency_after = result.1.agency;
-        }))
+        (this_sleeper Z.tells Z.moment outside.sleeper result.1.sleeper) (this_agency (agency_kind G.tells G.keeps_rules G.ledger G.faults G.begun) outside.agency result.1.agency))
         (LeftTime (this_clock C.coming outside.clock result.1.clock)
         (this_sleeper Z.tells Z.moment outside.sleeper result.1.sleeper))
         (LeavesTime script.now.clock (this_clock C.coming outside.clock result.1.clock)
         (this_sleeper Z.tells Z.moment outside.sleeper result.1.sleeper))
         (this_sink K.taken K.faults sink.old sink.new)
         (this_disk D.tells D.told D.faults outside.disk result.1.disk)
-        (record {
-          kind = record { tells = G.tells; keeps_rules = G.keeps_rules; ledger = G.ledger; faults = G.faults; begun = G.begun };
-          agency = outside.agency;
-          agency_after = result.1.agency;
-        }) result.0 }
+        (this_agency (agency_kind G.tells G.keeps_rules G.ledger G.faults G.begun) outside.agency result.1.agency) result.0 }
 {
     let Some((start, step)) = script.clock else {
         return day_file(rt, alloc, issuer, script, sink, outside, gate);
@@ -212,21 +190,13 @@ where
     R: Threads + Wait + Sync,
     ensures { TillsEnd issuer.now script.now.asks script.now.plan (C.coming outside.clock)
         (AllLeft (this_clock C.coming outside.clock result.1.clock)
-        (this_sleeper Z.tells Z.moment outside.sleeper result.1.sleeper) (record {
-          kind = record { tells = G.tells; keeps_rules = G.keeps_rules; ledger = G.ledger; faults = G.faults; begun = G.begun };
-          agency = outside.agency;
-          agency_after = result.1.agency;
-        }))
+        (this_sleeper Z.tells Z.moment outside.sleeper result.1.sleeper) (this_agency (agency_kind G.tells G.keeps_rules G.ledger G.faults G.begun) outside.agency result.1.agency))
         (LeftTime (this_clock C.coming outside.clock result.1.clock)
         (this_sleeper Z.tells Z.moment outside.sleeper result.1.sleeper))
         (IsLater C.coming outside.clock result.1.clock)
         (this_sink K.taken K.faults sink.old sink.new)
         (this_disk D.tells D.told D.faults outside.disk result.1.disk)
-        (record {
-          kind = record { tells = G.tells; keeps_rules = G.keeps_rules; ledger = G.ledger; faults = G.faults; begun = G.begun };
-          agency = outside.agency;
-          agency_after = result.1.agency;
-        }) result.0 }
+        (this_agency (agency_kind G.tells G.keeps_rules G.ledger G.faults G.begun) outside.agency result.1.agency) result.0 }
 {
     let Ok(tills) = till_days(alloc, script.asks.as_slice()) else {
         return (Detail::NoMemory, outside);

@@ -10,7 +10,7 @@ ghost use Rattle.till_calls.specs.Root.{parts_of};
 ghost use Rattle.till_calls.specs.Sound.{IsLater};
 ghost use Rattle.report.specs.Statuses.{status_of};
 ghost use Rattle.verifactu.specs.Crashes.{StandsBetween};
-ghost use Rattle.verifactu.specs.Devices.{this_clock, this_sleeper};
+ghost use Rattle.verifactu.specs.Devices.{agency_kind, this_agency, this_call, this_clock, this_sleeper};
 ghost use Rattle.verifactu.specs.Drain.{DrainEnds, FileDrainEnds, ScriptDrainEnds};
 ghost use Rattle.verifactu.specs.Drained as spec;
 ghost use Rattle.verifactu.specs.Drained.{DrainRunEnds, IsOpened, StoreDrainEnds, StoreDrains, drain_text, spanning};
@@ -189,11 +189,7 @@ where
         (this_disk D.tells D.told D.faults outside.disk result.1.disk)
         (this_clock C.coming outside.clock result.1.clock)
         (this_sleeper Z.tells Z.moment outside.sleeper result.1.sleeper)
-        (record {
-          kind = record { tells = G.tells; keeps_rules = G.keeps_rules; ledger = G.ledger; faults = G.faults; begun = G.begun };
-          agency = outside.agency;
-          agency_after = result.1.agency;
-        }) result.0 }
+        (this_agency (agency_kind G.tells G.keeps_rules G.ledger G.faults G.begun) outside.agency result.1.agency) result.0 }
 {
     let Outside {
         disk,
@@ -254,11 +250,7 @@ where
         (this_disk D.tells D.told D.faults outside.disk result.1.disk)
         (this_clock C.coming outside.clock result.1.clock)
         (this_sleeper Z.tells Z.moment outside.sleeper result.1.sleeper)
-        (record {
-          kind = record { tells = G.tells; keeps_rules = G.keeps_rules; ledger = G.ledger; faults = G.faults; begun = G.begun };
-          agency = outside.agency;
-          agency_after = result.1.agency;
-        }) result.0 }
+        (this_agency (agency_kind G.tells G.keeps_rules G.ledger G.faults G.begun) outside.agency result.1.agency) result.0 }
 {
     let Some((start, step)) = script.clock else {
         return drain_file(rt, alloc, issuer, &script.plan, sink, outside);
@@ -314,20 +306,13 @@ where
     G: Agency,
     R: Wait,
     ensures status { result.0.status ≡ status_of result.0.detail }
-    ensures ends { DrainEnds issuer.now (record {
-      devices = record {
-        source = this_source S.left S.faults source.old source.new;
-        sink = this_sink K.taken K.faults sink.old sink.new;
-        disk = this_disk D.tells D.told D.faults outside.disk result.1.disk;
-        clock = this_clock C.coming outside.clock result.1.clock;
-      };
-      sleeper = this_sleeper Z.tells Z.moment outside.sleeper result.1.sleeper;
-      agency = record {
-        kind = record { tells = G.tells; keeps_rules = G.keeps_rules; ledger = G.ledger; faults = G.faults; begun = G.begun };
-        agency = outside.agency;
-        agency_after = result.1.agency;
-      };
-    }) result.0.detail }
+    ensures ends { DrainEnds issuer.now (this_call
+        (this_source S.left S.faults source.old source.new)
+        (this_sink K.taken K.faults sink.old sink.new)
+        (this_disk D.tells D.told D.faults outside.disk result.1.disk)
+        (this_clock C.coming outside.clock result.1.clock)
+        (this_sleeper Z.tells Z.moment outside.sleeper result.1.sleeper)
+        (this_agency (agency_kind G.tells G.keeps_rules G.ledger G.faults G.begun) outside.agency result.1.agency)) result.0.detail }
 {
     let (detail, outside) = drain(rt, alloc, issuer, source, sink, outside);
     (ended_as(detail), outside)
@@ -349,20 +334,13 @@ where
     Z: Sleeper,
     G: Agency,
     R: Wait,
-    ensures { DrainEnds issuer.now (record {
-      devices = record {
-        source = this_source S.left S.faults source.old source.new;
-        sink = this_sink K.taken K.faults sink.old sink.new;
-        disk = this_disk D.tells D.told D.faults outside.disk result.1.disk;
-        clock = this_clock C.coming outside.clock result.1.clock;
-      };
-      sleeper = this_sleeper Z.tells Z.moment outside.sleeper result.1.sleeper;
-      agency = record {
-        kind = record { tells = G.tells; keeps_rules = G.keeps_rules; ledger = G.ledger; faults = G.faults; begun = G.begun };
-        agency = outside.agency;
-        agency_after = result.1.agency;
-      };
-    }) result.0 }
+    ensures { DrainEnds issuer.now (this_call
+        (this_source S.left S.faults source.old source.new)
+        (this_sink K.taken K.faults sink.old sink.new)
+        (this_disk D.tells D.told D.faults outside.disk result.1.disk)
+        (this_clock C.coming outside.clock result.1.clock)
+        (this_sleeper Z.tells Z.moment outside.sleeper result.1.sleeper)
+        (this_agency (agency_kind G.tells G.keeps_rules G.ledger G.faults G.begun) outside.agency result.1.agency)) result.0 }
 {
     match read_source(alloc, source, Form::NoCommands) {
         Err(fault) => (fault.detail(), outside),

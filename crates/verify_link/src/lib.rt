@@ -6,8 +6,6 @@ mod encoding;
 mod laws;
 mod parts;
 mod reading;
-#[cfg(test)]
-mod tests;
 mod values;
 mod writing;
 

@@ -1,8 +1,4 @@
 // The Huellas of the listing are SHA-256, by another program, of the field texts of these records.
-use crate::{
-    AnswerLine, Answers, Detail, answers_text, fault_text, listing_text, status_of, summary_text,
-    turns_text, verdict_text,
-};
 use agency_port::{Evidence, ReplyLine, Told, Turns};
 use amounts::Cents;
 use invoice_kinds::Kind;
@@ -10,6 +6,10 @@ use journal::StoreFault;
 use parties::Nif;
 use record_codec::Entry;
 use record_fields::{Cause, Draft, DraftFault, Line, Lines, Refs};
+use report::{
+    AnswerLine, Answers, Detail, answers_text, fault_text, listing_text, status_of, summary_text,
+    turns_text, verdict_text,
+};
 use series::{InvoiceId, NumSerie, SeriesName};
 use shop_core::{
     Ask, AuditEnd, Receipt, Refusal, Reply, Request, State, What, Word, next_fault, reply_to,

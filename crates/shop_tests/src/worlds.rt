@@ -1,7 +1,7 @@
-use crate::{Event, Outbox, PlainOutbox, World, run_events};
 use agency_rules::Plan;
 use amounts::Cents;
 use invoice_kinds::Kind;
+use once_world::{Event, Outbox, PlainOutbox, World, run_events};
 use parties::Nif;
 use record_fields::{Draft, Line, Refs};
 use series::SeriesName;

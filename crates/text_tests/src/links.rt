@@ -1,5 +1,4 @@
 // Links written and read. The encoded numbers are those of another program's encoder.
-use crate::{Host, LinkFault, LinkParts, link_of, read_link};
 use amounts::Cents;
 use invoice_kinds::Kind;
 use parties::Nif;
@@ -10,6 +9,7 @@ use std::alloc::Global;
 use std::str::from_utf8;
 use std::test::Fail;
 use tax_lines::{Breakdown, LineKey, TaxLine};
+use verify_link::{Host, LinkFault, LinkParts, link_of, read_link};
 
 const REAL: &str = "https://www2.agenciatributaria.gob.es/wlpl/TIKE-CONT/ValidarQR?";
 

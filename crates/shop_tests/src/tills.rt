@@ -4,7 +4,6 @@ ghost use Rattle.chain_store.specs.Store.{Ready, journal_of};
 ghost use Rattle.journal.specs.File.{IsNotBegun};
 ghost use Rattle.journal.specs.Journal.{stopped_of};
 
-use crate::{Shop, Started};
 use amounts::Cents;
 use chain_disk::{Disk, MemDisk};
 use chain_store::Store;
@@ -19,6 +18,7 @@ use std::alloc::Global;
 use std::sync::Wait;
 use std::test::Fail;
 use tax_lines::{Breakdown, LineKey, TaxLine};
+use till_calls::{Shop, Started};
 
 // 2025-01-01, 10:00 on the peninsular clock.
 const TEN: u64 = 1_735_722_000;

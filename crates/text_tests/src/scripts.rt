@@ -1,5 +1,5 @@
-use crate::{Form, MAX_SCRIPT, ScriptFault, read_script};
 use agency_rules::{Fate, Verdict};
+use script::{Form, MAX_SCRIPT, ScriptFault, read_script};
 use shop_core::{Request, Word};
 use std::alloc::{AllocError, Global};
 use std::test::Fail;
