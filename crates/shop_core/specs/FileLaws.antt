@@ -1,8 +1,10 @@
 -- Laws of what a file stands for.
-use Rattle.std.specs.Prelude.{◌≡◌, ◌+◌, ℕ, List, [], ◌∷◌, ◌++◌, length, drop}
+use Rattle.std.specs.Prelude.{◌≡◌, ◌<◌, ◌≤◌, ◌+◌, ℕ, List, [], ◌∷◌, ◌++◌, length, drop}
 use Rattle.frames.specs.Frames.{IsCounted, IsClosed}
 use Rattle.journal.specs.File.{IsNotBegun, closing_gate}
 use Rattle.journal.specs.Header.{IsBegun}
+use Rattle.journal.specs.declared.TheConstants.{HEADER}
+use Rattle.record_codec.specs.Bytes.{entry_bytes}
 use Rattle.record_codec.specs.Fields.{IsEncoding}
 use Rattle.record_codec.specs.declared.entries.Entry.{Entry}
 use Rattle.shop_core.specs.Legal.{Continues}
@@ -65,3 +67,18 @@ abbrev pub SoundEnds : Type 0
 SoundEnds =
     (issuer : List ℕ) (entries : List Entry) (at : ℕ) (file : List ℕ) →
     IsSoundUpTo issuer entries at file → IsClosed (drop at file) → StandsFor issuer entries file
+
+-- Where a file of these entries is damaged once it is cut to so many bytes: at the cut where no byte behind the header is left,
+-- else at the gate of the frame that the cut leaves without its next gate.
+pub data IsCutAt (entries : List Entry) (left : ℕ) : ℕ → Type 0 where
+  in_header : left ≤ HEADER → IsCutAt entries left left
+  in_frame : (before after : List Entry) (entry : Entry) (at : ℕ) → entries ≡ before ++ entry ∷ after →
+      at ≡ closing_gate (bodies_of before) → at < left → left ≤ at + 5 + length (entry_bytes entry) → IsCutAt entries left at
+
+-- each proper front, of 2 bytes or more, of a file that stands for a history and ends in its closing gate is damaged
+abbrev pub CutIsDamaged : Type 0
+CutIsDamaged =
+    (issuer : List ℕ) (entries : List Entry) (front rest : List ℕ) →
+    StandsFor issuer entries (front ++ rest) → length (front ++ rest) ≡ closing_gate (bodies_of entries) + 1 →
+    2 ≤ length front → 1 ≤ length rest →
+    (at : ℕ) × IsCutAt entries (length front) at × IsDamagedFile front at

@@ -1,6 +1,6 @@
 // What holds of the file's definitions alone.
-ghost use Rattle.shop_core.specs.FileLaws.{NotBegunIsNeither, OneDamage, OneHistory, OneStop, SoundOrDamaged, StopsAtItsGate};
-ghost use Rattle.shop_core.specs.FileLaws.{SoundBegins, SoundEnds, SoundGoesOn};
+ghost use Rattle.shop_core.specs.FileLaws.{CutIsDamaged, NotBegunIsNeither, OneDamage, OneHistory, OneStop, SoundBegins};
+ghost use Rattle.shop_core.specs.FileLaws.{SoundEnds, SoundGoesOn, SoundOrDamaged, StopsAtItsGate};
 
 use crate::a_legal_history_goes_on;
 use frames::bytes_begin_with_one_frame;
@@ -38,4 +38,14 @@ pub fn a_history_is_read_by_frames()
 {
     a_legal_history_goes_on();
     a_file_is_walked();
+}
+
+/// A file that ends in its closing gate is damaged by each cut that leaves 2 bytes or more: at the cut where that leaves no
+/// more than the header, else at the gate of the last frame that it left a part of.
+pub fn a_cut_file_is_damaged()
+    ensures { CutIsDamaged }
+{
+    bytes_begin_with_one_frame();
+    a_file_is_walked();
+    a_history_is_read_by_frames();
 }
