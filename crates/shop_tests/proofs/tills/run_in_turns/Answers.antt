@@ -2,7 +2,7 @@ use Rattle.std.proofs.Common.{◌≡◌, ◌∷◌, [], ◌++◌, ◌<◌, ◌+�
 use Rattle.std.proofs.lemmas.List.Sums.{sum_by_push}
 use Rattle.chain_lock.specs.Known.{Known, holders, times_held}
 use Rattle.till_calls.specs.Shop.{seat_knows, till_knows, tills_know}
-use Rattle.till_calls.proofs.tests.run_in_turns.Goals as goal
+use Rattle.shop_tests.proofs.tills.run_in_turns.Goals as goal
 
 held : {I R : Type 0} (n : ℕ) (r : List (Known I R)) (a b seat : Known I R) → holders n (((r ++ a ∷ []) ++ b ∷ []) ++ seat ∷ []) ≡
     holders n r + times_held n a + times_held n b + times_held n seat

@@ -4,7 +4,7 @@ use Rattle.journal.specs.File.{IsAt}
 use Rattle.journal.specs.Journal.{disk_of, end_of, stopped_of}
 use Rattle.shop_core.specs.History.{History}
 use Rattle.chain_store.specs.Ready.{IsReady}
-use Rattle.till_calls.proofs.tests.begun.Goals as goal
+use Rattle.shop_tests.proofs.tills.begun.Goals as goal
 
 ready_empty : (tells : Bool) (issuer : List ℕ) (history : History) (stopped : Option ℕ) (gate : ℕ) (t : Told) →
     history ≡ record { issuer = issuer; entries = []; room = None } →
