@@ -254,7 +254,7 @@ impl<D: Disk, C: Clock> Store<D, C> {
         };
         match self.journal.append(bytes.as_slice()) {
             Ok(_) => {
-                self.state.apply(entry);
+                self.state.apply_encoded(entry, bytes.as_slice());
                 Ok(())
             }
             Err(JournalFault::DiskFault) => {

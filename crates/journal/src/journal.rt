@@ -28,6 +28,8 @@ pub struct Journal<D: Disk> {
     disk: D,
     end: u64,
     stopped: Option<u64>,
+    // The frame that was written last.
+    frame: FrameBuf,
     /// Where it isn't stopped, its file is a chain with nothing pending, which closes at its end.
     pub ghost ready: { stopped ≡ None → IsTrue D.tells → IsAtSome end (D.told disk) },
 }
@@ -72,6 +74,7 @@ impl<D: Disk> Journal<D> {
                 disk,
                 end: HEADER as u64,
                 stopped: None,
+                frame: FrameBuf::new(),
             }),
             Err(_) => Err(Lost { disk }),
         }
@@ -86,6 +89,7 @@ impl<D: Disk> Journal<D> {
             disk,
             end,
             stopped: None,
+            frame: FrameBuf::new(),
         }
     }
 
@@ -97,6 +101,7 @@ impl<D: Disk> Journal<D> {
             disk,
             end: _,
             stopped: _,
+            frame: _,
         } = self;
         disk
     }
@@ -147,9 +152,8 @@ impl<D: Disk> Journal<D> {
         if let Some(faults) = self.stopped {
             return Err(JournalFault::Stopped { faults });
         }
-        let mut frame = FrameBuf::new();
-        frame_bytes(body, &mut frame);
-        match commit(&mut self.disk, self.end, frame.as_slice()) {
+        frame_bytes(body, &mut self.frame);
+        match commit(&mut self.disk, self.end, self.frame.as_slice()) {
             Ok(()) => {
                 self.end += body.len() as u64 + 5;
                 Ok(self.end)

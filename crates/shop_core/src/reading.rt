@@ -2,6 +2,7 @@
 ghost use Rattle.std.specs.Prelude.{◌≡◌, ◌≤◌, ◌+◌, ◌++◌, ◌∷◌, [], List, ℕ, IsTrue, IfOk, IfSome, IfNone, IsErrOf, OnErr, Some};
 ghost use Rattle.ports.specs.Causes.{Rose};
 ghost use Rattle.journal.specs.Header.{IsBegun};
+ghost use Rattle.record_codec.specs.Bytes.{entry_bytes};
 ghost use Rattle.shop_core.specs.Breaks.{IsBreak};
 ghost use Rattle.shop_core.specs.Files.{IsSoundUpTo, furthest_gate};
 ghost use Rattle.shop_core.specs.Legal.{Continues};
@@ -130,7 +131,7 @@ fn read_frame<D: Disk>(
                 Err(BadEntry::NoMemory) => return Err(ReadFault::NoMemory),
                 Err(BadEntry::At { .. }) => return Ok(AtGate::Broken { what: What::Body }),
             };
-            match add_entry(alloc, state, entry) {
+            match add_entry(alloc, state, entry, body.as_slice()) {
                 Ok(None) => Ok(AtGate::Entry { next }),
                 Ok(Some(why)) => Ok(AtGate::Broken { what: word_of(why) }),
                 Err(_) => Err(ReadFault::NoMemory),
@@ -150,8 +151,14 @@ fn word_of(why: Break) -> What
     }
 }
 
-// Adds an entry that continues the history, else says what is wrong with it.
-fn add_entry(alloc: Global, state: &mut State, entry: Entry) -> Result<Option<Break>, NoMemory>
+// Adds an entry that continues the history, whose encoding these bytes are, else says what is wrong with it.
+fn add_entry(
+    alloc: Global,
+    state: &mut State,
+    entry: Entry,
+    bytes: &[u8],
+) -> Result<Option<Break>, NoMemory>
+    requires { bytes.now ≡ entry_bytes entry }
     ensures added { IfOk result (λ found. IfNone found (Continues state.old.issuer state.old.entries entry
         × (state.new.issuer ≡ state.old.issuer) × (state.new.entries ≡ state.old.entries ++ entry ∷ []))) }
     ensures broken { IfOk result (λ found. IfSome found (λ why. (state.new ≡ state.old)
@@ -163,6 +170,6 @@ fn add_entry(alloc: Global, state: &mut State, entry: Entry) -> Result<Option<Br
         return Ok(Some(why));
     }
     state.reserve(&entry)?;
-    state.apply(entry);
+    state.apply_encoded(entry, bytes);
     Ok(None)
 }

@@ -29,8 +29,8 @@ returns-in-Ok-append-clause-ready g c =
     let s = c.args.self.now.state in
     let entry = c.args.entry in
     let is = c.as_slice.ensures ∙ c.in-Ok.ensures in
-    let new : c.apply.new.self ≡ record { issuer = s.issuer; entries = s.entries ++ entry ∷ []; room = None } =
-    c.apply.ensures ∙ ap (λ (h : History). record { issuer = h.issuer; entries = h.entries ++ entry ∷ []; room = None })
+    let new : c.apply_encoded.new.self ≡ record { issuer = s.issuer; entries = s.entries ++ entry ∷ []; room = None } =
+    c.apply_encoded.ensures ∙ ap (λ (h : History). record { issuer = h.issuer; entries = h.entries ++ entry ∷ []; room = None })
     c.in-Ok-reserve.ensures.ok in
     let body : IsBody c.as_slice.result.now = subst (λ (b : List ℕ). IsBody b) (sym is) (c.an_encoding_is_a_body.ensures entry
     c.fields_are_valid.ensures) in
@@ -77,10 +77,10 @@ returns-in-Ok-append-clause-acknowledged g c tells =
     let s = c.args.self.now.state in
     let entry = c.args.entry in
     let next = c.a_legal_history_goes_on.ensures s.issuer s.entries entry c.is_legal.ensures c.requires.continues in
-    let new : c.apply.new.self ≡ record { issuer = s.issuer; entries = s.entries ++ entry ∷ []; room = None } =
-    c.apply.ensures ∙ ap (λ (h : History). record { issuer = h.issuer; entries = h.entries ++ entry ∷ []; room = None })
+    let new : c.apply_encoded.new.self ≡ record { issuer = s.issuer; entries = s.entries ++ entry ∷ []; room = None } =
+    c.apply_encoded.ensures ∙ ap (λ (h : History). record { issuer = h.issuer; entries = h.entries ++ entry ∷ []; room = None })
     c.in-Ok-reserve.ensures.ok in
-    let legal : Legal c.apply.new.self.issuer c.apply.new.self.entries = subst (λ (h : History). Legal h.issuer h.entries)
+    let legal : Legal c.apply_encoded.new.self.issuer c.apply_encoded.new.self.entries = subst (λ (h : History). Legal h.issuer h.entries)
     (sym new) next in
-    on_disk c.apply.new.self (end_of c.append.new.self) (g.D.Disk.told (disk_of c.append.new.self))
+    on_disk c.apply_encoded.new.self (end_of c.append.new.self) (g.D.Disk.told (disk_of c.append.new.self))
     ((returns-in-Ok-append-clause-ready g c).holds c.in-Ok-append.ensures.going_on.1 tells) legal
