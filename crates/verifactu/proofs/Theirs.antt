@@ -8,7 +8,8 @@ use Rattle.journal.specs.declared.faults.StoreFault.{StoreFault}
 use Rattle.journal.specs.declared.faults.StoreFault.TheVariants.{DiskFault, Stopped, NoMemory}
 use Rattle.record_codec.specs.declared.entries.Entry.{Entry}
 use Rattle.record_codec.specs.declared.entries.Entry.TheVariants.{Rec, Notes}
-use Rattle.shop_core.specs.Answer.{answer, kept, refusal}
+use Rattle.shop_core.specs.Answer.{answer, kept}
+use Rattle.shop_core.specs.Refusals.{refusal}
 use Rattle.shop_core.specs.Asked.{Asked}
 use Rattle.shop_core.specs.Making.{made_sealed}
 use Rattle.shop_core.specs.Runs.{Tells}
