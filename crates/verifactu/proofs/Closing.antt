@@ -65,6 +65,10 @@ module _ {D C : Type 0} (tells : Bool) (told : D → Told) (faults : D → ℕ) 
   risen_by None e some = absurd cc
   risen_by (Some count) e some = λ below. let h = s.stop count e in let rose = h.rose in let within = h.within in let strict = rose (omega (arith, below, within)) in omega (arith, strict, within)
 
+  torn_by : (o : Option ℕ) → p1.stopped ≡ o → (torn_in o p1.torn ≡ []) ⊎ Rose (faults p0.disk) (faults p1.disk)
+  torn_by None e = inl refl
+  torn_by (Some count) e = inr (risen_by (Some count) e refl)
+
   pub store_drains : (begun : Beginning) (plan : Plan) (kind : Kind) (old new : Desk) (exact : Bool) (at : ℕ) (turns : List TurnLine) (answer : Result (Unit {0}) DrainFault) (o : Outcome) →
       o ≡ record { end = p1.state.entries; torn = torn_in p1.stopped p1.torn; turns = turns; answer = answer } →
       IsUnopened (spanning p0.state.entries kind old new exact at o) ⊎ IsSession begun plan (spanning p0.state.entries kind old new exact at o) → AddsNotesAlone p0.state.entries p1.state.entries →
@@ -84,6 +88,7 @@ module _ {D C : Type 0} (tells : Bool) (told : D → Told) (faults : D → ℕ) 
         };
         images = λ says agrees c left. in_file agrees c (either c ((s.crashes says).whole c left));
         risen = λ disk. risen_by p1.stopped refl (stopped disk);
+        torn_risen = torn_by p1.stopped refl;
         later = s.later;
       })
     where
@@ -117,6 +122,7 @@ since_opening begun plan issuer k d first faults h found early = record {
   };
   images = h.images;
   risen = λ disk below. let rose = h.risen disk in let strict = rose below in omega (arith, strict, early);
+  torn_risen = elim h.torn_risen [ inl none ↦ inl none | inr rose ↦ inr (λ below. let strict = rose below in omega (arith, strict, early)) ];
   later = let late = h.later in omega (arith, late, early);
 }
 

@@ -1,6 +1,6 @@
 -- How a day ends, and what its clause says of the whole call.
 use Rattle.std.proofs.Common.{◌≡◌, ◌⊎◌, inl, inr, ℕ, ◌+◌, ◌-◌, ◌^◌, ◌<◌, ◌≤◌, List, [], ◌∷◌, ◌++◌, length, map, sym, ◌∙◌, ap, subst, refl, arith, append_assoc, Bool, true, false, IsTrue, Option, Some, None, Result, Ok, Err}
-use Rattle.std.specs.Prelude.{◌≢◌, Contains}
+use Rattle.std.specs.Prelude.{◌≢◌, Contains, IsErrOf}
 use Rattle.std.specs.List.{AllByRecursion, list_any, range_with_len}
 use Rattle.std.proofs.lemmas.List.{append-nil}
 use Rattle.std.proofs.lemmas.List.Elements.{All-contains, filter_passes}
@@ -33,7 +33,7 @@ use Rattle.shop_core.specs.History.{recs, noted}
 use Rattle.shop_core.specs.Legal.{Legal}
 use Rattle.till_calls.specs.Root.{Parts, root_of}
 use Rattle.till_calls.specs.Sound.{IsLater, IsSound}
-use Rattle.verifactu.specs.Beside.{DayRunEnds, DaySession, DaySpan, IsUnbegun, KeptDay, SendsBeside, StaysAgreed, day_from}
+use Rattle.verifactu.specs.Beside.{DayRunEnds, DaySession, DaySpan, IsUnbegun, KeptDay, SendsBeside, ShowsLast, StaysAgreed, day_from}
 use Rattle.verifactu.specs.Beside.DayRunEnds.{done, write_fault, undelivered, contradiction, disk_fault, no_memory}
 use Rattle.verifactu.specs.Crashes.{IsPrefix, Kept, StandsBetween, StandsForEnd, StandsSince}
 use Rattle.verifactu.specs.Day.{DayEnds, DayServed, LeftTime, NotServed, Served, ShopLeft, ShopRan, StoreDay, StoreDayEnds, StoreKind, TillsEnd, day_text, span_of}
@@ -85,6 +85,11 @@ rose_day : (faults after : ℕ) (stopped : Option ℕ) (replies : Replies) (answ
 rose_day faults after None replies answer stops (inl some) = absurd (some_fault replies stops.0 some)
 rose_day faults after None replies answer stops (inr disk) = absurd (stops.1 disk)
 rose_day faults after (Some count) replies answer stops some = λ below. let within = stops.within in let risen = stops.risen (omega (arith, below, within)) in omega (arith, within, risen)
+
+-- an entry is torn only where it rose
+torn_day : (faults after : ℕ) (stopped : Option ℕ) (torn : Option Entry) (replies : Replies) (answer : Result (Unit {0}) DrainFault) → StopsShop faults after stopped replies answer → (torn_in stopped torn ≡ []) ⊎ Rose faults after
+torn_day faults after None torn replies answer stops = inl refl
+torn_day faults after (Some count) torn replies answer stops = inr (λ below. let within = stops.within in let risen = stops.risen (omega (arith, below, within)) in omega (arith, within, risen))
 
 -- a till that asks for nothing is none of the tills that ask
 pub none_of : (asks : List Asked) (tills : List TillTold) (till : ℕ) → map (λ (t : TillTold). t.till) tills ≡ tills_of asks → has_asks asks till ≡ false → AllByRecursion (λ (t : TillTold). t.till ≢ till) tills
@@ -199,6 +204,7 @@ module _ {D C Z G : Type 0} (h : StoreKind D C) (issuer : List ℕ) (asks : List
       stops = stops;
       at_most_one = torn_one r.new.stopped r.new.torn;
       by_a_fault = λ all faultless. none_torn (h.faults disk) (h.faults disk_after) (all_replies r.tills) r.answer r.new.stopped r.new.torn stops all faultless;
+      torn_risen = torn_day (h.faults disk) (h.faults disk_after) r.new.stopped r.new.torn (all_replies r.tills) r.answer stops;
       kept = kept;
       session = session;
       images = images;
@@ -235,9 +241,44 @@ module _ {D C Z G : Type 0} (h : StoreKind D C) (issuer : List ℕ) (asks : List
     completed how (contradiction evidence all e w) none keeps agree = absurd ((session.agreement keeps agree).no_contradiction evidence e)
     completed how (disk_fault memory sender some w) none keeps agree = absurd (none.disk (rose_day (h.faults disk) (h.faults disk_after) r.new.stopped (all_replies r.tills) r.answer stops some))
 
+    abbrev Shown : Evidence → Type 0
+    Shown evidence = ShowsLast r.new.state.entries desk.ledger.messages (desk_after a).ledger.messages evidence
+
+    only_shown : (how : Detail) → Ends how → IsTrue a.kind.tells → (evidence : Evidence) → how ≡ detail.Contradiction evidence → Shown evidence
+    only_shown how (contradiction found all e w) says evidence is =
+        let same : found ≡ evidence = cc in
+        r.sends.contrary says evidence (e ∙ ap (λ (x : Evidence). Err (drain.Contradiction x)) same)
+    only_shown how (done all e same w) says evidence is = absurd cc
+    only_shown how (write_fault all e same w) says evidence is = absurd cc
+    only_shown how (undelivered n m all e w) says evidence is = absurd cc
+    only_shown how (disk_fault memory sender some w) says evidence is = absurd cc
+    only_shown how (no_memory w) says evidence is = absurd cc
+
+    each_shown : (how : Detail) → Ends how → IsTrue a.kind.tells → (evidence : Evidence) → Shown evidence → (how ≡ detail.Contradiction evidence) ⊎ (how ≡ detail.NoMemory) ⊎ (how ≡ detail.DiskFault)
+    each_shown how ends says evidence shows = by_answer how ends (r.sends.shown says evidence shows)
+      where
+        by_answer : (how : Detail) → Ends how → IsErrOf r.answer (drain.Contradiction evidence) ⊎ (r.answer ≡ Err drain.NoMemory) → (how ≡ detail.Contradiction evidence) ⊎ (how ≡ detail.NoMemory) ⊎ (how ≡ detail.DiskFault)
+        by_answer how (done all e same w) (inl is) = absurd (let f = sym e ∙ is in cc)
+        by_answer how (done all e same w) (inr none) = absurd (let f = sym e ∙ none in cc)
+        by_answer how (write_fault all e same w) (inl is) = absurd (let f = sym e ∙ is in cc)
+        by_answer how (write_fault all e same w) (inr none) = absurd (let f = sym e ∙ none in cc)
+        by_answer how (undelivered n m all e w) (inl is) = absurd (let f = sym e ∙ is in cc)
+        by_answer how (undelivered n m all e w) (inr none) = absurd (let f = sym e ∙ none in cc)
+        by_answer how (contradiction found all e w) (inl is) = let f = sym e ∙ is in let same : found ≡ evidence = cc in inl (ap (λ (x : Evidence). detail.Contradiction x) same)
+        by_answer how (contradiction found all e w) (inr none) = absurd (let f = sym e ∙ none in cc)
+        by_answer how (disk_fault memory sender some w) shown = inr (inr refl)
+        by_answer how (no_memory w) shown = inr (inl refl)
+
     day_served : DayServed issuer asks plan (h.coming clock) (IsLater h.coming clock clock_after) s disks a end
-    unfolding served
-    day_served = record { day = served; ends = r.ends; undelivered = failed end r.ends; complete = completed end r.ends }
+    unfolding served session
+    day_served = record {
+      day = served;
+      ends = r.ends;
+      undelivered = failed end r.ends;
+      contrary = only_shown end r.ends;
+      shown = each_shown end r.ends;
+      complete = completed end r.ends;
+    }
 
   -- the day of an opened store is one of its file, from its opening on
   pub store_day : StoreDayEnds (LeftSleeper z) h a.kind.begun plan asks (kind_of a) (desk_before a) (desk_after a) opened disk_after clock_after s end →
@@ -312,6 +353,7 @@ tills_by issuer asks plan old new untouched unread unserved unasked' left leaves
         stops = p.stops;
         at_most_one = p.at_most_one;
         by_a_fault = p.by_a_fault;
+        torn_risen = p.torn_risen;
         kept = p.kept;
         session = p.session;
         images = p.images;
@@ -319,6 +361,8 @@ tills_by issuer asks plan old new untouched unread unserved unasked' left leaves
       };
       ends = h.ends;
       undelivered = h.undelivered;
+      contrary = h.contrary;
+      shown = h.shown;
       complete = h.complete;
     })))
 

@@ -1,28 +1,35 @@
 -- What a sender beside tills leaves, once its shop is closed.
-use Rattle.std.proofs.Common.{◌≡◌, ◌∙◌, ℕ, ◌+◌, List, length, map, sym, ap, subst, refl, Bool, IsTrue, Option, Result}
+use Rattle.std.proofs.Common.{◌≡◌, ◌∙◌, ◌⊎◌, inl, inr, ℕ, ◌+◌, List, [], length, map, sym, ap, subst, refl, append-nil, Bool, IsTrue, Option, Result, Err}
+use Rattle.std.specs.Prelude.{IsErrOf}
+use Rattle.record_fields.specs.declared.lines.Line.{Line}
 use Rattle.chain_disk.specs.Told.{Told}
 use Rattle.chain_lock.specs.Known.{Known}
 use Rattle.record_codec.specs.declared.entries.Entry.{Entry}
-use Rattle.shop_core.specs.History.{recs, noted}
+use Rattle.shop_core.specs.History.{recs, noted, waiting}
 use Rattle.shop_core.specs.Legal.{Legal}
 use Rattle.shop_core.specs.declared.items.Item.{Item}
 use Rattle.shop_core.specs.declared.items.Item.TheVariants as item
 use Rattle.agency_port.specs.Messages.{batches_in}
+use Rattle.agency_port.specs.Sessions.{kept_reply}
+use Rattle.agency_port.specs.declared.turns.Evidence.{Evidence}
 use Rattle.once_world.specs.Agreement.{Agree}
 use Rattle.once_world.specs.Laws.{RecordsKeepAgreement}
 use Rattle.once_world.specs.Outbox.{Sight, history_of, plain_sight}
 use Rattle.till_calls.specs.Mark.{sight_by}
 use Rattle.till_calls.specs.Root.{Parts, Root, items_in}
 use Rattle.till_calls.specs.Sound.{IsSound}
-use Rattle.sender.specs.Agreeing.{BeginsCareful, BeginsInSession, InSession}
+use Rattle.sender.specs.Agreeing.{BeginsCareful, BeginsInSession, InSession, KeepsReply}
+use Rattle.sender.specs.Evident.{Shows}
 use Rattle.sender.specs.Dark.{AreRunsBy}
 use Rattle.sender.specs.Sending.{Sending, fresh}
 use Rattle.sender.specs.Turning.{Desk, Kind}
 use Rattle.sender.specs.declared.answers.DrainFault.{DrainFault}
-use Rattle.verifactu.specs.Beside.{DaySpan, SendsBeside, SendsOn, StaysAgreed}
+use Rattle.sender.specs.declared.answers.DrainFault.TheVariants as drain
+use Rattle.verifactu.specs.Beside.{DaySpan, SendsBeside, SendsOn, ShowsLast, StaysAgreed}
 use Rattle.verifactu.specs.Drained.{SaysNothingBlindly, torn_in}
 use Rattle.verifactu.proofs.Agreed.{agree_new, entries_back, sight_new, torn_is}
-use Rattle.verifactu.proofs.Whole.{Kept, Shared, agreed, agreed_torn, gains}
+use Rattle.verifactu.proofs.Contrary.{asked_of_more, none_yet, one_shown}
+use Rattle.verifactu.proofs.Whole.{Kept, Shared, agreed, agreed_torn, gains, still_waits}
 
 module _ {D C : Type 0} (tells : Bool) (told : D → Told) (faults : D → ℕ) (coming : C → ℕ → Option ℕ) (p : Parts D C) (root : Root C) (base : List Item) (tills : List (Known Item (Root C))) (seat then : Known Item (Root C)) (h : Shared base (items_in p) root tills seat then)
     (sound : IsSound tells told faults coming root p) (is : base ≡ map item.Entry root.history) (legal : Legal root.issuer root.history) (kind : Kind) (old new : Desk) (sending : Sending) (answer : Result (Unit {0}) DrainFault)
@@ -56,11 +63,38 @@ module _ {D C : Type 0} (tells : Bool) (told : D → Told) (faults : D → ℕ) 
       let ends = sends.careful says old.ledger.messages start in
       record { session = ends.session; is = ends.is; never = ends.never }
 
+  begins : KeepsReply old.ledger.messages old.ledger.messages fresh.said
+  begins = record { session = []; is = sym (append-nil old.ledger.messages); kept = refl }
+
+  -- what the last message shows of the history that the seat saw it shows of the whole
+  at_end : (evidence : Evidence) → ShowsLast (history_of (sight_by then)) old.ledger.messages new.ledger.messages evidence → ShowsLast p.state.entries old.ledger.messages new.ledger.messages evidence
+  at_end evidence s =
+      let waits = still_waits base (items_in p) root tills seat then h root.history p.state.entries p.stopped p.torn kept in
+      record {
+        before = s.before;
+        huellas = s.huellas;
+        seen = s.seen;
+        is = s.is;
+        asked = asked_of_more s.huellas (waiting (history_of (sight_by then))) (waiting p.state.entries) s.asked waits.1;
+        shows = subst (λ (ls : List Line). Shows (kept_reply s.before) (length ls + 1) s.huellas s.seen (Err evidence)) (sym waits.0) s.shows;
+      }
+
+  only_shown : IsTrue kind.tells → (evidence : Evidence) → IsErrOf answer (drain.Contradiction evidence) → ShowsLast p.state.entries old.ledger.messages new.ledger.messages evidence
+  only_shown says evidence is = at_end evidence (sends.contrary says old.ledger.messages begins evidence is)
+
+  each_shown : IsTrue kind.tells → (evidence : Evidence) → ShowsLast p.state.entries old.ledger.messages new.ledger.messages evidence → IsErrOf answer (drain.Contradiction evidence) ⊎ (answer ≡ Err drain.NoMemory)
+  each_shown says evidence s = elim (sends.shown says old.ledger.messages begins (none_yet old.ledger.messages) p.state.entries evidence s) [
+    | inl c ↦ inl (subst (λ (e : Evidence). IsErrOf answer (drain.Contradiction e)) (one_shown p.state.entries old.ledger.messages new.ledger.messages c.0 evidence (only_shown says c.0 c.1) s) c.1)
+    | inr m ↦ inr m
+  ]
+
   pub sends_beside : RecordsKeepAgreement → BeginsInSession → BeginsCareful → SendsBeside span
   sends_beside records session careful = record {
     agreement = still records session;
     careful = nothing_blindly careful;
     says = sends.says;
+    contrary = only_shown;
+    shown = each_shown;
     later = sends.later;
     undelivered = sends.undelivered;
   }

@@ -25,6 +25,7 @@ pub mod DayRuns
 pub mod TillDays
 pub mod DayEnding
 pub mod DayTexts
+pub mod Contrary
 pub mod Turns
 pub mod Theirs
 pub mod Whole

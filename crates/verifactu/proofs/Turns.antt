@@ -34,6 +34,7 @@ use Rattle.sender.proofs.Growing.{Growth, all_contained, gains_each}
 use Rattle.sender.proofs.Lists.{all_both, all_change}
 use Rattle.verifactu.specs.Beside.{EndsStopped, FailsEightTimes, SendsOn, sending_end}
 use Rattle.verifactu.specs.Drained.{IsDiskAnswer, IsFaultless}
+use Rattle.verifactu.proofs.Contrary.{shows_nothing}
 use Rattle.verifactu.proofs.Stops.{IsDisk, drained_stopped, ends_stopped, get_seam, untorn_adds}
 
 growth_of : (P : Item → Type 0) (a b : Sight) → Adds P a b → Growth a b
@@ -63,6 +64,9 @@ sends_none kind a k said = record {
   torn = λ keeps in_it gains items faults torn is own. absurd (none_there (length items) (subst (λ (ps : List ℕ). Contains ps (length items)) (nothing_more a.own) own));
   careful = λ tells past h. h;
   says = λ tells. record { session = []; is = sym (append-nil k.ledger.messages); calls = tt };
+  kept = λ tells past r. r;
+  contrary = λ tells past r evidence is. absurd cc;
+  shown = λ tells past r none entries evidence s. absurd (none entries evidence s);
   later = omega arith;
   undelivered = λ n r is. absurd cc;
 }
@@ -95,6 +99,9 @@ sends_then kind a b c k l m said mid then answer x y = record {
     is = s.is ∙ ap (λ (ms : List Message). ms ++ s.session) f.is ∙ append_assoc k.ledger.messages f.session s.session;
     calls = all_both IsCall f.session s.session f.calls s.calls;
   });
+  kept = λ tells past r. y.kept tells past (x.kept tells past r);
+  contrary = λ tells past r. y.contrary tells past (x.kept tells past r);
+  shown = λ tells past r none. y.shown tells past (x.kept tells past r) (shows_nothing past l.ledger.messages (x.shown tells past r none));
   later = let e = x.later in let f = y.later in omega (arith, e, f);
   undelivered = λ n r is. (let u = y.undelivered n r is in (u.0, λ below. let w = u.1 below in let e = x.later in omega (arith, w, e)));
 }

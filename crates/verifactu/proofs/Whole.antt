@@ -13,11 +13,13 @@ use Rattle.record_codec.specs.declared.entries.Entry.{Entry}
 use Rattle.record_codec.specs.declared.entries.Entry.TheVariants.{Rec, Notes}
 use Rattle.chain_lock.specs.Known.{Known, IsNew, Fits, owners, times_owned}
 use Rattle.chain_lock.specs.Lists.{StartsWith}
+use Rattle.record_fields.specs.declared.records.Sealed.{Sealed}
+use Rattle.shop_core.specs.History.{noted, recs, waiting}
 use Rattle.shop_core.specs.Items.{entries_of}
 use Rattle.shop_core.specs.declared.items.Item.{Item}
 use Rattle.shop_core.specs.declared.items.Item.TheVariants as item
 use Rattle.agency_port.specs.Ledger.{Ledger}
-use Rattle.once_world.specs.Agreement.{Agree}
+use Rattle.once_world.specs.Agreement.{Agree, IsPrefix}
 use Rattle.once_world.specs.Laws.{AreRecords, RecordsKeepAgreement}
 use Rattle.once_world.specs.Outbox.{AreOwnNotes, GainsOwnNotes}
 use Rattle.till_calls.specs.Mark.{sight_by}
@@ -25,9 +27,11 @@ use Rattle.till_calls.specs.Own.{OwnsNone, is_of}
 use Rattle.till_calls.specs.Root.{Root, stop_in, with_torn}
 use Rattle.sender.specs.Agreeing.{Adds, AgreesIfTorn, AreNotes, AreNotesOrTorn, HasAt}
 use Rattle.sender.proofs.Adding.{get_front}
+use Rattle.sender.proofs.Keeping.{noted_same}
 use Rattle.verifactu.specs.Beside.{EndsStopped}
 use Rattle.verifactu.proofs.Agreed.{entries_both, entries_in}
 use Rattle.verifactu.proofs.Alone.{all_by_place, all_contained, all_each, all_split, counted_in, get_behind, own_all}
+use Rattle.verifactu.proofs.Contrary.{drop_front, recs_both}
 use Rattle.verifactu.proofs.Each.{all_of_each}
 use Rattle.verifactu.proofs.Theirs.{IsOfTill, Theirs}
 use Rattle.verifactu.proofs.TillRuns.{is_stop}
@@ -214,6 +218,17 @@ module _ {C : Type 0} (base log : List Item) (root : Root C) (tills : List (Know
 
     seen_entries : Kept → es ≡ entries_of then.seen ++ entries_of (rest_of h)
     seen_entries s = sym (entries_in es stopped torn) ∙ ap entries_of (sym s.log_is ∙ rest_is h) ∙ entries_both then.seen (rest_of h)
+
+    -- what waited at the last sight still does, in front, and no line came
+    pub still_waits : Kept → (noted es ≡ noted (entries_of then.seen)) × IsPrefix (waiting (entries_of then.seen)) (waiting es)
+    still_waits s =
+        let seen = entries_of then.seen in
+        let rest = entries_of (rest_of h) in
+        let same : noted es ≡ noted seen = ap noted (seen_entries s) ∙ noted_same seen rest (records_of_tills (rest_of h) (rest_theirs h)) in
+        let front : IsPrefix (waiting seen) (drop (length (noted seen)) (recs seen ++ recs rest)) = drop_front (length (noted seen)) (recs seen) (recs rest) in
+        let first : IsPrefix (waiting seen) (drop (length (noted seen)) (recs es)) =
+        subst (λ (rs : List Sealed). IsPrefix (waiting seen) (drop (length (noted seen)) rs)) (sym (ap recs (seen_entries s) ∙ recs_both seen rest)) front in
+        (same, subst (λ (n : List Line). IsPrefix (waiting seen) (drop (length n) (recs es))) (sym same) first)
 
     pub agreed : Kept → RecordsKeepAgreement → (new : Ledger) → Agree (entries_of then.seen) new.processed new.sent → Agree es new.processed new.sent
     agreed s records new agree =

@@ -7,17 +7,22 @@ use Rattle.chain_disk.specs.Told.{Told, LeavesNow, LeavesOnly}
 use Rattle.journal.specs.declared.faults.StoreFault.{StoreFault}
 use Rattle.journal.specs.declared.faults.StoreFault.TheVariants as store
 use Rattle.record_codec.specs.declared.entries.Entry.{Entry}
-use Rattle.shop_core.specs.History.{recs, noted}
+use Rattle.batches.specs.Batches.{huellas_of}
+use Rattle.shop_core.specs.History.{recs, noted, waiting}
 use Rattle.shop_core.specs.declared.items.Item.{Item}
 use Rattle.shop_core.specs.declared.items.Item.TheVariants as item
 use Rattle.agency_rules.specs.declared.plans.Plan.{Plan}
 use Rattle.agency_port.specs.Messages.{batches_in}
+use Rattle.agency_port.specs.Sessions.{kept_reply}
+use Rattle.agency_port.specs.declared.answers.Seen.{Seen}
 use Rattle.agency_port.specs.declared.messages.Message.{Message}
+use Rattle.agency_port.specs.declared.messages.Message.TheVariants.{Consulted}
 use Rattle.agency_port.specs.declared.turns.Evidence.{Evidence}
-use Rattle.once_world.specs.Agreement.{Agree}
-use Rattle.once_world.specs.Outbox.{GainsOwnNotes, Sight}
-use Rattle.sender.specs.Agreeing.{Adds, AgreesIfTorn, AreNotes, AreNotesOrTorn, InSession, IsCareful, KeepsSession}
+use Rattle.once_world.specs.Agreement.{Agree, IsPrefix}
+use Rattle.once_world.specs.Outbox.{GainsOwnNotes, Sight, history_of}
+use Rattle.sender.specs.Agreeing.{Adds, AgreesIfTorn, AreNotes, AreNotesOrTorn, InSession, IsCareful, KeepsReply, KeepsSession}
 use Rattle.sender.specs.Dark.{AreRunsBy}
+use Rattle.sender.specs.Evident.{Shows}
 use Rattle.sender.specs.Lines.{SaysCalls}
 use Rattle.sender.specs.Sending.{Sending}
 use Rattle.sender.specs.Turning.{Desk, Kind}
@@ -54,6 +59,28 @@ FailsEightTimes old new answer = (noted_count records_count : ℕ) →
     IsErrOf answer (drain.Undelivered noted_count records_count) →
     (noted_count < records_count) × (new.faults < 2 ^ 64 - 1 → old.faults + MAX_LINK_FAULTS ≤ new.faults)
 
+-- The last message of a session, which began behind these, is a consultation of the first waiting records, and what it was
+-- answered shows this contradiction beside the reply that is kept of the session's messages before it.
+pub record ShowsLast (entries : List Entry) (past messages : List Message) (evidence : Evidence) : Type 0 where
+  pub before : List Message
+  pub huellas : List (List ℕ)
+  pub seen : List Seen
+  pub is : messages ≡ (past ++ before) ++ Consulted huellas (Ok seen) ∷ []
+  pub asked : IsPrefix huellas (huellas_of (waiting entries))
+  pub shows : Shows (kept_reply before) (length (noted entries) + 1) huellas seen (Err evidence)
+
+-- it shows none, whatever the history
+abbrev pub ShowsNothing : List Message → List Message → Type 0
+ShowsNothing past messages = (entries : List Entry) (evidence : Evidence) → ShowsLast entries past messages evidence → ⊥
+
+abbrev pub IsContrary : Result (Unit {0}) DrainFault → Type 0
+IsContrary answer = (evidence : Evidence) × IsErrOf answer (drain.Contradiction evidence)
+
+-- where it shows one a contradiction is the answer, or memory was wanting
+abbrev pub AnswersWhatIsShown : List Message → List Message → Result (Unit {0}) DrainFault → Type 0
+AnswersWhatIsShown past messages answer = (entries : List Entry) (evidence : Evidence) →
+    ShowsLast entries past messages evidence → IsContrary answer ⊎ (answer ≡ Err drain.NoMemory)
+
 -- Turns of one sender with one agency, between two sights of a shop to which others add beside it. What they added is their own
 -- notes, or the stop over them. In a session in which the agency keeps its rules and agreed, and no other notes came, it still
 -- agrees, also with what may be torn, and doesn't contradict itself.
@@ -73,6 +100,15 @@ pub record SendsOn (kind : Kind) (before after : Sight) (old new : Desk) (sendin
       IsCareful past after new.ledger.messages sending_then
   -- submissions and consultations alone were said
   pub says : IsTrue kind.tells → SaysCalls old.ledger.messages new.ledger.messages
+  -- the sender keeps the last reply of its session that named its batch, until a consultation answers
+  pub kept : IsTrue kind.tells → (past : List Message) → KeepsReply past old.ledger.messages sending.said →
+      KeepsReply past new.ledger.messages sending_then.said
+  -- a contradiction is answered only where the last message shows it, and wherever it does but for want of memory
+  pub contrary : IsTrue kind.tells → (past : List Message) → KeepsReply past old.ledger.messages sending.said →
+      (evidence : Evidence) → IsErrOf answer (drain.Contradiction evidence) →
+      ShowsLast (history_of after) past new.ledger.messages evidence
+  pub shown : IsTrue kind.tells → (past : List Message) → KeepsReply past old.ledger.messages sending.said →
+      ShowsNothing past old.ledger.messages → AnswersWhatIsShown past new.ledger.messages answer
   pub later : old.faults ≤ new.faults
   pub undelivered : FailsEightTimes old new answer
 
@@ -102,6 +138,12 @@ pub record SendsBeside (d : DaySpan) : Type 0 where
       AreRunsBy (recs d.start) (length (noted d.start) + 1000) (batches_in d.old.ledger.messages) →
       SaysNothingBlindly d.old.ledger.messages d.new.ledger.messages
   pub says : IsTrue d.kind.tells → SaysCalls d.old.ledger.messages d.new.ledger.messages
+  -- a contradiction is answered exactly where the last message is a consultation that shows it, but for want of memory
+  pub contrary : IsTrue d.kind.tells → (evidence : Evidence) → IsErrOf d.answer (drain.Contradiction evidence) →
+      ShowsLast d.end d.old.ledger.messages d.new.ledger.messages evidence
+  pub shown : IsTrue d.kind.tells → (evidence : Evidence) →
+      ShowsLast d.end d.old.ledger.messages d.new.ledger.messages evidence →
+      IsErrOf d.answer (drain.Contradiction evidence) ⊎ (d.answer ≡ Err drain.NoMemory)
   pub later : d.old.faults ≤ d.new.faults
   pub undelivered : FailsEightTimes d.old d.new d.answer
 

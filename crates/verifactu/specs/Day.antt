@@ -12,6 +12,7 @@ use Rattle.shop_core.specs.History.{recs, noted}
 use Rattle.shop_core.specs.Legal.{Legal}
 use Rattle.shop_core.specs.Rising.{SerialsRise}
 use Rattle.agency_rules.specs.declared.plans.Plan.{Plan}
+use Rattle.agency_port.specs.declared.turns.Evidence.{Evidence}
 use Rattle.script.specs.declared.forms.Form.TheVariants.{Full}
 use Rattle.script.specs.declared.scripts.Script.{Script}
 use Rattle.sender.specs.Turning.{Desk, Kind}
@@ -25,7 +26,7 @@ use Rattle.report.specs.declared.answers.AnswerLine.TheVariants.{Saw}
 use Rattle.report.specs.declared.ended.Detail.{Detail}
 use Rattle.report.specs.declared.ended.Detail.TheVariants as detail
 use Rattle.till_calls.specs.Root.{Parts, root_of}
-use Rattle.verifactu.specs.Beside.{DayRunEnds, DaySession, DaySpan, IsUnbegun, KeptDay, SendsBeside, StaysAgreed}
+use Rattle.verifactu.specs.Beside.{DayRunEnds, DaySession, DaySpan, IsUnbegun, KeptDay, SendsBeside, ShowsLast, StaysAgreed}
 use Rattle.verifactu.specs.Crashes.{IsPrefix, Kept, StandsSince}
 use Rattle.verifactu.specs.Devices.{Agencies, AllDevices, Clocks, LeftClock, LeftSleeper, NobodyCalled, Sleepers, Untouched}
 use Rattle.verifactu.specs.Drain.{AgreesAtStart, AllLeft, LeavesTime, NothingRose, desk_after, desk_before, kind_of}
@@ -96,6 +97,8 @@ pub record Served {D G : Type 0} (issuer : List ℕ) (asks : List Asked) (plan :
   pub stops : StopsShop (k.faults k.disk) (k.faults k.disk_after) stopped (all_replies tills) answer
   pub at_most_one : length torn ≤ 1
   pub by_a_fault : AllGoOn (all_replies tills) → IsFaultless answer → torn ≡ []
+  -- nor is one torn unless the disk's count of faults rose
+  pub torn_risen : (torn ≡ []) ⊎ DiskRose k
   pub kept : IsTrue k.tells →
       KeptDay (StandsSince issuer start end torn) issuer end torn (synced (k.told k.disk)) (k.told k.disk_after)
   pub session : DaySession a.kind.begun plan (span_of a start end torn answer)
@@ -113,6 +116,13 @@ pub record DayServed {D G : Type 0} (issuer : List ℕ) (asks : List Asked) (pla
   pub undelivered : (noted_count records_count : ℕ) → end ≡ detail.Undelivered noted_count records_count →
       (noted_count < records_count) × (a.kind.faults a.agency_after < 2 ^ 64 - 1 →
       a.kind.faults a.agency + MAX_LINK_FAULTS ≤ a.kind.faults a.agency_after)
+  -- where the agency tells its messages it is a contradiction exactly where this call's last one is a consultation that shows it,
+  -- unless memory was wanting or the disk failed
+  pub contrary : IsTrue a.kind.tells → (evidence : Evidence) → end ≡ detail.Contradiction evidence →
+      ShowsLast day.end day.session.opened.ledger.messages (desk_after a).ledger.messages evidence
+  pub shown : IsTrue a.kind.tells → (evidence : Evidence) →
+      ShowsLast day.end day.session.opened.ledger.messages (desk_after a).ledger.messages evidence →
+      (end ≡ detail.Contradiction evidence) ⊎ (end ≡ detail.NoMemory) ⊎ (end ≡ detail.DiskFault)
   -- where no device fails and the agency keeps its rules and agrees, it is done, or memory was wanting
   pub complete : NothingRose s k a → IsTrue a.kind.keeps_rules → AgreesAtStart a day.start →
       (end ≡ detail.Done) ⊎ (end ≡ detail.NoMemory)

@@ -216,6 +216,8 @@ pub record StoreDrains (P : List Entry → List Entry → List Entry → List �
   pub images : IsTrue k.tells → StillAgrees d → LeavesNow k.now (AgreesInFile issuer d.new)
   -- the disk's count of faults rose where it failed
   pub risen : IsDiskAnswer d.answer → Rose k.faults k.faults_after
+  -- and wherever notes are torn
+  pub torn_risen : (d.torn ≡ []) ⊎ Rose k.faults k.faults_after
   pub later : k.faults ≤ k.faults_after
 
 -- the end of a drain that failed so, where its text was written

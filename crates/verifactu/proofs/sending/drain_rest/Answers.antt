@@ -9,6 +9,7 @@ use Rattle.till_calls.specs.Root.{Root}
 use Rattle.till_calls.specs.Seat.{box_knows}
 use Rattle.till_calls.specs.Shop.{seat_knows}
 use Rattle.verifactu.specs.Beside.{SendsOn}
+use Rattle.verifactu.proofs.Contrary.{drained_answers, drained_shows}
 use Rattle.verifactu.proofs.Stops.{drained_stopped, untorn_adds}
 use Rattle.verifactu.proofs.Turns.{drained_later, drained_missing, no_error, sends_then}
 use Rattle.verifactu.proofs.sending.drain_rest.Goals as goal
@@ -31,6 +32,9 @@ returns-clause-sends g c = λ before desk sending x.
       torn = e.if_torn;
       careful = e.careful;
       says = e.says;
+      kept = e.kept;
+      contrary = drained_shows _ _ _ _ _ _ _ e.drained;
+      shown = drained_answers _ _ _ _ _ _ _ e.drained;
       later = drained_later _ _ _ _ _ _ _ e.drained;
       undelivered = λ n r is. (drained_missing _ _ _ _ _ _ _ e.drained n r is, e.undelivered n r is);
     } in

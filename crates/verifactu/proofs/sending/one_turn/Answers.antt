@@ -2,6 +2,7 @@ use Rattle.std.proofs.Common.{sym, subst, Result}
 use Rattle.sender.specs.Turning.{Desk, Kind}
 use Rattle.sender.specs.declared.answers.DrainFault.{DrainFault}
 use Rattle.verifactu.specs.Beside.{SendsOn, sending_end}
+use Rattle.verifactu.proofs.Contrary.{turn_answers, turn_shows}
 use Rattle.verifactu.proofs.Turns.{delivers_end, never_end, stopped_end, untorn_end}
 use Rattle.verifactu.proofs.sending.one_turn.Goals as goal
 
@@ -23,6 +24,9 @@ returns-clause-sends g c =
       torn = e.torn;
       careful = e.careful;
       says = e.says;
+      kept = e.kept;
+      contrary = turn_shows kind old new before after c.args.sender.now c.turn-answer.new.self c.now-now.result answer e.turned;
+      shown = turn_answers kind old new before after c.args.sender.now c.turn-answer.new.self c.now-now.result answer e.turned;
       later = e.later;
       undelivered = delivers_end answer old new;
     })
