@@ -1,5 +1,6 @@
 -- A closed shop without tills: its list is what its seat has seen, and what came is the seat's own.
-use Rattle.std.proofs.Common.{◌≡◌, inl, inr, ℕ, zero, suc, ◌+◌, ◌<◌, ◌≤◌, ◌==◌, cond, List, [], ◌∷◌, ◌++◌, get_or, length, length-append, map, drop, Some, slice_get, All, refl, ap, sym, ◌∙◌, subst, arith, append-nil}
+use Rattle.std.proofs.Common.{◌≡◌, inl, inr, ℕ, zero, suc, ◌+◌, ◌<◌, ◌≤◌, ◌==◌, cond, List, [], ◌∷◌, ◌++◌, get_or, length}
+use Rattle.std.proofs.Common.{length-append, map, drop, Some, slice_get, All, refl, ap, sym, ◌∙◌, subst, arith, append-nil}
 use Rattle.std.specs.Prelude.{count_by, Contains}
 use Rattle.std.specs.List.{AllByRecursion}
 use Rattle.std.proofs.Math.Seq.{drop-append_seam}
@@ -24,13 +25,15 @@ in_tail : (x y : ℕ) (xs : List ℕ) → Contains xs y → Contains (x ∷ xs) 
 in_tail x y xs c = (suc c.0, (let l = c.1 in omega arith), c.2)
 
 -- a place that is counted is there
-pub counted_in : {I : Type 0} (n : ℕ) (own : List (ℕ × I)) → 0 < count_by (λ x. x.0 == n) own → Contains (map (λ (z : ℕ × I). z.0) own) n
+pub counted_in : {I : Type 0} (n : ℕ) (own : List (ℕ × I)) → 0 < count_by (λ x. x.0 == n) own →
+    Contains (map (λ (z : ℕ × I). z.0) own) n
 counted_in n [] some = absurd (omega (arith, some))
 counted_in {I} n (z ∷ zs) some =
     let split = sum_by-cons (λ (y : ℕ × I). cond (y.0 == n) 1 0) z zs in
     elim (eqb_tells z.0 n) [
       | inl same ↦ in_head z.0 n (map (λ (y : ℕ × I). y.0) zs) same.1
-      | inr apart ↦ in_tail z.0 n (map (λ (y : ℕ × I). y.0) zs) (counted_in n zs (let none : ◌≡◌ {A = ℕ} (cond (z.0 == n) 1 0) 0 = (let ne : z.0 ≡ n → ⊥ = apart.1 in grind (arith, nat_tests, ne)) in omega (arith, none, some, split)))
+      | inr apart ↦ in_tail z.0 n (map (λ (y : ℕ × I). y.0) zs) (counted_in n zs (let none : ◌≡◌ {A = ℕ} (cond (z.0 == n) 1 0) 0 =
+          (let ne : z.0 ≡ n → ⊥ = apart.1 in grind (arith, nat_tests, ne)) in omega (arith, none, some, split)))
     ]
 
 -- passes that own nothing
@@ -46,7 +49,8 @@ none_owned {I} {R} n (k ∷ ks) h =
     omega (arith, split, here, rest)
 
 -- what is owned is the last pass's, where the others own nothing
-its_own : {I R : Type 0} (n : ℕ) (ks : List (Known I R)) (seat : Known I R) → OwnNothing ks → owners n (ks ++ seat ∷ []) ≡ 1 → Contains (map (λ (z : ℕ × I). z.0) seat.own) n
+its_own : {I R : Type 0} (n : ℕ) (ks : List (Known I R)) (seat : Known I R) → OwnNothing ks → owners n (ks ++ seat ∷ []) ≡ 1 →
+    Contains (map (λ (z : ℕ × I). z.0) seat.own) n
 its_own {I} {R} n ks seat nothing one =
     let split = sum_by_push (times_owned n) ks seat in
     let none = none_owned n ks nothing in
@@ -62,17 +66,20 @@ all_split P (x ∷ xs) y h = ((h.0, (all_split P xs y h.1).0), (all_split P xs y
 
 pub get_behind : {I : Type 0} (b r : List I) (m : ℕ) → slice_get (b ++ r) (length b + m) ≡ slice_get r m
 get_behind [] r m = ap (λ (k : ℕ). slice_get r k) (let e : 0 + m ≡ m = omega arith in e)
-get_behind (x ∷ b) r m = ap (λ (k : ℕ). slice_get (x ∷ (b ++ r)) k) (let e : length (x ∷ b) + m ≡ suc (length b + m) = omega arith in e) ∙ get_behind b r m
+get_behind (x ∷ b) r m = ap (λ (k : ℕ). slice_get (x ∷ (b ++ r)) k) (let e : length (x ∷ b) + m ≡ suc (length b + m) =
+    omega arith in e) ∙ get_behind b r m
 
 -- what holds at each place holds of each
-pub all_by_place : (P : Item → Type 0) (items : List Item) → ((m : ℕ) → m < length items → HasAt P items m) → AllByRecursion P items
+pub all_by_place : (P : Item → Type 0) (items : List Item) → ((m : ℕ) → m < length items → HasAt P items m) →
+    AllByRecursion P items
 all_by_place P [] h = tt
 all_by_place P (x ∷ items) h =
     let here = h 0 (omega arith) in
     let same : x ≡ here.0 = (let e : Some x ≡ Some here.0 = here.1 in let f = e in cc) in
     (subst P (sym same) here.2, all_by_place P items (λ m l. h (suc m) (omega (arith, l))))
 
-all_at : {A : Type 0} (P : A → Type 0) (xs : List A) (k : ℕ) (x : A) → AllByRecursion P xs → k < length xs → get_or xs k x ≡ x → P x
+all_at : {A : Type 0} (P : A → Type 0) (xs : List A) (k : ℕ) (x : A) → AllByRecursion P xs → k < length xs → get_or xs k x ≡ x →
+    P x
 all_at P [] k x all lt e = absurd (omega (arith, lt))
 all_at P (y ∷ xs) zero x all lt e = let h : y ≡ x = e in subst P h all.0
 all_at P (y ∷ xs) (suc k) x all lt e = all_at P xs k x all.1 (omega (arith, lt)) e
@@ -81,18 +88,23 @@ pub all_contained : {A : Type 0} (P : A → Type 0) (xs : List A) (x : A) → Al
 all_contained P xs x all there = all_at P xs there.0 x all there.1 there.2
 
 -- each note stands at one of these places
-pub own_all : (items : List Item) (at : ℕ) (own : List ℕ) → ((m first : ℕ) (lines : List Line) → slice_get items m ≡ Some (item.Entry (Notes first lines)) → Contains own (at + m)) → AreOwnNotes own at items
+pub own_all : (items : List Item) (at : ℕ) (own : List ℕ) → ((m first : ℕ) (lines : List Line) →
+    slice_get items m ≡ Some (item.Entry (Notes first lines)) → Contains own (at + m)) → AreOwnNotes own at items
 own_all [] at own h = tt
 own_all (item.Entry (Rec till serial sealed) ∷ items) at own h =
-    own_all items (at + 1) own (λ m f l e. subst (λ (k : ℕ). Contains own k) (let s : at + suc m ≡ at + 1 + m = omega arith in s) (h (suc m) f l e))
+    own_all items (at + 1) own (λ m f l e. subst (λ (k : ℕ). Contains own k) (let s : at + suc m ≡ at + 1 + m = omega arith in
+    s) (h (suc m) f l e))
 own_all (item.Entry (Notes first lines) ∷ items) at own h = (
   subst (λ (k : ℕ). Contains own k) (let s : at + 0 ≡ at = omega arith in s) (h 0 first lines refl),
-  own_all items (at + 1) own (λ m f l e. subst (λ (k : ℕ). Contains own k) (let s : at + suc m ≡ at + 1 + m = omega arith in s) (h (suc m) f l e)),
+  own_all items (at + 1) own (λ m f l e. subst (λ (k : ℕ). Contains own k) (let s : at + suc m ≡ at + 1 + m = omega arith in
+      s) (h (suc m) f l e)),
 )
 own_all (item.Stop faults torn ∷ items) at own h =
-    own_all items (at + 1) own (λ m f l e. subst (λ (k : ℕ). Contains own k) (let s : at + suc m ≡ at + 1 + m = omega arith in s) (h (suc m) f l e))
+    own_all items (at + 1) own (λ m f l e. subst (λ (k : ℕ). Contains own k) (let s : at + suc m ≡ at + 1 + m = omega arith in
+    s) (h (suc m) f l e))
 
-module _ {C : Type 0} (base log : List Item) (root : Root C) (tills : List (Known Item (Root C))) (seat then : Known Item (Root C)) where
+module _ {C : Type 0} (base log : List Item) (root : Root C) (tills : List (Known Item (Root C)))
+    (seat then : Known Item (Root C)) where
   -- a shop that was closed, whose seat alone added anything
   pub record Closed : Type 0 where
     pub fresh : IsNew base root seat
@@ -123,7 +135,8 @@ module _ {C : Type 0} (base log : List Item) (root : Root C) (tills : List (Know
   all_seen h = by_rest (fit h).begins.0 (fit h).begins.1
     where
       long : length base ≤ length then.seen
-      long = let e = ap length h.adds.items_is in let f = length-append seat.seen h.adds.items in let g = ap length h.fresh.seen in omega arith
+      long = let e = ap length h.adds.items_is in let f = length-append seat.seen h.adds.items in
+          let g = ap length h.fresh.seen in omega arith
 
       by_rest : (r : List Item) → log ≡ then.seen ++ r → then.seen ≡ log
       by_rest [] e = sym (e ∙ append-nil then.seen)
@@ -147,8 +160,10 @@ module _ {C : Type 0} (base log : List Item) (root : Root C) (tills : List (Know
   -- so it gained no notes but its own
   pub gains : Closed → GainsOwnNotes (sight_by seat) (sight_by then)
   gains h =
-      let own : drop (length (sight_by seat).own) (sight_by then).own ≡ (sight_by then).own = ap (λ (o : List ℕ). drop (length o) (sight_by then).own) (own_before h) in
-      let items : drop (length seat.seen) then.seen ≡ h.adds.items = ap (λ (l : List Item). drop (length seat.seen) l) h.adds.items_is ∙ drop-append_seam seat.seen h.adds.items in
+      let own : drop (length (sight_by seat).own) (sight_by then).own ≡ (sight_by then).own =
+      ap (λ (o : List ℕ). drop (length o) (sight_by then).own) (own_before h) in
+      let items : drop (length seat.seen) then.seen ≡ h.adds.items = ap (λ (l : List Item). drop (length seat.seen) l)
+      h.adds.items_is ∙ drop-append_seam seat.seen h.adds.items in
       subst (λ (o : List ℕ). AreOwnNotes o (length seat.seen) (drop (length seat.seen) then.seen)) (sym own)
       (subst (λ (l : List Item). AreOwnNotes (sight_by then).own (length seat.seen) l) (sym items)
       (own_all h.adds.items (length seat.seen) (sight_by then).own (λ m first lines e.
@@ -161,7 +176,8 @@ module _ {C : Type 0} (base log : List Item) (root : Root C) (tills : List (Know
       mine h n low (omega arith))))
 
 -- the same numbers are held
-pub still_held : {C : Type 0} (tills : List (Known Item (Root C))) (seat then : Known Item (Root C)) (n : ℕ) → then.numbers ≡ seat.numbers → holders n (tills ++ seat ∷ []) ≡ 1 → 0 < holders n (tills ++ then ∷ [])
+pub still_held : {C : Type 0} (tills : List (Known Item (Root C))) (seat then : Known Item (Root C)) (n : ℕ) →
+    then.numbers ≡ seat.numbers → holders n (tills ++ seat ∷ []) ≡ 1 → 0 < holders n (tills ++ then ∷ [])
 still_held tills seat then n same one =
     let e : times_held n then ≡ times_held n seat = ap (λ (ns : List ℕ). times_held n (record seat { numbers = ns })) same in
     let a = sum_by_push (times_held n) tills seat in
@@ -173,8 +189,10 @@ module _ {C : Type 0} (base : List Item) (root : Root C) where
   new_tills [] h = tt
   new_tills (k ∷ ks) h = (h.0.own, new_tills ks h.1)
 
-  pub closed_from : (log : List Item) (tills : List (Known Item (Root C))) (seat boxed then given : Known Item (Root C)) → boxed ≡ seat → given ≡ then → All (IsNew base root) (tills ++ seat ∷ []) →
-      All (Fits log) (tills ++ given ∷ []) → StartsWith log base → ((n : ℕ) → length base ≤ n → n < length log → owners n (tills ++ given ∷ []) ≡ 1) → Adds AreNotesOrTorn (sight_by boxed) (sight_by then) →
+  pub closed_from : (log : List Item) (tills : List (Known Item (Root C))) (seat boxed then given : Known Item (Root C)) →
+      boxed ≡ seat → given ≡ then → All (IsNew base root) (tills ++ seat ∷ []) →
+      All (Fits log) (tills ++ given ∷ []) → StartsWith log base → ((n : ℕ) → length base ≤ n → n < length log →
+      owners n (tills ++ given ∷ []) ≡ 1) → Adds AreNotesOrTorn (sight_by boxed) (sight_by then) →
       Closed base log root tills boxed then
   closed_from log tills seat boxed then given into back new fits starts since adds =
       let each = all_split (IsNew base root) tills seat (all_each (IsNew base root) (tills ++ seat ∷ []) new) in
@@ -182,7 +200,8 @@ module _ {C : Type 0} (base : List Item) (root : Root C) where
         fresh = subst (λ (k : Known Item (Root C)). IsNew base root k) (sym into) each.1;
         fits = subst (λ (k : Known Item (Root C)). All (Fits log) (tills ++ k ∷ [])) back fits;
         starts = starts;
-        since = subst (λ (k : Known Item (Root C)). (n : ℕ) → length base ≤ n → n < length log → owners n (tills ++ k ∷ []) ≡ 1) back since;
+        since = subst (λ (k : Known Item (Root C)). (n : ℕ) → length base ≤ n → n < length log → owners n (tills ++ k ∷ []) ≡ 1)
+            back since;
         theirs = new_tills tills each.0;
         adds = adds;
       }

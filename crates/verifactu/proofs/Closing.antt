@@ -1,5 +1,6 @@
 -- What the end of a drained shop says of its store.
-use Rattle.std.proofs.Common.{◌≡◌, ◌∙◌, ◌⊎◌, inl, inr, refl, sym, ap, subst, arith, append-nil, append_assoc, ℕ, ◌+◌, ◌-◌, ◌^◌, ◌<◌, ◌≤◌, List, [], ◌++◌, map, length, Bool, IsTrue, Option, Some, None, Result, Ok, Err, OnOk}
+use Rattle.std.proofs.Common.{◌≡◌, ◌∙◌, ◌⊎◌, inl, inr, refl, sym, ap, subst, arith, append-nil, append_assoc, ℕ, ◌+◌, ◌-◌, ◌^◌}
+use Rattle.std.proofs.Common.{◌<◌, ◌≤◌, List, [], ◌++◌, map, length, Bool, IsTrue, Option, Some, None, Result, Ok, Err, OnOk}
 use Rattle.std.specs.Prelude.{IsSome, count_by}
 use Rattle.std.proofs.lemmas.List.{map-append}
 use Rattle.std.proofs.lemmas.List.Sums.{sum_by-append}
@@ -29,13 +30,16 @@ use Rattle.sender.specs.Draining.{is_link}
 use Rattle.sender.specs.Turning.{Kind, Desk}
 use Rattle.recovery.specs.Opening.{IsFound}
 use Rattle.verifactu.specs.Crashes.{StandsBetween, StandsForEnd, StandsSince}
-use Rattle.verifactu.specs.Drained.{AddsNotesAlone, AgreesInFile, Beginning, DiskSpan, IsDiskAnswer, IsOpened, IsSession, IsUnopened, Outcome, Sends, Span, StillAgrees, StoreDrains, from_desk, noted_pairs, spanning, torn_in}
+use Rattle.verifactu.specs.Drained.{AddsNotesAlone, AgreesInFile, Beginning, DiskSpan, IsDiskAnswer, IsOpened, IsSession}
+use Rattle.verifactu.specs.Drained.{IsUnopened, Outcome, Sends, Span, StillAgrees, StoreDrains, from_desk, noted_pairs, spanning}
+use Rattle.verifactu.specs.Drained.{torn_in}
 use Rattle.verifactu.specs.Steps.{EndsBy, EndsSaying, Step, Steps, after_steps, at_start, line_in}
 use Rattle.verifactu.proofs.Agreed.{torn_is}
 use Rattle.verifactu.proofs.Pairs.{pairs_count}
 
 -- the session was opened, and its sender sent
-pub in_session : (begun : Beginning) (plan : Plan) (d : Span) (opened : Desk) → (IsTrue d.kind.keeps_rules → IsTrue d.kind.tells) → IsOpened d.kind begun plan d.start d.old opened → Sends (from_desk opened d) → IsSession begun plan d
+pub in_session : (begun : Beginning) (plan : Plan) (d : Span) (opened : Desk) → (IsTrue d.kind.keeps_rules → IsTrue d.kind.tells)
+    → IsOpened d.kind begun plan d.start d.old opened → Sends (from_desk opened d) → IsSession begun plan d
 in_session begun plan d opened tells opens sends = record {
   opened = opened;
   opens = opens;
@@ -43,13 +47,16 @@ in_session begun plan d opened tells opens sends = record {
   agreement = λ keeps agree.
       let sent = (opens.lists (tells keeps)).sent in
       let there : Agree d.start opened.ledger.processed opened.ledger.sent =
-      subst (λ (ps : List _). Agree d.start ps opened.ledger.sent) (sym (opens.rules keeps)) (subst (λ (ss : List _). Agree d.start (begun d.old.ledger.processed (noted_pairs d.start)) ss) (sym sent) agree) in
+      subst (λ (ps : List _). Agree d.start ps opened.ledger.sent) (sym (opens.rules keeps))
+      (subst (λ (ss : List _). Agree d.start (begun d.old.ledger.processed (noted_pairs d.start)) ss) (sym sent) agree) in
       let still = sends.agreement keeps there in
       record { whole = still.whole; torn = still.torn; no_contradiction = still.no_contradiction; bound = still.bound };
 }
 
-module _ {D C : Type 0} (tells : Bool) (told : D → Told) (faults : D → ℕ) (coming : C → ℕ → Option ℕ) (p0 p1 : Parts D C) (s : IsSound tells told faults coming (root_of told faults p0) p1) where
-  pub between : (c : List ℕ) → sound.StandsBetween p0.state.issuer p0.state.entries (with_torn p1.state.entries p1.stopped p1.torn) c → StandsBetween p0.state.issuer p0.state.entries p1.state.entries (torn_in p1.stopped p1.torn) c
+module _ {D C : Type 0} (tells : Bool) (told : D → Told) (faults : D → ℕ) (coming : C → ℕ → Option ℕ) (p0 p1 : Parts D C)
+    (s : IsSound tells told faults coming (root_of told faults p0) p1) where
+  pub between : (c : List ℕ) → sound.StandsBetween p0.state.issuer p0.state.entries (with_torn p1.state.entries p1.stopped
+      p1.torn) c → StandsBetween p0.state.issuer p0.state.entries p1.state.entries (torn_in p1.stopped p1.torn) c
   between c h = record {
     history = h.history;
     stands = h.stands;
@@ -57,27 +64,48 @@ module _ {D C : Type 0} (tells : Bool) (told : D → Told) (faults : D → ℕ) 
     within = record { rest = h.within.0; parts = sym (torn_is p1.state.entries p1.stopped p1.torn) ∙ h.within.1 };
   }
 
-  pub either : (c : List ℕ) → sound.StandsForEither p0.state.issuer p1.state.entries (with_torn p1.state.entries p1.stopped p1.torn) c → StandsForEnd p0.state.issuer p1.state.entries (torn_in p1.stopped p1.torn) c
+  pub either : (c : List ℕ) → sound.StandsForEither p0.state.issuer p1.state.entries (with_torn p1.state.entries p1.stopped
+      p1.torn) c → StandsForEnd p0.state.issuer p1.state.entries (torn_in p1.stopped p1.torn) c
   either c (inl h) = inl h
-  either c (inr h) = inr (subst (λ (es : List Entry). StandsFor p0.state.issuer es c) (torn_is p1.state.entries p1.stopped p1.torn) h)
+  either c (inr h) = inr (subst (λ (es : List Entry). StandsFor p0.state.issuer es c) (torn_is p1.state.entries p1.stopped
+      p1.torn) h)
 
   risen_by : (o : Option ℕ) → p1.stopped ≡ o → IsSome o → Rose (faults p0.disk) (faults p1.disk)
   risen_by None e some = absurd cc
-  risen_by (Some count) e some = λ below. let h = s.stop count e in let rose = h.rose in let within = h.within in let strict = rose (omega (arith, below, within)) in omega (arith, strict, within)
+  risen_by (Some count) e some = λ below. let h = s.stop count e in let rose = h.rose in let within = h.within in
+      let strict = rose (omega (arith, below, within)) in omega (arith, strict, within)
 
   torn_by : (o : Option ℕ) → p1.stopped ≡ o → (torn_in o p1.torn ≡ []) ⊎ Rose (faults p0.disk) (faults p1.disk)
   torn_by None e = inl refl
   torn_by (Some count) e = inr (risen_by (Some count) e refl)
 
-  pub store_drains : (begun : Beginning) (plan : Plan) (kind : Kind) (old new : Desk) (exact : Bool) (at : ℕ) (turns : List TurnLine) (answer : Result (Unit {0}) DrainFault) (o : Outcome) →
+  pub store_drains : (begun : Beginning) (plan : Plan) (kind : Kind) (old new : Desk) (exact : Bool) (at : ℕ)
+      (turns : List TurnLine) (answer : Result (Unit {0}) DrainFault) (o : Outcome) →
       o ≡ record { end = p1.state.entries; torn = torn_in p1.stopped p1.torn; turns = turns; answer = answer } →
-      IsUnopened (spanning p0.state.entries kind old new exact at o) ⊎ IsSession begun plan (spanning p0.state.entries kind old new exact at o) → AddsNotesAlone p0.state.entries p1.state.entries →
-      (IsDiskAnswer answer → IsSome p1.stopped) → (IsTrue tells → IsImage (told p1.disk).now (told p1.disk).content) → ((issuer : List ℕ) (entries : List Entry) → Legal issuer entries → Linked issuer (recs entries)) →
-      StoreDrains (StandsBetween p0.state.issuer) begun plan p0.state.issuer (record { tells = tells; since = told p0.disk; now = told p1.disk; faults = faults p0.disk; faults_after = faults p1.disk }) (spanning p0.state.entries kind old new exact at o)
+      IsUnopened (spanning p0.state.entries kind old new exact at o) ⊎ IsSession begun plan (spanning p0.state.entries kind old
+      new exact at o) → AddsNotesAlone p0.state.entries p1.state.entries →
+      (IsDiskAnswer answer → IsSome p1.stopped) → (IsTrue tells → IsImage (told p1.disk).now (told p1.disk).content) →
+      ((issuer : List ℕ) (entries : List Entry) → Legal issuer entries → Linked issuer (recs entries)) →
+      StoreDrains (StandsBetween p0.state.issuer) begun plan p0.state.issuer (record {
+        tells = tells;
+        since = told p0.disk;
+        now = told p1.disk;
+        faults = faults p0.disk;
+        faults_after = faults p1.disk;
+      }) (spanning p0.state.entries kind old new
+      exact at o)
   store_drains begun plan kind old new exact at turns answer o is session notes stopped image linked =
-      subst (λ (x : Outcome). StoreDrains (StandsBetween p0.state.issuer) begun plan p0.state.issuer (record { tells = tells; since = told p0.disk; now = told p1.disk; faults = faults p0.disk; faults_after = faults p1.disk }) (spanning p0.state.entries kind old new exact at x)) (sym is)
+      subst (λ (x : Outcome). StoreDrains (StandsBetween p0.state.issuer) begun plan p0.state.issuer (record {
+        tells = tells;
+        since = told p0.disk;
+        now = told p1.disk;
+        faults = faults p0.disk;
+        faults_after = faults p1.disk;
+      })
+      (spanning p0.state.entries kind old new exact at x)) (sym is)
       (record {
-        session = subst (λ (x : Outcome). IsUnopened (spanning p0.state.entries kind old new exact at x) ⊎ IsSession begun plan (spanning p0.state.entries kind old new exact at x)) is session;
+        session = subst (λ (x : Outcome). IsUnopened (spanning p0.state.entries kind old new exact at x) ⊎
+            IsSession begun plan (spanning p0.state.entries kind old new exact at x)) is session;
         notes = notes;
         legal = s.legal;
         linked = linked p0.state.issuer p1.state.entries s.legal;
@@ -92,53 +120,80 @@ module _ {D C : Type 0} (tells : Bool) (told : D → Told) (faults : D → ℕ) 
         later = s.later;
       })
     where
-      in_file : (agrees : StillAgrees (spanning p0.state.entries kind old new exact at (record { end = p1.state.entries; torn = torn_in p1.stopped p1.torn; turns = turns; answer = answer }))) (c : List ℕ) →
+      in_file : (agrees : StillAgrees (spanning p0.state.entries kind old new exact at (record {
+        end = p1.state.entries;
+        torn = torn_in p1.stopped p1.torn;
+        turns = turns;
+        answer = answer;
+      }))) (c : List ℕ) →
           StandsForEnd p0.state.issuer p1.state.entries (torn_in p1.stopped p1.torn) c → AgreesInFile p0.state.issuer new c
       in_file agrees c (inl h) = (_, h, agrees.whole)
       in_file agrees c (inr h) = (_, h, agrees.torn)
 
-since_found : (issuer : List ℕ) (start end torn : List Entry) (c : List ℕ) → AddsNotesAlone start end → IsFound issuer start c → StandsSince issuer start end torn c
+since_found : (issuer : List ℕ) (start end torn : List Entry) (c : List ℕ) → AddsNotesAlone start end → IsFound issuer start c →
+    StandsSince issuer start end torn c
 since_found issuer start end torn c notes (inl not_begun) = inl not_begun
 since_found issuer start end torn c notes (inr stands) = inr (record {
   history = start;
   stands = stands;
   begins = record { rest = []; parts = sym (append-nil start) };
-  within = record { rest = notes.more ++ torn; parts = ap (λ (es : List Entry). es ++ torn) notes.is ∙ append_assoc start notes.more torn };
+  within = record {
+    rest = notes.more ++ torn;
+    parts = ap (λ (es : List Entry). es ++ torn) notes.is ∙ append_assoc start
+        notes.more torn;
+  };
 })
 
 -- what a drain leaves, said since its file was opened
-pub since_opening : (begun : Beginning) (plan : Plan) (issuer : List ℕ) (k : DiskSpan) (d : Span) (first : Told) (faults : ℕ) → StoreDrains (StandsBetween issuer) begun plan issuer k d → (IsTrue k.tells → LeavesOnly first k.since (IsFound issuer d.start)) →
-    faults ≤ k.faults → StoreDrains (StandsSince issuer) begun plan issuer (record { tells = k.tells; since = first; now = k.now; faults = faults; faults_after = k.faults_after }) d
+pub since_opening : (begun : Beginning) (plan : Plan) (issuer : List ℕ) (k : DiskSpan) (d : Span) (first : Told) (faults : ℕ) →
+    StoreDrains (StandsBetween issuer) begun plan issuer k d →
+    (IsTrue k.tells → LeavesOnly first k.since (IsFound issuer d.start)) →
+    faults ≤ k.faults → StoreDrains (StandsSince issuer) begun plan issuer (record {
+      tells = k.tells;
+      since = first;
+      now = k.now;
+      faults = faults;
+      faults_after = k.faults_after;
+    }) d
 since_opening begun plan issuer k d first faults h found early = record {
   session = h.session;
   notes = h.notes;
   legal = h.legal;
   linked = h.linked;
   kept = λ says. let kept = h.kept says in record {
-    each_moment = follows first k.since k.now (IsFound issuer d.start) (StandsBetween issuer d.start d.end d.torn) (StandsSince issuer d.start d.end d.torn) (found says) kept.each_moment
+    each_moment = follows first k.since k.now (IsFound issuer d.start) (StandsBetween issuer d.start d.end d.torn)
+        (StandsSince issuer d.start d.end d.torn) (found says) kept.each_moment
         (λ c here. since_found issuer d.start d.end d.torn c h.notes here) (λ c here. inr here);
     every_crash = kept.every_crash;
     reads = kept.reads;
   };
   images = h.images;
   risen = λ disk below. let rose = h.risen disk in let strict = rose below in omega (arith, strict, early);
-  torn_risen = elim h.torn_risen [ inl none ↦ inl none | inr rose ↦ inr (λ below. let strict = rose below in omega (arith, strict, early)) ];
+  torn_risen = elim h.torn_risen [
+    | inl none ↦ inl none
+    | inr rose ↦ inr (λ below. let strict = rose below in
+        omega (arith, strict, early))
+  ];
   later = let late = h.later in omega (arith, late, early);
 }
 
 one_link : (last : List Step) → EndsSaying last told.Link → count_by is_link (map line_in last) ≡ 1
 one_link last e = ap (λ (steps : List Step). count_by is_link (map line_in steps)) e.is
 
-undelivered_steps : (tells exact : Bool) (records : List Sealed) (from to at : ℕ) (old new : Desk) (turns : List TurnLine) (answer : Result (Unit {0}) DrainFault) → Steps tells exact records from to at old new turns answer → (n r : ℕ) → answer ≡ Err (drain.Undelivered n r) →
+undelivered_steps : (tells exact : Bool) (records : List Sealed) (from to at : ℕ) (old new : Desk) (turns : List TurnLine)
+    (answer : Result (Unit {0}) DrainFault) → Steps tells exact records from to at old new turns answer → (n r : ℕ) →
+    answer ≡ Err (drain.Undelivered n r) →
     (n < r) × (new.faults < 2 ^ 64 - 1 → old.faults + MAX_LINK_FAULTS ≤ new.faults)
 undelivered_steps tells exact records from to at old new turns answer steps n r is =
-    let e = subst (λ (a : Result (Unit {0}) DrainFault). EndsBy records (after_steps (at_start from at) steps.going) (count_by is_link (map line_in steps.going)) to steps.last a) is steps.ends in
+    let e = subst (λ (a : Result (Unit {0}) DrainFault). EndsBy records (after_steps (at_start from at) steps.going)
+    (count_by is_link (map line_in steps.going)) to steps.last a) is steps.ends in
     let a = e.2 in
     let b = e.3 in
     let c = e.4 in (
       omega (arith, a, b, c),
       λ below.
-          let split = ap (λ (ls : List TurnLine). count_by is_link ls) (map-append line_in steps.going steps.last) ∙ sum_by-append _ (map line_in steps.going) (map line_in steps.last) in
+          let split = ap (λ (ls : List TurnLine). count_by is_link ls) (map-append line_in steps.going steps.last) ∙
+          sum_by-append _ (map line_in steps.going) (map line_in steps.last) in
           let one = one_link steps.last e.0 in
           let eight = e.1 in
           let all = steps.links below in
@@ -146,18 +201,23 @@ undelivered_steps tells exact records from to at old new turns answer steps n r 
     )
 
 -- the agency failed eight times in a drain that is undelivered
-pub undelivered_by : (P : List Entry → List Entry → List Entry → List ℕ → Type 0) (begun : Beginning) (plan : Plan) (issuer : List ℕ) (k : DiskSpan) (d : Span) → StoreDrains P begun plan issuer k d → (n r : ℕ) → d.answer ≡ Err (drain.Undelivered n r) →
+pub undelivered_by : (P : List Entry → List Entry → List Entry → List ℕ → Type 0) (begun : Beginning) (plan : Plan)
+    (issuer : List ℕ) (k : DiskSpan) (d : Span) → StoreDrains P begun plan issuer k d → (n r : ℕ) →
+    d.answer ≡ Err (drain.Undelivered n r) →
     (n < r) × (d.new.faults < 2 ^ 64 - 1 → d.old.faults + MAX_LINK_FAULTS ≤ d.new.faults)
 undelivered_by P begun plan issuer k d h n r is = elim h.session [
   | inl u ↦ absurd (let e = sym u.answer ∙ is in cc)
-  | inr s ↦ (let u = undelivered_steps d.kind.tells d.exact (recs d.start) _ _ d.moment s.opened d.new d.turns d.answer s.sends.steps n r is in
+  | inr s ↦ (let u = undelivered_steps d.kind.tells d.exact (recs d.start) _ _ d.moment s.opened d.new d.turns d.answer
+      s.sends.steps n r is in
       let same = s.opens.faults in
       (u.0, λ below. let more = u.1 below in omega (arith, same, more)))
 ]
 
 -- an agency that keeps its rules and agreed doesn't contradict itself
-pub never_contrary : (P : List Entry → List Entry → List Entry → List ℕ → Type 0) (begun : Beginning) (plan : Plan) (issuer : List ℕ) (k : DiskSpan) (d : Span) → StoreDrains P begun plan issuer k d → IsTrue d.kind.keeps_rules →
-    Agree d.start (begun d.old.ledger.processed (noted_pairs d.start)) d.old.ledger.sent → (evidence : Evidence) → d.answer ≡ Err (drain.Contradiction evidence) → ⊥
+pub never_contrary : (P : List Entry → List Entry → List Entry → List ℕ → Type 0) (begun : Beginning) (plan : Plan)
+    (issuer : List ℕ) (k : DiskSpan) (d : Span) → StoreDrains P begun plan issuer k d → IsTrue d.kind.keeps_rules →
+    Agree d.start (begun d.old.ledger.processed (noted_pairs d.start)) d.old.ledger.sent → (evidence : Evidence) →
+    d.answer ≡ Err (drain.Contradiction evidence) → ⊥
 never_contrary P begun plan issuer k d h keeps agree evidence is = elim h.session [
   | inl u ↦ (let e = sym u.answer ∙ is in cc)
   | inr s ↦ (s.agreement keeps agree).no_contradiction evidence is
@@ -169,10 +229,14 @@ both_ok (Ok x) P Q R f p q = f p q
 both_ok (Err e) P Q R f p q = tt
 
 -- a session was opened with the pairs that are noted
-pub opened_by : (kind : Kind) (begun : Beginning) (plan : Plan) (start : List Entry) (old opened : Desk) (pairs : List (Sealed × Line)) → pairs ≡ noted_pairs start → length (noted start) ≤ length (recs start) → (IsTrue kind.tells → Begins old.ledger opened.ledger plan (length pairs)) →
-    (IsTrue kind.keeps_rules → opened.ledger.processed ≡ begun old.ledger.processed pairs) → opened.faults ≡ old.faults → IsOpened kind begun plan start old opened
+pub opened_by : (kind : Kind) (begun : Beginning) (plan : Plan) (start : List Entry) (old opened : Desk)
+    (pairs : List (Sealed × Line)) → pairs ≡ noted_pairs start → length (noted start) ≤ length (recs start) →
+    (IsTrue kind.tells → Begins old.ledger opened.ledger plan (length pairs)) →
+    (IsTrue kind.keeps_rules → opened.ledger.processed ≡ begun old.ledger.processed pairs) → opened.faults ≡ old.faults →
+    IsOpened kind begun plan start old opened
 opened_by kind begun plan start old opened pairs are few lists rules faults = record {
-  lists = λ tells. subst (λ (n : ℕ). Begins old.ledger opened.ledger plan n) (ap length are ∙ pairs_count (recs start) (noted start) few) (lists tells);
+  lists = λ tells. subst (λ (n : ℕ). Begins old.ledger opened.ledger plan n) (ap length are ∙ pairs_count (recs start)
+      (noted start) few) (lists tells);
   rules = λ keeps. rules keeps ∙ ap (λ (ps : List (Sealed × Line)). begun old.ledger.processed ps) are;
   faults = faults;
 }

@@ -1,5 +1,6 @@
 -- Words that are no command.
-use Rattle.std.proofs.Common.{◌≡◌, ℕ, suc, ◌<◌, ◌≤◌, List, [], ◌∷◌, length, get_or, map, refl, sym, ◌∙◌, ap, subst, arith, None, true, false, codes, bytes_eq, ◌==◌}
+use Rattle.std.proofs.Common.{◌≡◌, ℕ, suc, ◌<◌, ◌≤◌, List, [], ◌∷◌, length, get_or, map, refl, sym, ◌∙◌, ap, subst, arith, None}
+use Rattle.std.proofs.Common.{true, false, codes, bytes_eq, ◌==◌}
 use Rattle.std.proofs.lemmas.Bool.Decides.{nat_tests}
 use Rattle.std.proofs.lemmas.Slice.Eq.{bytes_eq-Decides}
 use Rattle.parties.specs.Nif.{IsNif}
@@ -12,7 +13,8 @@ length_map f [] = refl
 length_map f (x ∷ xs) = ap suc (length_map f xs)
 
 -- words of another count than those of every command
-not_asked : (words : List (List ℕ)) → (length words ≡ 1 → ⊥) → (length words ≡ 2 → ⊥) → (length words ≡ 3 → ⊥) → (length words ≡ 4 → ⊥) → (command : Command) → AsksFor words command → ⊥
+not_asked : (words : List (List ℕ)) → (length words ≡ 1 → ⊥) → (length words ≡ 2 → ⊥) → (length words ≡ 3 → ⊥) →
+    (length words ≡ 4 → ⊥) → (command : Command) → AsksFor words command → ⊥
 not_asked words one two three four (Chain issuer) h = three (ap length h.words_are)
 not_asked words one two three four (Day issuer) h = three (ap length h.words_are)
 not_asked words one two three four (Drain issuer) h = three (ap length h.words_are)
@@ -22,10 +24,12 @@ not_asked words one two three four (Generate n) h = two (ap length h.words_are)
 not_asked words one two three four Help h = one (ap length h)
 not_asked words one two three four Version h = one (ap length h)
 
-pub no_command : {A : Type 0} (f : A → List ℕ) (words : List A) → (length words ≡ 1 → ⊥) → (length words ≡ 2 → ⊥) → (length words ≡ 3 → ⊥) → (length words ≡ 4 → ⊥) → IsAskedFor (map f words) None
+pub no_command : {A : Type 0} (f : A → List ℕ) (words : List A) → (length words ≡ 1 → ⊥) → (length words ≡ 2 → ⊥) →
+    (length words ≡ 3 → ⊥) → (length words ≡ 4 → ⊥) → IsAskedFor (map f words) None
 no_command f words one two three four =
     let same = length_map f words in
-    not_asked (map f words) (λ e. one (sym same ∙ e)) (λ e. two (sym same ∙ e)) (λ e. three (sym same ∙ e)) (λ e. four (sym same ∙ e))
+    not_asked (map f words) (λ e. one (sym same ∙ e)) (λ e. two (sym same ∙ e)) (λ e. three (sym same ∙ e))
+    (λ e. four (sym same ∙ e))
 
 bytes_eq_is : (xs ys : List ℕ) → bytes_eq xs ys ≡ true → xs ≡ ys
 bytes_eq_is xs ys h = (bytes_eq-Decides xs ys).0 h
@@ -60,7 +64,8 @@ is_drain name file nif issuer named filed h = record {
   nif = subst (λ (n : List ℕ). IsNif n) (sym h.1) h.0;
 }
 
-pub three_words : {A : Type 0} (xs : List A) (a b c : A) → 3 ≤ length xs → length xs < 4 → a ≡ get_or xs 0 a → b ≡ get_or xs 1 b → c ≡ get_or xs 2 c →
+pub three_words : {A : Type 0} (xs : List A) (a b c : A) → 3 ≤ length xs → length xs < 4 → a ≡ get_or xs 0 a → b ≡ get_or xs 1 b →
+    c ≡ get_or xs 2 c →
     xs ≡ a ∷ (b ∷ (c ∷ []))
 three_words (w ∷ (x ∷ (y ∷ []))) a b c many few first second third = cc
 three_words [] a b c many few first second third = absurd (omega arith)
@@ -68,7 +73,8 @@ three_words (w ∷ []) a b c many few first second third = absurd (omega arith)
 three_words (w ∷ (x ∷ [])) a b c many few first second third = absurd (omega arith)
 three_words (w ∷ (x ∷ (y ∷ (z ∷ xs)))) a b c many few first second third = absurd (omega arith)
 
-pub four_words : {A : Type 0} (xs : List A) (a b c d : A) → 4 ≤ length xs → length xs < 5 → a ≡ get_or xs 0 a → b ≡ get_or xs 1 b → c ≡ get_or xs 2 c → d ≡ get_or xs 3 d →
+pub four_words : {A : Type 0} (xs : List A) (a b c d : A) → 4 ≤ length xs → length xs < 5 → a ≡ get_or xs 0 a →
+    b ≡ get_or xs 1 b → c ≡ get_or xs 2 c → d ≡ get_or xs 3 d →
     xs ≡ a ∷ (b ∷ (c ∷ (d ∷ [])))
 four_words (w ∷ (x ∷ (y ∷ (z ∷ [])))) a b c d many few first second third fourth = cc
 four_words [] a b c d many few first second third fourth = absurd (omega arith)

@@ -17,7 +17,8 @@ count_is word n m value h =
     let is : digits_value 10 word ≡ m = ap (digits_value 10) h.written ∙ (decimal_is_IsNumeral m small).1 in
     omega arith
 
-pub counted : (word : List ℕ) (n : ℕ) → whole_text (digits_value 10 word) ≡ word → n ≡ min (digits_value 10 word) WHOLE_LIMIT → IsInRange 1 MOST n → IsCountOf word n
+pub counted : (word : List ℕ) (n : ℕ) → whole_text (digits_value 10 word) ≡ word → n ≡ min (digits_value 10 word) WHOLE_LIMIT →
+    IsInRange 1 MOST n → IsCountOf word n
 counted word n text value range =
     let same : digits_value 10 word ≡ n = omega arith in
     record { range = range; written = sym text ∙ ap whole_text same ∙ whole_text-decimal n (omega arith) }

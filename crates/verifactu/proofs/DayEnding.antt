@@ -1,5 +1,6 @@
 -- How a day ends, and what its clause says of the whole call.
-use Rattle.std.proofs.Common.{◌≡◌, ◌⊎◌, inl, inr, ℕ, ◌+◌, ◌-◌, ◌^◌, ◌<◌, ◌≤◌, List, [], ◌∷◌, ◌++◌, length, map, sym, ◌∙◌, ap, subst, refl, arith, append_assoc, Bool, true, false, IsTrue, Option, Some, None, Result, Ok, Err}
+use Rattle.std.proofs.Common.{◌≡◌, ◌⊎◌, inl, inr, ℕ, ◌+◌, ◌-◌, ◌^◌, ◌<◌, ◌≤◌, List, [], ◌∷◌, ◌++◌, length, map, sym, ◌∙◌, ap}
+use Rattle.std.proofs.Common.{subst, refl, arith, append_assoc, Bool, true, false, IsTrue, Option, Some, None, Result, Ok, Err}
 use Rattle.std.specs.Prelude.{◌≢◌, Contains, IsErrOf}
 use Rattle.std.specs.List.{AllByRecursion, list_any, range_with_len}
 use Rattle.std.proofs.lemmas.List.{append-nil}
@@ -33,10 +34,12 @@ use Rattle.shop_core.specs.History.{recs, noted}
 use Rattle.shop_core.specs.Legal.{Legal}
 use Rattle.till_calls.specs.Root.{Parts, root_of}
 use Rattle.till_calls.specs.Sound.{IsLater, IsSound}
-use Rattle.verifactu.specs.Beside.{DayRunEnds, DaySession, DaySpan, IsUnbegun, KeptDay, SendsBeside, ShowsLast, StaysAgreed, day_from}
+use Rattle.verifactu.specs.Beside.{DayRunEnds, DaySession, DaySpan, IsUnbegun, KeptDay, SendsBeside, ShowsLast, StaysAgreed}
+use Rattle.verifactu.specs.Beside.{day_from}
 use Rattle.verifactu.specs.Beside.DayRunEnds.{done, write_fault, undelivered, contradiction, disk_fault, no_memory}
 use Rattle.verifactu.specs.Crashes.{IsPrefix, Kept, StandsBetween, StandsForEnd, StandsSince}
-use Rattle.verifactu.specs.Day.{DayEnds, DayServed, LeftTime, NotServed, Served, ShopLeft, ShopRan, StoreDay, StoreDayEnds, StoreKind, TillsEnd, day_text, span_of}
+use Rattle.verifactu.specs.Day.{DayEnds, DayServed, LeftTime, NotServed, Served, ShopLeft, ShopRan, StoreDay, StoreDayEnds}
+use Rattle.verifactu.specs.Day.{StoreKind, TillsEnd, day_text, span_of}
 use Rattle.verifactu.specs.Devices.{Agencies, AllDevices, Clocks, LeftClock, LeftSleeper, Sleepers, this_clock}
 use Rattle.verifactu.specs.Drain.{AgreesAtStart, AllLeft, LeavesTime, NothingRose, desk_after, desk_before, kind_of}
 use Rattle.verifactu.specs.Drained.{AgreesInFile, IsDiskAnswer, IsFaultless, IsOpened, noted_pairs, torn_in}
@@ -56,7 +59,9 @@ use Rattle.verifactu.proofs.RunEnding.{rose_opening}
 no_fault : (replies : Replies) → AllGoOn replies → Contains replies (Err DiskFault) → ⊥
 no_fault replies all has = All-contains IsGoingOn replies (Err DiskFault) (all_of_each IsGoingOn replies all) has
 
-none_torn : (faults faults_after : ℕ) (replies : Replies) (answer : Result (Unit {0}) DrainFault) (stopped : Option ℕ) (torn : Option Entry) → StopsShop faults faults_after stopped replies answer → AllGoOn replies → IsFaultless answer → torn_in stopped torn ≡ []
+none_torn : (faults faults_after : ℕ) (replies : Replies) (answer : Result (Unit {0}) DrainFault) (stopped : Option ℕ)
+    (torn : Option Entry) → StopsShop faults faults_after stopped replies answer → AllGoOn replies → IsFaultless answer →
+    torn_in stopped torn ≡ []
 none_torn faults faults_after replies answer None torn stops all faultless = refl
 none_torn faults faults_after replies answer (Some count) torn stops all faultless = elim stops.first [
   | inl told ↦ absurd (no_fault replies all told)
@@ -64,7 +69,8 @@ none_torn faults faults_after replies answer (Some count) torn stops all faultle
 ]
 
 -- the counts of faults since an earlier count
-stops_since : (first before after : ℕ) (stopped : Option ℕ) (replies : Replies) (answer : Result (Unit {0}) DrainFault) → first ≤ before → StopsShop before after stopped replies answer → StopsShop first after stopped replies answer
+stops_since : (first before after : ℕ) (stopped : Option ℕ) (replies : Replies) (answer : Result (Unit {0}) DrainFault) →
+    first ≤ before → StopsShop before after stopped replies answer → StopsShop first after stopped replies answer
 stops_since first before after None replies answer later stops = stops
 stops_since first before after (Some count) replies answer later stops = record {
   first = stops.first;
@@ -81,27 +87,43 @@ some_fault (Err DiskFault ∷ replies) all some = absurd all.0
 some_fault (Err (Stopped count) ∷ replies) all some = absurd all.0
 
 -- where a till or the sender was told of a fault of the disk, its count rose
-rose_day : (faults after : ℕ) (stopped : Option ℕ) (replies : Replies) (answer : Result (Unit {0}) DrainFault) → StopsShop faults after stopped replies answer → (list_any is_disk_fault replies ≡ true) ⊎ IsDiskAnswer answer → Rose faults after
+rose_day : (faults after : ℕ) (stopped : Option ℕ) (replies : Replies) (answer : Result (Unit {0}) DrainFault) →
+    StopsShop faults after stopped replies answer → (list_any is_disk_fault replies ≡ true) ⊎ IsDiskAnswer answer →
+    Rose faults after
 rose_day faults after None replies answer stops (inl some) = absurd (some_fault replies stops.0 some)
 rose_day faults after None replies answer stops (inr disk) = absurd (stops.1 disk)
-rose_day faults after (Some count) replies answer stops some = λ below. let within = stops.within in let risen = stops.risen (omega (arith, below, within)) in omega (arith, within, risen)
+rose_day faults after (Some count) replies answer stops some = λ below. let within = stops.within in
+    let risen = stops.risen (omega (arith, below, within)) in omega (arith, within, risen)
 
 -- an entry is torn only where it rose
-torn_day : (faults after : ℕ) (stopped : Option ℕ) (torn : Option Entry) (replies : Replies) (answer : Result (Unit {0}) DrainFault) → StopsShop faults after stopped replies answer → (torn_in stopped torn ≡ []) ⊎ Rose faults after
+torn_day : (faults after : ℕ) (stopped : Option ℕ) (torn : Option Entry) (replies : Replies)
+    (answer : Result (Unit {0}) DrainFault) → StopsShop faults after stopped replies answer → (torn_in stopped torn ≡ []) ⊎
+    Rose faults after
 torn_day faults after None torn replies answer stops = inl refl
-torn_day faults after (Some count) torn replies answer stops = inr (λ below. let within = stops.within in let risen = stops.risen (omega (arith, below, within)) in omega (arith, within, risen))
+torn_day faults after (Some count) torn replies answer stops = inr (λ below. let within = stops.within in
+    let risen = stops.risen (omega (arith, below, within)) in omega (arith, within, risen))
 
 -- a till that asks for nothing is none of the tills that ask
-pub none_of : (asks : List Asked) (tills : List TillTold) (till : ℕ) → map (λ (t : TillTold). t.till) tills ≡ tills_of asks → has_asks asks till ≡ false → AllByRecursion (λ (t : TillTold). t.till ≢ till) tills
+pub none_of : (asks : List Asked) (tills : List TillTold) (till : ℕ) → map (λ (t : TillTold). t.till) tills ≡ tills_of asks →
+    has_asks asks till ≡ false → AllByRecursion (λ (t : TillTold). t.till ≢ till) tills
 none_of asks tills till are none =
-    let passes : AllByRecursion (λ (n : ℕ). has_asks asks n ≡ true) (tills_of asks) = each_of_all (λ (n : ℕ). has_asks asks n ≡ true) (tills_of asks) (filter_passes (has_asks asks) (range_with_len 1 LAST_TILL)) in
-    let each = each_unmap (λ (t : TillTold). t.till) (λ (n : ℕ). has_asks asks n ≡ true) tills (subst (λ (l : List ℕ). AllByRecursion (λ (n : ℕ). has_asks asks n ≡ true) l) (sym are) passes) in
-    each_weaker (λ (t : TillTold). has_asks asks t.till ≡ true) (λ (t : TillTold). t.till ≢ till) tills (λ t has e. let both : true ≡ false = sym has ∙ ap (λ (n : ℕ). has_asks asks n) e ∙ none in absurd (let b = both in cc)) each
+    let passes : AllByRecursion (λ (n : ℕ). has_asks asks n ≡ true) (tills_of asks) =
+    each_of_all (λ (n : ℕ). has_asks asks n ≡ true) (tills_of asks) (filter_passes (has_asks asks)
+    (range_with_len 1 LAST_TILL)) in
+    let each = each_unmap (λ (t : TillTold). t.till) (λ (n : ℕ). has_asks asks n ≡ true) tills
+    (subst (λ (l : List ℕ). AllByRecursion (λ (n : ℕ). has_asks asks n ≡ true) l) (sym are) passes) in
+    each_weaker (λ (t : TillTold). has_asks asks t.till ≡ true) (λ (t : TillTold). t.till ≢ till) tills
+    (λ t has e. let both : true ≡ false = sym has ∙ ap (λ (n : ℕ). has_asks asks n) e ∙ none in absurd (let b = both in cc))
+    each
 
-module _ {D C Z G : Type 0} (h : StoreKind D C) (issuer : List ℕ) (asks : List Asked) (plan : Plan) (disk disk_after : D) (clock clock_after : C) (z : Sleepers Z) (a : Agencies G) (opened : Parts D C) (s : Sinks) (end : Detail)
-    (own : opened.state.issuer ≡ issuer) (same_clock : opened.clock ≡ clock) (found : IsTrue h.tells → IsFound issuer opened.state.entries (h.told disk).content)
-    (any_moment : IsTrue h.tells → LeavesOnly (synced (h.told disk)) (h.told opened.disk) (IsFound issuer opened.state.entries)) (every_crash : IsTrue h.tells → LeavesNow (h.told opened.disk) (StandsFor issuer opened.state.entries))
-    (later : h.faults disk ≤ h.faults opened.disk) (reads : (d : D) → IsTrue h.tells → IsImage (h.told d).now (h.told d).content) (rules_tell : IsTrue a.kind.keeps_rules → IsTrue a.kind.tells) where
+module _ {D C Z G : Type 0} (h : StoreKind D C) (issuer : List ℕ) (asks : List Asked) (plan : Plan) (disk disk_after : D)
+    (clock clock_after : C) (z : Sleepers Z) (a : Agencies G) (opened : Parts D C) (s : Sinks) (end : Detail)
+    (own : opened.state.issuer ≡ issuer) (same_clock : opened.clock ≡ clock) (found : IsTrue h.tells →
+    IsFound issuer opened.state.entries (h.told disk).content)
+    (any_moment : IsTrue h.tells → LeavesOnly (synced (h.told disk)) (h.told opened.disk) (IsFound issuer opened.state.entries))
+    (every_crash : IsTrue h.tells → LeavesNow (h.told opened.disk) (StandsFor issuer opened.state.entries))
+    (later : h.faults disk ≤ h.faults opened.disk) (reads : (d : D) → IsTrue h.tells → IsImage (h.told d).now (h.told d).content)
+    (rules_tell : IsTrue a.kind.keeps_rules → IsTrue a.kind.tells) where
   abbrev disks : Disks D
   disks = this_disk h.tells h.told h.faults disk disk_after
 
@@ -112,7 +134,8 @@ module _ {D C Z G : Type 0} (h : StoreKind D C) (issuer : List ℕ) (asks : List
   first = opened.state.entries
 
   -- there was no room for the day of the file that was opened
-  left_opened : ShopLeft (LeftSleeper z) opened disk_after clock_after s end → IsUnbegun (kind_of a) (desk_before a) (desk_after a) ⊎ IsOpened (kind_of a) a.kind.begun plan first (desk_before a) (desk_after a) →
+  left_opened : ShopLeft (LeftSleeper z) opened disk_after clock_after s end → IsUnbegun (kind_of a) (desk_before a)
+      (desk_after a) ⊎ IsOpened (kind_of a) a.kind.begun plan first (desk_before a) (desk_after a) →
       NotServed issuer plan (LeftTime clocks z) s disks a end
   left_opened l begun = record {
     ends = l.ends;
@@ -120,11 +143,13 @@ module _ {D C Z G : Type 0} (h : StoreKind D C) (issuer : List ℕ) (asks : List
     found = found;
     kept = λ says.
         let begins : IsPrefix first first = record { rest = []; parts = sym (append-nil first) } in
-        subst (λ (d : D). Kept (StandsSince issuer first first) issuer first [] (synced (h.told disk)) (h.told d)) (sym l.disk) (record {
+        subst (λ (d : D). Kept (StandsSince issuer first first) issuer first [] (synced (h.told disk)) (h.told d)) (sym l.disk)
+        (record {
           torn = [];
           at_most_one = omega arith;
           by_a_fault = λ all. refl;
-          each_moment = weaker (synced (h.told disk)) (h.told opened.disk) (IsFound issuer first) (StandsSince issuer first first []) (any_moment says) (λ c here. since_found issuer first first [] c begins here);
+          each_moment = weaker (synced (h.told disk)) (h.told opened.disk) (IsFound issuer first) (StandsSince issuer first first
+              []) (any_moment says) (λ c here. since_found issuer first first [] c begins here);
           every_crash = λ c left. inl (every_crash says c left);
           reads = inl (every_crash says (h.told opened.disk).content (inl (refl, reads opened.disk says)));
         });
@@ -133,7 +158,8 @@ module _ {D C Z G : Type 0} (h : StoreKind D C) (issuer : List ℕ) (asks : List
     rest = (l.clock ∙ same_clock, l.rest);
   }
 
-  module _ (desk : Desk) (opens : IsOpened (kind_of a) a.kind.begun plan first (desk_before a) desk) (r : ShopRan h asks (kind_of a) desk (desk_after a) opened disk_after clock_after s end) where
+  module _ (desk : Desk) (opens : IsOpened (kind_of a) a.kind.begun plan first (desk_before a) desk)
+      (r : ShopRan h asks (kind_of a) desk (desk_after a) opened disk_after clock_after s end) where
     abbrev torn : List Entry
     torn = torn_in r.new.stopped r.new.torn
 
@@ -144,19 +170,29 @@ module _ {D C Z G : Type 0} (h : StoreKind D C) (issuer : List ℕ) (asks : List
     begins = record { rest = r.run.sound.begins.0; parts = r.run.sound.begins.1 }
 
     stops : StopsShop (h.faults disk) (h.faults disk_after) r.new.stopped (all_replies r.tills) r.answer
-    stops = stops_since (h.faults disk) (h.faults opened.disk) (h.faults disk_after) r.new.stopped (all_replies r.tills) r.answer later
-        (subst (λ (d : D). StopsShop (h.faults opened.disk) (h.faults d) r.new.stopped (all_replies r.tills) r.answer) (sym r.disk) r.run.stops)
+    stops = stops_since (h.faults disk) (h.faults opened.disk) (h.faults disk_after) r.new.stopped (all_replies r.tills) r.answer
+        later
+        (subst (λ (d : D). StopsShop (h.faults opened.disk) (h.faults d) r.new.stopped (all_replies r.tills) r.answer)
+        (sym r.disk) r.run.stops)
 
     files : IsTrue h.tells → LeavesNow (h.told r.new.disk) (StandsForEnd opened.state.issuer r.new.state.entries torn)
-    files says = λ c left. either h.tells h.told h.faults h.coming opened r.new r.run.sound c ((r.run.sound.crashes says).whole c left)
+    files says = λ c left. either h.tells h.told h.faults h.coming opened r.new r.run.sound c ((r.run.sound.crashes says).whole c
+        left)
 
-    kept : IsTrue h.tells → KeptDay (StandsSince issuer first r.new.state.entries torn) issuer r.new.state.entries torn (synced (h.told disk)) (h.told disk_after)
+    kept : IsTrue h.tells → KeptDay (StandsSince issuer first r.new.state.entries torn) issuer r.new.state.entries torn
+        (synced (h.told disk)) (h.told disk_after)
     kept says =
-        subst (λ (d : D). KeptDay (StandsSince issuer first r.new.state.entries torn) issuer r.new.state.entries torn (synced (h.told disk)) (h.told d)) (sym r.disk)
-        (subst (λ (n : List ℕ). KeptDay (StandsSince n first r.new.state.entries torn) n r.new.state.entries torn (synced (h.told disk)) (h.told r.new.disk)) own (record {
-          each_moment = follows (synced (h.told disk)) (h.told opened.disk) (h.told r.new.disk) (IsFound opened.state.issuer first) (StandsBetween opened.state.issuer first r.new.state.entries torn) (StandsSince opened.state.issuer first r.new.state.entries torn)
-              (subst (λ (n : List ℕ). LeavesOnly (synced (h.told disk)) (h.told opened.disk) (IsFound n first)) (sym own) (any_moment says))
-              (weaker (h.told opened.disk) (h.told r.new.disk) _ (StandsBetween opened.state.issuer first r.new.state.entries torn) (r.run.sound.crashes says).since (between h.tells h.told h.faults h.coming opened r.new r.run.sound))
+        subst (λ (d : D). KeptDay (StandsSince issuer first r.new.state.entries torn) issuer r.new.state.entries torn
+        (synced (h.told disk)) (h.told d)) (sym r.disk)
+        (subst (λ (n : List ℕ). KeptDay (StandsSince n first r.new.state.entries torn) n r.new.state.entries torn
+        (synced (h.told disk)) (h.told r.new.disk)) own (record {
+          each_moment = follows (synced (h.told disk)) (h.told opened.disk) (h.told r.new.disk)
+              (IsFound opened.state.issuer first) (StandsBetween opened.state.issuer first r.new.state.entries torn)
+              (StandsSince opened.state.issuer first r.new.state.entries torn)
+              (subst (λ (n : List ℕ). LeavesOnly (synced (h.told disk)) (h.told opened.disk) (IsFound n first)) (sym own)
+              (any_moment says))
+              (weaker (h.told opened.disk) (h.told r.new.disk) _ (StandsBetween opened.state.issuer first r.new.state.entries
+              torn) (r.run.sound.crashes says).since (between h.tells h.told h.faults h.coming opened r.new r.run.sound))
               (λ c here. since_found opened.state.issuer first r.new.state.entries torn c begins here) (λ c here. inr here);
           every_crash = files says;
           reads = files says (h.told r.new.disk).content (inl (refl, reads r.new.disk says));
@@ -170,7 +206,9 @@ module _ {D C Z G : Type 0} (h : StoreKind D C) (issuer : List ℕ) (asks : List
       agreement = λ keeps agree.
           let sent = (opens.lists (rules_tell keeps)).sent in
           let there : Agree first desk.ledger.processed desk.ledger.sent =
-          subst (λ (ps : List _). Agree first ps desk.ledger.sent) (sym (opens.rules keeps)) (subst (λ (ss : List _). Agree first (a.kind.begun (desk_before a).ledger.processed (noted_pairs first)) ss) (sym sent) agree) in
+          subst (λ (ps : List _). Agree first ps desk.ledger.sent) (sym (opens.rules keeps))
+          (subst (λ (ss : List _). Agree first (a.kind.begun (desk_before a).ledger.processed (noted_pairs first)) ss)
+          (sym sent) agree) in
           let still = r.sends.agreement keeps there in
           record { whole = still.whole; torn = still.torn; no_contradiction = still.no_contradiction };
     }
@@ -178,9 +216,11 @@ module _ {D C Z G : Type 0} (h : StoreKind D C) (issuer : List ℕ) (asks : List
     images : IsTrue h.tells → StaysAgreed span → LeavesNow (h.told disk_after) (AgreesInFile issuer (desk_after a))
     images says agrees =
         subst (λ (d : D). LeavesNow (h.told d) (AgreesInFile issuer (desk_after a))) (sym r.disk)
-        (subst (λ (n : List ℕ). LeavesNow (h.told r.new.disk) (AgreesInFile n (desk_after a))) own (λ c left. in_file c (files says c left)))
+        (subst (λ (n : List ℕ). LeavesNow (h.told r.new.disk) (AgreesInFile n (desk_after a))) own
+        (λ c left. in_file c (files says c left)))
       where
-        in_file : (c : List ℕ) → StandsForEnd opened.state.issuer r.new.state.entries torn c → AgreesInFile opened.state.issuer (desk_after a) c
+        in_file : (c : List ℕ) → StandsForEnd opened.state.issuer r.new.state.entries torn c → AgreesInFile opened.state.issuer
+            (desk_after a) c
         in_file c (inl x) = (_, x, agrees.whole)
         in_file c (inr x) = (_, x, agrees.torn)
 
@@ -194,8 +234,10 @@ module _ {D C Z G : Type 0} (h : StoreKind D C) (issuer : List ℕ) (asks : List
       answer = r.answer;
       found = found;
       tills_are = r.tills_are;
-      served = subst (λ (c : C). AllByRecursion (TillServed issuer (h.coming c) first r.new.state.entries r.new.stopped asks) r.tills) same_clock
-          (subst (λ (n : List ℕ). AllByRecursion (TillServed n (h.coming opened.clock) first r.new.state.entries r.new.stopped asks) r.tills) own r.run.served);
+      served = subst (λ (c : C). AllByRecursion (TillServed issuer (h.coming c) first r.new.state.entries r.new.stopped asks)
+          r.tills) same_clock
+          (subst (λ (n : List ℕ). AllByRecursion (TillServed n (h.coming opened.clock) first r.new.state.entries r.new.stopped
+          asks) r.tills) own r.run.served);
       others = λ till none. r.run.others till (none_of asks r.tills till r.tills_are none);
       begins = begins;
       legal = subst (λ (n : List ℕ). Legal n r.new.state.entries) own r.run.sound.legal;
@@ -203,22 +245,30 @@ module _ {D C Z G : Type 0} (h : StoreKind D C) (issuer : List ℕ) (asks : List
       rising = r.rising;
       stops = stops;
       at_most_one = torn_one r.new.stopped r.new.torn;
-      by_a_fault = λ all faultless. none_torn (h.faults disk) (h.faults disk_after) (all_replies r.tills) r.answer r.new.stopped r.new.torn stops all faultless;
+      by_a_fault = λ all faultless. none_torn (h.faults disk) (h.faults disk_after) (all_replies r.tills) r.answer r.new.stopped
+          r.new.torn stops all faultless;
       torn_risen = torn_day (h.faults disk) (h.faults disk_after) r.new.stopped r.new.torn (all_replies r.tills) r.answer stops;
       kept = kept;
       session = session;
       images = images;
-      rest = subst (λ (c : C). IsLater h.coming clock c) (sym r.clock) (subst (λ (c : C). IsLater h.coming c r.new.clock) same_clock r.run.sound.clock);
+      rest = subst (λ (c : C). IsLater h.coming clock c) (sym r.clock) (subst (λ (c : C). IsLater h.coming c r.new.clock)
+          same_clock r.run.sound.clock);
     }
 
     abbrev Failing : ℕ → ℕ → Type 0
-    Failing n m = (n < m) × (a.kind.faults a.agency_after < 2 ^ 64 - 1 → a.kind.faults a.agency + MAX_LINK_FAULTS ≤ a.kind.faults a.agency_after)
+    Failing n m = (n < m) × (a.kind.faults a.agency_after < 2 ^ 64 - 1 → a.kind.faults a.agency + MAX_LINK_FAULTS ≤ a.kind.faults
+        a.agency_after)
 
     eight_failed : (n m : ℕ) → r.answer ≡ Err (drain.Undelivered n m) → Failing n m
-    eight_failed n m e = let u = r.sends.undelivered n m e in (u.0, λ below. let more = u.1 below in let same = opens.faults in omega (arith, more, same))
+    eight_failed n m e = let u = r.sends.undelivered n m e in (
+      u.0,
+      λ below. let more = u.1 below in let same = opens.faults in
+          omega (arith, more, same),
+    )
 
     abbrev Ends : Detail → Type 0
-    Ends how = DayRunEnds (all_replies r.tills) r.answer (length (noted r.new.state.entries)) (length (recs r.new.state.entries)) (day_text asks r.tills r.new.state.entries) s how
+    Ends how = DayRunEnds (all_replies r.tills) r.answer (length (noted r.new.state.entries)) (length (recs r.new.state.entries))
+        (day_text asks r.tills r.new.state.entries) s how
 
     failed : (how : Detail) → Ends how → (n m : ℕ) → how ≡ detail.Undelivered n m → Failing n m
     failed how (undelivered x y all e w) n m is =
@@ -231,20 +281,25 @@ module _ {D C Z G : Type 0} (h : StoreKind D C) (issuer : List ℕ) (asks : List
     failed how (disk_fault memory sender some w) n m is = absurd cc
     failed how (no_memory w) n m is = absurd cc
 
-    completed : (how : Detail) → Ends how → NothingRose s disks a → IsTrue a.kind.keeps_rules → AgreesAtStart a first → (how ≡ detail.Done) ⊎ (how ≡ detail.NoMemory)
+    completed : (how : Detail) → Ends how → NothingRose s disks a → IsTrue a.kind.keeps_rules → AgreesAtStart a first →
+        (how ≡ detail.Done) ⊎ (how ≡ detail.NoMemory)
     completed how (done all e same w) none keeps agree = inl refl
     completed how (no_memory w) none keeps agree = inr refl
     completed how (write_fault all e same w) none keeps agree = absurd (none.sink w.risen)
     completed how (undelivered n m all e w) none keeps agree =
         let u = eight_failed n m e in
         absurd (none.agency (λ below. let more = u.1 below in omega (arith, more)))
-    completed how (contradiction evidence all e w) none keeps agree = absurd ((session.agreement keeps agree).no_contradiction evidence e)
-    completed how (disk_fault memory sender some w) none keeps agree = absurd (none.disk (rose_day (h.faults disk) (h.faults disk_after) r.new.stopped (all_replies r.tills) r.answer stops some))
+    completed how (contradiction evidence all e w) none keeps agree = absurd ((session.agreement keeps agree).no_contradiction
+        evidence e)
+    completed how (disk_fault memory sender some w) none keeps agree =
+        absurd (none.disk (rose_day (h.faults disk) (h.faults disk_after) r.new.stopped (all_replies r.tills) r.answer stops
+        some))
 
     abbrev Shown : Evidence → Type 0
     Shown evidence = ShowsLast r.new.state.entries desk.ledger.messages (desk_after a).ledger.messages evidence
 
-    only_shown : (how : Detail) → Ends how → IsTrue a.kind.tells → (evidence : Evidence) → how ≡ detail.Contradiction evidence → Shown evidence
+    only_shown : (how : Detail) → Ends how → IsTrue a.kind.tells → (evidence : Evidence) → how ≡ detail.Contradiction evidence →
+        Shown evidence
     only_shown how (contradiction found all e w) says evidence is =
         let same : found ≡ evidence = cc in
         r.sends.contrary says evidence (e ∙ ap (λ (x : Evidence). Err (drain.Contradiction x)) same)
@@ -254,17 +309,20 @@ module _ {D C Z G : Type 0} (h : StoreKind D C) (issuer : List ℕ) (asks : List
     only_shown how (disk_fault memory sender some w) says evidence is = absurd cc
     only_shown how (no_memory w) says evidence is = absurd cc
 
-    each_shown : (how : Detail) → Ends how → IsTrue a.kind.tells → (evidence : Evidence) → Shown evidence → (how ≡ detail.Contradiction evidence) ⊎ (how ≡ detail.NoMemory) ⊎ (how ≡ detail.DiskFault)
+    each_shown : (how : Detail) → Ends how → IsTrue a.kind.tells → (evidence : Evidence) → Shown evidence →
+        (how ≡ detail.Contradiction evidence) ⊎ (how ≡ detail.NoMemory) ⊎ (how ≡ detail.DiskFault)
     each_shown how ends says evidence shows = by_answer how ends (r.sends.shown says evidence shows)
       where
-        by_answer : (how : Detail) → Ends how → IsErrOf r.answer (drain.Contradiction evidence) ⊎ (r.answer ≡ Err drain.NoMemory) → (how ≡ detail.Contradiction evidence) ⊎ (how ≡ detail.NoMemory) ⊎ (how ≡ detail.DiskFault)
+        by_answer : (how : Detail) → Ends how → IsErrOf r.answer (drain.Contradiction evidence) ⊎ (r.answer ≡ Err drain.NoMemory)
+            → (how ≡ detail.Contradiction evidence) ⊎ (how ≡ detail.NoMemory) ⊎ (how ≡ detail.DiskFault)
         by_answer how (done all e same w) (inl is) = absurd (let f = sym e ∙ is in cc)
         by_answer how (done all e same w) (inr none) = absurd (let f = sym e ∙ none in cc)
         by_answer how (write_fault all e same w) (inl is) = absurd (let f = sym e ∙ is in cc)
         by_answer how (write_fault all e same w) (inr none) = absurd (let f = sym e ∙ none in cc)
         by_answer how (undelivered n m all e w) (inl is) = absurd (let f = sym e ∙ is in cc)
         by_answer how (undelivered n m all e w) (inr none) = absurd (let f = sym e ∙ none in cc)
-        by_answer how (contradiction found all e w) (inl is) = let f = sym e ∙ is in let same : found ≡ evidence = cc in inl (ap (λ (x : Evidence). detail.Contradiction x) same)
+        by_answer how (contradiction found all e w) (inl is) = let f = sym e ∙ is in let same : found ≡ evidence = cc in
+            inl (ap (λ (x : Evidence). detail.Contradiction x) same)
         by_answer how (contradiction found all e w) (inr none) = absurd (let f = sym e ∙ none in cc)
         by_answer how (disk_fault memory sender some w) shown = inr (inr refl)
         by_answer how (no_memory w) shown = inr (inl refl)
@@ -281,26 +339,40 @@ module _ {D C Z G : Type 0} (h : StoreKind D C) (issuer : List ℕ) (asks : List
     }
 
   -- the day of an opened store is one of its file, from its opening on
-  pub store_day : StoreDayEnds (LeftSleeper z) h a.kind.begun plan asks (kind_of a) (desk_before a) (desk_after a) opened disk_after clock_after s end →
-      TillsEnd issuer asks plan (h.coming clock) (AllLeft clocks z a) (LeftTime clocks z) (IsLater h.coming clock clock_after) s disks a end
+  pub store_day : StoreDayEnds (LeftSleeper z) h a.kind.begun plan asks (kind_of a) (desk_before a) (desk_after a) opened
+      disk_after clock_after s end →
+      TillsEnd issuer asks plan (h.coming clock) (AllLeft clocks z a) (LeftTime clocks z) (IsLater h.coming clock clock_after) s
+      disks a end
   store_day (inl l) = inr (inr (inl (left_opened l.0 (inl l.1))))
   store_day (inr d) = by_served d.served
     where
-      by_served : (ShopLeft (LeftSleeper z) opened disk_after clock_after s end × (desk_after a ≡ d.opened)) ⊎ ShopRan h asks (kind_of a) d.opened (desk_after a) opened disk_after clock_after s end →
-          TillsEnd issuer asks plan (h.coming clock) (AllLeft clocks z a) (LeftTime clocks z) (IsLater h.coming clock clock_after) s disks a end
-      by_served (inl l) = inr (inr (inl (left_opened l.0 (inr (subst (λ (k : Desk). IsOpened (kind_of a) a.kind.begun plan first (desk_before a) k) (sym l.1) d.opens)))))
+      by_served : (ShopLeft (LeftSleeper z) opened disk_after clock_after s end × (desk_after a ≡ d.opened)) ⊎
+          ShopRan h asks (kind_of a) d.opened (desk_after a) opened disk_after clock_after s end →
+          TillsEnd issuer asks plan (h.coming clock) (AllLeft clocks z a) (LeftTime clocks z) (IsLater h.coming clock clock_after)
+          s disks a end
+      by_served (inl l) = inr (inr (inl (left_opened l.0 (inr (subst (λ (k : Desk). IsOpened (kind_of a) a.kind.begun plan first
+          (desk_before a) k) (sym l.1) d.opens)))))
       by_served (inr r) = inr (inr (inr (day_served d.opened d.opens r)))
 
 -- a till run by readings of one kind is one by readings of another kind that gives the same
-till_run_by : (issuer : List ℕ) (start end : List Entry) (old new : ℕ → Option ℕ) → ((k : ℕ) → old k ≡ new k) → {asks : List Asked} {replies : Replies} {seen : ℕ} {mark : Bool} → TillRun issuer old start end asks replies seen mark → TillRun issuer new start end asks replies seen mark
+till_run_by : (issuer : List ℕ) (start end : List Entry) (old new : ℕ → Option ℕ) → ((k : ℕ) → old k ≡ new k) →
+    {asks : List Asked} {replies : Replies} {seen : ℕ} {mark : Bool} → TillRun issuer old start end asks replies seen mark →
+    TillRun issuer new start end asks replies seen mark
 till_run_by issuer start end old new same unasked = unasked
-till_run_by issuer start end old new same (answered asks replies seen ask reply history gained seconds before low reaches reading tells) =
-    answered asks replies seen ask reply history gained seconds (till_run_by issuer start end old new same before) low reaches (reading.0, subst (λ (o : Option ℕ). IsTold o seconds) (same reading.0) reading.1) tells
-till_run_by issuer start end old new same (tears asks replies seen ask before) = tears asks replies seen ask (till_run_by issuer start end old new same before)
-till_run_by issuer start end old new same (told_stop asks replies seen mark ask count before) = told_stop asks replies seen mark ask count (till_run_by issuer start end old new same before)
-till_run_by issuer start end old new same (without_memory asks replies seen ask before) = without_memory asks replies seen ask (till_run_by issuer start end old new same before)
+till_run_by issuer start end old new same (answered asks replies seen ask reply history gained seconds before low reaches reading
+    tells) =
+    answered asks replies seen ask reply history gained seconds (till_run_by issuer start end old new same before) low reaches
+    (reading.0, subst (λ (o : Option ℕ). IsTold o seconds) (same reading.0) reading.1) tells
+till_run_by issuer start end old new same (tears asks replies seen ask before) = tears asks replies seen ask
+    (till_run_by issuer start end old new same before)
+till_run_by issuer start end old new same (told_stop asks replies seen mark ask count before) = told_stop asks replies seen mark
+    ask count (till_run_by issuer start end old new same before)
+till_run_by issuer start end old new same (without_memory asks replies seen ask before) = without_memory asks replies seen ask
+    (till_run_by issuer start end old new same before)
 
-till_by : (issuer : List ℕ) (start end : List Entry) (count : Option ℕ) (asks : List Asked) (old new : ℕ → Option ℕ) → ((k : ℕ) → old k ≡ new k) → (t : TillTold) → TillServed issuer old start end count asks t → TillServed issuer new start end count asks t
+till_by : (issuer : List ℕ) (start end : List Entry) (count : Option ℕ) (asks : List Asked) (old new : ℕ → Option ℕ) →
+    ((k : ℕ) → old k ≡ new k) → (t : TillTold) → TillServed issuer old start end count asks t → TillServed issuer new start end
+    count asks t
 till_by issuer start end count asks old new same t h = record {
   last = h.last;
   told = h.told;
@@ -311,27 +383,33 @@ till_by issuer start end count asks old new same t h = record {
 }
 
 -- the same end, said of other readings, of another clock and of another sleeper
-pub tills_by : {D G : Type 0} (issuer : List ℕ) (asks : List Asked) (plan : Plan) (old new : ℕ → Option ℕ) (untouched unread unserved unasked' left leaves : Type 0) (s : Sinks) (k : Disks D) (a : Agencies G) (end : Detail) → ((i : ℕ) → old i ≡ new i) → (untouched → unread) → (unserved → unasked') → (left → leaves) →
-    TillsEnd issuer asks plan old untouched unserved left s k a end → TillsEnd issuer asks plan new unread unasked' leaves s k a end
-tills_by issuer asks plan old new untouched unread unserved unasked' left leaves s k a end same u v l (inl h) = inl (record { ends = h.ends; wrote = h.wrote; disk = h.disk; rest = u h.rest })
-tills_by issuer asks plan old new untouched unread unserved unasked' left leaves s k a end same u v l (inr (inl h)) = inr (inl (record {
-  why = h.why;
-  ends = h.ends;
-  risen = h.risen;
-  left_by = h.left_by;
-  every_crash = h.every_crash;
-  wrote = h.wrote;
-  rest = u h.rest;
-}))
-tills_by issuer asks plan old new untouched unread unserved unasked' left leaves s k a end same u v l (inr (inr (inl h))) = inr (inr (inl (record {
-  ends = h.ends;
-  start = h.start;
-  found = h.found;
-  kept = h.kept;
-  begun = h.begun;
-  wrote = h.wrote;
-  rest = v h.rest;
-})))
+pub tills_by : {D G : Type 0} (issuer : List ℕ) (asks : List Asked) (plan : Plan) (old new : ℕ → Option ℕ)
+    (untouched unread unserved unasked' left leaves : Type 0) (s : Sinks) (k : Disks D) (a : Agencies G) (end : Detail) →
+    ((i : ℕ) → old i ≡ new i) → (untouched → unread) → (unserved → unasked') → (left → leaves) →
+    TillsEnd issuer asks plan old untouched unserved left s k a end → TillsEnd issuer asks plan new unread unasked' leaves s k a
+    end
+tills_by issuer asks plan old new untouched unread unserved unasked' left leaves s k a end same u v l (inl h) =
+    inl (record { ends = h.ends; wrote = h.wrote; disk = h.disk; rest = u h.rest })
+tills_by issuer asks plan old new untouched unread unserved unasked' left leaves s k a end same u v l (inr (inl h)) =
+    inr (inl (record {
+      why = h.why;
+      ends = h.ends;
+      risen = h.risen;
+      left_by = h.left_by;
+      every_crash = h.every_crash;
+      wrote = h.wrote;
+      rest = u h.rest;
+    }))
+tills_by issuer asks plan old new untouched unread unserved unasked' left leaves s k a end same u v l (inr (inr (inl h))) =
+    inr (inr (inl (record {
+      ends = h.ends;
+      start = h.start;
+      found = h.found;
+      kept = h.kept;
+      begun = h.begun;
+      wrote = h.wrote;
+      rest = v h.rest;
+    })))
 tills_by issuer asks plan old new untouched unread unserved unasked' left leaves s k a end same u v l (inr (inr (inr h))) =
     let p = h.day in
     inr (inr (inr (record {
@@ -344,7 +422,8 @@ tills_by issuer asks plan old new untouched unread unserved unasked' left leaves
         answer = p.answer;
         found = p.found;
         tills_are = p.tills_are;
-        served = each_weaker (TillServed issuer old p.start p.end p.stopped asks) (TillServed issuer new p.start p.end p.stopped asks) p.tills (till_by issuer p.start p.end p.stopped asks old new same) p.served;
+        served = each_weaker (TillServed issuer old p.start p.end p.stopped asks) (TillServed issuer new p.start p.end p.stopped
+            asks) p.tills (till_by issuer p.start p.end p.stopped asks old new same) p.served;
         others = p.others;
         begins = p.begins;
         legal = p.legal;
@@ -366,26 +445,36 @@ tills_by issuer asks plan old new untouched unread unserved unasked' left leaves
       complete = h.complete;
     })))
 
-module _ {D G : Type 0} (issuer : List ℕ) (asks : List Asked) (plan : Plan) (coming : ℕ → Option ℕ) (s : Sinks) (k : Disks D) (a : Agencies G) where
-  rose_served : (left : Type 0) (end : Detail) (p : Served issuer asks plan coming left k a) → DayRunEnds (all_replies p.tills) p.answer (length (noted p.end)) (length (recs p.end)) (day_text asks p.tills p.end) s end → end ≡ detail.DiskFault → DiskRose k
-  rose_served left end p (disk_fault memory sender some w) is = rose_day (k.faults k.disk) (k.faults k.disk_after) p.stopped (all_replies p.tills) p.answer p.stops some
+module _ {D G : Type 0} (issuer : List ℕ) (asks : List Asked) (plan : Plan) (coming : ℕ → Option ℕ) (s : Sinks) (k : Disks D)
+    (a : Agencies G) where
+  rose_served : (left : Type 0) (end : Detail) (p : Served issuer asks plan coming left k a) → DayRunEnds (all_replies p.tills)
+      p.answer (length (noted p.end)) (length (recs p.end)) (day_text asks p.tills p.end) s end → end ≡ detail.DiskFault →
+      DiskRose k
+  rose_served left end p (disk_fault memory sender some w) is = rose_day (k.faults k.disk) (k.faults k.disk_after) p.stopped
+      (all_replies p.tills) p.answer p.stops some
   rose_served left end p (done all e same w) is = absurd cc
   rose_served left end p (write_fault all e same w) is = absurd cc
   rose_served left end p (undelivered n m all e w) is = absurd cc
   rose_served left end p (contradiction evidence all e w) is = absurd cc
   rose_served left end p (no_memory w) is = absurd cc
 
-  rose_tills : (untouched unserved left : Type 0) (end : Detail) → TillsEnd issuer asks plan coming untouched unserved left s k a end → end ≡ detail.DiskFault → DiskRose k
+  rose_tills : (untouched unserved left : Type 0) (end : Detail) → TillsEnd issuer asks plan coming untouched unserved left s k a
+      end → end ≡ detail.DiskFault → DiskRose k
   rose_tills untouched unserved left end (inl h) is = let none = sym h.ends ∙ is in absurd cc
   rose_tills untouched unserved left end (inr (inl h)) is = rose_opening h.why k h.risen (sym h.ends ∙ is)
   rose_tills untouched unserved left end (inr (inr (inl h))) is = let none = sym h.ends ∙ is in absurd cc
   rose_tills untouched unserved left end (inr (inr (inr h))) is = rose_served left end h.day h.ends is
 
 -- the end of a day that read its script is that of its tills
-pub day_ran : {D C Z G : Type 0} (issuer : List ℕ) (d : AllDevices D C Z G) (script : Script) (end : Detail) → IsGoodScript Full d.devices.source script →
-    TillsEnd issuer script.asks script.plan (readings_of script.clock (d.devices.clock.coming d.devices.clock.clock)) (AllLeft d.devices.clock d.sleeper d.agency) (LeftTime d.devices.clock d.sleeper) (LeavesTime script.clock d.devices.clock d.sleeper) d.devices.sink d.devices.disk d.agency end →
+pub day_ran : {D C Z G : Type 0} (issuer : List ℕ) (d : AllDevices D C Z G) (script : Script) (end : Detail) →
+    IsGoodScript Full d.devices.source script →
+    TillsEnd issuer script.asks script.plan (readings_of script.clock (d.devices.clock.coming d.devices.clock.clock))
+    (AllLeft d.devices.clock d.sleeper d.agency) (LeftTime d.devices.clock d.sleeper) (LeavesTime script.clock d.devices.clock
+    d.sleeper) d.devices.sink d.devices.disk d.agency end →
     DayEnds issuer d end
 day_ran issuer d script end good h = ran script end good (record {
   ends = h;
-  risen = rose_tills issuer script.asks script.plan (readings_of script.clock (d.devices.clock.coming d.devices.clock.clock)) d.devices.sink d.devices.disk d.agency (AllLeft d.devices.clock d.sleeper d.agency) (LeftTime d.devices.clock d.sleeper) (LeavesTime script.clock d.devices.clock d.sleeper) end h;
+  risen = rose_tills issuer script.asks script.plan (readings_of script.clock (d.devices.clock.coming d.devices.clock.clock))
+      d.devices.sink d.devices.disk d.agency (AllLeft d.devices.clock d.sleeper d.agency) (LeftTime d.devices.clock d.sleeper)
+      (LeavesTime script.clock d.devices.clock d.sleeper) end h;
 })

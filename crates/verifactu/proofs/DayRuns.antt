@@ -1,5 +1,6 @@
 -- A day of tills, from their rows to the history at its end.
-use Rattle.std.proofs.Common.{◌≡◌, ◌⊎◌, inl, inr, ℕ, zero, suc, ◌<◌, ◌≤◌, Bool, true, false, List, [], ◌∷◌, ◌++◌, length, drop, map, All, Option, Some, None, Result, Ok, Err, slice_get, refl, ap, sym, ◌∙◌, subst, arith}
+use Rattle.std.proofs.Common.{◌≡◌, ◌⊎◌, inl, inr, ℕ, zero, suc, ◌<◌, ◌≤◌, Bool, true, false, List, [], ◌∷◌, ◌++◌, length, drop}
+use Rattle.std.proofs.Common.{map, All, Option, Some, None, Result, Ok, Err, slice_get, refl, ap, sym, ◌∙◌, subst, arith}
 use Rattle.std.specs.Prelude.{◌≢◌, AllPairs, Contains, IsSome}
 use Rattle.std.specs.List.{AllByRecursion, flat_map}
 use Rattle.std.proofs.lemmas.List.{append-nil, length-append, length-map}
@@ -28,11 +29,13 @@ use Rattle.sender.specs.declared.answers.DrainFault.{DrainFault}
 use Rattle.sender.specs.declared.answers.DrainFault.TheVariants as drain
 use Rattle.verifactu.specs.Drained.{IsDiskAnswer, IsFaultless}
 use Rattle.verifactu.specs.Replies.{IsGoingOn, Replies}
-use Rattle.verifactu.specs.Tills.{AreTaken, DayRun, StopsShop, TellsStop, TillServed, TillTold, all_replies, asks_of, is_from, own_of, stops_in}
+use Rattle.verifactu.specs.Tills.{AreTaken, DayRun, StopsShop, TellsStop, TillServed, TillTold, all_replies, asks_of, is_from}
+use Rattle.verifactu.specs.Tills.{own_of, stops_in}
 use Rattle.verifactu.specs.Works.{Ran, Row, Worked, told_in}
 use Rattle.verifactu.specs.declared.tills.TillDay.{TillDay}
 use Rattle.verifactu.proofs.Each.{each_both, each_front, each_map, each_of_all, each_piece, each_unmap, each_weaker}
-use Rattle.verifactu.proofs.Rows.{AreDistinct, after_all, distinct_of, none_else, own as rows_own, still_held, stop_told, told, Told as RowTold}
+use Rattle.verifactu.proofs.Rows.{AreDistinct, after_all, distinct_of, none_else, own as rows_own, still_held, stop_told, told}
+use Rattle.verifactu.proofs.Rows.{Told as RowTold}
 use Rattle.verifactu.proofs.Theirs.{IsOfTill, Theirs, run_of_till}
 use Rattle.verifactu.proofs.TillRuns.{StopTold, is_stop, items}
 use Rattle.verifactu.proofs.Whole.{Shared, bare, unstopped}
@@ -51,7 +54,8 @@ module _ (stopped : Option ℕ) (torn : Option Entry) where
   records till [] = no_record stopped torn till
   records till (e ∷ end) = by_test (is_from till e) refl (records till end)
     where
-      by_test : (b : Bool) → is_from till e ≡ b → records_of till (items stopped torn end) ≡ map item.Entry (own_of till end) → records_of till (items stopped torn (e ∷ end)) ≡ map item.Entry (own_of till (e ∷ end))
+      by_test : (b : Bool) → is_from till e ≡ b → records_of till (items stopped torn end) ≡ map item.Entry (own_of till end) →
+          records_of till (items stopped torn (e ∷ end)) ≡ map item.Entry (own_of till (e ∷ end))
       by_test true b h = rw (is_of_entry till e, b) (ap (λ (l : List Item). item.Entry e ∷ l) h)
       by_test false b h = rw (is_of_entry till e, b) h
 
@@ -66,8 +70,14 @@ taken [] (e ∷ es) h = absurd (let x = h in cc)
 taken (Ok (Taken receipt) ∷ rs) [] h = absurd (let x = h.3 in cc)
 taken (Ok (Taken receipt) ∷ rs) (e ∷ es) h =
     let same : h.0 ≡ e = (let x = h.3 in cc) in
-    let rest : h.2 ≡ map item.Entry es = (let x = h.3 in cc) in
-    (e, h.1, es, refl, subst (λ (x : Entry). IsTakenAt h.1 x (Taken receipt)) same h.4, taken rs es (subst (λ (l : List Item). TakenItems rs l) rest h.5))
+    let rest : h.2 ≡ map item.Entry es = (let x = h.3 in cc) in (
+      e,
+      h.1,
+      es,
+      refl,
+      subst (λ (x : Entry). IsTakenAt h.1 x (Taken receipt)) same h.4,
+      taken rs es (subst (λ (l : List Item). TakenItems rs l) rest h.5),
+    )
 taken (Ok (Again receipt) ∷ rs) es h = taken rs es h
 taken (Ok (Refused why) ∷ rs) es h = taken rs es h
 taken (Err fault ∷ rs) es h = taken rs es h
@@ -96,36 +106,50 @@ no_some : (o : Option ℕ) → o ≡ None → IsSome o → ⊥
 no_some None e some = absurd (let x = some in cc)
 no_some (Some n) e some = absurd (let x = e in cc)
 
-stop_size : {D C : Type 0} (faults : D → ℕ) (root : Root C) (p : Parts D C) → ((count : ℕ) → p.stopped ≡ Some count → HasStopped faults root p count) → (s : Option ℕ) → p.stopped ≡ s → length (stop_in p.stopped p.torn) ≡ stops_in s
+stop_size : {D C : Type 0} (faults : D → ℕ) (root : Root C) (p : Parts D C) → ((count : ℕ) → p.stopped ≡ Some count →
+    HasStopped faults root p count) → (s : Option ℕ) → p.stopped ≡ s → length (stop_in p.stopped p.torn) ≡ stops_in s
 stop_size faults root p stop None e = ap (λ (o : Option ℕ). length (stop_in o p.torn)) e
-stop_size faults root p stop (Some count) e = let h = stop count e in ap (λ (o : Option ℕ). length (stop_in o p.torn)) e ∙ ap (λ (o : Option Entry). length (stop_in (Some count) o)) h.torn_is
+stop_size faults root p stop (Some count) e = let h = stop count e in ap (λ (o : Option ℕ). length (stop_in o p.torn)) e ∙
+    ap (λ (o : Option Entry). length (stop_in (Some count) o)) h.torn_is
 
-same_tills : {C : Type 0} (coming : C → ℕ → Option ℕ) (asks : List Asked) (rows : List (Row C)) → AllByRecursion (λ (r : Row C). Worked coming asks r) rows → map (λ (r : Row C). r.done.till) rows ≡ map (λ (d : TillDay). d.till) (map (λ (r : Row C). r.day) rows)
+same_tills : {C : Type 0} (coming : C → ℕ → Option ℕ) (asks : List Asked) (rows : List (Row C)) →
+    AllByRecursion (λ (r : Row C). Worked coming asks r) rows → map (λ (r : Row C). r.done.till) rows ≡ map
+    (λ (d : TillDay). d.till) (map (λ (r : Row C). r.day) rows)
 same_tills coming asks [] h = refl
-same_tills coming asks (r ∷ rs) h = let e = h.0.till in let f = same_tills coming asks rs h.1 in ap (λ (n : ℕ). n ∷ map (λ (s : Row _). s.done.till) rs) e ∙ ap (λ (l : List ℕ). r.day.till ∷ l) f
+same_tills coming asks (r ∷ rs) h = let e = h.0.till in let f = same_tills coming asks rs h.1 in
+    ap (λ (n : ℕ). n ∷ map (λ (s : Row _). s.done.till) rs) e ∙ ap (λ (l : List ℕ). r.day.till ∷ l) f
 
-tills_of_rows : {C : Type 0} (rows : List (Row C)) → map (λ (d : TillDay). d.till) (map (λ (r : Row C). r.done) rows) ≡ map (λ (r : Row C). r.done.till) rows
+tills_of_rows : {C : Type 0} (rows : List (Row C)) → map (λ (d : TillDay). d.till) (map (λ (r : Row C). r.done) rows) ≡ map
+    (λ (r : Row C). r.done.till) rows
 tills_of_rows [] = refl
 tills_of_rows (r ∷ rs) = ap (λ (l : List ℕ). r.done.till ∷ l) (tills_of_rows rs)
 
 -- the same tills come back
-pub same_days : {C : Type 0} (coming : C → ℕ → Option ℕ) (asks : List Asked) (days done : List TillDay) (old new : List (Known Item (Root C))) → Ran coming asks days old done new → map (λ (d : TillDay). d.till) done ≡ map (λ (d : TillDay). d.till) days
+pub same_days : {C : Type 0} (coming : C → ℕ → Option ℕ) (asks : List Asked) (days done : List TillDay)
+    (old new : List (Known Item (Root C))) → Ran coming asks days old done new → map (λ (d : TillDay). d.till) done ≡ map
+    (λ (d : TillDay). d.till) days
 same_days coming asks days done old new ran =
-    ap (λ (l : List TillDay). map (λ (d : TillDay). d.till) l) ran.done_are ∙ tills_of_rows ran.rows ∙ same_tills coming asks ran.rows ran.worked ∙ sym (ap (λ (l : List TillDay). map (λ (d : TillDay). d.till) l) ran.days_are)
+    ap (λ (l : List TillDay). map (λ (d : TillDay). d.till) l) ran.done_are ∙ tills_of_rows ran.rows ∙ same_tills coming asks
+    ran.rows ran.worked ∙ sym (ap (λ (l : List TillDay). map (λ (d : TillDay). d.till) l) ran.days_are)
 
 -- where a store goes on, its items are its entries
 pub no_stop_yet : {D C : Type 0} (p : Parts D C) → p.stopped ≡ None → length (items_in p) ≡ length p.state.entries
 no_stop_yet p e =
-    ap (λ (s : Option ℕ). length (map item.Entry p.state.entries ++ stop_in s p.torn)) e ∙ ap (λ (l : List Item). length l) (append-nil (map item.Entry p.state.entries)) ∙ length-map p.state.entries (λ (x : Entry). item.Entry x)
+    ap (λ (s : Option ℕ). length (map item.Entry p.state.entries ++ stop_in s p.torn)) e ∙ ap (λ (l : List Item). length l)
+    (append-nil (map item.Entry p.state.entries)) ∙ length-map p.state.entries (λ (x : Entry). item.Entry x)
 
-module _ {D C : Type 0} (tells : Bool) (tell : D → Told) (faults : D → ℕ) (coming : C → ℕ → Option ℕ) (asks : List Asked) (root : Root C) (p : Parts D C) (for_no_other : AddsForNoOther coming) (what_is_taken : AddsWhatIsTaken coming) where
+module _ {D C : Type 0} (tells : Bool) (tell : D → Told) (faults : D → ℕ) (coming : C → ℕ → Option ℕ) (asks : List Asked)
+    (root : Root C) (p : Parts D C) (for_no_other : AddsForNoOther coming) (what_is_taken : AddsWhatIsTaken coming) where
   abbrev Sound : Type 0
   Sound = IsSound tells tell faults coming root p
 
   low : Sound → length root.history ≤ length p.state.entries
-  low sound = let e = ap (λ (l : List Entry). length l) sound.begins.1 in let g = length-append root.history sound.begins.0 in omega (arith, e, g)
+  low sound = let e = ap (λ (l : List Entry). length l) sound.begins.1 in let g = length-append root.history sound.begins.0 in
+      omega (arith, e, g)
 
-  since_start : (base : List Item) → length base ≡ length root.history → Sound → (till : ℕ) → records_of till (drop (length base) (items_in p)) ≡ map item.Entry (own_of till (drop (length root.history) p.state.entries))
+  since_start : (base : List Item) → length base ≡ length root.history → Sound → (till : ℕ) →
+      records_of till (drop (length base) (items_in p)) ≡ map item.Entry
+      (own_of till (drop (length root.history) p.state.entries))
   since_start base size sound till =
       ap (λ (n : ℕ). records_of till (drop n (items_in p))) size
       ∙ ap (λ (l : List Item). records_of till l) (dropped p.stopped p.torn (length root.history) p.state.entries (low sound))
@@ -134,8 +158,10 @@ module _ {D C : Type 0} (tells : Bool) (tell : D → Told) (faults : D → ℕ) 
   abbrev RowDone : List Item → Row C → Type 0
   RowDone base r = AreTaken r.done.answers.items (own_of r.done.till (drop (length root.history) p.state.entries))
 
-  served : (base : List Item) → length base ≡ length root.history → Sound → (r : Row C) → RowTold coming asks base root p.stopped p.torn p.state.entries for_no_other what_is_taken r →
-      TakenItems r.done.answers.items (records_of r.done.till (drop (length base) (items_in p))) → TillServed root.issuer (coming root.clock) root.history p.state.entries p.stopped asks (told_in r.done)
+  served : (base : List Item) → length base ≡ length root.history → Sound → (r : Row C) → RowTold coming asks base root p.stopped
+      p.torn p.state.entries for_no_other what_is_taken r →
+      TakenItems r.done.answers.items (records_of r.done.till (drop (length base) (items_in p))) →
+      TillServed root.issuer (coming root.clock) root.history p.state.entries p.stopped asks (told_in r.done)
   served base size sound r t own_items =
       let total = length-append (map item.Entry p.state.entries) (stop_in p.stopped p.torn) in
       let entries = length-map p.state.entries (λ (x : Entry). item.Entry x) in
@@ -144,65 +170,96 @@ module _ {D C : Type 0} (tells : Bool) (tell : D → Told) (faults : D → ℕ) 
         last = t.told.seen;
         told = t.told.told;
         run = t.told.run;
-        own = taken r.done.answers.items (own_of r.done.till (drop (length root.history) p.state.entries)) (subst (λ (l : List Item). TakenItems r.done.answers.items l) (since_start base size sound r.done.till) own_items);
+        own = taken r.done.answers.items (own_of r.done.till (drop (length root.history) p.state.entries))
+            (subst (λ (l : List Item). TakenItems r.done.answers.items l) (since_start base size sound r.done.till) own_items);
         at_least = (let a = t.told.within in let b = t.told.least in let c = t.least in omega (arith, a, b, c));
         at_most = (let s = t.saw in omega (arith, s, total, entries, stops));
       }
 
-  stops_by : Sound → (replies : Replies) (answer : Result (Unit {0}) DrainFault) → AllByRecursion (StopTold p.stopped) replies → (IsDiskAnswer answer → IsSome p.stopped) → (IsSome p.stopped → Contains replies (Err DiskFault) ⊎ (IsFaultless answer → ⊥)) → (s : Option ℕ) → p.stopped ≡ s →
+  stops_by : Sound → (replies : Replies) (answer : Result (Unit {0}) DrainFault) → AllByRecursion (StopTold p.stopped) replies →
+      (IsDiskAnswer answer → IsSome p.stopped) → (IsSome p.stopped → Contains replies (Err DiskFault) ⊎ (IsFaultless answer → ⊥))
+      → (s : Option ℕ) → p.stopped ≡ s →
       StopsShop root.faults (faults p.disk) s replies answer
-  stops_by sound replies answer each disk first_told None e =
-      (each_weaker (StopTold None) IsGoingOn replies going_on (subst (λ (o : Option ℕ). AllByRecursion (StopTold o) replies) e each), λ is. no_some p.stopped e (disk is))
+  stops_by sound replies answer each disk first_told None e = (
+    each_weaker (StopTold None) IsGoingOn replies going_on (subst (λ (o : Option ℕ). AllByRecursion (StopTold o) replies) e
+        each),
+    λ is. no_some p.stopped e (disk is),
+  )
   stops_by sound replies answer each disk first_told (Some count) e =
       let h = sound.stop count e in
       record {
         first = first_told (subst (λ (o : Option ℕ). IsSome o) (sym e) refl);
-        later = each_weaker (StopTold (Some count)) (TellsStop count) replies (tells_stop count) (subst (λ (o : Option ℕ). AllByRecursion (StopTold o) replies) e each);
+        later = each_weaker (StopTold (Some count)) (TellsStop count) replies (tells_stop count)
+            (subst (λ (o : Option ℕ). AllByRecursion (StopTold o) replies) e each);
         risen = h.rose;
         within = h.within;
       }
 
   -- the day of all rows
-  module _ (base : List Item) (size : length base ≡ length root.history) (rows : List (Row C)) (seat : Known Item (Root C)) (distinct : AreDistinct (map (λ (r : Row C). r.done.till) rows)) (news : AllByRecursion (λ (r : Row C). IsNew base root r.from) rows)
-      (first : Known Item (Root C)) (first_new : IsNew base root first) (answer : Result (Unit {0}) DrainFault) (bare : (till : ℕ) → OwnsNone till seat) (unstopped : IsFaultless answer → AllByRecursion (λ (z : ℕ × Item). is_stop z.1 ≡ false) seat.own)
-      (disk : IsDiskAnswer answer → IsSome p.stopped) (worked : AllByRecursion (Worked coming asks) rows) (fits : AllByRecursion (Fits (items_in p)) (after_all coming asks rows ++ seat ∷ [])) (starts : StartsWith (items_in p) base)
-      (since : (n : ℕ) → length base ≤ n → n < length (items_in p) → owners n (after_all coming asks rows ++ seat ∷ []) ≡ 1) (sound : Sound) where
+  module _ (base : List Item) (size : length base ≡ length root.history) (rows : List (Row C)) (seat : Known Item (Root C))
+      (distinct : AreDistinct (map (λ (r : Row C). r.done.till) rows))
+      (news : AllByRecursion (λ (r : Row C). IsNew base root r.from) rows)
+      (first : Known Item (Root C)) (first_new : IsNew base root first) (answer : Result (Unit {0}) DrainFault)
+      (bare : (till : ℕ) → OwnsNone till seat) (unstopped : IsFaultless answer →
+      AllByRecursion (λ (z : ℕ × Item). is_stop z.1 ≡ false) seat.own)
+      (disk : IsDiskAnswer answer → IsSome p.stopped) (worked : AllByRecursion (Worked coming asks) rows)
+      (fits : AllByRecursion (Fits (items_in p)) (after_all coming asks rows ++ seat ∷ [])) (starts : StartsWith (items_in p)
+      base)
+      (since : (n : ℕ) → length base ≤ n → n < length (items_in p) → owners n (after_all coming asks rows ++ seat ∷ []) ≡ 1)
+      (sound : Sound) where
     abbrev RTold : Row C → Type 0
     RTold = RowTold coming asks base root p.stopped p.torn p.state.entries for_no_other what_is_taken
 
     all_told : AllByRecursion RTold rows
-    all_told = told coming asks base root p.stopped p.torn p.state.entries for_no_other what_is_taken size rows seat distinct news bare worked fits starts since
+    all_told = told coming asks base root p.stopped p.torn p.state.entries for_no_other what_is_taken size rows seat distinct news
+        bare worked fits starts since
 
-    all_served : AllByRecursion (λ (r : Row C). TillServed root.issuer (coming root.clock) root.history p.state.entries p.stopped asks (told_in r.done)) rows
-    all_served = each_both RTold (λ (r : Row C). TakenItems r.done.answers.items (records_of r.done.till (drop (length base) (items_in p)))) (λ (r : Row C). TillServed root.issuer (coming root.clock) root.history p.state.entries p.stopped asks (told_in r.done)) rows
-        (served base size sound) all_told (rows_own coming asks base root p.stopped p.torn p.state.entries for_no_other what_is_taken size rows seat distinct news bare worked fits starts since)
+    all_served : AllByRecursion (λ (r : Row C). TillServed root.issuer (coming root.clock) root.history p.state.entries p.stopped
+        asks (told_in r.done)) rows
+    all_served = each_both RTold (λ (r : Row C). TakenItems r.done.answers.items
+        (records_of r.done.till (drop (length base) (items_in p)))) (λ (r : Row C). TillServed root.issuer (coming root.clock)
+        root.history p.state.entries p.stopped asks (told_in r.done)) rows
+        (served base size sound) all_told (rows_own coming asks base root p.stopped p.torn p.state.entries for_no_other
+        what_is_taken size rows seat distinct news bare worked fits starts since)
 
     abbrev tills : List TillTold
     tills = map told_in (map (λ (r : Row C). r.done) rows)
 
     replies_are : all_replies tills ≡ flat_map (λ (r : Row C). r.done.answers.items) rows
-    replies_are = flat_map-map (λ (t : TillTold). t.replies) told_in (map (λ (r : Row C). r.done) rows) ∙ flat_map-map (λ (d : TillDay). d.answers.items) (λ (r : Row C). r.done) rows
+    replies_are = flat_map-map (λ (t : TillTold). t.replies) told_in (map (λ (r : Row C). r.done) rows) ∙
+        flat_map-map (λ (d : TillDay). d.answers.items) (λ (r : Row C). r.done) rows
 
     stops_told : AllByRecursion (StopTold p.stopped) (flat_map (λ (r : Row C). r.done.answers.items) rows)
-    stops_told = each_piece (λ (r : Row C). r.done.answers.items) (StopTold p.stopped) rows (each_weaker RTold (λ (r : Row C). AllByRecursion (StopTold p.stopped) r.done.answers.items) rows (λ r t. t.told.stops) all_told)
+    stops_told = each_piece (λ (r : Row C). r.done.answers.items) (StopTold p.stopped) rows
+        (each_weaker RTold (λ (r : Row C). AllByRecursion (StopTold p.stopped) r.done.answers.items) rows (λ r t. t.told.stops)
+        all_told)
 
-    first_told : IsFaultless answer → IsSome p.stopped → Contains (flat_map (λ (r : Row C). r.done.answers.items) rows) (Err DiskFault)
+    first_told : IsFaultless answer → IsSome p.stopped → Contains (flat_map (λ (r : Row C). r.done.answers.items) rows)
+        (Err DiskFault)
     first_told faultless is = by_stop p.stopped refl is
       where
-        by_stop : (s : Option ℕ) → p.stopped ≡ s → IsSome s → Contains (flat_map (λ (r : Row C). r.done.answers.items) rows) (Err DiskFault)
+        by_stop : (s : Option ℕ) → p.stopped ≡ s → IsSome s → Contains (flat_map (λ (r : Row C). r.done.answers.items) rows)
+            (Err DiskFault)
         by_stop None e h = absurd (let x = h in cc)
         by_stop (Some count) e h =
             let stop = sound.stop count e in
             let last : items_in p ≡ map item.Entry p.state.entries ++ item.Stop count stop.torn ∷ [] =
-            ap (λ (o : Option ℕ). map item.Entry p.state.entries ++ stop_in o p.torn) e ∙ ap (λ (o : Option Entry). map item.Entry p.state.entries ++ stop_in (Some count) o) stop.torn_is in
-            let there : slice_get (items_in p) (length p.state.entries) ≡ Some (item.Stop count stop.torn) = ap (λ (l : List Item). slice_get l (length p.state.entries)) last ∙ at_end p.state.entries (item.Stop count stop.torn) [] in
-            let total = ap (λ (l : List Item). length l) last ∙ length-append (map item.Entry p.state.entries) (item.Stop count stop.torn ∷ []) in
+            ap (λ (o : Option ℕ). map item.Entry p.state.entries ++ stop_in o p.torn) e ∙
+            ap (λ (o : Option Entry). map item.Entry p.state.entries ++ stop_in (Some count) o) stop.torn_is in
+            let there : slice_get (items_in p) (length p.state.entries) ≡ Some (item.Stop count stop.torn) =
+            ap (λ (l : List Item). slice_get l (length p.state.entries)) last ∙ at_end p.state.entries
+            (item.Stop count stop.torn) [] in
+            let total = ap (λ (l : List Item). length l) last ∙ length-append (map item.Entry p.state.entries)
+            (item.Stop count stop.torn ∷ []) in
             let entries = length-map p.state.entries (λ (x : Entry). item.Entry x) in
-            stop_told coming asks base root p.stopped p.torn p.state.entries for_no_other what_is_taken size rows seat distinct news bare worked fits starts since (unstopped faultless) (length p.state.entries) (item.Stop count stop.torn) there refl
+            stop_told coming asks base root p.stopped p.torn p.state.entries for_no_other what_is_taken size rows seat distinct
+            news bare worked fits starts since (unstopped faultless) (length p.state.entries) (item.Stop count stop.torn)
+            there refl
             (let l = low sound in omega (arith, size, l)) (omega (arith, total, entries))
 
     -- a till was told of the fault, or the sender may have been
-    some_told : (a : Result (Unit {0}) DrainFault) → (IsFaultless a → IsSome p.stopped → Contains (flat_map (λ (r : Row C). r.done.answers.items) rows) (Err DiskFault)) → IsSome p.stopped →
+    some_told : (a : Result (Unit {0}) DrainFault) → (IsFaultless a → IsSome p.stopped →
+        Contains (flat_map (λ (r : Row C). r.done.answers.items) rows) (Err DiskFault)) → IsSome p.stopped →
         Contains (flat_map (λ (r : Row C). r.done.answers.items) rows) (Err DiskFault) ⊎ (IsFaultless a → ⊥)
     some_told (Ok done) f is = inl (f tt is)
     some_told (Err (drain.Undelivered n r)) f is = inl (f tt is)
@@ -213,62 +270,92 @@ module _ {D C : Type 0} (tells : Bool) (tell : D → Told) (faults : D → ℕ) 
     pub whole : DayRun tells tell faults coming asks root p tills answer
     whole = record {
       sound = sound;
-      served = each_map told_in (TillServed root.issuer (coming root.clock) root.history p.state.entries p.stopped asks) (map (λ (r : Row C). r.done) rows)
-          (each_map (λ (r : Row C). r.done) (λ (d : TillDay). TillServed root.issuer (coming root.clock) root.history p.state.entries p.stopped asks (told_in d)) rows all_served);
+      served = each_map told_in (TillServed root.issuer (coming root.clock) root.history p.state.entries p.stopped asks)
+          (map (λ (r : Row C). r.done) rows)
+          (each_map (λ (r : Row C). r.done) (λ (d : TillDay). TillServed root.issuer (coming root.clock) root.history
+          p.state.entries p.stopped asks (told_in d)) rows all_served);
       others = λ till other. no_entries (own_of till (drop (length root.history) p.state.entries))
-          (sym (since_start base size sound till) ∙ none_else coming asks base root p.stopped p.torn p.state.entries for_no_other what_is_taken size rows seat distinct news bare worked fits starts since first first_new till
-          (each_unmap (λ (r : Row C). r.done) (λ (d : TillDay). d.till ≢ till) rows (each_unmap told_in (λ (t : TillTold). t.till ≢ till) (map (λ (r : Row C). r.done) rows) other)));
-      stops = subst (λ (rs : Replies). StopsShop root.faults (faults p.disk) p.stopped rs answer) (sym replies_are) (stops_by sound (flat_map (λ (r : Row C). r.done.answers.items) rows) answer stops_told disk (some_told answer first_told) p.stopped refl);
+          (sym (since_start base size sound till) ∙ none_else coming asks base root p.stopped p.torn p.state.entries for_no_other
+          what_is_taken size rows seat distinct news bare worked fits starts since first first_new till
+          (each_unmap (λ (r : Row C). r.done) (λ (d : TillDay). d.till ≢ till) rows
+          (each_unmap told_in (λ (t : TillTold). t.till ≢ till) (map (λ (r : Row C). r.done) rows) other)));
+      stops = subst (λ (rs : Replies). StopsShop root.faults (faults p.disk) p.stopped rs answer) (sym replies_are)
+          (stops_by sound (flat_map (λ (r : Row C). r.done.answers.items) rows) answer stops_told disk
+          (some_told answer first_told) p.stopped refl);
     }
 
 -- each number is held again
-pub held_again : {C : Type 0} (coming : C → ℕ → Option ℕ) (asks : List Asked) (days done : List TillDay) (old new : List (Known Item (Root C))) (seat then : Known Item (Root C)) → Ran coming asks days old done new → then.numbers ≡ seat.numbers → (n : ℕ) → holders n (new ++ then ∷ []) ≡ holders n (old ++ seat ∷ [])
+pub held_again : {C : Type 0} (coming : C → ℕ → Option ℕ) (asks : List Asked) (days done : List TillDay)
+    (old new : List (Known Item (Root C))) (seat then : Known Item (Root C)) → Ran coming asks days old done new →
+    then.numbers ≡ seat.numbers → (n : ℕ) → holders n (new ++ then ∷ []) ≡ holders n (old ++ seat ∷ [])
 held_again coming asks days done old new seat then ran same n =
     let e : times_held n then ≡ times_held n seat = ap (λ (ns : List ℕ). times_held n (record seat { numbers = ns })) same in
     let a = sum_by_push (times_held n) new seat in
     let b = sum_by_push (times_held n) new then in
-    let again = ap (λ (l : List (Known Item (Root _))). holders n (l ++ seat ∷ [])) ran.new_are ∙ still_held coming asks n seat ran.rows ran.worked ∙ sym (ap (λ (l : List (Known Item (Root _))). holders n (l ++ seat ∷ [])) ran.old_are) in
+    let again = ap (λ (l : List (Known Item (Root _))). holders n (l ++ seat ∷ [])) ran.new_are ∙ still_held coming asks n seat
+    ran.rows ran.worked ∙ sym (ap (λ (l : List (Known Item (Root _))). holders n (l ++ seat ∷ [])) ran.old_are) in
     omega (arith, e, a, b, again)
 
 -- what the tills that ran own are their records, and the stop over one of them
-own_rows : {C : Type 0} (coming : C → ℕ → Option ℕ) (asks : List Asked) (base : List Item) (root : Root C) (rows : List (Row C)) → AllByRecursion (λ (r : Row C). IsNew base root r.from) rows → AllByRecursion (λ (r : Row C). Worked coming asks r) rows →
+own_rows : {C : Type 0} (coming : C → ℕ → Option ℕ) (asks : List Asked) (base : List Item) (root : Root C) (rows : List (Row C)) →
+    AllByRecursion (λ (r : Row C). IsNew base root r.from) rows → AllByRecursion (λ (r : Row C). Worked coming asks r) rows →
     AllByRecursion (λ (k : Known Item (Root C)). Theirs k) (after_all coming asks rows)
 own_rows coming asks base root [] news worked = tt
 own_rows {C} coming asks base root (r ∷ rs) news worked =
-    let none : Theirs r.from = subst (λ (o : List (ℕ × Item)). AllByRecursion (λ (z : ℕ × Item). IsOfTill z.1) o) (sym news.0.own) tt in
-    (run_of_till coming r.from r.last (asks_of r.done.till asks) r.done.answers.items worked.0.run none, own_rows coming asks base root rs news.1 worked.1)
+    let none : Theirs r.from = subst (λ (o : List (ℕ × Item)). AllByRecursion (λ (z : ℕ × Item). IsOfTill z.1) o) (sym news.0.own)
+    tt in (
+      run_of_till coming r.from r.last (asks_of r.done.till asks) r.done.answers.items worked.0.run none,
+      own_rows coming asks base
+          root rs news.1 worked.1,
+    )
 
-module _ {D C : Type 0} (tells : Bool) (tell : D → Told) (faults : D → ℕ) (coming : C → ℕ → Option ℕ) (asks : List Asked) (p : Parts D C) (root : Root C) (base : List Item) (days done : List TillDay) (old new : List (Known Item (Root C))) (seat then : Known Item (Root C))
+module _ {D C : Type 0} (tells : Bool) (tell : D → Told) (faults : D → ℕ) (coming : C → ℕ → Option ℕ) (asks : List Asked)
+    (p : Parts D C) (root : Root C) (base : List Item) (days done : List TillDay) (old new : List (Known Item (Root C)))
+    (seat then : Known Item (Root C))
     (ran : Ran coming asks days old done new) (fresh : All (IsNew base root) (old ++ seat ∷ [])) where
   news : AllByRecursion (λ (r : Row C). IsNew base root r.from) ran.rows × IsNew base root seat
   news =
       let all : AllByRecursion (IsNew base root) (map (λ (r : Row C). r.from) ran.rows ++ seat ∷ []) =
-      subst (λ (l : List (Known Item (Root C))). AllByRecursion (IsNew base root) (l ++ seat ∷ [])) ran.old_are (each_of_all (IsNew base root) (old ++ seat ∷ []) fresh) in
+      subst (λ (l : List (Known Item (Root C))). AllByRecursion (IsNew base root) (l ++ seat ∷ [])) ran.old_are
+      (each_of_all (IsNew base root) (old ++ seat ∷ []) fresh) in
       let split = each_front (IsNew base root) (map (λ (r : Row C). r.from) ran.rows) seat all in
       (each_unmap (λ (r : Row C). r.from) (IsNew base root) ran.rows split.0, split.1)
 
   -- the closed shop, which the tills and the seat shared
-  pub shared : All (Fits (items_in p)) (new ++ then ∷ []) → StartsWith (items_in p) base → ((n : ℕ) → length base ≤ n → n < length (items_in p) → owners n (new ++ then ∷ []) ≡ 1) → Adds AreNotesOrTorn (sight_by seat) (sight_by then) →
+  pub shared : All (Fits (items_in p)) (new ++ then ∷ []) → StartsWith (items_in p) base →
+      ((n : ℕ) → length base ≤ n → n < length (items_in p) → owners n (new ++ then ∷ []) ≡ 1) →
+      Adds AreNotesOrTorn (sight_by seat) (sight_by then) →
       Shared base (items_in p) root new seat then
   shared fits starts since adds = record {
     fresh = news.1;
     fits = fits;
     starts = starts;
     since = since;
-    theirs = subst (λ (l : List (Known Item (Root C))). AllByRecursion (λ (k : Known Item (Root C)). Theirs k) l) (sym ran.new_are) (own_rows coming asks base root ran.rows news.0 ran.worked);
+    theirs = subst (λ (l : List (Known Item (Root C))). AllByRecursion (λ (k : Known Item (Root C)). Theirs k) l)
+        (sym ran.new_are) (own_rows coming asks base root ran.rows news.0 ran.worked);
     adds = adds;
   }
 
   -- the day of the tills that ran and of the sender beside them, once their shop is closed
-  pub ended : (answer : Result (Unit {0}) DrainFault) → AddsForNoOther coming → AddsWhatIsTaken coming → length base ≡ length root.history → AllPairs (λ (a b : TillDay). a.till ≢ b.till) days → Shared base (items_in p) root new seat then →
-      (IsFaultless answer → Adds AreNotes (sight_by seat) (sight_by then)) → (IsDiskAnswer answer → IsSome p.stopped) → IsSound tells tell faults coming root p → DayRun tells tell faults coming asks root p (map told_in done) answer
+  pub ended : (answer : Result (Unit {0}) DrainFault) → AddsForNoOther coming → AddsWhatIsTaken coming →
+      length base ≡ length root.history → AllPairs (λ (a b : TillDay). a.till ≢ b.till) days → Shared base (items_in p) root new
+      seat then →
+      (IsFaultless answer → Adds AreNotes (sight_by seat) (sight_by then)) → (IsDiskAnswer answer → IsSome p.stopped) →
+      IsSound tells tell faults coming root p → DayRun tells tell faults coming asks root p (map told_in done) answer
   ended answer for_no_other what_is_taken size distinct h notes disk sound =
       let distinct' : AreDistinct (map (λ (r : Row C). r.done.till) ran.rows) =
-      subst (λ (l : List ℕ). AreDistinct l) (sym (same_tills coming asks ran.rows ran.worked)) (subst (λ (l : List TillDay). AreDistinct (map (λ (d : TillDay). d.till) l)) ran.days_are (distinct_of (λ (d : TillDay). d.till) days distinct)) in
+      subst (λ (l : List ℕ). AreDistinct l) (sym (same_tills coming asks ran.rows ran.worked))
+      (subst (λ (l : List TillDay). AreDistinct (map (λ (d : TillDay). d.till) l)) ran.days_are
+      (distinct_of (λ (d : TillDay). d.till) days distinct)) in
       let fits' : AllByRecursion (Fits (items_in p)) (after_all coming asks ran.rows ++ then ∷ []) =
-      subst (λ (l : List (Known Item (Root C))). AllByRecursion (Fits (items_in p)) (l ++ then ∷ [])) ran.new_are (each_of_all (Fits (items_in p)) (new ++ then ∷ []) h.fits) in
-      let since' : (n : ℕ) → length base ≤ n → n < length (items_in p) → owners n (after_all coming asks ran.rows ++ then ∷ []) ≡ 1 =
-      subst (λ (l : List (Known Item (Root C))). (n : ℕ) → length base ≤ n → n < length (items_in p) → owners n (l ++ then ∷ []) ≡ 1) ran.new_are h.since in
+      subst (λ (l : List (Known Item (Root C))). AllByRecursion (Fits (items_in p)) (l ++ then ∷ [])) ran.new_are
+      (each_of_all (Fits (items_in p)) (new ++ then ∷ []) h.fits) in
+      let since' : (n : ℕ) → length base ≤ n → n < length (items_in p) → owners n (after_all coming asks ran.rows ++ then ∷ []) ≡
+      1 =
+      subst (λ (l : List (Known Item (Root C))). (n : ℕ) → length base ≤ n → n < length (items_in p) → owners n (l ++ then ∷ []) ≡
+      1) ran.new_are h.since in
       subst (λ (l : List TillDay). DayRun tells tell faults coming asks root p (map told_in l) answer) (sym ran.done_are)
-      (whole tells tell faults coming asks root p for_no_other what_is_taken base size ran.rows then distinct' news.0 seat news.1 answer (bare base (items_in p) root new seat then h) (λ faultless. unstopped base (items_in p) root new seat then h (notes faultless))
+      (whole tells tell faults coming asks root p for_no_other what_is_taken base size ran.rows then distinct' news.0 seat news.1
+      answer (bare base (items_in p) root new seat then h) (λ faultless. unstopped base (items_in p) root new seat then h
+      (notes faultless))
       disk ran.worked fits' h.starts since' sound)

@@ -1,5 +1,6 @@
 -- The lines of a till.
-use Rattle.std.proofs.Common.{◌≡◌, ◌⊎◌, inr, ℕ, ◌<◌, Bool, false, List, [], ◌∷◌, length, map, Result, Err, refl, sym, subst, ap, ◌∙◌, arith}
+use Rattle.std.proofs.Common.{◌≡◌, ◌⊎◌, inr, ℕ, ◌<◌, Bool, false, List, [], ◌∷◌, length, map, Result, Err, refl, sym, subst, ap}
+use Rattle.std.proofs.Common.{◌∙◌, arith}
 use Rattle.std.specs.Prelude.{◌||◌}
 use Rattle.std.specs.List.{flat_map, list_any}
 use Rattle.std.proofs.lemmas.List.Folds.{flat_map-map, list_any-append}
@@ -27,13 +28,17 @@ no_answers (ask ∷ asks) [] e = refl
 no_answers asks (reply ∷ replies) e = absurd (omega (arith, e))
 
 -- a test of the pieces is one of the whole
-list_any_pieces : {X Y : Type 0} (p : Y → Bool) (f : X → List Y) (xs : List X) → list_any p (flat_map f xs) ≡ list_any (λ (x : X). list_any p (f x)) xs
+list_any_pieces : {X Y : Type 0} (p : Y → Bool) (f : X → List Y) (xs : List X) → list_any p (flat_map f xs) ≡ list_any
+    (λ (x : X). list_any p (f x)) xs
 list_any_pieces p f [] = refl
-list_any_pieces p f (x ∷ xs) = list_any-append p (f x) (flat_map f xs) ∙ ap (λ (b : Bool). list_any p (f x) || b) (list_any_pieces p f xs)
+list_any_pieces p f (x ∷ xs) = list_any-append p (f x) (flat_map f xs) ∙ ap (λ (b : Bool). list_any p (f x) || b)
+    (list_any_pieces p f xs)
 
 -- whether some reply of a day passes a test
-pub any_reply : (p : Result Reply StoreFault → Bool) (days : List TillDay) → list_any p (all_replies (map told_in days)) ≡ list_any (λ (d : TillDay). list_any p d.answers.items) days
-any_reply p days = ap (λ (l : List (Result Reply StoreFault)). list_any p l) (flat_map-map (λ (t : TillTold). t.replies) told_in days) ∙ list_any_pieces p (λ (d : TillDay). d.answers.items) days
+pub any_reply : (p : Result Reply StoreFault → Bool) (days : List TillDay) → list_any p (all_replies (map told_in days)) ≡
+    list_any (λ (d : TillDay). list_any p d.answers.items) days
+any_reply p days = ap (λ (l : List (Result Reply StoreFault)). list_any p l) (flat_map-map (λ (t : TillTold). t.replies) told_in
+    days) ∙ list_any_pieces p (λ (d : TillDay). d.answers.items) days
 
 -- the tills are those of their days
 pub same_numbers : (days : List TillDay) → map (λ (t : TillTold). t.till) (map told_in days) ≡ map (λ (d : TillDay). d.till) days
@@ -41,11 +46,15 @@ same_numbers [] = refl
 same_numbers (d ∷ days) = ap (λ (l : List ℕ). d.till ∷ l) (same_numbers days)
 
 -- the end of a day whose sender failed so
-pub sender_ends : (replies : List (Result Reply StoreFault)) (answer : Result (Unit {0}) DrainFault) (fault : DrainFault) (n r : ℕ) (text : List ℕ) (s : Sinks) → answer ≡ Err fault → AllReplied replies → list_any is_no_memory replies ≡ false → sender_lacks_memory answer ≡ false → Wrote s text ⊎ FailedIn s text →
+pub sender_ends : (replies : List (Result Reply StoreFault)) (answer : Result (Unit {0}) DrainFault) (fault : DrainFault)
+    (n r : ℕ) (text : List ℕ) (s : Sinks) → answer ≡ Err fault → AllReplied replies → list_any is_no_memory replies ≡ false →
+    sender_lacks_memory answer ≡ false → Wrote s text ⊎ FailedIn s text →
     DayRunEnds replies answer n r text s (fault_end fault)
 sender_ends replies answer (drain.Undelivered x y) n r text s is all memory sender w = undelivered x y all is w
 sender_ends replies answer (drain.Contradiction evidence) n r text s is all memory sender w = contradiction evidence all is w
-sender_ends replies answer (drain.Store store.DiskFault) n r text s is all memory sender w = disk_fault memory sender (inr (subst (λ (a : Result (Unit {0}) DrainFault). IsDiskAnswer a) (sym is) tt)) w
-sender_ends replies answer (drain.Store (store.Stopped faults)) n r text s is all memory sender w = disk_fault memory sender (inr (subst (λ (a : Result (Unit {0}) DrainFault). IsDiskAnswer a) (sym is) tt)) w
+sender_ends replies answer (drain.Store store.DiskFault) n r text s is all memory sender w = disk_fault memory sender
+    (inr (subst (λ (a : Result (Unit {0}) DrainFault). IsDiskAnswer a) (sym is) tt)) w
+sender_ends replies answer (drain.Store (store.Stopped faults)) n r text s is all memory sender w = disk_fault memory sender
+    (inr (subst (λ (a : Result (Unit {0}) DrainFault). IsDiskAnswer a) (sym is) tt)) w
 sender_ends replies answer (drain.Store store.NoMemory) n r text s is all memory sender w = no_memory (either_part s text w)
 sender_ends replies answer drain.NoMemory n r text s is all memory sender w = no_memory (either_part s text w)

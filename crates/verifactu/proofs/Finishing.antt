@@ -1,5 +1,6 @@
 -- Where a run of a store begins, and what it comes to.
-use Rattle.std.proofs.Common.{◌≡◌, inl, inr, ℕ, ◌+◌, List, [], ◌∷◌, ◌++◌, append_assoc, sym, ◌∙◌, ap, subst, refl, arith, IsTrue, Option, Some, None, Result, Err}
+use Rattle.std.proofs.Common.{◌≡◌, inl, inr, ℕ, ◌+◌, List, [], ◌∷◌, ◌++◌, append_assoc, sym, ◌∙◌, ap, subst, refl, arith, IsTrue}
+use Rattle.std.proofs.Common.{Option, Some, None, Result, Err}
 use Rattle.std.specs.List.{AllByRecursion}
 use Rattle.std.proofs.lemmas.List.{append-nil}
 use Rattle.chain_disk.specs.Told.{Told, IsImage, LeavesOnly}
@@ -22,17 +23,21 @@ use Rattle.verifactu.specs.Replies.{AllGoOn, IsGoingOn, StopsAt, StopsOnce}
 use Rattle.verifactu.proofs.Progress.{Origin, Point, Progress, SoFar}
 
 -- a store that holds its history stands for it
-pub stands : (history : History) (gate : ℕ) (t : Told) → Holds history gate t → Legal history.issuer history.entries → StandsFor history.issuer history.entries t.content
+pub stands : (history : History) (gate : ℕ) (t : Told) → Holds history gate t → Legal history.issuer history.entries →
+    StandsFor history.issuer history.entries t.content
 stands history gate t h legal = record { frames = h.file.file; encoded = h.encoded; legal = legal }
 
-pub begins : (o : Origin) (p : Point) (replies : List (Result Reply StoreFault)) (gate : ℕ) → replies ≡ [] → p.history.issuer ≡ o.issuer → p.history.entries ≡ o.start → p.now ≡ o.since →
-    p.faults ≡ o.at_faults → p.stopped ≡ None → ((k : ℕ) → p.next k ≡ o.coming k) → Legal p.history.issuer p.history.entries → (IsTrue o.tells → Holds p.history gate p.now) →
+pub begins : (o : Origin) (p : Point) (replies : List (Result Reply StoreFault)) (gate : ℕ) → replies ≡ [] →
+    p.history.issuer ≡ o.issuer → p.history.entries ≡ o.start → p.now ≡ o.since →
+    p.faults ≡ o.at_faults → p.stopped ≡ None → ((k : ℕ) → p.next k ≡ o.coming k) → Legal p.history.issuer p.history.entries →
+    (IsTrue o.tells → Holds p.history gate p.now) →
     SoFar o [] replies p
 begins o p replies gate none issuer start since faults going next legal holds =
     let whole : IsPrefix o.start p.history.entries = record { rest = []; parts = start ∙ sym (append-nil o.start) } in
     let only : IsTrue o.tells → LeavesOnly o.since p.now (StandsBetween o.issuer o.start p.history.entries []) = λ tells.
     let h = holds tells in
-    let here : StandsFor o.issuer p.history.entries p.now.content = subst (λ (n : List ℕ). StandsFor n p.history.entries p.now.content) issuer (stands p.history gate p.now h legal) in
+    let here : StandsFor o.issuer p.history.entries p.now.content = subst (λ (n : List ℕ). StandsFor n p.history.entries
+    p.now.content) issuer (stands p.history gate p.now h legal) in
     subst (λ (t : Told). LeavesOnly t p.now (StandsBetween o.issuer o.start p.history.entries [])) since
     (started_settled p.now (StandsBetween o.issuer o.start p.history.entries []) h.file.nothing_pending (record {
       history = p.history.entries;
@@ -50,28 +55,35 @@ begins o p replies gate none issuer start since faults going next legal holds =
       progress = subst (λ (x : Option ℕ). Progress o [] p x) (sym going) progress;
     })
 
-all_middle : (P : Result Reply StoreFault → Type 0) (before behind : List (Result Reply StoreFault)) (x : Result Reply StoreFault) → AllByRecursion P (before ++ (x ∷ behind)) → P x
+all_middle : (P : Result Reply StoreFault → Type 0) (before behind : List (Result Reply StoreFault)) (x : Result Reply StoreFault)
+    → AllByRecursion P (before ++ (x ∷ behind)) → P x
 all_middle P [] behind x h = h.0
 all_middle P (y ∷ before) behind x h = all_middle P before behind x h.1
 
 -- where the journal has stopped, not all replies go on
 stopped_once : (faults count : ℕ) (replies : List (Result Reply StoreFault)) → StopsAt faults count replies → AllGoOn replies → ⊥
 stopped_once faults count replies h all =
-    all_middle IsGoingOn h.before h.behind (Err DiskFault) (subst (λ (rs : List (Result Reply StoreFault)). AllGoOn rs) h.parts all)
+    all_middle IsGoingOn h.before h.behind (Err DiskFault) (subst (λ (rs : List (Result Reply StoreFault)). AllGoOn rs) h.parts
+    all)
 
-stops_by : (stopped : Option ℕ) (o : Origin) (replies : List (Result Reply StoreFault)) (p : Point) → Progress o replies p stopped → StopsOnce o.at_faults p.faults replies
+stops_by : (stopped : Option ℕ) (o : Origin) (replies : List (Result Reply StoreFault)) (p : Point) → Progress o replies p stopped
+    → StopsOnce o.at_faults p.faults replies
 stops_by None o replies p h = inl h.go_on
 stops_by (Some count) o replies p h = inr (subst (λ (n : ℕ). StopsAt o.at_faults n replies) h.at_this h.stops)
 
-pub stops : (o : Origin) (asks : List Asked) (replies : List (Result Reply StoreFault)) (p : Point) → SoFar o asks replies p → StopsOnce o.at_faults p.faults replies
+pub stops : (o : Origin) (asks : List Asked) (replies : List (Result Reply StoreFault)) (p : Point) → SoFar o asks replies p →
+    StopsOnce o.at_faults p.faults replies
 stops o asks replies p h = stops_by p.stopped o replies p h.progress
 
-kept_by : (stopped : Option ℕ) (o : Origin) (replies : List (Result Reply StoreFault)) (p : Point) (gate : ℕ) → p.history.issuer ≡ o.issuer → Progress o replies p stopped →
-    Legal p.history.issuer p.history.entries → (stopped ≡ None → IsTrue o.tells → Holds p.history gate p.now) → IsImage p.now.now p.now.content → IsTrue o.tells →
+kept_by : (stopped : Option ℕ) (o : Origin) (replies : List (Result Reply StoreFault)) (p : Point) (gate : ℕ) →
+    p.history.issuer ≡ o.issuer → Progress o replies p stopped →
+    Legal p.history.issuer p.history.entries → (stopped ≡ None → IsTrue o.tells → Holds p.history gate p.now) →
+    IsImage p.now.now p.now.content → IsTrue o.tells →
     Kept (StandsBetween o.issuer o.start p.history.entries) o.issuer p.history.entries replies o.since p.now
 kept_by None o replies p gate own g legal holds image tells =
     let h = holds refl tells in
-    let here : StandsFor o.issuer p.history.entries p.now.content = subst (λ (n : List ℕ). StandsFor n p.history.entries p.now.content) own (stands p.history gate p.now h legal) in
+    let here : StandsFor o.issuer p.history.entries p.now.content = subst (λ (n : List ℕ). StandsFor n p.history.entries
+    p.now.content) own (stands p.history gate p.now h legal) in
     record {
       torn = [];
       at_most_one = omega arith;
@@ -91,28 +103,37 @@ kept_by (Some count) o replies p gate own g legal holds image tells =
       reads = left.here p.now.content (inl (refl, image));
     }
 
-pub kept : (o : Origin) (asks : List Asked) (replies : List (Result Reply StoreFault)) (p : Point) (gate : ℕ) → SoFar o asks replies p → Legal p.history.issuer p.history.entries →
+pub kept : (o : Origin) (asks : List Asked) (replies : List (Result Reply StoreFault)) (p : Point) (gate : ℕ) →
+    SoFar o asks replies p → Legal p.history.issuer p.history.entries →
     (p.stopped ≡ None → IsTrue o.tells → Holds p.history gate p.now) → IsImage p.now.now p.now.content → IsTrue o.tells →
     Kept (StandsBetween o.issuer o.start p.history.entries) o.issuer p.history.entries replies o.since p.now
 kept o asks replies p gate h legal holds image tells = kept_by p.stopped o replies p gate h.own h.progress legal holds image tells
 
-pub since_found : (issuer : List ℕ) (start end torn : List Entry) (c : List ℕ) → IsPrefix start end → IsFound issuer start c → StandsSince issuer start end torn c
+pub since_found : (issuer : List ℕ) (start end torn : List Entry) (c : List ℕ) → IsPrefix start end → IsFound issuer start c →
+    StandsSince issuer start end torn c
 since_found issuer start end torn c begins (inl not_begun) = inl not_begun
 since_found issuer start end torn c begins (inr stands) = inr (record {
   history = start;
   stands = stands;
   begins = record { rest = []; parts = sym (append-nil start) };
-  within = record { rest = begins.rest ++ torn; parts = ap (λ (es : List Entry). es ++ torn) begins.parts ∙ append_assoc start begins.rest torn };
+  within = record {
+    rest = begins.rest ++ torn;
+    parts = ap (λ (es : List Entry). es ++ torn) begins.parts ∙ append_assoc start
+        begins.rest torn;
+  };
 })
 
 -- what a run leaves, said since its file was opened
-pub kept_since : (issuer : List ℕ) (start end : List Entry) (replies : List (Result Reply StoreFault)) (first opened now : Told) → IsPrefix start end →
-    LeavesOnly first opened (IsFound issuer start) → Kept (StandsBetween issuer start end) issuer end replies opened now → Kept (StandsSince issuer start end) issuer end replies first now
+pub kept_since : (issuer : List ℕ) (start end : List Entry) (replies : List (Result Reply StoreFault)) (first opened now : Told) →
+    IsPrefix start end →
+    LeavesOnly first opened (IsFound issuer start) → Kept (StandsBetween issuer start end) issuer end replies opened now →
+    Kept (StandsSince issuer start end) issuer end replies first now
 kept_since issuer start end replies first opened now begins found h = record {
   torn = h.torn;
   at_most_one = h.at_most_one;
   by_a_fault = h.by_a_fault;
-  each_moment = follows first opened now (IsFound issuer start) (StandsBetween issuer start end h.torn) (StandsSince issuer start end h.torn) found h.each_moment
+  each_moment = follows first opened now (IsFound issuer start) (StandsBetween issuer start end h.torn)
+      (StandsSince issuer start end h.torn) found h.each_moment
       (λ c here. since_found issuer start end h.torn c begins here) (λ c here. inr here);
   every_crash = h.every_crash;
   reads = h.reads;

@@ -1,5 +1,6 @@
 -- One command more of the generator, and the run of its commands from an empty file.
-use Rattle.std.proofs.Common.{◌≡◌, ◌⊎◌, inl, inr, ℕ, zero, suc, ◌+◌, ◌<◌, List, [], ◌∷◌, ◌++◌, length, length-append, refl, ◌∙◌, ap, subst, arith, Option, Some, Err, slice_get}
+use Rattle.std.proofs.Common.{◌≡◌, ◌⊎◌, inl, inr, ℕ, zero, suc, ◌+◌, ◌<◌, List, [], ◌∷◌, ◌++◌, length, length-append, refl, ◌∙◌}
+use Rattle.std.proofs.Common.{ap, subst, arith, Option, Some, Err, slice_get}
 use Rattle.std.proofs.Math.Path.{fun_ext}
 use Rattle.parties.specs.Nif.{person_letter}
 use Rattle.parties.specs.NifReading.{IsNifReading}
@@ -27,7 +28,8 @@ in_front (y ∷ xs) x (suc i) h = in_front xs x i (omega (arith, h))
 below_or_at : (i n : ℕ) → i < n + 1 → (i < n) ⊎ (i ≡ n)
 below_or_at i n h = grind arith
 
-pub commands_more : (xs : List Asked) (n : ℕ) (x : Asked) → AreCommands n xs → x ≡ command (n + 1) → AreCommands (n + 1) (xs ++ x ∷ [])
+pub commands_more : (xs : List Asked) (n : ℕ) (x : Asked) → AreCommands n xs → x ≡ command (n + 1) →
+    AreCommands (n + 1) (xs ++ x ∷ [])
 commands_more xs n x are is = record {
   count = length-append xs (x ∷ []) ∙ ap (λ k. k + 1) are.count;
   each = λ i h. elim (below_or_at i n h) [
@@ -48,11 +50,13 @@ pub ran : (n : ℕ) (asks : List Asked) (replies : Replies) (start entries : Lis
     ChainRun own (IsComing coming) start asks replies entries → AllReplied replies → Generated n entries
 ran n asks replies start entries own coming are whose nothing told run replied =
     let told_now = subst (λ (c : ℕ → Option ℕ). ChainRun own (IsComing c) start asks replies entries) (fun_ext told) run in
-    let of_issuer = subst (λ (o : List ℕ). ChainRun o (IsComing (λ k. Some (counting START STEP k))) start asks replies entries) whose told_now in
+    let of_issuer = subst (λ (o : List ℕ). ChainRun o (IsComing (λ k. Some (counting START STEP k))) start asks replies entries)
+    whose told_now in
     record {
       asks = asks;
       are = are;
       replies = replies;
-      run = subst (λ (s : List Entry). ChainRun issuer (IsComing (λ k. Some (counting START STEP k))) s asks replies entries) nothing of_issuer;
+      run = subst (λ (s : List Entry). ChainRun issuer (IsComing (λ k. Some (counting START STEP k))) s asks replies entries)
+          nothing of_issuer;
       replied = replied;
     }

@@ -1,5 +1,6 @@
 -- Jobs before a run and after it, as the rows of a day.
-use Rattle.std.proofs.Common.{◌≡◌, ℕ, suc, ◌<◌, List, [], ◌∷◌, ◌++◌, length, get_or, take, drop, map, Option, Some, refl, ap, sym, ◌∙◌, subst, arith, append_assoc, All}
+use Rattle.std.proofs.Common.{◌≡◌, ℕ, suc, ◌<◌, List, [], ◌∷◌, ◌++◌, length, get_or, take, drop, map, Option, Some, refl, ap, sym}
+use Rattle.std.proofs.Common.{◌∙◌, subst, arith, append_assoc, All}
 use Rattle.std.specs.Prelude.{reverse}
 use Rattle.std.specs.List.{AllByRecursion}
 use Rattle.std.proofs.lemmas.List.{append-nil, drop_all, map_push, reverse-append, reverse-reverse, take_all}
@@ -17,7 +18,8 @@ use Rattle.verifactu.specs.declared.tills.TillDay.{TillDay}
 use Rattle.verifactu.proofs.Each.{all_of_each, each_of_all, each_reverse, each_unmap, map_reverse}
 
 -- what a slice of all of a vector leaves in it
-pub written_back : {X : Type 0} (new old : List X) (len : ℕ) → length new ≡ len → length old ≡ len → take len (new ++ drop (length new) old) ≡ new
+pub written_back : {X : Type 0} (new old : List X) (len : ℕ) → length new ≡ len → length old ≡ len →
+    take len (new ++ drop (length new) old) ≡ new
 written_back new old len e f =
     let none : drop (length new) old ≡ [] = drop_all (length new) old (omega (arith, e, f)) in
     ap (λ l. take len (new ++ l)) none ∙ ap (λ l. take len l) (append-nil new) ∙ take_all len new (omega (arith, e))
@@ -26,19 +28,26 @@ reverse_push : {X : Type 0} (xs : List X) (x : X) → reverse (xs ++ x ∷ []) �
 reverse_push xs x = reverse-append xs (x ∷ [])
 
 -- the last of the one list went to the end of the other
-pub put_back : {X Y : Type 0} (f : X → Y) (js all : List X) (j : X) (ys most whole : List Y) (y : Y) → all ≡ js ++ j ∷ [] → f j ≡ y → ys ≡ most ++ y ∷ [] → ys ++ reverse (map f js) ≡ whole → most ++ reverse (map f all) ≡ whole
+pub put_back : {X Y : Type 0} (f : X → Y) (js all : List X) (j : X) (ys most whole : List Y) (y : Y) → all ≡ js ++ j ∷ [] →
+    f j ≡ y → ys ≡ most ++ y ∷ [] → ys ++ reverse (map f js) ≡ whole → most ++ reverse (map f all) ≡ whole
 put_back {X} {Y} f js all j ys most whole y a e l h =
-    ap (λ (w : List X). most ++ reverse (map f w)) a ∙ ap (λ (w : List Y). most ++ reverse w) (map_push f js j) ∙ ap (λ (w : List Y). most ++ w) (reverse_push (map f js) (f j))
-    ∙ ap (λ (z : Y). most ++ z ∷ reverse (map f js)) e ∙ sym (append_assoc most (y ∷ []) (reverse (map f js))) ∙ ap (λ (w : List Y). w ++ reverse (map f js)) (sym l) ∙ h
+    ap (λ (w : List X). most ++ reverse (map f w)) a ∙ ap (λ (w : List Y). most ++ reverse w) (map_push f js j) ∙
+    ap (λ (w : List Y). most ++ w) (reverse_push (map f js) (f j))
+    ∙ ap (λ (z : Y). most ++ z ∷ reverse (map f js)) e ∙ sym (append_assoc most (y ∷ []) (reverse (map f js))) ∙
+    ap (λ (w : List Y). w ++ reverse (map f js)) (sym l) ∙ h
 
-pub take_back : {X Y : Type 0} (f : X → Y) (out : List X) (j : X) (ys all : List Y) (y : Y) → ys ≡ reverse (map f out) → all ≡ ys ++ y ∷ [] → y ≡ f j → all ≡ reverse (map f (j ∷ out))
-take_back {X} {Y} f out j ys all y h e s = e ∙ ap (λ (w : List Y). w ++ y ∷ []) h ∙ ap (λ (z : Y). reverse (map f out) ++ z ∷ []) s ∙ sym (reverse-append (f j ∷ []) (map f out))
+pub take_back : {X Y : Type 0} (f : X → Y) (out : List X) (j : X) (ys all : List Y) (y : Y) → ys ≡ reverse (map f out) →
+    all ≡ ys ++ y ∷ [] → y ≡ f j → all ≡ reverse (map f (j ∷ out))
+take_back {X} {Y} f out j ys all y h e s = e ∙ ap (λ (w : List Y). w ++ y ∷ []) h ∙ ap (λ (z : Y). reverse (map f out) ++ z ∷ [])
+    s ∙ sym (reverse-append (f j ∷ []) (map f out))
 
 -- what holds of all of a list that was turned round holds of each it was made of
-pub all_turned : {X Y : Type 0} (f : X → Y) (P : Y → Type 0) (xs : List X) (ys : List Y) → reverse (map f xs) ≡ ys → All P ys → All (λ (x : X). P (f x)) xs
+pub all_turned : {X Y : Type 0} (f : X → Y) (P : Y → Type 0) (xs : List X) (ys : List Y) → reverse (map f xs) ≡ ys → All P ys →
+    All (λ (x : X). P (f x)) xs
 all_turned {X} {Y} f P xs ys e h =
     let each : AllByRecursion P (reverse (map f xs)) = subst (λ (l : List Y). AllByRecursion P l) (sym e) (each_of_all P ys h) in
-    let back : AllByRecursion P (map f xs) = subst (λ (l : List Y). AllByRecursion P l) (reverse-reverse (map f xs)) (each_reverse P (reverse (map f xs)) each) in
+    let back : AllByRecursion P (map f xs) = subst (λ (l : List Y). AllByRecursion P l) (reverse-reverse (map f xs))
+    (each_reverse P (reverse (map f xs)) each) in
     all_of_each (λ (x : X). P (f x)) xs (each_unmap f P xs back)
 
 pub all_front : {X : Type 0} (P : X → Type 0) (all xs : List X) (x : X) → all ≡ xs ++ x ∷ [] → All P all → All P xs
@@ -65,7 +74,8 @@ module _ {D C : Type 0} (coming : C → ℕ → Option ℕ) (asks : List Asked) 
     new_are : map (λ (j : Job D C). job_knows j) ys ≡ map (λ (r : Row C). known_after r) rows
     worked : AllByRecursion (λ (r : Row C). Worked coming asks r) rows
 
-  by_index : (xs ys : List (Job D C)) → length ys ≡ length xs → ((i : ℕ) (d : Job D C) → i < length xs → Does (get_or xs i d) (get_or ys i d)) → Rows xs ys
+  by_index : (xs ys : List (Job D C)) → length ys ≡ length xs → ((i : ℕ) (d : Job D C) → i < length xs →
+      Does (get_or xs i d) (get_or ys i d)) → Rows xs ys
   unfolding row_of
   by_index [] [] e h = record { rows = []; days_are = refl; old_are = refl; done_are = refl; new_are = refl; worked = tt }
   by_index [] (y ∷ ys) e h = absurd (omega (arith, e))
@@ -78,12 +88,15 @@ module _ {D C : Type 0} (coming : C → ℕ → Option ℕ) (asks : List Asked) 
         days_are = ap (λ (l : List TillDay). day_of x ∷ l) more.days_are;
         old_are = ap (λ (l : List (Known Item (Root C))). job_knows x ∷ l) more.old_are;
         done_are = ap (λ (l : List TillDay). day_of y ∷ l) more.done_are;
-        new_are = ap (λ (k : Known Item (Root C)). k ∷ map (λ (j : Job D C). job_knows j) ys) does.1.new_is ∙ ap (λ (l : List (Known Item (Root C))). known_after (row_of x y does) ∷ l) more.new_are;
+        new_are = ap (λ (k : Known Item (Root C)). k ∷ map (λ (j : Job D C). job_knows j) ys) does.1.new_is ∙
+            ap (λ (l : List (Known Item (Root C))). known_after (row_of x y does) ∷ l) more.new_are;
         worked = (worked_of x y does, more.worked);
       }
 
-  pub ran_of : (xs ys : List (Job D C)) → length ys ≡ length xs → ((i : ℕ) (d : Job D C) → i < length xs → Does (get_or xs i d) (get_or ys i d)) →
-      Ran coming asks (reverse (map (λ (j : Job D C). day_of j) xs)) (reverse (map (λ (j : Job D C). job_knows j) xs)) (reverse (map (λ (j : Job D C). day_of j) ys)) (reverse (map (λ (j : Job D C). job_knows j) ys))
+  pub ran_of : (xs ys : List (Job D C)) → length ys ≡ length xs → ((i : ℕ) (d : Job D C) → i < length xs →
+      Does (get_or xs i d) (get_or ys i d)) →
+      Ran coming asks (reverse (map (λ (j : Job D C). day_of j) xs)) (reverse (map (λ (j : Job D C). job_knows j) xs))
+      (reverse (map (λ (j : Job D C). day_of j) ys)) (reverse (map (λ (j : Job D C). job_knows j) ys))
   ran_of xs ys e h =
       let r = by_index xs ys e h in
       record {
@@ -91,14 +104,19 @@ module _ {D C : Type 0} (coming : C → ℕ → Option ℕ) (asks : List Asked) 
         days_are = ap (λ (l : List TillDay). reverse l) r.days_are ∙ sym (map_reverse (λ (x : Row C). x.day) r.rows);
         old_are = ap (λ (l : List (Known Item (Root C))). reverse l) r.old_are ∙ sym (map_reverse (λ (x : Row C). x.from) r.rows);
         done_are = ap (λ (l : List TillDay). reverse l) r.done_are ∙ sym (map_reverse (λ (x : Row C). x.done) r.rows);
-        new_are = ap (λ (l : List (Known Item (Root C))). reverse l) r.new_are ∙ sym (map_reverse (λ (x : Row C). known_after x) r.rows);
+        new_are = ap (λ (l : List (Known Item (Root C))). reverse l) r.new_are ∙ sym (map_reverse (λ (x : Row C). known_after x)
+            r.rows);
         worked = each_reverse (λ (x : Row C). Worked coming asks x) r.rows r.worked;
       }
 
-  pub own_after : (xs ys : List (Job D C)) (t : TableId) → length ys ≡ length xs → All (λ (j : Job D C). till_shop j.till ≡ t) xs → ((i : ℕ) (d : Job D C) → i < length xs → Does (get_or xs i d) (get_or ys i d)) → All (λ (j : Job D C). till_shop j.till ≡ t) ys
+  pub own_after : (xs ys : List (Job D C)) (t : TableId) → length ys ≡ length xs → All (λ (j : Job D C). till_shop j.till ≡ t) xs
+      → ((i : ℕ) (d : Job D C) → i < length xs → Does (get_or xs i d) (get_or ys i d)) →
+      All (λ (j : Job D C). till_shop j.till ≡ t) ys
   own_after xs ys t e h does = λ i d l. let within : i < length xs = omega (arith, l, e) in (does i d within).0.0 ∙ h i d within
 
-pub ran_as : {C : Type 0} (coming : C → ℕ → Option ℕ) (asks : List Asked) (days days' done done' : List TillDay) (old old' new new' : List (Known Item (Root C))) → days ≡ days' → old ≡ old' → done ≡ done' → new ≡ new' → Ran coming asks days old done new → Ran coming asks days' old' done' new'
+pub ran_as : {C : Type 0} (coming : C → ℕ → Option ℕ) (asks : List Asked) (days days' done done' : List TillDay)
+    (old old' new new' : List (Known Item (Root C))) → days ≡ days' → old ≡ old' → done ≡ done' → new ≡ new' →
+    Ran coming asks days old done new → Ran coming asks days' old' done' new'
 ran_as coming asks days days' done done' old old' new new' e f g h r = record {
   rows = r.rows;
   days_are = sym e ∙ r.days_are;

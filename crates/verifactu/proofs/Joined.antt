@@ -1,5 +1,6 @@
 -- What a sender beside tills leaves, once its shop is closed.
-use Rattle.std.proofs.Common.{◌≡◌, ◌∙◌, ◌⊎◌, inl, inr, ℕ, ◌+◌, List, [], length, map, sym, ap, subst, refl, append-nil, Bool, IsTrue, Option, Result, Err}
+use Rattle.std.proofs.Common.{◌≡◌, ◌∙◌, ◌⊎◌, inl, inr, ℕ, ◌+◌, List, [], length, map, sym, ap, subst, refl, append-nil, Bool}
+use Rattle.std.proofs.Common.{IsTrue, Option, Result, Err}
 use Rattle.std.specs.Prelude.{IsErrOf}
 use Rattle.record_fields.specs.declared.lines.Line.{Line}
 use Rattle.chain_disk.specs.Told.{Told}
@@ -31,11 +32,23 @@ use Rattle.verifactu.proofs.Agreed.{agree_new, entries_back, sight_new, torn_is}
 use Rattle.verifactu.proofs.Contrary.{asked_of_more, none_yet, one_shown}
 use Rattle.verifactu.proofs.Whole.{Kept, Shared, agreed, agreed_torn, gains, still_waits}
 
-module _ {D C : Type 0} (tells : Bool) (told : D → Told) (faults : D → ℕ) (coming : C → ℕ → Option ℕ) (p : Parts D C) (root : Root C) (base : List Item) (tills : List (Known Item (Root C))) (seat then : Known Item (Root C)) (h : Shared base (items_in p) root tills seat then)
-    (sound : IsSound tells told faults coming root p) (is : base ≡ map item.Entry root.history) (legal : Legal root.issuer root.history) (kind : Kind) (old new : Desk) (sending : Sending) (answer : Result (Unit {0}) DrainFault)
+module _ {D C : Type 0} (tells : Bool) (told : D → Told) (faults : D → ℕ) (coming : C → ℕ → Option ℕ) (p : Parts D C)
+    (root : Root C) (base : List Item) (tills : List (Known Item (Root C))) (seat then : Known Item (Root C))
+    (h : Shared base (items_in p) root tills seat then)
+    (sound : IsSound tells told faults coming root p) (is : base ≡ map item.Entry root.history)
+    (legal : Legal root.issuer root.history) (kind : Kind) (old new : Desk) (sending : Sending)
+    (answer : Result (Unit {0}) DrainFault)
     (sends : SendsOn kind (sight_by seat) (sight_by then) old new fresh sending answer) where
   abbrev span : DaySpan
-  span = record { start = root.history; end = p.state.entries; torn = torn_in p.stopped p.torn; kind = kind; old = old; new = new; answer = answer }
+  span = record {
+    start = root.history;
+    end = p.state.entries;
+    torn = torn_in p.stopped p.torn;
+    kind = kind;
+    old = old;
+    new = new;
+    answer = answer;
+  }
 
   kept : Kept base (items_in p) root tills seat then h root.history p.state.entries p.stopped p.torn
   kept = record { base_is = is; log_is = refl; begins = sound.begins }
@@ -43,23 +56,33 @@ module _ {D C : Type 0} (tells : Bool) (told : D → Told) (faults : D → ℕ) 
   begun : history_of (sight_by seat) ≡ root.history
   begun = ap history_of (sight_new base root seat h.fresh is) ∙ entries_back root.history
 
-  still : RecordsKeepAgreement → BeginsInSession → IsTrue kind.keeps_rules → Agree root.history old.ledger.processed old.ledger.sent → StaysAgreed span
+  still : RecordsKeepAgreement → BeginsInSession → IsTrue kind.keeps_rules → Agree root.history old.ledger.processed
+      old.ledger.sent → StaysAgreed span
   still records session keeps agree =
       let own = gains base (items_in p) root tills seat then h in
-      let in_it : InSession (sight_by seat) old.ledger fresh.said = session (sight_by seat) old.ledger (agree_new base root seat old.ledger.processed old.ledger.sent h.fresh is agree) in
+      let in_it : InSession (sight_by seat) old.ledger fresh.said = session (sight_by seat) old.ledger
+      (agree_new base root seat old.ledger.processed old.ledger.sent h.fresh is agree) in
       let k = sends.session keeps in_it own in
       let t = sends.torn keeps in_it own in
       record {
-        whole = agreed base (items_in p) root tills seat then h root.history p.state.entries p.stopped p.torn kept records new.ledger k.session.agree;
-        torn = subst (λ (es : List Entry). Agree es new.ledger.processed new.ledger.sent) (torn_is p.state.entries p.stopped p.torn)
-            (agreed_torn base (items_in p) root tills seat then h root.history p.state.entries p.stopped p.torn kept records new.ledger k.session.agree t);
+        whole = agreed base (items_in p) root tills seat then h root.history p.state.entries p.stopped p.torn kept records
+            new.ledger k.session.agree;
+        torn = subst (λ (es : List Entry). Agree es new.ledger.processed new.ledger.sent) (torn_is p.state.entries p.stopped
+            p.torn)
+            (agreed_torn base (items_in p) root tills seat then h root.history p.state.entries p.stopped p.torn kept records
+            new.ledger k.session.agree t);
         no_contradiction = sends.no_contradiction keeps in_it own;
       }
 
-  nothing_blindly : BeginsCareful → IsTrue kind.tells → AreRunsBy (recs root.history) (length (noted root.history) + 1000) (batches_in old.ledger.messages) → SaysNothingBlindly old.ledger.messages new.ledger.messages
+  nothing_blindly : BeginsCareful → IsTrue kind.tells → AreRunsBy (recs root.history) (length (noted root.history) + 1000)
+      (batches_in old.ledger.messages) → SaysNothingBlindly old.ledger.messages new.ledger.messages
   nothing_blindly careful says runs =
-      let there = subst (λ (n : List ℕ). Legal n (history_of (sight_by seat))) (sym (ap (λ (s : Sight). s.issuer) (sight_new base root seat h.fresh is))) (subst (λ (es : List Entry). Legal root.issuer es) (sym begun) legal) in
-      let start = careful old.ledger.messages (sight_by seat) there (subst (λ (es : List Entry). AreRunsBy (recs es) (length (noted es) + 1000) (batches_in old.ledger.messages)) (sym begun) runs) in
+      let there = subst (λ (n : List ℕ). Legal n (history_of (sight_by seat)))
+      (sym (ap (λ (s : Sight). s.issuer) (sight_new base root seat h.fresh is)))
+      (subst (λ (es : List Entry). Legal root.issuer es) (sym begun) legal) in
+      let start = careful old.ledger.messages (sight_by seat) there
+      (subst (λ (es : List Entry). AreRunsBy (recs es) (length (noted es) + 1000) (batches_in old.ledger.messages))
+      (sym begun) runs) in
       let ends = sends.careful says old.ledger.messages start in
       record { session = ends.session; is = ends.is; never = ends.never }
 
@@ -67,7 +90,8 @@ module _ {D C : Type 0} (tells : Bool) (told : D → Told) (faults : D → ℕ) 
   begins = record { session = []; is = sym (append-nil old.ledger.messages); kept = refl }
 
   -- what the last message shows of the history that the seat saw it shows of the whole
-  at_end : (evidence : Evidence) → ShowsLast (history_of (sight_by then)) old.ledger.messages new.ledger.messages evidence → ShowsLast p.state.entries old.ledger.messages new.ledger.messages evidence
+  at_end : (evidence : Evidence) → ShowsLast (history_of (sight_by then)) old.ledger.messages new.ledger.messages evidence →
+      ShowsLast p.state.entries old.ledger.messages new.ledger.messages evidence
   at_end evidence s =
       let waits = still_waits base (items_in p) root tills seat then h root.history p.state.entries p.stopped p.torn kept in
       record {
@@ -76,17 +100,22 @@ module _ {D C : Type 0} (tells : Bool) (told : D → Told) (faults : D → ℕ) 
         seen = s.seen;
         is = s.is;
         asked = asked_of_more s.huellas (waiting (history_of (sight_by then))) (waiting p.state.entries) s.asked waits.1;
-        shows = subst (λ (ls : List Line). Shows (kept_reply s.before) (length ls + 1) s.huellas s.seen (Err evidence)) (sym waits.0) s.shows;
+        shows = subst (λ (ls : List Line). Shows (kept_reply s.before) (length ls + 1) s.huellas s.seen (Err evidence))
+            (sym waits.0) s.shows;
       }
 
-  only_shown : IsTrue kind.tells → (evidence : Evidence) → IsErrOf answer (drain.Contradiction evidence) → ShowsLast p.state.entries old.ledger.messages new.ledger.messages evidence
+  only_shown : IsTrue kind.tells → (evidence : Evidence) → IsErrOf answer (drain.Contradiction evidence) →
+      ShowsLast p.state.entries old.ledger.messages new.ledger.messages evidence
   only_shown says evidence is = at_end evidence (sends.contrary says old.ledger.messages begins evidence is)
 
-  each_shown : IsTrue kind.tells → (evidence : Evidence) → ShowsLast p.state.entries old.ledger.messages new.ledger.messages evidence → IsErrOf answer (drain.Contradiction evidence) ⊎ (answer ≡ Err drain.NoMemory)
-  each_shown says evidence s = elim (sends.shown says old.ledger.messages begins (none_yet old.ledger.messages) p.state.entries evidence s) [
-    | inl c ↦ inl (subst (λ (e : Evidence). IsErrOf answer (drain.Contradiction e)) (one_shown p.state.entries old.ledger.messages new.ledger.messages c.0 evidence (only_shown says c.0 c.1) s) c.1)
-    | inr m ↦ inr m
-  ]
+  each_shown : IsTrue kind.tells → (evidence : Evidence) → ShowsLast p.state.entries old.ledger.messages new.ledger.messages
+      evidence → IsErrOf answer (drain.Contradiction evidence) ⊎ (answer ≡ Err drain.NoMemory)
+  each_shown says evidence s = elim (sends.shown says old.ledger.messages begins (none_yet old.ledger.messages) p.state.entries
+      evidence s) [
+        | inl c ↦ inl (subst (λ (e : Evidence). IsErrOf answer (drain.Contradiction e)) (one_shown p.state.entries old.ledger.messages
+            new.ledger.messages c.0 evidence (only_shown says c.0 c.1) s) c.1)
+        | inr m ↦ inr m
+      ]
 
   pub sends_beside : RecordsKeepAgreement → BeginsInSession → BeginsCareful → SendsBeside span
   sends_beside records session careful = record {

@@ -1,5 +1,6 @@
 -- The pairs that a history notes, one after another.
-use Rattle.std.proofs.Common.{◌≡◌, ◌⊎◌, inl, inr, ℕ, zero, suc, ◌+◌, ◌-◌, ◌≤◌, ◌<◌, List, [], ◌∷◌, ◌++◌, length, take, refl, sym, ◌∙◌, ap, arith, Some, None, slice_get, Bool, true, false, cond, eqb, add-one}
+use Rattle.std.proofs.Common.{◌≡◌, ◌⊎◌, inl, inr, ℕ, zero, suc, ◌+◌, ◌-◌, ◌≤◌, ◌<◌, List, [], ◌∷◌, ◌++◌, length, take, refl, sym}
+use Rattle.std.proofs.Common.{◌∙◌, ap, arith, Some, None, slice_get, Bool, true, false, cond, eqb, add-one}
 use Rattle.std.specs.Prelude.{zip}
 use Rattle.std.proofs.lemmas.Bool.{cases_Bool, eqb-true}
 use Rattle.std.proofs.lemmas.List.{take_all}
@@ -20,9 +21,11 @@ else_part true x y e = absurd cc
 else_part false x y e = refl
 
 at_later : {A : Type 0} (xs : List A) (k : ℕ) → at_place xs (k + 1) ≡ slice_get xs k
-at_later xs k = else_part (eqb (k + 1) 0) None (slice_get xs (k + 1 - 1)) (not_zero (k + 1) (omega arith)) ∙ (let e : k + 1 - 1 ≡ k = omega arith in ap (slice_get xs) e)
+at_later xs k = else_part (eqb (k + 1) 0) None (slice_get xs (k + 1 - 1)) (not_zero (k + 1) (omega arith)) ∙
+    (let e : k + 1 - 1 ≡ k = omega arith in ap (slice_get xs) e)
 
-zip_more : (rs : List Sealed) (ls : List Line) (n : ℕ) (s : Sealed) (l : Line) → slice_get rs n ≡ Some s → slice_get ls n ≡ Some l → take (suc n) (zip rs ls) ≡ take n (zip rs ls) ++ (s, l) ∷ []
+zip_more : (rs : List Sealed) (ls : List Line) (n : ℕ) (s : Sealed) (l : Line) → slice_get rs n ≡ Some s →
+    slice_get ls n ≡ Some l → take (suc n) (zip rs ls) ≡ take n (zip rs ls) ++ (s, l) ∷ []
 zip_more [] ls n s l e f = absurd (let h : None ≡ Some s = e in cc)
 zip_more (r ∷ rs) [] n s l e f = absurd (let h : None ≡ Some l = f in cc)
 zip_more (r ∷ rs) (x ∷ ls) zero s l e f =
@@ -32,8 +35,10 @@ zip_more (r ∷ rs) (x ∷ ls) zero s l e f =
 zip_more (r ∷ rs) (x ∷ ls) (suc n) s l e f = ap (λ (ps : List (Sealed × Line)). (r, x) ∷ ps) (zip_more rs ls n s l e f)
 
 -- one pair more
-pub pair_more : (rs : List Sealed) (ls : List Line) (n : ℕ) (s : Sealed) (l : Line) → at_place rs (n + 1) ≡ Some s → at_place ls (n + 1) ≡ Some l → take (n + 1) (zip rs ls) ≡ take n (zip rs ls) ++ (s, l) ∷ []
-pair_more rs ls n s l e f = ap (λ (k : ℕ). take k (zip rs ls)) (add-one n) ∙ zip_more rs ls n s l (sym (at_later rs n) ∙ e) (sym (at_later ls n) ∙ f)
+pub pair_more : (rs : List Sealed) (ls : List Line) (n : ℕ) (s : Sealed) (l : Line) → at_place rs (n + 1) ≡ Some s →
+    at_place ls (n + 1) ≡ Some l → take (n + 1) (zip rs ls) ≡ take n (zip rs ls) ++ (s, l) ∷ []
+pair_more rs ls n s l e f = ap (λ (k : ℕ). take k (zip rs ls)) (add-one n) ∙ zip_more rs ls n s l (sym (at_later rs n) ∙ e)
+    (sym (at_later ls n) ∙ f)
 
 past : {A : Type 0} (xs : List A) (n : ℕ) → at_place xs (n + 1) ≡ None → length xs ≤ n
 past xs n e = elim (slice_get_cases xs n).1 [
@@ -42,7 +47,8 @@ past xs n e = elim (slice_get_cases xs n).1 [
 ]
 
 -- there is none more
-pub pairs_end : (rs : List Sealed) (ls : List Line) (n : ℕ) → (at_place rs (n + 1) ≡ None) ⊎ (at_place ls (n + 1) ≡ None) → take n (zip rs ls) ≡ zip rs ls
+pub pairs_end : (rs : List Sealed) (ls : List Line) (n : ℕ) → (at_place rs (n + 1) ≡ None) ⊎ (at_place ls (n + 1) ≡ None) →
+    take n (zip rs ls) ≡ zip rs ls
 pairs_end rs ls n (inl e) = take_all n (zip rs ls) (let p = past rs n e in omega (arith, p, length-zip rs ls))
 pairs_end rs ls n (inr e) = take_all n (zip rs ls) (let p = past ls n e in omega (arith, p, length-zip rs ls))
 

@@ -1,5 +1,6 @@
 -- What each till of a day did, once the shop's list at the end is known.
-use Rattle.std.proofs.Common.{◌≡◌, ◌⊎◌, inl, inr, ℕ, zero, suc, ◌<◌, ◌≤◌, true, false, List, [], ◌∷◌, ◌++◌, length, drop, map, All, Option, Some, Err, slice_get, refl, ap, sym, ◌∙◌, subst, arith, cond, ◌==◌}
+use Rattle.std.proofs.Common.{◌≡◌, ◌⊎◌, inl, inr, ℕ, zero, suc, ◌<◌, ◌≤◌, true, false, List, [], ◌∷◌, ◌++◌, length, drop, map}
+use Rattle.std.proofs.Common.{All, Option, Some, Err, slice_get, refl, ap, sym, ◌∙◌, subst, arith, cond, ◌==◌}
 use Rattle.std.specs.Prelude.{◌≢◌, AllPairs, Contains}
 use Rattle.std.specs.List.{AllByRecursion, count_by, flat_map}
 use Rattle.std.proofs.lemmas.Bool.Decides.{nat_tests}
@@ -28,7 +29,12 @@ AreDistinct (n ∷ ns) = AllByRecursion (λ (m : ℕ). m ≢ n) ns × AreDistinc
 
 pub distinct_of : {X : Type 0} (f : X → ℕ) (xs : List X) → AllPairs (λ (x y : X). f x ≢ f y) xs → AreDistinct (map f xs)
 distinct_of f [] h = tt
-distinct_of {X} f (x ∷ xs) h = (each_map f (λ (m : ℕ). m ≢ f x) xs (each_of_all (λ (y : X). f y ≢ f x) xs (λ k d l e. h zero (suc k) d (omega arith) (omega (arith, l)) (sym e))), distinct_of f xs (λ i j d a b. h (suc i) (suc j) d (omega (arith, a)) (omega (arith, b))))
+distinct_of {X} f (x ∷ xs) h = (
+  each_map f (λ (m : ℕ). m ≢ f x) xs (each_of_all (λ (y : X). f y ≢ f x) xs
+      (λ k d l e. h zero (suc k) d (omega arith) (omega (arith, l)) (sym e))),
+  distinct_of f xs (λ i j d a b. h (suc i) (suc j) d
+      (omega (arith, a)) (omega (arith, b))),
+)
 
 -- of elements with distinct numbers, two are the same or have distinct ones
 module _ {X : Type 0} (f : X → ℕ) where
@@ -39,7 +45,8 @@ module _ {X : Type 0} (f : X → ℕ) where
   behind x [] d = tt
   behind x (y ∷ ys) d = (inr d.0, behind x ys d.1)
 
-  ahead : (x : X) (xs ys : List X) → AllByRecursion (λ (m : ℕ). m ≢ f x) (map f ys) → AllByRecursion (λ (y : X). AllByRecursion (Same y) xs) ys → AllByRecursion (λ (y : X). AllByRecursion (Same y) (x ∷ xs)) ys
+  ahead : (x : X) (xs ys : List X) → AllByRecursion (λ (m : ℕ). m ≢ f x) (map f ys) →
+      AllByRecursion (λ (y : X). AllByRecursion (Same y) xs) ys → AllByRecursion (λ (y : X). AllByRecursion (Same y) (x ∷ xs)) ys
   ahead x xs [] d h = tt
   ahead x xs (y ∷ ys) d h = ((inr (λ e. d.0 (sym e)), h.0), ahead x xs ys d.1 h.1)
 
@@ -48,11 +55,14 @@ module _ {X : Type 0} (f : X → ℕ) where
   apart_all (x ∷ xs) d = ((inl refl, behind x xs d.0), ahead x xs xs d.0 (apart_all xs d.1))
 
 own_asks : (till : ℕ) (asks : List Asked) → All (λ (a : Asked). a.till ≡ till) (asks_of till asks)
-own_asks till asks = All-weaker (λ (a : Asked). (a.till == till) ≡ true) (λ (a : Asked). a.till ≡ till) (λ a e. let x : a.till ≡ till = grind (arith, nat_tests, e) in x) (asks_of till asks) (filter_passes (λ (a : Asked). a.till == till) asks)
+own_asks till asks = All-weaker (λ (a : Asked). (a.till == till) ≡ true) (λ (a : Asked). a.till ≡ till)
+    (λ a e. let x : a.till ≡ till = grind (arith, nat_tests, e) in x) (asks_of till asks)
+    (filter_passes (λ (a : Asked). a.till == till) asks)
 
 -- a pass without stops of its own doesn't own the place of a stop
 module _ (log : List Item) (n : ℕ) (x : Item) (there : slice_get log n ≡ Some x) (stops : is_stop x ≡ true) where
-  none_there : (own : List (ℕ × Item)) → AllByRecursion (λ (z : ℕ × Item). slice_get log z.0 ≡ Some z.1) own → AllByRecursion (λ (z : ℕ × Item). is_stop z.1 ≡ false) own → count_by (λ (z : ℕ × Item). z.0 == n) own ≡ 0
+  none_there : (own : List (ℕ × Item)) → AllByRecursion (λ (z : ℕ × Item). slice_get log z.0 ≡ Some z.1) own →
+      AllByRecursion (λ (z : ℕ × Item). is_stop z.1 ≡ false) own → count_by (λ (z : ℕ × Item). z.0 == n) own ≡ 0
   none_there [] fits clean = refl
   none_there (z ∷ zs) fits clean =
       let apart : z.0 ≡ n → ⊥ = λ e.
@@ -65,7 +75,8 @@ module _ (log : List Item) (n : ℕ) (x : Item) (there : slice_get log n ≡ Som
       let sum = sum_by-cons (λ (y : ℕ × Item). cond (y.0 == n) 1 0) z zs in
       omega (arith, no, rest, sum)
 
-  pub none_own : {R : Type 0} (ks : List (Known Item R)) → AllByRecursion (Fits log) ks → AllByRecursion (λ (k : Known Item R). AllByRecursion (λ (z : ℕ × Item). is_stop z.1 ≡ false) k.own) ks → owners n ks ≡ 0
+  pub none_own : {R : Type 0} (ks : List (Known Item R)) → AllByRecursion (Fits log) ks →
+      AllByRecursion (λ (k : Known Item R). AllByRecursion (λ (z : ℕ × Item). is_stop z.1 ≡ false) k.own) ks → owners n ks ≡ 0
   none_own [] fits clean = refl
   none_own {R} (k ∷ ks) fits clean =
       let first = none_there k.own (each_of_all (λ (z : ℕ × Item). slice_get log z.0 ≡ Some z.1) k.own fits.0.own) clean.0 in
@@ -84,7 +95,8 @@ module _ {C : Type 0} (coming : C → ℕ → Option ℕ) (asks : List Asked) wh
   lasts rows = map (λ (r : Row C). r.last) rows
 
   -- a look at the count leaves what each owns
-  owners_last : (n : ℕ) (seat : Known Item (Root C)) (rows : List (Row C)) → owners n (after_all rows ++ seat ∷ []) ≡ owners n (lasts rows ++ seat ∷ [])
+  owners_last : (n : ℕ) (seat : Known Item (Root C)) (rows : List (Row C)) → owners n (after_all rows ++ seat ∷ []) ≡ owners n
+      (lasts rows ++ seat ∷ [])
   owners_last n seat [] = refl
   owners_last n seat (r ∷ rs) =
       let q = owners_last n seat rs in
@@ -93,16 +105,20 @@ module _ {C : Type 0} (coming : C → ℕ → Option ℕ) (asks : List Asked) wh
       omega (arith, q, x, y)
 
   -- each number is held as often as before
-  pub still_held : (n : ℕ) (seat : Known Item (Root C)) (rows : List (Row C)) → AllByRecursion (Worked coming asks) rows → holders n (after_all rows ++ seat ∷ []) ≡ holders n (before_all rows ++ seat ∷ [])
+  pub still_held : (n : ℕ) (seat : Known Item (Root C)) (rows : List (Row C)) → AllByRecursion (Worked coming asks) rows →
+      holders n (after_all rows ++ seat ∷ []) ≡ holders n (before_all rows ++ seat ∷ [])
   still_held n seat [] h = refl
   still_held n seat (r ∷ rs) h =
-      let p : times_held n (known_after r) ≡ times_held n r.from = ap (λ (ns : List ℕ). times_held n (record r.from { numbers = ns })) (run_numbers coming r.from r.last (asks_of r.done.till asks) r.done.answers.items h.0.run) in
+      let p : times_held n (known_after r) ≡ times_held n r.from =
+      ap (λ (ns : List ℕ). times_held n (record r.from { numbers = ns })) (run_numbers coming r.from r.last
+      (asks_of r.done.till asks) r.done.answers.items h.0.run) in
       let q = still_held n seat rs h.1 in
       let x = sum_by-cons (times_held n) (known_after r) (after_all rs ++ seat ∷ []) in
       let y = sum_by-cons (times_held n) r.from (before_all rs ++ seat ∷ []) in
       omega (arith, p, q, x, y)
 
-  module _ (base : List Item) (root : Root C) (stopped : Option ℕ) (torn : Option Entry) (end : List Entry) (for_no_other : AddsForNoOther coming) (what_is_taken : AddsWhatIsTaken coming) where
+  module _ (base : List Item) (root : Root C) (stopped : Option ℕ) (torn : Option Entry) (end : List Entry)
+      (for_no_other : AddsForNoOther coming) (what_is_taken : AddsWhatIsTaken coming) where
     abbrev log : List Item
     log = items stopped torn end
 
@@ -117,21 +133,27 @@ module _ {C : Type 0} (coming : C → ℕ → Option ℕ) (asks : List Asked) wh
     low : length base ≡ length root.history → (k : Known Item (Root C)) → IsNew base root k → length root.history ≤ length k.seen
     low size k new = let e = ap (λ (l : List Item). length l) new.seen in omega (arith, e, size)
 
-    tell : length base ≡ length root.history → (r : Row C) → IsNew base root r.from → Worked coming asks r × Fits log (known_after r) → Told r
+    tell : length base ≡ length root.history → (r : Row C) → IsNew base root r.from → Worked coming asks r ×
+        Fits log (known_after r) → Told r
     tell size r new h =
         let w = h.0 in
         let f = h.1 in
         let least = new.least ∙ ap (λ (l : List Item). length l) (sym new.seen) in
         record {
           least = w.at_least;
-          told = so_far coming root stopped torn end r.from r.last (asks_of r.done.till asks) r.done.answers.items (low size r.from new) new.root_is least new.own f.begins w.run;
+          told = so_far coming root stopped torn end r.from r.last (asks_of r.done.till asks) r.done.answers.items
+              (low size r.from new) new.root_is least new.own f.begins w.run;
           fits = record { begins = f.begins; at_least = omega (arith, f.at_least, w.at_least); own = f.own };
-          apart = λ till other. for_no_other r.done.till till root base r.from r.last (asks_of r.done.till asks) r.done.answers.items new w.run (own_asks r.done.till asks) other;
+          apart = λ till other. for_no_other r.done.till till root base r.from r.last (asks_of r.done.till asks)
+              r.done.answers.items new w.run (own_asks r.done.till asks) other;
           saw = f.at_least;
         }
 
-    module _ (size : length base ≡ length root.history) (rows : List (Row C)) (seat : Known Item (Root C)) (distinct : AreDistinct (map (λ (r : Row C). r.done.till) rows)) (news : AllByRecursion (λ (r : Row C). IsNew base root r.from) rows)
-        (bare : (till : ℕ) → OwnsNone till seat) (worked : AllByRecursion (Worked coming asks) rows) (fits : AllByRecursion (Fits log) (after_all rows ++ seat ∷ [])) (starts : StartsWith log base)
+    module _ (size : length base ≡ length root.history) (rows : List (Row C)) (seat : Known Item (Root C))
+        (distinct : AreDistinct (map (λ (r : Row C). r.done.till) rows))
+        (news : AllByRecursion (λ (r : Row C). IsNew base root r.from) rows)
+        (bare : (till : ℕ) → OwnsNone till seat) (worked : AllByRecursion (Worked coming asks) rows)
+        (fits : AllByRecursion (Fits log) (after_all rows ++ seat ∷ [])) (starts : StartsWith log base)
         (since : (n : ℕ) → length base ≤ n → n < length log → owners n (after_all rows ++ seat ∷ []) ≡ 1) where
       rows_fit : AllByRecursion (λ (r : Row C). Fits log (known_after r)) rows
       rows_fit = each_unmap (λ (r : Row C). known_after r) (Fits log) rows (each_front (Fits log) (after_all rows) seat fits).0
@@ -140,14 +162,17 @@ module _ {C : Type 0} (coming : C → ℕ → Option ℕ) (asks : List Asked) wh
       seat_fits = (each_front (Fits log) (after_all rows) seat fits).1
 
       pub told : AllByRecursion Told rows
-      told = each_both (λ (r : Row C). IsNew base root r.from) (λ (r : Row C). Worked coming asks r × Fits log (known_after r)) Told rows (tell size) news
-          (each_both (Worked coming asks) (λ (r : Row C). Fits log (known_after r)) (λ (r : Row C). Worked coming asks r × Fits log (known_after r)) rows (λ r w f. (w, f)) worked rows_fit)
+      told = each_both (λ (r : Row C). IsNew base root r.from) (λ (r : Row C). Worked coming asks r × Fits log (known_after r))
+          Told rows (tell size) news
+          (each_both (Worked coming asks) (λ (r : Row C). Fits log (known_after r)) (λ (r : Row C). Worked coming asks r ×
+          Fits log (known_after r)) rows (λ r w f. (w, f)) worked rows_fit)
 
       abbrev passes : List (Known Item (Root C))
       passes = lasts rows ++ seat ∷ []
 
       passes_fit : All (Fits log) passes
-      passes_fit = all_of_each (Fits log) passes (each_snoc (Fits log) (lasts rows) seat (each_map (λ (r : Row C). r.last) (Fits log) rows (each_weaker Told (λ (r : Row C). Fits log r.last) rows (λ r t. t.fits) told)) seat_fits)
+      passes_fit = all_of_each (Fits log) passes (each_snoc (Fits log) (lasts rows) seat (each_map (λ (r : Row C). r.last)
+          (Fits log) rows (each_weaker Told (λ (r : Row C). Fits log r.last) rows (λ r t. t.fits) told)) seat_fits)
 
       since_last : (n : ℕ) → length base ≤ n → n < length log → owners n passes ≡ 1
       since_last n a b = sym (owners_last n seat rows) ∙ since n a b
@@ -160,52 +185,80 @@ module _ {C : Type 0} (coming : C → ℕ → Option ℕ) (asks : List Asked) wh
       row_apart r s (inr other) t = inr (t.apart r.done.till (λ e. other (sym e)))
 
       -- the records of a till since the start are those it was told as taken
-      taken : (r : Row C) → AllByRecursion (Same (λ (x : Row C). x.done.till) r) rows × IsNew base root r.from → Worked coming asks r × Told r → AreTaken r.done.answers.items (records_of r.done.till (drop (length base) log))
+      taken : (r : Row C) → AllByRecursion (Same (λ (x : Row C). x.done.till) r) rows × IsNew base root r.from →
+          Worked coming asks r × Told r → AreTaken r.done.answers.items (records_of r.done.till (drop (length base) log))
       taken r a b =
-          let apart = all_of_each (Apart r.done.till r.last) passes (each_snoc (Apart r.done.till r.last) (lasts rows) seat (each_map (λ (x : Row C). x.last) (Apart r.done.till r.last) rows
-          (each_both (Same (λ (x : Row C). x.done.till) r) Told (λ (x : Row C). Apart r.done.till r.last x.last) rows (row_apart r) a.0 told)) (inr (bare r.done.till))) in
-          what_is_taken r.done.till root base log r.from r.last (asks_of r.done.till asks) r.done.answers.items passes a.1 b.0.run (own_asks r.done.till asks) starts b.1.fits passes_fit apart since_last
+          let apart = all_of_each (Apart r.done.till r.last) passes (each_snoc (Apart r.done.till r.last) (lasts rows) seat
+          (each_map (λ (x : Row C). x.last) (Apart r.done.till r.last) rows
+          (each_both (Same (λ (x : Row C). x.done.till) r) Told (λ (x : Row C). Apart r.done.till r.last x.last) rows
+          (row_apart r) a.0 told)) (inr (bare r.done.till))) in
+          what_is_taken r.done.till root base log r.from r.last (asks_of r.done.till asks) r.done.answers.items passes a.1 b.0.run
+          (own_asks r.done.till asks) starts b.1.fits passes_fit apart since_last
 
-      pub own : AllByRecursion (λ (r : Row C). AreTaken r.done.answers.items (records_of r.done.till (drop (length base) log))) rows
-      own = each_both (λ (r : Row C). AllByRecursion (Same (λ (x : Row C). x.done.till) r) rows × IsNew base root r.from) (λ (r : Row C). Worked coming asks r × Told r) (λ (r : Row C). AreTaken r.done.answers.items (records_of r.done.till (drop (length base) log))) rows taken
-          (each_both (λ (r : Row C). AllByRecursion (Same (λ (x : Row C). x.done.till) r) rows) (λ (r : Row C). IsNew base root r.from) (λ (r : Row C). AllByRecursion (Same (λ (x : Row C). x.done.till) r) rows × IsNew base root r.from) rows (λ r s n. (s, n)) (apart_all (λ (x : Row C). x.done.till) rows distinct) news)
+      pub own : AllByRecursion (λ (r : Row C). AreTaken r.done.answers.items (records_of r.done.till (drop (length base) log)))
+          rows
+      own = each_both (λ (r : Row C). AllByRecursion (Same (λ (x : Row C). x.done.till) r) rows × IsNew base root r.from)
+          (λ (r : Row C). Worked coming asks r × Told r) (λ (r : Row C). AreTaken r.done.answers.items
+          (records_of r.done.till (drop (length base) log))) rows taken
+          (each_both (λ (r : Row C). AllByRecursion (Same (λ (x : Row C). x.done.till) r) rows) (λ (r : Row C). IsNew base root
+          r.from) (λ (r : Row C). AllByRecursion (Same (λ (x : Row C). x.done.till) r) rows × IsNew base root r.from) rows
+          (λ r s n. (s, n)) (apart_all (λ (x : Row C). x.done.till) rows distinct) news)
           (each_both (Worked coming asks) Told (λ (r : Row C). Worked coming asks r × Told r) rows (λ r w t. (w, t)) worked told)
 
       -- a pass that is new fits
       new_fits : (first : Known Item (Root C)) → IsNew base root first → Fits log first
       new_fits first new = record {
         begins = subst (λ (l : List Item). StartsWith log l) (sym new.seen) starts;
-        at_least = (let e = new.least in let f = ap (λ (l : List Item). length l) starts.1 in let g = length-append base starts.0 in omega (arith, e, f, g));
-        own = subst (λ (o : List (ℕ × Item)). All (λ (x : ℕ × Item). slice_get log x.0 ≡ Some x.1) o) (sym new.own) (λ i d l. absurd (omega (arith, l)));
+        at_least = (let e = new.least in let f = ap (λ (l : List Item). length l) starts.1 in
+            let g = length-append base starts.0 in omega (arith, e, f, g));
+        own = subst (λ (o : List (ℕ × Item)). All (λ (x : ℕ × Item). slice_get log x.0 ≡ Some x.1) o) (sym new.own)
+            (λ i d l. absurd (omega (arith, l)));
       }
 
       -- no other till has a record since the start: a new pass has asked for nothing, and no pass owns one
-      pub none_else : (first : Known Item (Root C)) → IsNew base root first → (till : ℕ) → AllByRecursion (λ (r : Row C). r.done.till ≢ till) rows → records_of till (drop (length base) log) ≡ []
+      pub none_else : (first : Known Item (Root C)) → IsNew base root first → (till : ℕ) →
+          AllByRecursion (λ (r : Row C). r.done.till ≢ till) rows → records_of till (drop (length base) log) ≡ []
       none_else first new till other =
-          let apart = all_of_each (Apart till first) passes (each_snoc (Apart till first) (lasts rows) seat (each_map (λ (x : Row C). x.last) (Apart till first) rows
-          (each_both (λ (r : Row C). r.done.till ≢ till) Told (λ (x : Row C). Apart till first x.last) rows (λ r o t. inr (t.apart till (λ e. o (sym e)))) other told)) (inr (bare till))) in
-          what_is_taken till root base log first first [] [] passes new begun (λ i d l. absurd (omega (arith, l))) starts (new_fits first new) passes_fit apart since_last
+          let apart = all_of_each (Apart till first) passes (each_snoc (Apart till first) (lasts rows) seat
+          (each_map (λ (x : Row C). x.last) (Apart till first) rows
+          (each_both (λ (r : Row C). r.done.till ≢ till) Told (λ (x : Row C). Apart till first x.last) rows
+          (λ r o t. inr (t.apart till (λ e. o (sym e)))) other told)) (inr (bare till))) in
+          what_is_taken till root base log first first [] [] passes new begun (λ i d l. absurd (omega (arith, l))) starts
+          (new_fits first new) passes_fit apart since_last
 
       -- where the list ends in a stop that isn't the seat's, a till was told that the disk failed
-      clean_or_told : (rs : List (Row C)) → AllByRecursion Told rs → AllByRecursion (λ (r : Row C). AllByRecursion (λ (z : ℕ × Item). is_stop z.1 ≡ false) r.last.own) rs ⊎ Contains (flat_map (λ (r : Row C). r.done.answers.items) rs) (Err DiskFault)
+      clean_or_told : (rs : List (Row C)) → AllByRecursion Told rs →
+          AllByRecursion (λ (r : Row C). AllByRecursion (λ (z : ℕ × Item). is_stop z.1 ≡ false) r.last.own) rs ⊎
+          Contains (flat_map (λ (r : Row C). r.done.answers.items) rs) (Err DiskFault)
       clean_or_told [] t = inl tt
       clean_or_told (r ∷ rs) t = both t.0.told.clean (clean_or_told rs t.1)
         where
-          both : AllByRecursion (λ (z : ℕ × Item). is_stop z.1 ≡ false) r.last.own ⊎ Contains r.done.answers.items (Err DiskFault) →
-              AllByRecursion (λ (s : Row C). AllByRecursion (λ (z : ℕ × Item). is_stop z.1 ≡ false) s.last.own) rs ⊎ Contains (flat_map (λ (s : Row C). s.done.answers.items) rs) (Err DiskFault) →
-              AllByRecursion (λ (s : Row C). AllByRecursion (λ (z : ℕ × Item). is_stop z.1 ≡ false) s.last.own) (r ∷ rs) ⊎ Contains (flat_map (λ (s : Row C). s.done.answers.items) (r ∷ rs)) (Err DiskFault)
-          both (inr told) rest = inr (Contains-append_left r.done.answers.items (flat_map (λ (s : Row C). s.done.answers.items) rs) (Err DiskFault) told)
+          both : AllByRecursion (λ (z : ℕ × Item). is_stop z.1 ≡ false) r.last.own ⊎ Contains r.done.answers.items (Err DiskFault)
+              →
+              AllByRecursion (λ (s : Row C). AllByRecursion (λ (z : ℕ × Item). is_stop z.1 ≡ false) s.last.own) rs ⊎
+              Contains (flat_map (λ (s : Row C). s.done.answers.items) rs) (Err DiskFault) →
+              AllByRecursion (λ (s : Row C). AllByRecursion (λ (z : ℕ × Item). is_stop z.1 ≡ false) s.last.own) (r ∷ rs) ⊎
+              Contains (flat_map (λ (s : Row C). s.done.answers.items) (r ∷ rs)) (Err DiskFault)
+          both (inr told) rest = inr (Contains-append_left r.done.answers.items (flat_map (λ (s : Row C). s.done.answers.items)
+              rs) (Err DiskFault) told)
           both (inl clean) (inl more) = inl (clean, more)
-          both (inl clean) (inr told) = inr (Contains-append_right r.done.answers.items (flat_map (λ (s : Row C). s.done.answers.items) rs) (Err DiskFault) told)
+          both (inl clean) (inr told) = inr (Contains-append_right r.done.answers.items
+              (flat_map (λ (s : Row C). s.done.answers.items) rs) (Err DiskFault) told)
 
-      pub stop_told : AllByRecursion (λ (z : ℕ × Item). is_stop z.1 ≡ false) seat.own → (n : ℕ) (x : Item) → slice_get log n ≡ Some x → is_stop x ≡ true → length base ≤ n → n < length log → Contains (flat_map (λ (r : Row C). r.done.answers.items) rows) (Err DiskFault)
+      pub stop_told : AllByRecursion (λ (z : ℕ × Item). is_stop z.1 ≡ false) seat.own → (n : ℕ) (x : Item) →
+          slice_get log n ≡ Some x → is_stop x ≡ true → length base ≤ n → n < length log →
+          Contains (flat_map (λ (r : Row C). r.done.answers.items) rows) (Err DiskFault)
       stop_told seat_clean n x there stops above below = decide (clean_or_told rows told)
         where
-          decide : AllByRecursion (λ (r : Row C). AllByRecursion (λ (z : ℕ × Item). is_stop z.1 ≡ false) r.last.own) rows ⊎ Contains (flat_map (λ (r : Row C). r.done.answers.items) rows) (Err DiskFault) → Contains (flat_map (λ (r : Row C). r.done.answers.items) rows) (Err DiskFault)
+          decide : AllByRecursion (λ (r : Row C). AllByRecursion (λ (z : ℕ × Item). is_stop z.1 ≡ false) r.last.own) rows ⊎
+              Contains (flat_map (λ (r : Row C). r.done.answers.items) rows) (Err DiskFault) →
+              Contains (flat_map (λ (r : Row C). r.done.answers.items) rows) (Err DiskFault)
           decide (inr told) = told
           decide (inl clean) =
               let none = none_own log n x there stops passes (each_of_all (Fits log) passes passes_fit)
-              (each_snoc (λ (k : Known Item (Root C)). AllByRecursion (λ (z : ℕ × Item). is_stop z.1 ≡ false) k.own) (lasts rows) seat (each_map (λ (r : Row C). r.last) (λ (k : Known Item (Root C)). AllByRecursion (λ (z : ℕ × Item). is_stop z.1 ≡ false) k.own) rows clean)
+              (each_snoc (λ (k : Known Item (Root C)). AllByRecursion (λ (z : ℕ × Item). is_stop z.1 ≡ false) k.own) (lasts rows)
+              seat (each_map (λ (r : Row C). r.last) (λ (k : Known Item (Root C)). AllByRecursion
+              (λ (z : ℕ × Item). is_stop z.1 ≡ false) k.own) rows clean)
               seat_clean) in
               let one = since_last n above below in
               absurd (omega (arith, none, one))

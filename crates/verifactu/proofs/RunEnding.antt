@@ -1,5 +1,6 @@
 -- How a run ends, and what its clause says of the whole call.
-use Rattle.std.proofs.Common.{◌≡◌, inl, inr, ◌⊎◌, ℕ, ◌+◌, ◌≤◌, List, [], ◌∷◌, sym, ◌∙◌, ap, subst, refl, arith, Bool, true, false, IsTrue, Option, Result, Ok, Err}
+use Rattle.std.proofs.Common.{◌≡◌, inl, inr, ◌⊎◌, ℕ, ◌+◌, ◌≤◌, List, [], ◌∷◌, sym, ◌∙◌, ap, subst, refl, arith, Bool, true, false}
+use Rattle.std.proofs.Common.{IsTrue, Option, Result, Ok, Err}
 use Rattle.std.specs.List.{list_any}
 use Rattle.chain_disk.specs.Runs.{started_settled, weaker}
 use Rattle.chain_disk.specs.Told.{Told, LeavesOnly, synced}
@@ -46,7 +47,8 @@ use Rattle.ports.specs.Sources.{Sources}
 use Rattle.verifactu.proofs.Finishing.{kept_since}
 
 -- no reply is want of memory, and none a fault of the disk
-pub all_replied : (replies : List (Result Reply StoreFault)) → list_any is_no_memory replies ≡ false → list_any is_disk_fault replies ≡ false → AllReplied replies
+pub all_replied : (replies : List (Result Reply StoreFault)) → list_any is_no_memory replies ≡ false →
+    list_any is_disk_fault replies ≡ false → AllReplied replies
 all_replied [] memory disk = tt
 all_replied (Ok reply ∷ replies) memory disk = (refl, all_replied replies memory disk)
 all_replied (Err NoMemory ∷ replies) memory disk = absurd cc
@@ -61,13 +63,16 @@ went_on (Err NoMemory ∷ replies) all = went_on replies all.1
 went_on (Err DiskFault ∷ replies) all = absurd all.0
 went_on (Err (Stopped count) ∷ replies) all = absurd all.0
 
-pub written_whole : (text : List ℕ) (s : Sinks) (w : Result (Unit {0}) Failed) (u : Unit {0}) → w ≡ Ok u → OutputIs s text w → Wrote s text
+pub written_whole : (text : List ℕ) (s : Sinks) (w : Result (Unit {0}) Failed) (u : Unit {0}) → w ≡ Ok u → OutputIs s text w →
+    Wrote s text
 written_whole text s w u is h = subst (λ (r : Result (Unit {0}) Failed). OutputIs s text r) is h
 
-pub written_part : (text : List ℕ) (s : Sinks) (w : Result (Unit {0}) Failed) (e : Failed) → w ≡ Err e → OutputIs s text w → FailedIn s text
+pub written_part : (text : List ℕ) (s : Sinks) (w : Result (Unit {0}) Failed) (e : Failed) → w ≡ Err e → OutputIs s text w →
+    FailedIn s text
 written_part text s w e is h = subst (λ (r : Result (Unit {0}) Failed). OutputIs s text r) is h
 
-pub written_either : (text : List ℕ) (s : Sinks) (w : Result (Unit {0}) Failed) → OutputIs s text w → Wrote s text ⊎ FailedIn s text
+pub written_either : (text : List ℕ) (s : Sinks) (w : Result (Unit {0}) Failed) → OutputIs s text w → Wrote s text ⊎
+    FailedIn s text
 written_either text s (Ok u) h = inl h
 written_either text s (Err e) h = inr h
 
@@ -80,10 +85,12 @@ disk_lost : (issuer : List ℕ) (old new : Told) → IsDiskLost issuer old new �
 disk_lost issuer old new (not_synced failed) = inl failed
 disk_lost issuer old new (not_read is) = as_it_stood issuer old new is
 disk_lost issuer old new (in_part h) =
-    inr (weaker (synced old) new (IsNotBegunOrEmpty issuer) (λ c. (c ≡ old.content) ⊎ (IsNotBegun old.content × IsNotBegunOrEmpty issuer c)) h.any_moment (λ c empty. inr (h.not_begun, empty)))
+    inr (weaker (synced old) new (IsNotBegunOrEmpty issuer) (λ c. (c ≡ old.content) ⊎
+    (IsNotBegun old.content × IsNotBegunOrEmpty issuer c)) h.any_moment (λ c empty. inr (h.not_begun, empty)))
 
 -- what an opening that failed leaves keeps the file
-pub keeps_file : (issuer : List ℕ) (why : OpenCause) (old new : Told) → IsLeftUnopened issuer why old new → KeepsFile issuer old new
+pub keeps_file : (issuer : List ℕ) (why : OpenCause) (old new : Told) → IsLeftUnopened issuer why old new →
+    KeepsFile issuer old new
 keeps_file issuer cause.DiskFault old new h = disk_lost issuer old new h
 keeps_file issuer (cause.Damaged at) old new h = as_it_stood issuer old new h.1
 keeps_file issuer (cause.OtherIssuer held) old new h = as_it_stood issuer old new h.1
@@ -95,7 +102,8 @@ not_asked t same = record {
   untouched = λ none. same;
 }
 
-stops_from : (first before after : ℕ) (replies : List (Result Reply StoreFault)) → first ≤ before → StopsOnce before after replies → StopsOnce first after replies
+stops_from : (first before after : ℕ) (replies : List (Result Reply StoreFault)) → first ≤ before → StopsOnce before after replies
+    → StopsOnce first after replies
 stops_from first before after replies later (inl all) = inl all
 stops_from first before after replies later (inr h) = inr (record {
   before = h.before;
@@ -107,14 +115,19 @@ stops_from first before after replies later (inr h) = inr (record {
 })
 
 -- a run of a store is one of its file, from its opening on
-pub store_ran : {D C : Type 0} (issuer : List ℕ) (asks : List Asked) (replies : List (Result Reply StoreFault)) (s : Stores C) (sink : Sinks) (k : Disks D) (end : Detail) → s.issuer ≡ issuer →
-    s.tells ≡ k.tells → s.faults_after ≡ k.faults k.disk_after → s.now ≡ k.told k.disk_after → k.faults k.disk ≤ s.faults → (IsTrue k.tells → IsFound issuer s.start (k.told k.disk).content) →
+pub store_ran : {D C : Type 0} (issuer : List ℕ) (asks : List Asked) (replies : List (Result Reply StoreFault)) (s : Stores C)
+    (sink : Sinks) (k : Disks D) (end : Detail) → s.issuer ≡ issuer →
+    s.tells ≡ k.tells → s.faults_after ≡ k.faults k.disk_after → s.now ≡ k.told k.disk_after → k.faults k.disk ≤ s.faults →
+    (IsTrue k.tells → IsFound issuer s.start (k.told k.disk).content) →
     (IsTrue k.tells → LeavesOnly (synced (k.told k.disk)) s.since (IsFound issuer s.start)) → Answers asks replies s →
-    RunEnds replies (printed asks replies s.end) sink end → ScriptEnds issuer asks (s.clock.coming s.clock.clock) (λ rs. IsAsked s.clock (readings rs)) sink k end
+    RunEnds replies (printed asks replies s.end) sink end → ScriptEnds issuer asks (s.clock.coming s.clock.clock)
+    (λ rs. IsAsked s.clock (readings rs)) sink k end
 store_ran issuer asks replies s sink k end own tells faults_after now later found any h ends =
-    let kept_here : IsTrue k.tells → Kept (StandsBetween issuer s.start s.end) issuer s.end replies s.since (k.told k.disk_after) = λ says.
+    let kept_here : IsTrue k.tells → Kept (StandsBetween issuer s.start s.end) issuer s.end replies s.since (k.told k.disk_after)
+    = λ says.
     subst (λ (t : Told). Kept (StandsBetween issuer s.start s.end) issuer s.end replies s.since t) now
-    (subst (λ (n : List ℕ). Kept (StandsBetween n s.start s.end) n s.end replies s.since s.now) own (h.kept (subst (λ (b : Bool). IsTrue b) (sym tells) says))) in
+    (subst (λ (n : List ℕ). Kept (StandsBetween n s.start s.end) n s.end replies s.since s.now) own
+    (h.kept (subst (λ (b : Bool). IsTrue b) (sym tells) says))) in
     inr (inr (
       record {
         start = s.start;
@@ -126,24 +139,35 @@ store_ran issuer asks replies s sink k end own tells faults_after now later foun
         legal = subst (λ (n : List ℕ). Legal n s.end) own h.legal;
         linked = subst (λ (n : List ℕ). Linked n (recs s.end)) own h.linked;
         rising = h.rising;
-        stops = subst (λ (n : ℕ). StopsOnce (k.faults k.disk) n replies) faults_after (stops_from (k.faults k.disk) s.faults s.faults_after replies later h.stops);
-        kept = λ says. kept_since issuer s.start s.end replies (synced (k.told k.disk)) s.since (k.told k.disk_after) h.begins (any says) (kept_here says);
+        stops = subst (λ (n : ℕ). StopsOnce (k.faults k.disk) n replies) faults_after (stops_from (k.faults k.disk) s.faults
+            s.faults_after replies later h.stops);
+        kept = λ says. kept_since issuer s.start s.end replies (synced (k.told k.disk)) s.since (k.told k.disk_after) h.begins
+            (any says) (kept_here says);
         clock = h.asked;
       },
       ends,
     ))
 
 -- a run by readings of one kind is one by readings of another kind, where each of the first is one of the second
-run_by : (issuer : List ℕ) (R Q : List (Result Reply StoreFault) → ℕ → Type 0) (start : List Entry) → ((replies : List (Result Reply StoreFault)) (seconds : ℕ) → R replies seconds → Q replies seconds) →
-    {asks : List Asked} {replies : List (Result Reply StoreFault)} {entries : List Entry} → ChainRun issuer R start asks replies entries → ChainRun issuer Q start asks replies entries
+run_by : (issuer : List ℕ) (R Q : List (Result Reply StoreFault) → ℕ → Type 0) (start : List Entry) →
+    ((replies : List (Result Reply StoreFault)) (seconds : ℕ) → R replies seconds → Q replies seconds) →
+    {asks : List Asked} {replies : List (Result Reply StoreFault)} {entries : List Entry} → ChainRun issuer R start asks replies
+    entries → ChainRun issuer Q start asks replies entries
 run_by issuer R Q start each begun = begun
 run_by issuer R Q start each (replied asks replies entries ask told gained run seconds reading h) =
     replied asks replies entries ask told gained (run_by issuer R Q start each run) seconds (each replies seconds reading) h
 
 -- the same end, said of other readings and of another clock
-pub script_by : {D : Type 0} (issuer : List ℕ) (asks : List Asked) (old new : ℕ → Option ℕ) (Leaves Left : List (Result Reply StoreFault) → Type 0) (s : Sinks) (k : Disks D) (end : Detail) →
-    ((i : ℕ) → old i ≡ new i) → ((replies : List (Result Reply StoreFault)) → Leaves replies → Left replies) → ScriptEnds issuer asks old Leaves s k end → ScriptEnds issuer asks new Left s k end
-script_by issuer asks old new Leaves Left s k end same leaves (inl h) = inl (record { ends = h.ends; wrote = h.wrote; disk = h.disk; rest = leaves [] h.rest })
+pub script_by : {D : Type 0} (issuer : List ℕ) (asks : List Asked) (old new : ℕ → Option ℕ)
+    (Leaves Left : List (Result Reply StoreFault) → Type 0) (s : Sinks) (k : Disks D) (end : Detail) →
+    ((i : ℕ) → old i ≡ new i) → ((replies : List (Result Reply StoreFault)) → Leaves replies → Left replies) →
+    ScriptEnds issuer asks old Leaves s k end → ScriptEnds issuer asks new Left s k end
+script_by issuer asks old new Leaves Left s k end same leaves (inl h) = inl (record {
+  ends = h.ends;
+  wrote = h.wrote;
+  disk = h.disk;
+  rest = leaves [] h.rest;
+})
 script_by issuer asks old new Leaves Left s k end same leaves (inr (inl h)) = inr (inl (record {
   why = h.why;
   ends = h.ends;
@@ -161,7 +185,8 @@ script_by issuer asks old new Leaves Left s k end same leaves (inr (inr h)) =
         replies = p.replies;
         end = p.end;
         found = p.found;
-        run = run_by issuer (IsComing old) (IsComing new) p.start (λ replies seconds told. subst (λ (o : Option ℕ). IsTold o seconds) (same (readings replies)) told) p.run;
+        run = run_by issuer (IsComing old) (IsComing new) p.start (λ replies seconds told. subst
+            (λ (o : Option ℕ). IsTold o seconds) (same (readings replies)) told) p.run;
         begins = p.begins;
         legal = p.legal;
         linked = p.linked;
@@ -173,39 +198,49 @@ script_by issuer asks old new Leaves Left s k end same leaves (inr (inr h)) =
       h.1,
     ))
 
-rose_of : (faults after : ℕ) (replies : List (Result Reply StoreFault)) → StopsOnce faults after replies → list_any is_disk_fault replies ≡ true → Rose faults after
+rose_of : (faults after : ℕ) (replies : List (Result Reply StoreFault)) → StopsOnce faults after replies →
+    list_any is_disk_fault replies ≡ true → Rose faults after
 rose_of faults after replies (inl all) some = let none = went_on replies all in absurd cc
 rose_of faults after replies (inr stop) some = stop.risen
 
-rose_ran : {D : Type 0} (issuer : List ℕ) (asks : List Asked) (coming : ℕ → Option ℕ) (Leaves : List (Result Reply StoreFault) → Type 0) (s : Sinks) (k : Disks D) (end : Detail) →
-    (p : Played issuer asks coming Leaves k) → RunEnds p.replies (printed asks p.replies p.end) s end → end ≡ detail.DiskFault → DiskRose k
-rose_ran issuer asks coming Leaves s k end p (disk_fault memory some wrote) is = rose_of (k.faults k.disk) (k.faults k.disk_after) p.replies p.stops some
+rose_ran : {D : Type 0} (issuer : List ℕ) (asks : List Asked) (coming : ℕ → Option ℕ) (Leaves : List (Result Reply StoreFault) →
+    Type 0) (s : Sinks) (k : Disks D) (end : Detail) →
+    (p : Played issuer asks coming Leaves k) → RunEnds p.replies (printed asks p.replies p.end) s end → end ≡ detail.DiskFault →
+    DiskRose k
+rose_ran issuer asks coming Leaves s k end p (disk_fault memory some wrote) is = rose_of (k.faults k.disk) (k.faults k.disk_after)
+    p.replies p.stops some
 rose_ran issuer asks coming Leaves s k end p (done all wrote) is = absurd cc
 rose_ran issuer asks coming Leaves s k end p (write_fault all wrote) is = absurd cc
 rose_ran issuer asks coming Leaves s k end p (no_memory wrote) is = absurd cc
 
-pub rose_opening : {D : Type 0} (why : OpenCause) (k : Disks D) → (why ≡ cause.DiskFault → DiskRose k) → opening_end why ≡ detail.DiskFault → DiskRose k
+pub rose_opening : {D : Type 0} (why : OpenCause) (k : Disks D) → (why ≡ cause.DiskFault → DiskRose k) →
+    opening_end why ≡ detail.DiskFault → DiskRose k
 rose_opening cause.DiskFault k risen is = risen refl
 rose_opening (cause.Damaged at) k risen is = absurd cc
 rose_opening (cause.OtherIssuer held) k risen is = absurd cc
 rose_opening cause.NoMemory k risen is = absurd cc
 
-disk_rose : {D : Type 0} (issuer : List ℕ) (asks : List Asked) (coming : ℕ → Option ℕ) (Leaves : List (Result Reply StoreFault) → Type 0) (s : Sinks) (k : Disks D) (end : Detail) →
+disk_rose : {D : Type 0} (issuer : List ℕ) (asks : List Asked) (coming : ℕ → Option ℕ) (Leaves : List (Result Reply StoreFault) →
+    Type 0) (s : Sinks) (k : Disks D) (end : Detail) →
     ScriptEnds issuer asks coming Leaves s k end → end ≡ detail.DiskFault → DiskRose k
 disk_rose issuer asks coming Leaves s k end (inl h) is = let none = sym h.ends ∙ is in absurd cc
 disk_rose issuer asks coming Leaves s k end (inr (inl h)) is = rose_opening h.why k h.risen (sym h.ends ∙ is)
 disk_rose issuer asks coming Leaves s k end (inr (inr h)) is = rose_ran issuer asks coming Leaves s k end h.0 h.1 is
 
 -- the end of a command that read its script is that of its run
-pub chain_ran : {D C : Type 0} (issuer : List ℕ) (d : Devices D C) (script : Script) (end : Detail) → IsGoodScript Full d.source script →
-    ScriptEnds issuer script.asks (readings_of script.clock (d.clock.coming d.clock.clock)) (LeavesClock d.clock script.clock) d.sink d.disk end → ChainEnds issuer d end
+pub chain_ran : {D C : Type 0} (issuer : List ℕ) (d : Devices D C) (script : Script) (end : Detail) → IsGoodScript Full d.source
+    script →
+    ScriptEnds issuer script.asks (readings_of script.clock (d.clock.coming d.clock.clock)) (LeavesClock d.clock script.clock)
+    d.sink d.disk end → ChainEnds issuer d end
 chain_ran issuer d script end good h = ran script end good (record {
   ends = h;
-  risen = disk_rose issuer script.asks (readings_of script.clock (d.clock.coming d.clock.clock)) (LeavesClock d.clock script.clock) d.sink d.disk end h;
+  risen = disk_rose issuer script.asks (readings_of script.clock (d.clock.coming d.clock.clock))
+      (LeavesClock d.clock script.clock) d.sink d.disk end h;
 })
 
 -- the end of a command whose source is no script
-pub unread : (form : Form) (s : Sources) (untouched : Type 0) (Ran : Script → Detail → Type 0) (fault : NoScript) → ScriptIs form s (Err fault) → untouched →
+pub unread : (form : Form) (s : Sources) (untouched : Type 0) (Ran : Script → Detail → Type 0) (fault : NoScript) →
+    ScriptIs form s (Err fault) → untouched →
     ScriptedEnds form s untouched Ran (no_script_end fault)
 unread form s untouched Ran no_script.ReadFault is left = read_fault is left
 unread form s untouched Ran no_script.TooBig is left = too_big is left

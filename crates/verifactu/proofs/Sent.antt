@@ -14,14 +14,22 @@ use Rattle.till_calls.proofs.Sent.{till_field_send}
 use Rattle.shop_core.specs.contracts.requests.Ask as ask
 use Rattle.verifactu.specs.contracts.tills.Job as job
 
-pub job_send : (D C : RattleType) (g : disk.Ghosts D.Denot) (h : clock.Ghosts C.Denot) → IsSend D → IsSend C → IsSend (job.the_row D C g h)
+pub job_send : (D C : RattleType) (g : disk.Ghosts D.Denot) (h : clock.Ghosts C.Denot) → IsSend D → IsSend C →
+    IsSend (job.the_row D C g h)
 job_send D C g h d c =
     let t = till_field_send D C g h d c in
     let fields : IsSend (Struct (shape (job.the_type D C g h))) =
-    struct_send (shape (job.the_type D C g h)) (t, (search (sendable, crosses) depth 100 fits 20000, (search (sendable, crosses) depth 100 fits 20000, tt))) in
+    struct_send (shape (job.the_type D C g h)) (
+      t,
+      (
+        search (sendable, crosses) depth 100 fits 20000,
+        (search (sendable, crosses) depth 100 fits 20000, tt),
+      ),
+    ) in
     search (sendable, crosses, fields)
 
-pub jobs_send : (D C : RattleType) (g : disk.Ghosts D.Denot) (h : clock.Ghosts C.Denot) → IsSend D → IsSend C → IsSend (Vec.the_row (job.the_row D C g h) Heap.the_row ghosts)
+pub jobs_send : (D C : RattleType) (g : disk.Ghosts D.Denot) (h : clock.Ghosts C.Denot) → IsSend D → IsSend C →
+    IsSend (Vec.the_row (job.the_row D C g h) Heap.the_row ghosts)
 jobs_send D C g h d c = let j = job_send D C g h d c in search (sendable, crosses, j) depth 100 fits 20000
 
 pub flag_sync : IsSync Flag.the_row

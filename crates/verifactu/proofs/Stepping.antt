@@ -1,5 +1,6 @@
 -- A run of a store goes on by one more reply.
-use Rattle.std.proofs.Common.{◌≡◌, inl, inr, ℕ, ◌+◌, ◌≤◌, List, [], ◌∷◌, ◌++◌, length, append_assoc, sym, ◌∙◌, ap, subst, refl, arith, add_assoc, add-zero, Bool, true, cond, IsTrue, IsSome, Option, Some, None, Result, Ok, Err}
+use Rattle.std.proofs.Common.{◌≡◌, inl, inr, ℕ, ◌+◌, ◌≤◌, List, [], ◌∷◌, ◌++◌, length, append_assoc, sym, ◌∙◌, ap, subst, refl}
+use Rattle.std.proofs.Common.{arith, add_assoc, add-zero, Bool, true, cond, IsTrue, IsSome, Option, Some, None, Result, Ok, Err}
 use Rattle.std.specs.List.{AllByRecursion}
 use Rattle.std.proofs.lemmas.List.{append-nil}
 use Rattle.std.proofs.lemmas.List.Sums.{sum_by-append}
@@ -27,11 +28,13 @@ use Rattle.verifactu.proofs.Progress.{Origin, Point, GoingOn, Torn, Halted, Prog
 abbrev Told_reply : Type 0
 Told_reply = Result Reply StoreFault
 
-all_push : (P : Told_reply → Type 0) (xs : List Told_reply) (x : Told_reply) → P x → AllByRecursion P xs → AllByRecursion P (xs ++ x ∷ [])
+all_push : (P : Told_reply → Type 0) (xs : List Told_reply) (x : Told_reply) → P x → AllByRecursion P xs →
+    AllByRecursion P (xs ++ x ∷ [])
 all_push P [] x p h = (p, tt)
 all_push P (y ∷ xs) x p h = (h.0, all_push P xs x p h.1)
 
-readings_read : (replies : List Told_reply) (told : Told_reply) → has_read told ≡ true → readings (replies ++ told ∷ []) ≡ readings replies + 1
+readings_read : (replies : List Told_reply) (told : Told_reply) → has_read told ≡ true → readings (replies ++ told ∷ []) ≡
+    readings replies + 1
 readings_read replies told read =
     let one : ◌≡◌ {A = ℕ} (cond (has_read told) 1 0) 1 = rw read refl in
     let more = sum_by-append (λ (r : Told_reply). cond (has_read r) 1 0) replies (told ∷ []) in
@@ -50,7 +53,8 @@ some_told : (o : Option ℕ) → (seconds : ℕ) × IsTold o seconds
 some_told None = (0, tt)
 some_told (Some told) = (told, refl)
 
-prefix_more : (start entries gained whole : List Entry) → whole ≡ entries ++ gained → IsPrefix start entries → IsPrefix start whole
+prefix_more : (start entries gained whole : List Entry) → whole ≡ entries ++ gained → IsPrefix start entries →
+    IsPrefix start whole
 prefix_more start entries gained whole is h = record {
   rest = h.rest ++ gained;
   parts = is ∙ ap (λ (es : List Entry). es ++ gained) h.parts ∙ append_assoc start h.rest gained;
@@ -68,10 +72,12 @@ between_more issuer start entries gained torn whole is c h =
       history = h.history;
       stands = h.stands;
       begins = h.begins;
-      within = prefix_more h.history entries (gained ++ torn) (whole ++ torn) (ap (λ (es : List Entry). es ++ torn) is ∙ append_assoc entries gained torn) within;
+      within = prefix_more h.history entries (gained ++ torn) (whole ++ torn) (ap (λ (es : List Entry). es ++ torn) is ∙
+          append_assoc entries gained torn) within;
     }
 
-stands_between : (issuer : List ℕ) (start entries history rest : List Entry) (c : List ℕ) → IsPrefix start history → entries ≡ history ++ rest → StandsFor issuer history c →
+stands_between : (issuer : List ℕ) (start entries history rest : List Entry) (c : List ℕ) → IsPrefix start history →
+    entries ≡ history ++ rest → StandsFor issuer history c →
     StandsBetween issuer start entries [] c
 stands_between issuer start entries history rest c begins is stands = record {
   history = history;
@@ -81,7 +87,8 @@ stands_between issuer start entries history rest c begins is stands = record {
 }
 
 -- what one answered ask leaves
-around_gained : (issuer : List ℕ) (start entries gained whole : List Entry) (planned : Planned) (told : Reply) (c : List ℕ) → IsPrefix start entries → whole ≡ entries ++ gained →
+around_gained : (issuer : List ℕ) (start entries gained whole : List Entry) (planned : Planned) (told : Reply) (c : List ℕ) →
+    IsPrefix start entries → whole ≡ entries ++ gained →
     Tells entries planned told gained → StandsAround issuer entries planned c → StandsBetween issuer start whole [] c
 around_gained issuer start entries gained whole (Again receipt) told c begins is tells stands =
     stands_between issuer start whole entries gained c begins is stands
@@ -91,7 +98,8 @@ around_gained issuer start entries gained whole (Made entry) told c begins is te
     stands_between issuer start whole entries gained c begins is before
 around_gained issuer start entries gained whole (Made entry) told c begins is tells (inr with_it) =
     let all : whole ≡ entries ++ entry ∷ [] = is ∙ ap (λ (es : List Entry). entries ++ es) tells.1 in
-    stands_between issuer start whole (entries ++ entry ∷ []) [] c (prefix_more start entries (entry ∷ []) _ refl begins) (all ∙ sym (append-nil (entries ++ entry ∷ []))) with_it
+    stands_between issuer start whole (entries ++ entry ∷ []) [] c (prefix_more start entries (entry ∷ []) _ refl begins)
+    (all ∙ sym (append-nil (entries ++ entry ∷ []))) with_it
 
 -- the entry that was to be added, where there is one
 abbrev torn_of : Planned → List Entry
@@ -104,12 +112,14 @@ torn_size (Again receipt) = omega arith
 torn_size (Refused why) = omega arith
 torn_size (Made entry) = omega arith
 
-around_torn : (issuer : List ℕ) (entries : List Entry) (planned : Planned) (c : List ℕ) → StandsAround issuer entries planned c → StandsForEnd issuer entries (torn_of planned) c
+around_torn : (issuer : List ℕ) (entries : List Entry) (planned : Planned) (c : List ℕ) → StandsAround issuer entries planned c →
+    StandsForEnd issuer entries (torn_of planned) c
 around_torn issuer entries (Again receipt) c stands = inl stands
 around_torn issuer entries (Refused why) c stands = inl stands
 around_torn issuer entries (Made entry) c stands = stands
 
-end_between : (issuer : List ℕ) (start entries torn : List Entry) (c : List ℕ) → IsPrefix start entries → StandsForEnd issuer entries torn c → StandsBetween issuer start entries torn c
+end_between : (issuer : List ℕ) (start entries torn : List Entry) (c : List ℕ) → IsPrefix start entries →
+    StandsForEnd issuer entries torn c → StandsBetween issuer start entries torn c
 end_between issuer start entries torn c begins (inl stands) = record {
   history = entries;
   stands = stands;
@@ -148,7 +158,8 @@ pub record Taking (o : Origin) (p : Point) (ask : Asked) (told : Told_reply) (q 
   pub gained : List Entry
   pub entries : q.history.entries ≡ p.history.entries ++ gained
   pub reply : IsReply o.issuer p.history.entries ask seconds told gained
-  pub any_moment : IsTrue o.tells → LeavesOnly p.now q.now (StandsAround o.issuer p.history.entries (answer o.issuer p.history.entries ask seconds))
+  pub any_moment : IsTrue o.tells → LeavesOnly p.now q.now (StandsAround o.issuer p.history.entries
+      (answer o.issuer p.history.entries ask seconds))
 
 taking : (o : Origin) (p q : Point) (ask : Asked) (told : Told_reply) → p.history.issuer ≡ o.issuer →
     Takes p.history q.history ask p.next q.next o.tells p.now q.now told → Taking o p ask told q
@@ -161,10 +172,12 @@ taking o p q ask told own t = record {
   entries = t.entries;
   reply = subst (λ (n : List ℕ). IsReply n p.history.entries ask t.seconds told t.gained) own t.reply;
   any_moment = λ tells.
-      subst (λ (n : List ℕ). LeavesOnly p.now q.now (StandsAround n p.history.entries (answer n p.history.entries ask t.seconds))) own (t.any_moment tells);
+      subst (λ (n : List ℕ). LeavesOnly p.now q.now (StandsAround n p.history.entries (answer n p.history.entries ask t.seconds)))
+      own (t.any_moment tells);
 }
 
-answered : (o : Origin) (p q : Point) (ask : Asked) (reply : Reply) (replies : List Told_reply) → IsPrefix o.start p.history.entries → GoingOn o replies p → Taking o p ask (Ok reply) q →
+answered : (o : Origin) (p q : Point) (ask : Asked) (reply : Reply) (replies : List Told_reply) →
+    IsPrefix o.start p.history.entries → GoingOn o replies p → Taking o p ask (Ok reply) q →
     GoingOn o (replies ++ Ok reply ∷ []) q
 answered o p q ask reply replies begins g t = record {
   go_on = all_push IsGoingOn replies (Ok reply) tt g.go_on;
@@ -174,26 +187,32 @@ answered o p q ask reply replies begins g t = record {
       (StandsBetween o.issuer o.start q.history.entries [])
       (g.only tells) (t.any_moment tells)
       (between_more o.issuer o.start p.history.entries t.gained [] q.history.entries t.entries)
-      (λ c stands. around_gained o.issuer o.start p.history.entries t.gained q.history.entries (answer o.issuer p.history.entries ask t.seconds) reply c begins t.entries t.reply stands);
+      (λ c stands. around_gained o.issuer o.start p.history.entries t.gained q.history.entries (answer o.issuer p.history.entries
+      ask t.seconds) reply c begins t.entries t.reply stands);
 }
 
-unanswered : (o : Origin) (p q : Point) (ask : Asked) (replies : List Told_reply) → GoingOn o replies p → Taking o p ask (Err NoMemory) q → q.now ≡ p.now →
+unanswered : (o : Origin) (p q : Point) (ask : Asked) (replies : List Told_reply) → GoingOn o replies p →
+    Taking o p ask (Err NoMemory) q → q.now ≡ p.now →
     GoingOn o (replies ++ Err NoMemory ∷ []) q
 unanswered o p q ask replies g t same = record {
   go_on = all_push IsGoingOn replies (Err NoMemory) tt g.go_on;
   only = λ tells. subst (λ (u : Told). LeavesOnly o.since u (StandsBetween o.issuer o.start q.history.entries [])) (sym same)
-      (weaker o.since p.now (StandsBetween o.issuer o.start p.history.entries []) (StandsBetween o.issuer o.start q.history.entries []) (g.only tells)
+      (weaker o.since p.now (StandsBetween o.issuer o.start p.history.entries []) (StandsBetween o.issuer o.start
+      q.history.entries []) (g.only tells)
       (between_more o.issuer o.start p.history.entries t.gained [] q.history.entries t.entries));
 }
 
-torn : (o : Origin) (p q : Point) (ask : Asked) (replies : List Told_reply) → IsPrefix o.start p.history.entries → GoingOn o replies p → Taking o p ask (Err DiskFault) q →
+torn : (o : Origin) (p q : Point) (ask : Asked) (replies : List Told_reply) → IsPrefix o.start p.history.entries →
+    GoingOn o replies p → Taking o p ask (Err DiskFault) q →
     IsTrue o.tells → Torn o q
 torn o p q ask replies begins g t tells =
     let planned = answer o.issuer p.history.entries ask t.seconds in
     let more = torn_of planned in
     let any = t.any_moment tells in
-    let same : q.history.entries ≡ p.history.entries = t.entries ∙ ap (λ (es : List Entry). p.history.entries ++ es) t.reply ∙ append-nil p.history.entries in
-    let here : LeavesNow q.now (StandsForEnd o.issuer p.history.entries more) = λ c left. around_torn o.issuer p.history.entries planned c (any.each (moment q.now) c any.later left) in
+    let same : q.history.entries ≡ p.history.entries = t.entries ∙ ap (λ (es : List Entry). p.history.entries ++ es) t.reply ∙
+    append-nil p.history.entries in
+    let here : LeavesNow q.now (StandsForEnd o.issuer p.history.entries more) = λ c left. around_torn o.issuer p.history.entries
+    planned c (any.each (moment q.now) c any.later left) in
     let only : LeavesOnly o.since q.now (StandsBetween o.issuer o.start p.history.entries more) =
     follows o.since p.now q.now
     (StandsBetween o.issuer o.start p.history.entries [])
@@ -201,7 +220,8 @@ torn o p q ask replies begins g t tells =
     (StandsBetween o.issuer o.start p.history.entries more)
     (g.only tells) any
     (between_more o.issuer o.start p.history.entries [] more p.history.entries (sym (append-nil p.history.entries)))
-    (λ c stands. end_between o.issuer o.start p.history.entries more c begins (around_torn o.issuer p.history.entries planned c stands)) in
+    (λ c stands. end_between o.issuer o.start p.history.entries more c begins (around_torn o.issuer p.history.entries planned c
+    stands)) in
     record {
       torn = more;
       at_most_one = torn_size planned;
@@ -213,23 +233,34 @@ risen_from : (first before after : ℕ) → first ≤ before → Rose before aft
 risen_from first before after later rose = λ below. let risen = rose below in omega (arith, later, risen)
 
 -- the journal went on before the ask
-progress_on : (o : Origin) (p q : Point) (ask : Asked) (told : Told_reply) (replies : List Told_reply) → IsPrefix o.start p.history.entries → o.at_faults ≤ p.faults → GoingOn o replies p →
+progress_on : (o : Origin) (p q : Point) (ask : Asked) (told : Told_reply) (replies : List Told_reply) →
+    IsPrefix o.start p.history.entries → o.at_faults ≤ p.faults → GoingOn o replies p →
     p.stopped ≡ None → Taking o p ask told q → Step o.tells p ask told q → Progress o (replies ++ told ∷ []) q q.stopped
 progress_on o p q ask (Ok reply) replies begins later g none t s =
-    subst (λ (x : Option ℕ). Progress o (replies ++ Ok reply ∷ []) q x) (sym s.going_on.1) (answered o p q ask reply replies begins g t)
+    subst (λ (x : Option ℕ). Progress o (replies ++ Ok reply ∷ []) q x) (sym s.going_on.1) (answered o p q ask reply replies
+    begins g t)
 progress_on o p q ask (Err NoMemory) replies begins later g none t s =
     let same = s.no_memory refl in
-    subst (λ (x : Option ℕ). Progress o (replies ++ Err NoMemory ∷ []) q x) (sym (same.1 ∙ none)) (unanswered o p q ask replies g t same.0)
+    subst (λ (x : Option ℕ). Progress o (replies ++ Err NoMemory ∷ []) q x) (sym (same.1 ∙ none)) (unanswered o p q ask replies g
+    t same.0)
 progress_on o p q ask (Err DiskFault) replies begins later g none t s =
     let f = s.fault refl in
     subst (λ (x : Option ℕ). Progress o (replies ++ Err DiskFault ∷ []) q x) (sym f.1) (record {
-      stops = record { before = replies; behind = []; parts = refl; go_on = g.go_on; stopped = tt; risen = risen_from o.at_faults p.faults q.faults later f.0 };
+      stops = record {
+        before = replies;
+        behind = [];
+        parts = refl;
+        go_on = g.go_on;
+        stopped = tt;
+        risen = risen_from o.at_faults p.faults q.faults later f.0;
+      };
       at_this = refl;
       left = torn o p q ask replies begins g t;
     })
 progress_on o p q ask (Err (Stopped count)) replies begins later g none t s = absurd (none_some none ((s.stops count).0 refl))
 
-step_on : (o : Origin) (asks : List Asked) (replies : List Told_reply) (p q : Point) (ask : Asked) (told : Told_reply) → p.stopped ≡ None → SoFar o asks replies p → Step o.tells p ask told q →
+step_on : (o : Origin) (asks : List Asked) (replies : List Told_reply) (p q : Point) (ask : Asked) (told : Told_reply) →
+    p.stopped ≡ None → SoFar o asks replies p → Step o.tells p ask told q →
     SoFar o (asks ++ ask ∷ []) (replies ++ told ∷ []) q
 step_on o asks replies p q ask told none h s =
     let t = taking o p q ask told h.own (s.takes none) in
@@ -239,35 +270,45 @@ step_on o asks replies p q ask told none h s =
     subst (λ (a : Option ℕ). IsTold a t.seconds) (h.moved 0 ∙ ap o.coming (add-zero (readings replies))) t.reading in
     record {
       own = t.own;
-      run = subst (λ (es : List Entry). ChainRun o.issuer (IsComing o.coming) o.start (asks ++ ask ∷ []) (replies ++ told ∷ []) es) (sym t.entries)
+      run = subst (λ (es : List Entry). ChainRun o.issuer (IsComing o.coming) o.start (asks ++ ask ∷ []) (replies ++ told ∷ [])
+          es) (sym t.entries)
           (replied asks replies p.history.entries ask told t.gained h.run t.seconds reading t.reply);
-      moved = subst (λ (n : ℕ). MovedBy n o.coming q.next) (sym read) (moved_on (readings replies) o.coming p.next q.next h.moved t.moved);
+      moved = subst (λ (n : ℕ). MovedBy n o.coming q.next) (sym read) (moved_on (readings replies) o.coming p.next q.next h.moved
+          t.moved);
       begins = prefix_more o.start p.history.entries t.gained q.history.entries t.entries h.begins;
       later = omega (arith, h.later, s.later);
       progress = progress_on o p q ask told replies h.begins h.later g none t s;
     }
 
-stopped_more : (faults count : ℕ) (replies : List Told_reply) → StopsAt faults count replies → StopsAt faults count (replies ++ Err (Stopped count) ∷ [])
+stopped_more : (faults count : ℕ) (replies : List Told_reply) → StopsAt faults count replies →
+    StopsAt faults count (replies ++ Err (Stopped count) ∷ [])
 stopped_more faults count replies h = record {
   before = h.before;
   behind = h.behind ++ Err (Stopped count) ∷ [];
-  parts = ap (λ (rs : List Told_reply). rs ++ Err (Stopped count) ∷ []) h.parts ∙ append_assoc h.before (Err DiskFault ∷ h.behind) (Err (Stopped count) ∷ []);
+  parts = ap (λ (rs : List Told_reply). rs ++ Err (Stopped count) ∷ []) h.parts ∙ append_assoc h.before (Err DiskFault ∷ h.behind)
+      (Err (Stopped count) ∷ []);
   go_on = h.go_on;
   stopped = all_push (IsStopped count) h.behind (Err (Stopped count)) refl h.stopped;
   risen = h.risen;
 }
 
 -- the journal had stopped before the ask
-step_stopped : (o : Origin) (asks : List Asked) (replies : List Told_reply) (p : Point) (ask : Asked) (count : ℕ) → p.stopped ≡ Some count → SoFar o asks replies p →
+step_stopped : (o : Origin) (asks : List Asked) (replies : List Told_reply) (p : Point) (ask : Asked) (count : ℕ) →
+    p.stopped ≡ Some count → SoFar o asks replies p →
     SoFar o (asks ++ ask ∷ []) (replies ++ Err (Stopped count) ∷ []) p
 step_stopped o asks replies p ask count some h =
     let told : Told_reply = Err (Stopped count) in
     let g : Halted o replies p count = subst (λ (x : Option ℕ). Progress o replies p x) some h.progress in
     let any = some_told (o.coming (readings replies)) in
-    let here : Progress o (replies ++ told ∷ []) p (Some count) = record { stops = stopped_more o.at_faults count replies g.stops; at_this = g.at_this; left = g.left } in
+    let here : Progress o (replies ++ told ∷ []) p (Some count) = record {
+      stops = stopped_more o.at_faults count replies g.stops;
+      at_this = g.at_this;
+      left = g.left;
+    } in
     record {
       own = h.own;
-      run = subst (λ (es : List Entry). ChainRun o.issuer (IsComing o.coming) o.start (asks ++ ask ∷ []) (replies ++ told ∷ []) es) (append-nil p.history.entries)
+      run = subst (λ (es : List Entry). ChainRun o.issuer (IsComing o.coming) o.start (asks ++ ask ∷ []) (replies ++ told ∷ [])
+          es) (append-nil p.history.entries)
           (replied asks replies p.history.entries ask told [] h.run any.0 any.1 refl);
       moved = subst (λ (n : ℕ). MovedBy n o.coming p.next) (sym (readings_stopped replies count)) h.moved;
       begins = h.begins;
@@ -275,28 +316,37 @@ step_stopped o asks replies p ask count some h =
       progress = subst (λ (x : Option ℕ). Progress o (replies ++ told ∷ []) p x) (sym some) here;
     }
 
-step_by : (stopped : Option ℕ) (o : Origin) (asks : List Asked) (replies : List Told_reply) (p q : Point) (ask : Asked) (told : Told_reply) → p.stopped ≡ stopped → SoFar o asks replies p →
+step_by : (stopped : Option ℕ) (o : Origin) (asks : List Asked) (replies : List Told_reply) (p q : Point) (ask : Asked)
+    (told : Told_reply) → p.stopped ≡ stopped → SoFar o asks replies p →
     Step o.tells p ask told q → SoFar o (asks ++ ask ∷ []) (replies ++ told ∷ []) q
 step_by None o asks replies p q ask told is h s = step_on o asks replies p q ask told is h s
 step_by (Some count) o asks replies p q ask told is h s =
     let same : q ≡ p = s.untouched (subst (λ (x : Option ℕ). IsSome x) (sym is) refl) in
     subst (λ (t : Told_reply). SoFar o (asks ++ ask ∷ []) (replies ++ t ∷ []) q) (sym ((s.stops count).1 is))
-    (subst (λ (x : Point). SoFar o (asks ++ ask ∷ []) (replies ++ Err (Stopped count) ∷ []) x) (sym same) (step_stopped o asks replies p ask count is h))
+    (subst (λ (x : Point). SoFar o (asks ++ ask ∷ []) (replies ++ Err (Stopped count) ∷ []) x) (sym same)
+    (step_stopped o asks replies p ask count is h))
 
-pub step : (o : Origin) (asks : List Asked) (replies : List Told_reply) (p q : Point) (ask : Asked) (told : Told_reply) → SoFar o asks replies p → Step o.tells p ask told q →
+pub step : (o : Origin) (asks : List Asked) (replies : List Told_reply) (p q : Point) (ask : Asked) (told : Told_reply) →
+    SoFar o asks replies p → Step o.tells p ask told q →
     SoFar o (asks ++ ask ∷ []) (replies ++ told ∷ []) q
 step o asks replies p q ask told h s = step_by p.stopped o asks replies p q ask told refl h s
 
-untouched_by : {C : Type 0} (stopped : Option ℕ) (tells : Bool) (p q : Point) (ask : Asked) (told : Told_reply) (first old new : C) (replies : List Told_reply) → p.stopped ≡ stopped →
-    Step tells p ask told q → (IsSome p.stopped → new ≡ old) → (readings replies ≡ 0 → old ≡ first) → readings (replies ++ told ∷ []) ≡ 0 → new ≡ first
+untouched_by : {C : Type 0} (stopped : Option ℕ) (tells : Bool) (p q : Point) (ask : Asked) (told : Told_reply)
+    (first old new : C) (replies : List Told_reply) → p.stopped ≡ stopped →
+    Step tells p ask told q → (IsSome p.stopped → new ≡ old) → (readings replies ≡ 0 → old ≡ first) →
+    readings (replies ++ told ∷ []) ≡ 0 → new ≡ first
 untouched_by None tells p q ask told first old new replies is s same before none =
     let read = readings_read replies told (reads told (λ count e. none_some is ((s.stops count).0 e))) in
     absurd (omega (arith, read, none))
 untouched_by (Some count) tells p q ask told first old new replies is s same before none =
-    let fewer : readings (replies ++ Err (Stopped count) ∷ []) ≡ 0 = subst (λ (t : Told_reply). readings (replies ++ t ∷ []) ≡ 0) ((s.stops count).1 is) none in
+    let fewer : readings (replies ++ Err (Stopped count) ∷ []) ≡ 0 = subst (λ (t : Told_reply). readings (replies ++ t ∷ []) ≡ 0)
+    ((s.stops count).1 is) none in
     same (subst (λ (x : Option ℕ). IsSome x) (sym is) refl) ∙ before (sym (readings_stopped replies count) ∙ fewer)
 
 -- a clock that wasn't read before an ask, nor in it, is as it was
-pub untouched : {C : Type 0} (tells : Bool) (p q : Point) (ask : Asked) (told : Told_reply) (first old new : C) (replies : List Told_reply) →
-    Step tells p ask told q → (IsSome p.stopped → new ≡ old) → (readings replies ≡ 0 → old ≡ first) → readings (replies ++ told ∷ []) ≡ 0 → new ≡ first
-untouched tells p q ask told first old new replies s same before none = untouched_by p.stopped tells p q ask told first old new replies refl s same before none
+pub untouched : {C : Type 0} (tells : Bool) (p q : Point) (ask : Asked) (told : Told_reply) (first old new : C)
+    (replies : List Told_reply) →
+    Step tells p ask told q → (IsSome p.stopped → new ≡ old) → (readings replies ≡ 0 → old ≡ first) →
+    readings (replies ++ told ∷ []) ≡ 0 → new ≡ first
+untouched tells p q ask told first old new replies s same before none = untouched_by p.stopped tells p q ask told first old new
+    replies refl s same before none

@@ -1,5 +1,6 @@
 -- What one till's asks come to, once the shop's list at the end is known.
-use Rattle.std.proofs.Common.{◌≡◌, ◌⊎◌, inl, inr, ℕ, ◌<◌, ◌≤◌, Bool, true, false, List, [], ◌∷◌, ◌++◌, length, map, Option, Some, None, Result, Ok, Err, refl, ap, sym, ◌∙◌, subst, arith, append_assoc}
+use Rattle.std.proofs.Common.{◌≡◌, ◌⊎◌, inl, inr, ℕ, ◌<◌, ◌≤◌, Bool, true, false, List, [], ◌∷◌, ◌++◌, length, map, Option, Some}
+use Rattle.std.proofs.Common.{None, Result, Ok, Err, refl, ap, sym, ◌∙◌, subst, arith, append_assoc}
 use Rattle.std.specs.Prelude.{Contains, IsSome}
 use Rattle.std.specs.List.{AllByRecursion, enumerate_from}
 use Rattle.std.proofs.lemmas.List.{append-nil, append_cancel_left, length-append, length-map}
@@ -45,7 +46,8 @@ StopTold stopped (Err DiskFault) = IsSome stopped
 StopTold stopped (Err (Stopped count)) = stopped ≡ Some count
 StopTold stopped (Err NoMemory) = Unit {0}
 
-no_entry : (stopped : Option ℕ) (torn : Option Entry) (e : Entry) (rest : List Item) → stop_in stopped torn ≡ item.Entry e ∷ rest → ⊥
+no_entry : (stopped : Option ℕ) (torn : Option Entry) (e : Entry) (rest : List Item) → stop_in stopped torn ≡ item.Entry e ∷ rest
+    → ⊥
 no_entry (Some faults) (Some t) e rest h = absurd (let x = h in cc)
 no_entry (Some faults) None e rest h = absurd (let x = h in cc)
 no_entry None torn e rest h = absurd (let x = h in cc)
@@ -62,19 +64,24 @@ module _ (stopped : Option ℕ) (torn : Option Entry) where
   begins (y ∷ end) (x ∷ h) rest is =
       let more = begins end h rest (let e = is in cc) in
       let same : y ≡ x = (let e = is in cc) in
-      record { rest = more.rest; parts = ap (λ (l : List Entry). y ∷ l) more.parts ∙ ap (λ (z : Entry). z ∷ (h ++ more.rest)) same }
+      record {
+        rest = more.rest;
+        parts = ap (λ (l : List Entry). y ∷ l) more.parts ∙ ap (λ (z : Entry). z ∷ (h ++ more.rest)) same;
+      }
 
   record StopThere (end h : List Entry) (count : ℕ) : Type 0 where
     is : stopped ≡ Some count
     long : length h ≡ length end
 
-  stop_of : (s : Option ℕ) (t : Option Entry) (count : ℕ) (e : Entry) (rest : List Item) → stop_in s t ≡ item.Stop count e ∷ rest → s ≡ Some count
+  stop_of : (s : Option ℕ) (t : Option Entry) (count : ℕ) (e : Entry) (rest : List Item) → stop_in s t ≡ item.Stop count e ∷ rest
+      → s ≡ Some count
   stop_of (Some faults) (Some t) count e rest h = let x : faults ≡ count = (let y = h in cc) in ap (λ (n : ℕ). Some n) x
   stop_of (Some faults) None count e rest h = absurd (let x = h in cc)
   stop_of None t count e rest h = absurd (let x = h in cc)
 
   -- a stop in the list is the one at its end
-  stop_there : (end h : List Entry) (count : ℕ) (e : Entry) (rest : List Item) → items end ≡ map item.Entry h ++ item.Stop count e ∷ rest → StopThere end h count
+  stop_there : (end h : List Entry) (count : ℕ) (e : Entry) (rest : List Item) → items end ≡ map item.Entry h ++ item.Stop count e
+      ∷ rest → StopThere end h count
   stop_there [] [] count e rest is = record { is = stop_of stopped torn count e rest is; long = refl }
   stop_there [] (x ∷ h) count e rest is = absurd (no_entry stopped torn x (map item.Entry h ++ item.Stop count e ∷ rest) is)
   stop_there (y ∷ end) [] count e rest is = absurd (let x = is in cc)
@@ -83,163 +90,192 @@ module _ (stopped : Option ℕ) (torn : Option Entry) where
       record { is = more.is; long = omega (arith, more.long) }
 
 -- asks leave a till its numbers
-pub run_numbers : {C : Type 0} (coming : C → ℕ → Option ℕ) (old new : Known Item (Root C)) (asks : List Asked) (replies : Replies) → Asking coming old asks replies new → new.numbers ≡ old.numbers
+pub run_numbers : {C : Type 0} (coming : C → ℕ → Option ℕ) (old new : Known Item (Root C)) (asks : List Asked) (replies : Replies)
+    → Asking coming old asks replies new → new.numbers ≡ old.numbers
 run_numbers coming old new asks replies begun = refl
-run_numbers {C} coming old new asks' replies' (asked asks replies mid _ ask reply run this) = ap (λ (k : Known Item (Root C)). k.numbers) this.after ∙ run_numbers coming old mid asks replies run
+run_numbers {C} coming old new asks' replies' (asked asks replies mid _ ask reply run this) =
+    ap (λ (k : Known Item (Root C)). k.numbers) this.after ∙ run_numbers coming old mid asks replies run
 
-module _ {C : Type 0} (coming : C → ℕ → Option ℕ) (root : Root C) (stopped : Option ℕ) (torn : Option Entry) (end : List Entry) where
-  abbrev log : List Item
-  log = items stopped torn end
+module _ {C : Type 0} (coming : C → ℕ → Option ℕ) (root : Root C) (stopped : Option ℕ) (torn : Option Entry) (end : List Entry)
+  where
+    abbrev log : List Item
+    log = items stopped torn end
 
-  abbrev Run : List Asked → Replies → ℕ → Bool → Type 0
-  Run asks replies seen told = TillRun root.issuer (coming root.clock) root.history end asks replies seen told
+    abbrev Run : List Asked → Replies → ℕ → Bool → Type 0
+    Run asks replies seen told = TillRun root.issuer (coming root.clock) root.history end asks replies seen told
 
-  abbrev pub IsClean : List (ℕ × Item) → Type 0
-  IsClean own = AllByRecursion (λ (z : ℕ × Item). is_stop z.1 ≡ false) own
+    abbrev pub IsClean : List (ℕ × Item) → Type 0
+    IsClean own = AllByRecursion (λ (z : ℕ × Item). is_stop z.1 ≡ false) own
 
-  -- how far the till has been told
-  pub record SoFar (asks : List Asked) (replies : Replies) (k : Known Item (Root C)) : Type 0 where
-    pub seen : ℕ
-    pub told : Bool
-    pub run : Run asks replies seen told
-    pub within : seen ≤ length k.seen
-    pub home : k.root ≡ Some root
-    pub least : k.least ≡ length k.seen
-    pub whole : told ≡ true → length end < length k.seen
-    pub stops : AllByRecursion (StopTold stopped) replies
-    pub clean : IsClean k.own ⊎ Contains replies (Err DiskFault)
+    -- how far the till has been told
+    pub record SoFar (asks : List Asked) (replies : Replies) (k : Known Item (Root C)) : Type 0 where
+      pub seen : ℕ
+      pub told : Bool
+      pub run : Run asks replies seen told
+      pub within : seen ≤ length k.seen
+      pub home : k.root ≡ Some root
+      pub least : k.least ≡ length k.seen
+      pub whole : told ≡ true → length end < length k.seen
+      pub stops : AllByRecursion (StopTold stopped) replies
+      pub clean : IsClean k.own ⊎ Contains replies (Err DiskFault)
 
-  -- what one more ask tells, at this list and with what it adds
-  record Step (asks : List Asked) (replies : Replies) (before more : List Item) (reply : Result Reply StoreFault) : Type 0 where
-    seen : ℕ
-    told : Bool
-    run : Run asks replies seen told
-    within : seen ≤ length (before ++ more)
-    whole : told ≡ true → length end < length (before ++ more)
-    stop : StopTold stopped reply
-    clean : AllByRecursion (λ (x : Item). is_stop x ≡ false) more ⊎ (reply ≡ Err DiskFault)
+    -- what one more ask tells, at this list and with what it adds
+    record Step (asks : List Asked) (replies : Replies) (before more : List Item) (reply : Result Reply StoreFault) : Type 0 where
+      seen : ℕ
+      told : Bool
+      run : Run asks replies seen told
+      within : seen ≤ length (before ++ more)
+      whole : told ≡ true → length end < length (before ++ more)
+      stop : StopTold stopped reply
+      clean : AllByRecursion (λ (x : Item). is_stop x ≡ false) more ⊎ (reply ≡ Err DiskFault)
 
-  none_more : (before more : List Item) → before ++ more ≡ before → AllByRecursion (λ (x : Item). is_stop x ≡ false) more
-  none_more before more e = subst (λ (l : List Item). AllByRecursion (λ (x : Item). is_stop x ≡ false) l) (sym (append_cancel_left before more [] (e ∙ sym (append-nil before)))) tt
+    none_more : (before more : List Item) → before ++ more ≡ before → AllByRecursion (λ (x : Item). is_stop x ≡ false) more
+    none_more before more e = subst (λ (l : List Item). AllByRecursion (λ (x : Item). is_stop x ≡ false) l)
+        (sym (append_cancel_left before more [] (e ∙ sym (append-nil before)))) tt
 
-  stop_long : (h : List Entry) (count : ℕ) (e : Entry) (items' : List Item) → StartsWith log items' → items' ≡ map item.Entry h ++ item.Stop count e ∷ [] → (stopped ≡ Some count) × (length end < length items')
-  stop_long h count e items' starts is =
-      let there = stop_there stopped torn end h count e starts.0 (starts.1 ∙ ap (λ (l : List Item). l ++ starts.0) is ∙ append_assoc (map item.Entry h) (item.Stop count e ∷ []) starts.0) in
-      let n = ap (λ (l : List Item). length l) is in
-      let m = length-append (map item.Entry h) (item.Stop count e ∷ []) in
-      let k = length-map h (λ (x : Entry). item.Entry x) in
-      (there.is, omega (arith, there.long, n, m, k))
+    stop_long : (h : List Entry) (count : ℕ) (e : Entry) (items' : List Item) → StartsWith log items' → items' ≡ map item.Entry h ++
+        item.Stop count e ∷ [] → (stopped ≡ Some count) × (length end < length items')
+    stop_long h count e items' starts is =
+        let there = stop_there stopped torn end h count e starts.0 (starts.1 ∙ ap (λ (l : List Item). l ++ starts.0) is ∙
+        append_assoc (map item.Entry h) (item.Stop count e ∷ []) starts.0) in
+        let n = ap (λ (l : List Item). length l) is in
+        let m = length-append (map item.Entry h) (item.Stop count e ∷ []) in
+        let k = length-map h (λ (x : Entry). item.Entry x) in
+        (there.is, omega (arith, there.long, n, m, k))
 
-  module _ (asks : List Asked) (replies : Replies) (ask : Asked) (old : Known Item (Root C)) (before more : List Item) (starts : StartsWith before old.seen) (reaches : StartsWith log (before ++ more)) where
-    grows : length old.seen ≤ length (before ++ more)
-    grows = let a = no_shorter before old.seen starts in let b = length-append before more in omega (arith, a, b)
+    module _ (asks : List Asked) (replies : Replies) (ask : Asked) (old : Known Item (Root C)) (before more : List Item)
+        (starts : StartsWith before old.seen) (reaches : StartsWith log (before ++ more)) where
+      grows : length old.seen ≤ length (before ++ more)
+      grows = let a = no_shorter before old.seen starts in let b = length-append before more in omega (arith, a, b)
 
-    -- entries alone: the till hasn't been told of a stop
-    going : (s : SoFar asks replies old) (history : List Entry) → before ≡ map item.Entry history → s.told ≡ false
-    going s history is = by_mark s.told refl
-      where
-        by_mark : (b : Bool) → s.told ≡ b → s.told ≡ false
-        by_mark false e = e
-        by_mark true e =
-            let long = no_shorter before old.seen starts in
-            let size = ap (λ (l : List Item). length l) is ∙ length-map history (λ (x : Entry). item.Entry x) in
-            let front = begins stopped torn end history (more ++ reaches.0) (reaches.1 ∙ append_assoc before more reaches.0 ∙ ap (λ (l : List Item). l ++ (more ++ reaches.0)) is) in
-            let whole = ap (λ (l : List Entry). length l) front.parts ∙ length-append history front.rest in
-            absurd (omega (arith, s.whole e, long, size, whole))
+      -- entries alone: the till hasn't been told of a stop
+      going : (s : SoFar asks replies old) (history : List Entry) → before ≡ map item.Entry history → s.told ≡ false
+      going s history is = by_mark s.told refl
+        where
+          by_mark : (b : Bool) → s.told ≡ b → s.told ≡ false
+          by_mark false e = e
+          by_mark true e =
+              let long = no_shorter before old.seen starts in
+              let size = ap (λ (l : List Item). length l) is ∙ length-map history (λ (x : Entry). item.Entry x) in
+              let front = begins stopped torn end history (more ++ reaches.0) (reaches.1 ∙ append_assoc before more reaches.0 ∙
+              ap (λ (l : List Item). l ++ (more ++ reaches.0)) is) in
+              let whole = ap (λ (l : List Entry). length l) front.parts ∙ length-append history front.rest in
+              absurd (omega (arith, s.whole e, long, size, whole))
 
-    on : (s : SoFar asks replies old) → s.told ≡ false → Run asks replies s.seen false
-    on s e = subst (λ (b : Bool). Run asks replies s.seen b) e s.run
+      on : (s : SoFar asks replies old) → s.told ≡ false → Run asks replies s.seen false
+      on s e = subst (λ (b : Bool). Run asks replies s.seen b) e s.run
 
-    step : (reply : Result Reply StoreFault) → SoFar asks replies old → TillDoes coming ask reply root before (before ++ more) → Step (asks ++ ask ∷ []) (replies ++ reply ∷ []) before more reply
-    step (Ok reply) s a =
-        let sizes : length before ≡ length a.history = ap (λ (l : List Item). length l) a.going_on ∙ length-map a.history (λ (e : Entry). item.Entry e) in
-        let long = no_shorter before old.seen starts in
-        let all : length (before ++ more) ≡ length (a.history ++ a.gained) = ap (λ (l : List Item). length l) a.after_is ∙ length-map (a.history ++ a.gained) (λ (e : Entry). item.Entry e) in
-        let front = begins stopped torn end (a.history ++ a.gained) reaches.0 (reaches.1 ∙ ap (λ (l : List Item). l ++ reaches.0) a.after_is) in
-        record {
-          seen = length (a.history ++ a.gained);
-          told = false;
-          run = answered asks replies s.seen ask reply a.history a.gained a.seconds (on s (going s a.history a.going_on)) (omega (arith, s.within, long, sizes)) front (a.reading.number, a.reading.told) a.tells;
-          within = omega (arith, all);
-          whole = λ e. absurd (let x = e in cc);
-          stop = tt;
-          clean = inl (each_back (λ (x : Item). is_stop x ≡ false) before more (subst (λ (l : List Item). AllByRecursion (λ (x : Item). is_stop x ≡ false) l) (sym a.after_is) (no_stops (a.history ++ a.gained))));
-        }
-    step (Err DiskFault) s t =
-        let there = stop_long t.history t.count t.torn (before ++ more) reaches t.after_is in
-        record {
-          seen = s.seen;
-          told = true;
-          run = tears asks replies s.seen ask (on s (going s t.history t.going_on));
-          within = omega (arith, s.within, grows);
-          whole = λ e. there.1;
-          stop = subst (λ (o : Option ℕ). IsSome o) (sym there.0) refl;
-          clean = inr refl;
-        }
-    step (Err (Stopped count)) s t =
-        let there = stop_long t.1.history count t.1.torn (before ++ more) reaches (t.0 ∙ t.1.items_are) in
-        record {
-          seen = s.seen;
-          told = true;
-          run = told_stop asks replies s.seen s.told ask count s.run;
-          within = omega (arith, s.within, grows);
-          whole = λ e. there.1;
-          stop = there.0;
-          clean = inl (none_more before more t.0);
-        }
-    step (Err NoMemory) s e = record {
-      seen = s.seen;
-      told = false;
-      run = without_memory asks replies s.seen ask (on s (going s e.1.history e.1.entries));
-      within = omega (arith, s.within, grows);
-      whole = λ x. absurd (let y = x in cc);
-      stop = tt;
-      clean = inl (none_more before more e.0);
-    }
-
-  clean_more : (replies : Replies) (reply : Result Reply StoreFault) (own : List (ℕ × Item)) (place : ℕ) (more : List Item) → IsClean own ⊎ Contains replies (Err DiskFault) →
-      AllByRecursion (λ (x : Item). is_stop x ≡ false) more ⊎ (reply ≡ Err DiskFault) → IsClean (own ++ enumerate_from place more) ⊎ Contains (replies ++ reply ∷ []) (Err DiskFault)
-  clean_more replies reply own place more (inr told) any = inr (Contains-append_left replies (reply ∷ []) (Err DiskFault) told)
-  clean_more replies reply own place more (inl clean) (inr told) = inr (subst (λ (r : Result Reply StoreFault). Contains (replies ++ r ∷ []) (Err DiskFault)) (sym told) (Contains-push replies (Err DiskFault)))
-  clean_more replies reply own place more (inl clean) (inl none) = inl (each_append (λ (z : ℕ × Item). is_stop z.1 ≡ false) own (enumerate_from place more) clean (each_placed (λ (x : Item). is_stop x ≡ false) place more none))
-
-  one_more : (asks : List Asked) (replies : Replies) (ask : Asked) (reply : Result Reply StoreFault) (old new : Known Item (Root C)) → Asks coming ask reply old new → StartsWith log new.seen →
-      SoFar asks replies old → SoFar (asks ++ ask ∷ []) (replies ++ reply ∷ []) new
-  one_more asks replies ask reply old new t whole s =
-      let same : Some root ≡ Some t.home = sym s.home ∙ t.root in
-      let is : t.home ≡ root = (let e = same in cc) in
-      let seen : new.seen ≡ t.before ++ t.added = ap (λ (k : Known Item (Root C)). k.seen) t.after in
-      let reaches : StartsWith log (t.before ++ t.added) = subst (λ (l : List Item). StartsWith log l) seen whole in
-      let does : TillDoes coming ask reply root t.before (t.before ++ t.added) = subst (λ (r : Root C). TillDoes coming ask reply r t.before (t.before ++ t.added)) is t.related.does in
-      let next = step asks replies ask old t.before t.added t.begins reaches reply s does in
-      record {
-        seen = next.seen;
-        told = next.told;
-        run = next.run;
-        within = subst (λ (l : List Item). next.seen ≤ length l) (sym seen) next.within;
-        home = ap (λ (k : Known Item (Root C)). k.root) t.after ∙ s.home;
-        least = ap (λ (k : Known Item (Root C)). k.least) t.after ∙ ap (λ (l : List Item). length l) (sym seen);
-        whole = λ e. subst (λ (l : List Item). length end < length l) (sym seen) (next.whole e);
-        stops = each_snoc (StopTold stopped) replies reply s.stops next.stop;
-        clean = subst (λ (k : Known Item (Root C)). IsClean k.own ⊎ Contains (replies ++ reply ∷ []) (Err DiskFault)) (sym t.after) (clean_more replies reply old.own (length t.before) t.added s.clean next.clean);
+      step : (reply : Result Reply StoreFault) → SoFar asks replies old → TillDoes coming ask reply root before (before ++ more) →
+          Step (asks ++ ask ∷ []) (replies ++ reply ∷ []) before more reply
+      step (Ok reply) s a =
+          let sizes : length before ≡ length a.history = ap (λ (l : List Item). length l) a.going_on ∙ length-map a.history
+          (λ (e : Entry). item.Entry e) in
+          let long = no_shorter before old.seen starts in
+          let all : length (before ++ more) ≡ length (a.history ++ a.gained) = ap (λ (l : List Item). length l) a.after_is ∙
+          length-map (a.history ++ a.gained) (λ (e : Entry). item.Entry e) in
+          let front = begins stopped torn end (a.history ++ a.gained) reaches.0 (reaches.1 ∙ ap (λ (l : List Item). l ++ reaches.0)
+          a.after_is) in
+          record {
+            seen = length (a.history ++ a.gained);
+            told = false;
+            run = answered asks replies s.seen ask reply a.history a.gained a.seconds (on s (going s a.history a.going_on))
+                (omega (arith, s.within, long, sizes)) front (a.reading.number, a.reading.told) a.tells;
+            within = omega (arith, all);
+            whole = λ e. absurd (let x = e in cc);
+            stop = tt;
+            clean = inl (each_back (λ (x : Item). is_stop x ≡ false) before more
+                (subst (λ (l : List Item). AllByRecursion (λ (x : Item). is_stop x ≡ false) l) (sym a.after_is)
+                (no_stops (a.history ++ a.gained))));
+          }
+      step (Err DiskFault) s t =
+          let there = stop_long t.history t.count t.torn (before ++ more) reaches t.after_is in
+          record {
+            seen = s.seen;
+            told = true;
+            run = tears asks replies s.seen ask (on s (going s t.history t.going_on));
+            within = omega (arith, s.within, grows);
+            whole = λ e. there.1;
+            stop = subst (λ (o : Option ℕ). IsSome o) (sym there.0) refl;
+            clean = inr refl;
+          }
+      step (Err (Stopped count)) s t =
+          let there = stop_long t.1.history count t.1.torn (before ++ more) reaches (t.0 ∙ t.1.items_are) in
+          record {
+            seen = s.seen;
+            told = true;
+            run = told_stop asks replies s.seen s.told ask count s.run;
+            within = omega (arith, s.within, grows);
+            whole = λ e. there.1;
+            stop = there.0;
+            clean = inl (none_more before more t.0);
+          }
+      step (Err NoMemory) s e = record {
+        seen = s.seen;
+        told = false;
+        run = without_memory asks replies s.seen ask (on s (going s e.1.history e.1.entries));
+        within = omega (arith, s.within, grows);
+        whole = λ x. absurd (let y = x in cc);
+        stop = tt;
+        clean = inl (none_more before more e.0);
       }
 
-  seen_before : (ask : Asked) (reply : Result Reply StoreFault) (old new : Known Item (Root C)) → Asks coming ask reply old new → StartsWith log new.seen → StartsWith log old.seen
-  seen_before ask reply old new t whole =
-      starts_trans log new.seen old.seen whole (subst (λ (l : List Item). StartsWith l old.seen) (sym (ap (λ (k : Known Item (Root C)). k.seen) t.after)) (starts_trans (t.before ++ t.added) t.before old.seen (t.added, refl) t.begins))
+    clean_more : (replies : Replies) (reply : Result Reply StoreFault) (own : List (ℕ × Item)) (place : ℕ) (more : List Item) →
+        IsClean own ⊎ Contains replies (Err DiskFault) →
+        AllByRecursion (λ (x : Item). is_stop x ≡ false) more ⊎ (reply ≡ Err DiskFault) → IsClean (own ++ enumerate_from place more)
+        ⊎ Contains (replies ++ reply ∷ []) (Err DiskFault)
+    clean_more replies reply own place more (inr told) any = inr (Contains-append_left replies (reply ∷ []) (Err DiskFault) told)
+    clean_more replies reply own place more (inl clean) (inr told) =
+        inr (subst (λ (r : Result Reply StoreFault). Contains (replies ++ r ∷ []) (Err DiskFault)) (sym told)
+        (Contains-push replies (Err DiskFault)))
+    clean_more replies reply own place more (inl clean) (inl none) = inl (each_append (λ (z : ℕ × Item). is_stop z.1 ≡ false) own
+        (enumerate_from place more) clean (each_placed (λ (x : Item). is_stop x ≡ false) place more none))
 
-  pub so_far : (old new : Known Item (Root C)) (asks : List Asked) (replies : Replies) → length root.history ≤ length old.seen → old.root ≡ Some root → old.least ≡ length old.seen → old.own ≡ [] → StartsWith log new.seen → Asking coming old asks replies new →
-      SoFar asks replies new
-  so_far old new asks replies low home least bare whole begun = record {
-    seen = length root.history;
-    told = false;
-    run = unasked;
-    within = low;
-    home = home;
-    least = least;
-    whole = λ e. absurd (let x = e in cc);
-    stops = tt;
-    clean = inl (subst (λ (o : List (ℕ × Item)). IsClean o) (sym bare) tt);
-  }
-  so_far old new asks' replies' low home least bare whole (asked asks replies mid _ ask reply run this) =
-      one_more asks replies ask reply mid new this whole (so_far old mid asks replies low home least bare (seen_before ask reply mid new this whole) run)
+    one_more : (asks : List Asked) (replies : Replies) (ask : Asked) (reply : Result Reply StoreFault)
+        (old new : Known Item (Root C)) → Asks coming ask reply old new → StartsWith log new.seen →
+        SoFar asks replies old → SoFar (asks ++ ask ∷ []) (replies ++ reply ∷ []) new
+    one_more asks replies ask reply old new t whole s =
+        let same : Some root ≡ Some t.home = sym s.home ∙ t.root in
+        let is : t.home ≡ root = (let e = same in cc) in
+        let seen : new.seen ≡ t.before ++ t.added = ap (λ (k : Known Item (Root C)). k.seen) t.after in
+        let reaches : StartsWith log (t.before ++ t.added) = subst (λ (l : List Item). StartsWith log l) seen whole in
+        let does : TillDoes coming ask reply root t.before (t.before ++ t.added) = subst (λ (r : Root C). TillDoes coming ask reply
+        r t.before (t.before ++ t.added)) is t.related.does in
+        let next = step asks replies ask old t.before t.added t.begins reaches reply s does in
+        record {
+          seen = next.seen;
+          told = next.told;
+          run = next.run;
+          within = subst (λ (l : List Item). next.seen ≤ length l) (sym seen) next.within;
+          home = ap (λ (k : Known Item (Root C)). k.root) t.after ∙ s.home;
+          least = ap (λ (k : Known Item (Root C)). k.least) t.after ∙ ap (λ (l : List Item). length l) (sym seen);
+          whole = λ e. subst (λ (l : List Item). length end < length l) (sym seen) (next.whole e);
+          stops = each_snoc (StopTold stopped) replies reply s.stops next.stop;
+          clean = subst (λ (k : Known Item (Root C)). IsClean k.own ⊎ Contains (replies ++ reply ∷ []) (Err DiskFault))
+              (sym t.after) (clean_more replies reply old.own (length t.before) t.added s.clean next.clean);
+        }
+
+    seen_before : (ask : Asked) (reply : Result Reply StoreFault) (old new : Known Item (Root C)) → Asks coming ask reply old new →
+        StartsWith log new.seen → StartsWith log old.seen
+    seen_before ask reply old new t whole =
+        starts_trans log new.seen old.seen whole (subst (λ (l : List Item). StartsWith l old.seen)
+        (sym (ap (λ (k : Known Item (Root C)). k.seen) t.after)) (starts_trans (t.before ++ t.added) t.before old.seen
+        (t.added, refl) t.begins))
+
+    pub so_far : (old new : Known Item (Root C)) (asks : List Asked) (replies : Replies) → length root.history ≤ length old.seen →
+        old.root ≡ Some root → old.least ≡ length old.seen → old.own ≡ [] → StartsWith log new.seen → Asking coming old asks replies
+        new →
+        SoFar asks replies new
+    so_far old new asks replies low home least bare whole begun = record {
+      seen = length root.history;
+      told = false;
+      run = unasked;
+      within = low;
+      home = home;
+      least = least;
+      whole = λ e. absurd (let x = e in cc);
+      stops = tt;
+      clean = inl (subst (λ (o : List (ℕ × Item)). IsClean o) (sym bare) tt);
+    }
+    so_far old new asks' replies' low home least bare whole (asked asks replies mid _ ask reply run this) =
+        one_more asks replies ask reply mid new this whole (so_far old mid asks replies low home least bare
+        (seen_before ask reply mid new this whole) run)

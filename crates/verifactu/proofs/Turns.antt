@@ -1,5 +1,7 @@
 -- Turns of a day's sender, one after another.
-use Rattle.std.proofs.Common.{◌≡◌, ◌⊎◌, inl, inr, ℕ, ◌+◌, ◌-◌, ◌^◌, ◌<◌, ◌≤◌, List, [], ◌∷◌, ◌++◌, refl, sym, ◌∙◌, ap, subst, length, drop, Bool, false, IsTrue, Option, Result, Ok, Err, Some, slice_get, append_assoc, append-nil, arith}
+use Rattle.std.proofs.Common.{◌≡◌, ◌⊎◌, inl, inr, ℕ, ◌+◌, ◌-◌, ◌^◌, ◌<◌, ◌≤◌, List, [], ◌∷◌, ◌++◌, refl, sym, ◌∙◌, ap, subst}
+use Rattle.std.proofs.Common.{length, drop, Bool, false, IsTrue, Option, Result, Ok, Err, Some, slice_get, append_assoc}
+use Rattle.std.proofs.Common.{append-nil, arith}
 use Rattle.std.specs.Prelude.{Contains, IsErrOf, is_err}
 use Rattle.std.specs.List.{AllByRecursion}
 use Rattle.std.proofs.Math.Seq.{drop-append_seam}
@@ -23,7 +25,8 @@ use Rattle.sender.specs.declared.answers.SendFault.TheVariants as send
 use Rattle.sender.specs.declared.answers.DrainFault.{DrainFault}
 use Rattle.sender.specs.declared.answers.DrainFault.TheVariants as drain
 use Rattle.sender.specs.declared.draining.TheConstants.{MAX_LINK_FAULTS}
-use Rattle.sender.specs.Agreeing.{Adds, AgreesIfTorn, AreNotes, AreNotesOrTorn, Gains, HasAt, InSession, IsCareful, KeepsAgreement, KeepsSession}
+use Rattle.sender.specs.Agreeing.{Adds, AgreesIfTorn, AreNotes, AreNotesOrTorn, Gains, HasAt, InSession, IsCareful}
+use Rattle.sender.specs.Agreeing.{KeepsAgreement, KeepsSession}
 use Rattle.sender.specs.Draining.{Drained, EndsWith, Scene, Turns, none, more}
 use Rattle.sender.specs.Lines.{IsCall, SaysCalls}
 use Rattle.sender.specs.Sending.{Sending}
@@ -59,9 +62,13 @@ sends_none kind a k said = record {
   adds = adds_none AreNotesOrTorn a;
   notes = λ faultless. adds_none AreNotes a;
   stopped = λ disk. absurd disk;
-  session = λ keeps in_it gains. record { session = in_it; begins = record { rest = []; is = sym (append-nil k.ledger.processed) } };
+  session = λ keeps in_it gains. record {
+    session = in_it;
+    begins = record { rest = []; is = sym (append-nil k.ledger.processed) };
+  };
   no_contradiction = λ keeps in_it gains evidence is. absurd cc;
-  torn = λ keeps in_it gains items faults torn is own. absurd (none_there (length items) (subst (λ (ps : List ℕ). Contains ps (length items)) (nothing_more a.own) own));
+  torn = λ keeps in_it gains items faults torn is own. absurd
+      (none_there (length items) (subst (λ (ps : List ℕ). Contains ps (length items)) (nothing_more a.own) own));
   careful = λ tells past h. h;
   says = λ tells. record { session = []; is = sym (append-nil k.ledger.messages); calls = tt };
   kept = λ tells past r. r;
@@ -72,7 +79,8 @@ sends_none kind a k said = record {
 }
 
 -- after turns that go on, more of them
-pub sends_then : (kind : Kind) (a b c : Sight) (k l m : Desk) (said mid then : Sending) (answer : Result (Unit {0}) DrainFault) → SendsOn kind a b k l said mid (Ok tt) → SendsOn kind b c l m mid then answer → SendsOn kind a c k m said then answer
+pub sends_then : (kind : Kind) (a b c : Sight) (k l m : Desk) (said mid then : Sending) (answer : Result (Unit {0}) DrainFault) →
+    SendsOn kind a b k l said mid (Ok tt) → SendsOn kind b c l m mid then answer → SendsOn kind a c k m said then answer
 sends_then kind a b c k l m said mid then answer x y = record {
   adds = adds_then AreNotesOrTorn a b c x.adds y.adds;
   notes = λ faultless. adds_then AreNotes a b c notes (y.notes faultless);
@@ -83,16 +91,26 @@ sends_then kind a b c k l m said mid then answer x y = record {
       let next = y.session keeps first.session each.1 in
       record {
         session = next.session;
-        begins = record { rest = first.begins.rest ++ next.begins.rest; is = next.begins.is ∙ ap (λ (t : List (Sealed × Line)). t ++ next.begins.rest) first.begins.is ∙ append_assoc k.ledger.processed first.begins.rest next.begins.rest };
+        begins = record {
+          rest = first.begins.rest ++ next.begins.rest;
+          is = next.begins.is ∙
+              ap (λ (t : List (Sealed × Line)). t ++ next.begins.rest) first.begins.is ∙ append_assoc k.ledger.processed
+              first.begins.rest next.begins.rest;
+        };
       };
-  no_contradiction = λ keeps in_it gains. let each = both gains in y.no_contradiction keeps (x.session keeps in_it each.0).session each.1;
+  no_contradiction = λ keeps in_it gains. let each = both gains in y.no_contradiction keeps (x.session keeps in_it each.0).session
+      each.1;
   torn = λ keeps in_it gains items faults torn is own.
       let each = both gains in
       let first = x.session keeps in_it each.0 in
-      let whole : c.own ≡ a.own ++ (notes.own ++ y.adds.own) = y.adds.own_is ∙ ap (λ (ps : List ℕ). ps ++ y.adds.own) notes.own_is ∙ append_assoc a.own notes.own y.adds.own in
-      let gained : drop (length a.own) c.own ≡ notes.own ++ y.adds.own = ap (λ (ps : List ℕ). drop (length a.own) ps) whole ∙ drop-append_seam a.own (notes.own ++ y.adds.own) in
-      let later : drop (length b.own) c.own ≡ y.adds.own = ap (λ (ps : List ℕ). drop (length b.own) ps) y.adds.own_is ∙ drop-append_seam b.own y.adds.own in
-      by_part keeps first.session each.1 items faults torn is later (Contains-append_cases notes.own y.adds.own (length items) (subst (λ (ps : List ℕ). Contains ps (length items)) gained own));
+      let whole : c.own ≡ a.own ++ (notes.own ++ y.adds.own) = y.adds.own_is ∙ ap (λ (ps : List ℕ). ps ++ y.adds.own) notes.own_is
+      ∙ append_assoc a.own notes.own y.adds.own in
+      let gained : drop (length a.own) c.own ≡ notes.own ++ y.adds.own = ap (λ (ps : List ℕ). drop (length a.own) ps) whole ∙
+      drop-append_seam a.own (notes.own ++ y.adds.own) in
+      let later : drop (length b.own) c.own ≡ y.adds.own = ap (λ (ps : List ℕ). drop (length b.own) ps) y.adds.own_is ∙
+      drop-append_seam b.own y.adds.own in
+      by_part keeps first.session each.1 items faults torn is later (Contains-append_cases notes.own y.adds.own (length items)
+      (subst (λ (ps : List ℕ). Contains ps (length items)) gained own));
   careful = λ tells past h. y.careful tells past (x.careful tells past h);
   says = λ tells. (let f = x.says tells in let s = y.says tells in record {
     session = f.session ++ s.session;
@@ -101,9 +119,14 @@ sends_then kind a b c k l m said mid then answer x y = record {
   });
   kept = λ tells past r. y.kept tells past (x.kept tells past r);
   contrary = λ tells past r. y.contrary tells past (x.kept tells past r);
-  shown = λ tells past r none. y.shown tells past (x.kept tells past r) (shows_nothing past l.ledger.messages (x.shown tells past r none));
+  shown = λ tells past r none. y.shown tells past (x.kept tells past r) (shows_nothing past l.ledger.messages
+      (x.shown tells past r none));
   later = let e = x.later in let f = y.later in omega (arith, e, f);
-  undelivered = λ n r is. (let u = y.undelivered n r is in (u.0, λ below. let w = u.1 below in let e = x.later in omega (arith, w, e)));
+  undelivered = λ n r is. (let u = y.undelivered n r is in (
+    u.0,
+    λ below. let w = u.1 below in let e = x.later in
+        omega (arith, w, e),
+  ));
 }
   where
     notes : Adds AreNotes a b
@@ -112,18 +135,24 @@ sends_then kind a b c k l m said mid then answer x y = record {
     both : GainsOwnNotes a c → GainsOwnNotes a b × GainsOwnNotes b c
     both gains = gains_each a b c (growth_of AreNotesOrTorn a b x.adds) (growth_of AreNotesOrTorn b c y.adds) gains
 
-    by_part : IsTrue kind.keeps_rules → InSession b l.ledger mid.said → GainsOwnNotes b c → (items : List Item) (faults : ℕ) (torn : Entry) → c.items ≡ items ++ item.Stop faults torn ∷ [] → drop (length b.own) c.own ≡ y.adds.own →
-        Contains notes.own (length items) ⊎ Contains y.adds.own (length items) → Agree (history_of c ++ torn ∷ []) m.ledger.processed m.ledger.sent
+    by_part : IsTrue kind.keeps_rules → InSession b l.ledger mid.said → GainsOwnNotes b c → (items : List Item) (faults : ℕ)
+        (torn : Entry) → c.items ≡ items ++ item.Stop faults torn ∷ [] → drop (length b.own) c.own ≡ y.adds.own →
+        Contains notes.own (length items) ⊎ Contains y.adds.own (length items) → Agree (history_of c ++ torn ∷ [])
+        m.ledger.processed m.ledger.sent
     by_part keeps first gains items faults torn is later (inl early) =
-        let h = has_front AreNotes b.items y.adds.items (length items) (all_contained (HasAt AreNotes b.items) notes.own (length items) notes.are early) in
-        let e : Some h.0 ≡ Some (item.Stop faults torn) = sym (subst (λ (xs : List Item). slice_get xs (length items) ≡ Some h.0) (sym y.adds.items_is) h.1) ∙ ap (λ (xs : List Item). slice_get xs (length items)) is ∙ get_seam items (item.Stop faults torn) in
+        let h = has_front AreNotes b.items y.adds.items (length items) (all_contained (HasAt AreNotes b.items) notes.own
+        (length items) notes.are early) in
+        let e : Some h.0 ≡ Some (item.Stop faults torn) = sym (subst (λ (xs : List Item). slice_get xs (length items) ≡ Some h.0)
+        (sym y.adds.items_is) h.1) ∙ ap (λ (xs : List Item). slice_get xs (length items)) is ∙
+        get_seam items (item.Stop faults torn) in
         let f : h.0 ≡ item.Stop faults torn = (let g = e in cc) in
         absurd (subst AreNotes f h.2)
     by_part keeps first gains items faults torn is later (inr late) =
         y.torn keeps first gains items faults torn is (subst (λ (ps : List ℕ). Contains ps (length items)) (sym later) late)
 
 -- a turn whose answer goes on, or is no fault of the disk, tore no notes
-pub untorn_end : (answer : Result Turn SendFault) → IsFaultless (sending_end answer) → IsErrOf answer (send.Store store.DiskFault) → ⊥
+pub untorn_end : (answer : Result Turn SendFault) → IsFaultless (sending_end answer) → IsErrOf answer (send.Store store.DiskFault)
+    → ⊥
 untorn_end (Ok turn) f is = absurd cc
 untorn_end (Err send.LinkFault) f is = absurd cc
 untorn_end (Err (send.Contradiction evidence)) f is = absurd cc
@@ -131,17 +160,23 @@ untorn_end (Err (send.Store fault)) f is = f
 untorn_end (Err send.NoMemory) f is = f
 
 -- a turn that answers a fault of the disk leaves a stop
-pub stopped_end : (kind : Kind) (desk desk_then : Desk) (before after : Sight) (old new : Sending) (now : ℕ) (answer : Result Turn SendFault) → Turned kind desk desk_then before after old new now answer → IsDiskAnswer (sending_end answer) → EndsStopped after.items
+pub stopped_end : (kind : Kind) (desk desk_then : Desk) (before after : Sight) (old new : Sending) (now : ℕ)
+    (answer : Result Turn SendFault) → Turned kind desk desk_then before after old new now answer →
+    IsDiskAnswer (sending_end answer) → EndsStopped after.items
 stopped_end kind desk desk_then before after old new now (Ok turn) t disk = absurd disk
 stopped_end kind desk desk_then before after old new now (Err send.LinkFault) t disk = absurd disk
 stopped_end kind desk desk_then before after old new now (Err (send.Contradiction evidence)) t disk = absurd disk
 stopped_end kind desk desk_then before after old new now (Err send.NoMemory) t disk = absurd disk
-stopped_end kind desk desk_then before after old new now (Err (send.Store store.DiskFault)) t disk = ends_stopped old now t.shown t.look after t.deals.deed store.DiskFault new tt t.deals.ends
-stopped_end kind desk desk_then before after old new now (Err (send.Store (store.Stopped faults))) t disk = ends_stopped old now t.shown t.look after t.deals.deed (store.Stopped faults) new tt t.deals.ends
+stopped_end kind desk desk_then before after old new now (Err (send.Store store.DiskFault)) t disk = ends_stopped old now t.shown
+    t.look after t.deals.deed store.DiskFault new tt t.deals.ends
+stopped_end kind desk desk_then before after old new now (Err (send.Store (store.Stopped faults))) t disk = ends_stopped old now
+    t.shown t.look after t.deals.deed (store.Stopped faults) new tt t.deals.ends
 stopped_end kind desk desk_then before after old new now (Err (send.Store store.NoMemory)) t disk = absurd disk
 
 -- turns that keep agreement end in no contradiction
-pub never_end : (answer : Result Turn SendFault) (before after : Sight) (k : Desk) (new : Desk) (said : Sending) → KeepsAgreement before after k.ledger new.ledger said.said answer → (evidence : Evidence) → IsErrOf (sending_end answer) (drain.Contradiction evidence) → ⊥
+pub never_end : (answer : Result Turn SendFault) (before after : Sight) (k : Desk) (new : Desk) (said : Sending) →
+    KeepsAgreement before after k.ledger new.ledger said.said answer → (evidence : Evidence) → IsErrOf (sending_end answer)
+    (drain.Contradiction evidence) → ⊥
 never_end (Ok turn) before after k new said h evidence is = absurd cc
 never_end (Err send.LinkFault) before after k new said h evidence is = absurd cc
 never_end (Err (send.Contradiction e)) before after k new said h evidence is = h.gains
@@ -156,7 +191,8 @@ delivers_end (Err (send.Contradiction e)) old new n r is = absurd cc
 delivers_end (Err (send.Store fault)) old new n r is = absurd cc
 delivers_end (Err send.NoMemory) old new n r is = absurd cc
 
-turns_later : (kind : Kind) (exact : Bool) (start : Scene) (answers : List (Result Turn SendFault)) (links : ℕ) (scene : Scene) → Turns kind exact start answers links scene → start.desk.faults ≤ scene.desk.faults
+turns_later : (kind : Kind) (exact : Bool) (start : Scene) (answers : List (Result Turn SendFault)) (links : ℕ) (scene : Scene) →
+    Turns kind exact start answers links scene → start.desk.faults ≤ scene.desk.faults
 turns_later kind exact start answers links scene none = omega arith
 turns_later kind exact start answers links scene (more before_answers before_links mid answer then t turn on few) =
     let a = turns_later kind exact start before_answers before_links mid t in
@@ -164,14 +200,18 @@ turns_later kind exact start answers links scene (more before_answers before_lin
     omega (arith, a, b)
 
 -- a drain never lowers the agency's count of faults
-pub drained_later : (kind : Kind) (exact : Bool) (start then : Scene) (old new : List Told) (result : Result (Unit {0}) DrainFault) → Drained kind exact start then old new result → start.desk.faults ≤ then.desk.faults
+pub drained_later : (kind : Kind) (exact : Bool) (start then : Scene) (old new : List Told)
+    (result : Result (Unit {0}) DrainFault) → Drained kind exact start then old new result → start.desk.faults ≤ then.desk.faults
 drained_later kind exact start then old new result d =
     let a = turns_later kind exact start d.answers d.links d.scene d.made in
-    let b = turn_later kind d.scene.desk then.desk d.scene.sight then.sight d.scene.sending then.sending d.turn.now d.answer d.turn.turned in
+    let b = turn_later kind d.scene.desk then.desk d.scene.sight then.sight d.scene.sending then.sending d.turn.now d.answer
+    d.turn.turned in
     omega (arith, a, b)
 
 -- where a drain gave up, lines were missing
-pub drained_missing : (kind : Kind) (exact : Bool) (start then : Scene) (old new : List Told) (result : Result (Unit {0}) DrainFault) → Drained kind exact start then old new result → (n r : ℕ) → IsErrOf result (drain.Undelivered n r) → n < r
+pub drained_missing : (kind : Kind) (exact : Bool) (start then : Scene) (old new : List Told)
+    (result : Result (Unit {0}) DrainFault) → Drained kind exact start then old new result → (n r : ℕ) →
+    IsErrOf result (drain.Undelivered n r) → n < r
 drained_missing kind exact start then old new result d n r is = elim d.ends [
   | inl p ↦ (subst (λ (a : Result (Unit {0}) DrainFault). EndsWith d.links then.sight d.answer a) is p.1).2.some
   | inr p ↦ absurd (let e = sym p.0 ∙ is in cc)

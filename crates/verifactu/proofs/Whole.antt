@@ -1,5 +1,7 @@
 -- A closed shop's list, by what its sender's seat has seen and added beside the tills.
-use Rattle.std.proofs.Common.{◌≡◌, ◌⊎◌, inl, inr, ℕ, zero, suc, ◌+◌, ◌<◌, ◌≤◌, ◌==◌, cond, List, [], ◌∷◌, ◌++◌, length, length-append, map, drop, Option, Some, None, slice_get, All, Bool, true, false, IsTrue, refl, ap, sym, ◌∙◌, subst, arith, append-nil}
+use Rattle.std.proofs.Common.{◌≡◌, ◌⊎◌, inl, inr, ℕ, zero, suc, ◌+◌, ◌<◌, ◌≤◌, ◌==◌, cond, List, [], ◌∷◌, ◌++◌, length}
+use Rattle.std.proofs.Common.{length-append, map, drop, Option, Some, None, slice_get, All, Bool, true, false, IsTrue, refl, ap}
+use Rattle.std.proofs.Common.{sym, ◌∙◌, subst, arith, append-nil}
 use Rattle.std.specs.Prelude.{Contains, count_by, IsSome}
 use Rattle.std.specs.List.{AllByRecursion}
 use Rattle.std.proofs.Math.Seq.{drop-append_seam}
@@ -38,17 +40,21 @@ use Rattle.verifactu.proofs.TillRuns.{is_stop}
 
 -- what a place of a pass's own holds
 module _ (log : List Item) where
-  counted_at : (n : ℕ) (own : List (ℕ × Item)) → AllByRecursion (λ (z : ℕ × Item). IsOfTill z.1) own → AllByRecursion (λ (z : ℕ × Item). slice_get log z.0 ≡ Some z.1) own → 0 < count_by (λ (z : ℕ × Item). z.0 == n) own → HasAt IsOfTill log n
+  counted_at : (n : ℕ) (own : List (ℕ × Item)) → AllByRecursion (λ (z : ℕ × Item). IsOfTill z.1) own →
+      AllByRecursion (λ (z : ℕ × Item). slice_get log z.0 ≡ Some z.1) own → 0 < count_by (λ (z : ℕ × Item). z.0 == n) own →
+      HasAt IsOfTill log n
   counted_at n [] each stand some = absurd (omega (arith, some))
   counted_at n (z ∷ zs) each stand some =
       let split = sum_by-cons (λ (y : ℕ × Item). cond (y.0 == n) 1 0) z zs in
       elim (eqb_tells z.0 n) [
         | inl same ↦ (z.1, subst (λ (k : ℕ). slice_get log k ≡ Some z.1) same.1 stand.0, each.0)
-        | inr apart ↦ counted_at n zs each.1 stand.1 (let none : ◌≡◌ {A = ℕ} (cond (z.0 == n) 1 0) 0 = (let ne : z.0 ≡ n → ⊥ = apart.1 in grind (arith, nat_tests, ne)) in omega (arith, none, some, split))
+        | inr apart ↦ counted_at n zs each.1 stand.1 (let none : ◌≡◌ {A = ℕ} (cond (z.0 == n) 1 0) 0 =
+            (let ne : z.0 ≡ n → ⊥ = apart.1 in grind (arith, nat_tests, ne)) in omega (arith, none, some, split))
       ]
 
   module _ {C : Type 0} where
-    theirs_at : (n : ℕ) (ks : List (Known Item (Root C))) → AllByRecursion (λ (k : Known Item (Root C)). Theirs k) ks → AllByRecursion (λ (k : Known Item (Root C)). Fits log k) ks → 0 < owners n ks → HasAt IsOfTill log n
+    theirs_at : (n : ℕ) (ks : List (Known Item (Root C))) → AllByRecursion (λ (k : Known Item (Root C)). Theirs k) ks →
+        AllByRecursion (λ (k : Known Item (Root C)). Fits log k) ks → 0 < owners n ks → HasAt IsOfTill log n
     theirs_at n [] each fits some = absurd (omega (arith, some))
     theirs_at n (k ∷ ks) each fits some =
         let split = sum_by-cons (λ (j : Known Item (Root C)). times_owned n j) k ks in
@@ -58,7 +64,8 @@ module _ (log : List Item) where
         ]
 
     -- an item that is owned is a till's, or stands at a place of the seat's
-    by_owner : (n : ℕ) (ks : List (Known Item (Root C))) (seat : Known Item (Root C)) → AllByRecursion (λ (k : Known Item (Root C)). Theirs k) ks → AllByRecursion (λ (k : Known Item (Root C)). Fits log k) ks →
+    by_owner : (n : ℕ) (ks : List (Known Item (Root C))) (seat : Known Item (Root C)) →
+        AllByRecursion (λ (k : Known Item (Root C)). Theirs k) ks → AllByRecursion (λ (k : Known Item (Root C)). Fits log k) ks →
         owners n (ks ++ seat ∷ []) ≡ 1 → HasAt IsOfTill log n ⊎ Contains (map (λ (z : ℕ × Item). z.0) seat.own) n
     by_owner n ks seat each fits one =
         let f = sum_by_push (times_owned n) ks seat in
@@ -86,7 +93,8 @@ notes_clean : (x : Item) → AreNotes x → is_stop x ≡ false
 notes_clean (item.Entry e) h = refl
 notes_clean (item.Stop faults torn) h = absurd h
 
-module _ {C : Type 0} (base log : List Item) (root : Root C) (tills : List (Known Item (Root C))) (seat then : Known Item (Root C)) where
+module _ {C : Type 0} (base log : List Item) (root : Root C) (tills : List (Known Item (Root C)))
+    (seat then : Known Item (Root C)) where
   -- a shop that was closed, to which tills added records and its seat notes
   pub record Shared : Type 0 where
     pub fresh : IsNew base root seat
@@ -112,11 +120,14 @@ module _ {C : Type 0} (base log : List Item) (root : Root C) (tills : List (Know
         let own : (sight_by then).own ≡ adds.own = adds.own_is ∙ ap (λ (o : List ℕ). o ++ adds.own) (own_before h) in
         all_contained (HasAt P then.seen) adds.own n adds.are (subst (λ (o : List ℕ). Contains o n) own c)
 
-    own_by : Shared → (own : List (ℕ × Item)) → ((z : ℕ) → Contains (map (λ (x : ℕ × Item). x.0) own) z → Contains (sight_by then).own z) → AllByRecursion (λ (z : ℕ × Item). slice_get log z.0 ≡ Some z.1) own → AllByRecursion (λ (z : ℕ × Item). P z.1) own
+    own_by : Shared → (own : List (ℕ × Item)) → ((z : ℕ) → Contains (map (λ (x : ℕ × Item). x.0) own) z →
+        Contains (sight_by then).own z) → AllByRecursion (λ (z : ℕ × Item). slice_get log z.0 ≡ Some z.1) own →
+        AllByRecursion (λ (z : ℕ × Item). P z.1) own
     own_by h [] within stand = tt
     own_by h (z ∷ zs) within stand =
         let there = mine_by h z.0 (within z.0 (0, omega arith, refl)) in
-        let at : slice_get log z.0 ≡ Some there.0 = ap (λ (l : List Item). slice_get l z.0) (fit h).1.begins.1 ∙ get_front then.seen (fit h).1.begins.0 z.0 there.0 there.1 in
+        let at : slice_get log z.0 ≡ Some there.0 = ap (λ (l : List Item). slice_get l z.0) (fit h).1.begins.1 ∙
+        get_front then.seen (fit h).1.begins.0 z.0 there.0 there.1 in
         let same : Some there.0 ≡ Some z.1 = sym at ∙ stand.0 in
         let is : there.0 ≡ z.1 = (let e = same in cc) in
         (subst P is there.2, own_by h zs (λ n c. within n (suc c.0, (let l = c.1 in omega arith), c.2)) stand.1)
@@ -124,21 +135,26 @@ module _ {C : Type 0} (base log : List Item) (root : Root C) (tills : List (Know
     pub all_own : Shared → AllByRecursion (λ (z : ℕ × Item). P z.1) then.own
     all_own h = own_by h then.own (λ n c. c) (all_each (λ (z : ℕ × Item). slice_get log z.0 ≡ Some z.1) then.own (fit h).1.own)
 
-  each_change : (P Q : ℕ × Item → Type 0) → ((z : ℕ × Item) → P z → Q z) → (zs : List (ℕ × Item)) → AllByRecursion P zs → AllByRecursion Q zs
+  each_change : (P Q : ℕ × Item → Type 0) → ((z : ℕ × Item) → P z → Q z) → (zs : List (ℕ × Item)) → AllByRecursion P zs →
+      AllByRecursion Q zs
   each_change P Q f [] h = tt
   each_change P Q f (z ∷ zs) h = (f z h.0, each_change P Q f zs h.1)
 
   -- it owns no record
   pub bare : Shared → (till : ℕ) → OwnsNone till then
   bare h till = all_of_each (λ (z : ℕ × Item). is_of till z.1 ≡ false) then.own
-      (each_change (λ (z : ℕ × Item). AreNotesOrTorn z.1) (λ (z : ℕ × Item). is_of till z.1 ≡ false) (λ z n. notes_not till z.1 n) then.own (all_own AreNotesOrTorn h.adds h))
+      (each_change (λ (z : ℕ × Item). AreNotesOrTorn z.1) (λ (z : ℕ × Item). is_of till z.1 ≡ false) (λ z n. notes_not till z.1 n)
+      then.own (all_own AreNotesOrTorn h.adds h))
 
   -- nor a stop, where it added notes alone
-  pub unstopped : Shared → Adds AreNotes (sight_by seat) (sight_by then) → AllByRecursion (λ (z : ℕ × Item). is_stop z.1 ≡ false) then.own
-  unstopped h adds = each_change (λ (z : ℕ × Item). AreNotes z.1) (λ (z : ℕ × Item). is_stop z.1 ≡ false) (λ z n. notes_clean z.1 n) then.own (all_own AreNotes adds h)
+  pub unstopped : Shared → Adds AreNotes (sight_by seat) (sight_by then) → AllByRecursion (λ (z : ℕ × Item). is_stop z.1 ≡ false)
+      then.own
+  unstopped h adds = each_change (λ (z : ℕ × Item). AreNotes z.1) (λ (z : ℕ × Item). is_stop z.1 ≡ false)
+      (λ z n. notes_clean z.1 n) then.own (all_own AreNotes adds h)
 
   long : Shared → length base ≤ length then.seen
-  long h = let e = ap length h.adds.items_is in let f = length-append seat.seen h.adds.items in let g = ap length h.fresh.seen in omega arith
+  long h = let e = ap length h.adds.items_is in let f = length-append seat.seen h.adds.items in let g = ap length h.fresh.seen in
+      omega arith
 
   abbrev rest_of : Shared → List Item
   rest_of h = (fit h).1.begins.0
@@ -149,19 +165,24 @@ module _ {C : Type 0} (base log : List Item) (root : Root C) (tills : List (Know
   -- the outbox gained no notes but its own
   pub gains : Shared → GainsOwnNotes (sight_by seat) (sight_by then)
   gains h =
-      let own : drop (length (sight_by seat).own) (sight_by then).own ≡ (sight_by then).own = ap (λ (o : List ℕ). drop (length o) (sight_by then).own) (own_before h) in
-      let items : drop (length seat.seen) then.seen ≡ h.adds.items = ap (λ (l : List Item). drop (length seat.seen) l) h.adds.items_is ∙ drop-append_seam seat.seen h.adds.items in
+      let own : drop (length (sight_by seat).own) (sight_by then).own ≡ (sight_by then).own =
+      ap (λ (o : List ℕ). drop (length o) (sight_by then).own) (own_before h) in
+      let items : drop (length seat.seen) then.seen ≡ h.adds.items = ap (λ (l : List Item). drop (length seat.seen) l)
+      h.adds.items_is ∙ drop-append_seam seat.seen h.adds.items in
       subst (λ (o : List ℕ). AreOwnNotes o (length seat.seen) (drop (length seat.seen) then.seen)) (sym own)
       (subst (λ (l : List Item). AreOwnNotes (sight_by then).own (length seat.seen) l) (sym items)
       (own_all h.adds.items (length seat.seen) (sight_by then).own (λ m first lines e.
       let n : ℕ = length seat.seen + m in
-      let seen : slice_get then.seen n ≡ Some (item.Entry (Notes first lines)) = ap (λ (l : List Item). slice_get l n) h.adds.items_is ∙ get_behind seat.seen h.adds.items m ∙ e in
-      let there : slice_get log n ≡ Some (item.Entry (Notes first lines)) = ap (λ (l : List Item). slice_get l n) (rest_is h) ∙ get_front then.seen (rest_of h) n _ seen in
+      let seen : slice_get then.seen n ≡ Some (item.Entry (Notes first lines)) = ap (λ (l : List Item). slice_get l n)
+      h.adds.items_is ∙ get_behind seat.seen h.adds.items m ∙ e in
+      let there : slice_get log n ≡ Some (item.Entry (Notes first lines)) = ap (λ (l : List Item). slice_get l n) (rest_is h) ∙
+      get_front then.seen (rest_of h) n _ seen in
       let low : length base ≤ n = (let g = ap length h.fresh.seen in omega arith) in
       let high : n < length log = slice_get_within log n _ there in
       by_case n first lines there (each h n low high))))
     where
-      by_case : (n first : ℕ) (lines : List Line) → slice_get log n ≡ Some (item.Entry (Notes first lines)) → HasAt IsOfTill log n ⊎ Contains (sight_by then).own n → Contains (sight_by then).own n
+      by_case : (n first : ℕ) (lines : List Line) → slice_get log n ≡ Some (item.Entry (Notes first lines)) →
+          HasAt IsOfTill log n ⊎ Contains (sight_by then).own n → Contains (sight_by then).own n
       by_case n first lines there (inr c) = c
       by_case n first lines there (inl q) =
           let e : Some q.0 ≡ Some (item.Entry (Notes first lines)) = sym q.1 ∙ there in
@@ -178,12 +199,20 @@ module _ {C : Type 0} (base log : List Item) (root : Root C) (tills : List (Know
       let high : n < length log = omega arith in
       by_case m (each h n low high))
     where
-      by_case : (m : ℕ) → HasAt IsOfTill log (length then.seen + m) ⊎ Contains (sight_by then).own (length then.seen + m) → HasAt IsOfTill (rest_of h) m
-      by_case m (inl q) = (q.0, sym (get_behind then.seen (rest_of h) m) ∙ ap (λ (x : List Item). slice_get x (length then.seen + m)) (sym (rest_is h)) ∙ q.1, q.2)
-      by_case m (inr c) = absurd (let k = mine_by AreNotesOrTorn h.adds h (length then.seen + m) c in let w = slice_get_within then.seen (length then.seen + m) k.0 k.1 in omega arith)
+      by_case : (m : ℕ) → HasAt IsOfTill log (length then.seen + m) ⊎ Contains (sight_by then).own (length then.seen + m) →
+          HasAt IsOfTill (rest_of h) m
+      by_case m (inl q) = (
+        q.0,
+        sym (get_behind then.seen (rest_of h) m) ∙
+            ap (λ (x : List Item). slice_get x (length then.seen + m)) (sym (rest_is h)) ∙ q.1,
+        q.2,
+      )
+      by_case m (inr c) = absurd (let k = mine_by AreNotesOrTorn h.adds h (length then.seen + m) c in
+          let w = slice_get_within then.seen (length then.seen + m) k.0 k.1 in omega arith)
 
   -- the last item is a till's, or the seat has seen all and it is the seat's
-  last_one : (h : Shared) (items : List Item) (x : Item) → log ≡ items ++ x ∷ [] → length base ≤ length items → IsOfTill x ⊎ ((then.seen ≡ log) × Contains (sight_by then).own (length items))
+  last_one : (h : Shared) (items : List Item) (x : Item) → log ≡ items ++ x ∷ [] → length base ≤ length items → IsOfTill x ⊎
+      ((then.seen ≡ log) × Contains (sight_by then).own (length items))
   last_one h items x is low =
       let len = ap length is in
       let app = length-append items (x ∷ []) in
@@ -200,8 +229,10 @@ module _ {C : Type 0} (base log : List Item) (root : Root C) (tills : List (Know
       none_left [] e le = sym (e ∙ append-nil then.seen)
       none_left (y ∷ r) e le = absurd (let a = ap length e in let b = length-append then.seen (y ∷ r) in omega arith)
 
-      by_case : HasAt IsOfTill log (length items) ⊎ Contains (sight_by then).own (length items) → IsOfTill x ⊎ ((then.seen ≡ log) × Contains (sight_by then).own (length items))
-      by_case (inl q) = let e : Some q.0 ≡ Some x = sym q.1 ∙ at_end in let f : q.0 ≡ x = (let g = e in cc) in inl (subst IsOfTill f q.2)
+      by_case : HasAt IsOfTill log (length items) ⊎ Contains (sight_by then).own (length items) → IsOfTill x ⊎
+          ((then.seen ≡ log) × Contains (sight_by then).own (length items))
+      by_case (inl q) = let e : Some q.0 ≡ Some x = sym q.1 ∙ at_end in let f : q.0 ≡ x = (let g = e in cc) in
+          inl (subst IsOfTill f q.2)
       by_case (inr c) =
           let k = mine_by AreNotesOrTorn h.adds h (length items) c in
           let w = slice_get_within then.seen (length items) k.0 k.1 in
@@ -217,44 +248,55 @@ module _ {C : Type 0} (base log : List Item) (root : Root C) (tills : List (Know
       pub begins : StartsWith es start
 
     seen_entries : Kept → es ≡ entries_of then.seen ++ entries_of (rest_of h)
-    seen_entries s = sym (entries_in es stopped torn) ∙ ap entries_of (sym s.log_is ∙ rest_is h) ∙ entries_both then.seen (rest_of h)
+    seen_entries s = sym (entries_in es stopped torn) ∙ ap entries_of (sym s.log_is ∙ rest_is h) ∙ entries_both then.seen
+        (rest_of h)
 
     -- what waited at the last sight still does, in front, and no line came
     pub still_waits : Kept → (noted es ≡ noted (entries_of then.seen)) × IsPrefix (waiting (entries_of then.seen)) (waiting es)
     still_waits s =
         let seen = entries_of then.seen in
         let rest = entries_of (rest_of h) in
-        let same : noted es ≡ noted seen = ap noted (seen_entries s) ∙ noted_same seen rest (records_of_tills (rest_of h) (rest_theirs h)) in
-        let front : IsPrefix (waiting seen) (drop (length (noted seen)) (recs seen ++ recs rest)) = drop_front (length (noted seen)) (recs seen) (recs rest) in
+        let same : noted es ≡ noted seen = ap noted (seen_entries s) ∙ noted_same seen rest
+        (records_of_tills (rest_of h) (rest_theirs h)) in
+        let front : IsPrefix (waiting seen) (drop (length (noted seen)) (recs seen ++ recs rest)) =
+        drop_front (length (noted seen)) (recs seen) (recs rest) in
         let first : IsPrefix (waiting seen) (drop (length (noted seen)) (recs es)) =
-        subst (λ (rs : List Sealed). IsPrefix (waiting seen) (drop (length (noted seen)) rs)) (sym (ap recs (seen_entries s) ∙ recs_both seen rest)) front in
+        subst (λ (rs : List Sealed). IsPrefix (waiting seen) (drop (length (noted seen)) rs))
+        (sym (ap recs (seen_entries s) ∙ recs_both seen rest)) front in
         (same, subst (λ (n : List Line). IsPrefix (waiting seen) (drop (length n) (recs es))) (sym same) first)
 
-    pub agreed : Kept → RecordsKeepAgreement → (new : Ledger) → Agree (entries_of then.seen) new.processed new.sent → Agree es new.processed new.sent
+    pub agreed : Kept → RecordsKeepAgreement → (new : Ledger) → Agree (entries_of then.seen) new.processed new.sent →
+        Agree es new.processed new.sent
     agreed s records new agree =
         subst (λ (l : List Entry). Agree l new.processed new.sent) (sym (seen_entries s))
-        (records (entries_of then.seen) (entries_of (rest_of h)) new.processed new.sent agree (records_of_tills (rest_of h) (rest_theirs h)))
+        (records (entries_of then.seen) (entries_of (rest_of h)) new.processed new.sent agree
+        (records_of_tills (rest_of h) (rest_theirs h)))
 
-    pub agreed_torn : Kept → RecordsKeepAgreement → (new : Ledger) → Agree (entries_of then.seen) new.processed new.sent → AgreesIfTorn (sight_by seat) (sight_by then) new → Agree (with_torn es stopped torn) new.processed new.sent
+    pub agreed_torn : Kept → RecordsKeepAgreement → (new : Ledger) → Agree (entries_of then.seen) new.processed new.sent →
+        AgreesIfTorn (sight_by seat) (sight_by then) new → Agree (with_torn es stopped torn) new.processed new.sent
     agreed_torn s records new agree if_torn = by_case stopped torn s.log_is
       where
         whole : Agree es new.processed new.sent
         whole = agreed s records new agree
 
-        by_case : (n : Option ℕ) (t : Option Entry) → log ≡ map item.Entry es ++ stop_in n t → Agree (with_torn es n t) new.processed new.sent
+        by_case : (n : Option ℕ) (t : Option Entry) → log ≡ map item.Entry es ++ stop_in n t →
+            Agree (with_torn es n t) new.processed new.sent
         by_case None t e = whole
         by_case (Some n) None e = whole
         by_case (Some n) (Some t) e =
             let items : List Item = map item.Entry es in
             let low : length base ≤ length items =
-            (let a = ap length s.base_is in let b = ap length s.begins.1 in let c = length-append start s.begins.0 in let d = length-map es item.Entry in let f = length-map start item.Entry in omega arith) in
+            (let a = ap length s.base_is in let b = ap length s.begins.1 in let c = length-append start s.begins.0 in
+            let d = length-map es item.Entry in let f = length-map start item.Entry in omega arith) in
             elim (last_one h items (item.Stop n t) e low) [
               | inl theirs ↦ records es (t ∷ []) new.processed new.sent whole (of_till_record n t theirs)
               | inr mine ↦
                   (let seen : then.seen ≡ items ++ item.Stop n t ∷ [] = mine.0 ∙ e in
-                  let gained : drop (length (sight_by seat).own) (sight_by then).own ≡ (sight_by then).own = ap (λ (o : List ℕ). drop (length o) (sight_by then).own) (own_before h) in
+                  let gained : drop (length (sight_by seat).own) (sight_by then).own ≡ (sight_by then).own =
+                  ap (λ (o : List ℕ). drop (length o) (sight_by then).own) (own_before h) in
                   let is : entries_of then.seen ≡ es = ap entries_of seen ∙ entries_in es (Some n) (Some t) in
-                  subst (λ (l : List Entry). Agree (l ++ t ∷ []) new.processed new.sent) is (if_torn items n t seen (subst (λ (o : List ℕ). Contains o (length items)) (sym gained) mine.1)))
+                  subst (λ (l : List Entry). Agree (l ++ t ∷ []) new.processed new.sent) is
+                  (if_torn items n t seen (subst (λ (o : List ℕ). Contains o (length items)) (sym gained) mine.1)))
             ]
 
     -- where the seat has seen a stop at the end, the shop has stopped
@@ -264,10 +306,13 @@ module _ {C : Type 0} (base log : List Item) (root : Root C) (tills : List (Know
         by_case : (n : Option ℕ) (t : Option Entry) → log ≡ map item.Entry es ++ stop_in n t → IsSome n
         by_case (Some n) t e = refl
         by_case None t e =
-            let all : AllByRecursion (λ (x : Item). is_stop x ≡ false) log = subst (λ (l : List Item). AllByRecursion (λ (x : Item). is_stop x ≡ false) l) (sym e) (entries_only es) in
+            let all : AllByRecursion (λ (x : Item). is_stop x ≡ false) log =
+            subst (λ (l : List Item). AllByRecursion (λ (x : Item). is_stop x ≡ false) l) (sym e) (entries_only es) in
             let last : log ≡ ends.front ++ (item.Stop ends.faults ends.torn ∷ rest_of h) =
-            rest_is h ∙ ap (λ (l : List Item). l ++ rest_of h) ends.is ∙ append_one ends.front (item.Stop ends.faults ends.torn) (rest_of h) in
-            let no : true ≡ false = middle ends.front (item.Stop ends.faults ends.torn) (rest_of h) (subst (λ (l : List Item). AllByRecursion (λ (x : Item). is_stop x ≡ false) l) last all) in
+            rest_is h ∙ ap (λ (l : List Item). l ++ rest_of h) ends.is ∙ append_one ends.front (item.Stop ends.faults ends.torn)
+            (rest_of h) in
+            let no : true ≡ false = middle ends.front (item.Stop ends.faults ends.torn) (rest_of h)
+            (subst (λ (l : List Item). AllByRecursion (λ (x : Item). is_stop x ≡ false) l) last all) in
             absurd (let x = no in cc)
           where
             entries_only : (xs : List Entry) → AllByRecursion (λ (x : Item). is_stop x ≡ false) (map item.Entry xs ++ [])
@@ -278,6 +323,7 @@ module _ {C : Type 0} (base log : List Item) (root : Root C) (tills : List (Know
             append_one [] x ys = refl
             append_one (z ∷ xs) x ys = ap (λ (l : List Item). z ∷ l) (append_one xs x ys)
 
-            middle : (xs : List Item) (x : Item) (ys : List Item) → AllByRecursion (λ (y : Item). is_stop y ≡ false) (xs ++ (x ∷ ys)) → is_stop x ≡ false
+            middle : (xs : List Item) (x : Item) (ys : List Item) → AllByRecursion (λ (y : Item). is_stop y ≡ false)
+                (xs ++ (x ∷ ys)) → is_stop x ≡ false
             middle [] x ys a = a.0
             middle (z ∷ xs) x ys a = middle xs x ys a.1

@@ -1,5 +1,6 @@
 -- What a day's sender leaves of its shop and of its agency, and how a day ends.
-use Rattle.std.specs.Prelude.{◌≡◌, ◌⊎◌, ℕ, ◌+◌, ◌-◌, ◌^◌, ◌<◌, ◌≤◌, List, [], ◌∷◌, ◌++◌, length, Bool, true, false, IsTrue, IsErrOf}
+use Rattle.std.specs.Prelude.{◌≡◌, ◌⊎◌, ℕ, ◌+◌, ◌-◌, ◌^◌, ◌<◌, ◌≤◌, List, [], ◌∷◌, ◌++◌, length, Bool, true, false, IsTrue}
+use Rattle.std.specs.Prelude.{IsErrOf}
 use Rattle.std.specs.Prelude.{Option, Result, Ok, Err}
 use Rattle.std.specs.List.{list_any}
 use Rattle.ports.specs.Sinks.{Sinks, Wrote, FailedIn, WrotePart}
@@ -164,7 +165,8 @@ day_from desk d = record {
   answer = d.answer;
 }
 
--- One session was opened, with the plan and the pairs noted in the history at the start, and in it one new sender sent. Where shop
+-- One session was opened, with the plan and the pairs noted in the history at the start, and in it one new sender sent. Where
+-- shop
 -- and agency agreed once it was open, they still do.
 pub record DaySession (begun : Beginning) (plan : Plan) (d : DaySpan) : Type 0 where
   pub opened : Desk

@@ -71,10 +71,13 @@ span_of a start end torn answer = record {
   answer = answer;
 }
 
--- The file was opened, and the tills asked beside each other and beside the sender, from the history that it stood for to one that
+-- The file was opened, and the tills asked beside each other and beside the sender, from the history that it stood for to one
+-- that
 -- begins with it. Each till of the script has a till run of its own asks in line order, and its records since the start are those
--- that it was told as taken. No other till has a record since the start. The history at the end is legal. Each crash since opening
--- began leaves a front of it; an entry is torn only where a till or the sender was told that the disk failed. One session with the
+-- that it was told as taken. No other till has a record since the start. The history at the end is legal. Each crash since
+-- opening
+-- began leaves a front of it; an entry is torn only where a till or the sender was told that the disk failed. One session with
+-- the
 -- agency was opened, and what was said and noted in it keeps the agreement, also with the history of each file that a crash now
 -- leaves.
 pub record Served {D G : Type 0} (issuer : List ℕ) (asks : List Asked) (plan : Plan) (coming : ℕ → Option ℕ) (left : Type 0)

@@ -124,7 +124,8 @@ abbrev pub StopsShop : ℕ → ℕ → Option ℕ → Replies → Result (Unit {
 StopsShop faults faults_after None replies answer = AllGoOn replies × (IsDiskAnswer answer → ⊥)
 StopsShop faults faults_after (Some count) replies answer = StoppedAt faults faults_after count replies answer
 
--- What a day of these tills and of a sender makes of a shop: how the shop was at its start, the parts of its store after its close,
+-- What a day of these tills and of a sender makes of a shop: how the shop was at its start, the parts of its store after its
+-- close,
 -- what each till was told, and how the sending ended. No other till has a record since the start.
 pub record DayRun {D C : Type 0} (tells : Bool) (told : D → Told) (faults : D → ℕ) (coming : C → ℕ → Option ℕ)
     (asks : List Asked) (root : Root C) (new : Parts D C) (tills : List TillTold) (answer : Result (Unit {0}) DrainFault) :

@@ -1,4 +1,5 @@
-// The command `day`: reads a script, opens the file, begins the agency's session, runs the script's tills beside each other on the
+// The command `day`: reads a script, opens the file, begins the agency's session, runs the script's tills beside each other on
+// the
 // history that the file holds with a sender beside them, drains, and prints what each till was told and the chain.
 ghost use Rattle.std.specs.Prelude.{◌≡◌, IsTrue, None, map, All, length};
 ghost use Rattle.ports.specs.Sinks.{this_sink};
@@ -44,10 +45,12 @@ use std::sync::Wait;
 use std::thread::Threads;
 
 /// Reads a script from the source, opens the disk for this issuer, and opens the agency's session once with the script's plan and
-/// the pairs noted in the file. Then it runs the script's tills beside each other on the history that the file holds, each for its
+/// the pairs noted in the file. Then it runs the script's tills beside each other on the history that the file holds, each for
+/// its
 /// own commands in line order and in a thread of its own, with the gate asked ahead of each command and after it. Beside them a
 /// sender sends the records that wait, and the gate is told of each turn that noted lines. Once the tills have ended the same
-/// sender drains, unless a fault had ended its turns. At last it prints what each till was told, in order of number, and the chain
+/// sender drains, unless a fault had ended its turns. At last it prints what each till was told, in order of number, and the
+/// chain
 /// to the sink. A clock line of the script replaces clock and sleeper. All parts come back.
 pub fn day_cmd<S, K, D, C, Z, G, T, R>(
     rt: &R,
@@ -74,7 +77,8 @@ where
         (this_disk D.tells D.told D.faults outside.disk result.1.disk)
         (this_clock C.coming outside.clock result.1.clock)
         (this_sleeper Z.tells Z.moment outside.sleeper result.1.sleeper)
-        (this_agency (agency_kind G.tells G.keeps_rules G.ledger G.faults G.begun) outside.agency result.1.agency)) result.0.detail }
+        (this_agency (agency_kind G.tells G.keeps_rules G.ledger G.faults G.begun)
+        outside.agency result.1.agency)) result.0.detail }
 {
     let (detail, outside) = day(rt, alloc, issuer, source, sink, outside, gate);
     (ended_as(detail), outside)
@@ -104,7 +108,8 @@ where
         (this_disk D.tells D.told D.faults outside.disk result.1.disk)
         (this_clock C.coming outside.clock result.1.clock)
         (this_sleeper Z.tells Z.moment outside.sleeper result.1.sleeper)
-        (this_agency (agency_kind G.tells G.keeps_rules G.ledger G.faults G.begun) outside.agency result.1.agency)) result.0 }
+        (this_agency (agency_kind G.tells G.keeps_rules G.ledger G.faults G.begun)
+        outside.agency result.1.agency)) result.0 }
 {
     match read_source(alloc, source, Form::Full) {
         Err(fault) => (fault.detail(), outside),
@@ -132,7 +137,8 @@ where
     R: Threads + Wait + Sync,
     ensures { TillsEnd issuer.now script.now.asks script.now.plan (readings_of script.now.clock (C.coming outside.clock))
         (AllLeft (this_clock C.coming outside.clock result.1.clock)
-        (this_sleeper Z.tells Z.moment outside.sleeper result.1.sleeper) (this_agency (agency_kind G.tells G.keeps_rules G.ledger G.faults G.begun) outside.agency result.1.agency))
+        (this_sleeper Z.tells Z.moment outside.sleeper result.1.sleeper)
+        (this_agency (agency_kind G.tells G.keeps_rules G.ledger G.faults G.begun) outside.agency result.1.agency))
         (LeftTime (this_clock C.coming outside.clock result.1.clock)
         (this_sleeper Z.tells Z.moment outside.sleeper result.1.sleeper))
         (LeavesTime script.now.clock (this_clock C.coming outside.clock result.1.clock)
@@ -190,7 +196,8 @@ where
     R: Threads + Wait + Sync,
     ensures { TillsEnd issuer.now script.now.asks script.now.plan (C.coming outside.clock)
         (AllLeft (this_clock C.coming outside.clock result.1.clock)
-        (this_sleeper Z.tells Z.moment outside.sleeper result.1.sleeper) (this_agency (agency_kind G.tells G.keeps_rules G.ledger G.faults G.begun) outside.agency result.1.agency))
+        (this_sleeper Z.tells Z.moment outside.sleeper result.1.sleeper)
+        (this_agency (agency_kind G.tells G.keeps_rules G.ledger G.faults G.begun) outside.agency result.1.agency))
         (LeftTime (this_clock C.coming outside.clock result.1.clock)
         (this_sleeper Z.tells Z.moment outside.sleeper result.1.sleeper))
         (IsLater C.coming outside.clock result.1.clock)
@@ -251,7 +258,8 @@ where
     requires going_on { stopped_of (journal_of store) ≡ None }
     requires tills { map (λ d. d.till) tills.items ≡ tills_of script.now.asks }
     requires room { All (HasRoom script.now.asks) tills.items }
-    ensures { StoreDayEnds (result.1.sleeper ≡ sleeper) (record { tells = D.tells; told = D.told; faults = D.faults; coming = C.coming })
+    ensures { StoreDayEnds (result.1.sleeper ≡ sleeper)
+        (record { tells = D.tells; told = D.told; faults = D.faults; coming = C.coming })
         G.begun script.now.plan script.now.asks (record { tells = G.tells; keeps_rules = G.keeps_rules })
         (record { ledger = G.ledger agency; faults = G.faults agency })
         (record { ledger = G.ledger result.1.agency; faults = G.faults result.1.agency })
@@ -327,7 +335,8 @@ where
     requires going_on { stopped_of (journal_of store) ≡ None }
     requires tills { map (λ d. d.till) tills.items ≡ tills_of asks.now }
     requires room { All (HasRoom asks.now) tills.items }
-    ensures { StoreServed (result.1.sleeper ≡ sleeper) (record { tells = D.tells; told = D.told; faults = D.faults; coming = C.coming })
+    ensures { StoreServed (result.1.sleeper ≡ sleeper)
+        (record { tells = D.tells; told = D.told; faults = D.faults; coming = C.coming })
         asks.now (record { tells = G.tells; keeps_rules = G.keeps_rules })
         (record { ledger = G.ledger agency; faults = G.faults agency })
         (record { ledger = G.ledger result.1.agency; faults = G.faults result.1.agency })

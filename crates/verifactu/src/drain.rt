@@ -312,7 +312,8 @@ where
         (this_disk D.tells D.told D.faults outside.disk result.1.disk)
         (this_clock C.coming outside.clock result.1.clock)
         (this_sleeper Z.tells Z.moment outside.sleeper result.1.sleeper)
-        (this_agency (agency_kind G.tells G.keeps_rules G.ledger G.faults G.begun) outside.agency result.1.agency)) result.0.detail }
+        (this_agency (agency_kind G.tells G.keeps_rules G.ledger G.faults G.begun)
+        outside.agency result.1.agency)) result.0.detail }
 {
     let (detail, outside) = drain(rt, alloc, issuer, source, sink, outside);
     (ended_as(detail), outside)
@@ -340,7 +341,8 @@ where
         (this_disk D.tells D.told D.faults outside.disk result.1.disk)
         (this_clock C.coming outside.clock result.1.clock)
         (this_sleeper Z.tells Z.moment outside.sleeper result.1.sleeper)
-        (this_agency (agency_kind G.tells G.keeps_rules G.ledger G.faults G.begun) outside.agency result.1.agency)) result.0 }
+        (this_agency (agency_kind G.tells G.keeps_rules G.ledger G.faults G.begun)
+        outside.agency result.1.agency)) result.0 }
 {
     match read_source(alloc, source, Form::NoCommands) {
         Err(fault) => (fault.detail(), outside),

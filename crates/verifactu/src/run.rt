@@ -54,7 +54,8 @@ where
         (this_disk D.tells D.told D.faults outside.disk result.1.disk)
         (this_clock C.coming outside.clock result.1.clock)
         (this_sleeper Z.tells Z.moment outside.sleeper result.1.sleeper)
-        (this_agency (agency_kind G.tells G.keeps_rules G.ledger G.faults G.begun) outside.agency result.1.agency)) result.0 }
+        (this_agency (agency_kind G.tells G.keeps_rules G.ledger G.faults G.begun)
+        outside.agency result.1.agency)) result.0 }
 {
     match command_of(words) {
         None => (ended_as(Detail::Usage), outside),
@@ -88,7 +89,8 @@ where
         (this_disk D.tells D.told D.faults outside.disk result.1.disk)
         (this_clock C.coming outside.clock result.1.clock)
         (this_sleeper Z.tells Z.moment outside.sleeper result.1.sleeper)
-        (this_agency (agency_kind G.tells G.keeps_rules G.ledger G.faults G.begun) outside.agency result.1.agency)) result.0.detail }
+        (this_agency (agency_kind G.tells G.keeps_rules G.ledger G.faults G.begun)
+        outside.agency result.1.agency)) result.0.detail }
 {
     match command {
         Command::Chain(issuer) => {

@@ -29,7 +29,10 @@ join-requires-send-F g c κs within =
               (tt, t.shared x.2.now x.2.ref_ptr.0 x.2.ref_ptr.1 _),
               (
                 (tt, s.shared x.3.now x.3.ref_ptr.0 x.3.ref_ptr.1 _),
-                ((shr_slice_send erased κs.1.1.1.1.1.1.1.1.1.0 _ ask_sync).owned x.4 vss.1.1.1.1.0, (j.owned x.5 vss.1.1.1.1.1.0, ((tt, flag_sync.shared x.6.now x.6.ref_ptr.0 x.6.ref_ptr.1 _), tt))),
+                (
+                  (shr_slice_send erased κs.1.1.1.1.1.1.1.1.1.0 _ ask_sync).owned x.4 vss.1.1.1.1.0,
+                  (j.owned x.5 vss.1.1.1.1.1.0, ((tt, flag_sync.shared x.6.now x.6.ref_ptr.0 x.6.ref_ptr.1 _), tt)),
+                ),
               ),
             ),
           ),

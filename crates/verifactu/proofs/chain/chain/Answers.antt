@@ -27,4 +27,5 @@ returns-in-Err g c =
       clock = this_clock g.C.Clock.coming c.args.clock c.args.clock;
     } in
     subst (λ (d : Detail). ChainEnds c.args.issuer.now devices d) (sym c.detail.ensures)
-    (unread Full devices.source (Untouched devices) (ChainRan c.args.issuer.now devices) c.in-Err.fault c.in-Err.ensures (record { wrote = search rules; disk = refl; clock = refl }))
+    (unread Full devices.source (Untouched devices) (ChainRan c.args.issuer.now devices) c.in-Err.fault c.in-Err.ensures
+    (record { wrote = search rules; disk = refl; clock = refl }))

@@ -11,8 +11,11 @@ use Rattle.verifactu.specs.Printed.{printed}
 use Rattle.verifactu.proofs.chain.play.Goals as goal
 
 pub returns-in_default-clause-end : goal.returns-in_default-clause-end
-returns-in_default-clause-end g c =
-    (c.run_commands.new.replies.items, c.run_commands.ensures.answers, no_memory (0, took_nothing (g.K.Sink.taken c.args.sink.now)))
+returns-in_default-clause-end g c = (
+  c.run_commands.new.replies.items,
+  c.run_commands.ensures.answers,
+  no_memory (0, took_nothing (g.K.Sink.taken c.args.sink.now)),
+)
 
 pub returns-clause-end : goal.returns-clause-end
 returns-clause-end g c =
@@ -22,7 +25,8 @@ returns-clause-end g c =
     let sink = this_sink g.K.Sink.taken g.K.Sink.faults c.args.sink.now c.write_texts-written.new.sink in
     let text = c.in-Ok.told.answers ++ c.in-Ok.told.listing in
     let tells : text ≡ printed asks replies end =
-    c.in-Ok.ensures ∙ ap (λ (rs : List (Result Reply StoreFault)). printed asks rs c.state.result.now.entries) c.deref.ensures.value
+    c.in-Ok.ensures ∙ ap (λ (rs : List (Result Reply StoreFault)). printed asks rs c.state.result.now.entries)
+    c.deref.ensures.value
     ∙ ap (λ (h : History). printed asks replies h.entries) c.state.ensures in
     let written = rw (c.as_slice.ensures, c.as_slice-2.ensures) at c.write_texts-written.ensures in
     let ends : RunEnds c.deref-2.result.now text sink c.end_of.result = c.end_of.ensures text sink written in (

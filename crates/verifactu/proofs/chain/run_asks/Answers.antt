@@ -20,7 +20,8 @@ returns-in-Err g c =
       ends = c.opening_end.ensures;
       risen = h.disk_fault;
       left_by = h.left;
-      every_crash = λ says. keeps_file c.args.issuer.now fault.cause (g.D.Disk.told c.args.disk) (g.D.Disk.told fault.disk) (h.left says);
+      every_crash = λ says. keeps_file c.args.issuer.now fault.cause (g.D.Disk.told c.args.disk) (g.D.Disk.told fault.disk)
+          (h.left says);
       wrote = search rules;
       rest = not_asked (this_clock g.C.Clock.coming c.args.clock fault.clock) h.clock_err;
     }))
@@ -57,5 +58,7 @@ returns-in-Ok g c =
       clock = this_clock coming (clock_of store) after;
     } in
     let opened = c.in-Ok.ensures in
-    let run = store_ran issuer asks h.1.0 span sink disk c.run_opened.result.0 opened.issuer refl refl refl opened.later opened.found opened.any_moment h.1.1 h.1.2 in
-    subst (λ x. ScriptEnds issuer asks (coming x) (λ replies. IsAsked (this_clock coming x after) (readings replies)) sink disk c.run_opened.result.0) opened.clock run
+    let run = store_ran issuer asks h.1.0 span sink disk c.run_opened.result.0 opened.issuer refl refl refl opened.later
+    opened.found opened.any_moment h.1.1 h.1.2 in
+    subst (λ x. ScriptEnds issuer asks (coming x) (λ replies. IsAsked (this_clock coming x after) (readings replies)) sink disk
+    c.run_opened.result.0) opened.clock run

@@ -20,10 +20,13 @@ returns-in-Some g c =
     let end = c.run_asks-detail.result.0 in
     let sink = this_sink g.K.Sink.taken g.K.Sink.faults c.args.sink.now c.run_asks-detail.new.sink in
     let disk = this_disk g.D.Disk.tells g.D.Disk.told g.D.Disk.faults c.args.disk c.run_asks-detail.result.1 in
-    let ends = script_by issuer c.as_slice.result.now own (readings_of (Some line) (coming c.args.clock)) _ (LeavesClock clock (Some line)) sink disk end
+    let ends = script_by issuer c.as_slice.result.now own (readings_of (Some line) (coming c.args.clock)) _
+    (LeavesClock clock (Some line)) sink disk end
     c.new-own.ensures (λ replies left. refl) c.run_asks-detail.ensures in
-    subst (λ (l : Option (ℕ × ℕ)). ScriptEnds issuer asks (readings_of l (coming c.args.clock)) (LeavesClock clock l) sink disk end) (sym c.in-Some.is)
-    (subst (λ (xs : List Asked). ScriptEnds issuer xs (readings_of (Some line) (coming c.args.clock)) (LeavesClock clock (Some line)) sink disk end) c.as_slice.ensures ends)
+    subst (λ (l : Option (ℕ × ℕ)). ScriptEnds issuer asks (readings_of l (coming c.args.clock)) (LeavesClock clock l) sink disk
+    end) (sym c.in-Some.is)
+    (subst (λ (xs : List Asked). ScriptEnds issuer xs (readings_of (Some line) (coming c.args.clock))
+    (LeavesClock clock (Some line)) sink disk end) c.as_slice.ensures ends)
 
 pub returns-in-None : goal.returns-in-None
 returns-in-None g c =
@@ -34,5 +37,7 @@ returns-in-None g c =
     let end = c.run_asks.result.0 in
     let sink = this_sink g.K.Sink.taken g.K.Sink.faults c.args.sink.now c.run_asks.new.sink in
     let disk = this_disk g.D.Disk.tells g.D.Disk.told g.D.Disk.faults c.args.disk c.run_asks.result.1 in
-    subst (λ (l : Option (ℕ × ℕ)). ScriptEnds issuer asks (readings_of l (coming c.args.clock)) (LeavesClock clock l) sink disk end) (sym c.in-None.is)
-    (subst (λ (xs : List Asked). ScriptEnds issuer xs (coming c.args.clock) (λ replies. IsAsked clock (readings replies)) sink disk end) c.as_slice-in-None.ensures c.run_asks.ensures)
+    subst (λ (l : Option (ℕ × ℕ)). ScriptEnds issuer asks (readings_of l (coming c.args.clock)) (LeavesClock clock l) sink disk
+    end) (sym c.in-None.is)
+    (subst (λ (xs : List Asked). ScriptEnds issuer xs (coming c.args.clock) (λ replies. IsAsked clock (readings replies)) sink
+    disk end) c.as_slice-in-None.ensures c.run_asks.ensures)

@@ -14,7 +14,13 @@ pub returns-in-Ok : goal.returns-in-Ok
 returns-in-Ok g c =
     let out = c.args.outside in
     let then = c.day_script.result.1 in
-    let kind : AgencyKind g.row.G.Denot = record { tells = g.G.Agency.tells; keeps_rules = g.G.Agency.keeps_rules; ledger = g.G.Agency.ledger; faults = g.G.Agency.faults; begun = g.G.Agency.begun } in
+    let kind : AgencyKind g.row.G.Denot = record {
+      tells = g.G.Agency.tells;
+      keeps_rules = g.G.Agency.keeps_rules;
+      ledger = g.G.Agency.ledger;
+      faults = g.G.Agency.faults;
+      begun = g.G.Agency.begun;
+    } in
     day_ran c.args.issuer.now (record {
       devices = record {
         source = this_source g.S.Source.left g.S.Source.faults c.args.source.now c.read_source.new.source;
@@ -29,7 +35,13 @@ returns-in-Ok g c =
 pub returns-in-Err : goal.returns-in-Err
 returns-in-Err g c =
     let out = c.args.outside in
-    let kind : AgencyKind g.row.G.Denot = record { tells = g.G.Agency.tells; keeps_rules = g.G.Agency.keeps_rules; ledger = g.G.Agency.ledger; faults = g.G.Agency.faults; begun = g.G.Agency.begun } in
+    let kind : AgencyKind g.row.G.Denot = record {
+      tells = g.G.Agency.tells;
+      keeps_rules = g.G.Agency.keeps_rules;
+      ledger = g.G.Agency.ledger;
+      faults = g.G.Agency.faults;
+      begun = g.G.Agency.begun;
+    } in
     let all : AllDevices g.row.D.Denot g.row.C.Denot g.row.Z.Denot g.row.G.Denot = record {
       devices = record {
         source = this_source g.S.Source.left g.S.Source.faults c.args.source.now c.read_source.new.source;
@@ -41,4 +53,5 @@ returns-in-Err g c =
       agency = record { kind = kind; agency = out.agency; agency_after = out.agency };
     } in
     subst (λ (d : Detail). DayEnds c.args.issuer.now all d) (sym c.detail.ensures)
-    (unread Full all.devices.source (Untouched all.devices × NobodyCalled all) (DayRan c.args.issuer.now all) c.in-Err.fault c.in-Err.ensures (record { wrote = search rules; disk = refl; clock = refl }, record { sleeper = refl; agency = refl }))
+    (unread Full all.devices.source (Untouched all.devices × NobodyCalled all) (DayRan c.args.issuer.now all) c.in-Err.fault
+    c.in-Err.ensures (record { wrote = search rules; disk = refl; clock = refl }, record { sleeper = refl; agency = refl }))

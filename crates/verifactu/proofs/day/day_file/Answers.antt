@@ -13,10 +13,12 @@ use Rattle.verifactu.proofs.RunEnding.{keeps_file}
 use Rattle.verifactu.proofs.day.day_file.Goals as goal
 
 pub day_opened-requires-clause-tills : goal.day_opened-requires-clause-tills
-day_opened-requires-clause-tills g c κs within = subst (λ (xs : List Asked). map (λ (d : TillDay). d.till) c.in-Ok.tills.items ≡ tills_of xs) c.as_slice.ensures c.in-Ok.ensures.tills
+day_opened-requires-clause-tills g c κs within = subst (λ (xs : List Asked). map (λ (d : TillDay). d.till) c.in-Ok.tills.items ≡
+    tills_of xs) c.as_slice.ensures c.in-Ok.ensures.tills
 
 pub day_opened-requires-clause-room : goal.day_opened-requires-clause-room
-day_opened-requires-clause-room g c κs within = subst (λ (xs : List Asked). All (HasRoom xs) c.in-Ok.tills.items) c.as_slice.ensures c.in-Ok.ensures.room
+day_opened-requires-clause-room g c κs within = subst (λ (xs : List Asked). All (HasRoom xs) c.in-Ok.tills.items)
+    c.as_slice.ensures c.in-Ok.ensures.room
 
 pub returns-in_default : goal.returns-in_default
 returns-in_default g c = inl (record {
@@ -35,7 +37,8 @@ returns-in-Err g c =
       ends = c.opening_end.ensures;
       risen = h.disk_fault;
       left_by = h.left;
-      every_crash = λ says. keeps_file c.args.issuer.now fault.cause (g.D.Disk.told c.args.outside.disk) (g.D.Disk.told fault.disk) (h.left says);
+      every_crash = λ says. keeps_file c.args.issuer.now fault.cause (g.D.Disk.told c.args.outside.disk)
+          (g.D.Disk.told fault.disk) (h.left says);
       wrote = search rules;
       rest = record { clock = h.clock_err; sleeper = refl; agency = refl };
     }))
@@ -46,10 +49,19 @@ returns-in-Ok-open_store g c =
     let out = c.args.outside in
     let then = c.day_opened.result.1 in
     let a : Agencies g.row.G.Denot = record {
-      kind = record { tells = g.G.Agency.tells; keeps_rules = g.G.Agency.keeps_rules; ledger = g.G.Agency.ledger; faults = g.G.Agency.faults; begun = g.G.Agency.begun };
+      kind = record {
+        tells = g.G.Agency.tells;
+        keeps_rules = g.G.Agency.keeps_rules;
+        ledger = g.G.Agency.ledger;
+        faults = g.G.Agency.faults;
+        begun = g.G.Agency.begun;
+      };
       agency = out.agency;
       agency_after = then.agency;
     } in
-    store_day (record { tells = g.D.Disk.tells; told = g.D.Disk.told; faults = g.D.Disk.faults; coming = g.C.Clock.coming }) c.args.issuer.now c.args.script.now.asks c.args.script.now.plan out.disk then.disk out.clock then.clock
-    (this_sleeper g.Z.Sleeper.tells g.Z.Sleeper.moment out.sleeper then.sleeper) a (parts_of c.in-Ok-open_store.store) (this_sink g.K.Sink.taken g.K.Sink.faults c.args.sink.now c.day_opened.new.sink) c.day_opened.result.0
-    opened.issuer opened.clock opened.found opened.any_moment opened.every_crash opened.later c.what_a_disk_reads_is_an_image.ensures g.met.G.Agency.keeps_and_tells c.day_opened.ensures
+    store_day (record { tells = g.D.Disk.tells; told = g.D.Disk.told; faults = g.D.Disk.faults; coming = g.C.Clock.coming })
+    c.args.issuer.now c.args.script.now.asks c.args.script.now.plan out.disk then.disk out.clock then.clock
+    (this_sleeper g.Z.Sleeper.tells g.Z.Sleeper.moment out.sleeper then.sleeper) a (parts_of c.in-Ok-open_store.store)
+    (this_sink g.K.Sink.taken g.K.Sink.faults c.args.sink.now c.day_opened.new.sink) c.day_opened.result.0
+    opened.issuer opened.clock opened.found opened.any_moment opened.every_crash opened.later
+    c.what_a_disk_reads_is_an_image.ensures g.met.G.Agency.keeps_and_tells c.day_opened.ensures

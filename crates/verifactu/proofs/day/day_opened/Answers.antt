@@ -13,10 +13,12 @@ use Rattle.verifactu.specs.declared.tills.TillDay.{TillDay}
 use Rattle.verifactu.proofs.day.day_opened.Goals as goal
 
 pub serve_opened-requires-clause-tills : goal.serve_opened-requires-clause-tills
-serve_opened-requires-clause-tills g c κs within = subst (λ (xs : List Asked). map (λ (d : TillDay). d.till) c.args.tills.items ≡ tills_of xs) (sym c.as_slice.ensures) c.requires.tills
+serve_opened-requires-clause-tills g c κs within = subst (λ (xs : List Asked). map (λ (d : TillDay). d.till) c.args.tills.items ≡
+    tills_of xs) (sym c.as_slice.ensures) c.requires.tills
 
 pub serve_opened-requires-clause-room : goal.serve_opened-requires-clause-room
-serve_opened-requires-clause-room g c κs within = subst (λ (xs : List Asked). All (HasRoom xs) c.args.tills.items) (sym c.as_slice.ensures) c.requires.room
+serve_opened-requires-clause-room g c κs within = subst (λ (xs : List Asked). All (HasRoom xs) c.args.tills.items)
+    (sym c.as_slice.ensures) c.requires.room
 
 pub returns-in-Err : goal.returns-in-Err
 returns-in-Err g c =
@@ -41,11 +43,22 @@ returns-in-Ok g c =
     let kind : Kind = record { tells = g.G.Agency.tells; keeps_rules = g.G.Agency.keeps_rules } in
     let old : Desk = record { ledger = g.G.Agency.ledger c.args.agency; faults = g.G.Agency.faults c.args.agency } in
     let opened : Desk = record { ledger = g.G.Agency.ledger c.begin.new.agency; faults = g.G.Agency.faults c.begin.new.agency } in
-    let new : Desk = record { ledger = g.G.Agency.ledger c.serve_opened.result.1.agency; faults = g.G.Agency.faults c.serve_opened.result.1.agency } in
+    let new : Desk = record {
+      ledger = g.G.Agency.ledger c.serve_opened.result.1.agency;
+      faults = g.G.Agency.faults c.serve_opened.result.1.agency;
+    } in
     let then = c.serve_opened.result.1 in
     inr (record {
       opened = opened;
-      opens = subst (λ (h : History). IsOpened kind g.G.Agency.begun c.args.script.now.plan h.entries old opened) c.state.ensures c.in-Ok.ensures.ok;
-      served = subst (λ (xs : List Asked). StoreServed (then.sleeper ≡ c.args.sleeper) (record { tells = g.D.Disk.tells; told = g.D.Disk.told; faults = g.D.Disk.faults; coming = g.C.Clock.coming }) xs kind opened new (parts_of c.args.store) then.disk then.clock
-          (this_sink g.K.Sink.taken g.K.Sink.faults c.args.sink.now c.serve_opened.new.sink) c.serve_opened.result.0) c.as_slice.ensures c.serve_opened.ensures;
+      opens = subst (λ (h : History). IsOpened kind g.G.Agency.begun c.args.script.now.plan h.entries old opened) c.state.ensures
+          c.in-Ok.ensures.ok;
+      served = subst (λ (xs : List Asked). StoreServed (then.sleeper ≡ c.args.sleeper) (record {
+        tells = g.D.Disk.tells;
+        told = g.D.Disk.told;
+        faults = g.D.Disk.faults;
+        coming = g.C.Clock.coming;
+      }) xs kind opened new (parts_of c.args.store)
+          then.disk then.clock
+          (this_sink g.K.Sink.taken g.K.Sink.faults c.args.sink.now c.serve_opened.new.sink) c.serve_opened.result.0)
+          c.as_slice.ensures c.serve_opened.ensures;
     })

@@ -20,5 +20,7 @@ returns g c =
     let es = c.args.state.now.entries in
     let n : ℕ = length (noted es) in
     let r : ℕ = length (recs es) in
-    subst (λ (t : List ℕ). DayRunEnds (all_replies (map told_in c.args.tills.now)) c.args.answer.now n r t sink c.end_of_day.result) c.in-Ok.ensures
-    (c.end_of_day.ensures text sink n r (λ same. let a = c.noted.ensures.count in let b = c.records.ensures.count in let x : c.noted.result ≡ c.records.result = grind (arith, nat_tests, same) in sym a ∙ x ∙ b) written)
+    subst (λ (t : List ℕ). DayRunEnds (all_replies (map told_in c.args.tills.now)) c.args.answer.now n r t sink
+    c.end_of_day.result) c.in-Ok.ensures
+    (c.end_of_day.ensures text sink n r (λ same. let a = c.noted.ensures.count in let b = c.records.ensures.count in
+    let x : c.noted.result ≡ c.records.result = grind (arith, nat_tests, same) in sym a ∙ x ∙ b) written)

@@ -22,10 +22,12 @@ use Rattle.verifactu.proofs.day.serve_opened.Goals as goal
 pub serve-requires-clause-numbers : goal.serve-requires-clause-numbers
 serve-requires-clause-numbers g c κs inside =
     each_of_map (λ (d : TillDay). d.till) (IsInRange 1 64) c.args.tills.items (tills_of c.args.asks.now) c.requires.tills
-    (All-weaker (λ (x : ℕ). (1 ≤ x) × (x < 1 + 64)) (IsInRange 1 64) (λ x h. (h.0, omega (arith, h.1))) (tills_of c.args.asks.now) (within (has_asks c.args.asks.now) 1 64))
+    (All-weaker (λ (x : ℕ). (1 ≤ x) × (x < 1 + 64)) (IsInRange 1 64) (λ x h. (h.0, omega (arith, h.1))) (tills_of c.args.asks.now)
+    (within (has_asks c.args.asks.now) 1 64))
 
 pub serve-requires-clause-distinct : goal.serve-requires-clause-distinct
-serve-requires-clause-distinct g c κs inside = pairs_of (λ (d : TillDay). d.till) (λ (a b : ℕ). a ≢ b) c.args.tills.items (tills_of c.args.asks.now) c.requires.tills (distinct (has_asks c.args.asks.now) 1 64)
+serve-requires-clause-distinct g c κs inside = pairs_of (λ (d : TillDay). d.till) (λ (a b : ℕ). a ≢ b) c.args.tills.items
+    (tills_of c.args.asks.now) c.requires.tills (distinct (has_asks c.args.asks.now) 1 64)
 
 pub serve-requires-clause-few : goal.serve-requires-clause-few
 serve-requires-clause-few g c =
@@ -61,9 +63,13 @@ returns-in-Ok g c =
     let issuer = (state_of c.args.store).issuer in
     let sink = this_sink g.K.Sink.taken g.K.Sink.faults c.args.sink.now c.print_day-detail.new.sink in
     let end = c.print_day-detail.result in
-    let ends : DayRunEnds (all_replies tills) served.answer (length (noted new.state.entries)) (length (recs new.state.entries)) (day_text asks tills new.state.entries) sink end =
-    subst (λ (h : History). DayRunEnds (all_replies tills) served.answer (length (noted h.entries)) (length (recs h.entries)) (day_text asks tills h.entries) sink end) c.state.ensures
-    (subst (λ (l : List TillDay). DayRunEnds (all_replies (map told_in l)) served.answer (length (noted c.state.result.now.entries)) (length (recs c.state.result.now.entries)) (day_text asks (map told_in l) c.state.result.now.entries) sink end) c.deref.ensures.value c.print_day-detail.ensures) in
+    let ends : DayRunEnds (all_replies tills) served.answer (length (noted new.state.entries)) (length (recs new.state.entries))
+    (day_text asks tills new.state.entries) sink end =
+    subst (λ (h : History). DayRunEnds (all_replies tills) served.answer (length (noted h.entries)) (length (recs h.entries))
+    (day_text asks tills h.entries) sink end) c.state.ensures
+    (subst (λ (l : List TillDay). DayRunEnds (all_replies (map told_in l)) served.answer
+    (length (noted c.state.result.now.entries)) (length (recs c.state.result.now.entries)) (day_text asks (map told_in l)
+    c.state.result.now.entries) sink end) c.deref.ensures.value c.print_day-detail.ensures) in
     inr (record {
       new = new;
       tills = tills;

@@ -21,15 +21,18 @@ returns-then-one_lacks_disk c =
     let days = c.args.days.now in
     λ text s n r all h. disk_fault (any_reply is_no_memory days ∙ sym c.one_lacks_memory.ensures ∙ c.if-one_lacks_memory.false)
     (sym c.sender_lacks_memory.ensures ∙ c.if-sender_lacks_memory.false)
-    (inl (any_reply is_disk_fault days ∙ sym c.one_lacks_disk.ensures ∙ c.if-one_lacks_disk.true)) (written_either text s c.args.written h)
+    (inl (any_reply is_disk_fault days ∙ sym c.one_lacks_disk.ensures ∙ c.if-one_lacks_disk.true))
+    (written_either text s c.args.written h)
 
 pub returns-in-Err : goal.returns-in-Err
 returns-in-Err c =
     let days = c.args.days.now in
     let memory = any_reply is_no_memory days ∙ sym c.one_lacks_memory.ensures ∙ c.if-one_lacks_memory.false in
-    λ text s n r all h. subst (λ (d : Detail). DayRunEnds (all_replies (map told_in days)) c.args.answer.now n r text s d) (sym c.fault_end.ensures)
+    λ text s n r all h. subst (λ (d : Detail). DayRunEnds (all_replies (map told_in days)) c.args.answer.now n r text s d)
+    (sym c.fault_end.ensures)
     (sender_ends (all_replies (map told_in days)) c.args.answer.now _ n r text s c.in-Err.is
-    (all_replied (all_replies (map told_in days)) memory (any_reply is_disk_fault days ∙ sym c.one_lacks_disk.ensures ∙ c.if-one_lacks_disk.false)) memory
+    (all_replied (all_replies (map told_in days)) memory (any_reply is_disk_fault days ∙ sym c.one_lacks_disk.ensures ∙
+    c.if-one_lacks_disk.false)) memory
     (sym c.sender_lacks_memory.ensures ∙ c.if-sender_lacks_memory.false) (written_either text s c.args.written h))
 
 pub returns-then-not-all_noted : goal.returns-then-not-all_noted
@@ -39,7 +42,8 @@ pub returns-in-Ok : goal.returns-in-Ok
 returns-in-Ok c =
     let days = c.args.days.now in
     λ text s n r all h. done
-    (all_replied (all_replies (map told_in days)) (any_reply is_no_memory days ∙ sym c.one_lacks_memory.ensures ∙ c.if-one_lacks_memory.false)
+    (all_replied (all_replies (map told_in days)) (any_reply is_no_memory days ∙ sym c.one_lacks_memory.ensures ∙
+    c.if-one_lacks_memory.false)
     (any_reply is_disk_fault days ∙ sym c.one_lacks_disk.ensures ∙ c.if-one_lacks_disk.false))
     c.in_default.is (all c.if-not-all_noted.false) (written_whole text s c.args.written _ c.in-Ok.is h)
 
@@ -47,6 +51,7 @@ pub returns-in-Err-written : goal.returns-in-Err-written
 returns-in-Err-written c =
     let days = c.args.days.now in
     λ text s n r all h. write_fault
-    (all_replied (all_replies (map told_in days)) (any_reply is_no_memory days ∙ sym c.one_lacks_memory.ensures ∙ c.if-one_lacks_memory.false)
+    (all_replied (all_replies (map told_in days)) (any_reply is_no_memory days ∙ sym c.one_lacks_memory.ensures ∙
+    c.if-one_lacks_memory.false)
     (any_reply is_disk_fault days ∙ sym c.one_lacks_disk.ensures ∙ c.if-one_lacks_disk.false))
     c.in_default.is (all c.if-not-all_noted.false) (written_part text s c.args.written _ c.in-Err-written.is h)

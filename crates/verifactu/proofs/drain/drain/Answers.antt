@@ -17,7 +17,13 @@ returns-in-Ok g c = ran c.in-Ok.script c.drain_script.result.0 c.in-Ok.ensures c
 pub returns-in-Err : goal.returns-in-Err
 returns-in-Err g c =
     let out = c.args.outside in
-    let kind : AgencyKind g.row.G.Denot = record { tells = g.G.Agency.tells; keeps_rules = g.G.Agency.keeps_rules; ledger = g.G.Agency.ledger; faults = g.G.Agency.faults; begun = g.G.Agency.begun } in
+    let kind : AgencyKind g.row.G.Denot = record {
+      tells = g.G.Agency.tells;
+      keeps_rules = g.G.Agency.keeps_rules;
+      ledger = g.G.Agency.ledger;
+      faults = g.G.Agency.faults;
+      begun = g.G.Agency.begun;
+    } in
     let all : AllDevices g.row.D.Denot g.row.C.Denot g.row.Z.Denot g.row.G.Denot = record {
       devices = record {
         source = this_source g.S.Source.left g.S.Source.faults c.args.source.now c.read_source.new.source;
@@ -29,5 +35,7 @@ returns-in-Err g c =
       agency = record { kind = kind; agency = out.agency; agency_after = out.agency };
     } in
     subst (λ (d : Detail). DrainEnds c.args.issuer.now all d) (sym c.detail.ensures)
-    (unread NoCommands all.devices.source (Untouched all.devices × NobodyCalled all) (λ (script : Script) (how : Detail). ScriptDrainEnds c.args.issuer.now script all.devices.sink all.devices.disk all.devices.clock all.sleeper all.agency how) c.in-Err.fault
+    (unread NoCommands all.devices.source (Untouched all.devices × NobodyCalled all) (λ (script : Script) (how : Detail).
+    ScriptDrainEnds c.args.issuer.now script all.devices.sink all.devices.disk all.devices.clock all.sleeper all.agency how)
+    c.in-Err.fault
     c.in-Err.ensures (record { wrote = search rules; disk = refl; clock = refl }, record { sleeper = refl; agency = refl }))

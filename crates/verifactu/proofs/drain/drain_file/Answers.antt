@@ -19,7 +19,8 @@ returns-in-Err g c =
         ends = c.opening_end.ensures;
         risen = h.disk_fault;
         left_by = h.left;
-        every_crash = λ says. keeps_file c.args.issuer.now fault.cause (g.D.Disk.told c.args.outside.disk) (g.D.Disk.told fault.disk) (h.left says);
+        every_crash = λ says. keeps_file c.args.issuer.now fault.cause (g.D.Disk.told c.args.outside.disk)
+            (g.D.Disk.told fault.disk) (h.left says);
         wrote = search rules;
         rest = record { clock = h.clock_err; sleeper = refl; agency = refl };
       });
@@ -30,11 +31,22 @@ pub returns-in-Ok : goal.returns-in-Ok
 returns-in-Ok g c =
     let store = c.in-Ok.store in
     let opened = c.in-Ok.ensures in
-    let kind : AgencyKind g.row.G.Denot = record { tells = g.G.Agency.tells; keeps_rules = g.G.Agency.keeps_rules; ledger = g.G.Agency.ledger; faults = g.G.Agency.faults; begun = g.G.Agency.begun } in
+    let kind : AgencyKind g.row.G.Denot = record {
+      tells = g.G.Agency.tells;
+      keeps_rules = g.G.Agency.keeps_rules;
+      ledger = g.G.Agency.ledger;
+      faults = g.G.Agency.faults;
+      begun = g.G.Agency.begun;
+    } in
     record {
-      ends = inr (opened_drained c.args.issuer.now (state_of store).issuer c.args.plan.now g.Z.Sleeper.tells (g.Z.Sleeper.moment c.args.outside.sleeper)
-          (this_sink g.K.Sink.taken g.K.Sink.faults c.args.sink.now c.drain_opened-detail.new.sink) (this_disk g.D.Disk.tells g.D.Disk.told g.D.Disk.faults c.args.outside.disk c.drain_opened-detail.result.1)
-          (record { kind = kind; agency = c.args.outside.agency; agency_after = c.drain_opened-detail.new.agency }) (state_of store).entries (g.D.Disk.told (disk_of (journal_of store))) (g.D.Disk.faults (disk_of (journal_of store)))
-          c.drain_opened-detail.result.0 opened.issuer opened.found opened.any_moment opened.later c.drain_opened-detail.ensures.ends);
-      clock = subst (λ x. IsLater g.C.Clock.coming x c.drain_opened-detail.result.2) opened.clock c.drain_opened-detail.ensures.clock;
+      ends = inr (opened_drained c.args.issuer.now (state_of store).issuer c.args.plan.now g.Z.Sleeper.tells
+          (g.Z.Sleeper.moment c.args.outside.sleeper)
+          (this_sink g.K.Sink.taken g.K.Sink.faults c.args.sink.now c.drain_opened-detail.new.sink)
+          (this_disk g.D.Disk.tells g.D.Disk.told g.D.Disk.faults c.args.outside.disk c.drain_opened-detail.result.1)
+          (record { kind = kind; agency = c.args.outside.agency; agency_after = c.drain_opened-detail.new.agency })
+          (state_of store).entries (g.D.Disk.told (disk_of (journal_of store))) (g.D.Disk.faults (disk_of (journal_of store)))
+          c.drain_opened-detail.result.0 opened.issuer opened.found opened.any_moment opened.later
+          c.drain_opened-detail.ensures.ends);
+      clock = subst (λ x. IsLater g.C.Clock.coming x c.drain_opened-detail.result.2) opened.clock
+          c.drain_opened-detail.ensures.clock;
     }

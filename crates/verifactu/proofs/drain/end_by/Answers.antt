@@ -4,7 +4,8 @@ use Rattle.verifactu.proofs.RunEnding.{written_part, written_whole}
 use Rattle.verifactu.proofs.drain.end_by.Goals as goal
 
 pub returns-in-Err : goal.returns-in-Err
-returns-in-Err c = λ text s h. answer_ends c.args.answer.now _ text s c.args.written c.fault_end.result c.in-Err.is c.fault_end.ensures h
+returns-in-Err c = λ text s h. answer_ends c.args.answer.now _ text s c.args.written c.fault_end.result c.in-Err.is
+    c.fault_end.ensures h
 
 pub returns-in-Ok-written : goal.returns-in-Ok-written
 returns-in-Ok-written c = λ text s h. done c.in-Ok.is (written_whole text s c.args.written _ c.in-Ok-written.is h)

@@ -22,13 +22,19 @@ returns-in-Ok-clause-drains g c =
     let kind : Kind = record { tells = g.G.Agency.tells; keeps_rules = g.G.Agency.keeps_rules } in
     let old : Desk = record { ledger = g.G.Agency.ledger c.args.agency.now; faults = g.G.Agency.faults c.args.agency.now } in
     let opened : Desk = record { ledger = g.G.Agency.ledger c.begin.new.agency; faults = g.G.Agency.faults c.begin.new.agency } in
-    let new : Desk = record { ledger = g.G.Agency.ledger c.drain_shop.new.agency; faults = g.G.Agency.faults c.drain_shop.new.agency } in
+    let new : Desk = record {
+      ledger = g.G.Agency.ledger c.drain_shop.new.agency;
+      faults = g.G.Agency.faults c.drain_shop.new.agency;
+    } in
     let moment = g.Z.Sleeper.moment c.args.sleeper.now in
-    let opens = subst (λ (h : History). IsOpened kind g.G.Agency.begun c.args.plan.now h.entries old opened) c.state-2.ensures c.in-Ok.ensures.ok in
+    let opens = subst (λ (h : History). IsOpened kind g.G.Agency.begun c.args.plan.now h.entries old opened) c.state-2.ensures
+    c.in-Ok.ensures.ok in
     let d : Span = spanning p0.state.entries kind old new g.Z.Sleeper.tells moment (outcome_of c.drain_shop.result) in
-    store_drains g.D.Disk.tells g.D.Disk.told g.D.Disk.faults g.C.Clock.coming p0 p1 c.drain_shop.ensures.sound g.G.Agency.begun c.args.plan.now kind old new g.Z.Sleeper.tells moment
+    store_drains g.D.Disk.tells g.D.Disk.told g.D.Disk.faults g.C.Clock.coming p0 p1 c.drain_shop.ensures.sound g.G.Agency.begun
+    c.args.plan.now kind old new g.Z.Sleeper.tells moment
     c.drain_shop.result.turns c.drain_shop.result.answer (outcome_of c.drain_shop.result) refl
-    (inr (in_session g.G.Agency.begun c.args.plan.now d opened g.met.G.Agency.keeps_and_tells opens c.drain_shop.ensures.sends)) c.drain_shop.ensures.sends.notes c.drain_shop.ensures.stopped
+    (inr (in_session g.G.Agency.begun c.args.plan.now d opened g.met.G.Agency.keeps_and_tells opens c.drain_shop.ensures.sends))
+    c.drain_shop.ensures.sends.notes c.drain_shop.ensures.stopped
     (λ says. g.met.D.Disk.reads_an_image (disk_of (journal_of c.drain_shop.result.store)) says) c.legal_is_chained.ensures.linked
 
 pub returns-in-Err-clause-drains : goal.returns-in-Err-clause-drains
@@ -40,9 +46,12 @@ returns-in-Err-clause-drains g c =
     let old : Desk = record { ledger = g.G.Agency.ledger c.args.agency.now; faults = g.G.Agency.faults c.args.agency.now } in
     let new : Desk = record { ledger = g.G.Agency.ledger c.begin.new.agency; faults = g.G.Agency.faults c.begin.new.agency } in
     let end = ap (λ (p : Parts g.row.D.Denot g.row.C.Denot). p.state.entries) same in
-    let sound = subst (λ (p : Parts g.row.D.Denot g.row.C.Denot). IsSound g.D.Disk.tells g.D.Disk.told g.D.Disk.faults g.C.Clock.coming (root_of g.D.Disk.told g.D.Disk.faults p0) p) (sym same)
-    (sound_at_start g.D.Disk.tells g.D.Disk.told g.D.Disk.faults g.C.Clock.coming p0 c.requires.going_on c.requires.ready (subst (λ (h : History). Legal h.issuer h.entries) c.state.ensures c.is_legal.ensures)) in
-    store_drains g.D.Disk.tells g.D.Disk.told g.D.Disk.faults g.C.Clock.coming p0 p1 sound g.G.Agency.begun c.args.plan.now kind old new g.Z.Sleeper.tells (g.Z.Sleeper.moment c.args.sleeper.now)
+    let sound = subst (λ (p : Parts g.row.D.Denot g.row.C.Denot). IsSound g.D.Disk.tells g.D.Disk.told g.D.Disk.faults
+    g.C.Clock.coming (root_of g.D.Disk.told g.D.Disk.faults p0) p) (sym same)
+    (sound_at_start g.D.Disk.tells g.D.Disk.told g.D.Disk.faults g.C.Clock.coming p0 c.requires.going_on c.requires.ready
+    (subst (λ (h : History). Legal h.issuer h.entries) c.state.ensures c.is_legal.ensures)) in
+    store_drains g.D.Disk.tells g.D.Disk.told g.D.Disk.faults g.C.Clock.coming p0 p1 sound g.G.Agency.begun c.args.plan.now kind
+    old new g.Z.Sleeper.tells (g.Z.Sleeper.moment c.args.sleeper.now)
     c.without_session.result.turns c.without_session.result.answer (outcome_of c.without_session.result) refl
     (inl (record {
       answer = c.without_session.ensures.answer;
@@ -51,9 +60,12 @@ returns-in-Err-clause-drains g c =
       faults = c.in-Err.ensures.err.1;
       end = end;
       torn = none_torn p1.stopped p1.torn (ap (λ (p : Parts g.row.D.Denot g.row.C.Denot). p.stopped) same ∙ c.requires.going_on);
-    })) (nothing_came p0.state.entries p1.state.entries end) (λ disk. absurd (subst (λ (r : Result (Unit {0}) DrainFault). IsDiskAnswer r) c.without_session.ensures.answer disk))
-    (λ says. g.met.D.Disk.reads_an_image (disk_of (journal_of c.without_session.result.store)) says) c.legal_is_chained.ensures.linked
+    })) (nothing_came p0.state.entries p1.state.entries end)
+    (λ disk. absurd (subst (λ (r : Result (Unit {0}) DrainFault). IsDiskAnswer r) c.without_session.ensures.answer disk))
+    (λ says. g.met.D.Disk.reads_an_image (disk_of (journal_of c.without_session.result.store)) says)
+    c.legal_is_chained.ensures.linked
 
 pub returns-in-Err-clause-clock : goal.returns-in-Err-clause-clock
 returns-in-Err-clause-clock g c =
-    not_later g.C.Clock.coming (clock_of c.args.store) (clock_of c.without_session.result.store) (ap (λ (p : Parts g.row.D.Denot g.row.C.Denot). p.clock) c.without_session.ensures.store)
+    not_later g.C.Clock.coming (clock_of c.args.store) (clock_of c.without_session.result.store)
+    (ap (λ (p : Parts g.row.D.Denot g.row.C.Denot). p.clock) c.without_session.ensures.store)

@@ -18,7 +18,10 @@ returns-in-Ok-clause-sends g c =
       torn = torn_in p.stopped p.torn;
       kind = record { tells = g.G.Agency.tells; keeps_rules = g.G.Agency.keeps_rules };
       old = record { ledger = g.G.Agency.ledger c.args.agency.now; faults = g.G.Agency.faults c.args.agency.now };
-      new = record { ledger = g.G.Agency.ledger c.drain_started.new.agency; faults = g.G.Agency.faults c.drain_started.new.agency };
+      new = record {
+        ledger = g.G.Agency.ledger c.drain_started.new.agency;
+        faults = g.G.Agency.faults c.drain_started.new.agency;
+      };
       exact = g.Z.Sleeper.tells;
       moment = g.Z.Sleeper.moment c.args.sleeper.now;
       turns = c.drain_started.result.turns;
@@ -28,11 +31,14 @@ returns-in-Ok-clause-sends g c =
 pub returns-in-Err-clause-sound : goal.returns-in-Err-clause-sound
 returns-in-Err-clause-sound g c =
     let p0 = parts_of c.args.store in
-    subst (λ (p : Parts g.row.D.Denot g.row.C.Denot). IsSound g.D.Disk.tells g.D.Disk.told g.D.Disk.faults g.C.Clock.coming (root_of g.D.Disk.told g.D.Disk.faults p0) p) (sym (c.without_memory.ensures.parts ∙ c.in-Err.ensures.refused))
-    (sound_at_start g.D.Disk.tells g.D.Disk.told g.D.Disk.faults g.C.Clock.coming p0 c.requires.going_on c.requires.ready (subst (λ (h : History). Legal h.issuer h.entries) c.state.ensures c.is_legal.ensures))
+    subst (λ (p : Parts g.row.D.Denot g.row.C.Denot). IsSound g.D.Disk.tells g.D.Disk.told g.D.Disk.faults g.C.Clock.coming
+    (root_of g.D.Disk.told g.D.Disk.faults p0) p) (sym (c.without_memory.ensures.parts ∙ c.in-Err.ensures.refused))
+    (sound_at_start g.D.Disk.tells g.D.Disk.told g.D.Disk.faults g.C.Clock.coming p0 c.requires.going_on c.requires.ready
+    (subst (λ (h : History). Legal h.issuer h.entries) c.state.ensures c.is_legal.ensures))
 
 pub returns-in-Err-clause-stopped : goal.returns-in-Err-clause-stopped
-returns-in-Err-clause-stopped g c = λ disk. absurd (subst (λ (r : Result (Unit {0}) DrainFault). IsDiskAnswer r) c.without_memory.ensures.answer disk)
+returns-in-Err-clause-stopped g c = λ disk. absurd (subst (λ (r : Result (Unit {0}) DrainFault). IsDiskAnswer r)
+    c.without_memory.ensures.answer disk)
 
 pub returns-in-Err-clause-sends : goal.returns-in-Err-clause-sends
 returns-in-Err-clause-sends g c =
@@ -49,4 +55,6 @@ returns-in-Err-clause-sends g c =
       moment = g.Z.Sleeper.moment c.args.sleeper.now;
       turns = c.without_memory.result.turns;
       answer = c.without_memory.result.answer;
-    }) (ap (λ (q : Parts g.row.D.Denot g.row.C.Denot). q.state.entries) same) (none_torn p.stopped p.torn (ap (λ (q : Parts g.row.D.Denot g.row.C.Denot). q.stopped) same ∙ c.requires.going_on)) refl c.without_memory.ensures.turns c.without_memory.ensures.answer
+    }) (ap (λ (q : Parts g.row.D.Denot g.row.C.Denot). q.state.entries) same)
+    (none_torn p.stopped p.torn (ap (λ (q : Parts g.row.D.Denot g.row.C.Denot). q.stopped) same ∙ c.requires.going_on)) refl
+    c.without_memory.ensures.turns c.without_memory.ensures.answer

@@ -4,4 +4,5 @@ use Rattle.ports.specs.declared.memory.CountingClock.{CountingClock}
 use Rattle.verifactu.proofs.generate.begun.Goals as goal
 
 pub returns-in-Ok-clause-clock : goal.returns-in-Ok-clause-clock
-returns-in-Ok-clause-clock c = λ k. ap (λ (clock : CountingClock). Some (counting clock.next clock.step k)) c.in-Ok.ensures.clock ∙ c.new-clock.ensures k
+returns-in-Ok-clause-clock c = λ k. ap (λ (clock : CountingClock). Some (counting clock.next clock.step k)) c.in-Ok.ensures.clock
+    ∙ c.new-clock.ensures k

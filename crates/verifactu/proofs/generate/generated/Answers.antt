@@ -15,8 +15,11 @@ returns c =
     let begun = c.in_ok-store.ensures in
     let asks = c.deref.result.now in
     let replies = c.run_commands.new.replies.items in
-    let are : AreCommands c.args.n asks = subst (λ (xs : List Asked). AreCommands c.args.n xs) (sym c.deref.ensures.value) c.in_ok-asks.ensures in
-    let replied : AllReplied replies = subst (λ (rs : Replies). AllReplied rs) c.deref-2.ensures.value (c.all_replied.ensures c.if-not-all_replied.false) in
+    let are : AreCommands c.args.n asks = subst (λ (xs : List Asked). AreCommands c.args.n xs) (sym c.deref.ensures.value)
+    c.in_ok-asks.ensures in
+    let replied : AllReplied replies = subst (λ (rs : Replies). AllReplied rs) c.deref-2.ensures.value
+    (c.all_replied.ensures c.if-not-all_replied.false) in
     subst (λ (h : History). Generated c.args.n h.entries) (sym c.into_parts-state.ensures.0)
     (ran c.args.n asks replies (state_of store).entries (state_of c.run_commands.new.store).entries (state_of store).issuer
-    (λ k. Some (counting (clock_of store).next (clock_of store).step k)) are begun.issuer begun.empty begun.clock c.run_commands.ensures.answers.run replied)
+    (λ k. Some (counting (clock_of store).next (clock_of store).step k)) are begun.issuer begun.empty begun.clock
+    c.run_commands.ensures.answers.run replied)

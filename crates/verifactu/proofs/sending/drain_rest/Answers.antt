@@ -18,7 +18,10 @@ pub returns-clause-sends : goal.returns-clause-sends
 returns-clause-sends g c = λ before desk sending x.
     let kind : Kind = record { tells = g.G.Agency.tells; keeps_rules = g.G.Agency.keeps_rules } in
     let mid : Desk = record { ledger = g.G.Agency.ledger c.args.sent.agency; faults = g.G.Agency.faults c.args.sent.agency } in
-    let new : Desk = record { ledger = g.G.Agency.ledger c.drain-answer.new.agency; faults = g.G.Agency.faults c.drain-answer.new.agency } in
+    let new : Desk = record {
+      ledger = g.G.Agency.ledger c.drain-answer.new.agency;
+      faults = g.G.Agency.faults c.drain-answer.new.agency;
+    } in
     let answer = c.drain-answer.result in
     let a = sight_by (box_knows c.seat_box-outbox.result) in
     let b = sight_by (box_knows c.drain-answer.new.outbox) in
@@ -38,8 +41,13 @@ returns-clause-sends g c = λ before desk sending x.
       later = drained_later _ _ _ _ _ _ _ e.drained;
       undelivered = λ n r is. (drained_missing _ _ _ _ _ _ _ e.drained n r is, e.undelivered n r is);
     } in
-    let into : SendsOn kind (sight_by (seat_knows c.args.sent.seat)) (sight_by (seat_knows c.into_seat.result)) mid new c.args.sent.sender c.drain-answer.new.self answer =
-    subst (λ (k : Known Item (Root g.row.C.Denot)). SendsOn kind (sight_by k) (sight_by (seat_knows c.into_seat.result)) mid new c.args.sent.sender c.drain-answer.new.self answer) c.seat_box-outbox.ensures.knows
-    (subst (λ (k : Known Item (Root g.row.C.Denot)). SendsOn kind a (sight_by k) mid new c.args.sent.sender c.drain-answer.new.self answer) (sym c.into_seat.ensures.knows) drained) in
-    let first = subst (λ (r : Result (Unit {0}) DrainFault). SendsOn kind before (sight_by (seat_knows c.args.sent.seat)) desk mid sending c.args.sent.sender r) (no_error c.args.sent.answer (sym c.is_err.ensures.value ∙ c.if-is_err.false)) x in
-    sends_then kind before (sight_by (seat_knows c.args.sent.seat)) (sight_by (seat_knows c.into_seat.result)) desk mid new sending c.args.sent.sender c.drain-answer.new.self answer first into
+    let into : SendsOn kind (sight_by (seat_knows c.args.sent.seat)) (sight_by (seat_knows c.into_seat.result)) mid new
+    c.args.sent.sender c.drain-answer.new.self answer =
+    subst (λ (k : Known Item (Root g.row.C.Denot)). SendsOn kind (sight_by k) (sight_by (seat_knows c.into_seat.result)) mid new
+    c.args.sent.sender c.drain-answer.new.self answer) c.seat_box-outbox.ensures.knows
+    (subst (λ (k : Known Item (Root g.row.C.Denot)). SendsOn kind a (sight_by k) mid new c.args.sent.sender
+    c.drain-answer.new.self answer) (sym c.into_seat.ensures.knows) drained) in
+    let first = subst (λ (r : Result (Unit {0}) DrainFault). SendsOn kind before (sight_by (seat_knows c.args.sent.seat)) desk mid
+    sending c.args.sent.sender r) (no_error c.args.sent.answer (sym c.is_err.ensures.value ∙ c.if-is_err.false)) x in
+    sends_then kind before (sight_by (seat_knows c.args.sent.seat)) (sight_by (seat_knows c.into_seat.result)) desk mid new
+    sending c.args.sent.sender c.drain-answer.new.self answer first into

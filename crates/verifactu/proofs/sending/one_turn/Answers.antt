@@ -10,17 +10,22 @@ pub returns-clause-sends : goal.returns-clause-sends
 returns-clause-sends g c =
     let kind : Kind = record { tells = g.G.Agency.tells; keeps_rules = g.G.Agency.keeps_rules } in
     let old : Desk = record { ledger = g.G.Agency.ledger c.args.agency.now; faults = g.G.Agency.faults c.args.agency.now } in
-    let new : Desk = record { ledger = g.G.Agency.ledger c.turn-answer.new.agency; faults = g.G.Agency.faults c.turn-answer.new.agency } in
+    let new : Desk = record {
+      ledger = g.G.Agency.ledger c.turn-answer.new.agency;
+      faults = g.G.Agency.faults c.turn-answer.new.agency;
+    } in
     let before = g.O.Outbox.sight c.args.outbox.now in
     let after = g.O.Outbox.sight c.turn-answer.new.outbox in
     let answer = c.turn-answer.result in
     let e = c.turn-answer.ensures in
-    subst (λ (r : Result (Unit {0}) DrainFault). SendsOn kind before after old new c.args.sender.now c.turn-answer.new.self r) (sym c.going_on.ensures) (record {
+    subst (λ (r : Result (Unit {0}) DrainFault). SendsOn kind before after old new c.args.sender.now c.turn-answer.new.self r)
+    (sym c.going_on.ensures) (record {
       adds = e.adds;
       notes = λ faultless. e.notes (untorn_end answer faultless);
       stopped = stopped_end kind old new before after c.args.sender.now c.turn-answer.new.self c.now-now.result answer e.turned;
       session = λ keeps in_it gains. let k = e.agreement keeps in_it gains in record { session = k.session; begins = k.begins };
-      no_contradiction = λ keeps in_it gains. never_end answer before after old new c.turn-answer.new.self (e.agreement keeps in_it gains);
+      no_contradiction = λ keeps in_it gains. never_end answer before after old new c.turn-answer.new.self
+          (e.agreement keeps in_it gains);
       torn = e.torn;
       careful = e.careful;
       says = e.says;

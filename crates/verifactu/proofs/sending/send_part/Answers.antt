@@ -14,10 +14,16 @@ pub returns-clause-sends : goal.returns-clause-sends
 returns-clause-sends g c =
     let kind : Kind = record { tells = g.G.Agency.tells; keeps_rules = g.G.Agency.keeps_rules } in
     let old : Desk = record { ledger = g.G.Agency.ledger c.args.agency; faults = g.G.Agency.faults c.args.agency } in
-    let new : Desk = record { ledger = g.G.Agency.ledger c.send_until-answer.new.agency; faults = g.G.Agency.faults c.send_until-answer.new.agency } in
+    let new : Desk = record {
+      ledger = g.G.Agency.ledger c.send_until-answer.new.agency;
+      faults = g.G.Agency.faults c.send_until-answer.new.agency;
+    } in
     let answer = c.send_until-answer.result in
     let sender = c.send_until-answer.new.sender in
     let boxed = c.seat_box-outbox.result in
-    subst (λ (q : Sending). SendsOn kind (sight_by (seat_knows c.args.seat)) (sight_by (seat_knows c.into_seat.result)) old new q sender answer) c.new-sender.ensures
-    (subst (λ (k : Known Item (Root g.row.C.Denot)). SendsOn kind (sight_by k) (sight_by (seat_knows c.into_seat.result)) old new c.new-sender.result sender answer) c.seat_box-outbox.ensures.knows
-    (subst (λ (k : Known Item (Root g.row.C.Denot)). SendsOn kind (sight_by (box_knows boxed)) (sight_by k) old new c.new-sender.result sender answer) (sym c.into_seat.ensures.knows) c.send_until-answer.ensures.sends))
+    subst (λ (q : Sending). SendsOn kind (sight_by (seat_knows c.args.seat)) (sight_by (seat_knows c.into_seat.result)) old new q
+    sender answer) c.new-sender.ensures
+    (subst (λ (k : Known Item (Root g.row.C.Denot)). SendsOn kind (sight_by k) (sight_by (seat_knows c.into_seat.result)) old new
+    c.new-sender.result sender answer) c.seat_box-outbox.ensures.knows
+    (subst (λ (k : Known Item (Root g.row.C.Denot)). SendsOn kind (sight_by (box_knows boxed)) (sight_by k) old new
+    c.new-sender.result sender answer) (sym c.into_seat.ensures.knows) c.send_until-answer.ensures.sends))

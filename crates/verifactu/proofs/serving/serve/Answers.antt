@@ -11,12 +11,14 @@ use Rattle.verifactu.proofs.serving.serve.Goals as goal
 
 pub start-requires-clause-numbers : goal.start-requires-clause-numbers
 start-requires-clause-numbers g c =
-    subst (λ (l : List ℕ). All (IsInRange 1 64) l) (sym (c.deref-2.ensures.value ∙ c.in-Some.ensures ∙ ap (λ (l : List TillDay). map (λ (d : TillDay). d.till) l) c.deref.ensures.value))
+    subst (λ (l : List ℕ). All (IsInRange 1 64) l) (sym (c.deref-2.ensures.value ∙ c.in-Some.ensures ∙
+    ap (λ (l : List TillDay). map (λ (d : TillDay). d.till) l) c.deref.ensures.value))
     (All-map (IsInRange 1 64) (λ (d : TillDay). d.till) c.args.tills.items c.requires.numbers)
 
 pub returns-in-Ok-start-clause-day : goal.returns-in-Ok-start-clause-day
 returns-in-Ok-start-clause-day g c =
-    subst (λ (r : Root g.row.C.Denot). DayRun g.D.Disk.tells g.D.Disk.told g.D.Disk.faults g.C.Clock.coming c.args.asks.now r (parts_of c.serve_started.result.store) (map told_in c.serve_started.result.tills.items) c.serve_started.result.answer)
+    subst (λ (r : Root g.row.C.Denot). DayRun g.D.Disk.tells g.D.Disk.told g.D.Disk.faults g.C.Clock.coming c.args.asks.now r
+    (parts_of c.serve_started.result.store) (map told_in c.serve_started.result.tills.items) c.serve_started.result.answer)
     c.in-Ok-start.ensures.root.0 c.serve_started.ensures.day
 
 pub returns-in-Ok-start-clause-sends : goal.returns-in-Ok-start-clause-sends
@@ -28,6 +30,9 @@ returns-in-Ok-start-clause-sends g c =
       torn = torn_in p.stopped p.torn;
       kind = record { tells = g.G.Agency.tells; keeps_rules = g.G.Agency.keeps_rules };
       old = record { ledger = g.G.Agency.ledger c.args.agency; faults = g.G.Agency.faults c.args.agency };
-      new = record { ledger = g.G.Agency.ledger c.serve_started.result.agency; faults = g.G.Agency.faults c.serve_started.result.agency };
+      new = record {
+        ledger = g.G.Agency.ledger c.serve_started.result.agency;
+        faults = g.G.Agency.faults c.serve_started.result.agency;
+      };
       answer = c.serve_started.result.answer;
     })) c.in-Ok-start.ensures.root.0 c.serve_started.ensures.sends

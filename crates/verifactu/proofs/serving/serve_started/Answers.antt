@@ -19,13 +19,15 @@ use Rattle.verifactu.proofs.serving.serve_started.Goals as goal
 
 pub beside-jobs-requires-clause-room : goal.beside-jobs-requires-clause-room
 beside-jobs-requires-clause-room g c κs within =
-    all_turned day_of (λ (d : TillDay). (length (asks_of d.till c.args.asks.now) ≤ vec_capacity d.answers) × (d.answers.items ≡ [])) c.hand_out.new.jobs.items c.args.days.items c.hand_out.ensures.days c.requires.room
+    all_turned day_of (λ (d : TillDay). (length (asks_of d.till c.args.asks.now) ≤ vec_capacity d.answers) ×
+    (d.answers.items ≡ [])) c.hand_out.new.jobs.items c.args.days.items c.hand_out.ensures.days c.requires.room
 
 pub hand_in-requires-clause-room : goal.hand_in-requires-clause-room
 hand_in-requires-clause-room g c =
     let e = c.beside-jobs.ensures.len in
     let f : length c.hand_out.new.jobs.items ≡ length c.args.days.items =
-    sym (length-map c.hand_out.new.jobs.items day_of) ∙ sym (length-reverse (map day_of c.hand_out.new.jobs.items)) ∙ ap (λ (l : List TillDay). length l) c.hand_out.ensures.days in
+    sym (length-map c.hand_out.new.jobs.items day_of) ∙ sym (length-reverse (map day_of c.hand_out.new.jobs.items)) ∙
+    ap (λ (l : List TillDay). length l) c.hand_out.ensures.days in
     let r = c.hand_out.ensures.room in
     let m = c.requires.made in
     let s = c.hand_out.ensures.same.1 in
@@ -33,45 +35,70 @@ hand_in-requires-clause-room g c =
 
 pub close-requires-clause-whole : goal.close-requires-clause-whole
 close-requires-clause-whole g c = λ n l.
-    let ran = ran_as g.C.Clock.coming c.args.asks.now _ _ _ _ _ _ _ _ c.hand_out.ensures.days c.hand_out.ensures.knows (sym c.hand_in.ensures.days) (sym c.hand_in.ensures.knows) c.beside-jobs.ensures.ran in
+    let ran = ran_as g.C.Clock.coming c.args.asks.now _ _ _ _ _ _ _ _ c.hand_out.ensures.days c.hand_out.ensures.knows
+    (sym c.hand_in.ensures.days) (sym c.hand_in.ensures.knows) c.beside-jobs.ensures.ran in
     let marks = c.drain_rest-rest.ensures.mark ∙ c.beside-jobs.ensures.mark in
-    let again = held_again g.C.Clock.coming c.args.asks.now c.args.days.items c.hand_in.new.days.items (tills_know c.args.started.tills) (tills_know c.hand_in.new.tills) (seat_knows c.args.started.seat) (seat_knows c.drain_rest-rest.result.seat) ran
+    let again = held_again g.C.Clock.coming c.args.asks.now c.args.days.items c.hand_in.new.days.items
+    (tills_know c.args.started.tills) (tills_know c.hand_in.new.tills) (seat_knows c.args.started.seat)
+    (seat_knows c.drain_rest-rest.result.seat) ran
     (ap (λ (m : Mark g.row.C.Denot). m.numbers) marks) n in
     let once = c.requires.whole n l in
     omega (arith, again, once)
 
 pub returns-clause-day : goal.returns-clause-day
 returns-clause-day g c =
-    let ran = ran_as g.C.Clock.coming c.args.asks.now _ _ _ _ _ _ _ _ c.hand_out.ensures.days c.hand_out.ensures.knows (sym c.hand_in.ensures.days) (sym c.hand_in.ensures.knows) c.beside-jobs.ensures.ran in
+    let ran = ran_as g.C.Clock.coming c.args.asks.now _ _ _ _ _ _ _ _ c.hand_out.ensures.days c.hand_out.ensures.knows
+    (sym c.hand_in.ensures.days) (sym c.hand_in.ensures.knows) c.beside-jobs.ensures.ran in
     let p = parts_of c.close.result in
     let shop = c.args.started.shop in
     let seat = seat_knows c.args.started.seat in
     let then = seat_knows c.drain_rest-rest.result.seat in
     let sends = c.drain_rest-rest.ensures.sends _ _ _ c.beside-jobs.ensures.sends in
-    let h = shared g.D.Disk.tells g.D.Disk.told g.D.Disk.faults g.C.Clock.coming c.args.asks.now p (shop_root shop) (first_items shop) c.args.days.items c.hand_in.new.days.items (tills_know c.args.started.tills) (tills_know c.hand_in.new.tills) seat then ran c.requires.new
+    let h = shared g.D.Disk.tells g.D.Disk.told g.D.Disk.faults g.C.Clock.coming c.args.asks.now p (shop_root shop)
+    (first_items shop) c.args.days.items c.hand_in.new.days.items (tills_know c.args.started.tills)
+    (tills_know c.hand_in.new.tills) seat then ran c.requires.new
     c.close.ensures.each c.close.ensures.begins c.close.ensures.since sends.adds in
-    ended g.D.Disk.tells g.D.Disk.told g.D.Disk.faults g.C.Clock.coming c.args.asks.now p (shop_root shop) (first_items shop) c.args.days.items c.hand_in.new.days.items (tills_know c.args.started.tills) (tills_know c.hand_in.new.tills) seat then ran c.requires.new
-    c.drain_rest-rest.result.answer c.a_till_adds_for_no_other.ensures c.a_till_adds_what_is_taken.ensures (ap (λ (l : List Item). length l) c.requires.base ∙ length-map (shop_root shop).history (λ (e : Entry). item.Entry e)) c.requires.distinct h sends.notes
-    (λ disk. is_stopped (first_items shop) (items_in p) (shop_root shop) (tills_know c.hand_in.new.tills) seat then h (shop_root shop).history p.state.entries p.stopped p.torn (record { base_is = c.requires.base; log_is = refl; begins = c.close.ensures.sound.begins }) (sends.stopped disk))
+    ended g.D.Disk.tells g.D.Disk.told g.D.Disk.faults g.C.Clock.coming c.args.asks.now p (shop_root shop) (first_items shop)
+    c.args.days.items c.hand_in.new.days.items (tills_know c.args.started.tills) (tills_know c.hand_in.new.tills) seat then
+    ran c.requires.new
+    c.drain_rest-rest.result.answer c.a_till_adds_for_no_other.ensures c.a_till_adds_what_is_taken.ensures
+    (ap (λ (l : List Item). length l) c.requires.base ∙ length-map (shop_root shop).history (λ (e : Entry). item.Entry e))
+    c.requires.distinct h sends.notes
+    (λ disk. is_stopped (first_items shop) (items_in p) (shop_root shop) (tills_know c.hand_in.new.tills) seat then h
+    (shop_root shop).history p.state.entries p.stopped p.torn (record {
+      base_is = c.requires.base;
+      log_is = refl;
+      begins = c.close.ensures.sound.begins;
+    }) (sends.stopped disk))
     c.close.ensures.sound
 
 pub returns-clause-same : goal.returns-clause-same
 returns-clause-same g c =
-    let ran = ran_as g.C.Clock.coming c.args.asks.now _ _ _ _ _ _ _ _ c.hand_out.ensures.days c.hand_out.ensures.knows (sym c.hand_in.ensures.days) (sym c.hand_in.ensures.knows) c.beside-jobs.ensures.ran in
-    same_days g.C.Clock.coming c.args.asks.now c.args.days.items c.hand_in.new.days.items (tills_know c.args.started.tills) (tills_know c.hand_in.new.tills) ran
+    let ran = ran_as g.C.Clock.coming c.args.asks.now _ _ _ _ _ _ _ _ c.hand_out.ensures.days c.hand_out.ensures.knows
+    (sym c.hand_in.ensures.days) (sym c.hand_in.ensures.knows) c.beside-jobs.ensures.ran in
+    same_days g.C.Clock.coming c.args.asks.now c.args.days.items c.hand_in.new.days.items (tills_know c.args.started.tills)
+    (tills_know c.hand_in.new.tills) ran
 
 pub returns-clause-sends : goal.returns-clause-sends
 returns-clause-sends g c =
-    let ran = ran_as g.C.Clock.coming c.args.asks.now _ _ _ _ _ _ _ _ c.hand_out.ensures.days c.hand_out.ensures.knows (sym c.hand_in.ensures.days) (sym c.hand_in.ensures.knows) c.beside-jobs.ensures.ran in
+    let ran = ran_as g.C.Clock.coming c.args.asks.now _ _ _ _ _ _ _ _ c.hand_out.ensures.days c.hand_out.ensures.knows
+    (sym c.hand_in.ensures.days) (sym c.hand_in.ensures.knows) c.beside-jobs.ensures.ran in
     let p = parts_of c.close.result in
     let shop = c.args.started.shop in
     let seat = seat_knows c.args.started.seat in
     let then = seat_knows c.drain_rest-rest.result.seat in
     let kind : Kind = record { tells = g.G.Agency.tells; keeps_rules = g.G.Agency.keeps_rules } in
     let old : Desk = record { ledger = g.G.Agency.ledger c.args.agency; faults = g.G.Agency.faults c.args.agency } in
-    let new : Desk = record { ledger = g.G.Agency.ledger c.drain_rest-rest.result.agency; faults = g.G.Agency.faults c.drain_rest-rest.result.agency } in
+    let new : Desk = record {
+      ledger = g.G.Agency.ledger c.drain_rest-rest.result.agency;
+      faults = g.G.Agency.faults c.drain_rest-rest.result.agency;
+    } in
     let sends = c.drain_rest-rest.ensures.sends _ _ _ c.beside-jobs.ensures.sends in
-    let h = shared g.D.Disk.tells g.D.Disk.told g.D.Disk.faults g.C.Clock.coming c.args.asks.now p (shop_root shop) (first_items shop) c.args.days.items c.hand_in.new.days.items (tills_know c.args.started.tills) (tills_know c.hand_in.new.tills) seat then ran c.requires.new
+    let h = shared g.D.Disk.tells g.D.Disk.told g.D.Disk.faults g.C.Clock.coming c.args.asks.now p (shop_root shop)
+    (first_items shop) c.args.days.items c.hand_in.new.days.items (tills_know c.args.started.tills)
+    (tills_know c.hand_in.new.tills) seat then ran c.requires.new
     c.close.ensures.each c.close.ensures.begins c.close.ensures.since sends.adds in
-    sends_beside g.D.Disk.tells g.D.Disk.told g.D.Disk.faults g.C.Clock.coming p (shop_root shop) (first_items shop) (tills_know c.hand_in.new.tills) seat then h c.close.ensures.sound c.requires.base c.requires.legal kind old new
-    c.drain_rest-rest.result.sender c.drain_rest-rest.result.answer sends c.agreement_is_kept.ensures.records c.a_session_begins.ensures.session c.a_session_begins.ensures.careful
+    sends_beside g.D.Disk.tells g.D.Disk.told g.D.Disk.faults g.C.Clock.coming p (shop_root shop) (first_items shop)
+    (tills_know c.hand_in.new.tills) seat then h c.close.ensures.sound c.requires.base c.requires.legal kind old new
+    c.drain_rest-rest.result.sender c.drain_rest-rest.result.answer sends c.agreement_is_kept.ensures.records
+    c.a_session_begins.ensures.session c.a_session_begins.ensures.careful

@@ -11,7 +11,11 @@ returns-clause-ok g c =
     both_ok c.begin.result
     (IsTrue g.G.Agency.tells → Begins old new c.args.plan.now (length c.deref.result.now))
     (IsTrue g.G.Agency.keeps_rules → new.processed ≡ g.G.Agency.begun old.processed c.deref.result.now) _
-    (λ lists rules. opened_by (record { tells = g.G.Agency.tells; keeps_rules = g.G.Agency.keeps_rules }) g.G.Agency.begun c.args.plan.now es
-    (record { ledger = old; faults = g.G.Agency.faults c.args.agency.now }) (record { ledger = new; faults = g.G.Agency.faults c.begin.new.self }) c.deref.result.now (c.deref.ensures.value ∙ c.in_ok-pairs.ensures)
+    (λ lists rules. opened_by (record { tells = g.G.Agency.tells; keeps_rules = g.G.Agency.keeps_rules }) g.G.Agency.begun
+    c.args.plan.now es
+    (record { ledger = old; faults = g.G.Agency.faults c.args.agency.now }) (record {
+      ledger = new;
+      faults = g.G.Agency.faults c.begin.new.self;
+    }) c.deref.result.now (c.deref.ensures.value ∙ c.in_ok-pairs.ensures)
     (c.a_history_notes_its_records.ensures c.args.state.now.issuer es c.is_legal.ensures) lists rules c.begin.ensures.same)
     c.begin.ensures.lists c.begin.ensures.rules

@@ -18,10 +18,16 @@ returns-in_default-line c =
 pub loop-n-preserved : goal.loop-n-preserved
 loop-n-preserved c =
     let es = c.args.state.now.entries in
-    c.in_ok-push.ensures.items ∙ ap (λ (ps : List (Sealed × Line)). ps ++ (c.in-Some.sealed, c.in-Some-line.line) ∷ []) c.loop-n.invariant
-    ∙ sym (pair_more (recs es) (noted es) c.loop-n.n c.in-Some.sealed c.in-Some-line.line (sym c.in_ok-sealed.ensures ∙ c.in-Some.is) (sym c.line.ensures ∙ c.in-Some-line.is))
+    c.in_ok-push.ensures.items ∙ ap (λ (ps : List (Sealed × Line)). ps ++ (c.in-Some.sealed, c.in-Some-line.line) ∷ [])
+    c.loop-n.invariant
+    ∙ sym (pair_more (recs es) (noted es) c.loop-n.n c.in-Some.sealed c.in-Some-line.line (sym c.in_ok-sealed.ensures ∙
+    c.in-Some.is) (sym c.line.ensures ∙ c.in-Some-line.is))
 
 pub returns : goal.returns
 returns c =
     let es = c.args.state.now.entries in
-    c.loop-n.invariant ∙ pairs_all (recs es) (noted es) c.loop-n.n (omega (arith, c.noted-count.ensures.count, c.loop-n-test.false))
+    c.loop-n.invariant ∙ pairs_all (recs es) (noted es) c.loop-n.n (omega (
+      arith,
+      c.noted-count.ensures.count,
+      c.loop-n-test.false,
+    ))

@@ -13,7 +13,8 @@ pub loop-ask-init : goal.loop-ask-init
 loop-ask-init g c = record {
   shop = refl;
   number = refl;
-  run = subst (λ (rs : List (Result Reply StoreFault)). TillRun g.C.Clock.coming (till_knows c.args.till.now) [] rs (till_knows c.args.till.now)) (sym c.requires.room.1) begun;
+  run = subst (λ (rs : List (Result Reply StoreFault)). TillRun g.C.Clock.coming (till_knows c.args.till.now) [] rs
+      (till_knows c.args.till.now)) (sym c.requires.room.1) begun;
   room = c.requires.room.0;
   count = ap (λ (rs : List (Result Reply StoreFault)). length rs) c.requires.room.1;
 }
@@ -22,6 +23,9 @@ pub ask_own-requires-clause-room : goal.ask_own-requires-clause-room
 ask_own-requires-clause-room g c =
     let v = c.loop-ask.invariant in
     let x = c.ask-item.result in
-    let fits : length (asks_of (till_number c.args.till.now) (take c.loop-ask.ask-index c.args.asks.now)) + length (asks_of (till_number c.args.till.now) (x ∷ [])) ≤ length (asks_of (till_number c.args.till.now) c.args.asks.now) =
-    filter_room (λ (a : Asked). a.till == till_number c.args.till.now) c.args.asks.now c.loop-ask.ask-index x c.loop-ask-test.true c.ask-item.is in
-    subst (λ (n : ℕ). length c.loop-ask.answers.items + length (asks_of n (x ∷ [])) ≤ vec_capacity c.loop-ask.answers) (sym v.number) (let a = v.count in let b = v.room in omega (arith, fits, a, b))
+    let fits : length (asks_of (till_number c.args.till.now) (take c.loop-ask.ask-index c.args.asks.now)) + length
+    (asks_of (till_number c.args.till.now) (x ∷ [])) ≤ length (asks_of (till_number c.args.till.now) c.args.asks.now) =
+    filter_room (λ (a : Asked). a.till == till_number c.args.till.now) c.args.asks.now c.loop-ask.ask-index x c.loop-ask-test.true
+    c.ask-item.is in
+    subst (λ (n : ℕ). length c.loop-ask.answers.items + length (asks_of n (x ∷ [])) ≤ vec_capacity c.loop-ask.answers)
+    (sym v.number) (let a = v.count in let b = v.room in omega (arith, fits, a, b))

@@ -8,7 +8,8 @@ abbrev pub invariant-loop-ask : goal.invariant-loop-ask
 invariant-loop-ask g l = record {
   shop : till_shop l.till ≡ till_shop l.initial.till;
   number : till_number l.till ≡ till_number l.initial.till;
-  run : TillRun g.C.Clock.coming (till_knows l.initial.till) (asks_of (till_number l.initial.till) (take l.ask-index l.asks)) l.answers.items (till_knows l.till);
+  run : TillRun g.C.Clock.coming (till_knows l.initial.till) (asks_of (till_number l.initial.till) (take l.ask-index l.asks))
+      l.answers.items (till_knows l.till);
   room : length (asks_of (till_number l.initial.till) l.asks) ≤ vec_capacity l.answers;
   count : length l.answers.items ≡ length (asks_of (till_number l.initial.till) (take l.ask-index l.asks));
 }

@@ -9,7 +9,8 @@ abbrev pub invariant-loop-job : goal.invariant-loop-job
 invariant-loop-job g l = record {
   shop : tills_shop l.tills ≡ tills_shop l.fn.tills;
   made : made_tills l.tills ≡ made_tills l.fn.tills;
-  back : (out : List (Job g.row.D.Denot g.row.C.Denot)) × (l.fn.jobs.items ≡ l.jobs.items ++ out) × (l.days.items ≡ reverse (map day_of out)) × (tills_know l.tills ≡ reverse (map job_knows out));
+  back : (out : List (Job g.row.D.Denot g.row.C.Denot)) × (l.fn.jobs.items ≡ l.jobs.items ++ out) ×
+      (l.days.items ≡ reverse (map day_of out)) × (tills_know l.tills ≡ reverse (map job_knows out));
   space : vec_len l.days + vec_len l.jobs ≤ vec_capacity l.days;
   count : length (numbers l.tills) + vec_len l.jobs ≤ made_tills l.tills;
   own : All (λ j. till_shop j.till ≡ tills_shop l.tills) l.jobs.items;
