@@ -13,9 +13,15 @@ use std::marker::Brand;
 use std::sync::Wait;
 use std::sync::atomic::AtomicU64;
 use std::sync::atomic::Ordering::SeqCst;
+use std::time::Duration;
 
 // How often a thread looks for a free turn before it sleeps, at most.
 const LOOKS: u32 = 100;
+
+// How often one that was woken naps between its looks, at most, and for how many microseconds.
+const NAPS: u32 = 20;
+
+const NAP: u64 = 50;
 
 /// A lock over one value. One pass at a time has the turn and works on the value; any other can read how many items
 /// there are without waiting for it.
@@ -96,6 +102,20 @@ impl<V: Recorded> ChainLock<V> {
         }
     }
 
+    // One that was woken looks for a free turn between naps. There is no note meanwhile, so whoever has the turn can take some
+    // more and wakes nobody.
+    fn follow<R: Wait>(&self, rt: &R)
+        requires { 1 < self.now.board.shared.table_id.words }
+    {
+        for _ in 0..NAPS {
+            self.spin();
+            if self.board.shared.peek(1) == 0 {
+                return;
+            }
+            self.asleep.park_timeout(rt, 0, Duration::from_micros(NAP));
+        }
+    }
+
     // Waits until the turn may be free. Whoever notes a sleeper looks at the turn afterwards, so who frees it later
     // wakes one. One that was woken makes the note again, since others may sleep on.
     fn rest<R: Wait>(&self, rt: &R)
@@ -105,6 +125,7 @@ impl<V: Recorded> ChainLock<V> {
         self.note_sleeper();
         if self.board.shared.peek(1) != 0 {
             self.asleep.park(rt, 1);
+            self.follow(rt);
             self.note_sleeper();
         }
     }
