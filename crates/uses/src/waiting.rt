@@ -1,0 +1,62 @@
+// The records that wait, and the agency's lines for them.
+ghost use Rattle.std.specs.Prelude.{◌≡◌, ◌++◌, ◌∷◌, [], IfOk, IsTrue, OnErr, OnOk, take};
+ghost use Rattle.chain_disk.specs.Told.{LeavesNow};
+ghost use Rattle.chain_store.specs.Ready.{noted_next};
+ghost use Rattle.chain_store.specs.Store.{Ready, journal_of, state_of};
+ghost use Rattle.journal.specs.Journal.{disk_of};
+ghost use Rattle.record_fields.specs.declared.lines.TheConstants.{BATCH};
+ghost use Rattle.shop_core.specs.Files.{StandsFor};
+ghost use Rattle.shop_core.specs.History.{waiting};
+
+use chain_disk::Disk;
+use chain_store::Store;
+use journal::StoreFault;
+use ports::{Clock, NoMemory};
+use record_fields::{BATCH, Line, SealedList};
+use std::alloc::Global;
+
+/// The first records that wait for a line of the agency, in their order: a batch to hand over.
+pub fn first_waiting<D: Disk, C: Clock>(
+    alloc: Global,
+    store: &Store<D, C>,
+) -> Result<SealedList, NoMemory>
+    ensures { IfOk result (λ list. list ≡ take BATCH (waiting (state_of store.now).entries)) }
+{
+    Ok(store.waiting(alloc, BATCH)?.list)
+}
+
+/// Why lines were not noted.
+#[derive(Clone, Copy, Debug, PartialEq, Eq)]
+pub enum NotNoted {
+    /// There is no line, there are more than `BATCH`, or fewer records wait.
+    Count,
+    Store(StoreFault),
+}
+
+/// Notes the agency's lines for the first records that wait: one line each, in their order.
+pub fn note_lines<D: Disk, C: Clock>(
+    alloc: Global,
+    store: &mut Store<D, C>,
+    lines: &[Line],
+) -> Result<(), NotNoted>
+    requires { Ready D.tells D.told store.old }
+    ensures ready { Ready D.tells D.told store.new }
+    ensures noted { OnOk result ((state_of store.new).entries
+        ≡ (state_of store.old).entries ++ noted_next (state_of store.old).entries lines.now ∷ []) }
+    ensures same { OnErr result ((state_of store.new).entries ≡ (state_of store.old).entries) }
+    ensures kept { OnOk result (IsTrue D.tells → LeavesNow (D.told (disk_of (journal_of store.new)))
+        (StandsFor (state_of store.new).issuer (state_of store.new).entries)) }
+{
+    let count = lines.len();
+    if count < 1 || count > BATCH as usize {
+        return Err(NotNoted::Count);
+    }
+    let state = store.state();
+    if state.noted() as usize + count > state.records() as usize {
+        return Err(NotNoted::Count);
+    }
+    match store.note(alloc, lines) {
+        Ok(()) => Ok(()),
+        Err(fault) => Err(NotNoted::Store(fault)),
+    }
+}
