@@ -1,0 +1,144 @@
+// A sender's turns, one by one, and records that are added between them.
+use crate::shops::{NEXT_DAY, practice, shop_of, with_sales};
+use agency_port::Agency;
+use agency_rules::{Fate, PlannedFate};
+use once_world::PlainOutbox;
+use sender::{SendFault, Sender, Turn};
+use std::alloc::Global;
+use std::sync::Wait;
+use std::test::Fail;
+
+/// What happens next.
+#[derive(Clone, Copy)]
+pub enum Step {
+    /// So many sales are made.
+    Sell(u32),
+    /// A turn, so many seconds after `NEXT_DAY`.
+    Turn(u64),
+}
+
+/// What turns answered.
+pub type Answers = Vec<Result<Turn, SendFault>>;
+
+// A new sender over a shop that begins empty.
+pub fn answers<G: Agency>(
+    rt: &(impl AllocGlobal + Wait),
+    agency: &mut G,
+    steps: &[Step],
+) -> Result<Answers, Fail> {
+    let alloc = rt.alloc();
+    let mut sender = Sender::new();
+    let mut shop = shop_of(alloc, 0)?;
+    let mut answers = Vec::new(alloc);
+    for step in steps {
+        match step {
+            Step::Sell(sales) => shop = with_more(alloc, shop, *sales)?,
+            Step::Turn(after) => {
+                let now = NEXT_DAY.saturating_add(*after);
+                answers.push(sender.turn(rt, alloc, &mut shop, agency, now))?;
+            }
+        }
+    }
+    Ok(answers)
+}
+
+// The shop with so many sales more.
+fn with_more(alloc: Global, shop: PlainOutbox, sales: u32) -> Result<PlainOutbox, Fail> {
+    let state = with_sales(alloc, shop.into_state(), sales)?;
+    Ok(PlainOutbox::new(alloc, state))
+}
+
+// The turns under one fate at the second call.
+fn answers_under(
+    rt: &(impl AllocGlobal + Wait),
+    fate: Fate,
+    steps: &[Step],
+) -> Result<Answers, Fail> {
+    let mut agency = practice(rt.alloc(), &[PlannedFate { call: 2, fate }])?;
+    answers(rt, &mut agency, steps)
+}
+
+#[test]
+fn a_full_batch_waits_for_no_second(rt: HostRuntime) -> Result<(), Fail> {
+    let steps = [
+        Step::Turn(0),
+        Step::Sell(1),
+        Step::Turn(0),
+        Step::Sell(1),
+        Step::Turn(0),
+        Step::Sell(999),
+        Step::Turn(0),
+        Step::Sell(1),
+        Step::Turn(0),
+        Step::Turn(0),
+    ];
+    let mut agency = practice(rt.alloc(), &[])?;
+    let said = answers(&rt, &mut agency, &steps)?;
+    let wanted = [
+        Ok(Turn::Idle { records: 0 }),
+        Ok(Turn::Cleared),
+        Ok(Turn::Noted { n: 2 }),
+        Ok(Turn::WaitUntil(NEXT_DAY + 60)),
+        Ok(Turn::Noted { n: 1000 }),
+        Ok(Turn::Idle { records: 1002 }),
+    ];
+    assert_eq!(rt; said.as_slice(), wanted.as_slice());
+    assert_eq!(rt; agency.processed().len(), 1002);
+    Ok(())
+}
+
+// The batch came, and its answer was lost.
+#[test]
+fn a_record_behind_a_lost_answer(rt: HostRuntime) -> Result<(), Fail> {
+    let steps = [
+        Step::Sell(2),
+        Step::Turn(0),
+        Step::Turn(0),
+        Step::Sell(1),
+        Step::Turn(0),
+        Step::Turn(0),
+        Step::Turn(60),
+        Step::Turn(60),
+    ];
+    let wanted = [
+        Ok(Turn::Cleared),
+        Err(SendFault::LinkFault),
+        Ok(Turn::Noted { n: 2 }),
+        Ok(Turn::WaitUntil(NEXT_DAY + 60)),
+        Ok(Turn::Noted { n: 1 }),
+        Ok(Turn::Idle { records: 3 }),
+    ];
+    for fate in [Fate::Taken, Fate::Stale] {
+        let said = answers_under(&rt, fate, &steps)?;
+        assert_eq!(rt; said.as_slice(), wanted.as_slice(), "at {fate:?}");
+    }
+    Ok(())
+}
+
+// The batch comes with the next one.
+#[test]
+fn a_record_behind_a_late_batch(rt: HostRuntime) -> Result<(), Fail> {
+    let steps = [
+        Step::Sell(2),
+        Step::Turn(0),
+        Step::Turn(0),
+        Step::Sell(1),
+        Step::Turn(0),
+        Step::Turn(0),
+        Step::Turn(60),
+        Step::Turn(60),
+        Step::Turn(60),
+    ];
+    let wanted = [
+        Ok(Turn::Cleared),
+        Err(SendFault::LinkFault),
+        Ok(Turn::Cleared),
+        Ok(Turn::WaitUntil(NEXT_DAY + 60)),
+        Ok(Turn::Doubt { place: 1 }),
+        Ok(Turn::Noted { n: 3 }),
+        Ok(Turn::Idle { records: 3 }),
+    ];
+    let said = answers_under(&rt, Fate::Late(2), &steps)?;
+    assert_eq!(rt; said.as_slice(), wanted.as_slice());
+    Ok(())
+}
