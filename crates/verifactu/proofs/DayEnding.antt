@@ -1,15 +1,14 @@
 -- How a day ends, and what its clause says of the whole call.
-use Rattle.std.proofs.Common.{◌≡◌, ◌⊎◌, inl, inr, ℕ, ◌+◌, ◌-◌, ◌^◌, ◌<◌, ◌≤◌, List, [], ◌∷◌, ◌++◌, length, map, sym, ◌∙◌, ap}
-use Rattle.std.proofs.Common.{subst, refl, arith, append_assoc, Bool, true, false, IsTrue, Option, Some, None, Result, Ok, Err}
+use Rattle.std.proofs.Common.{◌≡◌, ◌⊎◌, inl, inr, ℕ, ◌+◌, ◌-◌, ◌^◌, ◌<◌, ◌≤◌, List, [], ◌∷◌, length, map, sym, ◌∙◌, ap}
+use Rattle.std.proofs.Common.{subst, refl, arith, Bool, true, false, IsTrue, Option, Some, None, Result, Ok, Err}
 use Rattle.std.specs.Prelude.{◌≢◌, Contains, IsErrOf}
 use Rattle.std.specs.List.{AllByRecursion, list_any, range_with_len}
 use Rattle.std.proofs.lemmas.List.{append-nil}
 use Rattle.std.proofs.lemmas.List.Elements.{All-contains, filter_passes}
-use Rattle.chain_disk.specs.Told.{Told, IsImage, LeavesNow, LeavesOnly, synced}
+use Rattle.chain_disk.specs.Told.{IsImage, LeavesNow, LeavesOnly, synced}
 use Rattle.chain_disk.specs.Runs.{follows, weaker}
 use Rattle.chain_disk.specs.Disks.{DiskRose, Disks, this_disk}
 use Rattle.huella.specs.Linked.{Linked}
-use Rattle.journal.specs.declared.faults.StoreFault.{StoreFault}
 use Rattle.journal.specs.declared.faults.StoreFault.TheVariants.{DiskFault, Stopped, NoMemory}
 use Rattle.ports.specs.Causes.{Rose}
 use Rattle.ports.specs.Readings.{IsTold}
@@ -22,7 +21,7 @@ use Rattle.report.specs.declared.ended.Detail.TheVariants as detail
 use Rattle.agency_rules.specs.declared.plans.Plan.{Plan}
 use Rattle.agency_port.specs.declared.turns.Evidence.{Evidence}
 use Rattle.once_world.specs.Agreement.{Agree}
-use Rattle.sender.specs.Turning.{Desk, Kind}
+use Rattle.sender.specs.Turning.{Desk}
 use Rattle.sender.specs.declared.answers.DrainFault.{DrainFault}
 use Rattle.sender.specs.declared.answers.DrainFault.TheVariants as drain
 use Rattle.sender.specs.declared.draining.TheConstants.{MAX_LINK_FAULTS}
@@ -32,15 +31,14 @@ use Rattle.shop_core.specs.Asked.{Asked}
 use Rattle.shop_core.specs.Files.{StandsFor}
 use Rattle.shop_core.specs.History.{recs, noted}
 use Rattle.shop_core.specs.Legal.{Legal}
-use Rattle.till_calls.specs.Root.{Parts, root_of}
-use Rattle.till_calls.specs.Sound.{IsLater, IsSound}
-use Rattle.verifactu.specs.Beside.{DayRunEnds, DaySession, DaySpan, IsUnbegun, KeptDay, SendsBeside, ShowsLast, StaysAgreed}
-use Rattle.verifactu.specs.Beside.{day_from}
+use Rattle.till_calls.specs.Root.{Parts}
+use Rattle.till_calls.specs.Sound.{IsLater}
+use Rattle.verifactu.specs.Beside.{DayRunEnds, DaySession, DaySpan, IsUnbegun, KeptDay, ShowsLast, StaysAgreed}
 use Rattle.verifactu.specs.Beside.DayRunEnds.{done, write_fault, undelivered, contradiction, disk_fault, no_memory}
 use Rattle.verifactu.specs.Crashes.{IsPrefix, Kept, StandsBetween, StandsForEnd, StandsSince}
-use Rattle.verifactu.specs.Day.{DayEnds, DayServed, LeftTime, NotServed, Served, ShopLeft, ShopRan, StoreDay, StoreDayEnds}
+use Rattle.verifactu.specs.Day.{DayEnds, DayServed, LeftTime, NotServed, Served, ShopLeft, ShopRan, StoreDayEnds}
 use Rattle.verifactu.specs.Day.{StoreKind, TillsEnd, day_text, span_of}
-use Rattle.verifactu.specs.Devices.{Agencies, AllDevices, Clocks, LeftClock, LeftSleeper, Sleepers, this_clock}
+use Rattle.verifactu.specs.Devices.{Agencies, AllDevices, Clocks, LeftSleeper, Sleepers, this_clock}
 use Rattle.verifactu.specs.Drain.{AgreesAtStart, AllLeft, LeavesTime, NothingRose, desk_after, desk_before, kind_of}
 use Rattle.verifactu.specs.Drained.{AgreesInFile, IsDiskAnswer, IsFaultless, IsOpened, noted_pairs, torn_in}
 use Rattle.verifactu.specs.Readings.{readings_of}

@@ -15,7 +15,7 @@ use Rattle.agency_port.specs.Sessions.{kept_reply}
 use Rattle.agency_port.specs.declared.turns.Evidence.{Evidence}
 use Rattle.once_world.specs.Agreement.{Agree}
 use Rattle.once_world.specs.Laws.{RecordsKeepAgreement}
-use Rattle.once_world.specs.Outbox.{Sight, history_of, plain_sight}
+use Rattle.once_world.specs.Outbox.{Sight, history_of}
 use Rattle.till_calls.specs.Mark.{sight_by}
 use Rattle.till_calls.specs.Root.{Parts, Root, items_in}
 use Rattle.till_calls.specs.Sound.{IsSound}

@@ -14,7 +14,7 @@ use Rattle.record_codec.specs.declared.entries.Entry.{Entry}
 use Rattle.shop_core.specs.Asked.{Asked}
 use Rattle.shop_core.specs.declared.items.Item.{Item}
 use Rattle.till_calls.specs.Laws.{AddsForNoOther, AddsWhatIsTaken}
-use Rattle.till_calls.specs.Own.{AreTaken, OwnsNone, is_of, records_of}
+use Rattle.till_calls.specs.Own.{AreTaken, OwnsNone, records_of}
 use Rattle.till_calls.specs.Root.{Root}
 use Rattle.till_calls.specs.Runs.TillRun.{begun}
 use Rattle.verifactu.specs.Tills.{asks_of}

@@ -1,15 +1,13 @@
 -- Turns of a day's sender, one after another.
-use Rattle.std.proofs.Common.{◌≡◌, ◌⊎◌, inl, inr, ℕ, ◌+◌, ◌-◌, ◌^◌, ◌<◌, ◌≤◌, List, [], ◌∷◌, ◌++◌, refl, sym, ◌∙◌, ap, subst}
-use Rattle.std.proofs.Common.{length, drop, Bool, false, IsTrue, Option, Result, Ok, Err, Some, slice_get, append_assoc}
+use Rattle.std.proofs.Common.{◌≡◌, ◌⊎◌, inl, inr, ℕ, ◌<◌, ◌≤◌, List, [], ◌∷◌, ◌++◌, refl, sym, ◌∙◌, ap, subst}
+use Rattle.std.proofs.Common.{length, drop, Bool, false, IsTrue, Result, Ok, Err, Some, slice_get, append_assoc}
 use Rattle.std.proofs.Common.{append-nil, arith}
 use Rattle.std.specs.Prelude.{Contains, IsErrOf, is_err}
-use Rattle.std.specs.List.{AllByRecursion}
 use Rattle.std.proofs.Math.Seq.{drop-append_seam}
 use Rattle.std.proofs.lemmas.List.Elements.{Contains-append_cases}
 use Rattle.std.proofs.lemmas.Option.{slice_get_within}
 use Rattle.record_fields.specs.declared.records.Sealed.{Sealed}
 use Rattle.record_fields.specs.declared.lines.Line.{Line}
-use Rattle.journal.specs.declared.faults.StoreFault.{StoreFault}
 use Rattle.journal.specs.declared.faults.StoreFault.TheVariants as store
 use Rattle.record_codec.specs.declared.entries.Entry.{Entry}
 use Rattle.shop_core.specs.declared.items.Item.{Item}
@@ -17,20 +15,19 @@ use Rattle.shop_core.specs.declared.items.Item.TheVariants as item
 use Rattle.agency_port.specs.declared.messages.Message.{Message}
 use Rattle.agency_port.specs.declared.turns.Evidence.{Evidence}
 use Rattle.agency_port.specs.declared.turns.Told.{Told}
-use Rattle.once_world.specs.Agreement.{IsPrefix, Agree}
+use Rattle.once_world.specs.Agreement.{Agree}
 use Rattle.once_world.specs.Outbox.{Sight, history_of, GainsOwnNotes}
 use Rattle.sender.specs.declared.answers.Turn.{Turn}
 use Rattle.sender.specs.declared.answers.SendFault.{SendFault}
 use Rattle.sender.specs.declared.answers.SendFault.TheVariants as send
 use Rattle.sender.specs.declared.answers.DrainFault.{DrainFault}
 use Rattle.sender.specs.declared.answers.DrainFault.TheVariants as drain
-use Rattle.sender.specs.declared.draining.TheConstants.{MAX_LINK_FAULTS}
-use Rattle.sender.specs.Agreeing.{Adds, AgreesIfTorn, AreNotes, AreNotesOrTorn, Gains, HasAt, InSession, IsCareful}
-use Rattle.sender.specs.Agreeing.{KeepsAgreement, KeepsSession}
+use Rattle.sender.specs.Agreeing.{Adds, AreNotes, AreNotesOrTorn, HasAt, InSession}
+use Rattle.sender.specs.Agreeing.{KeepsAgreement}
 use Rattle.sender.specs.Draining.{Drained, EndsWith, Scene, Turns, none, more}
-use Rattle.sender.specs.Lines.{IsCall, SaysCalls}
+use Rattle.sender.specs.Lines.{IsCall}
 use Rattle.sender.specs.Sending.{Sending}
-use Rattle.sender.specs.Turning.{Desk, Ends, Kind, Turned}
+use Rattle.sender.specs.Turning.{Desk, Kind, Turned}
 use Rattle.sender.proofs.Adding.{adds_none, adds_then, has_front}
 use Rattle.sender.proofs.Causes.{turn_later}
 use Rattle.sender.proofs.Growing.{Growth, all_contained, gains_each}
@@ -38,7 +35,7 @@ use Rattle.sender.proofs.Lists.{all_both, all_change}
 use Rattle.verifactu.specs.Beside.{EndsStopped, FailsEightTimes, SendsOn, sending_end}
 use Rattle.verifactu.specs.Drained.{IsDiskAnswer, IsFaultless}
 use Rattle.verifactu.proofs.Contrary.{shows_nothing}
-use Rattle.verifactu.proofs.Stops.{IsDisk, drained_stopped, ends_stopped, get_seam, untorn_adds}
+use Rattle.verifactu.proofs.Stops.{ends_stopped, get_seam}
 
 growth_of : (P : Item → Type 0) (a b : Sight) → Adds P a b → Growth a b
 growth_of P a b g = record {

@@ -1,11 +1,10 @@
 -- What a day's sender leaves of its shop and of its agency, and how a day ends.
 use Rattle.std.specs.Prelude.{◌≡◌, ◌⊎◌, ℕ, ◌+◌, ◌-◌, ◌^◌, ◌<◌, ◌≤◌, List, [], ◌∷◌, ◌++◌, length, Bool, true, false, IsTrue}
 use Rattle.std.specs.Prelude.{IsErrOf}
-use Rattle.std.specs.Prelude.{Option, Result, Ok, Err}
+use Rattle.std.specs.Prelude.{Result, Ok, Err}
 use Rattle.std.specs.List.{list_any}
 use Rattle.ports.specs.Sinks.{Sinks, Wrote, FailedIn, WrotePart}
 use Rattle.chain_disk.specs.Told.{Told, LeavesNow, LeavesOnly}
-use Rattle.journal.specs.declared.faults.StoreFault.{StoreFault}
 use Rattle.journal.specs.declared.faults.StoreFault.TheVariants as store
 use Rattle.record_codec.specs.declared.entries.Entry.{Entry}
 use Rattle.batches.specs.Batches.{huellas_of}

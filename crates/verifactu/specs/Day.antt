@@ -1,6 +1,6 @@
 -- How `day` ends.
 use Rattle.std.specs.Prelude.{◌≡◌, ◌⊎◌, ◌≤◌, ◌<◌, ◌+◌, ◌-◌, ◌^◌, ℕ, Bool, false, List, [], ◌∷◌, ◌++◌, drop, flat_map, length, map}
-use Rattle.std.specs.Prelude.{IsTrue, Option, Some, None, Result}
+use Rattle.std.specs.Prelude.{IsTrue, Option, Result}
 use Rattle.std.specs.List.{AllByRecursion}
 use Rattle.ports.specs.Sinks.{Sinks, WroteNothing}
 use Rattle.chain_disk.specs.Told.{LeavesNow, Told, synced}

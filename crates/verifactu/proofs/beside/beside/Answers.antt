@@ -1,8 +1,7 @@
 use mir.Syntax.{erased, of_param}
-use denote.Exit.{yes, no, unseen}
-use denote.Param.{arg, param, layout}
+use denote.Exit.{no}
 use denote.Param.Send.{Quiet-if, shr_slice_send}
-use Rattle.std.proofs.Crossing.{crosses, send as heap_send}
+use Rattle.std.proofs.Crossing.{send as heap_send}
 use Rattle.till_calls.proofs.Sent.{shop_sync}
 use Rattle.verifactu.proofs.Sent.{ask_sync, flag_sync, jobs_send}
 use Rattle.verifactu.proofs.beside.beside.Goals as goal

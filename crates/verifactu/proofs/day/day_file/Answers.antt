@@ -1,5 +1,4 @@
 use Rattle.std.proofs.Common.{rules, ◌≡◌, inl, inr, map, refl, subst, All, List}
-use Rattle.chain_disk.specs.Disks.{this_disk}
 use Rattle.file_commands.proofs.Bytewise.{took_nothing}
 use Rattle.ports.specs.Sinks.{this_sink}
 use Rattle.shop_core.specs.Asked.{Asked}

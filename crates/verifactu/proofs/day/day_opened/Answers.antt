@@ -1,10 +1,10 @@
-use Rattle.std.proofs.Common.{◌≡◌, ◌∙◌, ℕ, List, inl, inr, refl, sym, ap, subst, map, All}
+use Rattle.std.proofs.Common.{◌≡◌, ◌∙◌, List, inl, inr, sym, ap, subst, map, All}
 use Rattle.file_commands.proofs.Bytewise.{took_nothing}
 use Rattle.ports.specs.Sinks.{this_sink}
 use Rattle.shop_core.specs.Asked.{Asked}
 use Rattle.shop_core.specs.History.{History}
 use Rattle.sender.specs.Turning.{Desk, Kind}
-use Rattle.till_calls.specs.Root.{Parts, parts_of}
+use Rattle.till_calls.specs.Root.{parts_of}
 use Rattle.verifactu.specs.Day.{StoreServed}
 use Rattle.verifactu.specs.Drained.{IsOpened}
 use Rattle.verifactu.specs.Tills.{tills_of}

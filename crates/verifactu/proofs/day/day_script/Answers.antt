@@ -1,9 +1,9 @@
-use Rattle.std.proofs.Common.{ℕ, sym, subst, refl, Some, None, Option}
+use Rattle.std.proofs.Common.{ℕ, sym, subst, refl, Some, Option}
 use Rattle.chain_disk.specs.Disks.{this_disk}
 use Rattle.ports.specs.Counting.{counting}
 use Rattle.ports.specs.Sinks.{this_sink}
 use Rattle.verifactu.specs.Day.{LeftTime, TillsEnd}
-use Rattle.verifactu.specs.Devices.{Agencies, Clocks, Sleepers, this_clock, this_sleeper}
+use Rattle.verifactu.specs.Devices.{Agencies, this_clock, this_sleeper}
 use Rattle.verifactu.specs.Drain.{AllLeft, LeavesTime}
 use Rattle.verifactu.specs.Readings.{readings_of}
 use Rattle.verifactu.proofs.DayEnding.{tills_by}

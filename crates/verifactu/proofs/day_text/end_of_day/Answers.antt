@@ -1,4 +1,4 @@
-use Rattle.std.proofs.Common.{◌≡◌, ◌∙◌, map, sym, inl, subst, Result, true}
+use Rattle.std.proofs.Common.{◌∙◌, map, sym, inl, subst}
 use Rattle.report.specs.declared.ended.Detail.{Detail}
 use Rattle.verifactu.specs.Beside.{DayRunEnds}
 use Rattle.verifactu.specs.Beside.DayRunEnds.{done, write_fault, disk_fault, no_memory}

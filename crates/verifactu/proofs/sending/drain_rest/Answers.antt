@@ -1,6 +1,5 @@
-use Rattle.std.proofs.Common.{◌≡◌, ◌∙◌, sym, ap, subst, false, Result, Bool}
+use Rattle.std.proofs.Common.{◌∙◌, sym, subst, Result}
 use Rattle.chain_lock.specs.Known.{Known}
-use Rattle.once_world.specs.Outbox.{Sight}
 use Rattle.sender.specs.Turning.{Desk, Kind}
 use Rattle.sender.specs.declared.answers.DrainFault.{DrainFault}
 use Rattle.shop_core.specs.declared.items.Item.{Item}

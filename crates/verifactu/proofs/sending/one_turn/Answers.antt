@@ -1,7 +1,7 @@
 use Rattle.std.proofs.Common.{sym, subst, Result}
 use Rattle.sender.specs.Turning.{Desk, Kind}
 use Rattle.sender.specs.declared.answers.DrainFault.{DrainFault}
-use Rattle.verifactu.specs.Beside.{SendsOn, sending_end}
+use Rattle.verifactu.specs.Beside.{SendsOn}
 use Rattle.verifactu.proofs.Contrary.{turn_answers, turn_shows}
 use Rattle.verifactu.proofs.Turns.{delivers_end, never_end, stopped_end, untorn_end}
 use Rattle.verifactu.proofs.sending.one_turn.Goals as goal

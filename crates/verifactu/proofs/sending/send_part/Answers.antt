@@ -1,4 +1,4 @@
-use Rattle.std.proofs.Common.{◌∙◌, sym, ap, subst, ℕ}
+use Rattle.std.proofs.Common.{sym, subst}
 use Rattle.chain_lock.specs.Known.{Known}
 use Rattle.sender.specs.Sending.{Sending}
 use Rattle.sender.specs.Turning.{Desk, Kind}

@@ -1,4 +1,4 @@
-use Rattle.std.proofs.Common.{◌∙◌, refl, sym, subst, Ok, Err, Result}
+use Rattle.std.proofs.Common.{◌∙◌, refl, subst, Ok, Result}
 use Rattle.sender.specs.Turning.{Desk, Kind}
 use Rattle.sender.specs.declared.answers.DrainFault.{DrainFault}
 use Rattle.verifactu.specs.Beside.{SendsOn}

@@ -1,15 +1,14 @@
-use Rattle.std.proofs.Common.{◌≡◌, ◌≤◌, ◌∙◌, ℕ, List, [], length, map, refl, rules, sym, ap, arith, vec_capacity}
+use Rattle.std.proofs.Common.{◌≡◌, ◌≤◌, ◌∙◌, List, [], length, map, refl, rules, sym, ap, arith, vec_capacity}
 use Rattle.std.proofs.lemmas.List.{length-map, length-reverse}
-use Rattle.chain_lock.specs.Known.{Known}
 use Rattle.record_codec.specs.declared.entries.Entry.{Entry}
 use Rattle.shop_core.specs.declared.items.Item.{Item}
 use Rattle.shop_core.specs.declared.items.Item.TheVariants as item
-use Rattle.till_calls.specs.Mark.{Mark, sight_by}
-use Rattle.till_calls.specs.Root.{Root, items_in, parts_of}
+use Rattle.till_calls.specs.Mark.{Mark}
+use Rattle.till_calls.specs.Root.{items_in, parts_of}
 use Rattle.till_calls.specs.Shop.{first_items, seat_knows, shop_root, tills_know}
 use Rattle.sender.specs.Turning.{Desk, Kind}
 use Rattle.verifactu.specs.Tills.{asks_of}
-use Rattle.verifactu.specs.Works.{day_of, told_in}
+use Rattle.verifactu.specs.Works.{day_of}
 use Rattle.verifactu.specs.declared.tills.TillDay.{TillDay}
 use Rattle.verifactu.proofs.DayRuns.{ended, held_again, same_days, shared}
 use Rattle.verifactu.proofs.Jobs.{all_turned, ran_as}
