@@ -1,0 +1,123 @@
+// The bytes of the file were made by another program, and its Huellas are SHA-256 of the field texts by that program.
+use audit::audit;
+use chain_disk::MemDisk;
+use chain_store::{LoadFault, Loaded, load};
+use shop_core::AuditEnd;
+use std::alloc::Global;
+use std::test::Fail;
+
+// A header, two sales and the closing gate; the gates are at the bytes 19, 97 and 215.
+const FILE: &[u8; 216] = b"\
+\x01VFCHAIN1\x0189890001K\
+\x01\x00\x00\x00I\x01\x01\x00\x00\x00\x01\x03A-1\x00\x00Ny\x01\x00\x00\x00\x01\x00\x00\x00\x00\x00\x00\x00'\x10\x00\x00\x00\x00\x00\x00\x00gu\x04\x10\x00<\
+\xd8\x8bB\xf8\xd1\x1cN\xa2\x11%\x02\xec\x99/\x05Z~\x94\xf7\x96\xd6p\x955\x9b\x94jJ[\x03\xe6\x16\
+\x01\x00\x00\x00q\x01\x01\x00\x00\x00\x02\x03A-2\x00\x00Ny\x01\x00\x00\x00\x01\x01\x00\x00\x00\x00\x00\x00\x03\xe8\x00\x00\x01\x03A-1\x00\x00Ny\
+\xd8\x8bB\xf8\xd1\x1cN\xa2\x11%\x02\xec\x99/\x05Z~\x94\xf7\x96\xd6p\x955\x9b\x94jJ[\x03\xe6\x16\
+\x00\x00\x00\x00gu\x04\x10\x00<\
+C\xabz\x8di\x98\xf4\x96-\x87\xf4\xc4\xf3\xc7\xa7\x1f\xa9\x10\xca\xb9\x82\xcd\xb1\xe0\x8a\xe6\xbf\x91\x8b\xaewc\
+\x00";
+
+// What a reader finds: so many records, or a damage at a byte.
+#[derive(Clone, Copy, PartialEq, Eq)]
+enum Found {
+    Records(u32),
+    Damage(u64),
+}
+
+fn disk_with(alloc: Global, bytes: &[u8]) -> Result<MemDisk, Fail> {
+    Ok(MemDisk::new(alloc, Vec::from_slice(alloc, bytes)?, Vec::new(alloc)))
+}
+
+fn loaded(alloc: Global, bytes: &[u8]) -> Result<Found, Fail> {
+    let mut disk = disk_with(alloc, bytes)?;
+    match load(alloc, &mut disk) {
+        Ok(Loaded::NotBegun) => Ok(Found::Records(0)),
+        Ok(Loaded::Begun { state, .. }) => Ok(Found::Records(state.records())),
+        Err(LoadFault::Damaged { at }) => Ok(Found::Damage(at)),
+        Err(_) => Err(Fail::from("a file that is read")),
+    }
+}
+
+fn audited(alloc: Global, bytes: &[u8]) -> Result<Found, Fail> {
+    let mut disk = disk_with(alloc, bytes)?;
+    match audit(alloc, &mut disk) {
+        Ok(AuditEnd::Sound { records, .. }) => Ok(Found::Records(records)),
+        Ok(AuditEnd::Broken { at, .. }) => Ok(Found::Damage(at)),
+        Err(_) => Err(Fail::from("a file that is audited")),
+    }
+}
+
+// What is found of the file with the byte at this place changed. No Huella covers a till's serials: one of the second sale may be
+// any that is greater than the first one's. A gate that isn't 1 closes the file, and a closing gate that is 1 opens no frame.
+fn changed(at: usize, byte: u8) -> Found {
+    match at {
+        0 => Found::Damage(0),
+        1..=8 => Found::Damage(1),
+        9 => Found::Damage(9),
+        10..=18 => Found::Damage(10),
+        19 => Found::Records(0),
+        26..=28 => Found::Damage(97),
+        29 => Found::Damage(if byte == 0 { 19 } else { 97 }),
+        20..=96 => Found::Damage(19),
+        97 => Found::Records(1),
+        104..=107 => Found::Records(2),
+        98..=214 => Found::Damage(97),
+        _ => {
+            if byte == 1 {
+                Found::Damage(215)
+            } else {
+                Found::Records(2)
+            }
+        }
+    }
+}
+
+// Both readers find this of a file of these bytes.
+fn is_found(alloc: Global, bytes: &[u8], wanted: Found) -> Result<bool, Fail> {
+    Ok(loaded(alloc, bytes)? == wanted && audited(alloc, bytes)? == wanted)
+}
+
+// The file with these bits of the byte at this place flipped.
+fn flipped(at: usize, bits: u8) -> Result<([u8; 216], u8), Fail> {
+    let mut file = *FILE;
+    let place = file.get_mut(at).ok_or("a byte of the file")?;
+    *place ^= bits;
+    let byte = *place;
+    Ok((file, byte))
+}
+
+#[test]
+fn each_byte_of_a_file_changes_in_turn(rt: HostRuntime) -> Result<(), Fail> {
+    let alloc = rt.alloc();
+    for bits in [1u8, 0x80, 0xff] {
+        for at in 0..216usize {
+            let (file, byte) = flipped(at, bits)?;
+            assert!(rt;
+                is_found(alloc, &file, changed(at, byte))?,
+                "byte {at} is {byte}"
+            );
+        }
+    }
+    Ok(())
+}
+
+// What is found of so many first bytes of the file.
+fn cut_to(left: usize) -> Found {
+    match left {
+        0..=1 => Found::Records(0),
+        2..=19 => Found::Damage(left as u64),
+        20..=97 => Found::Damage(19),
+        98..=215 => Found::Damage(97),
+        _ => Found::Records(2),
+    }
+}
+
+#[test]
+fn a_file_is_cut_at_each_byte(rt: HostRuntime) -> Result<(), Fail> {
+    let alloc = rt.alloc();
+    for left in 0..217usize {
+        let front = FILE.get(..left).ok_or("a front of the file")?;
+        assert!(rt; is_found(alloc, front, cut_to(left))?, "{left} bytes");
+    }
+    Ok(())
+}
