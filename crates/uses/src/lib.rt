@@ -7,6 +7,8 @@
 mod auditing;
 mod linking;
 mod taking;
+#[cfg(test)]
+mod tests;
 mod waiting;
 
 pub use auditing::audit_a_file;

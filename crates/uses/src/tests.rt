@@ -1,0 +1,156 @@
+// Huellas are SHA-256, by another program, of the records' field texts.
+ghost use Rattle.std.specs.Prelude.{IfOk};
+ghost use Rattle.chain_store.specs.Store.{Ready};
+
+use crate::{
+    NoTicket, NotNoted, Ticket, audit_a_file, counter_sale, first_waiting, link_of_a_sale,
+    note_lines, open_and_take, print_ticket,
+};
+use amounts::Cents;
+use chain_disk::{Disk, MemDisk};
+use chain_store::{OpenCause, Store};
+use parties::Nif;
+use ports::{Clock, CountingClock};
+use record_fields::Line;
+use recovery::open_store;
+use series::{NumSerie, SeriesName};
+use shop_core::Ask;
+use std::alloc::Global;
+use std::test::Fail;
+use verify_link::Host;
+
+// 2025-01-01, 10:00 on the peninsular clock.
+const TEN: u64 = 1_735_722_000;
+
+const LINK: &[u8] = b"https://www2.agenciatributaria.gob.es/wlpl/TIKE-CONT/ValidarQR\
+?nif=89890001K&numserie=A-1&fecha=01-01-2025&importe=121.00";
+
+const TICKET: &[u8] = b"D88B42F8D11C4EA2112502EC992F055A7E94F796D67095359B946A4A5B03E616\n\
+https://www2.agenciatributaria.gob.es/wlpl/TIKE-CONT/ValidarQR\
+?nif=89890001K&numserie=A-1&fecha=01-01-2025&importe=121.00\n";
+
+fn issuer() -> Result<Nif, Fail> {
+    Ok(Nif::read("89890001K").ok().ok_or("a tax number")?)
+}
+
+// A sale of 100 euros by till 1 in the series A.
+fn ask(alloc: Global, serial: u32) -> Result<Ask, Fail> {
+    if serial < 1 {
+        return Err(Fail::from("a serial"));
+    }
+    let series = SeriesName::read("A").ok_or("a series")?;
+    let base = Cents::new(10_000).ok_or("a base")?;
+    Ok(counter_sale(alloc, 1, serial, series, base).ok_or("a sale")?)
+}
+
+fn empty_disk(alloc: Global) -> MemDisk {
+    MemDisk::new(alloc, Vec::new(alloc), Vec::new(alloc))
+}
+
+// Takes the sale of a serial on a file.
+fn sold(
+    alloc: Global,
+    disk: MemDisk,
+    serial: u32,
+) -> Result<(Ticket, Store<MemDisk, CountingClock>), Fail> {
+    let ask = ask(alloc, serial)?;
+    match open_and_take(alloc, disk, CountingClock::new(TEN, 0), &issuer()?, &ask) {
+        Ok(sold) => Ok(sold),
+        Err(_) => Err(Fail::from("a ticket")),
+    }
+}
+
+// The file after one sale.
+fn file_of_one(alloc: Global) -> Result<MemDisk, Fail> {
+    let (_, store) = sold(alloc, empty_disk(alloc), 1)?;
+    let (_, disk, _) = store.into_parts();
+    Ok(disk)
+}
+
+#[test]
+fn a_serial_has_one_ticket(rt: HostRuntime) -> Result<(), Fail> {
+    let alloc = rt.alloc();
+    let (ticket, store) = sold(alloc, file_of_one(alloc)?, 1)?;
+    let mut printed = Vec::new(alloc);
+    print_ticket(&mut printed, &ticket)?;
+    assert!(rt; printed.as_slice() == TICKET);
+    assert_eq!(rt; store.state().records(), 1);
+    Ok(())
+}
+
+// Why there was no ticket of a sale on a disk whose first call fails.
+fn unsold(alloc: Global) -> Result<Option<NoTicket>, Fail> {
+    let disk = MemDisk::new(alloc, Vec::new(alloc), vec![in alloc; 1u64]?);
+    let ask = ask(alloc, 1)?;
+    let end = open_and_take(alloc, disk, CountingClock::new(TEN, 0), &issuer()?, &ask);
+    Ok(end.err())
+}
+
+#[test]
+fn a_disk_that_fails_gives_no_ticket(rt: HostRuntime) -> Result<(), Fail> {
+    let end = unsold(rt.alloc())?;
+    assert_eq!(rt; end, Some(NoTicket::NotOpened(OpenCause::DiskFault)));
+    Ok(())
+}
+
+fn opened<D: Disk + Drop, C: Clock + Drop>(
+    alloc: Global,
+    disk: D,
+    clock: C,
+) -> Result<Store<D, C>, Fail>
+    ensures { IfOk result (λ store. Ready D.tells D.told store) }
+{
+    let issuer = issuer()?;
+    match open_store(alloc, disk, clock, &issuer) {
+        Ok(store) => Ok(store),
+        Err(_) => Err(Fail::from("a file")),
+    }
+}
+
+#[test]
+fn what_waits_is_noted_once(rt: HostRuntime) -> Result<(), Fail> {
+    let alloc = rt.alloc();
+    let disk = file_of_one(alloc)?;
+    let mut store = opened(alloc, disk, CountingClock::new(TEN, 0))?;
+    assert_eq!(rt; first_waiting(alloc, &store)?.len(), 1);
+    let two = [Line::Correcto, Line::Correcto];
+    assert_eq!(rt; note_lines(alloc, &mut store, &two), Err(NotNoted::Count));
+    assert_eq!(rt; note_lines(alloc, &mut store, &[Line::Correcto]), Ok(()));
+    assert_eq!(rt; first_waiting(alloc, &store)?.len(), 0);
+    assert_eq!(rt; store.state().line(1), Some(Line::Correcto));
+    Ok(())
+}
+
+#[test]
+fn a_changed_byte_is_named(rt: HostRuntime) -> Result<(), Fail> {
+    let alloc = rt.alloc();
+    let mut disk = file_of_one(alloc)?;
+    assert_eq!(rt; audit_a_file(alloc, &mut disk), Ok(None));
+    let mut bytes = [0; 98];
+    assert_eq!(rt; disk.read_at(0, &mut bytes), Ok(98));
+    bytes[90] ^= 1;
+    let changed = Vec::from_slice(alloc, &bytes)?;
+    let mut broken = MemDisk::new(alloc, changed, Vec::new(alloc));
+    assert_eq!(rt; audit_a_file(alloc, &mut broken), Ok(Some(19)));
+    Ok(())
+}
+
+// The link of a number in the file of one sale.
+fn link_in(alloc: Global, num: &str) -> Result<Option<Vec<u8>>, Fail> {
+    let num = NumSerie::read(num).ok_or("a number")?;
+    let mut disk = file_of_one(alloc)?;
+    match link_of_a_sale(alloc, &mut disk, &num, Host::Real) {
+        Ok(Some(text)) => Ok(Some(text.into_vec())),
+        Ok(None) => Ok(None),
+        Err(_) => Err(Fail::from("a file")),
+    }
+}
+
+#[test]
+fn an_invoice_of_the_file_has_a_link(rt: HostRuntime) -> Result<(), Fail> {
+    let alloc = rt.alloc();
+    let link = link_in(alloc, "A-1")?.ok_or("a link")?;
+    assert!(rt; link.as_slice() == LINK);
+    assert!(rt; link_in(alloc, "A-2")?.is_none());
+    Ok(())
+}
