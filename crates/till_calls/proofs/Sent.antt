@@ -15,6 +15,7 @@ use Rattle.till_calls.specs.contracts.root.ShopRoot as root
 use Rattle.till_calls.specs.contracts.kept.KeptRecorded.TheImpl as recorded
 use Rattle.till_calls.specs.contracts.shop.Shop as shop
 use Rattle.till_calls.specs.contracts.tills.Till as till
+use Rattle.till_calls.specs.contracts.tills.SenderSeat as seat
 use Rattle.till_calls.specs.contracts.tills.TillNumber as number
 
 pub kept_send : (D C : RattleType) (g : disk.Ghosts D.Denot) (h : clock.Ghosts C.Denot) → IsSend D → IsSend C →
@@ -44,3 +45,18 @@ shop_sync D C g e h f d c =
 pub till_field_send : (D C : RattleType) (g : disk.Ghosts D.Denot) (h : clock.Ghosts C.Denot) → IsSend D → IsSend C →
     IsSend (till.the_field D C g h).row
 till_field_send D C g h d c = till_fields D C g h d c
+
+seat_fields : (D C : RattleType) (g : disk.Ghosts D.Denot) (h : clock.Ghosts C.Denot) → IsSend D → IsSend C →
+    IsSend (Struct (shape (seat.the_type D C g h)))
+seat_fields D C g h d c =
+    let k = kept_send D C g h d c in
+    let p = pass.the_field_send (kept.the_row D C g h) item.the_row (root.the_row C) k in
+    struct_send (shape (seat.the_type D C g h)) (p, tt)
+
+pub seat_send : (D C : RattleType) (g : disk.Ghosts D.Denot) (h : clock.Ghosts C.Denot) → IsSend D → IsSend C →
+    IsSend (seat.the_row D C g h)
+seat_send D C g h d c = let fields = seat_fields D C g h d c in search (sendable, crosses, fields)
+
+pub seat_field_send : (D C : RattleType) (g : disk.Ghosts D.Denot) (h : clock.Ghosts C.Denot) → IsSend D → IsSend C →
+    IsSend (seat.the_field D C g h).row
+seat_field_send D C g h d c = seat_fields D C g h d c

@@ -1,4 +1,4 @@
--- A job goes to another thread, and jobs go there and back.
+-- What goes to another thread and comes back: jobs, and a day's sender.
 use denote.RattleType.{RattleType}
 use denote.Param.Send.{IsSend, IsSync, sendable, struct_send}
 use denote.Struct.Struct.{Struct}
@@ -10,9 +10,10 @@ use Rattle.std.specs.contracts.vec.Vec as Vec
 use Rattle.std.specs.contracts.alloc.Global as Heap
 use Rattle.std.specs.contracts.impls.GlobalAllocator.TheImpl.{ghosts}
 use Rattle.std.specs.contracts.sync.atomic.AtomicBool as Flag
-use Rattle.till_calls.proofs.Sent.{till_field_send}
+use Rattle.till_calls.proofs.Sent.{till_field_send, seat_field_send}
 use Rattle.shop_core.specs.contracts.requests.Ask as ask
 use Rattle.verifactu.specs.contracts.tills.Job as job
+use Rattle.verifactu.specs.contracts.sending.Sent as sent
 
 pub job_send : (D C : RattleType) (g : disk.Ghosts D.Denot) (h : clock.Ghosts C.Denot) → IsSend D → IsSend C →
     IsSend (job.the_row D C g h)
@@ -37,3 +38,15 @@ flag_sync = search (sendable, crosses) depth 100 fits 20000
 
 pub ask_sync : IsSync ask.the_row
 ask_sync = search (sendable, crosses) depth 100 fits 20000
+
+-- The sender goes to another thread with its seat, its agency and its sleeper, and comes back with all of them.
+pub sent_send : (D C G Z : RattleType) (g : disk.Ghosts D.Denot) (h : clock.Ghosts C.Denot) → IsSend D → IsSend C →
+    IsSend G → IsSend Z → IsSend (sent.the_row D C G Z g h)
+sent_send D C G Z g h d c a z =
+    let t = seat_field_send D C g h d c in
+    let fields : IsSend (Struct (shape (sent.the_type D C G Z g h))) =
+    struct_send (shape (sent.the_type D C G Z g h)) (
+      t,
+      (search (sendable, crosses) depth 100 fits 20000, (a, (z, (search (sendable, crosses) depth 100 fits 20000, tt)))),
+    ) in
+    search (sendable, crosses, fields)

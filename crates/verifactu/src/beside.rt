@@ -44,8 +44,8 @@ fn till_part<D: Disk + Send, C: Clock + Send, T: Gate + Sync, R: Threads + Wait 
 pub(crate) fn beside<
     D: Disk + Send,
     C: Clock + Send,
-    G: Agency + Drop,
-    Z: Sleeper + Drop,
+    G: Agency + Send + Drop,
+    Z: Sleeper + Send + Drop,
     T: Gate + Sync,
     R: Threads + Wait + Sync,
 >(
@@ -74,15 +74,8 @@ pub(crate) fn beside<
 {
     let stop = AtomicBool::new(false);
     let told = &stop;
-    join(
+    let (sent, jobs) = join(
         rt,
-        move || -> Vec<Job<D, C>>
-            requires { All (λ j. till_shop j.till ≡ shop_id shop.now) jobs.items
-                × All (λ j. HasRoom asks.now (day_of j)) jobs.items }
-            ensures { Ran C.coming asks.entry.now (reverse (map day_of jobs.items)) (reverse (map job_knows jobs.items))
-                (reverse (map day_of result.items)) (reverse (map job_knows result.items))
-                × All (λ j. till_shop j.till ≡ shop_id shop.entry.now) result.items × (vec_len result ≡ vec_len jobs) }
-        { till_part(rt, alloc, gate, shop, asks, jobs, told) },
         move || -> Sent<D, C, G, Z>
             requires { seat_shop seat ≡ shop_id shop.now }
             ensures { (mark_by (seat_shop result.seat) (seat_knows result.seat) ≡ mark_by (seat_shop seat) (seat_knows seat))
@@ -90,5 +83,13 @@ pub(crate) fn beside<
                 (sight_by (seat_knows result.seat)) (record { ledger = G.ledger agency; faults = G.faults agency })
                 (record { ledger = G.ledger result.agency; faults = G.faults result.agency }) fresh result.sender result.answer }
         { send_part(rt, alloc, gate, shop, seat, agency, sleeper, told) },
-    )
+        move || -> Vec<Job<D, C>>
+            requires { All (λ j. till_shop j.till ≡ shop_id shop.now) jobs.items
+                × All (λ j. HasRoom asks.now (day_of j)) jobs.items }
+            ensures { Ran C.coming asks.entry.now (reverse (map day_of jobs.items)) (reverse (map job_knows jobs.items))
+                (reverse (map day_of result.items)) (reverse (map job_knows result.items))
+                × All (λ j. till_shop j.till ≡ shop_id shop.entry.now) result.items × (vec_len result ≡ vec_len jobs) }
+        { till_part(rt, alloc, gate, shop, asks, jobs, told) },
+    );
+    (jobs, sent)
 }

@@ -26,7 +26,7 @@ struct Left<G> {
 }
 
 // Runs these words on a disk with an agency. A script without a clock line begins on the next day.
-fn run_with<G: Agency + Drop, T: Gate + Sync>(
+fn run_with<G: Agency + Send + Drop, T: Gate + Sync>(
     rt: &(impl AllocGlobal + Threads + Wait + Sync),
     words: &str,
     script: &str,

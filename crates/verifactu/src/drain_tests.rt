@@ -67,7 +67,7 @@ pub fn file_of(
 }
 
 // Drains a disk through an agency. The sink fails at the call of this number.
-fn drained_by<G: Agency + Drop>(
+fn drained_by<G: Agency + Send + Drop>(
     rt: &(impl AllocGlobal + Threads + Wait + Sync),
     script: &str,
     failing: u64,

@@ -44,8 +44,8 @@ where
     K: Sink,
     D: Disk + Send + Drop,
     C: Clock + Send + Drop,
-    Z: Sleeper + Drop,
-    G: Agency + Drop,
+    Z: Sleeper + Send + Drop,
+    G: Agency + Send + Drop,
     T: Gate + Sync,
     R: Threads + Wait + Sync,
     ensures { EndsAs (map string_bytes words.now) (this_call
@@ -77,8 +77,8 @@ where
     K: Sink,
     D: Disk + Send + Drop,
     C: Clock + Send + Drop,
-    Z: Sleeper + Drop,
-    G: Agency + Drop,
+    Z: Sleeper + Send + Drop,
+    G: Agency + Send + Drop,
     T: Gate + Sync,
     R: Threads + Wait + Sync,
     requires { IsWithin command }

@@ -57,8 +57,8 @@ pub struct NotServed<D: Disk, C: Clock, G: Agency + Drop, Z: Sleeper + Drop> {
 fn serve_started<
     D: Disk + Send + Drop,
     C: Clock + Send + Drop,
-    G: Agency + Drop,
-    Z: Sleeper + Drop,
+    G: Agency + Send + Drop,
+    Z: Sleeper + Send + Drop,
     T: Gate + Sync,
     R: Threads + Wait + Sync,
 >(
@@ -133,8 +133,8 @@ fn serve_started<
 pub fn serve<
     D: Disk + Send + Drop,
     C: Clock + Send + Drop,
-    G: Agency + Drop,
-    Z: Sleeper + Drop,
+    G: Agency + Send + Drop,
+    Z: Sleeper + Send + Drop,
     T: Gate + Sync,
     R: Threads + Wait + Sync,
 >(

@@ -32,8 +32,8 @@ pub fn disk_of(alloc: Global, bytes: &[u8], failing: u64) -> Result<MemDisk, Fai
 pub fn ends_in<
     D: Disk + Send + Drop,
     C: Clock + Send + Drop,
-    Z: Sleeper + Drop,
-    G: Agency + Drop,
+    Z: Sleeper + Send + Drop,
+    G: Agency + Send + Drop,
     T: Gate + Sync,
 >(
     rt: &(impl AllocGlobal + Threads + Wait + Sync),

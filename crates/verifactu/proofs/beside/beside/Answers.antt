@@ -1,22 +1,24 @@
-use mir.Syntax.{erased, of_param}
+use mir.Syntax.{of_param}
 use denote.Exit.{no}
-use denote.Param.Send.{Quiet-if, shr_slice_send}
+use denote.Param.Send.{Quiet-if}
 use Rattle.std.proofs.Crossing.{send as heap_send}
-use Rattle.till_calls.proofs.Sent.{shop_sync}
-use Rattle.verifactu.proofs.Sent.{ask_sync, flag_sync, jobs_send}
+use Rattle.till_calls.proofs.Sent.{seat_send, shop_sync}
+use Rattle.verifactu.proofs.Sent.{flag_sync, sent_send}
 use Rattle.verifactu.proofs.beside.beside.Goals as goal
 
-pub join-requires-send-A : goal.join-requires-send-A
-join-requires-send-A g c κs within =
-    let a = jobs_send _ _ g.D.Disk g.C.Clock c.type_bounds.send-D c.type_bounds.send-C in
+pub join-sent-requires-send-A : goal.join-sent-requires-send-A
+join-sent-requires-send-A g c κs within =
+    let b = c.type_bounds in
+    let a = sent_send _ _ _ _ g.D.Disk g.C.Clock b.send-D b.send-C b.send-G b.send-Z in
     record { owned = a.owned; leaving = λ k. Quiet-if (k (of_param 3)) _ _ (a.leaving no) (λ x w. tt) }
 
-pub join-requires-send-F : goal.join-requires-send-F
-join-requires-send-F g c κs within =
-    let j = jobs_send _ _ g.D.Disk g.C.Clock c.type_bounds.send-D c.type_bounds.send-C in
-    let s = shop_sync _ _ g.D.Disk g.D.Disk-dict g.C.Clock g.C.Clock-dict c.type_bounds.send-D c.type_bounds.send-C in
-    let r = c.type_bounds.sync-R in
-    let t = c.type_bounds.sync-T in
+pub join-sent-requires-send-F : goal.join-sent-requires-send-F
+join-sent-requires-send-F g c κs within =
+    let b = c.type_bounds in
+    let seat = seat_send _ _ g.D.Disk g.C.Clock b.send-D b.send-C in
+    let s = shop_sync _ _ g.D.Disk g.D.Disk-dict g.C.Clock g.C.Clock-dict b.send-D b.send-C in
+    let r = b.sync-R in
+    let t = b.sync-T in
     record {
       owned = λ x vs vss. (
         tt,
@@ -29,13 +31,19 @@ join-requires-send-F g c κs within =
               (
                 (tt, s.shared x.3.now x.3.ref_ptr.0 x.3.ref_ptr.1 _),
                 (
-                  (shr_slice_send erased κs.1.1.1.1.1.1.1.1.1.0 _ ask_sync).owned x.4 vss.1.1.1.1.0,
-                  (j.owned x.5 vss.1.1.1.1.1.0, ((tt, flag_sync.shared x.6.now x.6.ref_ptr.0 x.6.ref_ptr.1 _), tt)),
+                  seat.owned x.4 vss.1.1.1.1.0,
+                  (
+                    b.send-G.owned x.5 vss.1.1.1.1.1.0,
+                    (
+                      b.send-Z.owned x.6 vss.1.1.1.1.1.1.0,
+                      ((tt, flag_sync.shared x.7.now x.7.ref_ptr.0 x.7.ref_ptr.1 _), tt),
+                    ),
+                  ),
                 ),
               ),
             ),
           ),
         ),
       );
-      leaving = λ k. Quiet-if (k (of_param 1)) _ _ (λ x w. (tt, (tt, (tt, (tt, (tt, (tt, tt))))))) (λ x w. tt);
+      leaving = λ k. Quiet-if (k (of_param 1)) _ _ (λ x w. (tt, (tt, (tt, (tt, ((((tt, tt), tt), tt), (tt, (tt, tt)))))))) (λ x w. tt);
     }
