@@ -24,9 +24,6 @@ pub const NEXT_DAY: u64 = 1_735_800_000;
 
 pub const TWO: &str = "clock 1735722000 0\nsale 1 1 A F2 21:10000\nsale 1 2 A F2 21:10000\n";
 
-const THREE: &str =
-    "clock 1735722000 0\nsale 1 1 A F2 21:10000\nsale 1 2 A F2 21:10000\nsale 1 3 A F2 21:10000\n";
-
 fn done() -> Ended {
     Ended {
         status: 0,
@@ -192,34 +189,6 @@ fn two_records_over_a_bad_link(rt: HostRuntime) -> Result<(), Fail> {
         let wanted = format!(in rt.alloc(); "{lines}chain 2 noted 2\n")?;
         assert_eq!(rt; left.text.as_slice(), wanted.as_bytes(), "at {plan}");
         assert_eq!(rt; left.agency.processed().len(), 2, "at {plan}");
-    }
-    Ok(())
-}
-
-#[test]
-fn three_records_under_each_fate(rt: HostRuntime) -> Result<(), Fail> {
-    let good = "cleared\nnoted 3\n";
-    let late = "link\ncleared\nnoted 3\n";
-    let came = "cleared\nlink\nnoted 3\n";
-    let lost = "cleared\nlink\ncleared\nwait 1735800060\nnoted 3\n";
-    let rows = [
-        ("lost", [late, lost, good]),
-        ("taken", [late, came, good]),
-        ("stale", [late, came, good]),
-        ("again", [good, good, good]),
-        ("late 1", [late, came, good]),
-    ];
-    for (fate, texts) in rows {
-        let mut call = 1u32;
-        for lines in texts {
-            let script = format!(in rt.alloc(); "clock 1735800000 0\nlink {call} {fate}\n")?;
-            let left = drained(&rt, &script, file_of(&rt, THREE)?)?;
-            assert_eq!(rt; left.ended, done(), "at {script}");
-            let wanted = format!(in rt.alloc(); "{lines}chain 3 noted 3\n")?;
-            assert_eq!(rt; left.text.as_slice(), wanted.as_bytes(), "at {script}");
-            assert_eq!(rt; left.agency.processed().len(), 3, "at {script}");
-            call = call.saturating_add(1);
-        }
     }
     Ok(())
 }
