@@ -209,6 +209,7 @@ where
         return (Detail::NoMemory, outside);
     };
     what_a_disk_reads_is_an_image::<D>();
+    who_keeps_the_rules_tells::<G>();
     let Outside {
         disk,
         clock,
@@ -228,6 +229,11 @@ where
         Ok(store) => day_opened(rt, alloc, script, tills, sink, store, agency, sleeper, gate),
     }
 }
+
+// An agency that keeps its rules tells its lists.
+fn who_keeps_the_rules_tells<G: Agency>()
+    ensures { IsTrue G.keeps_rules → IsTrue G.tells }
+{}
 
 // A disk as it reads is one of its images of now.
 fn what_a_disk_reads_is_an_image<D: Disk>()

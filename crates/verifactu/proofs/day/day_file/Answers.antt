@@ -63,4 +63,4 @@ returns-in-Ok-open_store g c =
     (this_sleeper g.Z.Sleeper.tells g.Z.Sleeper.moment out.sleeper then.sleeper) a (parts_of c.in-Ok-open_store.store)
     (this_sink g.K.Sink.taken g.K.Sink.faults c.args.sink.now c.day_opened.new.sink) c.day_opened.result.0
     opened.issuer opened.clock opened.found opened.any_moment opened.every_crash opened.later
-    c.what_a_disk_reads_is_an_image.ensures g.met.G.Agency.keeps_and_tells c.day_opened.ensures
+    c.what_a_disk_reads_is_an_image.ensures c.who_keeps_the_rules_tells.ensures c.day_opened.ensures

@@ -5,4 +5,4 @@ use Rattle.verifactu.proofs.run.run.Goals as goal
 pub obey-requires : goal.obey-requires
 obey-requires g c =
     let asked = within (map (string_bytes {Z = Global}) c.args.words.now) c.in-Some.command c.in-Some.ensures in
-    (search rules, (search rules, (search rules, (search rules, asked))))
+    (search rules, (search rules, (search rules, (search rules, (search rules, (search rules, asked))))))
