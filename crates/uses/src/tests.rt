@@ -1,20 +1,22 @@
 // Huellas are SHA-256, by another program, of the records' field texts.
-ghost use Rattle.std.specs.Prelude.{IfOk};
-ghost use Rattle.chain_store.specs.Store.{Ready};
+ghost use Rattle.std.specs.Prelude.{◌≡◌, IfOk, None};
+ghost use Rattle.chain_store.specs.Store.{Ready, journal_of};
+ghost use Rattle.journal.specs.Journal.{stopped_of};
 
 use crate::{
     NoTicket, NotNoted, Ticket, audit_a_file, counter_sale, first_waiting, link_of_a_sale,
-    note_lines, open_and_take, print_ticket,
+    note_lines, one_till_a_thread, open_and_take, print_ticket,
 };
 use amounts::Cents;
 use chain_disk::{Disk, MemDisk};
 use chain_store::{OpenCause, Store};
+use journal::StoreFault;
 use parties::Nif;
 use ports::{Clock, CountingClock};
 use record_fields::Line;
 use recovery::open_store;
 use series::{NumSerie, SeriesName};
-use shop_core::Ask;
+use shop_core::{Ask, Reply, Request};
 use std::alloc::Global;
 use std::test::Fail;
 use verify_link::Host;
@@ -41,6 +43,10 @@ fn ask(alloc: Global, serial: u32) -> Result<Ask, Fail> {
     let series = SeriesName::read("A").ok_or("a series")?;
     let base = Cents::new(10_000).ok_or("a base")?;
     Ok(counter_sale(alloc, 1, serial, series, base).ok_or("a sale")?)
+}
+
+fn request(alloc: Global) -> Result<Request, Fail> {
+    Ok(ask(alloc, 1)?.request)
 }
 
 fn empty_disk(alloc: Global) -> MemDisk {
@@ -98,7 +104,8 @@ fn opened<D: Disk + Drop, C: Clock + Drop>(
     disk: D,
     clock: C,
 ) -> Result<Store<D, C>, Fail>
-    ensures { IfOk result (λ store. Ready D.tells D.told store) }
+    ensures going_on { IfOk result (λ store. stopped_of (journal_of store) ≡ None) }
+    ensures ready { IfOk result (λ store. Ready D.tells D.told store) }
 {
     let issuer = issuer()?;
     match open_store(alloc, disk, clock, &issuer) {
@@ -152,5 +159,24 @@ fn an_invoice_of_the_file_has_a_link(rt: HostRuntime) -> Result<(), Fail> {
     let link = link_in(alloc, "A-1")?.ok_or("a link")?;
     assert!(rt; link.as_slice() == LINK);
     assert!(rt; link_in(alloc, "A-2")?.is_none());
+    Ok(())
+}
+
+fn is_taken(reply: &Result<Reply, StoreFault>) -> bool {
+    matches!(reply, Ok(Reply::Taken(_)))
+}
+
+#[test]
+fn two_tills_fill_one_chain(rt: HostRuntime) -> Result<(), Fail> {
+    let alloc = rt.alloc();
+    let store = opened(alloc, empty_disk(alloc), CountingClock::new(TEN, 1))?;
+    let first = vec![in alloc; request(alloc)?, request(alloc)?, request(alloc)?]?;
+    let second = vec![in alloc; request(alloc)?, request(alloc)?]?;
+    let Ok(day) = one_till_a_thread(&rt, alloc, store, &first, &second) else {
+        return Err(Fail::from("a day"));
+    };
+    assert_eq!(rt; (day.first.len(), day.second.len()), (3, 2));
+    assert!(rt; day.first.iter().all(is_taken) && day.second.iter().all(is_taken));
+    assert_eq!(rt; day.store.state().records(), 5);
     Ok(())
 }

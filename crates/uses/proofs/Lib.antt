@@ -1,0 +1,2 @@
+mod Tills
+mod Sent
