@@ -1,5 +1,5 @@
 -- The link of an invoice of a chain.
-use Rattle.std.specs.Prelude.{◌≡◌, ◌⊎◌, ℕ, List, [], Option, Some, None}
+use Rattle.std.specs.Prelude.{◌≡◌, ◌⊎◌, ℕ, List, Option, Some, None}
 use Rattle.journal.specs.File.{IsNotBegun}
 use Rattle.record_codec.specs.declared.entries.Entry.{Entry}
 use Rattle.record_fields.specs.declared.records.Record.{Record}
