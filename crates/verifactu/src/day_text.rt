@@ -115,8 +115,7 @@ fn sender_lacks_memory(answer: &Result<(), DrainFault>) -> bool
 
 /// The end of a day with these answers of its tills and of its sender, whose text was written or not: want of memory before a
 /// fault of the disk, that before a contradiction and an undelivered drain, and these before a fault of the sink. A sender that
-/// is
-/// done has seen all lines noted; where they aren't after all, it is want of memory.
+/// is done has seen all lines noted; where they aren't after all, it is want of memory.
 pub fn end_of_day(
     days: &[TillDay],
     answer: &Result<(), DrainFault>,

@@ -19,8 +19,7 @@ use std::sync::atomic::{AtomicBool, Ordering};
 use till_calls::{SenderSeat, Shop};
 
 /// A day's sender once it has ended: its seat, all that it took along, and how it ended. Ok says beside the tills that it was
-/// told
-/// to stop, and behind its drain that no record waits.
+/// told to stop, and behind its drain that no record waits.
 #[derive(Drop)]
 pub(crate) struct Sent<D: Disk, C: Clock, G: Agency + Drop, Z: Sleeper + Drop> {
     pub(crate) seat: SenderSeat<D, C>,
