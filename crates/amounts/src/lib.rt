@@ -6,8 +6,6 @@ mod laws;
 mod rate;
 mod read;
 mod tax;
-#[cfg(test)]
-mod tests;
 mod text;
 mod whole;
 

@@ -4,8 +4,6 @@
 mod auditing;
 mod faults;
 mod laws;
-#[cfg(test)]
-mod tests;
 
 pub use auditing::audit;
 pub use faults::AuditFault;

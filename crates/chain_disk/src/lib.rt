@@ -17,6 +17,3 @@ pub use image::Fill;
 pub use laws::{a_call_is_a_run, a_settled_disk_leaves_its_content, no_call_is_a_run, runs_follow};
 pub use memory::MemDisk;
 pub use range::Range;
-
-#[cfg(test)]
-mod tests;

@@ -9,8 +9,6 @@ mod lock;
 mod open;
 mod pass;
 mod plays;
-#[cfg(test)]
-mod tests;
 mod view;
 
 pub use act::{Act, Recorded};

@@ -5,8 +5,6 @@
 mod causes;
 mod loading;
 mod store;
-#[cfg(test)]
-mod tests;
 
 pub use causes::{LoadFault, OpenCause};
 pub use loading::{Loaded, load};

@@ -4,7 +4,5 @@
 #![tactic(auto)]
 
 mod sorting;
-#[cfg(test)]
-mod tests;
 
 pub use sorting::{SeenSorted, sort_seen};

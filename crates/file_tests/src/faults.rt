@@ -6,6 +6,7 @@ use chain_disk::{Disk, Fill, MemDisk};
 use chain_store::Store;
 use huella::huella_text;
 use invoice_kinds::Kind;
+use journal::StoreFault;
 use parties::Nif;
 use ports::{Clock, CountingClock};
 use record_fields::{Draft, Refs};
@@ -56,7 +57,7 @@ fn sale(alloc: Global, serial: u32) -> Result<Ask, Fail> {
     Ok(Ask::new(1, serial.max(1), Request::Sale { series, draft }))
 }
 
-// One where the sale with this serial is taken.
+// One where the sale with this serial is taken, none where the disk fails or has failed.
 fn taken<D: Disk, C: Clock>(
     alloc: Global,
     store: &mut Store<D, C>,
@@ -68,7 +69,8 @@ fn taken<D: Disk, C: Clock>(
     let ask = sale(alloc, serial)?;
     match store.take(alloc, &ask) {
         Ok(Reply::Taken(_)) => Ok(1),
-        _ => Ok(0),
+        Err(StoreFault::DiskFault | StoreFault::Stopped { faults: 1 }) => Ok(0),
+        _ => Err(Fail::from("another answer")),
     }
 }
 

@@ -134,6 +134,3 @@ fn counted(head: [u8; 4], rest: &[u8]) -> Frame
     }
     Frame::Damaged
 }
-
-#[cfg(test)]
-mod tests;

@@ -28,6 +28,3 @@ pub use laws::{
     a_file_stands_for_one_chain, walks_over_a_file_agree,
 };
 pub use reading::{Header, Step, read_header, scan};
-
-#[cfg(test)]
-mod tests;

@@ -2,7 +2,5 @@
 #![tactic(auto)]
 
 mod pace;
-#[cfg(test)]
-mod tests;
 
 pub use pace::{FIRST_WAIT, FULL_BATCH, Pace, WaitUntil};

@@ -15,8 +15,6 @@ mod gate;
 mod memory;
 mod reasons;
 mod sleeper;
-#[cfg(test)]
-mod tests;
 
 pub use adapters::{StdSink, StdSource, SystemClock};
 pub use faults::{Failed, NoMemory};

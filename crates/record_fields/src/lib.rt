@@ -6,8 +6,6 @@ mod drafts;
 mod lines;
 mod lists;
 mod records;
-#[cfg(test)]
-mod tests;
 
 pub use checks::{DraftFault, MAX_REFS, SIMPLIFIED_LIMIT, check_draft};
 pub use drafts::{Draft, Refs};

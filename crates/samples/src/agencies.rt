@@ -117,7 +117,24 @@ fn put_sums(agency: &PracticeAgency, text: &mut String) -> Result<(), AllocError
     write!(text, "processed {processed} sent {sent} faults {faults}; ")
 }
 
-// Two sales go through these calls to a practice agency where this befalls this call; its answers, and what it holds then.
+// A practice agency whose session begins with this plan.
+fn begun(alloc: Global, plan: &Plan, noted: &[(Sealed, Line)]) -> Result<PracticeAgency, Fail> {
+    let mut agency = PracticeAgency::new(alloc);
+    begin(alloc, &mut agency, plan, noted)?;
+    Ok(agency)
+}
+
+// What it answers while two sales go through these calls, and what it holds then.
+fn told(alloc: Global, agency: &mut PracticeAgency, calls: &[Step]) -> Result<String, Fail> {
+    let records = chain(alloc, 2)?;
+    let batch = batch(alloc, &records)?;
+    let mut text = String::new(alloc);
+    make_calls(alloc, agency, &batch, calls, &mut text)?;
+    put_sums(agency, &mut text)?;
+    Ok(text)
+}
+
+// A practice agency where this befalls this call says this.
 fn answers(
     rt: &(impl Abort + AllocGlobal),
     at: u32,
@@ -125,15 +142,9 @@ fn answers(
     calls: &[Step],
     expected: &str,
 ) -> Result<(), Fail> {
-    let alloc = rt.alloc();
-    let records = chain(alloc, 2)?;
-    let batch = batch(alloc, &records)?;
-    let plan = plan(alloc, at, fate)?;
-    let mut agency = PracticeAgency::new(alloc);
-    begin(alloc, &mut agency, &plan, &[])?;
-    let mut text = String::new(alloc);
-    make_calls(alloc, &mut agency, &batch, calls, &mut text)?;
-    put_sums(&agency, &mut text)?;
+    let plan = plan(rt.alloc(), at, fate)?;
+    let mut agency = begun(rt.alloc(), &plan, &[])?;
+    let text = told(rt.alloc(), &mut agency, calls)?;
     assert_eq!(rt; text.as_str(), expected, "call {at} {fate:?}");
     Ok(())
 }
@@ -153,42 +164,61 @@ fn a_stale_reply_that_names_the_batch_is_lost(rt: HostRuntime) -> Result<(), Fai
     )
 }
 
+const FINE: &str = "[First(Incorrecto(Vet(4100))), First(Correcto)] wait 60; \
+     [Was(Incorrecto(Vet(4100))), Was(Correcto)]; \
+     [Was(Incorrecto(Vet(4100))), Was(Correcto)]; processed 2 sent 1 faults 0; ";
+
+const LOST: &str = "Failed; [NotSeen, NotSeen]; [NotSeen, NotSeen]; processed 0 sent 1 faults 1; ";
+
+const TAKEN: &str = "Failed; [Was(Incorrecto(Vet(4100))), Was(Correcto)]; \
+     [Was(Incorrecto(Vet(4100))), Was(Correcto)]; processed 2 sent 1 faults 1; ";
+
+const LATE: &str = "Failed; [NotSeen, NotSeen]; \
+     [Was(Incorrecto(Vet(4100))), Was(Correcto)]; processed 2 sent 1 faults 1; ";
+
+const STALE: &str = "[] wait 60; [Was(Incorrecto(Vet(4100))), Was(Correcto)]; \
+     [Was(Incorrecto(Vet(4100))), Was(Correcto)]; processed 2 sent 1 faults 1; ";
+
 // A submission that this befalls, and then two consultations.
 #[test]
 fn each_fate_of_a_submission(rt: HostRuntime) -> Result<(), Fail> {
     let calls = [Step::Submit, Step::Consult, Step::Consult];
-    let fine = "[First(Incorrecto(Vet(4100))), First(Correcto)] wait 60; \
-                [Was(Incorrecto(Vet(4100))), Was(Correcto)]; \
-                [Was(Incorrecto(Vet(4100))), Was(Correcto)]; processed 2 sent 1 faults 0; ";
-    answers(&rt, 9, Fate::Lost, &calls, fine)?;
-    answers(&rt, 1, Fate::Again, &calls, fine)?;
-    let lost = "Failed; [NotSeen, NotSeen]; [NotSeen, NotSeen]; processed 0 sent 1 faults 1; ";
-    answers(&rt, 1, Fate::Lost, &calls, lost)?;
-    let taken = "Failed; [Was(Incorrecto(Vet(4100))), Was(Correcto)]; \
-                 [Was(Incorrecto(Vet(4100))), Was(Correcto)]; processed 2 sent 1 faults 1; ";
-    answers(&rt, 1, Fate::Taken, &calls, taken)?;
-    answers(&rt, 1, Fate::Late(1), &calls, taken)?;
-    let late = "Failed; [NotSeen, NotSeen]; \
-                [Was(Incorrecto(Vet(4100))), Was(Correcto)]; processed 2 sent 1 faults 1; ";
-    answers(&rt, 1, Fate::Late(2), &calls, late)?;
-    let stale = "[] wait 60; [Was(Incorrecto(Vet(4100))), Was(Correcto)]; \
-                 [Was(Incorrecto(Vet(4100))), Was(Correcto)]; processed 2 sent 1 faults 1; ";
-    answers(&rt, 1, Fate::Stale, &calls, stale)
+    let rows = [
+        (9, Fate::Lost, FINE),
+        (1, Fate::Again, FINE),
+        (1, Fate::Lost, LOST),
+        (1, Fate::Taken, TAKEN),
+        (1, Fate::Late(1), TAKEN),
+        (1, Fate::Late(2), LATE),
+        (1, Fate::Stale, STALE),
+    ];
+    for (at, fate, expected) in rows {
+        answers(&rt, at, fate, &calls, expected)?;
+    }
+    Ok(())
 }
+
+const UNANSWERED: &str = "[First(Incorrecto(Vet(4100))), First(Correcto)] wait 60; Failed; \
+     processed 2 sent 1 faults 1; ";
+
+const ANSWERED: &str = "[First(Incorrecto(Vet(4100))), First(Correcto)] wait 60; \
+     [Was(Incorrecto(Vet(4100))), Was(Correcto)]; processed 2 sent 1 faults 0; ";
 
 // A consultation that this befalls, after a submission.
 #[test]
 fn each_fate_of_a_consultation(rt: HostRuntime) -> Result<(), Fail> {
     let calls = [Step::Submit, Step::Consult];
-    let failed = "[First(Incorrecto(Vet(4100))), First(Correcto)] wait 60; Failed; \
-                  processed 2 sent 1 faults 1; ";
-    answers(&rt, 2, Fate::Lost, &calls, failed)?;
-    answers(&rt, 2, Fate::Taken, &calls, failed)?;
-    answers(&rt, 2, Fate::Late(1), &calls, failed)?;
-    answers(&rt, 2, Fate::Stale, &calls, failed)?;
-    let again = "[First(Incorrecto(Vet(4100))), First(Correcto)] wait 60; \
-                 [Was(Incorrecto(Vet(4100))), Was(Correcto)]; processed 2 sent 1 faults 0; ";
-    answers(&rt, 2, Fate::Again, &calls, again)
+    let rows = [
+        (Fate::Lost, UNANSWERED),
+        (Fate::Taken, UNANSWERED),
+        (Fate::Late(1), UNANSWERED),
+        (Fate::Stale, UNANSWERED),
+        (Fate::Again, ANSWERED),
+    ];
+    for (fate, expected) in rows {
+        answers(&rt, 2, fate, &calls, expected)?;
+    }
+    Ok(())
 }
 
 // A session begins with this plan, and the batch is handed over.
@@ -221,23 +251,33 @@ fn three_sessions<A: Agency>(alloc: Global, agency: &mut A, text: &mut String) -
     submit_in_session(alloc, agency, 4, Fate::Stale, &first, text)
 }
 
-// At last an agency that has processed nothing takes what was noted.
-#[test]
-fn sessions_of_two_batches(rt: HostRuntime) -> Result<(), Fail> {
-    let alloc = rt.alloc();
+// An agency after three sessions, and what it said.
+fn after_three_sessions(alloc: Global) -> Result<(PracticeAgency, String), Fail> {
     let mut agency = PracticeAgency::new(alloc);
     let mut text = String::new(alloc);
     three_sessions(alloc, &mut agency, &mut text)?;
     put_sums(&agency, &mut text)?;
-    let mut other = PracticeAgency::new(alloc);
-    let plan = Plan::plain(alloc);
-    begin(alloc, &mut other, &plan, agency.processed())?;
-    put_sums(&other, &mut text)?;
+    Ok((agency, text))
+}
+
+// What an agency holds that has processed nothing and begins with these pairs.
+fn taken_over(alloc: Global, noted: &[(Sealed, Line)]) -> Result<String, Fail> {
+    let agency = begun(alloc, &Plan::plain(alloc), noted)?;
+    let mut text = String::new(alloc);
+    put_sums(&agency, &mut text)?;
+    Ok(text)
+}
+
+#[test]
+fn sessions_of_two_batches(rt: HostRuntime) -> Result<(), Fail> {
+    let (agency, said) = after_three_sessions(rt.alloc())?;
     assert_eq!(rt;
-        text.as_str(),
+        said.as_str(),
         "Failed; [First(Correcto)] wait 60; [Was(Incorrecto(Vet(4100))), Was(Correcto)]; \
-         [First(Correcto)] wait 60; processed 3 sent 3 faults 2; processed 3 sent 0 faults 0; "
+         [First(Correcto)] wait 60; processed 3 sent 3 faults 2; "
     );
+    let other = taken_over(rt.alloc(), agency.processed())?;
+    assert_eq!(rt; other.as_str(), "processed 3 sent 0 faults 0; ");
     Ok(())
 }
 
@@ -267,34 +307,37 @@ fn unseen(alloc: Global, count: usize) -> Result<ToldAnswer, Fail> {
 // A reply that fits, one to another batch, one to the other call, an answer that fits, and a short one.
 fn five_answers(alloc: Global, records: &[Sealed]) -> Result<ToldAnswers, Fail> {
     let mut answers = Vec::new(alloc);
-    answers.push(reply(alloc, records)?)?;
-    if let [_, rest @ ..] = records {
+    for from in [0usize, 1] {
+        let rest = records.get(from..).ok_or("a record")?;
         answers.push(reply(alloc, rest)?)?;
     }
-    answers.push(unseen(alloc, 2)?)?;
-    answers.push(unseen(alloc, 2)?)?;
-    answers.push(unseen(alloc, 1)?)?;
+    for count in [2usize, 2, 1] {
+        answers.push(unseen(alloc, count)?)?;
+    }
     Ok(ToldAnswers::of(answers))
 }
 
-// Three submissions and three consultations: an answer that doesn't fit is used up and fails, and at last there is none.
-#[test]
-fn told_answers_fit_or_fail(rt: HostRuntime) -> Result<(), Fail> {
-    let alloc = rt.alloc();
-    let records = chain(alloc, 2)?;
-    assert_eq!(rt; records.len(), 2);
-    let both = batch(alloc, &records)?;
-    let mut agency = ToldAgency::new(alloc, five_answers(alloc, &records)?);
+// Three submissions of the records and three consultations.
+fn six_calls(alloc: Global, agency: &mut ToldAgency, records: &[Sealed]) -> Result<String, Fail> {
+    let both = batch(alloc, records)?;
     let mut text = String::new(alloc);
     for step in [Step::Submit, Step::Consult] {
-        make_calls(alloc, &mut agency, &both, &[step, step, step], &mut text)?;
+        make_calls(alloc, agency, &both, &[step, step, step], &mut text)?;
     }
+    Ok(text)
+}
+
+// An answer that doesn't fit is used up and fails, and at last there is none.
+#[test]
+fn told_answers_fit_or_fail(rt: HostRuntime) -> Result<(), Fail> {
+    let records = chain(rt.alloc(), 2)?;
+    let mut agency = ToldAgency::new(rt.alloc(), five_answers(rt.alloc(), &records)?);
+    let text = six_calls(rt.alloc(), &mut agency, &records)?;
     assert_eq!(rt;
         text.as_str(),
         "[First(Correcto), First(Correcto)] wait 7; Failed; Failed; [NotSeen, NotSeen]; Failed; Failed; "
     );
-    assert_eq!(rt; agency.messages().len(), 6);
-    assert_eq!(rt; agency.faults(), 4);
+    assert_eq!(rt; (agency.messages().len(), agency.faults()), (6, 4));
     Ok(())
 }
 

@@ -1,6 +1,7 @@
-use crate::records::{chain, digest};
+use crate::records::{batch, chain, digest};
 use batches::{Batch, Batches, Huellas, are_linked};
 use record_fields::Sealed;
+use std::alloc::Global;
 use std::test::Fail;
 
 // The first and the last of these are the records with these numbers.
@@ -11,31 +12,27 @@ fn run_from(records: &[Sealed], first: u32, last: u32) -> bool {
     }
 }
 
+// The batch that is cut of these records begins and ends with those of these numbers.
+fn is_cut(alloc: Global, records: &[Sealed], first: u32, last: u32) -> Result<bool, Fail> {
+    let batch = batch(alloc, records)?;
+    Ok(run_from(batch.as_slice(), first, last))
+}
+
 #[test]
 fn batches_are_cut(rt: HostRuntime) -> Result<(), Fail> {
-    let alloc = rt.alloc();
-    let records = chain(alloc, 1001)?;
-    assert!(rt; are_linked(&records));
-    let Ok(Some(batch)) = Batch::cut(alloc, &records) else {
-        return Err(Fail::from("a batch"));
-    };
-    assert_eq!(rt; batch.as_slice().len(), 1000);
-    assert!(rt; run_from(batch.as_slice(), 1, 1000));
-    assert_eq!(rt; records.len(), 1001);
-    let rest = &records[1000..];
-    assert!(rt; are_linked(rest));
-    let Ok(Some(last)) = Batch::cut(alloc, rest) else {
-        return Err(Fail::from("a batch"));
-    };
-    assert_eq!(rt; last.as_slice().len(), 1);
-    assert!(rt; run_from(last.as_slice(), 1001, 1001));
-    let none = Vec::new(alloc);
-    assert!(rt; are_linked(&none));
-    assert!(rt; matches!(Batch::cut(alloc, &none), Ok(None)));
-    let Ok(copy) = last.copied(alloc) else {
-        return Err(Fail::from("a copy"));
-    };
-    let mut batches = Batches::of(Vec::new(alloc));
+    let records = chain(rt.alloc(), 1001)?;
+    assert!(rt; is_cut(rt.alloc(), &records, 1, 1000)?);
+    let rest = records.get(1000..).ok_or("a record")?;
+    assert!(rt; is_cut(rt.alloc(), rest, 1001, 1001)?);
+    assert!(rt; are_linked(&[]) && matches!(Batch::cut(rt.alloc(), &[]), Ok(None)));
+    Ok(())
+}
+
+#[test]
+fn batches_are_listed(rt: HostRuntime) -> Result<(), Fail> {
+    let batch = batch(rt.alloc(), &chain(rt.alloc(), 1)?)?;
+    let copy = batch.copied(rt.alloc())?;
+    let mut batches = Batches::of(Vec::new(rt.alloc()));
     assert!(rt; batches.push(copy).is_ok());
     assert_eq!(rt; batches.as_slice().len(), 1);
     Ok(())

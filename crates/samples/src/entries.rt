@@ -210,15 +210,19 @@ fn is_read_back(alloc: Global, bytes: &[u8]) -> Result<bool, Fail> {
 
 #[test]
 fn entries_have_their_bytes(rt: HostRuntime) -> Result<(), Fail> {
-    let alloc = rt.alloc();
-    assert!(rt; is_written(alloc, &sale(alloc)?, &SALE));
-    assert!(rt; is_written(alloc, &rectified(alloc)?, &RECTIFIED));
-    assert!(rt; is_written(alloc, &cancelled()?, &CANCELLED));
-    assert!(rt; is_written(alloc, &noted(alloc)?, &NOTED));
-    assert!(rt; is_read_back(alloc, &SALE)?);
-    assert!(rt; is_read_back(alloc, &RECTIFIED)?);
-    assert!(rt; is_read_back(alloc, &CANCELLED)?);
-    assert!(rt; is_read_back(alloc, &NOTED)?);
+    assert!(rt; is_written(rt.alloc(), &sale(rt.alloc())?, &SALE));
+    assert!(rt; is_written(rt.alloc(), &rectified(rt.alloc())?, &RECTIFIED));
+    assert!(rt; is_written(rt.alloc(), &cancelled()?, &CANCELLED));
+    assert!(rt; is_written(rt.alloc(), &noted(rt.alloc())?, &NOTED));
+    Ok(())
+}
+
+#[test]
+fn bytes_are_those_of_an_entry(rt: HostRuntime) -> Result<(), Fail> {
+    let entries = [SALE.as_slice(), &RECTIFIED, &CANCELLED, &NOTED];
+    for bytes in entries {
+        assert!(rt; is_read_back(rt.alloc(), bytes)?, "{bytes:?}");
+    }
     Ok(())
 }
 
@@ -241,84 +245,85 @@ fn fault_with(
     fault(alloc, &changed)
 }
 
-#[test]
-fn the_first_wrong_field_is_named(rt: HostRuntime) -> Result<(), Fail> {
-    let alloc = rt.alloc();
-    // A place, the byte that it is changed to, and the place of the field that is then wrong.
-    for (place, byte, at) in [
-        (0, 0, 0),
-        (0, 4, 0),
-        (1, 0, 1),
-        (1, 65, 1),
-        (5, 0, 2),
-        (6, 0, 6),
-        (6, 61, 6),
-        (6, 255, 6),
-        (7, b'=', 6),
-        (7, b' ', 6),
-        (7, 255, 6),
-        (11, 1, 10),
-        (14, 8, 14),
-        (15, 3, 15),
-        (16, 2, 16),
-        (17, 9, 17),
-        (18, 0, 18),
-        (18, 13, 18),
-        (19, 16, 19),
-        (20, 1, 20),
-        (20, 255, 20),
-        (28, 2, 28),
-        (29, 3, 29),
-        (30, 2, 30),
-        (31, 1, 31),
-        (35, 0x65, 31),
-        (39, 1, 39),
-        (40, 61, 39),
-    ] {
-        let found = fault_with(alloc, &SALE, place, byte)?;
-        assert_eq!(rt; found, Some(BadEntry::At { at }), "{place} {byte}");
+// A place, the byte that it is changed to, and the place of the field that is then wrong.
+type Change = (usize, u8, usize);
+
+const OF_SALE: [Change; 28] = [
+    (0, 0, 0),
+    (0, 4, 0),
+    (1, 0, 1),
+    (1, 65, 1),
+    (5, 0, 2),
+    (6, 0, 6),
+    (6, 61, 6),
+    (6, 255, 6),
+    (7, b'=', 6),
+    (7, b' ', 6),
+    (7, 255, 6),
+    (11, 1, 10),
+    (14, 8, 14),
+    (15, 3, 15),
+    (16, 2, 16),
+    (17, 9, 17),
+    (18, 0, 18),
+    (18, 13, 18),
+    (19, 16, 19),
+    (20, 1, 20),
+    (20, 255, 20),
+    (28, 2, 28),
+    (29, 3, 29),
+    (30, 2, 30),
+    (31, 1, 31),
+    (35, 0x65, 31),
+    (39, 1, 39),
+    (40, 61, 39),
+];
+
+const OF_RECTIFIED: [Change; 12] = [
+    (25, b'5', 17),
+    (26, 0, 26),
+    (27, 255, 26),
+    (29, 31, 26),
+    (39, b' ', 26),
+    (40, 9, 40),
+    (45, 1, 45),
+    (49, 0, 49),
+    (76, 0xe4, 70),
+    (86, 0, 79),
+    (89, 2, 89),
+    (95, 1, 94),
+];
+
+const OF_CANCELLED: [Change; 4] = [(14, 2, 14), (15, 2, 15), (24, 0xe7, 21), (63, 0x57, 57)];
+
+const OF_NOTED: [Change; 9] = [
+    (6, 0, 5),
+    (5, 4, 5),
+    (6, 7, 25),
+    (6, 5, 22),
+    (7, 6, 7),
+    (8, 1, 7),
+    (18, 1, 16),
+    (21, 1, 19),
+    (24, 1, 22),
+];
+
+// Each change names its field.
+fn are_named(alloc: Global, bytes: &[u8], changes: &[Change]) -> Result<bool, Fail> {
+    for (place, byte, at) in changes {
+        if fault_with(alloc, bytes, *place, *byte)? != Some(BadEntry::At { at: *at }) {
+            return Ok(false);
+        }
     }
-    for (place, byte, at) in [
-        (25, b'5', 17),
-        (26, 0, 26),
-        (27, 255, 26),
-        (29, 31, 26),
-        (39, b' ', 26),
-        (40, 9, 40),
-        (45, 1, 45),
-        (49, 0, 49),
-        (76, 0xe4, 70),
-        (86, 0, 79),
-        (89, 2, 89),
-        (95, 1, 94),
-    ] {
-        let found = fault_with(alloc, &RECTIFIED, place, byte)?;
-        assert_eq!(rt; found, Some(BadEntry::At { at }), "{place} {byte}");
-    }
-    Ok(())
+    Ok(true)
 }
 
 #[test]
-fn so_it_is_in_cancellations_and_notes(rt: HostRuntime) -> Result<(), Fail> {
-    let alloc = rt.alloc();
-    for (place, byte, at) in [(14, 2, 14), (15, 2, 15), (24, 0xe7, 21), (63, 0x57, 57)] {
-        let found = fault_with(alloc, &CANCELLED, place, byte)?;
-        assert_eq!(rt; found, Some(BadEntry::At { at }), "{place} {byte}");
-    }
-    for (place, byte, at) in [
-        (6, 0, 5),
-        (5, 4, 5),
-        (6, 7, 25),
-        (6, 5, 22),
-        (7, 6, 7),
-        (8, 1, 7),
-        (18, 1, 16),
-        (21, 1, 19),
-        (24, 1, 22),
-    ] {
-        let found = fault_with(alloc, &NOTED, place, byte)?;
-        assert_eq!(rt; found, Some(BadEntry::At { at }), "{place} {byte}");
-    }
+fn the_first_wrong_field_is_named(rt: HostRuntime) -> Result<(), Fail> {
+    assert!(rt; are_named(rt.alloc(), &SALE, &OF_SALE)?);
+    assert!(rt; are_named(rt.alloc(), &RECTIFIED, &OF_RECTIFIED)?);
+    assert!(rt; are_named(rt.alloc(), &CANCELLED, &OF_CANCELLED)?);
+    assert!(rt; are_named(rt.alloc(), &NOTED, &OF_NOTED)?);
     Ok(())
 }
 

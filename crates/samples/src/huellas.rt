@@ -30,22 +30,27 @@ fn invoiced(alloc: Global, num: &str, link: Link, seconds: u64) -> Result<Record
     Ok(Record::Alta(alta(issuer()?, id, draft, link, moment(seconds)?)))
 }
 
+// The record has this field text and this Huella.
+fn says(alloc: Global, record: &Record, text: &str, huella: &str) -> Result<bool, Fail> {
+    let has_text = field_text(alloc, record)?.as_slice() == text.as_bytes();
+    Ok(has_text && huella_text(&huella_of(record)).as_slice() == huella.as_bytes())
+}
+
+// The cancellation of the second invoice, behind its record.
+fn cancelled(link: Link) -> Result<Record, Fail> {
+    let id = id("12345679/G34", "01-01-2024")?;
+    Ok(Record::Anulacion(anulacion(issuer()?, id, link, moment(1_704_133_240)?)))
+}
+
 #[test]
 fn the_published_examples(rt: HostRuntime) -> Result<(), Fail> {
     let alloc = rt.alloc();
     let first = invoiced(alloc, "12345678/G33", Link::First, 1_704_133_230)?;
-    assert!(rt; field_text(alloc, &first)?.as_slice() == FIRST_TEXT.as_bytes());
-    let first = seal(first);
-    assert!(rt; huella_text(&first.huella).as_slice() == FIRST.as_bytes());
-    let second = invoiced(alloc, "12345679/G34", after(&first), 1_704_133_235)?;
-    assert!(rt; field_text(alloc, &second)?.as_slice() == SECOND_TEXT.as_bytes());
-    let second = seal(second);
-    assert!(rt; huella_text(&second.huella).as_slice() == SECOND.as_bytes());
-    let cancelled = id("12345679/G34", "01-01-2024")?;
-    let third = anulacion(issuer()?, cancelled, after(&second), moment(1_704_133_240)?);
-    let third = Record::Anulacion(third);
-    assert!(rt; field_text(alloc, &third)?.as_slice() == THIRD_TEXT.as_bytes());
-    assert!(rt; huella_text(&huella_of(&third)).as_slice() == THIRD.as_bytes());
+    assert!(rt; says(alloc, &first, FIRST_TEXT, FIRST)?);
+    let second = invoiced(alloc, "12345679/G34", after(&seal(first)), 1_704_133_235)?;
+    assert!(rt; says(alloc, &second, SECOND_TEXT, SECOND)?);
+    let third = cancelled(after(&seal(second)))?;
+    assert!(rt; says(alloc, &third, THIRD_TEXT, THIRD)?);
     Ok(())
 }
 

@@ -37,96 +37,97 @@ const VET: Option<Verdict> = Some(Verdict::Vet(4100));
 const WARN: Option<Verdict> = Some(Verdict::Warn(2001));
 
 // The table: whether the invoice is held, whether it is gone, the verdict, Subsanacion, RechazoPrevio, and the line.
+const OF_ALTAS: [(bool, bool, Option<Verdict>, bool, Previo, Line); 15] = [
+    (
+        true,
+        false,
+        VET,
+        false,
+        Previo::N,
+        Line::Incorrecto(Cause::Vet(4100)),
+    ),
+    (
+        false,
+        true,
+        VET,
+        false,
+        Previo::N,
+        Line::Incorrecto(Cause::Vet(4100)),
+    ),
+    (
+        false,
+        true,
+        None,
+        false,
+        Previo::N,
+        Line::Incorrecto(Cause::Gone),
+    ),
+    (
+        false,
+        true,
+        WARN,
+        true,
+        Previo::S,
+        Line::Incorrecto(Cause::Gone),
+    ),
+    (
+        false,
+        true,
+        None,
+        true,
+        Previo::X,
+        Line::Incorrecto(Cause::Gone),
+    ),
+    (
+        true,
+        false,
+        None,
+        false,
+        Previo::N,
+        Line::Incorrecto(Cause::Held),
+    ),
+    (
+        true,
+        false,
+        WARN,
+        false,
+        Previo::S,
+        Line::Incorrecto(Cause::Held),
+    ),
+    (
+        true,
+        false,
+        None,
+        true,
+        Previo::X,
+        Line::Incorrecto(Cause::Held),
+    ),
+    (
+        false,
+        false,
+        None,
+        true,
+        Previo::N,
+        Line::Incorrecto(Cause::NotHeld),
+    ),
+    (
+        false,
+        false,
+        WARN,
+        true,
+        Previo::S,
+        Line::Incorrecto(Cause::NotHeld),
+    ),
+    (false, false, WARN, false, Previo::N, Line::ConErrores(2001)),
+    (true, false, WARN, true, Previo::N, Line::ConErrores(2001)),
+    (false, false, None, false, Previo::N, Line::Correcto),
+    (false, false, None, true, Previo::X, Line::Correcto),
+    (true, false, None, true, Previo::S, Line::Correcto),
+];
+
 #[test]
 fn altas_are_judged(rt: HostRuntime) -> Result<(), Fail> {
-    let rows = [
-        (
-            true,
-            false,
-            VET,
-            false,
-            Previo::N,
-            Line::Incorrecto(Cause::Vet(4100)),
-        ),
-        (
-            false,
-            true,
-            VET,
-            false,
-            Previo::N,
-            Line::Incorrecto(Cause::Vet(4100)),
-        ),
-        (
-            false,
-            true,
-            None,
-            false,
-            Previo::N,
-            Line::Incorrecto(Cause::Gone),
-        ),
-        (
-            false,
-            true,
-            WARN,
-            true,
-            Previo::S,
-            Line::Incorrecto(Cause::Gone),
-        ),
-        (
-            false,
-            true,
-            None,
-            true,
-            Previo::X,
-            Line::Incorrecto(Cause::Gone),
-        ),
-        (
-            true,
-            false,
-            None,
-            false,
-            Previo::N,
-            Line::Incorrecto(Cause::Held),
-        ),
-        (
-            true,
-            false,
-            WARN,
-            false,
-            Previo::S,
-            Line::Incorrecto(Cause::Held),
-        ),
-        (
-            true,
-            false,
-            None,
-            true,
-            Previo::X,
-            Line::Incorrecto(Cause::Held),
-        ),
-        (
-            false,
-            false,
-            None,
-            true,
-            Previo::N,
-            Line::Incorrecto(Cause::NotHeld),
-        ),
-        (
-            false,
-            false,
-            WARN,
-            true,
-            Previo::S,
-            Line::Incorrecto(Cause::NotHeld),
-        ),
-        (false, false, WARN, false, Previo::N, Line::ConErrores(2001)),
-        (true, false, WARN, true, Previo::N, Line::ConErrores(2001)),
-        (false, false, None, false, Previo::N, Line::Correcto),
-        (false, false, None, true, Previo::X, Line::Correcto),
-        (true, false, None, true, Previo::S, Line::Correcto),
-    ];
-    for (held, gone, verdict, subsanacion, rechazo, line) in rows {
+    for (held, gone, verdict, subsanacion, rechazo, line) in OF_ALTAS {
         let body = alta(rt.alloc(), "01-01-2025", subsanacion, rechazo)?;
         assert_eq!(rt; judge(&past(held, gone), verdict, &body), line);
     }
@@ -134,19 +135,20 @@ fn altas_are_judged(rt: HostRuntime) -> Result<(), Fail> {
 }
 
 // The table: whether the invoice is held, whether it is gone, the verdict, SinRegistroPrevio, and the line.
+const OF_ANULACIONES: [(bool, bool, Option<Verdict>, bool, Line); 8] = [
+    (true, false, VET, false, Line::Incorrecto(Cause::Vet(4100))),
+    (false, true, None, false, Line::Incorrecto(Cause::Gone)),
+    (false, true, None, true, Line::Incorrecto(Cause::Gone)),
+    (true, false, None, true, Line::Incorrecto(Cause::Held)),
+    (false, false, WARN, false, Line::Incorrecto(Cause::NotHeld)),
+    (true, false, WARN, false, Line::ConErrores(2001)),
+    (true, false, None, false, Line::Correcto),
+    (false, false, None, true, Line::Correcto),
+];
+
 #[test]
 fn anulaciones_are_judged(rt: HostRuntime) -> Result<(), Fail> {
-    let rows = [
-        (true, false, VET, false, Line::Incorrecto(Cause::Vet(4100))),
-        (false, true, None, false, Line::Incorrecto(Cause::Gone)),
-        (false, true, None, true, Line::Incorrecto(Cause::Gone)),
-        (true, false, None, true, Line::Incorrecto(Cause::Held)),
-        (false, false, WARN, false, Line::Incorrecto(Cause::NotHeld)),
-        (true, false, WARN, false, Line::ConErrores(2001)),
-        (true, false, None, false, Line::Correcto),
-        (false, false, None, true, Line::Correcto),
-    ];
-    for (held, gone, verdict, sin_registro, line) in rows {
+    for (held, gone, verdict, sin_registro, line) in OF_ANULACIONES {
         let body = cancelled("01-01-2025", sin_registro)?;
         assert_eq!(rt; judge(&past(held, gone), verdict, &body), line);
     }
@@ -205,60 +207,89 @@ fn fates_are_planned(rt: HostRuntime) -> Result<(), Fail> {
 
 const DAY: &str = "01-01-2025";
 
+// A cancellation or an alta, with its flag.
+fn body(alloc: Global, day: &str, cancels: bool, flag: bool) -> Result<Record, Fail> {
+    if cancels {
+        cancelled(day, flag)
+    } else {
+        alta(alloc, day, flag, Previo::N)
+    }
+}
+
 // An alta, its mend with a warning, its cancellation, one that comes too late, one of another day, and the late one again.
 #[test]
 fn records_are_delivered(rt: HostRuntime) -> Result<(), Fail> {
-    let alloc = rt.alloc();
-    let plan = plan(alloc)?;
-    let mut pairs = Pairs::new(alloc);
-    let new = alta(alloc, DAY, false, Previo::N)?;
-    let first = arrives(&rt, &mut pairs, &plan, new, 1)?;
-    assert_eq!(rt; first, Delivered::First(Line::Correcto));
-    let mend = alta(alloc, DAY, true, Previo::N)?;
-    let second = arrives(&rt, &mut pairs, &plan, mend, 2)?;
-    assert_eq!(rt; second, Delivered::First(Line::ConErrores(2001)));
-    let third = arrives(&rt, &mut pairs, &plan, cancelled(DAY, false)?, 3)?;
-    assert_eq!(rt; third, Delivered::First(Line::Correcto));
-    let late = alta(alloc, DAY, false, Previo::N)?;
-    let fourth = arrives(&rt, &mut pairs, &plan, late, 4)?;
-    assert_eq!(rt; fourth, Delivered::First(Line::Incorrecto(Cause::Gone)));
-    let other = alta(alloc, "02-01-2025", false, Previo::N)?;
-    let fifth = arrives(&rt, &mut pairs, &plan, other, 5)?;
-    assert_eq!(rt; fifth, Delivered::First(Line::Correcto));
-    let again = arrives(&rt, &mut pairs, &plan, cancelled(DAY, true)?, 4)?;
-    assert_eq!(rt; again, Delivered::Again(Line::Incorrecto(Cause::Gone)));
+    let plan = plan(rt.alloc())?;
+    let mut pairs = Pairs::new(rt.alloc());
+    let gone = Line::Incorrecto(Cause::Gone);
+    let rows = [
+        (DAY, false, false, 1, Delivered::First(Line::Correcto)),
+        (
+            DAY,
+            false,
+            true,
+            2,
+            Delivered::First(Line::ConErrores(2001)),
+        ),
+        (DAY, true, false, 3, Delivered::First(Line::Correcto)),
+        (DAY, false, false, 4, Delivered::First(gone)),
+        (
+            "02-01-2025",
+            false,
+            false,
+            5,
+            Delivered::First(Line::Correcto),
+        ),
+        (DAY, true, true, 4, Delivered::Again(gone)),
+    ];
+    for (day, cancels, flag, n, expected) in rows {
+        let body = body(rt.alloc(), day, cancels, flag)?;
+        assert_eq!(rt;
+            arrives(&rt, &mut pairs, &plan, body, n)?,
+            expected,
+            "record {n}"
+        );
+    }
     let past = Past {
         count: 4,
         held: false,
         gone: true,
     };
-    assert_eq!(rt; pairs.past_of(&id("A-1", DAY)?), past);
-    assert_eq!(rt; pairs.len(), 5);
+    assert_eq!(rt; (pairs.past_of(&id("A-1", DAY)?), pairs.len()), (past, 5));
     Ok(())
 }
 
-#[test]
-fn a_delivery_is_taken_back(rt: HostRuntime) -> Result<(), Fail> {
-    let alloc = rt.alloc();
+// The pairs with a cancellation that finds nothing.
+fn with_one(alloc: Global, mut pairs: Pairs) -> Result<Pairs, Fail> {
     let plan = plan(alloc)?;
-    let mut pairs = Pairs::new(alloc);
     let batch = [Sealed {
         body: cancelled(DAY, false)?,
         huella: [9; 32],
     }];
-    assert!(rt; pairs.deliver(alloc, &plan.verdicts, &batch).is_ok());
-    let Ok(copy) = Pairs::of(alloc, pairs.as_slice()) else {
+    match pairs.deliver(alloc, &plan.verdicts, &batch) {
+        Ok(()) => Ok(pairs),
+        Err(_) => Err(Fail::from("memory")),
+    }
+}
+
+#[test]
+fn a_delivery_is_taken_back(rt: HostRuntime) -> Result<(), Fail> {
+    let not_held = Some(Line::Incorrecto(Cause::NotHeld));
+    let mut pairs = with_one(rt.alloc(), Pairs::new(rt.alloc()))?;
+    assert_eq!(rt; pairs.line_of(&[9; 32]), not_held);
+    pairs.truncate(0);
+    assert_eq!(rt; pairs.line_of(&[9; 32]), None);
+    let pairs = with_one(rt.alloc(), pairs)?;
+    assert_eq!(rt; pairs.past_of(&id("A-1", DAY)?).count, 1);
+    Ok(())
+}
+
+#[test]
+fn pairs_are_made_of_a_list(rt: HostRuntime) -> Result<(), Fail> {
+    let pairs = with_one(rt.alloc(), Pairs::new(rt.alloc()))?;
+    let Ok(copy) = Pairs::of(rt.alloc(), pairs.as_slice()) else {
         return Err(Fail::from("memory"));
     };
     assert_eq!(rt; copy.as_slice().len(), 1);
-    assert_eq!(rt;
-        pairs.line_of(&[9; 32]),
-        Some(Line::Incorrecto(Cause::NotHeld))
-    );
-    pairs.truncate(0);
-    assert_eq!(rt; pairs.line_of(&[9; 32]), None);
-    assert_eq!(rt; pairs.past_of(&id("A-1", DAY)?).count, 0);
-    assert!(rt; pairs.deliver(alloc, &plan.verdicts, &batch).is_ok());
-    assert_eq!(rt; pairs.past_of(&id("A-1", DAY)?).count, 1);
     Ok(())
 }

@@ -7,6 +7,8 @@ mod agencies;
 #[cfg(test)]
 mod chains;
 #[cfg(test)]
+mod consultations;
+#[cfg(test)]
 mod entries;
 #[cfg(test)]
 mod huellas;

@@ -5,8 +5,6 @@ mod inline;
 mod laws;
 mod names;
 mod numbers;
-#[cfg(test)]
-mod tests;
 
 pub use laws::{numbers_differ, series_is_read_back};
 pub use names::SeriesName;

@@ -6,8 +6,6 @@ mod clock;
 mod day;
 mod laws;
 mod stamp;
-#[cfg(test)]
-mod tests;
 
 pub use civil::CivilDate;
 pub use clock::{last_sunday, zone};

@@ -6,8 +6,6 @@ mod classes;
 mod faults;
 mod laws;
 mod lines;
-#[cfg(test)]
-mod tests;
 mod totals;
 
 pub use breakdown::{Breakdown, MAX_LINES};

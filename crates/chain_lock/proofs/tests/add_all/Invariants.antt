@@ -1,9 +1,0 @@
-use Rattle.std.proofs.Common.{◌≡◌}
-use Rattle.chain_lock.specs.Words.{known, lock_id, pass_lock}
-use Rattle.chain_lock.proofs.tests.add_all.Given as goal
-
-abbrev pub invariant-loop-k : goal.invariant-loop-k
-invariant-loop-k g l = record {
-  lock : pass_lock l.pass ≡ lock_id l.lock;
-  numbers : (known l.pass).numbers ≡ (known l.fn.pass).numbers;
-}
