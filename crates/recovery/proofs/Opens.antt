@@ -1,5 +1,5 @@
 -- A file that was opened.
-use Rattle.std.proofs.Common.{◌≡◌, ℕ, List, [], refl, inl, inr}
+use Rattle.std.proofs.Common.{◌≡◌, ℕ, List, [], refl, inl, inr, Result, Ok, Err, IfOk}
 use Rattle.recovery.specs.Opening.{IsFound}
 use Rattle.chain_disk.specs.Told.{Told, IsSettled, LeavesNow, LeavesOnly}
 use Rattle.chain_disk.specs.Runs.{leaves_now, started_settled, weaker}
@@ -41,3 +41,8 @@ begins issuer t u legal only = weaker t u (IsNotBegunOrEmpty issuer) (IsFound is
 pub holds_on : (issuer : List ℕ) (entries : List Entry) (t : Told) → StandsFor issuer entries t.content → IsSettled t →
     LeavesOnly t t (IsFound issuer entries)
 holds_on issuer entries t stands quiet = started_settled t (IsFound issuer entries) quiet (inr stands)
+
+-- what follows from what holds of an answer holds of it
+pub if_ok : {A E : Type 0} (P Q : A → Type 0) (r : Result A E) → IfOk r P → ((x : A) → P x → Q x) → IfOk r Q
+if_ok P Q (Ok x) h f = f x h
+if_ok P Q (Err e) h f = tt

@@ -2,7 +2,5 @@
 #![tactic(auto)]
 
 mod opening;
-#[cfg(test)]
-mod tests;
 
 pub use opening::{OpenFault, open_store};

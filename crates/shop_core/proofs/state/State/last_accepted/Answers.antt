@@ -1,0 +1,37 @@
+use Rattle.std.proofs.Common.{◌≡◌, ◌∙◌, ap, sym, refl, ℕ, Option, Some, None, option_map, List}
+use Rattle.record_fields.specs.declared.records.Sealed.{Sealed}
+use Rattle.record_codec.specs.declared.entries.Entry.{Entry}
+use Rattle.shop_core.specs.Found.{is_wanted}
+use Rattle.shop_core.specs.ByNumber.{place_in}
+use Rattle.shop_core.specs.History.{recs, noted, sealed_at}
+use Rattle.shop_core.specs.Standing.{last_accepted}
+use Rattle.shop_core.specs.declared.standing.Wanted.TheVariants.{Accepted}
+use Rattle.shop_core.proofs.Standings.{last_read}
+use Rattle.shop_core.proofs.state.State.last_accepted.Goals as goal
+
+mapped : (o : Option (ℕ × Sealed)) → option_map (λ (p : ℕ × Sealed). p) o ≡ o
+mapped None = refl
+mapped (Some p) = refl
+
+placed_with : ℕ → Option Sealed → Option (ℕ × Sealed)
+placed_with place o = option_map (λ (s : Sealed). (place, s)) o
+
+there : (entries : List Entry) (num : List ℕ) (place : ℕ) (found : Option Sealed) →
+    place_in (is_wanted Accepted (noted entries) num) (recs entries) ≡ Some place → found ≡ sealed_at entries place →
+    placed_with place found ≡ last_accepted entries num
+unfolding placed_with
+there entries num place found e f =
+    ap (placed_with place) f ∙ last_read (λ (p : ℕ × Sealed). p) (is_wanted Accepted (noted entries) num) (recs entries) place e
+    ∙ mapped (last_accepted entries num)
+
+pub returns-in-None-2 : goal.returns-in-None-2
+unfolding placed_with
+returns-in-None-2 c =
+    there c.args.self.now.entries c.args.num.now c.in-Some.place None (sym c.place_where.ensures ∙ c.in-Some.is)
+    (sym c.in-None-2.is ∙ c.in_ok-sealed-in-Some.ensures)
+
+pub returns-in-Some-2 : goal.returns-in-Some-2
+unfolding placed_with
+returns-in-Some-2 c =
+    there c.args.self.now.entries c.args.num.now c.in-Some.place (Some c.in-Some-2.sealed)
+    (sym c.place_where.ensures ∙ c.in-Some.is) (sym c.in-Some-2.is ∙ c.in_ok-sealed-in-Some.ensures)
