@@ -4,6 +4,8 @@ use Rattle.shop_core.specs.Reading.{IsRead}
 use Rattle.shop_core.specs.Reading.IsRead.{not_begun, stands, in_header, no_frame, no_entry, not_next}
 use Rattle.shop_core.specs.declared.reading.FileRead.{FileRead}
 use Rattle.shop_core.specs.declared.reading.FileRead.TheVariants.{NotBegun, Sound, Broken}
+use Rattle.link_check.specs.Checked.Chain.{not_begun as none_begun, begun}
+use Rattle.file_commands.specs.Checking.{IsChainOf}
 use Rattle.file_commands.specs.Linking.{IsHistoryOf}
 
 abbrev pub Holds : List ℕ → FileRead → Type 0
@@ -18,3 +20,17 @@ holds file read (in_header at h) = tt
 holds file read (no_frame issuer entries at sound damaged) = tt
 holds file read (no_entry issuer entries at body sound counted none) = tt
 holds file read (not_next issuer entries at body entry why sound counted encoding not broken) = tt
+
+-- What links are held against.
+abbrev pub Kept : List ℕ → FileRead → Type 0
+Kept file NotBegun = IsChainOf none_begun file
+Kept file (Sound history end) = IsChainOf (begun history.issuer history.entries) file
+Kept file (Broken place at what) = Unit {0}
+
+pub kept : (file : List ℕ) (read : FileRead) → IsRead file read → Kept file read
+kept file read (not_begun none) = none
+kept file read (stands history end h gate) = h
+kept file read (in_header at h) = tt
+kept file read (no_frame issuer entries at sound damaged) = tt
+kept file read (no_entry issuer entries at body sound counted none) = tt
+kept file read (not_next issuer entries at body entry why sound counted encoding not broken) = tt

@@ -1,5 +1,5 @@
 -- The last alta of a number is an alta.
-use Rattle.std.proofs.Common.{◌≡◌, ℕ, List, slice_get, option_map, refl, subst, Bool, true, false, Option, Some, None, cond}
+use Rattle.std.proofs.Common.{◌≡◌, ℕ, List, option_map, refl, subst, Bool, true, false, Option, Some, None}
 use Rattle.std.specs.Prelude.{◌&&◌, All, filter, length, ◌-◌}
 use Rattle.std.specs.List.{enumerate_from}
 use Rattle.std.proofs.lemmas.List.Elements.{filter_passes}

@@ -1,3 +1,4 @@
 pub mod Bytewise
 pub mod Lasts
 pub mod FileReads
+mod Cutting

@@ -1,5 +1,5 @@
 -- How `audit` ends.
-use Rattle.std.specs.Prelude.{ℕ, IsTrue}
+use Rattle.std.specs.Prelude.{IsTrue}
 use Rattle.chain_disk.specs.Disks.{Disks, DiskRose}
 use Rattle.ports.specs.Sinks.{Sinks, WroteNothing}
 use Rattle.shop_core.specs.declared.audits.AuditEnd.{AuditEnd}

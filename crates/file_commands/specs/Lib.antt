@@ -1,3 +1,6 @@
 pub mod Output
+pub mod Input
+pub mod Lines
 pub mod Auditing
 pub mod Linking
+pub mod Checking

@@ -1,4 +1,4 @@
-use Rattle.std.proofs.Common.{rules, ◌≡◌, List, [], subst, refl}
+use Rattle.std.proofs.Common.{rules, [], subst, refl}
 use Rattle.shop_core.specs.Reading.{IsRead}
 use Rattle.shop_core.specs.declared.reading.FileRead.{FileRead}
 use Rattle.file_commands.specs.Linking.LinkEnds.{read, damaged, disk_fault, no_memory}

@@ -1,0 +1,42 @@
+// Reads a source to its end.
+ghost use Rattle.std.specs.Prelude.{◌≡◌, ◌≤◌};
+ghost use Rattle.ports.specs.Sources.{this_source};
+ghost use Rattle.file_commands.specs.Input.{InputIs};
+
+use ports::Source;
+use std::alloc::Global;
+
+/// The greatest input, in bytes. The limit is this project's own.
+pub const MAX_INPUT: usize = 16_777_216;
+
+/// Why a source wasn't read to its end.
+#[derive(Clone, Copy, Debug, PartialEq, Eq)]
+pub enum InputFault {
+    ReadFault,
+    TooBig,
+    NoMemory,
+}
+
+/// All the bytes of a source. Each turn takes one at least.
+pub fn read_input<S: Source>(alloc: Global, source: &mut S) -> Result<Vec<u8>, InputFault>
+    ensures input { InputIs (this_source S.left S.faults source.old source.new) result }
+    ensures later { S.faults source.old ≤ S.faults source.new }
+{
+    let mut bytes = Vec::new(alloc);
+    let mut buf = [0u8; 4096];
+    for _turn in 0..=MAX_INPUT {
+        let Ok(count) = source.read(&mut buf) else {
+            return Err(InputFault::ReadFault);
+        };
+        if count == 0 {
+            return Ok(bytes);
+        }
+        if bytes.len() + count > MAX_INPUT {
+            return Err(InputFault::TooBig);
+        }
+        if bytes.extend_from_slice(&buf[..count]).is_err() {
+            return Err(InputFault::NoMemory);
+        }
+    }
+    Err(InputFault::TooBig)
+}

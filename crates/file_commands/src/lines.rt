@@ -1,0 +1,51 @@
+// The lines of a source.
+ghost use Rattle.std.specs.Prelude.{◌≡◌, ◌≢◌, ◌<◌, ◌==◌, [], ◌∷◌, IfOk, length, position};
+ghost use Rattle.std.specs.Str.Lines.{strip_carriage_return};
+ghost use Rattle.file_commands.specs.Lines.{lines_of};
+
+use link_check::LinkLines;
+use ports::NoMemory;
+use record_fields::Bytes;
+use std::alloc::Global;
+
+/// The lines of these bytes, each in memory of its own.
+pub(crate) fn read_lines(alloc: Global, bytes: &[u8]) -> Result<LinkLines, NoMemory>
+    ensures { IfOk result (λ lines. lines ≡ lines_of bytes.now) }
+{
+    let mut lines = Vec::new(alloc);
+    let mut rest = bytes;
+    while !rest.is_empty() {
+        let (line, after) = first_line(rest);
+        lines.push(Bytes::of(Vec::from_slice(alloc, line)?))?;
+        rest = after;
+    }
+    Ok(LinkLines::of(lines))
+}
+
+// The first line, and what is left behind its LF.
+fn first_line(text: &[u8]) -> (&[u8], &[u8])
+    requires { text.now ≢ [] }
+    ensures line { lines_of text.now ≡ result.0.now ∷ lines_of result.1.now }
+    ensures shorter { length result.1.now < length text.now }
+{
+    match place_of_lf(text) {
+        Some(end) => (without_return(&text[..end]), &text[end + 1..]),
+        None => (without_return(text), &[]),
+    }
+}
+
+fn place_of_lf(text: &[u8]) -> Option<usize>
+    ensures { result ≡ position (λ b. b == 10) text.now }
+{
+    text.iter().position(|b| *b == b'\n')
+}
+
+// A line without the one carriage return at its end.
+fn without_return(line: &[u8]) -> &[u8]
+    ensures { result.now ≡ strip_carriage_return line.now }
+{
+    match line {
+        [front @ .., b'\r'] => front,
+        _ => line,
+    }
+}

@@ -1,0 +1,4 @@
+mod Lasts
+mod Lines
+mod Looking
+mod Reading

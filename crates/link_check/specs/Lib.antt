@@ -1,0 +1,4 @@
+pub mod Checked
+pub mod Texts
+pub mod Said
+pub mod Pieces

@@ -1,0 +1,11 @@
+//! What holds of every list of lines.
+ghost use Rattle.link_check.specs.Checked.{AnswersAreOne};
+
+use verify_link::text_determines_reading;
+
+/// Lines have one list of answers. So one worker and sixteen give the same.
+pub fn answers_are_one()
+    ensures { AnswersAreOne }
+{
+    text_determines_reading();
+}
