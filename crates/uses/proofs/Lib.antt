@@ -1,2 +1,3 @@
 mod Tills
 mod Sent
+mod Kept

@@ -1,3 +1,4 @@
 pub mod Tickets
+pub mod Tills
 pub mod Links
 pub mod Verdicts

@@ -7,8 +7,6 @@
 mod auditing;
 mod linking;
 mod taking;
-#[cfg(test)]
-mod tests;
 mod threads;
 mod waiting;
 

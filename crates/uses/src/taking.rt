@@ -1,12 +1,12 @@
 // A sale, from the file to the ticket.
-ghost use Rattle.std.specs.Prelude.{◌≡◌, IfOk, IsTrue};
+ghost use Rattle.std.specs.Prelude.{◌≡◌, ◌⊎◌, IfOk, IsTrue};
 ghost use Rattle.std.specs.Int.{IsInRange};
 ghost use Rattle.chain_disk.specs.Told.{LeavesNow};
 ghost use Rattle.chain_store.specs.Store.{Ready, journal_of, state_of};
 ghost use Rattle.journal.specs.Journal.{disk_of};
 ghost use Rattle.record_codec.specs.declared.entries.TheConstants.{LAST_TILL};
 ghost use Rattle.shop_core.specs.Files.{StandsFor};
-ghost use Rattle.uses.specs.Tickets.{IsTicket, IsTicketIn};
+ghost use Rattle.uses.specs.Tickets.{Answers, IsTicketAt, IsTicketOf};
 
 use amounts::Cents;
 use chain_disk::Disk;
@@ -19,7 +19,7 @@ use ports::Clock;
 use record_fields::{Draft, Record, Refs, Text};
 use recovery::open_store;
 use series::SeriesName;
-use shop_core::{Ask, Refusal, Reply, Request, State};
+use shop_core::{Ask, Receipt, Refusal, Reply, Request, State};
 use std::alloc::Global;
 use std::io::{self, Write};
 use tax_lines::{Breakdown, LineKey, TaxLine};
@@ -80,28 +80,38 @@ pub fn open_and_take<D: Disk + Drop, C: Clock + Drop>(
     issuer: &Nif,
     sale: &Ask,
 ) -> Result<(Ticket, Store<D, C>), NoTicket>
-    // After it each crash leaves the whole chain, and the ticket is that of one of its records.
+    // The chain is what the file stood for, with the sale's record behind it where it is new. From then on each crash leaves the
+    // whole chain. The ticket is that of its record under this till and serial.
+    ensures answers { IfOk result (λ r. Answers D.tells issuer.now (D.told disk).content (C.coming clock) sale.now
+        (state_of r.1).entries) }
     ensures kept { IfOk result (λ r. IsTrue D.tells →
         LeavesNow (D.told (disk_of (journal_of r.1))) (StandsFor (state_of r.1).issuer (state_of r.1).entries)) }
-    ensures ticket { IfOk result (λ r. IsTicketIn (state_of r.1).entries r.0) }
+    ensures ticket { IfOk result (λ r. IsTicketOf (state_of r.1).entries sale.now r.0) }
     ensures ready { IfOk result (λ r. Ready D.tells D.told r.1) }
 {
     let mut store = match open_store(alloc, disk, clock, issuer) {
         Ok(store) => store,
         Err(fault) => return Err(NoTicket::NotOpened(fault.cause)),
     };
-    let receipt = match store.take(alloc, sale) {
-        Ok(Reply::Taken(receipt) | Reply::Again(receipt)) => receipt,
-        Ok(Reply::Refused(why)) => return Err(NoTicket::Refused(why)),
-        Err(fault) => return Err(NoTicket::NotKept(fault)),
-    };
+    let receipt = receipt_of(store.take(alloc, sale))?;
     let ticket = ticket_of(alloc, store.state(), receipt.place)?;
     Ok((ticket, store))
 }
 
+// The receipt of a sale that was kept, now or before.
+fn receipt_of(told: Result<Reply, StoreFault>) -> Result<Receipt, NoTicket>
+    ensures { IfOk result (λ receipt. (told ≡ Ok (Reply.Taken receipt)) ⊎ (told ≡ Ok (Reply.Again receipt))) }
+{
+    match told {
+        Ok(Reply::Taken(receipt) | Reply::Again(receipt)) => Ok(receipt),
+        Ok(Reply::Refused(why)) => Err(NoTicket::Refused(why)),
+        Err(fault) => Err(NoTicket::NotKept(fault)),
+    }
+}
+
 // The ticket of the record at this place.
 fn ticket_of(alloc: Global, state: &State, place: u32) -> Result<Ticket, NoTicket>
-    ensures { IfOk result (IsTicket state.now.entries place) }
+    ensures { IfOk result (IsTicketAt state.now.entries place) }
 {
     let Ok(found) = state.sealed(alloc, place) else {
         return Err(NoTicket::NoMemory);

@@ -1,11 +1,13 @@
 // Two tills that ask beside each other, a thread each.
-ghost use Rattle.std.specs.Prelude.{◌≡◌, ◌≤◌, ◌<◌, ◌^◌, [], None, IfErr, IfOk, length, vec_capacity};
+ghost use Rattle.std.specs.Prelude.{◌≡◌, ◌≢◌, ◌≤◌, ◌<◌, ◌^◌, ℕ, [], None, IfErr, IfOk, length, vec_capacity};
 ghost use Rattle.chain_store.specs.Store.{Ready, journal_of};
 ghost use Rattle.journal.specs.Journal.{stopped_of};
-ghost use Rattle.till_calls.specs.Root.{parts_of, root_of};
+ghost use Rattle.till_calls.specs.Laws.{AddsForNoOther, AddsWhatIsTaken, ToldAtTheEnd};
+ghost use Rattle.till_calls.specs.Root.{items_in, parts_of, root_of};
 ghost use Rattle.till_calls.specs.Runs.{TillRun, asks_of};
 ghost use Rattle.till_calls.specs.Shop.{shop_id, till_knows, till_number, till_shop};
 ghost use Rattle.till_calls.specs.Sound.{IsSound};
+ghost use Rattle.uses.specs.Tills.{AreReplies, records_since};
 
 use chain_disk::Disk;
 use chain_store::Store;
@@ -15,7 +17,10 @@ use shop_core::{Reply, Request};
 use std::alloc::Global;
 use std::sync::Wait;
 use std::thread::{Threads, join};
-use till_calls::{Shop, StartRefused, Started, Till, serve};
+use till_calls::{
+    Shop, StartRefused, Started, Till, a_run_is_told_at_the_end, a_till_adds_for_no_other,
+    a_till_adds_what_is_taken, serve,
+};
 
 /// What the tills 1 and 2 were told, a reply for each request, and the store at the end.
 #[derive(Drop)]
@@ -52,6 +57,17 @@ fn work<D: Disk, C: Clock, R: Wait>(
     Served { till, replies }
 }
 
+// What the runs of a shop's tills come to at its end: for the proof alone.
+fn runs_are_told<C: Clock>()
+    ensures told { ToldAtTheEnd C.coming }
+    ensures taken { AddsWhatIsTaken C.coming }
+    ensures others { AddsForNoOther C.coming }
+{
+    a_run_is_told_at_the_end::<C>();
+    a_till_adds_what_is_taken::<C>();
+    a_till_adds_for_no_other::<C>();
+}
+
 /// Serves the tills 1 and 2 beside each other over one chain. Where memory runs out the store comes back.
 pub fn one_till_a_thread<D: Disk + Send + Drop, C: Clock + Send + Drop, R: Threads + Wait + Sync>(
     rt: &R,
@@ -65,8 +81,15 @@ pub fn one_till_a_thread<D: Disk + Send + Drop, C: Clock + Send + Drop, R: Threa
     requires ready { Ready D.tells D.told store }
     ensures sound { IfOk result (λ day.
         IsSound D.tells D.told D.faults C.coming (root_of D.told D.faults (parts_of store)) (parts_of day.store)) }
+    ensures first { IfOk result (λ day. AreReplies C.coming (root_of D.told D.faults (parts_of store))
+        (items_in (parts_of day.store)) 1 first.now day.first.items) }
+    ensures second { IfOk result (λ day. AreReplies C.coming (root_of D.told D.faults (parts_of store))
+        (items_in (parts_of day.store)) 2 second.now day.second.items) }
+    ensures others { IfOk result (λ day. (till : ℕ) → till ≢ 1 → till ≢ 2 →
+        records_since (root_of D.told D.faults (parts_of store)) (items_in (parts_of day.store)) till ≡ []) }
     ensures refused { IfErr result (λ e. parts_of e.store ≡ parts_of store) }
 {
+    runs_are_told::<C>();
     let Ok(first_room) = Vec::with_capacity(alloc, first.len()) else {
         return Err(StartRefused { store });
     };

@@ -1,9 +1,11 @@
 // The records that wait, and the agency's lines for them.
-ghost use Rattle.std.specs.Prelude.{◌≡◌, ◌++◌, ◌∷◌, [], IfOk, IsTrue, OnErr, OnOk, take};
+ghost use Rattle.std.specs.Prelude.{◌≡◌, ◌≤◌, ◌++◌, ◌∷◌, [], ℕ, IfOk, IsErrOf, IsTrue, OnErr, OnOk, Some, length, take};
+ghost use Rattle.std.specs.Int.{IsInRange};
 ghost use Rattle.chain_disk.specs.Told.{LeavesNow};
 ghost use Rattle.chain_store.specs.Ready.{noted_next};
 ghost use Rattle.chain_store.specs.Store.{Ready, journal_of, state_of};
-ghost use Rattle.journal.specs.Journal.{disk_of};
+ghost use Rattle.journal.specs.Journal.{disk_of, stopped_of};
+ghost use Rattle.ports.specs.Causes.{Rose};
 ghost use Rattle.record_fields.specs.declared.lines.TheConstants.{BATCH};
 ghost use Rattle.shop_core.specs.Files.{StandsFor};
 ghost use Rattle.shop_core.specs.History.{waiting};
@@ -46,6 +48,14 @@ pub fn note_lines<D: Disk, C: Clock>(
     ensures same { OnErr result ((state_of store.new).entries ≡ (state_of store.old).entries) }
     ensures kept { OnOk result (IsTrue D.tells → LeavesNow (D.told (disk_of (journal_of store.new)))
         (StandsFor (state_of store.new).issuer (state_of store.new).entries)) }
+
+    // Why lines were not noted.
+    ensures count { IsErrOf result NotNoted.Count → IsInRange 1 BATCH (length lines.now) →
+        length lines.now ≤ length (waiting (state_of store.old).entries) → ⊥ }
+    ensures fault { IsErrOf result (NotNoted.Store StoreFault.DiskFault) →
+        Rose (D.faults (disk_of (journal_of store.old))) (D.faults (disk_of (journal_of store.new))) }
+    ensures stopped { (faults : ℕ) → IsErrOf result (NotNoted.Store (StoreFault.Stopped faults)) →
+        stopped_of (journal_of store.old) ≡ Some faults }
 {
     let count = lines.len();
     if count < 1 || count > BATCH as usize {

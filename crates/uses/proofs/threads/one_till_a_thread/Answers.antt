@@ -1,11 +1,18 @@
 use mir.Syntax.{erased, of_param}
 use denote.Exit.{no}
 use denote.Param.Send.{Quiet-if, shr_slice_send}
+use Rattle.std.proofs.Common.{◌≡◌, [], ℕ, List, length, ap, sym, ◌∙◌, subst}
 use Rattle.std.proofs.Crossing.{send as heap_send}
-use Rattle.till_calls.specs.Shop.{made_tills, numbers, seat_knows, till_knows, till_number, tills_know}
+use Rattle.shop_core.specs.declared.items.Item.{Item}
+use Rattle.till_calls.specs.Root.{Root, items_in, parts_of}
+use Rattle.till_calls.specs.Runs.{TillRun, asks_of}
+use Rattle.till_calls.specs.Shop.{first_items, made_tills, numbers, seat_knows, shop_root, till_knows, till_number, tills_know}
 use Rattle.till_calls.proofs.Sent.{shop_sync, till_send}
 use Rattle.uses.proofs.Sent.{replies_send, request_sync, served_send}
-use Rattle.uses.proofs.Tills.{room_left, run_numbers, still_held}
+use Rattle.uses.specs.Tills.{AreReplies, records_since}
+use Rattle.uses.proofs.Tills.{TwoRuns, first_replies, no_stop_yet, none_else, room_left, run_numbers, second_replies, still_held}
+use Rattle.uses.proofs.Tills.{two_numbers}
+use Rattle.uses.proofs.threads.one_till_a_thread.Given.{Over}
 use Rattle.uses.proofs.threads.one_till_a_thread.Goals as goal
 
 pub join-one-requires-send-A : goal.join-one-requires-send-A
@@ -53,6 +60,71 @@ close-requires-clause-whole g c = λ n l.
     let s = c.in_ok-shop.field-0 in
     still_held n (tills_know s.tills) (tills_know c.pull.new.self) (tills_know c.pull-2.new.self)
     (tills_know c.hand_back.new.self) (tills_know c.hand_back-2.new.self) (till_knows c.in-Some-pull.one)
-    (till_knows c.in-Some.two) (seat_knows s.seat) _ _ c.in-Some.ensures.knows c.in-Some-pull.ensures.knows
-    c.hand_back.ensures.knows c.hand_back-2.ensures.knows (run_numbers _ _ _ _ _ c.join-one.ensures.first.1)
-    (run_numbers _ _ _ _ _ c.join-one.ensures.second.1) (c.in_ok-shop.ensures.whole n l)
+    (till_knows c.in-Some.two) (seat_knows s.seat) (till_knows c.join-one.result.0.till)
+    (till_knows c.join-one.result.1.till) c.in-Some.ensures.knows c.in-Some-pull.ensures.knows
+    c.hand_back.ensures.knows c.hand_back-2.ensures.knows
+    (run_numbers g.C.Clock.coming (till_knows c.in-Some-pull.one) (till_knows c.join-one.result.0.till)
+    (asks_of (till_number c.in-Some-pull.one) c.args.first.now) c.join-one.result.0.replies.items c.join-one.ensures.first.1)
+    (run_numbers g.C.Clock.coming (till_knows c.in-Some.two) (till_knows c.join-one.result.1.till)
+    (asks_of (till_number c.in-Some.two) c.args.second.now) c.join-one.result.1.replies.items c.join-one.ensures.second.1)
+    (c.in_ok-shop.ensures.whole n l)
+
+-- what the two tills did
+runs : (g : Over) (c : goal.After-close g) → TwoRuns g.C.Clock.coming (shop_root c.in_ok-shop.field-0.shop)
+    (first_items c.in_ok-shop.field-0.shop) (items_in (parts_of c.close.result)) c.args.first.now c.args.second.now
+    c.join-one.result.0.replies.items c.join-one.result.1.replies.items
+runs g c =
+    let s = c.in_ok-shop.field-0 in
+    let numbers_are = two_numbers 1 2 (numbers c.pull.new.self) (numbers c.pull-2.new.self) (till_number c.in-Some-pull.one)
+    (till_number c.in-Some.two) (sym c.in_ok-shop.ensures.numbers.0 ∙ c.in-Some.ensures.some) c.in-Some-pull.ensures.some in
+    record {
+      all = tills_know s.tills;
+      m = tills_know c.pull.new.self;
+      r = tills_know c.pull-2.new.self;
+      mid = tills_know c.hand_back.new.self;
+      back = tills_know c.hand_back-2.new.self;
+      a = till_knows c.in-Some-pull.one;
+      b = till_knows c.in-Some.two;
+      c = till_knows c.join-one.result.0.till;
+      d = till_knows c.join-one.result.1.till;
+      seat = seat_knows s.seat;
+      size = ap (λ (l : List Item). length l) c.in_ok-shop.ensures.root.1 ∙
+          no_stop_yet (parts_of c.args.store) c.requires.going_on ∙
+          ap (λ (h : Root g.row.C.Denot). length h.history) (sym c.in_ok-shop.ensures.root.0);
+      fresh = c.in_ok-shop.ensures.new;
+      last = c.in-Some.ensures.knows;
+      before = c.in-Some-pull.ensures.knows;
+      one = c.hand_back.ensures.knows;
+      two = c.hand_back-2.ensures.knows;
+      run_one = subst (λ (n : ℕ). TillRun g.C.Clock.coming (till_knows c.in-Some-pull.one) (asks_of n c.args.first.now)
+          c.join-one.result.0.replies.items (till_knows c.join-one.result.0.till)) numbers_are.0 c.join-one.ensures.first.1;
+      run_two = subst (λ (n : ℕ). TillRun g.C.Clock.coming (till_knows c.in-Some.two) (asks_of n c.args.second.now)
+          c.join-one.result.1.replies.items (till_knows c.join-one.result.1.till)) numbers_are.1 c.join-one.ensures.second.1;
+      fits = c.close.ensures.each;
+      begins = c.close.ensures.begins;
+      since = c.close.ensures.since;
+    }
+
+pub returns-clause-first : goal.returns-clause-first
+returns-clause-first g c = subst (λ (h : Root g.row.C.Denot). AreReplies g.C.Clock.coming h
+    (items_in (parts_of c.close.result)) 1 c.args.first.now c.join-one.result.0.replies.items) c.in_ok-shop.ensures.root.0
+    (first_replies g.C.Clock.coming (shop_root c.in_ok-shop.field-0.shop) (first_items c.in_ok-shop.field-0.shop)
+    (items_in (parts_of c.close.result)) c.args.first.now c.args.second.now c.join-one.result.0.replies.items
+    c.join-one.result.1.replies.items c.runs_are_told.ensures.told c.runs_are_told.ensures.taken
+    c.runs_are_told.ensures.others (runs g c))
+
+pub returns-clause-second : goal.returns-clause-second
+returns-clause-second g c = subst (λ (h : Root g.row.C.Denot). AreReplies g.C.Clock.coming h
+    (items_in (parts_of c.close.result)) 2 c.args.second.now c.join-one.result.1.replies.items) c.in_ok-shop.ensures.root.0
+    (second_replies g.C.Clock.coming (shop_root c.in_ok-shop.field-0.shop) (first_items c.in_ok-shop.field-0.shop)
+    (items_in (parts_of c.close.result)) c.args.first.now c.args.second.now c.join-one.result.0.replies.items
+    c.join-one.result.1.replies.items c.runs_are_told.ensures.told c.runs_are_told.ensures.taken
+    c.runs_are_told.ensures.others (runs g c))
+
+pub returns-clause-others : goal.returns-clause-others
+returns-clause-others g c = λ till not_one not_two. subst (λ (h : Root g.row.C.Denot). records_since h
+    (items_in (parts_of c.close.result)) till ≡ []) c.in_ok-shop.ensures.root.0
+    (none_else g.C.Clock.coming (shop_root c.in_ok-shop.field-0.shop) (first_items c.in_ok-shop.field-0.shop)
+    (items_in (parts_of c.close.result)) c.args.first.now c.args.second.now c.join-one.result.0.replies.items
+    c.join-one.result.1.replies.items c.runs_are_told.ensures.told c.runs_are_told.ensures.taken
+    c.runs_are_told.ensures.others (runs g c) till not_one not_two)

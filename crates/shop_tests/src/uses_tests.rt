@@ -3,10 +3,6 @@ ghost use Rattle.std.specs.Prelude.{◌≡◌, IfOk, None};
 ghost use Rattle.chain_store.specs.Store.{Ready, journal_of};
 ghost use Rattle.journal.specs.Journal.{stopped_of};
 
-use crate::{
-    NoTicket, NotNoted, Ticket, audit_a_file, counter_sale, first_waiting, link_of_a_sale,
-    note_lines, one_till_a_thread, open_and_take, print_ticket,
-};
 use amounts::Cents;
 use chain_disk::{Disk, MemDisk};
 use chain_store::{OpenCause, Store};
@@ -19,6 +15,10 @@ use series::{NumSerie, SeriesName};
 use shop_core::{Ask, Reply, Request};
 use std::alloc::Global;
 use std::test::Fail;
+use uses::{
+    NoTicket, NotNoted, Ticket, audit_a_file, counter_sale, first_waiting, link_of_a_sale,
+    note_lines, one_till_a_thread, open_and_take, print_ticket,
+};
 use verify_link::Host;
 
 // 2025-01-01, 10:00 on the peninsular clock.
