@@ -6,7 +6,7 @@ use Rattle.std.proofs.lemmas.Slice.Eq.{bytes_eq-Decides}
 use Rattle.parties.specs.Nif.{IsNif}
 use Rattle.verifactu.specs.Words.{IsAskedFor, AsksFor, IsChain, IsDay, IsDrain, IsWithin}
 use Rattle.verifactu.specs.declared.words.Command.{Command}
-use Rattle.verifactu.specs.declared.words.Command.TheVariants.{Chain, Day, Drain, Audit, Link, Generate, Help, Version}
+use Rattle.verifactu.specs.declared.words.Command.TheVariants.{Chain, Day, Drain, Audit, Link, Check, Generate, Help, Version}
 
 length_map : {A B : Type 0} (f : A → B) (xs : List A) → length (map f xs) ≡ length xs
 length_map f [] = refl
@@ -20,6 +20,7 @@ not_asked words one two three four (Day issuer) h = three (ap length h.words_are
 not_asked words one two three four (Drain issuer) h = three (ap length h.words_are)
 not_asked words one two three four Audit h = two (ap length h.words_are)
 not_asked words one two three four (Link num host) h = four (ap length h.words_are)
+not_asked words one two three four (Check workers) h = three (ap length h.words_are)
 not_asked words one two three four (Generate n) h = two (ap length h.words_are)
 not_asked words one two three four Help h = one (ap length h)
 not_asked words one two three four Version h = one (ap length h)
@@ -34,33 +35,30 @@ no_command f words one two three four =
 bytes_eq_is : (xs ys : List ℕ) → bytes_eq xs ys ≡ true → xs ≡ ys
 bytes_eq_is xs ys h = (bytes_eq-Decides xs ys).0 h
 
-there : (n : ℕ) → (n == 0) ≡ false → 0 < n
-there n h = grind (arith, nat_tests)
-
-pub is_chain : (name file nif issuer : List ℕ) → bytes_eq name (codes "chain") ≡ true → (length file == 0) ≡ false →
+pub is_chain : (name file nif issuer : List ℕ) → bytes_eq name (codes "chain") ≡ true → 0 < length file →
     IsNif nif × (issuer ≡ nif) → IsChain (name ∷ (file ∷ (nif ∷ []))) issuer
 is_chain name file nif issuer named filed h = record {
   file = file;
   words_are = rw (bytes_eq_is name (codes "chain") named, h.1) refl;
-  named = there (length file) filed;
+  named = filed;
   nif = subst (λ (n : List ℕ). IsNif n) (sym h.1) h.0;
 }
 
-pub is_day : (name file nif issuer : List ℕ) → bytes_eq name (codes "day") ≡ true → (length file == 0) ≡ false →
+pub is_day : (name file nif issuer : List ℕ) → bytes_eq name (codes "day") ≡ true → 0 < length file →
     IsNif nif × (issuer ≡ nif) → IsDay (name ∷ (file ∷ (nif ∷ []))) issuer
 is_day name file nif issuer named filed h = record {
   file = file;
   words_are = rw (bytes_eq_is name (codes "day") named, h.1) refl;
-  named = there (length file) filed;
+  named = filed;
   nif = subst (λ (n : List ℕ). IsNif n) (sym h.1) h.0;
 }
 
-pub is_drain : (name file nif issuer : List ℕ) → bytes_eq name (codes "drain") ≡ true → (length file == 0) ≡ false →
+pub is_drain : (name file nif issuer : List ℕ) → bytes_eq name (codes "drain") ≡ true → 0 < length file →
     IsNif nif × (issuer ≡ nif) → IsDrain (name ∷ (file ∷ (nif ∷ []))) issuer
 is_drain name file nif issuer named filed h = record {
   file = file;
   words_are = rw (bytes_eq_is name (codes "drain") named, h.1) refl;
-  named = there (length file) filed;
+  named = filed;
   nif = subst (λ (n : List ℕ). IsNif n) (sym h.1) h.0;
 }
 
@@ -89,6 +87,7 @@ within words (Day issuer) h = tt
 within words (Drain issuer) h = tt
 within words Audit h = tt
 within words (Link num host) h = tt
+within words (Check workers) h = (h.number.count.range.0, h.number.few)
 within words (Generate n) h = h.number.range
 within words Help h = tt
 within words Version h = tt

@@ -27,3 +27,12 @@ pub no_count : (word : List ℕ) → ((v : ℕ) → word ≢ whole_text v) → (
 no_count word none n h =
     let range = h.range in
     none n (h.written ∙ sym (whole_text-decimal n (omega arith)))
+
+-- a word says one number
+pub one_count : (word : List ℕ) (n m : ℕ) → IsCountOf word n → IsCountOf word m → n ≡ m
+one_count word n m h k =
+    let first = h.range in
+    let second = k.range in
+    let a : n < 2 ^ 64 = omega (arith, first) in
+    let b : m < 2 ^ 64 = omega (arith, second) in
+    sym (decimal_is_IsNumeral n a).1 ∙ ap (digits_value 10) (sym h.written ∙ k.written) ∙ (decimal_is_IsNumeral m b).1

@@ -95,6 +95,11 @@ pub record OnlyReadsFile {D C : Type 0} (d : Devices D C) : Type 0 where
   pub disk : OnlyRead d.disk
   pub clock : LeftClock d.clock
 
+-- a call that reads its source and its file alone, and touches nothing else but the sink
+pub record OnlyReads {D C : Type 0} (d : Devices D C) : Type 0 where
+  pub disk : OnlyRead d.disk
+  pub clock : LeftClock d.clock
+
 -- all that one call of the program is given
 pub record AllDevices (D C Z G : Type 0) : Type 0 where
   pub devices : Devices D C

@@ -1,6 +1,5 @@
 pub mod Words
 pub mod Help
-pub mod Input
 pub mod Printed
 pub mod Devices
 pub mod Readings
@@ -21,4 +20,4 @@ pub mod Beside
 pub mod Tills
 pub mod Works
 pub mod Day
-pub mod Run
+pub mod Running

@@ -1,12 +1,13 @@
 -- What the words of the command line ask for. The commands are this project's own.
-use Rattle.std.specs.Prelude.{◌≡◌, ℕ, ◌<◌, List, [], ◌∷◌, length, codes, decimal, IsTrue, Option, Some, None}
+use Rattle.std.specs.Prelude.{◌≡◌, ℕ, ◌<◌, ◌≤◌, List, [], ◌∷◌, length, codes, decimal, IsTrue, Option, Some, None}
 use Rattle.std.specs.Int.{IsInRange}
 use Rattle.parties.specs.Nif.{IsNif}
 use Rattle.series.specs.Numbers.{is_num_serie}
 use Rattle.verify_link.specs.declared.parts.Host.{Host}
 use Rattle.verify_link.specs.declared.parts.Host.TheVariants.{Real, Practice}
+use Rattle.link_check.specs.declared.all.TheConstants.{MAX_WORKERS}
 use Rattle.verifactu.specs.declared.words.Command.{Command}
-use Rattle.verifactu.specs.declared.words.Command.TheVariants.{Chain, Day, Drain, Audit, Link, Generate, Help, Version}
+use Rattle.verifactu.specs.declared.words.Command.TheVariants.{Chain, Day, Drain, Audit, Link, Check, Generate, Help, Version}
 use Rattle.verifactu.specs.declared.generated.TheConstants.{MOST}
 
 -- `chain FILE NIF`: a file's name, which isn't empty, and a tax number
@@ -62,6 +63,24 @@ abbrev pub IsCount : List ℕ → Option ℕ → Type 0
 IsCount word None = (n : ℕ) → IsCountOf word n → ⊥
 IsCount word (Some n) = IsCountOf word n
 
+-- a number of workers, from 1 to the most, in decimal without leading zeros
+pub record IsWorkersOf (word : List ℕ) (n : ℕ) : Type 0 where
+  pub count : IsCountOf word n
+  pub few : n ≤ MAX_WORKERS
+
+-- the number of workers that a word says; none where it says none
+abbrev pub IsWorkers : List ℕ → Option ℕ → Type 0
+IsWorkers word None = (n : ℕ) → IsWorkersOf word n → ⊥
+IsWorkers word (Some n) = IsWorkersOf word n
+
+-- `check FILE WORKERS`
+pub record IsCheck (words : List (List ℕ)) (workers : ℕ) : Type 0 where
+  pub file : List ℕ
+  pub count : List ℕ
+  pub words_are : words ≡ codes "check" ∷ (file ∷ (count ∷ []))
+  pub named : 0 < length file
+  pub number : IsWorkersOf count workers
+
 -- `generate N`
 pub record IsGenerate (words : List (List ℕ)) (n : ℕ) : Type 0 where
   pub count : List ℕ
@@ -75,6 +94,7 @@ AsksFor words (Day issuer) = IsDay words issuer
 AsksFor words (Drain issuer) = IsDrain words issuer
 AsksFor words Audit = IsAudit words
 AsksFor words (Link num host) = IsLink words num host
+AsksFor words (Check workers) = IsCheck words workers
 AsksFor words (Generate n) = IsGenerate words n
 AsksFor words Help = words ≡ codes "--help" ∷ []
 AsksFor words Version = words ≡ codes "--version" ∷ []
@@ -91,6 +111,7 @@ IsWithin (Day issuer) = Unit {0}
 IsWithin (Drain issuer) = Unit {0}
 IsWithin Audit = Unit {0}
 IsWithin (Link num host) = Unit {0}
+IsWithin (Check workers) = IsInRange 1 MAX_WORKERS workers
 IsWithin (Generate n) = IsInRange 1 MOST n
 IsWithin Help = Unit {0}
 IsWithin Version = Unit {0}

@@ -11,17 +11,19 @@ Usage:
   verifactu drain FILE NIF       sends the records that wait to a practice agency
   verifactu audit FILE           prints whether the file is a sound chain
   verifactu link FILE NUM HOST   prints the link of an invoice's QR code
+  verifactu check FILE WORKERS   answers scanned links on standard input, one a line
   verifactu generate N           prints the sums of N made-up commands
   verifactu --help               prints this text
   verifactu --version            prints the version
 
 FILE is the file of the shop's chain. It is begun where it isn't there, and each
-record is on it before the next command is read: run the same script again after
-a crash, and what was taken is answered again and not registered twice.
+record is on it before the next command is answered: run the same script again
+after a crash, and what was taken is answered again and not registered twice.
 NIF is the issuer's tax number, NUM the number of an invoice; HOST is real or
-test. audit and link only read the file; drain reads a script without sales,
-fixes and cancels. N is 1 to 100000: generate runs so many sales and
-cancellations of a made-up shop in memory, and keeps no file.
+test. audit, link and check only read the file; check works by 1 to 16 WORKERS
+beside each other. drain reads a script without sales, fixes and cancels.
+N is 1 to 100000: generate runs so many sales and cancellations of a made-up
+shop in memory, and keeps no file.
 
 A script has one command a line:
   clock START STEP         at most once: the commands' readings of the clock are
@@ -61,7 +63,7 @@ Status:
    9  audit found the file broken; it printed where
   10  no memory
   11  the agency contradicts itself; standard error names the place
-  12  the script is longer than 16777216 bytes
+  12  standard input is longer than 16777216 bytes
   13  the file is the chain of another issuer, whom standard error names
   14  the file has no invoice of this number
 ";

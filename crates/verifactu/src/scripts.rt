@@ -4,7 +4,7 @@ ghost use Rattle.ports.specs.Sources.{this_source};
 ghost use Rattle.verifactu.specs.Scripts.{ScriptIs};
 ghost use Rattle.verifactu.specs.Scripts as spec;
 
-use crate::input::{InputFault, read_input};
+use file_commands::{InputFault, read_input};
 use ports::Source;
 use report::Detail;
 use script::{Form, Script, ScriptFault, read_script};

@@ -1,9 +1,10 @@
 // The words of the command line.
-ghost use Rattle.std.specs.Prelude.{◌≡◌, ◌∷◌, [], map, string_bytes, bytes_eq, codes};
-ghost use Rattle.verifactu.specs.Words.{IsAskedFor, IsCount, IsHost};
+ghost use Rattle.std.specs.Prelude.{◌≡◌, ◌<◌, ◌∷◌, [], map, string_bytes, bytes_eq, codes, false, length};
+ghost use Rattle.verifactu.specs.Words.{IsAskedFor, IsCount, IsHost, IsWorkers};
 
 use crate::generated::MOST;
 use amounts::read_whole;
+use link_check::MAX_WORKERS;
 use parties::Nif;
 use series::NumSerie;
 use verify_link::Host;
@@ -21,6 +22,8 @@ pub enum Command {
     Audit,
     /// `link FILE NUM HOST`, for the invoice of this number.
     Link(NumSerie, Host),
+    /// `check FILE WORKERS`, by so many workers.
+    Check(u8),
     /// `generate N`, for the first N commands of the generator.
     Generate(u32),
     /// `--help`.
@@ -48,11 +51,10 @@ fn option_of(word: &str) -> Option<Command>
 }
 
 fn of_issuer(name: &str, file: &str, nif: &str) -> Option<Command>
+    requires file { 0 < length file.now }
+    requires other { bytes_eq name.now (codes "check") ≡ false }
     ensures { IsAskedFor (name.now ∷ (file.now ∷ (nif.now ∷ []))) result }
 {
-    if file.is_empty() {
-        return None;
-    }
     let Ok(issuer) = Nif::read(nif) else {
         return None;
     };
@@ -66,6 +68,38 @@ fn of_issuer(name: &str, file: &str, nif: &str) -> Option<Command>
         return Some(Command::Drain(issuer));
     }
     None
+}
+
+fn workers_of(word: &str) -> Option<u8>
+    ensures { IsWorkers word.now result }
+{
+    let n = count_of(word)?;
+    if n > u32::from(MAX_WORKERS) {
+        return None;
+    }
+    Some(n as u8)
+}
+
+fn check_of(file: &str, workers: &str) -> Option<Command>
+    requires { 0 < length file.now }
+    ensures { IsAskedFor (codes "check" ∷ (file.now ∷ (workers.now ∷ []))) result }
+{
+    match workers_of(workers) {
+        Some(workers) => Some(Command::Check(workers)),
+        None => None,
+    }
+}
+
+fn three_of(name: &str, file: &str, word: &str) -> Option<Command>
+    ensures { IsAskedFor (name.now ∷ (file.now ∷ (word.now ∷ []))) result }
+{
+    if file.is_empty() {
+        return None;
+    }
+    if is_word(name, b"check") {
+        return check_of(file, word);
+    }
+    of_issuer(name, file, word)
 }
 
 fn audit_of(file: &str) -> Option<Command>
@@ -148,7 +182,7 @@ pub fn command_of(words: &[String]) -> Option<Command>
     match words {
         [word] => option_of(word.as_str()),
         [name, word] => two_of(name.as_str(), word.as_str()),
-        [name, file, nif] => of_issuer(name.as_str(), file.as_str(), nif.as_str()),
+        [name, file, word] => three_of(name.as_str(), file.as_str(), word.as_str()),
         [name, file, num, host] => {
             link_of(name.as_str(), file.as_str(), num.as_str(), host.as_str())
         }

@@ -1,6 +1,8 @@
 use Rattle.std.proofs.Common.{List, ℕ, map, ap, sym, ◌∙◌, subst, All}
 use Rattle.std.specs.Int.{IsInRange}
 use Rattle.std.proofs.lemmas.List.Elements.{All-map}
+use Rattle.shop_core.specs.History.{History}
+use Rattle.shop_core.specs.Legal.{Legal}
 use Rattle.till_calls.specs.Root.{Root, parts_of}
 use Rattle.verifactu.specs.Beside.{SendsBeside}
 use Rattle.verifactu.specs.Drained.{torn_in}
@@ -36,3 +38,9 @@ returns-in-Ok-start-clause-sends g c =
       };
       answer = c.serve_started.result.answer;
     })) c.in-Ok-start.ensures.root.0 c.serve_started.ensures.sends
+
+pub serve_started-requires-clause-legal : goal.serve_started-requires-clause-legal
+serve_started-requires-clause-legal g c κs within =
+    let legal : Legal c.args.store.state.issuer c.args.store.state.entries =
+    subst (λ (h : History). Legal h.issuer h.entries) c.state.ensures c.is_legal.ensures in
+    subst (λ (r : Root g.row.C.Denot). Legal r.issuer r.history) (sym c.in-Ok-start.ensures.root.0) legal

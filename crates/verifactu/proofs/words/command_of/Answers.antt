@@ -17,12 +17,12 @@ returns-in_default c =
 
 pub returns-in-len3 : goal.returns-in-len3
 returns-in-len3 c =
-    let is = three_words c.args.words.now c.name-item-then-words-lt4.result c.file-item.result c.nif-item.result
+    let is = three_words c.args.words.now c.name-item-then-words-lt4.result c.file-item.result c.word-item-then-words-lt4.result
     c.in-len3.len_at_least c.in-len3.len_below
-    c.name-item-then-words-lt4.is c.file-item.is c.nif-item.is in
+    c.name-item-then-words-lt4.is c.file-item.is c.word-item-then-words-lt4.is in
     let asked = rw (c.as_str-in-len3.ensures.value, c.as_str-in-len3-2.ensures.value, c.as_str-in-len3-3.ensures.value) at
-    c.of_issuer.ensures in
-    subst (λ (ws : List (String Global)). IsAskedFor (map (string_bytes {Z = Global}) ws) c.of_issuer.result) (sym is) asked
+    c.three_of.ensures in
+    subst (λ (ws : List (String Global)). IsAskedFor (map (string_bytes {Z = Global}) ws) c.three_of.result) (sym is) asked
 
 pub returns-in-len4 : goal.returns-in-len4
 returns-in-len4 c =

@@ -5,14 +5,14 @@ use Rattle.verifactu.proofs.words.of_issuer.Goals as goal
 pub returns-then-is_word : goal.returns-then-is_word
 returns-then-is_word c =
     is_chain c.args.name.now c.args.file.now c.args.nif.now c.in-Ok.issuer (sym c.is_word.ensures ∙ c.if-is_word.true)
-    (sym c.is_empty.ensures ∙ c.if-is_empty.false) c.in-Ok.ensures
+    c.requires.file c.in-Ok.ensures
 
 pub returns-then-is_word-2 : goal.returns-then-is_word-2
 returns-then-is_word-2 c =
     is_day c.args.name.now c.args.file.now c.args.nif.now c.in-Ok.issuer (sym c.is_word-2.ensures ∙ c.if-is_word-2.true)
-    (sym c.is_empty.ensures ∙ c.if-is_empty.false) c.in-Ok.ensures
+    c.requires.file c.in-Ok.ensures
 
 pub returns-then-is_word-3 : goal.returns-then-is_word-3
 returns-then-is_word-3 c =
     is_drain c.args.name.now c.args.file.now c.args.nif.now c.in-Ok.issuer (sym c.is_word-3.ensures ∙ c.if-is_word-3.true)
-    (sym c.is_empty.ensures ∙ c.if-is_empty.false) c.in-Ok.ensures
+    c.requires.file c.in-Ok.ensures

@@ -1,6 +1,5 @@
 // Drains of files. The expected Huellas are SHA-256, by another program, of the field texts of these records.
-use crate::outside::Outside;
-use crate::tests::{CHAIN, ROW, disk_of, ends, ends_in};
+use crate::runs::{CHAIN, ROW, disk_of, ends, ends_in};
 use agency_port::{
     Agency, Evidence, PracticeAgency, Reply, ReplyLine, ReplyLines, Seen, SeenList, State3,
     ToldAgency, ToldAnswer, ToldAnswers,
@@ -10,12 +9,14 @@ use chain_disk::MemDisk;
 use chain_store::Store;
 use parties::Nif;
 use ports::{CountingClock, LeapSleeper, OpenGate};
+use record_fields::Line;
 use recovery::open_store;
 use report::{Detail, Ended};
 use std::alloc::Global;
 use std::sync::Wait;
 use std::test::Fail;
 use std::thread::Threads;
+use verifactu::Outside;
 
 pub const DRAIN: &str = "drain shop.chain 89890001K";
 
@@ -233,21 +234,30 @@ pub fn two_huellas(alloc: Global, disk: MemDisk) -> Result<(Huellas, MemDisk), F
     Ok((huellas, disk))
 }
 
-fn none_seen(alloc: Global) -> Result<ToldAnswer, Fail> {
-    let seen = Vec::from_slice(alloc, &[Seen::NotSeen, Seen::NotSeen])?;
+fn two_seen(alloc: Global, first: Seen, second: Seen) -> Result<ToldAnswer, Fail> {
+    let seen = Vec::from_slice(alloc, &[first, second])?;
     Ok(ToldAnswer::Consulted(SeenList::of(seen)))
+}
+
+fn none_seen(alloc: Global) -> Result<ToldAnswer, Fail> {
+    two_seen(alloc, Seen::NotSeen, Seen::NotSeen)
+}
+
+// A reply that names two records.
+fn two_lines(alloc: Global, huellas: Huellas, line: ReplyLine) -> Result<ToldAnswer, Fail> {
+    let lines = ReplyLines::of(Vec::from_slice(alloc, &[line, line])?);
+    if lines.as_slice().len() != huellas.as_slice().len() {
+        return Err(Fail::from("two records"));
+    }
+    Ok(ToldAnswer::Submitted(Reply::of(huellas, lines, 60)))
 }
 
 // An agency that says of two records that they came, and then that they didn't.
 pub fn forgetful(alloc: Global, huellas: Huellas) -> Result<ToldAgency, Fail> {
     let again = ReplyLine::Duplicado(State3::Correcto);
-    let lines = ReplyLines::of(Vec::from_slice(alloc, &[again, again])?);
-    if lines.as_slice().len() != huellas.as_slice().len() {
-        return Err(Fail::from("two records"));
-    }
     let mut answers = Vec::new(alloc);
     answers.push(none_seen(alloc)?)?;
-    answers.push(ToldAnswer::Submitted(Reply::of(huellas, lines, 60)))?;
+    answers.push(two_lines(alloc, huellas, again)?)?;
     answers.push(none_seen(alloc)?)?;
     Ok(ToldAgency::new(alloc, ToldAnswers::of(answers)))
 }
@@ -269,6 +279,51 @@ fn a_forgotten_record_is_a_contradiction(rt: HostRuntime) -> Result<(), Fail> {
     assert_eq!(rt;
         left.text.as_slice(),
         b"cleared\ndoubt 1\ncontradiction\nchain 2 noted 0\n".as_slice()
+    );
+    Ok(())
+}
+
+#[test]
+fn a_hole_is_a_contradiction(rt: HostRuntime) -> Result<(), Fail> {
+    let alloc = rt.alloc();
+    let mut answers = Vec::new(alloc);
+    answers.push(two_seen(alloc, Seen::NotSeen, Seen::Was(Line::Correcto))?)?;
+    let agency = ToldAgency::new(alloc, ToldAnswers::of(answers));
+    let left = drained_by(&rt, "clock 1735800000 0\n", 0, file_of(&rt, TWO)?, agency)?;
+    assert_eq!(rt; left.ended.status, 11);
+    assert_eq!(rt;
+        left.ended.detail,
+        Detail::Contradiction(Evidence::Hole { unseen: 1, seen: 2 })
+    );
+    assert_eq!(rt;
+        left.text.as_slice(),
+        b"contradiction\nchain 2 noted 0\n".as_slice()
+    );
+    Ok(())
+}
+
+#[test]
+fn answers_that_fit_no_question_are_faults_of_the_link(rt: HostRuntime) -> Result<(), Fail> {
+    let alloc = rt.alloc();
+    let three = format!(in alloc; "{TWO}sale 1 3 A F2 21:10000\n")?;
+    // Three records wait: two answers don't fit a question for three, and a reply fits no question.
+    let (huellas, disk) = two_huellas(alloc, file_of(&rt, &three)?)?;
+    let mut answers = Vec::new(alloc);
+    answers.push(none_seen(alloc)?)?;
+    answers.push(two_lines(alloc, huellas, ReplyLine::First(Line::Correcto))?)?;
+    let agency = ToldAgency::new(alloc, ToldAnswers::of(answers));
+    let left = drained_by(&rt, "clock 1735800000 0\n", 0, disk, agency)?;
+    assert_eq!(rt; left.ended.status, 8);
+    assert_eq!(rt;
+        left.ended.detail,
+        Detail::Undelivered {
+            noted: 0,
+            records: 3
+        }
+    );
+    assert_eq!(rt;
+        left.text.as_slice(),
+        b"link\nlink\nlink\nlink\nlink\nlink\nlink\nlink\nchain 3 noted 0\n".as_slice()
     );
     Ok(())
 }

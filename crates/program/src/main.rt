@@ -1,52 +1,15 @@
-//! The invoicing chain of a shop: reads a script of sales, answers it on the history of a file, keeps what it makes there, and
-//! prints the answers and the chain.
+//! The invoicing chain of a shop: hands the real devices and a practice agency to `verifactu::run`, and prints why it failed,
+//! where it did.
 #![tactic(auto)]
-
-mod beside;
-#[cfg(test)]
-mod beside_tests;
-mod chain;
-mod commands;
-mod day;
-#[cfg(test)]
-mod day_tests;
-mod day_text;
-#[cfg(test)]
-mod disk_tests;
-mod drain;
-#[cfg(test)]
-mod drain_tests;
-mod draining;
-mod ending;
-mod generate;
-#[cfg(test)]
-mod generate_tests;
-mod generated;
-mod help;
-mod input;
-mod opening;
-mod outside;
-mod printed;
-mod run;
-mod scripts;
-mod sending;
-mod serving;
-mod session;
-#[cfg(test)]
-mod tests;
-mod till_days;
-mod tills;
-mod words;
 
 use agency_port::PracticeAgency;
 use chain_disk::FileDisk;
-use outside::Outside;
 use ports::{OpenGate, StdSink, StdSource, SystemClock, ThreadSleeper};
 use report::{Detail, fault_text, status_of};
-use run::run;
 use std::env;
 use std::io::{ErrorKind, Write};
 use std::process::ExitCode;
+use verifactu::{Outside, run};
 
 // The words behind the program's name. One that isn't UTF-8 is no word of a command.
 fn words_of(rt: &HostRuntime) -> Result<Vec<String>, Detail> {
@@ -84,7 +47,7 @@ fn print_reason(rt: &HostRuntime, thing: &str, reason: Option<&str>) {
     }
 }
 
-// Why the parts failed, where they did. `audit` and `link` alone look at a file that they don't make: a mistyped name must not
+// Why the parts failed, where they did. `audit`, `link` and `check` look at a file that they don't make: a mistyped name must not
 // look like a sound shop.
 fn print_reasons(
     rt: &HostRuntime,

@@ -6,17 +6,18 @@ use Rattle.report.specs.declared.ended.Detail.{Detail}
 use Rattle.report.specs.declared.ended.Detail.TheVariants as detail
 use Rattle.report.specs.declared.ended.Ended.{Ended}
 use Rattle.file_commands.specs.Auditing.{AuditEnds}
+use Rattle.file_commands.specs.Checking.{CheckEnds}
 use Rattle.file_commands.specs.Linking.{LinkEnds}
 use Rattle.file_commands.specs.Output.{PrintEnds}
 use Rattle.verifactu.specs.Chain.{ChainEnds}
 use Rattle.verifactu.specs.Day.{DayEnds}
-use Rattle.verifactu.specs.Devices.{AllDevices, NobodyCalled, OnlyPrints, OnlyReadsFile}
+use Rattle.verifactu.specs.Devices.{AllDevices, NobodyCalled, OnlyPrints, OnlyReads, OnlyReadsFile}
 use Rattle.verifactu.specs.Drain.{DrainEnds}
 use Rattle.verifactu.specs.Generate.{GenerateEnds}
 use Rattle.verifactu.specs.Help.{help_text, version_text}
 use Rattle.verifactu.specs.Words.{IsAskedFor}
 use Rattle.verifactu.specs.declared.words.Command.{Command}
-use Rattle.verifactu.specs.declared.words.Command.TheVariants.{Chain, Day, Drain, Audit, Link, Generate, Help, Version}
+use Rattle.verifactu.specs.declared.words.Command.TheVariants.{Chain, Day, Drain, Audit, Link, Check, Generate, Help, Version}
 
 -- when a command ends in this way
 abbrev pub CommandEnds : {D C Z G : Type 0} → Command → AllDevices D C Z G → Detail → Type 0
@@ -25,6 +26,8 @@ CommandEnds (Day issuer) a end = DayEnds issuer a end
 CommandEnds (Drain issuer) a end = DrainEnds issuer a end
 CommandEnds Audit a end = AuditEnds a.devices.sink a.devices.disk end × OnlyReadsFile a.devices × NobodyCalled a
 CommandEnds (Link num host) a end = LinkEnds num host a.devices.sink a.devices.disk end × OnlyReadsFile a.devices × NobodyCalled a
+CommandEnds (Check workers) a end =
+    CheckEnds a.devices.source a.devices.sink a.devices.disk end × OnlyReads a.devices × NobodyCalled a
 CommandEnds (Generate n) a end = GenerateEnds n a.devices.sink end × OnlyPrints a.devices × NobodyCalled a
 CommandEnds Help a end = PrintEnds help_text detail.Done a.devices.sink end × OnlyPrints a.devices × NobodyCalled a
 CommandEnds Version a end = PrintEnds version_text detail.Done a.devices.sink end × OnlyPrints a.devices × NobodyCalled a

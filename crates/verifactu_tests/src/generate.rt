@@ -1,13 +1,13 @@
 // The last Huellas are SHA-256, by another program, of the field texts of the generated records.
 ghost use Rattle.std.specs.Prelude.{◌≤◌};
 
-use crate::generate::generate_cmd;
-use crate::tests::{disk_of, ends};
+use crate::runs::{disk_of, ends};
 use chain_disk::Disk;
 use ports::{CountingClock, MemSink};
 use report::{Detail, Ended};
 use std::alloc::Global;
 use std::test::Fail;
+use verifactu::generate_cmd;
 
 const ONE: &str = "\
 generated 1 sales 1 cancels 0 base 75.32 tax 15.82\n\

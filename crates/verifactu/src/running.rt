@@ -7,7 +7,7 @@ ghost use Rattle.verifactu.specs.Devices.{agency_kind, this_agency, this_call, t
 ghost use Rattle.report.specs.Statuses.{status_of};
 ghost use Rattle.report.specs.declared.ended.Detail.TheVariants as detail;
 ghost use Rattle.file_commands.specs.Output.{PrintEnds};
-ghost use Rattle.verifactu.specs.Run.{CommandEnds, EndsAs};
+ghost use Rattle.verifactu.specs.Running.{CommandEnds, EndsAs};
 ghost use Rattle.verifactu.specs.Words.{IsWithin};
 
 use crate::chain::chain_cmd;
@@ -19,7 +19,7 @@ use crate::outside::Outside;
 use crate::words::{Command, command_of};
 use agency_port::Agency;
 use chain_disk::Disk;
-use file_commands::{audit_cmd, ended_as, link_cmd, print};
+use file_commands::{audit_cmd, check_cmd, ended_as, link_cmd, print};
 use ports::{Clock, Gate, Sink, Sleeper, Source};
 use report::{Detail, Ended};
 use std::alloc::Global;
@@ -27,9 +27,10 @@ use std::sync::Wait;
 use std::thread::Threads;
 
 /// Runs the command that the words are. `audit FILE` prints the verdict on the file, and `link FILE NUM HOST` the link of an
-/// invoice: both read the disk alone. `chain FILE NIF` is `chain_cmd` for this issuer, `day FILE NIF` `day_cmd`, and
-/// `drain FILE NIF` `drain_cmd`; `generate N` is `generate_cmd`, whose disk is its own; `--help` and `--version` print their
-/// texts. FILE itself is the caller's: it names the disk. All parts of the outside come back.
+/// invoice: both read the disk alone. `check FILE WORKERS` is `check_cmd`, which reads the source beside it. `chain FILE NIF` is
+/// `chain_cmd` for this issuer, `day FILE NIF` `day_cmd`, and `drain FILE NIF` `drain_cmd`; `generate N` is `generate_cmd`, whose
+/// disk is its own; `--help` and `--version` print their texts. FILE itself is the caller's: it names the disk. All parts of the
+/// outside come back.
 pub fn run<S, K, D, C, Z, G, T, R>(
     rt: &R,
     alloc: Global,
@@ -94,60 +95,36 @@ where
 {
     match command {
         Command::Chain(issuer) => {
-            let Outside {
-                disk,
-                clock,
-                sleeper,
-                agency,
-            } = outside;
-            let (ended, disk, clock) = chain_cmd(alloc, &issuer, source, sink, disk, clock);
+            let (ended, disk, clock) = chain_cmd(
+                alloc,
+                &issuer,
+                source,
+                sink,
+                outside.disk,
+                outside.clock,
+            );
             (
                 ended,
                 Outside {
                     disk,
                     clock,
-                    sleeper,
-                    agency,
+                    ..outside
                 },
             )
         }
         Command::Day(issuer) => day_cmd(rt, alloc, &issuer, source, sink, outside, gate),
         Command::Drain(issuer) => drain_cmd(rt, alloc, &issuer, source, sink, outside),
         Command::Audit => {
-            let Outside {
-                disk,
-                clock,
-                sleeper,
-                agency,
-            } = outside;
-            let (ended, disk) = audit_cmd(alloc, sink, disk);
-            (
-                ended,
-                Outside {
-                    disk,
-                    clock,
-                    sleeper,
-                    agency,
-                },
-            )
+            let (ended, disk) = audit_cmd(alloc, sink, outside.disk);
+            (ended, Outside { disk, ..outside })
         }
         Command::Link(num, host) => {
-            let Outside {
-                disk,
-                clock,
-                sleeper,
-                agency,
-            } = outside;
-            let (ended, disk) = link_cmd(alloc, &num, host, sink, disk);
-            (
-                ended,
-                Outside {
-                    disk,
-                    clock,
-                    sleeper,
-                    agency,
-                },
-            )
+            let (ended, disk) = link_cmd(alloc, &num, host, sink, outside.disk);
+            (ended, Outside { disk, ..outside })
+        }
+        Command::Check(workers) => {
+            let (ended, disk) = check_cmd(rt, alloc, workers, source, sink, outside.disk);
+            (ended, Outside { disk, ..outside })
         }
         Command::Generate(n) => (generate_cmd(alloc, n, sink), outside),
         Command::Help => (print_text(help_text(), sink), outside),

@@ -1,8 +1,7 @@
 // Days of several tills. The expected Huellas are SHA-256, by another program, of the field texts of these records; in the day of
 // 64 tills they are those that the answers told.
-use crate::disk_tests::{FILLS, done};
-use crate::outside::Outside;
-use crate::tests::{CHAIN, DAY, disk_of, ends, ends_in};
+use crate::disk::{FILLS, done};
+use crate::runs::{CHAIN, DAY, disk_of, ends, ends_in};
 use agency_port::PracticeAgency;
 use chain_disk::MemDisk;
 use parties::Nif;
@@ -19,6 +18,7 @@ use std::sync::atomic::{AtomicU64, Ordering};
 use std::test::Fail;
 use std::thread::Threads;
 use till_calls::{Shop, Started};
+use verifactu::Outside;
 
 // Holds one till ahead of each command until another was answered, for so many looks at most.
 #[derive(Drop)]

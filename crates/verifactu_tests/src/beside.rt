@@ -1,8 +1,7 @@
 // Days whose sender sends beside the tills.
-use crate::disk_tests::{FILLS, done};
-use crate::drain_tests::{DRAIN, NEXT_DAY, TWO, chained, file_of, forgetful, two_huellas};
-use crate::outside::Outside;
-use crate::tests::{DAY, disk_of, ends_in};
+use crate::disk::{FILLS, done};
+use crate::drain::{DRAIN, NEXT_DAY, TWO, chained, file_of, forgetful, two_huellas};
+use crate::runs::{DAY, disk_of, ends_in};
 use agency_port::{
     Agency, Evidence, Logged, Message, PracticeAgency, ReplyLine, State3, ToldAgency, ToldAnswers,
 };
@@ -15,6 +14,7 @@ use std::sync::Wait;
 use std::sync::atomic::{AtomicU64, Ordering};
 use std::test::Fail;
 use std::thread::Threads;
+use verifactu::Outside;
 
 // What a day left.
 #[derive(Drop)]

@@ -2,7 +2,7 @@
 ghost use Rattle.std.specs.Prelude.{◌≡◌, ◌≤◌, ◌-◌, ◌^◌, false};
 ghost use Rattle.chain_disk.specs.File.{untold, untold_reads};
 
-use crate::tests::{CHAIN, DAY, ROW, disk_of, ends};
+use crate::runs::{CHAIN, DAY, ROW, disk_of, ends};
 use chain_disk::{Disk, Fill, MemDisk};
 use parties::Nif;
 use ports::{Clock, CountingClock, Failed};
@@ -165,6 +165,54 @@ fn a_file_is_audited_and_its_invoices_have_links(rt: HostRuntime) -> Result<(), 
     Ok(())
 }
 
+// What `check` prints of these links by so many workers on a file of these bytes.
+fn checked(
+    rt: &(impl AllocGlobal + Threads + Wait + Sync),
+    words: &str,
+    links: &str,
+    bytes: &[u8],
+) -> Result<Vec<u8>, Fail> {
+    let disk = disk_of(rt.alloc(), bytes, 0)?;
+    let clock = CountingClock::new(0, 0);
+    let (ended, sink, _, _) = ends(rt, words, links.as_bytes(), (0, 0), disk, clock)?;
+    if ended != done() {
+        return Err(Fail::from("links that are answered"));
+    }
+    Ok(Vec::from_slice(rt.alloc(), sink.bytes())?)
+}
+
+#[test]
+fn scanned_links_are_answered(rt: HostRuntime) -> Result<(), Fail> {
+    let alloc = rt.alloc();
+    let bytes = first_file(&rt)?;
+    let first = "https://www2.agenciatributaria.gob.es/wlpl/TIKE-CONT/ValidarQR?nif=89890001K";
+    let other = "https://www2.agenciatributaria.gob.es/wlpl/TIKE-CONT/ValidarQR?nif=12345678Z";
+    let day = "fecha=01-01-2025&importe=121";
+    let one = format!(in alloc;
+        "{first}&numserie=A-1&{day}.00\n{first}&numserie=A-1&{day}.01\r\n"
+    )?;
+    let two = format!(in alloc; "{first}&numserie=A-2&{day}.00\n{other}&numserie=A-1&{day}.00\n")?;
+    let links = format!(in alloc; "{one}{two}https://x")?;
+    let wanted = b"found 1\ndiffers 1\nunknown\nother-issuer\nbad prefix\n".as_slice();
+    let unbegun = b"unknown\nunknown\nunknown\nunknown\nbad prefix\n".as_slice();
+    for words in ["check shop.chain 1", "check shop.chain 4"] {
+        let told = checked(&rt, words, &links, &bytes)?;
+        assert_eq!(rt; told.as_slice(), wanted, "at {words}");
+        let told = checked(&rt, words, &links, &[])?;
+        assert_eq!(rt; told.as_slice(), unbegun, "at {words}");
+        let told = checked(&rt, words, "", &bytes)?;
+        assert!(rt; told.is_empty(), "at {words}");
+    }
+    for words in [
+        "check shop.chain 0",
+        "check shop.chain 17",
+        "check shop.chain 04",
+    ] {
+        assert_eq!(rt; end_on(&rt, words, &bytes)?.status, 2, "at {words}");
+    }
+    Ok(())
+}
+
 #[test]
 fn a_failing_sink_leaves_the_record(rt: HostRuntime) -> Result<(), Fail> {
     let alloc = rt.alloc();
@@ -211,43 +259,84 @@ fn taken_in(text: &[u8]) -> u32 {
     taken
 }
 
+// The last moment of a disk.
+fn last_moment(alloc: Global, disk: &MemDisk) -> Result<u64, Fail> {
+    for moment in 0..40u64 {
+        if disk.image(alloc, moment, Fill::New)?.is_none() {
+            return Ok(moment.saturating_sub(1));
+        }
+    }
+    Err(Fail::from("a last moment"))
+}
+
+// How many sales a run of this script took on a new disk whose call of this number fails, how it ended, and the disk.
+fn sold(
+    rt: &(impl AllocGlobal + Threads + Wait + Sync),
+    script: &str,
+    failing: u64,
+) -> Result<(u32, Ended, MemDisk), Fail> {
+    let (ended, text, disk) = runs(rt, script, disk_of(rt.alloc(), &[], failing)?)?;
+    Ok((taken_in(&text), ended, disk))
+}
+
+// The moment from which on the last sale of this script is acknowledged: the last one of a run that ends with it. None where it
+// isn't taken.
+fn told_at(
+    rt: &(impl AllocGlobal + Threads + Wait + Sync),
+    script: &str,
+    sales: u32,
+    failing: u64,
+) -> Result<Option<u64>, Fail> {
+    let (taken, _, disk) = sold(rt, script, failing)?;
+    if taken < sales {
+        return Ok(None);
+    }
+    Ok(Some(last_moment(rt.alloc(), &disk)?))
+}
+
+fn is_past(told: Option<u64>, moment: u64) -> u32 {
+    match told {
+        Some(at) if at <= moment => 1,
+        _ => 0,
+    }
+}
+
+// Whether each image of each moment opens with the records that were acknowledged by then, or those and one.
+fn keeps_what_was_told(
+    rt: &(impl AllocGlobal + Threads + Wait + Sync),
+    disk: &MemDisk,
+    failing: u64,
+) -> Result<bool, Fail> {
+    let first = told_at(rt, ROW, 1, failing)?;
+    let second = told_at(rt, TWO, 2, failing)?;
+    for moment in 0..=last_moment(rt.alloc(), disk)? {
+        let fewest = is_past(first, moment).saturating_add(is_past(second, moment));
+        for fill in FILLS {
+            let image = disk.image(rt.alloc(), moment, fill)?.ok_or("an image")?;
+            let records = records_on(rt, image)?;
+            if records < fewest || records > fewest.saturating_add(1) {
+                return Ok(false);
+            }
+        }
+    }
+    Ok(true)
+}
+
 #[test]
 fn each_call_of_the_disk_fails_in_turn(rt: HostRuntime) -> Result<(), Fail> {
-    let alloc = rt.alloc();
     let mut faults = 0u32;
-    for failing in 1..30u64 {
-        let (ended, text, disk) = runs(&rt, TWO, disk_of(alloc, &[], failing)?)?;
-        let taken = taken_in(&text);
-        if ended.status == 0 {
-            assert_eq!(rt; taken, 2);
-        } else {
-            assert_eq!(rt; ended.detail, Detail::DiskFault);
-            assert_eq!(rt; ended.status, 6);
+    // A run makes 17 calls: nine of opening, and four a sale.
+    for failing in 1..19u64 {
+        let (taken, ended, disk) = sold(&rt, TWO, failing)?;
+        if ended.status != 0 {
+            assert_eq!(rt; ended.detail, Detail::DiskFault, "call {failing}");
+            assert_eq!(rt; ended.status, 6, "call {failing}");
             faults = faults.saturating_add(1);
         }
-        let mut records = (0, 0);
-        for moment in 0..20u64 {
-            let mut fewest = 2u32;
-            let mut most = 0u32;
-            for fill in FILLS {
-                let Some(image) = disk.image(alloc, moment, fill)? else {
-                    break;
-                };
-                let count = records_on(&rt, image)?;
-                fewest = fewest.min(count);
-                most = most.max(count);
-            }
-            if fewest <= most {
-                records = (fewest, most);
-            }
-        }
-        let (fewest, most) = records;
-        assert!(rt;
-            taken <= fewest && most <= taken.saturating_add(1),
-            "at call {failing}"
-        );
+        assert_eq!(rt; taken == 2, ended.status == 0, "call {failing}");
+        assert!(rt; keeps_what_was_told(&rt, &disk, failing)?, "call {failing}");
     }
-    assert!(rt; faults > 8);
+    assert_eq!(rt; faults, 17);
     Ok(())
 }
 

@@ -1,6 +1,4 @@
 // The expected Huellas are SHA-256, by another program, of the field texts of these records.
-use crate::outside::Outside;
-use crate::run::run;
 use agency_port::{Agency, PracticeAgency};
 use chain_disk::{Disk, MemDisk};
 use ports::{
@@ -12,6 +10,7 @@ use std::alloc::Global;
 use std::sync::Wait;
 use std::test::Fail;
 use std::thread::Threads;
+use verifactu::{Outside, run};
 
 pub const CHAIN: &str = "chain shop.chain 89890001K";
 

@@ -1,6 +1,6 @@
 use Rattle.std.proofs.Common.{Global, map, rules, string_bytes}
 use Rattle.verifactu.proofs.CommandLine.{within}
-use Rattle.verifactu.proofs.run.run.Goals as goal
+use Rattle.verifactu.proofs.running.run.Goals as goal
 
 pub obey-requires : goal.obey-requires
 obey-requires g c =

@@ -1,0 +1,34 @@
+//! The shop's commands, and the one call that runs them: `run` reads the words of a command line and does all that the program
+//! does, over whatever source, sink, disk, clock, sleeper, agency and gate it is handed. `main` (crate `program`) hands it the
+//! real ones and a practice agency; whoever has an adapter to the real service hands in that.
+#![tactic(auto)]
+
+mod beside;
+mod chain;
+mod commands;
+mod day;
+mod day_text;
+mod drain;
+mod draining;
+mod ending;
+mod generate;
+mod generated;
+mod help;
+mod opening;
+mod outside;
+mod printed;
+mod running;
+mod scripts;
+mod sending;
+mod serving;
+mod session;
+mod till_days;
+mod tills;
+mod words;
+
+pub use chain::chain_cmd;
+pub use day::day_cmd;
+pub use drain::drain_cmd;
+pub use generate::generate_cmd;
+pub use outside::Outside;
+pub use running::run;
