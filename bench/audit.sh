@@ -11,7 +11,7 @@ work=$(mktemp -d /dev/shm/audit.XXXXXX)
 trap 'rm -rf "$work"' EXIT
 
 "$root/verifactu" --version >/dev/null
-program=$root/crates/verifactu/out/verifactu
+program=$root/crates/program/out/program
 mkdir -p "$work/crates/sha_bench/src"
 cp "$root/HANDLES" "$work/HANDLES"
 echo 'sha_bench: sha2' >"$work/crates.txt"

@@ -9,7 +9,7 @@ folder=$(mktemp -d /dev/shm/chain.XXXXXX)
 trap 'rm -rf "$folder"' EXIT
 
 "$root/verifactu" --version >/dev/null
-program=$root/crates/verifactu/out/verifactu
+program=$root/crates/program/out/program
 
 # A script of so many sales of till 1.
 script() {

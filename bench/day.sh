@@ -13,7 +13,7 @@ turns=${2:-5}
 trap 'rm -rf "$real" "$memory"' EXIT
 
 "$root/verifactu" --version >/dev/null
-program=$root/crates/verifactu/out/verifactu
+program=$root/crates/program/out/program
 
 {
     echo "clock 1735722000 1"

@@ -10,7 +10,7 @@ work=$(mktemp -d /dev/shm/drain.XXXXXX)
 trap 'rm -rf "$work"' EXIT
 
 "$root/verifactu" --version >/dev/null
-program=$root/crates/verifactu/out/verifactu
+program=$root/crates/program/out/program
 
 microseconds() {
     echo $(($(date +%s%N) / 1000))

@@ -15,7 +15,7 @@ turns=${3:-20}
 trap 'rm -rf "$folder"' EXIT
 
 "$root/verifactu" --version >/dev/null
-program=$root/crates/verifactu/out/verifactu
+program=$root/crates/program/out/program
 
 {
     echo "clock 1735722000 1"

@@ -12,7 +12,7 @@ sales=${2:-3}
 trap 'rm -rf "$folder"' EXIT
 
 "$root/verifactu" --version >/dev/null
-program=$root/crates/verifactu/out/verifactu
+program=$root/crates/program/out/program
 "${CC:-cc}" -O2 -shared -fPIC -o "$folder/refuse.so" "$root/bench/refuse.c"
 cd "$folder"
 nif=89890001K

@@ -13,7 +13,7 @@ folder=$(mktemp -d /dev/shm/fuzz.XXXXXX)
 trap 'rm -rf "$folder"' EXIT
 
 "$root/verifactu" --version >/dev/null
-program=$root/crates/verifactu/out/verifactu
+program=$root/crates/program/out/program
 cd "$folder"
 nif=89890001K
 

@@ -12,7 +12,7 @@ work=$(mktemp -d)
 trap 'rm -rf "$work"' EXIT
 
 "$root/verifactu" --version >/dev/null
-program=$root/crates/verifactu/out/verifactu
+program=$root/crates/program/out/program
 "${CC:-cc}" -O2 -o "$work/peer" "$root/bench/generate_peer.c" -lcrypto
 
 microseconds() {

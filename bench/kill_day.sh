@@ -14,7 +14,7 @@ tills=8
 trap 'rm -rf "$folder"' EXIT
 
 "$root/verifactu" --version >/dev/null
-program=$root/crates/verifactu/out/verifactu
+program=$root/crates/program/out/program
 file=$folder/shop.chain
 nif=89890001K
 

@@ -10,7 +10,7 @@ sales=${2:-3000}
 trap 'rm -rf "$folder"' EXIT
 
 "$root/verifactu" --version >/dev/null
-program=$root/crates/verifactu/out/verifactu
+program=$root/crates/program/out/program
 file=$folder/shop.chain
 nif=89890001K
 

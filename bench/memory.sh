@@ -11,7 +11,7 @@ folder=$(mktemp -d /dev/shm/memory.XXXXXX)
 trap 'rm -rf "$folder"' EXIT
 
 "$root/verifactu" --version >/dev/null
-program=$root/crates/verifactu/out/verifactu
+program=$root/crates/program/out/program
 "${CC:-cc}" -O2 -shared -fPIC -o "$folder/refuse.so" "$root/bench/refuse.c"
 cd "$folder"
 nif=89890001K

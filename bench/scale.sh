@@ -12,7 +12,7 @@ folder=$(mktemp -d /dev/shm/scale.XXXXXX)
 trap 'rm -rf "$folder"' EXIT
 
 "$root/verifactu" --version >/dev/null
-program=$root/crates/verifactu/out/verifactu
+program=$root/crates/program/out/program
 cd "$folder"
 nif=89890001K
 faster=0
