@@ -19,8 +19,8 @@ program=$root/crates/program/out/program
     seq "$records" | sed 's/.*/sale 1 & A F2 21:1000/'
 } >"$work/script"
 "$program" chain "$work/shop.chain" 89890001K <"$work/script" >/dev/null
-link='https://www2.agenciatributaria.gob.es/wlpl/TIKE-CONT/ValidarQR?nif=89890001K&numserie=A-'
-seq "$records" | sed "s|.*|$link&\&fecha=01-01-2025\&importe=12.10|" >"$work/links"
+link=https://www2.agenciatributaria.gob.es/wlpl/TIKE-CONT/ValidarQR
+seq "$records" | sed "s|.*|$link?nif=89890001K\\&numserie=A-&\\&fecha=01-01-2025\\&importe=12.10|" >"$work/links"
 
 microseconds() {
     echo $(($(date +%s%N) / 1000))
