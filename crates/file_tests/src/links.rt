@@ -11,11 +11,11 @@ use link_check::{LinkLines, check_all, check_link, check_unbegun, checks_text};
 use parties::Nif;
 use ports::{Clock, CountingClock, MemSink, MemSource};
 use record_codec::Entry;
-use record_fields::{Bytes, Cause, Draft, Line, Lines, Refs};
+use record_fields::{Bytes, Cause, Draft, DraftFault, Line, Lines, Refs};
 use recovery::open_store;
 use report::Detail;
 use series::{NumSerie, SeriesName};
-use shop_core::{Ask, Reply, Request, State, next_fault, reply_to};
+use shop_core::{Ask, Refusal, Reply, Request, State, next_fault, reply_to};
 use std::alloc::Global;
 use std::test::Fail;
 use std::thread::Threads;
@@ -224,12 +224,28 @@ fn cancel(num: &str) -> Result<Request, Fail> {
     Ok(Request::Cancel { num })
 }
 
+fn bad_draft(_: DraftFault) -> Fail {
+    Fail::from("a bad draft")
+}
+
+fn taken(reply: Reply) -> Result<(), Fail> {
+    match reply {
+        Reply::Taken(_) => Ok(()),
+        Reply::Refused(Refusal::BadDraft(fault)) => Err(bad_draft(fault)),
+        _ => Err(Fail::from("not taken")),
+    }
+}
+
+fn answered(alloc: Global, state: &mut State, request: Request) -> Result<Reply, Fail> {
+    let serial = state.records().saturating_add(1);
+    Ok(reply_to(alloc, state, &Ask::new(1, serial, request), TEN)?)
+}
+
 // Takes the request under the next serial.
 fn take(alloc: Global, state: &mut State, request: Request) -> Result<(), Fail> {
-    let serial = state.records().saturating_add(1);
-    match reply_to(alloc, state, &Ask::new(1, serial, request), TEN)? {
-        Reply::Taken(_) => Ok(()),
-        _ => Err(Fail::from("not taken")),
+    match answered(alloc, state, request) {
+        Ok(reply) => taken(reply),
+        Err(why) => Err(why),
     }
 }
 

@@ -160,13 +160,14 @@ fn with_first<D: Disk + Drop, C: Clock + Drop>(
     let Ok(mut store) = opened(alloc, disk, clock) else {
         return Err(Fail::from("a new file"));
     };
-    match sell(alloc, &mut store, 1)? {
-        Sold::Taken {
-            place: 1,
-            huella: FIRST,
-        } => open_again(alloc, store),
-        _ => Err(Fail::from("the first sale")),
+    let first = Sold::Taken {
+        place: 1,
+        huella: FIRST,
+    };
+    if sell(alloc, &mut store, 1)? != first {
+        return Err(Fail::from("the first sale"));
     }
+    open_again(alloc, store)
 }
 
 #[test]
