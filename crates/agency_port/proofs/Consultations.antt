@@ -5,7 +5,7 @@ use Rattle.ports.specs.Causes.{Rose}
 use Rattle.std.proofs.lemmas.List.{length-map}
 use Rattle.record_fields.specs.declared.lines.Line.{Line}
 use Rattle.record_fields.specs.declared.records.Sealed.{Sealed}
-use Rattle.agency_rules.specs.Delivery.{delivered_all, line_of}
+use Rattle.agency_rules.specs.Pairs.{delivered_all, line_of}
 use Rattle.agency_rules.specs.declared.plans.Plan.{Plan}
 use Rattle.agency_port.specs.Answers.{looked, seen_of}
 use Rattle.agency_port.specs.Ledger.{counted, HasCause, IsAsked, Consults, Begins}

@@ -1,20 +1,15 @@
 -- A delivery record by record, and batch by batch.
 use Rattle.std.proofs.Common.{◌≡◌, ℕ, suc, ◌<◌, ◌≤◌, ◌+◌, List, [], ◌∷◌, ◌++◌, refl, sym, ◌∙◌, ap, arith, length, map, take}
 use Rattle.std.proofs.Common.{get_or, length-take}
-use Rattle.std.proofs.lemmas.List.{take-append-le, take_more, take-take, map-append, length-map}
+use Rattle.std.proofs.lemmas.List.{take_more, take-take, map-append, length-map}
 use Rattle.record_fields.specs.declared.lines.Line.{Line}
 use Rattle.record_fields.specs.declared.records.Sealed.{Sealed}
 use Rattle.agency_rules.specs.declared.plans.PlannedVerdict.{PlannedVerdict}
 use Rattle.agency_rules.specs.declared.pairs.Delivered.{Delivered}
-use Rattle.agency_rules.specs.declared.pairs.Delivered.TheVariants.{First, Again}
-use Rattle.agency_rules.specs.Delivery.{delivered_record, with_record, after_record, delivered, delivered_all, meetings}
+use Rattle.agency_rules.specs.Pairs.{delivered_record, after_record, delivered, delivered_all, meetings}
+use Rattle.agency_rules.proofs.Deliveries.{front_with}
 use Rattle.agency_port.specs.Answers.{reply_line, answers}
 use Rattle.agency_port.specs.declared.answers.ReplyLine.{ReplyLine}
-
-pub delivered-append : (verdicts : List PlannedVerdict) (processed : List (Sealed × Line)) (a b : List Sealed) →
-    delivered verdicts processed (a ++ b) ≡ delivered verdicts (delivered verdicts processed a) b
-delivered-append verdicts processed [] b = refl
-delivered-append verdicts processed (s ∷ a) b = delivered-append verdicts (after_record verdicts processed s) a b
 
 meetings-append : (verdicts : List PlannedVerdict) (processed : List (Sealed × Line)) (a b : List Sealed) →
     meetings verdicts processed (a ++ b) ≡ meetings verdicts processed a ++ meetings verdicts (delivered verdicts processed a) b
@@ -31,17 +26,6 @@ delivered_all-append verdicts processed (x ∷ a) b = delivered_all-append verdi
 next_of : (batch : List Sealed) (i : ℕ) (s : Sealed) → i < length batch → s ≡ get_or batch i s → take i batch ++ s ∷ [] ≡ take
     (i + 1) batch
 next_of batch i s within is = ap (λ (x : Sealed). take i batch ++ x ∷ []) is ∙ sym (take_more batch i s within)
-
--- one record more
-pub delivered_more : (verdicts : List PlannedVerdict) (processed now after : List (Sealed × Line)) (batch : List Sealed) (i : ℕ)
-    (s : Sealed) →
-    i < length batch → s ≡ get_or batch i s → now ≡ delivered verdicts processed (take i batch) → after ≡ after_record verdicts
-    now s →
-    after ≡ delivered verdicts processed (take (i + 1) batch)
-delivered_more verdicts processed now after batch i s within is so_far one =
-    one ∙ ap (λ (ps : List (Sealed × Line)). after_record verdicts ps s) so_far
-    ∙ sym (delivered-append verdicts processed (take i batch) (s ∷ []))
-    ∙ ap (delivered verdicts processed) (next_of batch i s within is)
 
 -- one answer more
 pub answers_more : (verdicts : List PlannedVerdict) (processed now : List (Sealed × Line)) (batch : List Sealed) (i : ℕ)
@@ -70,17 +54,6 @@ pub length-answers : (verdicts : List PlannedVerdict) (processed : List (Sealed 
     length (answers verdicts processed batch) ≡ length batch
 length-answers verdicts processed batch = length-map (meetings verdicts processed batch) reply_line ∙ length-meetings verdicts
     processed batch
-
--- the front of a list that grew stays
-front_more : {A : Type 0} (old mid more : List A) → take (length old) mid ≡ old → take (length old) (mid ++ more) ≡ old
-front_more old mid more e =
-    let n : length old ≤ length mid = omega (arith, ap length e, length-take (length old) mid) in
-    take-append-le (length old) mid more n ∙ e
-
-pub front_with : (old mid : List (Sealed × Line)) (s : Sealed) (met : Delivered) → take (length old) mid ≡ old →
-    take (length old) (with_record mid s met) ≡ old
-front_with old mid s (First line) e = front_more old mid ((s, line) ∷ []) e
-front_with old mid s (Again line) e = e
 
 pub front_after : (verdicts : List PlannedVerdict) (old mid after : List (Sealed × Line)) (s : Sealed) →
     take (length old) mid ≡ old → after ≡ after_record verdicts mid s → take (length old) after ≡ old

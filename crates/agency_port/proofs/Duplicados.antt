@@ -5,7 +5,7 @@ use Rattle.std.proofs.lemmas.List.{map-append}
 use Rattle.record_fields.specs.declared.lines.Line.{Line}
 use Rattle.agency_rules.specs.declared.pairs.Delivered.{Delivered}
 use Rattle.agency_rules.specs.declared.pairs.Delivered.TheVariants as delivered_as
-use Rattle.agency_rules.specs.Delivery.{delivered, meetings, is_again}
+use Rattle.agency_rules.specs.Pairs.{delivered, meetings, is_again}
 use Rattle.agency_rules.specs.Laws.{MeetingsJoin, AgainWhereItCame, AllNewWhereNoneCame}
 use Rattle.agency_port.specs.Answers.{reply_line, is_duplicado}
 use Rattle.agency_port.specs.Laws.{AnswersJoin, DuplicadoWhereItCame, AllFirstWhereNoneCame}

@@ -6,14 +6,15 @@ use Rattle.std.proofs.lemmas.List.Elements.{filter_map-append}
 use Rattle.std.specs.List.{AllByRecursion, cons_option}
 use Rattle.record_fields.specs.Picks.{last_of, when}
 use Rattle.record_fields.specs.declared.records.Sealed.{Sealed}
-use Rattle.agency_port.specs.Replied.{Replied}
+use Rattle.agency_rules.proofs.Pasts.{get_last}
+use Rattle.agency_port.specs.Reply.{Replied}
 use Rattle.agency_port.specs.Ledger.{Names}
 use Rattle.agency_port.specs.Practice.{is_reply_to}
 use Rattle.agency_port.specs.Sessions.{keeps, kept_reply, IsKept}
 use Rattle.agency_port.specs.Laws.{KeptIsTheLastNamed, KeptByOneMore}
 use Rattle.agency_port.specs.declared.messages.Message.{Message}
 use Rattle.agency_port.specs.declared.messages.Message.TheVariants.{Begun, Submitted, Consulted}
-use Rattle.agency_port.proofs.Logs.{get_last, one_of}
+use Rattle.agency_port.proofs.Logs.{one_of}
 use Rattle.agency_port.proofs.Replies.{decides, named}
 
 -- the last of a list with one more in front

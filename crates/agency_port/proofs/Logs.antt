@@ -1,11 +1,12 @@
 -- A log that goes on.
-use Rattle.std.proofs.Common.{◌≡◌, ℕ, ◌<◌, ◌+◌, ◌-◌, List, [], ◌∷◌, ◌++◌, refl, sym, ◌∙◌, ap, arith, Option, Some, None}
-use Rattle.std.proofs.Common.{option_to_list, length, length-append, filter_map, take, get_or, append-nil, slice_get}
+use Rattle.std.proofs.Common.{◌≡◌, ℕ, ◌<◌, ◌+◌, List, [], ◌∷◌, ◌++◌, refl, sym, ◌∙◌, ap, Option, Some, None}
+use Rattle.std.proofs.Common.{option_to_list, length, filter_map, take, get_or, append-nil}
 use Rattle.std.proofs.lemmas.List.{take_more, map-append}
 use Rattle.std.proofs.lemmas.List.Elements.{filter_map-append}
 use Rattle.record_fields.specs.Picks.{last_of}
 use Rattle.record_fields.specs.declared.records.Sealed.{Sealed}
-use Rattle.agency_port.specs.Replied.{Replied}
+use Rattle.agency_rules.proofs.Pasts.{get_last}
+use Rattle.agency_port.specs.Reply.{Replied}
 use Rattle.agency_port.specs.Messages.{batch_in, batches_in}
 use Rattle.agency_port.specs.Practice.{messages_of, sent_in, late_in, late_for, reply_in, last_reply}
 use Rattle.agency_port.specs.declared.messages.Logged.{Logged}
@@ -34,16 +35,6 @@ pub late_more : (call : ℕ) (log : List Logged) (i : ℕ) (l : Logged) → i < 
 late_more call log i l within is =
     ap (late_for call) (next_of log i l within is) ∙ filter_map-append (late_in call) (take i log) (l ∷ [])
     ∙ ap (λ (bs : List (List Sealed)). late_for call (take i log) ++ bs) (one_of (late_in call) l (late_in call l) refl)
-
-pub get_last : {A : Type 0} (xs : List A) (x : A) → last_of (xs ++ x ∷ []) ≡ Some x
-get_last xs x = rw (length_after xs x) (get_end xs x)
-  where
-    length_after : {A : Type 0} (xs : List A) (x : A) → length (xs ++ x ∷ []) - 1 ≡ length xs
-    length_after xs x = simp length-append (omega arith)
-
-    get_end : {A : Type 0} (xs : List A) (x : A) → slice_get (xs ++ x ∷ []) (length xs) ≡ Some x
-    get_end [] x = refl
-    get_end (y ∷ xs) x = get_end xs x
 
 -- the reply that was given last, from the end of the log
 pub last_here : (log before : List Logged) (l : Logged) (reply : Replied) → log ≡ before ++ l ∷ [] → Some reply ≡ reply_in l →

@@ -6,7 +6,7 @@ use Rattle.std.proofs.lemmas.List.Folds.{list_any-append}
 use Rattle.std.specs.List.{AllByRecursion, list_any}
 use Rattle.record_fields.specs.declared.records.Sealed.{Sealed}
 use Rattle.agency_rules.specs.declared.plans.Plan.{Plan}
-use Rattle.agency_rules.specs.Delivery.{names}
+use Rattle.agency_rules.specs.Pairs.{names}
 use Rattle.agency_port.specs.Sessions.{is_begin, session_of, hands_over, says_unseen, AnsweredSince, MayGo, dark_after, dark_from}
 use Rattle.agency_port.specs.Sessions.{dark}
 use Rattle.agency_port.specs.Laws.{SessionFollowsItsBegin, SessionGoesOn, SessionStandsLast, MayGoUnlessDark}

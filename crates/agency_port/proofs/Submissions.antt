@@ -5,11 +5,11 @@ use Rattle.ports.specs.Causes.{Rose}
 use Rattle.record_fields.specs.declared.lines.Line.{Line}
 use Rattle.record_fields.specs.declared.records.Sealed.{Sealed}
 use Rattle.agency_rules.specs.Plans.{fate_at}
-use Rattle.agency_rules.specs.Delivery.{delivered_all}
+use Rattle.agency_rules.specs.Pairs.{delivered_all}
 use Rattle.agency_rules.specs.declared.plans.Plan.{Plan}
 use Rattle.agency_rules.specs.declared.plans.Fate.{Fate}
 use Rattle.agency_rules.specs.declared.plans.Fate.TheVariants.{Lost, Taken, Stale, Again, Late}
-use Rattle.agency_port.specs.Replied.{Replied}
+use Rattle.agency_port.specs.Reply.{Replied}
 use Rattle.agency_port.specs.Answers.{answers}
 use Rattle.agency_port.specs.Ledger.{counted, HasCause, StaleShows, Names, HandsOver, Submits}
 use Rattle.agency_port.specs.Rules.{AreAmong, DeliversThis, SubmitKeeps}

@@ -7,7 +7,7 @@ use Rattle.record_fields.specs.declared.lines.Line.TheVariants as line_of_kind
 use Rattle.agency_rules.specs.declared.plans.PlannedVerdict.{PlannedVerdict}
 use Rattle.agency_rules.specs.declared.pairs.Delivered.{Delivered}
 use Rattle.agency_rules.specs.declared.pairs.Delivered.TheVariants as delivered_as
-use Rattle.agency_rules.specs.Delivery.{line_of, meetings}
+use Rattle.agency_rules.specs.Pairs.{line_of, meetings}
 use Rattle.agency_port.specs.declared.answers.State3.{State3}
 use Rattle.agency_port.specs.declared.answers.State3.TheVariants.{Correcto, ConErrores, Incorrecto}
 use Rattle.agency_port.specs.declared.answers.ReplyLine.{ReplyLine}

@@ -6,9 +6,9 @@ use Rattle.record_fields.specs.declared.records.Sealed.{Sealed}
 use Rattle.record_fields.specs.declared.lines.Line.{Line}
 use Rattle.agency_rules.specs.declared.plans.Plan.{Plan}
 use Rattle.agency_rules.specs.declared.plans.PlannedVerdict.{PlannedVerdict}
-use Rattle.agency_rules.specs.Delivery.{line_of, delivered, has_come}
+use Rattle.agency_rules.specs.Pairs.{line_of, delivered, has_come}
 use Rattle.batches.specs.Batches.{huellas_of}
-use Rattle.agency_port.specs.Replied.{Replied}
+use Rattle.agency_port.specs.Reply.{Replied}
 use Rattle.agency_port.specs.Answers.{answers, is_duplicado}
 use Rattle.agency_port.specs.Sessions.{is_begin, session_of, MayGo, dark, keeps, kept_reply, IsKept}
 use Rattle.agency_port.specs.declared.answers.ReplyLine.TheVariants.{First}

@@ -6,7 +6,7 @@ use Rattle.record_fields.specs.declared.lines.Line.{Line}
 use Rattle.agency_rules.specs.declared.plans.Plan.{Plan}
 use Rattle.agency_rules.specs.declared.plans.PlannedVerdict.{PlannedVerdict}
 use Rattle.batches.specs.Batches.{huellas_of}
-use Rattle.agency_port.specs.Replied.{Replied}
+use Rattle.agency_port.specs.Reply.{Replied}
 use Rattle.agency_port.specs.declared.answers.Seen.{Seen}
 use Rattle.agency_port.specs.declared.answers.AgencyFault.{AgencyFault}
 use Rattle.agency_port.specs.declared.answers.AgencyFault.TheVariants.{Failed, NoMemory}
@@ -26,9 +26,8 @@ counted faults = min faults (2 ^ 64 - 1)
 
 -- the fact holds where the answer is Failed
 abbrev pub OnFailed : {T : Type 0} → Result T AgencyFault → Type 0 → Type 0
-OnFailed (Ok x) P = ⊤
 OnFailed (Err Failed) P = P
-OnFailed (Err NoMemory) P = ⊤
+OnFailed other P = ⊤
 
 -- the count of faults never falls, and Failed shows in it
 pub record HasCause {T : Type 0} (before now : ℕ) (result : Result T AgencyFault) : Type 0 where

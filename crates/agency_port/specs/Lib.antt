@@ -1,4 +1,4 @@
-pub mod Replied
+pub mod Reply
 pub mod Answers
 pub mod Messages
 pub mod Ledger

@@ -2,13 +2,12 @@
 use Rattle.std.specs.Prelude.{List, filter_map, Option, Some, None}
 use Rattle.record_fields.specs.declared.records.Sealed.{Sealed}
 use Rattle.agency_port.specs.declared.messages.Message.{Message}
-use Rattle.agency_port.specs.declared.messages.Message.TheVariants.{Begun, Submitted, Consulted}
+use Rattle.agency_port.specs.declared.messages.Message.TheVariants.{Submitted}
 
 -- the batch that was handed over
 abbrev pub batch_in : Message → Option (List Sealed)
-batch_in (Begun plan pairs) = None
 batch_in (Submitted batch answer) = Some batch
-batch_in (Consulted huellas answer) = None
+batch_in other = None
 
 -- all batches that were, in order
 abbrev pub batches_in : List Message → List (List Sealed)

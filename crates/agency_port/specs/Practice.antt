@@ -9,12 +9,12 @@ use Rattle.record_fields.specs.Picks.{last_of}
 use Rattle.record_fields.specs.declared.records.Sealed.{Sealed}
 use Rattle.record_fields.specs.declared.lines.Line.{Line}
 use Rattle.agency_rules.specs.Plans.{fate_at}
-use Rattle.agency_rules.specs.Delivery.{delivered_all}
+use Rattle.agency_rules.specs.Pairs.{delivered_all}
 use Rattle.agency_rules.specs.declared.plans.Plan.{Plan}
 use Rattle.agency_rules.specs.declared.plans.Fate.{Fate}
-use Rattle.agency_rules.specs.declared.plans.Fate.TheVariants.{Lost, Taken, Stale, Again, Late}
+use Rattle.agency_rules.specs.declared.plans.Fate.TheVariants.{Lost, Stale, Again, Late}
 use Rattle.batches.specs.Batches.{huellas_of}
-use Rattle.agency_port.specs.Replied.{Replied}
+use Rattle.agency_port.specs.Reply.{Replied}
 use Rattle.agency_port.specs.Answers.{answers, looked}
 use Rattle.agency_port.specs.Messages.{batch_in, batches_in}
 use Rattle.agency_port.specs.Ledger.{Ledger}
@@ -44,8 +44,7 @@ ledger_of a = record { processed = a.processed; sent = sent_in a.log; verdicts =
 
 abbrev pub is_call_message : Message → Bool
 is_call_message (Begun plan pairs) = false
-is_call_message (Submitted batch answer) = true
-is_call_message (Consulted huellas answer) = true
+is_call_message other = true
 
 abbrev pub is_call : Logged → Bool
 is_call l = is_call_message l.message
@@ -70,38 +69,24 @@ fate_of a = fate_at a.plan.fates (number a.log)
 -- with `again` all that was handed over before comes once more
 abbrev pub again_before : Option Fate → List (List Sealed) → List (List Sealed)
 again_before (Some Again) sent = sent
-again_before (Some Lost) sent = []
-again_before (Some Taken) sent = []
-again_before (Some Stale) sent = []
-again_before (Some (Late calls)) sent = []
-again_before None sent = []
+again_before other sent = []
 
 -- whether the batch itself comes in its own call
 abbrev pub arrives : Option Fate → Bool
-arrives None = true
 arrives (Some Lost) = false
-arrives (Some Taken) = true
-arrives (Some Stale) = true
-arrives (Some Again) = true
 arrives (Some (Late calls)) = false
+arrives other = true
 
 -- the fates of which the caller learns by the count of faults
 abbrev pub is_faulty : Option Fate → Bool
 is_faulty None = false
-is_faulty (Some Lost) = true
-is_faulty (Some Taken) = true
-is_faulty (Some Stale) = true
 is_faulty (Some Again) = false
-is_faulty (Some (Late calls)) = true
+is_faulty other = true
 
 -- the call at whose start a batch that is late by so many calls comes: at the next one at least
 abbrev pub comes_at : Option Fate → ℕ → Option ℕ
-comes_at None call = None
-comes_at (Some Lost) call = None
-comes_at (Some Taken) call = None
-comes_at (Some Stale) call = None
-comes_at (Some Again) call = None
 comes_at (Some (Late calls)) call = Some (call + max calls 1)
+comes_at other call = None
 
 abbrev pub own_of : Option Fate → List Sealed → List (List Sealed)
 own_of fate batch = if arrives fate then batch ∷ [] else []
@@ -128,9 +113,8 @@ ok_of (Ok reply) = Some reply
 ok_of (Err why) = None
 
 abbrev pub reply_in_message : Message → Option Replied
-reply_in_message (Begun plan pairs) = None
 reply_in_message (Submitted batch answer) = ok_of answer
-reply_in_message (Consulted huellas answer) = None
+reply_in_message other = None
 
 abbrev pub reply_in : Logged → Option Replied
 reply_in l = reply_in_message l.message
@@ -159,10 +143,8 @@ stale_by log wait batch = unless_own (unwrap_or (last_reply log) (empty_reply wa
 abbrev pub answer_by : Option Fate → Plan → List (Sealed × Line) → List Logged → List Sealed → Result Replied AgencyFault
 answer_by None plan processed log batch = Ok (reply_by plan processed batch)
 answer_by (Some Again) plan processed log batch = Ok (reply_by plan processed batch)
-answer_by (Some Lost) plan processed log batch = Err Failed
-answer_by (Some Taken) plan processed log batch = Err Failed
-answer_by (Some (Late calls)) plan processed log batch = Err Failed
 answer_by (Some Stale) plan processed log batch = stale_by log plan.wait batch
+answer_by other plan processed log batch = Err Failed
 
 -- the answer to a submission
 abbrev pub submission_answer : Practice → List Sealed → Result Replied AgencyFault

@@ -6,8 +6,8 @@ use Rattle.std.specs.List.{AllByRecursion}
 use Rattle.record_fields.specs.declared.records.Sealed.{Sealed}
 use Rattle.record_fields.specs.declared.lines.Line.{Line}
 use Rattle.agency_rules.specs.declared.plans.PlannedVerdict.{PlannedVerdict}
-use Rattle.agency_rules.specs.Delivery.{delivered_all}
-use Rattle.agency_port.specs.Replied.{Replied}
+use Rattle.agency_rules.specs.Pairs.{delivered_all}
+use Rattle.agency_port.specs.Reply.{Replied}
 use Rattle.agency_port.specs.Answers.{answers, looked}
 use Rattle.agency_port.specs.Ledger.{Ledger, Names}
 use Rattle.agency_port.specs.declared.answers.ReplyLine.{ReplyLine}

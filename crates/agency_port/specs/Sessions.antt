@@ -4,8 +4,8 @@ use Rattle.std.specs.Prelude.{Err, Bool, true, false, not, ◌&&◌, ◌||◌, b
 use Rattle.std.specs.List.{AllByRecursion, list_any, zip}
 use Rattle.record_fields.specs.Picks.{last_of, when}
 use Rattle.record_fields.specs.declared.records.Sealed.{Sealed}
-use Rattle.agency_rules.specs.Delivery.{names}
-use Rattle.agency_port.specs.Replied.{Replied}
+use Rattle.agency_rules.specs.Pairs.{names}
+use Rattle.agency_port.specs.Reply.{Replied}
 use Rattle.agency_port.specs.Ledger.{Names}
 use Rattle.agency_port.specs.Practice.{is_reply_to}
 use Rattle.agency_port.specs.declared.answers.AgencyFault.{AgencyFault}
@@ -16,8 +16,7 @@ use Rattle.agency_port.specs.declared.messages.Message.TheVariants.{Begun, Submi
 
 abbrev pub is_begin : Message → Bool
 is_begin (Begun plan pairs) = true
-is_begin (Submitted batch answer) = false
-is_begin (Consulted huellas answer) = false
+is_begin other = false
 
 -- the session: the messages behind the last opening, or all where none was opened
 abbrev pub session_of : List Message → List Message
@@ -26,9 +25,8 @@ session_of (m ∷ messages) = if list_any is_begin (m ∷ messages) then session
 
 -- the message hands a record with this Huella over
 abbrev pub hands_over : List ℕ → Message → Bool
-hands_over huella (Begun plan pairs) = false
 hands_over huella (Submitted batch answer) = names batch huella
-hands_over huella (Consulted huellas answer) = false
+hands_over huella other = false
 
 abbrev pub is_unseen : Seen → Bool
 is_unseen NotSeen = true
@@ -55,10 +53,9 @@ MayGo huella messages = AllByRecursion (λ (m : Message). hands_over huella m �
 
 -- whether the Huella is in the dark after a message, by whether it was before: handed over, and not answered for since
 abbrev pub dark_after : List ℕ → Bool → Message → Bool
-dark_after huella before (Begun plan pairs) = before
 dark_after huella before (Submitted batch answer) = names batch huella || before
 dark_after huella before (Consulted huellas (Ok seen)) = before && not (says_unseen huellas seen huella)
-dark_after huella before (Consulted huellas (Err why)) = before
+dark_after huella before other = before
 
 abbrev pub dark_from : List ℕ → Bool → List Message → Bool
 dark_from huella before [] = before
@@ -75,10 +72,9 @@ named_reply batch (Err why) = None
 -- what a message makes of the reply that is kept: a reply that names its batch is kept from now on, and a consultation that
 -- answers leaves none
 abbrev pub keeps : Message → Option (Option Replied)
-keeps (Begun plan pairs) = None
 keeps (Submitted batch answer) = option_map Some (named_reply batch answer)
 keeps (Consulted huellas (Ok seen)) = Some None
-keeps (Consulted huellas (Err why)) = None
+keeps other = None
 
 -- the last reply that named its batch, until a consultation answers
 abbrev pub kept_reply : List Message → Option Replied

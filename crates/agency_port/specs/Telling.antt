@@ -3,7 +3,7 @@ use Rattle.std.specs.Prelude.{ℕ, List, [], ◌∷◌, ◌++◌, drop, length, 
 use Rattle.ports.specs.Memory.{counted_up}
 use Rattle.record_fields.specs.declared.records.Sealed.{Sealed}
 use Rattle.agency_rules.specs.declared.plans.Plan.{Plan}
-use Rattle.agency_port.specs.Replied.{Replied}
+use Rattle.agency_port.specs.Reply.{Replied}
 use Rattle.agency_port.specs.Messages.{batches_in}
 use Rattle.agency_port.specs.Ledger.{Ledger}
 use Rattle.agency_port.specs.Practice.{is_reply_to}

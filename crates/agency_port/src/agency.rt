@@ -7,7 +7,7 @@ ghost use Rattle.ports.specs.declared.faults.NoMemory.{NoMemory as AnyNoMemory};
 ghost use Rattle.agency_rules.specs.declared.plans.Plan.{Plan as AnyPlan};
 ghost use Rattle.agency_port.specs.declared.answers.AgencyFault.{AgencyFault as AnyFault};
 ghost use Rattle.agency_port.specs.declared.answers.Seen.{Seen as AnySeen};
-ghost use Rattle.agency_port.specs.Replied.{Replied};
+ghost use Rattle.agency_port.specs.Reply.{Replied};
 ghost use Rattle.agency_port.specs.Ledger.{Ledger, HasCause, StaleShows, Begins, Submits, Consults};
 ghost use Rattle.agency_port.specs.Messages.{batches_in};
 ghost use Rattle.agency_port.specs.Rules.{SubmitKeeps, ConsultKeeps};

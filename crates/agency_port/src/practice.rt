@@ -6,7 +6,7 @@ ghost use Rattle.agency_port.specs.Practice.{IsRow, IsOpened, IsCutShort, cut, o
 ghost use Rattle.agency_port.specs.Practice.{consultation_answer, consulted};
 
 use crate::rows::{
-    answer_to, comes_at, copied_reply, copied_seen, deliver_before, faults_after, seen_by,
+    answer_to, comes_at, copied_reply, copied_seen, fate_before, faults_after, seen_by,
 };
 use crate::{Agency, AgencyFault, Logged, Message, Reply, SeenList};
 use agency_rules::{Pairs, Plan};
@@ -123,15 +123,7 @@ impl PracticeAgency {
         ensures err { OnErr result (IsCutShort self.old self.new) }
     {
         let call = self.calls + 1;
-        let fate = self.plan.fates.at(call);
-        deliver_before(
-            alloc,
-            &self.plan.verdicts,
-            &mut self.pairs,
-            &self.entries,
-            call,
-            fate,
-        )?;
+        let fate = fate_before(alloc, &self.plan, &mut self.pairs, &self.entries, call)?;
         let answer = answer_to(
             alloc,
             &self.plan,
@@ -175,15 +167,7 @@ impl PracticeAgency {
         ensures err { OnErr result (IsCutShort self.old self.new) }
     {
         let call = self.calls + 1;
-        let fate = self.plan.fates.at(call);
-        deliver_before(
-            alloc,
-            &self.plan.verdicts,
-            &mut self.pairs,
-            &self.entries,
-            call,
-            fate,
-        )?;
+        let fate = fate_before(alloc, &self.plan, &mut self.pairs, &self.entries, call)?;
         let answer = seen_by(alloc, &self.pairs, fate, huellas)?;
         let message = Message::Consulted {
             huellas: huellas.copied(alloc)?,

@@ -17,7 +17,7 @@ pub struct Reply {
 
 impl Model for Reply {
     ghost use Rattle.std.specs.Prelude.{◌≡◌, length};
-    ghost use Rattle.agency_port.specs.Replied.{Replied};
+    ghost use Rattle.agency_port.specs.Reply.{Replied};
 
     ghost Value = { Replied };
 

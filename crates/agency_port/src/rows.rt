@@ -1,6 +1,7 @@
 // What a fate makes of a call.
 ghost use Rattle.std.specs.Prelude.{◌≡◌, ◌^◌, ◌<◌, [], ◌∷◌, length, take, IfOk, OnOk};
-ghost use Rattle.agency_rules.specs.Delivery.{delivered_all};
+ghost use Rattle.agency_rules.specs.Pairs.{delivered_all};
+ghost use Rattle.agency_rules.specs.Plans.{fate_at};
 ghost use Rattle.agency_port.specs.Practice as rows;
 
 use crate::delivering::{deliver_answered, deliver_late, deliver_sent, look};
@@ -31,8 +32,8 @@ pub(crate) fn comes_at(fate: Option<Fate>, call: u64) -> Option<u64>
     }
 }
 
-/// What comes before the call's own batch: the late ones, and with `again` all that were handed over.
-pub(crate) fn deliver_before(
+// What comes before the call's own batch: the late ones, and with `again` all that were handed over.
+fn deliver_before(
     alloc: Global,
     verdicts: &Verdicts,
     pairs: &mut Pairs,
@@ -52,6 +53,25 @@ pub(crate) fn deliver_before(
             (),
         ),
     }
+}
+
+/// The same, by the fate of the call, and this fate.
+pub(crate) fn fate_before(
+    alloc: Global,
+    plan: &Plan,
+    pairs: &mut Pairs,
+    log: &[Logged],
+    call: u64,
+) -> Result<Option<Fate>, NoMemory>
+    ensures fate { IfOk result (λ fate. fate ≡ fate_at plan.now.fates call) }
+    ensures ok { IfOk result (λ fate. pairs.new ≡ delivered_all plan.now.verdicts
+        (delivered_all plan.now.verdicts pairs.old (rows.late_for call log.now))
+        (rows.again_before fate (rows.sent_in log.now))) }
+    ensures front { take (length pairs.old) pairs.new ≡ pairs.old }
+{
+    let fate = plan.fates.at(call);
+    deliver_before(alloc, &plan.verdicts, pairs, log, call, fate)?;
+    Ok(fate)
 }
 
 // The batch comes and is answered.

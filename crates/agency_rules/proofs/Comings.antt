@@ -9,9 +9,9 @@ use Rattle.record_fields.specs.declared.lines.Line.{Line}
 use Rattle.agency_rules.specs.declared.plans.PlannedVerdict.{PlannedVerdict}
 use Rattle.agency_rules.specs.declared.pairs.Delivered.{Delivered}
 use Rattle.agency_rules.specs.declared.pairs.Delivered.TheVariants.{First, Again}
-use Rattle.agency_rules.specs.Judgement.{judgement}
-use Rattle.agency_rules.specs.Delivery.{line_of, met, delivered_record, with_record, after_record, delivered, meetings, names}
-use Rattle.agency_rules.specs.Delivery.{has_come, is_again}
+use Rattle.agency_rules.specs.Judging.{judgement}
+use Rattle.agency_rules.specs.Pairs.{line_of, met, delivered_record, with_record, after_record, delivered, meetings, names}
+use Rattle.agency_rules.specs.Pairs.{has_come, is_again}
 use Rattle.agency_rules.specs.Laws.{AgainWhereItCame, AllNewWhereNoneCame, MeetingsJoin}
 use Rattle.agency_rules.proofs.Deliveries.{delivered-append}
 

@@ -8,7 +8,7 @@ use Rattle.record_fields.specs.declared.records.Sealed.{Sealed}
 use Rattle.agency_rules.specs.declared.plans.PlannedVerdict.{PlannedVerdict}
 use Rattle.agency_rules.specs.declared.pairs.Delivered.{Delivered}
 use Rattle.agency_rules.specs.declared.pairs.Delivered.TheVariants.{First, Again}
-use Rattle.agency_rules.specs.Delivery.{with_record, after_record, delivered, DeliversFront}
+use Rattle.agency_rules.specs.Pairs.{with_record, after_record, delivered, DeliversFront}
 
 pub delivered-append : (verdicts : List PlannedVerdict) (processed : List (Sealed × Line)) (a b : List Sealed) →
     delivered verdicts processed (a ++ b) ≡ delivered verdicts (delivered verdicts processed a) b

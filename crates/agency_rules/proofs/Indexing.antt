@@ -10,8 +10,8 @@ use Rattle.record_fields.specs.Records.{id_of}
 use Rattle.record_fields.specs.declared.lines.Line.{Line}
 use Rattle.record_fields.specs.declared.records.Sealed.{Sealed}
 use Rattle.agency_rules.specs.declared.judging.Past.{Past}
-use Rattle.agency_rules.specs.Judgement.{same_id, of_id, past_of, past_after}
-use Rattle.agency_rules.specs.Delivery.{line_of}
+use Rattle.agency_rules.specs.Judging.{same_id, of_id, past_of, past_after}
+use Rattle.agency_rules.specs.Pairs.{line_of}
 use Rattle.agency_rules.specs.declared.indexes.Places.{Places}
 use Rattle.agency_rules.specs.declared.indexes.Pasts.{Pasts}
 use Rattle.agency_rules.specs.Indexes.{place_of, line_if, line_at, place_at, past_at, IsIndexed}

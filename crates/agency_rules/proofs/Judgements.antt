@@ -8,7 +8,7 @@ use Rattle.record_fields.specs.declared.records.Sealed.{Sealed}
 use Rattle.agency_rules.specs.declared.judging.Past.{Past}
 use Rattle.agency_rules.specs.declared.plans.PlannedVerdict.{PlannedVerdict}
 use Rattle.agency_rules.specs.declared.plans.Verdict.{Verdict}
-use Rattle.agency_rules.specs.Judgement.{past_of, verdict_for, judge, judgement}
+use Rattle.agency_rules.specs.Judging.{past_of, verdict_for, judge, judgement}
 
 pub judged_by : (verdicts : List PlannedVerdict) (processed : List (Sealed × Line)) (body : Record) (id : InvoiceId) (past : Past)
     (verdict : Option Verdict) (line : Line) →

@@ -14,13 +14,13 @@ use Rattle.record_fields.specs.declared.records.Record.{Record}
 use Rattle.record_fields.specs.declared.records.Record.TheVariants as record_of
 use Rattle.record_fields.specs.declared.records.Sealed.{Sealed}
 use Rattle.agency_rules.specs.declared.judging.Past.{Past}
-use Rattle.agency_rules.specs.Judgement.{same_id, is_accepted, of_id, past_of, past_after}
+use Rattle.agency_rules.specs.Judging.{same_id, is_accepted, of_id, past_of, past_after}
 
 pub by_cases : (b : Bool) → (b ≡ true) ⊎ (b ≡ false)
 by_cases true = inl refl
 by_cases false = inr refl
 
-get_last : {A : Type 0} (xs : List A) (x : A) → last_of (xs ++ x ∷ []) ≡ Some x
+pub get_last : {A : Type 0} (xs : List A) (x : A) → last_of (xs ++ x ∷ []) ≡ Some x
 get_last xs x = rw (length_after xs x) (get_end xs x)
   where
     length_after : {A : Type 0} (xs : List A) (x : A) → length (xs ++ x ∷ []) - 1 ≡ length xs

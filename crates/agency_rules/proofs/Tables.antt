@@ -9,7 +9,7 @@ use Rattle.record_fields.specs.declared.records.Record.{Record}
 use Rattle.record_fields.specs.declared.records.Record.TheVariants as record_of
 use Rattle.agency_rules.specs.declared.judging.Past.{Past}
 use Rattle.agency_rules.specs.declared.plans.Verdict.{Verdict}
-use Rattle.agency_rules.specs.Judgement.{judge, vetted, warned, is_x}
+use Rattle.agency_rules.specs.Judging.{judge, vetted, warned, is_x}
 use Rattle.agency_rules.specs.Clashes.{alta_clash, anulacion_clash, clash}
 
 -- four rows

@@ -4,7 +4,7 @@ use Rattle.record_fields.specs.declared.lines.Cause.{Cause}
 use Rattle.record_fields.specs.declared.lines.Cause.TheVariants.{Held, NotHeld}
 use Rattle.record_fields.specs.declared.records.Record.{Record}
 use Rattle.record_fields.specs.declared.records.Record.TheVariants as record_of
-use Rattle.agency_rules.specs.Judgement.{is_x}
+use Rattle.agency_rules.specs.Judging.{is_x}
 
 -- of an alta with this Subsanacion, and whether its RechazoPrevio is X
 abbrev pub alta_clash : Bool → Bool → Bool → Option Cause

@@ -6,7 +6,7 @@ use Rattle.std.specs.Map.{lookup}
 use Rattle.series.specs.declared.numbers.InvoiceId.{InvoiceId}
 use Rattle.record_fields.specs.declared.lines.Line.{Line}
 use Rattle.record_fields.specs.declared.records.Sealed.{Sealed}
-use Rattle.agency_rules.specs.Judgement.{same_id, past_of}
+use Rattle.agency_rules.specs.Judging.{same_id, past_of}
 use Rattle.agency_rules.specs.declared.judging.Past.{Past}
 use Rattle.agency_rules.specs.declared.pairs.TheConstants.{MAX_PAIRS}
 use Rattle.agency_rules.specs.declared.indexes.Places.{Places}

@@ -5,7 +5,7 @@ use Rattle.record_fields.specs.declared.records.Sealed.{Sealed}
 use Rattle.record_fields.specs.declared.lines.Line.{Line}
 use Rattle.agency_rules.specs.declared.plans.PlannedVerdict.{PlannedVerdict}
 use Rattle.agency_rules.specs.declared.pairs.Delivered.TheVariants.{First}
-use Rattle.agency_rules.specs.Delivery.{line_of, delivered, meetings, has_come, is_again}
+use Rattle.agency_rules.specs.Pairs.{line_of, delivered, meetings, has_come, is_again}
 
 -- to deliver two batches in one is to deliver the first and then the second
 abbrev pub DeliveriesJoin : Type 0

@@ -1,6 +1,6 @@
 pub mod Plans
-pub mod Judgement
+pub mod Judging
 pub mod Clashes
-pub mod Delivery
+pub mod Pairs
 pub mod Indexes
 pub mod Laws

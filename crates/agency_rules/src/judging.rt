@@ -4,7 +4,7 @@ ghost use Rattle.record_fields.specs.Records.{id_of};
 ghost use Rattle.record_fields.specs.declared.records.Sealed.{Sealed};
 ghost use Rattle.record_fields.specs.declared.lines.Line.{Line as AnyLine};
 ghost use Rattle.record_fields.specs.declared.lines.Line.TheVariants.{Correcto as correct};
-ghost use Rattle.agency_rules.specs.Judgement as spec;
+ghost use Rattle.agency_rules.specs.Judging as spec;
 ghost use Rattle.agency_rules.specs.Clashes as register;
 
 use crate::Verdict;
@@ -20,7 +20,7 @@ pub struct Past {
 }
 
 impl Past {
-    ghost use Rattle.agency_rules.specs.Judgement.{past_of};
+    ghost use Rattle.agency_rules.specs.Judging.{past_of};
 
     /// The past after one more record of the invoice.
     pub fn after(self, body: &Record, line: &Line) -> Past

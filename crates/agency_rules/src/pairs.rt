@@ -1,8 +1,8 @@
 // The records that the agency has processed, each with its line.
 ghost use Rattle.std.specs.Prelude.{◌≡◌, ◌≤◌, ◌+◌, ◌-◌, ◌^◌, ◌<◌, [], ◌∷◌, ◌++◌, length, take, true, false, IfOk, OnOk, OnErr};
 ghost use Rattle.record_fields.specs.Records.{id_of};
-ghost use Rattle.agency_rules.specs.Judgement as spec;
-ghost use Rattle.agency_rules.specs.Delivery.{line_of, delivered_record, after_record, delivered, DeliversFront};
+ghost use Rattle.agency_rules.specs.Judging as spec;
+ghost use Rattle.agency_rules.specs.Pairs.{line_of, delivered_record, after_record, delivered, DeliversFront};
 ghost use Rattle.agency_rules.specs.Indexes.{line_at};
 
 use crate::indexes::{Pasts, Places};

@@ -1,6 +1,6 @@
 // The plan of the practice agency.
 ghost use Rattle.std.specs.Prelude.{◌≡◌, IfOk};
-ghost use Rattle.agency_rules.specs.Judgement.{verdict_for};
+ghost use Rattle.agency_rules.specs.Judging.{verdict_for};
 ghost use Rattle.agency_rules.specs.Plans.{fate_at};
 
 use ports::NoMemory;

@@ -1,6 +1,6 @@
 //! Amounts of money.
 ghost use Rattle.std.specs.Prelude.{◌≡◌, ℤ, ◌↔◌, ◌≤◌, pos, ◌+ℤ◌, neg_ℤ, unsigned_abs, int_lt, IsSome, IfSome};
-ghost use Rattle.amounts.specs.Amount.{IsCents};
+ghost use Rattle.amounts.specs.Cents.{IsCents};
 ghost use Rattle.amounts.specs.declared.cents.TheConstants.{MAX_CENTS};
 
 use std::marker::Model;

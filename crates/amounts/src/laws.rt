@@ -1,6 +1,6 @@
 //! What holds of every amount.
 ghost use Rattle.std.specs.Prelude.{◌≡◌, ℤ, ℕ, neg_ℤ};
-ghost use Rattle.amounts.specs.Amount.{tax};
+ghost use Rattle.amounts.specs.Cents.{tax};
 ghost use Rattle.amounts.specs.Text.{amount_text};
 
 /// The tax of a negated base is the negated tax.

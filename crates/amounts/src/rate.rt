@@ -1,6 +1,6 @@
 //! Rates of tax.
 ghost use Rattle.std.specs.Prelude.{◌≡◌, ℕ, ◌↔◌, IsSome, IfSome};
-ghost use Rattle.amounts.specs.Amount.{IsRate};
+ghost use Rattle.amounts.specs.Cents.{IsRate};
 
 use std::marker::Model;
 

@@ -1,7 +1,7 @@
 //! Reading an amount.
 ghost use Rattle.std.specs.Prelude.{◌≡◌, ℕ, ◌≢◌, IfSome, IfNone, ℤ, Ok};
 ghost use Rattle.amounts.specs.Text.{cents_text, amount_text};
-ghost use Rattle.amounts.specs.Amount.{IsSize, IsCents};
+ghost use Rattle.amounts.specs.Cents.{IsSize, IsCents};
 ghost use Rattle.amounts.specs.Reading.{IsReading, IsPositiveReading, IsNegativeReading};
 
 use crate::{Cents, MAX_CENTS, read_whole};

@@ -1,6 +1,6 @@
 //! The tax of a base.
 ghost use Rattle.std.specs.Prelude.{◌≡◌, pos, neg_ℤ};
-ghost use Rattle.amounts.specs.Amount.{tax};
+ghost use Rattle.amounts.specs.Cents.{tax};
 
 use crate::{Cents, Rate};
 

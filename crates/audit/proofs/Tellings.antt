@@ -5,7 +5,7 @@ use Rattle.shop_core.specs.Reading.IsRead.{not_begun, stands}
 use Rattle.shop_core.specs.declared.audits.AuditEnd.{AuditEnd}
 use Rattle.shop_core.specs.declared.reading.FileRead.{FileRead}
 use Rattle.shop_core.specs.declared.reading.FileRead.TheVariants.{NotBegun, Sound, Broken}
-use Rattle.audit.specs.Verdict.{verdict_of}
+use Rattle.audit.specs.Auditing.{verdict_of}
 use Rattle.audit.specs.Laws.{IsSoundOrDamaged, VerdictTells}
 
 read_tells : BrokenIsDamaged → (file : List ℕ) (read : FileRead) → IsRead file read → IsSoundOrDamaged file (verdict_of read)

@@ -6,8 +6,8 @@ use Rattle.journal.specs.File.{IsNotBegun, closing_gate}
 use Rattle.journal.specs.Header.{IsHeaderDamaged, IsBegun}
 use Rattle.journal.specs.Laws.{OneHeader}
 use Rattle.journal.specs.declared.reading.Header.TheVariants as header
-use Rattle.record_codec.specs.Fields.{IsEncoding}
-use Rattle.record_codec.specs.Bytes.{entry_bytes}
+use Rattle.record_codec.specs.Validity.{IsEncoding}
+use Rattle.record_codec.specs.Writing.{entry_bytes}
 use Rattle.record_codec.specs.Laws.{EncodingsAreApart}
 use Rattle.record_codec.specs.declared.entries.Entry.{Entry}
 use Rattle.record_codec.specs.declared.entries.Entry.TheVariants as entry_of
@@ -23,7 +23,7 @@ use Rattle.shop_core.specs.Files.{bodies_of}
 use Rattle.shop_core.specs.Reading.{IsRead, next_place, word_of}
 use Rattle.shop_core.specs.Reading.IsRead.{not_begun, stands, in_header, no_frame, no_entry, not_next}
 use Rattle.shop_core.specs.declared.reading.FileRead.{FileRead}
-use Rattle.audit.specs.Verdict.{sound_end, verdict_of}
+use Rattle.audit.specs.Auditing.{sound_end, verdict_of}
 use Rattle.audit.specs.Laws.{OneVerdict}
 
 -- the verdict of a stop, by what stands there

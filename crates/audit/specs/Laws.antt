@@ -5,7 +5,7 @@ use Rattle.record_codec.specs.declared.entries.Entry.{Entry}
 use Rattle.shop_core.specs.declared.audits.AuditEnd.{AuditEnd}
 use Rattle.shop_core.specs.declared.audits.AuditEnd.TheVariants.{Sound, Broken}
 use Rattle.shop_core.specs.Files.{StandsFor, IsDamagedFile}
-use Rattle.audit.specs.Verdict.{IsVerdict, sound_end}
+use Rattle.audit.specs.Auditing.{IsVerdict, sound_end}
 
 -- a file has at most one verdict
 abbrev pub OneVerdict : Type 0

@@ -1,7 +1,7 @@
 // The verdict on a file, from what is read of it.
 ghost use Rattle.std.specs.Prelude.{◌≡◌, ◌≤◌, IsTrue, IfOk, IsErrOf};
 ghost use Rattle.ports.specs.Causes.{Rose};
-ghost use Rattle.audit.specs.Verdict.{IsVerdict, sound_end};
+ghost use Rattle.audit.specs.Auditing.{IsVerdict, sound_end};
 
 use crate::AuditFault;
 use chain_disk::Disk;

@@ -3,7 +3,7 @@ use Rattle.std.proofs.Common.{◌≡◌, ◌<◌, ◌≤◌, ◌+◌, inl, inr, 
 use Rattle.std.proofs.Common.{ap, subst, arith, take-append-drop}
 use Rattle.std.proofs.lemmas.List.{take_all, drop_all, append-nil, length-take-le, length_push, get_or_push, get_or_append_left}
 use Rattle.std.proofs.lemmas.Bool.{cases_lt}
-use Rattle.chain_disk.specs.Told.{Told, Pending, IsImage, IsLeft, IsCovered, furthest, moment, pasted}
+use Rattle.chain_disk.specs.OnDisk.{OnDisk, Pending, IsImage, IsLeft, IsCovered, furthest, moment, pasted}
 use Rattle.chain_disk.specs.Fill.{IsInDoubt, IsFilled, fill_byte, filled_length}
 use Rattle.chain_disk.specs.MemoryReads.{furthest_least}
 use Rattle.chain_disk.specs.declared.image.Fill.{Fill}
@@ -21,30 +21,30 @@ pasted_past at bytes content past =
     ∙ ap (λ (l : List ℕ). content ++ bytes ++ l) (drop_all (at + length bytes) content (omega (arith, past))) ∙
     append-nil (content ++ bytes))
 
-moment_after : (event : Event) (t : Told) → moment (after event t) ≡ moment t + 1
+moment_after : (event : Event) (t : OnDisk) → moment (after event t) ≡ moment t + 1
 moment_after (Wrote at bytes) t = omega arith
 moment_after (Tore at n) t = omega arith
 moment_after Synced t = omega arith
 moment_after Unsynced t = omega arith
 
-moment_replayed : (events : List Event) (t : Told) → moment (replayed events t) ≡ length events + moment t
+moment_replayed : (events : List Event) (t : OnDisk) → moment (replayed events t) ≡ length events + moment t
 moment_replayed [] t = omega arith
 moment_replayed (e ∷ events) t = omega (arith, moment_replayed events (after e t), moment_after e t)
 
 pub moment_told : (first : List ℕ) (events : List Event) → moment (told_by first events) ≡ length events
 moment_told first events = omega (arith, moment_replayed events (fresh first))
 
-left_after : (event : Event) (t : Told) (m : ℕ) (c : List ℕ) → IsLeft t m c → IsLeft (after event t) m c
+left_after : (event : Event) (t : OnDisk) (m : ℕ) (c : List ℕ) → IsLeft t m c → IsLeft (after event t) m c
 left_after (Wrote at bytes) t m c left = inr left
 left_after (Tore at n) t m c left = inr left
 left_after Synced t m c left = inr left
 left_after Unsynced t m c left = inr left
 
-left_replayed : (events : List Event) (t : Told) (m : ℕ) (c : List ℕ) → IsLeft t m c → IsLeft (replayed events t) m c
+left_replayed : (events : List Event) (t : OnDisk) (m : ℕ) (c : List ℕ) → IsLeft t m c → IsLeft (replayed events t) m c
 left_replayed [] t m c left = left
 left_replayed (e ∷ events) t m c left = left_replayed events (after e t) m c (left_after e t m c left)
 
-replayed-append : (a b : List Event) (t : Told) → replayed (a ++ b) t ≡ replayed b (replayed a t)
+replayed-append : (a b : List Event) (t : OnDisk) → replayed (a ++ b) t ≡ replayed b (replayed a t)
 replayed-append [] b t = refl
 replayed-append (e ∷ a) b t = replayed-append a b (after e t)
 
@@ -57,7 +57,7 @@ image_left first events m c within image =
     let left : IsLeft t m c = inl (at, image) in
     let all : replayed (drop m events) t ≡ told_by first events = sym (replayed-append (take m events) (drop m events)
     (fresh first)) ∙ ap (λ (l : List Event). replayed l (fresh first)) (take-append-drop m events) in
-    subst (λ (u : Told). IsLeft u m c) all (left_replayed (drop m events) t m c left)
+    subst (λ (u : OnDisk). IsLeft u m c) all (left_replayed (drop m events) t m c left)
 
 pub state_start : (first : List ℕ) (state : State) → state.content.items ≡ first → state.synced.items ≡ first →
     state.ranges.items ≡ [] → IsState state (told_by first [])
@@ -66,7 +66,7 @@ state_start first state content synced ranges = record { content = content; sync
 pub state_more : (first : List ℕ) (events : List Event) (i : ℕ) (event : Event) (old new : State) → take (i + 1) events ≡ take i
     events ++ event ∷ [] → IsState old (told_by first (take i events)) → IsStep event old new →
     IsState new (told_by first (take (i + 1) events))
-state_more first events i event old new more is step = subst (λ (t : Told). IsState new t)
+state_more first events i event old new more is step = subst (λ (t : OnDisk). IsState new t)
     (sym (told_push first (take i events) (take (i + 1) events) event more)) (step (told_by first (take i events)) is)
 
 -- the bytes so far

@@ -1,7 +1,7 @@
 -- The laws of what a disk tells.
 use Rattle.std.proofs.Common.{◌⊎◌, ◌<◌, ◌≤◌, ◌+◌, inl, inr, ℕ, List, refl, sym, subst, arith}
 use Rattle.std.proofs.lemmas.Bool.{cases_lt}
-use Rattle.chain_disk.specs.Told.{Told, Pending, IsImage, IsLeft, moment, IsLeftSince, moved, settled}
+use Rattle.chain_disk.specs.OnDisk.{OnDisk, Pending, IsImage, IsLeft, moment, IsLeftSince, moved, settled}
 use Rattle.chain_disk.specs.Runs.{left_before, settled_now}
 use Rattle.chain_disk.specs.Laws.{SettledLeaves, NoCallIsARun, CallIsARun, RunsFollow}
 
@@ -18,7 +18,7 @@ settled_leaves t c quiet = (
   ),
 )
 
-no_call : (t : Told) (c : List ℕ) (m : ℕ) → moment t ≤ m → IsLeft t m c → IsImage t.now c
+no_call : (t : OnDisk) (c : List ℕ) (m : ℕ) → moment t ≤ m → IsLeft t m c → IsImage t.now c
 no_call t c m since (inl now) = now.1
 no_call t c m since (inr past) = absurd (omega (arith, left_before t.past m c past))
 
@@ -62,7 +62,7 @@ runs_follow t u v first second = (
       | inr late ↦ inr (m, late, left)
     ]
 
-    left_by : (x : Told) (m : ℕ) (c : List ℕ) → IsLeft x m c → m ≤ moment x
+    left_by : (x : OnDisk) (m : ℕ) (c : List ℕ) → IsLeft x m c → m ≤ moment x
     left_by x m c (inl now) = omega (arith, now.0)
     left_by x m c (inr past) = omega (arith, left_before x.past m c past)
 

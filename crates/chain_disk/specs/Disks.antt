@@ -1,18 +1,18 @@
 -- What a call leaves of a disk.
 use Rattle.std.specs.Prelude.{◌≡◌, ℕ, Bool}
 use Rattle.ports.specs.Causes.{Rose}
-use Rattle.chain_disk.specs.Told.{Told}
+use Rattle.chain_disk.specs.OnDisk.{OnDisk}
 
 -- a disk and what its kind tells of it, before the call and after it
 pub record Disks (D : Type 0) : Type 0 where
   pub tells : Bool
-  pub told : D → Told
+  pub told : D → OnDisk
   pub faults : D → ℕ
   pub disk : D
   pub disk_after : D
 
 -- this disk in this call: of its kind, before and after
-abbrev pub this_disk : {D : Type 0} → Bool → (D → Told) → (D → ℕ) → D → D → Disks D
+abbrev pub this_disk : {D : Type 0} → Bool → (D → OnDisk) → (D → ℕ) → D → D → Disks D
 this_disk tells told faults old new = record { tells = tells; told = told; faults = faults; disk = old; disk_after = new }
 
 -- no call of the disk was made

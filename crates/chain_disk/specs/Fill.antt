@@ -1,6 +1,6 @@
 -- The image of a moment with every byte in doubt filled in one way.
 use Rattle.std.specs.Prelude.{◌≡◌, ◌⊎◌, ◌<◌, ◌≤◌, ℕ, List, length, slice_index}
-use Rattle.chain_disk.specs.Told.{Pending, IsCovered, furthest}
+use Rattle.chain_disk.specs.OnDisk.{Pending, IsCovered, furthest}
 use Rattle.chain_disk.specs.declared.image.Fill.{Fill}
 use Rattle.chain_disk.specs.declared.image.Fill.TheVariants.{Old, New, Zeros, Ones}
 

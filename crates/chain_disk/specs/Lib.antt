@@ -1,4 +1,4 @@
-pub mod Told
+pub mod OnDisk
 pub mod Runs
 pub mod Laws
 pub mod Memory

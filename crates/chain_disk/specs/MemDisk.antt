@@ -2,18 +2,18 @@
 use Rattle.std.specs.Prelude.{◌≡◌, ◌≤◌, ℕ, List, [], take, Contains, Result, MatchResult}
 use Rattle.ports.specs.Memory.{counted_up}
 use Rattle.ports.specs.Reasons.{count_of}
-use Rattle.chain_disk.specs.Told.{Told, IsLeft, moment}
+use Rattle.chain_disk.specs.OnDisk.{OnDisk, IsLeft, moment}
 use Rattle.chain_disk.specs.Memory.{told_by, fresh}
 use Rattle.chain_disk.specs.Fill.{IsFilled}
 use Rattle.chain_disk.specs.declared.image.Fill.{Fill}
 use Rattle.chain_disk.specs.declared.memory.MemDisk.{MemDisk}
 
 -- what it tells
-abbrev pub told_of : MemDisk → Told
+abbrev pub told_of : MemDisk → OnDisk
 told_of disk = told_by disk.first.items disk.events.items
 
 -- what it told at this moment
-abbrev pub told_at : MemDisk → ℕ → Told
+abbrev pub told_at : MemDisk → ℕ → OnDisk
 told_at disk m = told_by disk.first.items (take m disk.events.items)
 
 -- the numbers of the calls that fail

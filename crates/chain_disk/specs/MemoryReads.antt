@@ -4,7 +4,7 @@ use Rattle.std.proofs.Common.{inl, inr, ◌∙◌, arith, length-append, length-
 use Rattle.std.proofs.lemmas.List.{places, length-take}
 use Rattle.std.proofs.lemmas.Bool.{cases_lt}
 use Rattle.chain_disk.specs.declared.range.Range.{Range}
-use Rattle.chain_disk.specs.Told.{Told, IsImage, furthest, pasted, ranged}
+use Rattle.chain_disk.specs.OnDisk.{OnDisk, IsImage, furthest, pasted, ranged}
 use Rattle.chain_disk.specs.Memory.{after, replayed, fresh, told_by}
 use Rattle.chain_disk.specs.declared.event.Event.{Event}
 use Rattle.chain_disk.specs.declared.event.Event.TheVariants.{Wrote, Tore, Synced, Unsynced}
@@ -32,7 +32,7 @@ furthest_least len [] = omega arith
 furthest_least len (r ∷ ranges) = omega (arith, furthest_least len ranges)
 
 -- a range more, whose bytes alone may be others
-ranged_reads : (at n : ℕ) (content : List ℕ) (t : Told) → IsImage t.now t.content → length t.content ≤ length content →
+ranged_reads : (at n : ℕ) (content : List ℕ) (t : OnDisk) → IsImage t.now t.content → length t.content ≤ length content →
     length content ≤ max (length t.content) (at + n)
     → ((i : ℕ) → i < length t.content → (i < at) ⊎ (at + n ≤ i) → get_or content i 0 ≡ get_or t.content i 0) →
     IsImage (ranged at n content t).now content
@@ -50,7 +50,7 @@ ranged_reads at n content t image longer shorter kept = record {
           [ inl under ↦ absurd (free (above, under)) | inr past ↦ inr past ]
     ]
 
-after_reads : (event : Event) (t : Told) → IsImage t.now t.content → IsImage (after event t).now (after event t).content
+after_reads : (event : Event) (t : OnDisk) → IsImage t.now t.content → IsImage (after event t).now (after event t).content
 after_reads (Wrote at bytes) t image = ranged_reads at (length bytes.items) (pasted at bytes.items t.content) t image
     (omega (arith, length-pasted at bytes.items t.content)) (omega (arith, length-pasted at bytes.items t.content)) kept
   where
@@ -62,7 +62,7 @@ after_reads (Tore at count) t image = ranged_reads at count t.content t image (o
 after_reads Synced t image = record { no_shorter = omega arith; no_longer = omega arith; kept = λ i within free. refl }
 after_reads Unsynced t image = image
 
-replayed_reads : (events : List Event) (t : Told) → IsImage t.now t.content → IsImage (replayed events t).now
+replayed_reads : (events : List Event) (t : OnDisk) → IsImage t.now t.content → IsImage (replayed events t).now
     (replayed events t).content
 replayed_reads [] t image = image
 replayed_reads (event ∷ events) t image = replayed_reads events (after event t) (after_reads event t image)

@@ -3,8 +3,9 @@ use Rattle.std.specs.Prelude.{◌≡◌, ◌<◌, ◌≤◌, ◌+◌, ℕ, max, 
 use Rattle.std.proofs.Common.{inl, inr, sym, ◌∙◌, ap, subst, arith}
 use Rattle.std.proofs.lemmas.Bool.{cases_lt}
 use Rattle.std.proofs.lemmas.List.{ext_get_or, length-take, length-drop, get_or-take, get_or-drop}
-use Rattle.chain_disk.specs.Told.{Told, Pending, IsImage, IsCovered, IsLeftOf, IsLeft, moment, LeavesOnly, LeavesNow, IsSettled}
-use Rattle.chain_disk.specs.Told.{moved, wider, written, pasted, synced, settled, IsWriteFailed, IsSyncFailed}
+use Rattle.chain_disk.specs.OnDisk.{OnDisk, Pending, IsImage, IsCovered, IsLeftOf, IsLeft, moment, LeavesOnly, LeavesNow}
+use Rattle.chain_disk.specs.OnDisk.{IsSettled}
+use Rattle.chain_disk.specs.OnDisk.{moved, wider, written, pasted, synced, settled, IsWriteFailed, IsSyncFailed}
 
 pub left_before : (past : List Pending) (m : ℕ) (c : List ℕ) → IsLeftOf past m c → m < length past
 left_before [] m c left = absurd left
@@ -12,7 +13,7 @@ left_before (p ∷ past) m c (inl here) = omega (arith, here.0)
 left_before (p ∷ past) m c (inr there) = omega (arith, left_before past m c there)
 
 -- an image of now is left now, and nothing else is
-pub left_now : (t : Told) (c : List ℕ) → IsLeft t (moment t) c → IsImage t.now c
+pub left_now : (t : OnDisk) (c : List ℕ) → IsLeft t (moment t) c → IsImage t.now c
 left_now t c (inl now) = now.1
 left_now t c (inr past) = absurd (omega (arith, left_before t.past (moment t) c past))
 
@@ -22,14 +23,14 @@ settled_image s c image = ext_get_or 0 c s (omega (arith, image.no_shorter, imag
     (λ i within. image.kept i (omega (arith, image.no_longer, within)) (λ none. none))
 
 -- with nothing pending, a crash now leaves the content
-pub settled_now : (t : Told) (c : List ℕ) → IsSettled t → IsLeft t (moment t) c → c ≡ t.content
+pub settled_now : (t : OnDisk) (c : List ℕ) → IsSettled t → IsLeft t (moment t) c → c ≡ t.content
 settled_now t c quiet left = settled_image t.content c (subst (λ p. IsImage p c) quiet (left_now t c left))
 
-pub leaves_now : (t : Told) (P : List ℕ → Type 0) → IsSettled t → P t.content → LeavesNow t P
+pub leaves_now : (t : OnDisk) (P : List ℕ → Type 0) → IsSettled t → P t.content → LeavesNow t P
 leaves_now t P quiet here = λ c left. subst P (sym (settled_now t c quiet left)) here
 
 -- before the first call
-pub started : (t : Told) (P : List ℕ → Type 0) → ((c : List ℕ) → IsImage t.now c → P c) → LeavesOnly t t P
+pub started : (t : OnDisk) (P : List ℕ → Type 0) → ((c : List ℕ) → IsImage t.now c → P c) → LeavesOnly t t P
 started t P here = record {
   later = omega arith;
   each = λ m c since left. each m c since left;
@@ -42,12 +43,12 @@ started t P here = record {
     each m c since (inr past) = absurd (omega (arith, left_before t.past m c past))
 
 -- the same, with nothing pending
-pub started_settled : (t : Told) (P : List ℕ → Type 0) → IsSettled t → P t.content → LeavesOnly t t P
+pub started_settled : (t : OnDisk) (P : List ℕ → Type 0) → IsSettled t → P t.content → LeavesOnly t t P
 started_settled t P quiet here = started t P (λ c image. subst P
     (sym (settled_image t.content c (subst (λ p. IsImage p c) quiet image))) here)
 
 -- one moment more, at which a crash leaves what has P
-pub goes_on : (t u : Told) (content : List ℕ) (now : Pending) (P : List ℕ → Type 0) → LeavesOnly t u P →
+pub goes_on : (t u : OnDisk) (content : List ℕ) (now : Pending) (P : List ℕ → Type 0) → LeavesOnly t u P →
     ((c : List ℕ) → IsImage now c → P c) → LeavesOnly t (moved content now u) P
 goes_on t u content now P so_far here = record {
   later = omega (arith, so_far.later);
@@ -65,7 +66,7 @@ goes_on t u content now P so_far here = record {
     before m c was (inr older) = so_far.before m c was older
 
 -- one run after another
-pub follows : (t u v : Told) (P Q R : List ℕ → Type 0) → LeavesOnly t u P → LeavesOnly u v Q → ((c : List ℕ) → P c → R c) →
+pub follows : (t u v : OnDisk) (P Q R : List ℕ → Type 0) → LeavesOnly t u P → LeavesOnly u v Q → ((c : List ℕ) → P c → R c) →
     ((c : List ℕ) → Q c → R c) → LeavesOnly t v R
 follows t u v P Q R first second p q = record {
   later = omega (arith, first.later, second.later);
@@ -78,7 +79,7 @@ follows t u v P Q R first second p q = record {
 }
 
 -- the same run, of which less is said
-pub weaker : (t u : Told) (P Q : List ℕ → Type 0) → LeavesOnly t u P → ((c : List ℕ) → P c → Q c) → LeavesOnly t u Q
+pub weaker : (t u : OnDisk) (P Q : List ℕ → Type 0) → LeavesOnly t u P → ((c : List ℕ) → P c → Q c) → LeavesOnly t u Q
 weaker t u P Q only less = record {
   later = only.later;
   each = λ m c since left. less c (only.each m c since left);
@@ -87,16 +88,16 @@ weaker t u P Q only less = record {
 }
 
 -- how far a run has come: what the disk tells now, and that each crash since the start leaves what has P
-pub record Reached (t : Told) (P : List ℕ → Type 0) (u : Told) (content : List ℕ) (now : Pending) : Type 0 where
+pub record Reached (t : OnDisk) (P : List ℕ → Type 0) (u : OnDisk) (content : List ℕ) (now : Pending) : Type 0 where
   pub content_is : u.content ≡ content
   pub now_is : u.now ≡ now
   pub so_far : LeavesOnly t u P
 
-pub on_write : {t : Told} {P : List ℕ → Type 0} {u v : Told} {content : List ℕ} {now : Pending} → Reached t P u content now →
+pub on_write : {t : OnDisk} {P : List ℕ → Type 0} {u v : OnDisk} {content : List ℕ} {now : Pending} → Reached t P u content now →
     (at : ℕ) (bytes : List ℕ) → v ≡ written at bytes u → ((c : List ℕ) → IsImage (wider at (length bytes) now) c → P c)
     → Reached t P v (pasted at bytes content) (wider at (length bytes) now)
 on_write {t = t} {P = P} {u = u} {content = content} {now = now} r at bytes ok here =
-    subst (λ (w : Told). Reached t P w (pasted at bytes content) (wider at (length bytes) now)) (sym ok) (record {
+    subst (λ (w : OnDisk). Reached t P w (pasted at bytes content) (wider at (length bytes) now)) (sym ok) (record {
       content_is = ap (λ (l : List ℕ). pasted at bytes l) r.content_is;
       now_is = ap (λ (p : Pending). wider at (length bytes) p) r.now_is;
       so_far = goes_on t u _ _ P r.so_far (λ c image. here c (subst (λ (p : Pending). IsImage (wider at (length bytes) p) c)
@@ -104,27 +105,27 @@ on_write {t = t} {P = P} {u = u} {content = content} {now = now} r at bytes ok h
           image));
     })
 
-pub on_sync : {t : Told} {P : List ℕ → Type 0} {u v : Told} {content : List ℕ} {now : Pending} → Reached t P u content now →
+pub on_sync : {t : OnDisk} {P : List ℕ → Type 0} {u v : OnDisk} {content : List ℕ} {now : Pending} → Reached t P u content now →
     v ≡ synced u → ((c : List ℕ) → IsImage (settled content) c → P c)
     → Reached t P v content (settled content)
-on_sync {t = t} {P = P} {u = u} {content = content} r ok here = subst (λ (w : Told). Reached t P w content (settled content))
+on_sync {t = t} {P = P} {u = u} {content = content} r ok here = subst (λ (w : OnDisk). Reached t P w content (settled content))
     (sym ok) (record {
       content_is = r.content_is;
       now_is = ap (λ (l : List ℕ). settled l) r.content_is;
       so_far = goes_on t u _ _ P r.so_far (λ c image. here c (subst (λ (l : List ℕ). IsImage (settled l) c) r.content_is image));
     })
 
-pub on_write_failed : {t : Told} {P : List ℕ → Type 0} {u v : Told} {content : List ℕ} {now : Pending} →
+pub on_write_failed : {t : OnDisk} {P : List ℕ → Type 0} {u v : OnDisk} {content : List ℕ} {now : Pending} →
     Reached t P u content now → (at n : ℕ) → IsWriteFailed at n u v → ((c : List ℕ) → IsImage (wider at n now) c → P c) →
     LeavesOnly t v P
-on_write_failed {t = t} {P = P} r at n (inl same) here = subst (λ (w : Told). LeavesOnly t w P) (sym same) r.so_far
-on_write_failed {t = t} {P = P} {u = u} r at n (inr torn) here = subst (λ (w : Told). LeavesOnly t w P) (sym torn.2)
+on_write_failed {t = t} {P = P} r at n (inl same) here = subst (λ (w : OnDisk). LeavesOnly t w P) (sym same) r.so_far
+on_write_failed {t = t} {P = P} {u = u} r at n (inr torn) here = subst (λ (w : OnDisk). LeavesOnly t w P) (sym torn.2)
     (goes_on t u _ _ P r.so_far (λ c image. here c (subst (λ (p : Pending). IsImage (wider at n p) c) r.now_is image)))
 
-pub on_sync_failed : {t : Told} {P : List ℕ → Type 0} {u v : Told} {content : List ℕ} {now : Pending} →
+pub on_sync_failed : {t : OnDisk} {P : List ℕ → Type 0} {u v : OnDisk} {content : List ℕ} {now : Pending} →
     Reached t P u content now → IsSyncFailed u v → ((c : List ℕ) → IsImage now c → P c) → LeavesOnly t v P
-on_sync_failed {t = t} {P = P} r (inl same) here = subst (λ (w : Told). LeavesOnly t w P) (sym same) r.so_far
-on_sync_failed {t = t} {P = P} {u = u} r (inr later) here = subst (λ (w : Told). LeavesOnly t w P) (sym later)
+on_sync_failed {t = t} {P = P} r (inl same) here = subst (λ (w : OnDisk). LeavesOnly t w P) (sym same) r.so_far
+on_sync_failed {t = t} {P = P} {u = u} r (inr later) here = subst (λ (w : OnDisk). LeavesOnly t w P) (sym later)
     (goes_on t u _ _ P r.so_far (λ c image. here c (subst (λ (p : Pending). IsImage p c) r.now_is image)))
 
 -- what one pending range leaves as it was

@@ -1,7 +1,7 @@
 // The trait of a disk.
 ghost use Rattle.std.specs.Prelude.{◌≡◌, ◌≤◌, ◌-◌, ◌^◌, ℕ, Bool, IsTrue, length, IfOk, OnOk, OnErr};
 ghost use Rattle.ports.specs.Causes.{HasCause};
-ghost use Rattle.chain_disk.specs.Told.{Told, written, synced, IsWriteFailed, IsSyncFailed, IsRead, IsImage};
+ghost use Rattle.chain_disk.specs.OnDisk.{OnDisk, written, synced, IsWriteFailed, IsSyncFailed, IsRead, IsImage};
 
 use ports::Failed;
 
@@ -17,7 +17,7 @@ pub trait Disk {
     ghost tells: { Bool };
 
     /// What it tells, where it does.
-    ghost told: { Self → Told };
+    ghost told: { Self → OnDisk };
 
     /// The count of faults, which never falls.
     ghost faults: { Self → ℕ };

@@ -1,6 +1,6 @@
 // One of the images that a crash may leave, made of the record of a disk in memory.
 ghost use Rattle.std.specs.Prelude.{◌≡◌, ◌<◌, ◌≤◌, ◌↔◌, ◌∷◌, List, ℕ, slice_index, IsTrue, IfOk, OnOk, length};
-ghost use Rattle.chain_disk.specs.Told.{IsCovered, furthest, pasted};
+ghost use Rattle.chain_disk.specs.OnDisk.{IsCovered, furthest, pasted};
 ghost use Rattle.chain_disk.specs.Image.{IsState, IsStep};
 ghost use Rattle.chain_disk.specs.Fill.{IsFilled, IsInDoubt, fill_byte, filled_length};
 ghost use Rattle.chain_disk.specs.Memory.{told_by};

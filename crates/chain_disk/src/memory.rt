@@ -2,7 +2,7 @@
 ghost use Rattle.std.specs.Prelude.{◌≡◌, ◌<◌, ◌≤◌, ◌+◌, [], ◌∷◌, ◌++◌, true, MatchOption, vec_len, vec_capacity, IsTrue, IsErr};
 ghost use Rattle.std.specs.Prelude.{Contains, ◌↔◌, length, IfOk, OnOk, OnErr};
 ghost use Rattle.ports.specs.Causes.{HasCause};
-ghost use Rattle.chain_disk.specs.Told.{pasted, IsRead, synced, written, IsSyncFailed, IsWriteFailed};
+ghost use Rattle.chain_disk.specs.OnDisk.{pasted, IsRead, synced, written, IsSyncFailed, IsWriteFailed};
 ghost use Rattle.chain_disk.specs.Memory.{told_by, content_of, fresh};
 ghost use Rattle.ports.specs.Memory.{counted_up};
 ghost use Rattle.chain_disk.specs.MemoryReads.{memory_reads};

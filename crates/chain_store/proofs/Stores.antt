@@ -2,12 +2,12 @@
 use Rattle.std.proofs.Common.{◌≡◌, inl, inr, ℕ, ◌+◌, ◌≤◌, List, [], ◌∷◌, ◌++◌, length, length-append, arith, refl, sym, subst}
 use Rattle.std.proofs.Common.{Bool, Option, Some}
 use Rattle.std.proofs.lemmas.List.{map-append}
-use Rattle.chain_disk.specs.Told.{Told, LeavesNow, LeavesOnly}
+use Rattle.chain_disk.specs.OnDisk.{OnDisk, LeavesNow, LeavesOnly}
 use Rattle.chain_disk.specs.Runs.{leaves_now, started_settled, weaker}
 use Rattle.frames.specs.Frames.{IsBody}
 use Rattle.journal.specs.File.{IsAt, IsFile, IsBeforeOrAfter}
-use Rattle.record_codec.specs.Bytes.{entry_bytes}
-use Rattle.record_codec.specs.Fields.{IsEncoding, HasIssuer, AreFields}
+use Rattle.record_codec.specs.Writing.{entry_bytes}
+use Rattle.record_codec.specs.Validity.{IsEncoding, HasIssuer, AreFields}
 use Rattle.record_codec.specs.declared.entries.Entry.{Entry}
 use Rattle.shop_core.specs.History.{History}
 use Rattle.shop_core.specs.Legal.{Continues, GoesOn, Legal}
@@ -31,30 +31,30 @@ pub encoding_of : (issuer : List ℕ) (entry : Entry) → HasIssuer issuer entry
 encoding_of issuer entry own fields = record { issuer = own; fields = fields; bytes = refl }
 
 -- an entry on its way into a file that holds this history
-pub record Adding (history : History) (gate : ℕ) (t : Told) (entry : Entry) : Type 0 where
+pub record Adding (history : History) (gate : ℕ) (t : OnDisk) (entry : Entry) : Type 0 where
   pub holds : Holds history gate t
   pub legal : Legal history.issuer history.entries
   pub encoding : IsEncoding history.issuer entry (entry_bytes entry)
   pub next : Legal history.issuer (history.entries ++ entry ∷ [])
 
-pub stands : (history : History) (gate : ℕ) (t : Told) → Holds history gate t → Legal history.issuer history.entries →
+pub stands : (history : History) (gate : ℕ) (t : OnDisk) → Holds history gate t → Legal history.issuer history.entries →
     StandsFor history.issuer history.entries t.content
 stands history gate t h legal = record { frames = h.file.file; encoded = h.encoded; legal = legal }
 
 -- where no call of the disk is made, a crash leaves the history
-pub untouched : (history : History) (gate : ℕ) (t : Told) → Holds history gate t → Legal history.issuer history.entries →
+pub untouched : (history : History) (gate : ℕ) (t : OnDisk) → Holds history gate t → Legal history.issuer history.entries →
     LeavesOnly t t (StandsFor history.issuer history.entries)
 untouched history gate t h legal = started_settled t (StandsFor history.issuer history.entries) h.file.nothing_pending
     (stands history gate t h legal)
 
-pub untouched_around : (history : History) (gate : ℕ) (t : Told) (entry : Entry) → Holds history gate t →
+pub untouched_around : (history : History) (gate : ℕ) (t : OnDisk) (entry : Entry) → Holds history gate t →
     Legal history.issuer history.entries →
     LeavesOnly t t (StandsBeforeOrWith history.issuer history.entries entry)
 untouched_around history gate t entry h legal =
     weaker t t (StandsFor history.issuer history.entries) (StandsBeforeOrWith history.issuer history.entries entry)
     (untouched history gate t h legal) (λ c s. inl s)
 
-around : {history : History} {gate : ℕ} {t : Told} {entry : Entry} → Adding history gate t entry → (c : List ℕ) →
+around : {history : History} {gate : ℕ} {t : OnDisk} {entry : Entry} → Adding history gate t entry → (c : List ℕ) →
     IsBeforeOrAfter history.issuer (bodies_of history.entries) (entry_bytes entry) c →
     StandsBeforeOrWith history.issuer history.entries entry c
 around {history} {gate} {t} {entry} a c (inl before) = inl (record {
@@ -69,7 +69,7 @@ around {history} {gate} {t} {entry} a c (inr after) = inr (record {
 })
 
 -- what a crash in an append leaves
-pub appended : {history : History} {gate : ℕ} {t u : Told} {entry : Entry} {body : List ℕ} → Adding history gate t entry →
+pub appended : {history : History} {gate : ℕ} {t u : OnDisk} {entry : Entry} {body : List ℕ} → Adding history gate t entry →
     body ≡ entry_bytes entry →
     LeavesOnly t u (IsBeforeOrAfter history.issuer (bodies_of history.entries) body) →
     LeavesOnly t u (StandsBeforeOrWith history.issuer history.entries entry)
@@ -79,7 +79,7 @@ appended {history} {gate} {t} {u} {entry} {body} a is only =
     (subst (λ (b : List ℕ). LeavesOnly t u (IsBeforeOrAfter history.issuer (bodies_of history.entries) b)) is only) (around a)
 
 -- the file after it
-pub holds_more : {history : History} {gate gate' : ℕ} {t u : Told} {entry : Entry} {body : List ℕ} {room : Option Entry} →
+pub holds_more : {history : History} {gate gate' : ℕ} {t u : OnDisk} {entry : Entry} {body : List ℕ} {room : Option Entry} →
     Adding history gate t entry → body ≡ entry_bytes entry →
     IsAt history.issuer (bodies_of history.entries ++ body ∷ []) gate' u →
     Holds (record { issuer = history.issuer; entries = history.entries ++ entry ∷ []; room = room }) gate' u
@@ -95,7 +95,7 @@ pub gate_more : (entries : List Entry) (entry : Entry) (gate gate' : ℕ) (body 
     gate' ≤ furthest_gate (entries ++ entry ∷ [])
 gate_more entries entry gate gate' body le e is = let n = length-append entries (entry ∷ []) in let f = is.1 in omega arith
 
-pub adding : (history : History) (gate : ℕ) (t : Told) (entry : Entry) → FitsItsBytes → GoesOn → Holds history gate t →
+pub adding : (history : History) (gate : ℕ) (t : OnDisk) (entry : Entry) → FitsItsBytes → GoesOn → Holds history gate t →
     Legal history.issuer history.entries →
     Continues history.issuer history.entries entry → AreFields entry → Adding history gate t entry
 adding history gate t entry fits goes_on holds legal continues fields = record {
@@ -106,13 +106,13 @@ adding history gate t entry fits goes_on holds legal continues fields = record {
 }
 
 -- a store whose journal stopped
-pub ready_stopped : (tells : Bool) (history : History) (stopped : Option ℕ) (gate : ℕ) (t : Told) (faults : ℕ) →
+pub ready_stopped : (tells : Bool) (history : History) (stopped : Option ℕ) (gate : ℕ) (t : OnDisk) (faults : ℕ) →
     gate ≤ furthest_gate history.entries → stopped ≡ Some faults →
     IsReady tells history stopped gate t
 ready_stopped tells history stopped gate t faults place e = record { place = place; holds = λ none said. absurd cc }
 
 -- with room made in the state
-pub holds_roomy : (history new : History) (gate : ℕ) (t : Told) → new.issuer ≡ history.issuer → new.entries ≡ history.entries →
+pub holds_roomy : (history new : History) (gate : ℕ) (t : OnDisk) → new.issuer ≡ history.issuer → new.entries ≡ history.entries →
     Holds history gate t → Holds new gate t
 holds_roomy history new gate t i e h = record {
   file = subst (λ (n : List ℕ). IsAt n (bodies_of new.entries) gate t) (sym i)
@@ -122,7 +122,7 @@ holds_roomy history new gate t i e h = record {
 }
 
 -- with nothing pending, a crash leaves the history
-pub on_disk : (history : History) (gate : ℕ) (t : Told) → Holds history gate t → Legal history.issuer history.entries →
+pub on_disk : (history : History) (gate : ℕ) (t : OnDisk) → Holds history gate t → Legal history.issuer history.entries →
     LeavesNow t (StandsFor history.issuer history.entries)
 on_disk history gate t h legal = leaves_now t (StandsFor history.issuer history.entries) h.file.nothing_pending
     (stands history gate t h legal)

@@ -1,15 +1,15 @@
 -- What one ask leaves.
 use Rattle.std.proofs.Common.{◌≡◌, ℕ, List, [], ◌∷◌, ◌++◌, refl, sym, ◌∙◌, subst, append-nil, inl, Bool, Option, Result, Ok, Err}
 use Rattle.std.specs.Prelude.{IsTrue, IfOk, OnErr}
-use Rattle.chain_disk.specs.Told.{Told, LeavesOnly}
+use Rattle.chain_disk.specs.OnDisk.{OnDisk, LeavesOnly}
 use Rattle.chain_disk.specs.Runs.{weaker}
 use Rattle.journal.specs.declared.faults.StoreFault.{StoreFault}
 use Rattle.ports.specs.Readings.{IsTold, MovedBy}
 use Rattle.record_codec.specs.declared.entries.Entry.{Entry}
-use Rattle.shop_core.specs.Answer.{answer}
-use Rattle.shop_core.specs.Asked.{Asked}
+use Rattle.shop_core.specs.Plans.{answer}
+use Rattle.shop_core.specs.Requests.{Asked}
 use Rattle.shop_core.specs.History.{History}
-use Rattle.shop_core.specs.Runs.{IsReply, IsTaken, Tells}
+use Rattle.shop_core.specs.Replies.{IsReply, IsTaken, Tells}
 use Rattle.shop_core.specs.declared.answers.Planned.{Planned}
 use Rattle.shop_core.specs.declared.answers.Planned.TheVariants.{Again, Refused, Made}
 use Rattle.shop_core.specs.declared.answers.Reply.{Reply}
@@ -26,10 +26,18 @@ stands_around issuer entries (Refused why) file s = s
 stands_around issuer entries (Made entry) file s = inl s
 
 -- where nothing is added and no call of the disk is made
-pub not_made : (old : History) (ask : Asked) (coming coming_after : ℕ → Option ℕ) (tells : Bool) (t : Told)
+pub not_made : (old : History) (ask : Asked) (coming coming_after : ℕ → Option ℕ) (tells : Bool) (t : OnDisk)
     (told : Result Reply StoreFault) (seconds : ℕ) →
     IsTold (coming 0) seconds → MovedBy 1 coming coming_after → IsReply old.issuer old.entries ask seconds told [] →
-    (IsTrue tells → LeavesOnly t t (StandsFor old.issuer old.entries)) → Takes old old ask coming coming_after tells t t told
+    (IsTrue tells → LeavesOnly t t (StandsFor old.issuer old.entries)) → Takes (record {
+      old = old;
+      new = old;
+      coming = coming;
+      coming_after = coming_after;
+      tells = tells;
+      disk = t;
+      disk_after = t;
+    }) ask told
 not_made old ask coming coming_after tells t told seconds reading moved reply only = record {
   seconds = seconds;
   reading = reading;
@@ -71,14 +79,21 @@ reply_by issuer entries ask seconds entry (Ok reply) made taken = subst (λ (p :
 reply_by issuer entries ask seconds entry (Err fault) made taken = refl
 
 -- where a record was made
-pub made : (old new : History) (ask : Asked) (coming coming_after : ℕ → Option ℕ) (tells : Bool) (t u : Told)
+pub made : (old new : History) (ask : Asked) (coming coming_after : ℕ → Option ℕ) (tells : Bool) (t u : OnDisk)
     (told : Result Reply StoreFault) (seconds : ℕ) (entry : Entry) →
     IsTold (coming 0) seconds → MovedBy 1 coming coming_after → new.issuer ≡ old.issuer → answer old.issuer old.entries ask
     seconds ≡ Made entry →
     IfOk told (λ reply. IsTaken old.entries entry reply) → IfOk told (λ _. new.entries ≡ old.entries ++ entry ∷ []) →
     OnErr told (new.entries ≡ old.entries) →
-    (IsTrue tells → LeavesOnly t u (StandsBeforeOrWith old.issuer old.entries entry)) → Takes old new ask coming coming_after
-    tells t u told
+    (IsTrue tells → LeavesOnly t u (StandsBeforeOrWith old.issuer old.entries entry)) → Takes (record {
+      old = old;
+      new = new;
+      coming = coming;
+      coming_after = coming_after;
+      tells = tells;
+      disk = t;
+      disk_after = u;
+    }) ask told
 made old new ask coming coming_after tells t u told seconds entry reading moved issuer planned taken ok err only = record {
   seconds = seconds;
   reading = reading;
@@ -89,8 +104,3 @@ made old new ask coming coming_after tells t u told seconds entry reading moved 
   reply = reply_by old.issuer old.entries ask seconds entry told planned taken;
   any_moment = λ says. subst (λ (p : Planned). LeavesOnly t u (StandsAround old.issuer old.entries p)) (sym planned) (only says);
 }
-
-pub both_taken : (P Q R : Reply → Type 0) (told : Result Reply StoreFault) → IfOk told (λ reply. P reply × Q reply × R reply) →
-    IfOk told P × IfOk told R
-both_taken P Q R (Ok reply) h = (h.0, h.2)
-both_taken P Q R (Err fault) h = (tt, tt)

@@ -1,12 +1,16 @@
 -- The words in which contracts above speak of a store.
-use Rattle.std.specs.Prelude.{Bool, Option, option_map}
+use Rattle.std.specs.Prelude.{◌≡◌, ◌≤◌, ◌++◌, ◌∷◌, [], ℕ, Bool, IsTrue, Option, Some, None, option_map, Result, OnOk, OnErr}
+use Rattle.std.specs.Prelude.{IsErrOf}
+use Rattle.ports.specs.Causes.{Rose}
 use Rattle.record_codec.specs.declared.entries.Entry.{Entry}
-use Rattle.chain_disk.specs.Told.{Told}
+use Rattle.chain_disk.specs.OnDisk.{OnDisk, LeavesNow, LeavesOnly}
 use Rattle.chain_disk.specs.declared.disk.Disk.{Ghosts}
+use Rattle.shop_core.specs.Files.{StandsBeforeOrWith, StandsFor}
 use Rattle.shop_core.specs.History.{History}
+use Rattle.journal.specs.declared.faults.StoreFault.{StoreFault}
 use Rattle.journal.specs.declared.journal.Journal.{Journal}
 use Rattle.journal.specs.Journal.{disk_of, end_of, stopped_of}
-use Rattle.chain_store.specs.Ready.{IsReady}
+use Rattle.chain_store.specs.Ready.{IsReady, StoreCall}
 use Rattle.chain_store.specs.declared.store.Store.{Store}
 
 -- its history
@@ -26,6 +30,56 @@ abbrev pub torn_of : {D C : Type 0} {g : Ghosts D} → Store D C g → Option En
 torn_of store = option_map (λ s. s.value) store.torn
 
 -- where its journal isn't stopped and its disk tells what it holds, that is its history
-abbrev pub Ready : {D C : Type 0} {g : Ghosts D} → Bool → (D → Told) → Store D C g → Type 0
+abbrev pub Ready : {D C : Type 0} {g : Ghosts D} → Bool → (D → OnDisk) → Store D C g → Type 0
 Ready tells told store =
     IsReady tells store.state (stopped_of store.journal) (end_of store.journal) (told (disk_of store.journal))
+
+-- this call of a store: of its kinds of disk and clock, before and after
+abbrev pub this_call : {D C : Type 0} {g : Ghosts D} → Bool → (D → OnDisk) → (C → ℕ → Option ℕ) → Store D C g → Store D C g →
+    StoreCall
+this_call tells told coming old new = record {
+  old = old.state;
+  new = new.state;
+  coming = coming old.clock;
+  coming_after = coming new.clock;
+  tells = tells;
+  disk = told (disk_of old.journal);
+  disk_after = told (disk_of new.journal);
+}
+
+-- where its disk tells what it holds, every crash from now on leaves its whole history
+abbrev pub Acknowledged : {D C : Type 0} {g : Ghosts D} → Bool → (D → OnDisk) → Store D C g → Type 0
+Acknowledged tells told store = IsTrue tells →
+    LeavesNow (told (disk_of store.journal)) (StandsFor store.state.issuer store.state.entries)
+
+-- its journal went on, and goes on
+abbrev pub GoesOn : {D C : Type 0} {g : Ghosts D} → Store D C g → Store D C g → Type 0
+GoesOn old new = (stopped_of old.journal ≡ None) × (stopped_of new.journal ≡ None)
+
+-- its disk failed, and stopped its journal
+abbrev pub IsStoppedByFault : {D C : Type 0} {g : Ghosts D} → (D → ℕ) → Store D C g → Store D C g → Type 0
+IsStoppedByFault faults old new = Rose (faults (disk_of old.journal)) (faults (disk_of new.journal))
+    × (stopped_of new.journal ≡ Some (faults (disk_of new.journal)))
+
+-- its disk's count of faults never falls
+abbrev pub IsLater : {D C : Type 0} {g : Ghosts D} → (D → ℕ) → Store D C g → Store D C g → Type 0
+IsLater faults old new = faults (disk_of old.journal) ≤ faults (disk_of new.journal)
+
+-- What adding this entry leaves of a store that goes on. At Ok the history has it, and every crash leaves it; otherwise the
+-- history is as it was, and after a fault of the disk the entry is the torn one, which may be in the file.
+pub record Adds {D C X : Type 0} {g : Ghosts D} (tells : Bool) (told : D → OnDisk) (faults : D → ℕ) (old new : Store D C g)
+    (entry : Entry) (result : Result X StoreFault) : Type 0 where
+  pub ready : Ready tells told new
+  pub issuer : new.state.issuer ≡ old.state.issuer
+  pub clock : new.clock ≡ old.clock
+  pub added : OnOk result ((stopped_of new.journal ≡ None) × (new.state.entries ≡ old.state.entries ++ entry ∷ []))
+  pub same : OnErr result (new.state.entries ≡ old.state.entries)
+  pub any_moment : IsTrue tells → LeavesOnly (told (disk_of old.journal)) (told (disk_of new.journal))
+      (StandsBeforeOrWith old.state.issuer old.state.entries entry)
+  pub acknowledged : OnOk result (Acknowledged tells told new)
+  pub no_memory : IsErrOf result StoreFault.NoMemory → new.journal ≡ old.journal
+  pub fault : IsErrOf result StoreFault.DiskFault → IsStoppedByFault faults old new
+  pub torn : IsErrOf result StoreFault.DiskFault → torn_of new ≡ Some entry
+  pub room : IsErrOf result StoreFault.DiskFault → new.state.room ≡ Some entry
+  pub not_stopped : (count : ℕ) → IsErrOf result (StoreFault.Stopped count) → ⊥
+  pub later : IsLater faults old new

@@ -2,9 +2,9 @@
 ghost use Rattle.std.specs.Prelude.{◌≡◌, ◌≤◌, ◌+◌, ◌++◌, ◌∷◌, [], ◌↔◌, true, ℕ, List, length, take, drop};
 ghost use Rattle.std.specs.Prelude.{IsTrue, IfOk, OnOk, OnErr, IsErrOf, IsSome, None, Some};
 ghost use Rattle.ports.specs.Causes.{Rose};
-ghost use Rattle.chain_disk.specs.Told.{LeavesOnly, LeavesNow};
+ghost use Rattle.chain_disk.specs.OnDisk.{LeavesOnly, LeavesNow};
 ghost use Rattle.shop_core.specs.History.{recs, noted, is_record};
-ghost use Rattle.shop_core.specs.Runs.{IsTaken};
+ghost use Rattle.shop_core.specs.Replies.{IsTaken};
 ghost use Rattle.std.specs.Int.{IsInRange};
 ghost use Rattle.shop_core.specs.Legal.{Continues};
 ghost use Rattle.shop_core.specs.Files.{StandsFor, StandsBeforeOrWith};
@@ -35,7 +35,7 @@ pub struct Store<D: Disk, C: Clock> {
 
 impl<D: Disk, C: Clock> Store<D, C> {
     ghost use Rattle.journal.specs.Journal.{disk_of, end_of, stopped_of};
-    ghost use Rattle.chain_store.specs.Store.{Ready, torn_of};
+    ghost use Rattle.chain_store.specs.Store.{Acknowledged, Adds, GoesOn, IsLater, IsStoppedByFault, Ready, this_call, torn_of};
 
     /// The store of a journal that goes on and keeps this history.
     pub fn of(state: State, journal: Journal<D>, clock: C) -> Store<D, C>
@@ -83,27 +83,22 @@ impl<D: Disk, C: Clock> Store<D, C> {
         requires { Ready D.tells D.told self.old }
         ensures ready { Ready D.tells D.told self.new }
         ensures takes { stopped_of self.old.journal ≡ None →
-            Takes self.old.state self.new.state ask.now (C.coming self.old.clock) (C.coming self.new.clock)
-            D.tells (D.told (disk_of self.old.journal)) (D.told (disk_of self.new.journal)) result }
+            Takes (this_call D.tells D.told C.coming self.old self.new) ask.now result }
 
         // After Ok every crash leaves the whole history.
-        ensures acknowledged { OnOk result (IsTrue D.tells →
-            LeavesNow (D.told (disk_of self.new.journal)) (StandsFor self.new.state.issuer self.new.state.entries)) }
-        ensures going_on { OnOk result ((stopped_of self.old.journal ≡ None) × (stopped_of self.new.journal ≡ None)) }
+        ensures acknowledged { OnOk result (Acknowledged D.tells D.told self.new) }
+        ensures going_on { OnOk result (GoesOn self.old self.new) }
         ensures nothing_taken { IfOk result (λ reply. IfNothingTaken reply (self.new.journal ≡ self.old.journal)) }
         ensures no_memory { IsErrOf result StoreFault.NoMemory → self.new.journal ≡ self.old.journal }
 
         // A fault of the disk stops the journal for good. From then on nothing is asked of the disk or the clock.
-        ensures fault { IsErrOf result StoreFault.DiskFault →
-            Rose (D.faults (disk_of self.old.journal)) (D.faults (disk_of self.new.journal))
-            × (stopped_of self.new.journal ≡ Some (D.faults (disk_of self.new.journal))) }
+        ensures fault { IsErrOf result StoreFault.DiskFault → IsStoppedByFault D.faults self.old self.new }
         ensures torn { IsErrOf result StoreFault.DiskFault →
-            Tears self.old.state self.new.state ask.now (C.coming self.old.clock) D.tells
-            (D.told (disk_of self.old.journal)) (D.told (disk_of self.new.journal)) (torn_of self.new) }
+            Tears (this_call D.tells D.told C.coming self.old self.new) ask.now (torn_of self.new) }
         ensures stopped { (faults : ℕ) →
             IsErrOf result (StoreFault.Stopped faults) ↔ (stopped_of self.old.journal ≡ Some faults) }
         ensures untouched { IsSome (stopped_of self.old.journal) → self.new ≡ self.old }
-        ensures later { D.faults (disk_of self.old.journal) ≤ D.faults (disk_of self.new.journal) }
+        ensures later { IsLater D.faults self.old self.new }
     {
         if let Some(faults) = self.journal.stopped() {
             return Err(StoreFault::Stopped { faults });
@@ -125,24 +120,8 @@ impl<D: Disk, C: Clock> Store<D, C> {
         requires ready { IsReady D.tells self.old.state None (end_of self.old.journal) (D.told (disk_of self.old.journal)) }
         requires continues { Continues self.old.state.issuer self.old.state.entries entry }
         requires of_record { is_record entry ≡ true }
-        ensures ready { Ready D.tells D.told self.new }
-        ensures issuer { self.new.state.issuer ≡ self.old.state.issuer }
-        ensures taken { IfOk result (λ reply. IsTaken self.old.state.entries entry reply × (stopped_of self.new.journal ≡ None)
-            × (self.new.state.entries ≡ self.old.state.entries ++ entry ∷ [])) }
-        ensures same { OnErr result (self.new.state.entries ≡ self.old.state.entries) }
-        ensures clock { self.new.clock ≡ self.old.clock }
-        ensures any_moment { IsTrue D.tells → LeavesOnly (D.told (disk_of self.old.journal)) (D.told (disk_of self.new.journal))
-            (StandsBeforeOrWith self.old.state.issuer self.old.state.entries entry) }
-        ensures acknowledged { OnOk result (IsTrue D.tells →
-            LeavesNow (D.told (disk_of self.new.journal)) (StandsFor self.new.state.issuer self.new.state.entries)) }
-        ensures no_memory { IsErrOf result StoreFault.NoMemory → self.new.journal ≡ self.old.journal }
-        ensures fault { IsErrOf result StoreFault.DiskFault →
-            Rose (D.faults (disk_of self.old.journal)) (D.faults (disk_of self.new.journal))
-            × (stopped_of self.new.journal ≡ Some (D.faults (disk_of self.new.journal))) }
-        ensures torn { IsErrOf result StoreFault.DiskFault → torn_of self.new ≡ Some entry }
-        ensures room { IsErrOf result StoreFault.DiskFault → self.new.state.room ≡ Some entry }
-        ensures not_stopped { (faults : ℕ) → IsErrOf result (StoreFault.Stopped faults) → ⊥ }
-        ensures later { D.faults (disk_of self.old.journal) ≤ D.faults (disk_of self.new.journal) }
+        ensures adds { Adds D.tells D.told D.faults self.old self.new entry result }
+        ensures reply { IfOk result (λ reply. IsTaken self.old.state.entries entry reply) }
     {
         let reply = taken(self.state.records() + 1, &entry);
         match self.add(alloc, entry) {
@@ -170,19 +149,16 @@ impl<D: Disk, C: Clock> Store<D, C> {
         ensures any_moment { stopped_of self.old.journal ≡ None → IsTrue D.tells →
             LeavesOnly (D.told (disk_of self.old.journal)) (D.told (disk_of self.new.journal))
             (StandsBeforeOrWith self.old.state.issuer self.old.state.entries (noted_next self.old.state.entries lines.now)) }
-        ensures acknowledged { OnOk result (IsTrue D.tells →
-            LeavesNow (D.told (disk_of self.new.journal)) (StandsFor self.new.state.issuer self.new.state.entries)) }
-        ensures going_on { OnOk result ((stopped_of self.old.journal ≡ None) × (stopped_of self.new.journal ≡ None)) }
+        ensures acknowledged { OnOk result (Acknowledged D.tells D.told self.new) }
+        ensures going_on { OnOk result (GoesOn self.old self.new) }
         ensures no_memory { IsErrOf result StoreFault.NoMemory → self.new.journal ≡ self.old.journal }
-        ensures fault { IsErrOf result StoreFault.DiskFault →
-            Rose (D.faults (disk_of self.old.journal)) (D.faults (disk_of self.new.journal))
-            × (stopped_of self.new.journal ≡ Some (D.faults (disk_of self.new.journal))) }
-        ensures torn { IsErrOf result StoreFault.DiskFault → TearsLines self.old.state self.new.state lines.now D.tells
-            (D.told (disk_of self.old.journal)) (D.told (disk_of self.new.journal)) (torn_of self.new) }
+        ensures fault { IsErrOf result StoreFault.DiskFault → IsStoppedByFault D.faults self.old self.new }
+        ensures torn { IsErrOf result StoreFault.DiskFault →
+            TearsLines (this_call D.tells D.told C.coming self.old self.new) lines.now (torn_of self.new) }
         ensures stopped { (faults : ℕ) →
             IsErrOf result (StoreFault.Stopped faults) ↔ (stopped_of self.old.journal ≡ Some faults) }
         ensures untouched { IsSome (stopped_of self.old.journal) → self.new ≡ self.old }
-        ensures later { D.faults (disk_of self.old.journal) ≤ D.faults (disk_of self.new.journal) }
+        ensures later { IsLater D.faults self.old self.new }
     {
         if let Some(faults) = self.journal.stopped() {
             return Err(StoreFault::Stopped { faults });
@@ -221,24 +197,7 @@ impl<D: Disk, C: Clock> Store<D, C> {
         requires going_on { stopped_of self.old.journal ≡ None }
         requires ready { IsReady D.tells self.old.state None (end_of self.old.journal) (D.told (disk_of self.old.journal)) }
         requires continues { Continues self.old.state.issuer self.old.state.entries entry }
-        ensures ready { Ready D.tells D.told self.new }
-        ensures issuer { self.new.state.issuer ≡ self.old.state.issuer }
-        ensures added { OnOk result ((stopped_of self.new.journal ≡ None)
-            × (self.new.state.entries ≡ self.old.state.entries ++ entry ∷ [])) }
-        ensures same { OnErr result (self.new.state.entries ≡ self.old.state.entries) }
-        ensures clock { self.new.clock ≡ self.old.clock }
-        ensures any_moment { IsTrue D.tells → LeavesOnly (D.told (disk_of self.old.journal)) (D.told (disk_of self.new.journal))
-            (StandsBeforeOrWith self.old.state.issuer self.old.state.entries entry) }
-        ensures no_memory { IsErrOf result StoreFault.NoMemory → self.new.journal ≡ self.old.journal }
-        ensures fault { IsErrOf result StoreFault.DiskFault →
-            Rose (D.faults (disk_of self.old.journal)) (D.faults (disk_of self.new.journal))
-            × (stopped_of self.new.journal ≡ Some (D.faults (disk_of self.new.journal))) }
-        ensures torn { IsErrOf result StoreFault.DiskFault → torn_of self.new ≡ Some entry }
-        ensures room { IsErrOf result StoreFault.DiskFault → self.new.state.room ≡ Some entry }
-        ensures not_stopped { (faults : ℕ) → IsErrOf result (StoreFault.Stopped faults) → ⊥ }
-        ensures later { D.faults (disk_of self.old.journal) ≤ D.faults (disk_of self.new.journal) }
-        ensures acknowledged { OnOk result (IsTrue D.tells →
-            LeavesNow (D.told (disk_of self.new.journal)) (StandsFor self.new.state.issuer self.new.state.entries)) }
+        ensures { Adds D.tells D.told D.faults self.old self.new entry result }
     {
         a_legal_history_goes_on();
         what_continues_fits_its_bytes();

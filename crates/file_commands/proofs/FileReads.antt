@@ -4,7 +4,7 @@ use Rattle.shop_core.specs.Reading.{IsRead}
 use Rattle.shop_core.specs.Reading.IsRead.{not_begun, stands, in_header, no_frame, no_entry, not_next}
 use Rattle.shop_core.specs.declared.reading.FileRead.{FileRead}
 use Rattle.shop_core.specs.declared.reading.FileRead.TheVariants.{NotBegun, Sound, Broken}
-use Rattle.link_check.specs.Checked.Chain.{not_begun as none_begun, begun}
+use Rattle.link_check.specs.Checking.Chain.{not_begun as none_begun, begun}
 use Rattle.file_commands.specs.Checking.{IsChainOf}
 use Rattle.file_commands.specs.Linking.{IsHistoryOf}
 

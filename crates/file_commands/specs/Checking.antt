@@ -5,8 +5,8 @@ use Rattle.ports.specs.Sinks.{Sinks, WroteNothing}
 use Rattle.ports.specs.Sources.{Sources}
 use Rattle.journal.specs.File.{IsNotBegun}
 use Rattle.shop_core.specs.Files.{StandsFor, IsDamagedFile}
-use Rattle.link_check.specs.Checked.{Chain, AreChecked}
-use Rattle.link_check.specs.Checked.Chain.{not_begun, begun}
+use Rattle.link_check.specs.Checking.{Chain, AreChecked}
+use Rattle.link_check.specs.Checking.Chain.{not_begun, begun}
 use Rattle.link_check.specs.Texts.{checks_text}
 use Rattle.link_check.specs.declared.checked.Checked.{Checked}
 use Rattle.report.specs.declared.ended.Detail.{Detail}

@@ -9,7 +9,7 @@ use Rattle.record_fields.specs.declared.records.Record.TheVariants as body
 use Rattle.record_codec.specs.declared.entries.Entry.{Entry}
 use Rattle.shop_core.specs.Standing.{last_alta}
 use Rattle.shop_core.specs.Files.{StandsFor, IsDamagedFile}
-use Rattle.verify_link.specs.Link.{link_text, parts_of}
+use Rattle.verify_link.specs.Parts.{link_text, parts_of}
 use Rattle.verify_link.specs.declared.parts.Host.{Host}
 use Rattle.report.specs.declared.ended.Detail.{Detail}
 use Rattle.report.specs.declared.ended.Detail.TheVariants as detail

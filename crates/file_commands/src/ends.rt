@@ -1,6 +1,6 @@
 // What a command comes to.
 ghost use Rattle.std.specs.Prelude.{◌≡◌};
-ghost use Rattle.report.specs.Statuses.{status_of};
+ghost use Rattle.report.specs.Ended.{status_of};
 
 use report::{Detail, Ended, status_of};
 

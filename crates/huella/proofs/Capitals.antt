@@ -1,5 +1,5 @@
 -- Small hexadecimal digits, made capital, are the capital ones.
-use Rattle.std.proofs.Common.{◌≡◌, ℕ, zero, suc, List, [], ◌∷◌, map, refl, sym, ap, ◌∙◌, arith, ◌<◌, ◌/◌, ◌%◌, length}
+use Rattle.std.proofs.Common.{◌≡◌, ℕ, zero, suc, List, [], ◌∷◌, map, refl, sym, arith, ◌<◌, ◌/◌, ◌%◌, length}
 use Rattle.std.specs.Char.{to_ascii_uppercase}
 use Rattle.std.specs.Prelude.{slice_index}
 use Rattle.hex.specs.Hex.{IsBytes, encode_with, lower_digits, upper_digits}

@@ -4,15 +4,16 @@ use Rattle.std.proofs.Common.{◌≡◌, ℕ, List, ◌++◌, get_or, length, co
 use Rattle.std.proofs.lemmas.List.{append_cancel_left}
 use Rattle.amounts.specs.Text.{amount_text}
 use Rattle.invoice_kinds.specs.Kinds.{kind_text}
-use Rattle.stamps.specs.Moment.{Moment, moment_text_of}
+use Rattle.stamps.specs.Stamp.{Moment, moment_text_of}
 use Rattle.stamps.specs.Text.{date_text_of}
 use Rattle.tax_lines.specs.Totals.{cuota, total}
 use Rattle.record_fields.specs.declared.records.Alta.{Alta}
 use Rattle.record_fields.specs.declared.records.Anulacion.{Anulacion}
 use Rattle.record_fields.specs.declared.records.Record.{Record}
 use Rattle.record_fields.specs.declared.records.Record.TheVariants as record_of
-use Rattle.huella.specs.FieldText.{joined_fields, joined_cancel, alta_text, anulacion_text, field_text, previous_text}
-use Rattle.huella.specs.Stated.{IsMoment, IsStated, SameAlta, SameAnulacion, SameStated}
+use Rattle.record_fields.specs.Valid.{IsMoment}
+use Rattle.huella.specs.Texts.{joined_fields, joined_cancel, alta_text, anulacion_text, field_text, previous_text}
+use Rattle.huella.specs.Stated.{IsStated, SameAlta, SameAnulacion, SameStated}
 use Rattle.huella.proofs.Splitting.{same_front, same_end, same_value}
 use Rattle.huella.proofs.Values.{length-date_text_of, length-moment_text_of, length-kind_text, kind_text_injective, plain_number}
 use Rattle.huella.proofs.Values.{plain_amount, previous_text_injective}

@@ -1,6 +1,6 @@
 -- What is fed piece by piece is the joined text.
-use Rattle.std.proofs.Common.{◌≡◌, ℕ, List, [], ◌∷◌, ◌++◌, codes, append_assoc, refl}
-use Rattle.huella.specs.FieldText.{joined_fields, joined_cancel}
+use Rattle.std.proofs.Common.{◌≡◌, ℕ, List, [], ◌++◌, codes, append_assoc}
+use Rattle.huella.specs.Texts.{joined_fields, joined_cancel}
 
 pub fed_joined : (issuer num date kind cuota total previous moment : List ℕ) →
     (((((((([] ++ codes "IDEmisorFactura=" ++ issuer) ++ codes "&NumSerieFactura=" ++ num) ++ codes "&FechaExpedicionFactura=" ++

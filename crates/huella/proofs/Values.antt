@@ -13,12 +13,12 @@ use Rattle.invoice_kinds.specs.Kinds.{kind_text}
 use Rattle.invoice_kinds.specs.declared.kind.Kind.{Kind}
 use Rattle.invoice_kinds.specs.declared.kind.Kind.TheVariants.{F1, F2, F3, R1, R2, R3, R4, R5}
 use Rattle.series.specs.Numbers.{is_num_serie, is_number_char}
-use Rattle.stamps.specs.Moment.{Moment, moment_text_of}
+use Rattle.stamps.specs.Stamp.{Moment, moment_text_of}
 use Rattle.stamps.specs.Text.{date_text_of, local_text_of}
 use Rattle.record_fields.specs.declared.records.Link.{Link}
 use Rattle.record_fields.specs.declared.records.Link.TheVariants.{First, After}
-use Rattle.huella.specs.FieldText.{previous_text}
-use Rattle.huella.specs.Stated.{IsLink, huella_before}
+use Rattle.huella.specs.Texts.{previous_text}
+use Rattle.huella.specs.Stated.{HoldsHuella, huella_before}
 use Rattle.huella.proofs.Splitting.{is_plain, plain_append}
 
 pub length-date_text_of : (n : ℕ) → length (date_text_of n) ≡ 10
@@ -31,13 +31,7 @@ length-moment_text_of m = refl
 
 pub length-kind_text : (k : Kind) → length (kind_text k) ≡ 2
 length-kind_text F1 = refl
-length-kind_text F2 = refl
-length-kind_text F3 = refl
-length-kind_text R1 = refl
-length-kind_text R2 = refl
-length-kind_text R3 = refl
-length-kind_text R4 = refl
-length-kind_text R5 = refl
+length-kind_text other = refl
 
 -- the kind of a code
 abbrev kind_of : List ℕ → Kind
@@ -48,13 +42,7 @@ kind_of t =
 
 kind_of-kind_text : (k : Kind) → kind_of (kind_text k) ≡ k
 kind_of-kind_text F1 = refl
-kind_of-kind_text F2 = refl
-kind_of-kind_text F3 = refl
-kind_of-kind_text R1 = refl
-kind_of-kind_text R2 = refl
-kind_of-kind_text R3 = refl
-kind_of-kind_text R4 = refl
-kind_of-kind_text R5 = refl
+kind_of-kind_text other = refl
 
 pub kind_text_injective : (k l : Kind) → kind_text k ≡ kind_text l → k ≡ l
 kind_text_injective k l e = sym (kind_of-kind_text k) ∙ ap kind_of e ∙ kind_of-kind_text l
@@ -106,7 +94,7 @@ digits_injective h k here there e =
     let same = sym (decode_of-encode_upper h here) ∙ ap decode_of e ∙ decode_of-encode_upper k there in
     cc
 
-pub previous_text_injective : (l m : Link) → IsLink l → IsLink m → previous_text l ≡ previous_text m →
+pub previous_text_injective : (l m : Link) → HoldsHuella l → HoldsHuella m → previous_text l ≡ previous_text m →
     huella_before l ≡ huella_before m
 previous_text_injective First First here there e = refl
 previous_text_injective First (After id k) here there e =

@@ -1,3 +1,3 @@
-pub mod FieldText
+pub mod Texts
 pub mod Linked
 pub mod Stated

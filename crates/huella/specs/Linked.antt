@@ -5,7 +5,7 @@ use Rattle.std.specs.List.{AllByRecursion}
 use Rattle.record_fields.specs.Links.{link_after}
 use Rattle.record_fields.specs.Records.{issuer_of, link_of, moment_of}
 use Rattle.record_fields.specs.declared.records.Sealed.{Sealed}
-use Rattle.huella.specs.FieldText.{huella_of}
+use Rattle.huella.specs.Texts.{huella_of}
 
 -- the record follows these in a chain of this issuer
 pub record Follows (issuer : List ℕ) (before : List Sealed) (s : Sealed) : Type 0 where

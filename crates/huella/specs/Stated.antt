@@ -1,13 +1,10 @@
 -- What a record states in its field text, and when two records state the same: the tax agency's hash specification, parts on
 -- alta and on anulación records.
-use Rattle.std.specs.Prelude.{◌≡◌, ℕ, List, length, Option, None, Some}
-use Rattle.hex.specs.Hex.{IsBytes}
+use Rattle.std.specs.Prelude.{◌≡◌, ℕ, List, Option, None, Some}
 use Rattle.parties.specs.Nif.{IsNif}
-use Rattle.stamps.specs.Clock.{IsStampSeconds, IsStampOffset}
-use Rattle.stamps.specs.Moment.{Moment}
 use Rattle.tax_lines.specs.Totals.{cuota, total}
 use Rattle.record_fields.specs.Records.{issuer_of, id_of, link_of, moment_of}
-use Rattle.record_fields.specs.Valid.{IsId}
+use Rattle.record_fields.specs.Valid.{IsHuella, IsId, IsMoment}
 use Rattle.record_fields.specs.declared.records.Alta.{Alta}
 use Rattle.record_fields.specs.declared.records.Anulacion.{Anulacion}
 use Rattle.record_fields.specs.declared.records.Link.{Link}
@@ -15,25 +12,16 @@ use Rattle.record_fields.specs.declared.records.Link.TheVariants.{First, After}
 use Rattle.record_fields.specs.declared.records.Record.{Record}
 use Rattle.record_fields.specs.declared.records.Record.TheVariants as record_of
 
--- a moment from 2024 to 2099, an hour ahead of UTC or two
-abbrev pub IsMoment : Moment → Type 0
-IsMoment m = IsStampSeconds m.seconds × IsStampOffset m.offset_minutes
-
--- the 32 bytes of a digest
-pub record IsHuella (huella : List ℕ) : Type 0 where
-  pub bytes : IsBytes huella
-  pub long : length huella ≡ 32
-
 -- the link holds a Huella, where it holds one at all
-abbrev pub IsLink : Link → Type 0
-IsLink First = Unit {0}
-IsLink (After id huella) = IsHuella huella
+abbrev pub HoldsHuella : Link → Type 0
+HoldsHuella First = Unit {0}
+HoldsHuella (After id huella) = IsHuella huella
 
 -- what every record keeps: its values are of their forms
 pub record IsStated (body : Record) : Type 0 where
   pub issuer : IsNif (issuer_of body)
   pub id : IsId (id_of body)
-  pub link : IsLink (link_of body)
+  pub link : HoldsHuella (link_of body)
   pub moment : IsMoment (moment_of body)
 
 -- the Huella of the record before, None in a chain's first record
@@ -64,5 +52,4 @@ pub record SameAnulacion (a b : Anulacion) : Type 0 where
 abbrev pub SameStated : Record → Record → Type 0
 SameStated (record_of.Alta a) (record_of.Alta b) = SameAlta a b
 SameStated (record_of.Anulacion a) (record_of.Anulacion b) = SameAnulacion a b
-SameStated (record_of.Alta a) (record_of.Anulacion b) = ⊥
-SameStated (record_of.Anulacion a) (record_of.Alta b) = ⊥
+SameStated other another = ⊥

@@ -1,6 +1,6 @@
 //! What holds of every record.
 ghost use Rattle.std.specs.Prelude.{◌≡◌};
-ghost use Rattle.huella.specs.FieldText.{field_text};
+ghost use Rattle.huella.specs.Texts.{field_text};
 ghost use Rattle.huella.specs.Stated.{IsStated, SameStated};
 ghost use Rattle.record_fields.specs.declared.records.Record.{Record as AnyRecord};
 

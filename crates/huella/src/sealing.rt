@@ -2,7 +2,7 @@
 ghost use Rattle.std.specs.Prelude.{◌≡◌, ◌++◌, ℕ, List, codes};
 ghost use Rattle.sha2.specs.Hashers.{Holds256};
 ghost use Rattle.sha2.specs.Sha256.{sha256};
-ghost use Rattle.huella.specs.FieldText as spec;
+ghost use Rattle.huella.specs.Texts as spec;
 
 use crate::huella_text;
 use amounts::text_of;

@@ -1,7 +1,7 @@
 // What every record keeps, as the law of field texts asks for it.
 ghost use Rattle.parties.specs.Nif.{IsNif};
-ghost use Rattle.record_fields.specs.Valid.{IsId};
-ghost use Rattle.huella.specs.Stated.{IsHuella, IsLink, IsMoment, IsStated};
+ghost use Rattle.record_fields.specs.Valid.{IsHuella, IsId, IsMoment};
+ghost use Rattle.huella.specs.Stated.{HoldsHuella, IsStated};
 
 use parties::Nif;
 use record_fields::{Link, Record};
@@ -29,7 +29,7 @@ pub fn is_stated(body: &Record)
 fn parts_are_stated(issuer: &Nif, id: &InvoiceId, link: &Link, moment: &Stamp)
     ensures issuer { IsNif issuer.now }
     ensures id { IsId id.now }
-    ensures link { IsLink link.now }
+    ensures link { HoldsHuella link.now }
     ensures moment { IsMoment moment.now }
 {
     let _issuer = issuer.bytes();

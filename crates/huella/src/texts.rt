@@ -1,6 +1,6 @@
 // The field text, as a text.
 ghost use Rattle.std.specs.Prelude.{◌≡◌, ◌++◌, IfOk, OnOk, codes, option_copied};
-ghost use Rattle.huella.specs.FieldText as spec;
+ghost use Rattle.huella.specs.Texts as spec;
 
 use amounts::text_of;
 use ports::NoMemory;

@@ -1,6 +1,6 @@
 -- The table of invoice kinds, and their codes. The codes are those of `TipoFactura` in the agency's description of the
 -- records, the needs are this project's own.
-use Rattle.std.specs.Prelude.{ℕ, List, codes, Bool, true, false}
+use Rattle.std.specs.Prelude.{ℕ, List, [], ◌∷◌, codes, Bool, true, false}
 use Rattle.invoice_kinds.specs.declared.kind.Kind.{Kind}
 use Rattle.invoice_kinds.specs.declared.kind.Kind.TheVariants.{F1, F2, F3, R1, R2, R3, R4, R5}
 use Rattle.invoice_kinds.specs.declared.need.Need.{Need}
@@ -25,6 +25,10 @@ needs_of R3 = needing Must Must May
 needs_of R4 = needing Must Must May
 needs_of R5 = needing Never Must May
 
+-- all kinds, in the order of the agency's table
+abbrev pub kinds : List Kind
+kinds = F1 ∷ F2 ∷ F3 ∷ R1 ∷ R2 ∷ R3 ∷ R4 ∷ R5 ∷ []
+
 -- the code of a kind
 abbrev pub kind_text : Kind → List ℕ
 kind_text F1 = codes "F1"
@@ -38,31 +42,14 @@ kind_text R5 = codes "R5"
 
 -- a simplified invoice: an F2, or an R5, which rectifies one
 abbrev pub is_simplified : Kind → Bool
-is_simplified F1 = false
 is_simplified F2 = true
-is_simplified F3 = false
-is_simplified R1 = false
-is_simplified R2 = false
-is_simplified R3 = false
-is_simplified R4 = false
 is_simplified R5 = true
+is_simplified other = false
 
 abbrev pub is_f2 : Kind → Bool
-is_f2 F1 = false
 is_f2 F2 = true
-is_f2 F3 = false
-is_f2 R1 = false
-is_f2 R2 = false
-is_f2 R3 = false
-is_f2 R4 = false
-is_f2 R5 = false
+is_f2 other = false
 
 abbrev pub is_f3 : Kind → Bool
-is_f3 F1 = false
-is_f3 F2 = false
 is_f3 F3 = true
-is_f3 R1 = false
-is_f3 R2 = false
-is_f3 R3 = false
-is_f3 R4 = false
-is_f3 R5 = false
+is_f3 other = false

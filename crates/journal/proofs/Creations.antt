@@ -3,7 +3,7 @@ use Rattle.std.proofs.Common.{◌≡◌, ◌<◌, ◌≤◌, ◌+◌, inl, inr, 
 use Rattle.std.proofs.Common.{arith, length-append}
 use Rattle.std.proofs.lemmas.List.{append-nil, drop_all}
 use Rattle.std.proofs.lemmas.Bool.{cases_eq}
-use Rattle.chain_disk.specs.Told.{Told, LeavesOnly, IsImage, IsSettled, settled, pasted, written, synced, wider}
+use Rattle.chain_disk.specs.OnDisk.{OnDisk, LeavesOnly, IsImage, IsSettled, settled, pasted, written, synced, wider}
 use Rattle.chain_disk.specs.Runs.{Reached, started, on_write, on_sync, follows, settled_image, range_image}
 use Rattle.parties.specs.Nif.{IsNif}
 use Rattle.journal.specs.Commit.{gated, IsCommitImage, IsCommitted, IsShut}
@@ -20,7 +20,7 @@ pub first_image : (content c : List ℕ) → length content ≤ 1 → IsImage (w
 first_image content c short image = short_not_begun c (omega (arith, (range_image content c 0 1 (omega arith) image).no_longer))
 
 -- a longer file has its first byte already
-pub shut_already : (t : Told) → IsNotBegun t.content → 1 < length t.content → t.now ≡ settled t.content → IsShut t
+pub shut_already : (t : OnDisk) → IsNotBegun t.content → 1 < length t.content → t.now ≡ settled t.content → IsShut t
 shut_already t not long quiet = by_content t.content refl not
   where
     by_content : (content : List ℕ) → t.content ≡ content → IsNotBegun content → IsShut t
@@ -38,25 +38,25 @@ shut_already t not long quiet = by_content t.content refl not
 pub pasted_first : (content : List ℕ) → length content ≤ 1 → pasted 0 (0 ∷ []) content ≡ 0 ∷ []
 pasted_first content short = ap (λ (l : List ℕ). 0 ∷ l) (drop_all 1 content short)
 
-module _ (t : Told) (not : IsNotBegun t.content) (quiet : IsSettled t) where
-  pub at_start : (u : Told) → u ≡ t → Reached t IsNotBegun u t.content (settled t.content)
-  at_start u is = subst (λ (w : Told). Reached t IsNotBegun w t.content (settled t.content)) (sym is) (record {
+module _ (t : OnDisk) (not : IsNotBegun t.content) (quiet : IsSettled t) where
+  pub at_start : (u : OnDisk) → u ≡ t → Reached t IsNotBegun u t.content (settled t.content)
+  at_start u is = subst (λ (w : OnDisk). Reached t IsNotBegun w t.content (settled t.content)) (sym is) (record {
     content_is = refl;
     now_is = quiet;
     so_far = started t IsNotBegun (λ c image. start_image t.content c not (subst (λ p. IsImage p c) quiet
         image));
   })
 
-  pub after_write : (short : length t.content ≤ 1) (u v : Told) → u ≡ t → v ≡ written 0 (0 ∷ []) u →
+  pub after_write : (short : length t.content ≤ 1) (u v : OnDisk) → u ≡ t → v ≡ written 0 (0 ∷ []) u →
       Reached t IsNotBegun v (pasted 0 (0 ∷ []) t.content) (wider 0 1 (settled t.content))
   after_write short u v is ok = on_write (at_start u is) 0 (0 ∷ []) ok (λ c image. first_image t.content c short image)
 
-  pub after_sync : (short : length t.content ≤ 1) (u v w : Told) → u ≡ t → v ≡ written 0 (0 ∷ []) u → w ≡ synced v →
+  pub after_sync : (short : length t.content ≤ 1) (u v w : OnDisk) → u ≡ t → v ≡ written 0 (0 ∷ []) u → w ≡ synced v →
       Reached t IsNotBegun w (pasted 0 (0 ∷ []) t.content) (settled (pasted 0 (0 ∷ []) t.content))
   after_sync short u v w is ok ok1 = on_sync (after_write short u v is ok) ok1
       (λ c image. subst IsNotBegun (sym (settled_image _ c image ∙ pasted_first t.content short)) (inl refl))
 
-  pub shut_now : (short : length t.content ≤ 1) (w : Told) → Reached t IsNotBegun w (pasted 0 (0 ∷ []) t.content)
+  pub shut_now : (short : length t.content ≤ 1) (w : OnDisk) → Reached t IsNotBegun w (pasted 0 (0 ∷ []) t.content)
       (settled (pasted 0 (0 ∷ []) t.content)) → IsShut w
   shut_now short w r = record {
     gate = 0;
@@ -73,7 +73,7 @@ module _ (issuer bytes : List ℕ) (nif : IsNif issuer) (same : bytes ≡ header
   long = omega (arith, ap length same, length-append (header issuer) (0 ∷ []), nif.nine)
 
   -- all is written, and the first byte may be any
-  gated_is : (t : Told) (x : ℕ) → IsShut t → gated t.content 0 x bytes ≡ x ∷ (header issuer ++ 0 ∷ [])
+  gated_is : (t : OnDisk) (x : ℕ) → IsShut t → gated t.content 0 x bytes ≡ x ∷ (header issuer ++ 0 ∷ [])
   gated_is t x shut = ap (λ (l : List ℕ). x ∷ l) (ap (λ (l : List ℕ). bytes ++ l) (drop_all (0 + 1 + length bytes) t.content
       (omega (arith, ap length shut.content, shut.short, long))) ∙ append-nil bytes ∙ same)
 
@@ -94,22 +94,22 @@ module _ (issuer bytes : List ℕ) (nif : IsNif issuer) (same : bytes ≡ header
       let first : x ≡ gate = cc fronts in
       inr ((λ one. shut (sym first ∙ one)), omega arith)
 
-  pub image : (t : Told) (c : List ℕ) → IsShut t → IsCommitImage t.content 0 bytes c → IsNotBegunOrEmpty issuer c
+  pub image : (t : OnDisk) (c : List ℕ) → IsShut t → IsCommitImage t.content 0 bytes c → IsNotBegunOrEmpty issuer c
   image t c shut (inl up) = inl (up_to t.content c shut.gate shut.rest shut.content shut.shut up.same
       (omega (arith, up.no_longer, ap length shut.content, shut.short, long)))
   image t c shut (inr is) = subst (IsNotBegunOrEmpty issuer) (sym (is.1 ∙ gated_is t is.0 shut)) (any_first is.0)
 
-  pub created : (t u : Told) → IsShut t → IsCommitted t 0 bytes u → IsAt issuer [] 19 u
+  pub created : (t u : OnDisk) → IsShut t → IsCommitted t 0 bytes u → IsAt issuer [] 19 u
   created t u shut now = record {
     file = subst (IsFile issuer []) (sym (now.content ∙ gated_is t 1 shut)) empty_file;
     place = refl;
     nothing_pending = now.nothing_pending;
   }
 
-  pub creating : (t u v : Told) → LeavesOnly t u IsNotBegun → IsShut u → LeavesOnly u v (IsCommitImage u.content 0 bytes) →
+  pub creating : (t u v : OnDisk) → LeavesOnly t u IsNotBegun → IsShut u → LeavesOnly u v (IsCommitImage u.content 0 bytes) →
       LeavesOnly t v (IsNotBegunOrEmpty issuer)
   creating t u v first shut second = follows t u v IsNotBegun _ (IsNotBegunOrEmpty issuer) first second (λ c not. inl not)
       (λ c left. image u c shut left)
 
-pub shut_within : (u : Told) → IsShut u → 0 < length u.content
+pub shut_within : (u : OnDisk) → IsShut u → 0 < length u.content
 shut_within u shut = omega (arith, ap length shut.content)

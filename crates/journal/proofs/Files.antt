@@ -5,7 +5,7 @@ use Rattle.std.proofs.Math.Logic.{∥∥₁_elim}
 use Rattle.std.proofs.Props.{props}
 use Rattle.std.proofs.lemmas.List.{take_at}
 use Rattle.std.proofs.lemmas.Bool.{cases_eq}
-use Rattle.chain_disk.specs.Told.{Told, LeavesOnly, LeavesNow, IsSettled}
+use Rattle.chain_disk.specs.OnDisk.{OnDisk, LeavesOnly, LeavesNow, IsSettled}
 use Rattle.chain_disk.specs.Runs.{leaves_now, weaker}
 use Rattle.frames.specs.Frames.{length_bytes, frame, IsBody}
 use Rattle.journal.specs.Framed.{framed-push, length-framed-push, AreBodies-push}
@@ -105,7 +105,7 @@ module _ (issuer : List ℕ) (bodies : List (List ℕ)) (content : List ℕ) (fi
     image c (inr is) = subst (IsBeforeOrAfter issuer bodies body) (sym is.1)
         (either is.0 (drop (closing_gate bodies + 1 + length (frame body)) content))
 
-pub acknowledged : (t u : Told) (issuer : List ℕ) (bodies : List (List ℕ)) (body bytes : List ℕ) (gate : ℕ) → IsBody body →
+pub acknowledged : (t u : OnDisk) (issuer : List ℕ) (bodies : List (List ℕ)) (body bytes : List ℕ) (gate : ℕ) → IsBody body →
     IsAt issuer bodies gate t → bytes ≡ frame body → IsCommitted t gate bytes u
     → IsAt issuer (bodies ++ body ∷ []) (gate + (length body + 5)) u × LeavesNow u (IsFile issuer (bodies ++ body ∷ []))
 acknowledged t u issuer bodies body bytes gate size at same now =
@@ -122,7 +122,7 @@ acknowledged t u issuer bodies body bytes gate size at same now =
       leaves_now u (IsFile issuer (bodies ++ body ∷ [])) now.nothing_pending file,
     )
 
-pub any_moment : (t u : Told) (issuer : List ℕ) (bodies : List (List ℕ)) (body bytes : List ℕ) (gate : ℕ) → IsBody body →
+pub any_moment : (t u : OnDisk) (issuer : List ℕ) (bodies : List (List ℕ)) (body bytes : List ℕ) (gate : ℕ) → IsBody body →
     IsAt issuer bodies gate t → bytes ≡ frame body → LeavesOnly t u (IsCommitImage t.content gate bytes)
     → LeavesOnly t u (IsBeforeOrAfter issuer bodies body)
 any_moment t u issuer bodies body bytes gate size at same only = weaker t u (IsCommitImage t.content gate bytes)
@@ -130,10 +130,10 @@ any_moment t u issuer bodies body bytes gate size at same only = weaker t u (IsC
     image issuer bodies t.content at.file body size c (subst (λ (l : List ℕ). IsCommitImage t.content (closing_gate bodies) l c)
     same (subst (λ (g : ℕ). IsCommitImage t.content g bytes c) at.place is)))
 
-pub within : (t : Told) (gate : ℕ) → IsAtSome gate t → gate < length t.content
+pub within : (t : OnDisk) (gate : ℕ) → IsAtSome gate t → gate < length t.content
 within t gate some = ∥∥₁_elim some (hlevel props) (λ at. omega (arith, at.2.place, gate_within at.0 at.1 t.content at.2.file))
 
-pub ready_after : (t u : Told) (body bytes : List ℕ) (gate : ℕ) → IsBody body → bytes ≡ frame body → IsAtSome gate t →
+pub ready_after : (t u : OnDisk) (body bytes : List ℕ) (gate : ℕ) → IsBody body → bytes ≡ frame body → IsAtSome gate t →
     (IsSettled t → IsCommitted t gate bytes u) → IsAtSome (gate + (length body + 5)) u
 ready_after t u body bytes gate size same ready done = ∥∥₁_elim ready (hlevel) (λ at.
     let now = acknowledged t u at.0 at.1 body bytes gate size at.2 same (done at.2.nothing_pending) in

@@ -2,7 +2,7 @@
 use Rattle.std.proofs.Common.{◌≡◌, ◌<◌, ◌+◌, inl, inr, ℕ, List, [], ◌∷◌, ◌++◌, length, get_or, take, drop, sym, ◌∙◌, ap, subst}
 use Rattle.std.proofs.Common.{arith, append_assoc, length-append, take-append-drop}
 use Rattle.std.proofs.lemmas.List.{length-take-le, drop_more, take_more, take_at, drop_at}
-use Rattle.chain_disk.specs.Told.{IsImage, pasted, settled, wider}
+use Rattle.chain_disk.specs.OnDisk.{IsImage, pasted, settled, wider}
 use Rattle.chain_disk.specs.Runs.{settled_image, range_image}
 use Rattle.journal.specs.Commit.{IsCommitImage, gated}
 

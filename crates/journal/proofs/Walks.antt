@@ -110,6 +110,18 @@ counted_front body bodies r s size some is =
           (append_assoc body (framed bodies) s));
     }
 
+-- two first frames that begin the same bytes
+same_heads : (x y : List ℕ) (a b : List (List ℕ)) (r s : List ℕ) → IsBody x → IsBody y → framed (x ∷ a) ++ r ≡ framed (y ∷ b) ++ s
+    → (x ≡ y) × (framed a ++ r ≡ framed b ++ s)
+same_heads x y a b r s size size' same =
+    let m = length_bytes (length x) in
+    let n = length_bytes (length y) in
+    let tails : (m ++ (x ++ framed a)) ++ r ≡ (n ++ (y ++ framed b)) ++ s = cc same in
+    let parts : m ++ (x ++ (framed a ++ r)) ≡ n ++ (y ++ (framed b ++ s)) = simp append_assoc at tails in
+    let heads = same_front m n (x ++ (framed a ++ r)) (y ++ (framed b ++ s)) (length-length_bytes (length x) ∙
+    sym (length-length_bytes (length y))) parts in
+    same_front x y (framed a ++ r) (framed b ++ s) (same_length (length x) (length y) size.1 size'.1 heads.0) heads.1
+
 same_frames : (a b : List (List ℕ)) (r s : List ℕ) → AreBodies a → AreBodies b → (0 < length a → 1 ≤ length r) →
     (0 < length b → 1 ≤ length s)
     → ((body : List ℕ) → IsCounted r body → ⊥) → ((body : List ℕ) → IsCounted s body → ⊥) → framed a ++ r ≡ framed b ++ s → a ≡ b
@@ -119,14 +131,7 @@ same_frames [] (y ∷ b) r s are are' some some' none none' same =
 same_frames (x ∷ a) [] r s are are' some some' none none' same =
     absurd (none' x (counted_front x a s r are.0 (some (omega arith)) (sym same)))
 same_frames (x ∷ a) (y ∷ b) r s are are' some some' none none' same =
-    let m = length_bytes (length x) in
-    let n = length_bytes (length y) in
-    let tails : (m ++ (x ++ framed a)) ++ r ≡ (n ++ (y ++ framed b)) ++ s = cc same in
-    let parts : m ++ (x ++ (framed a ++ r)) ≡ n ++ (y ++ (framed b ++ s)) = simp append_assoc at tails in
-    let heads = same_front m n (x ++ (framed a ++ r)) (y ++ (framed b ++ s)) (length-length_bytes (length x) ∙
-    sym (length-length_bytes (length y))) parts in
-    let bodies = same_front x y (framed a ++ r) (framed b ++ s) (same_length (length x) (length y) are.0.1 are'.0.1 heads.0)
-    heads.1 in
+    let bodies = same_heads x y a b r s are.0 are'.0 same in
     let rest = same_frames a b r s are.1 are'.1 (λ more. some (omega arith)) (λ more. some' (omega arith)) none none' bodies.1 in
     cc (bodies.0, rest)
 
@@ -170,14 +175,7 @@ agreeing (x ∷ a) [] r s are are' some some' same =
       counted = counted_front x a s r are.0 (some (omega arith)) (sym same);
     }))
 agreeing (x ∷ a) (y ∷ b) r s are are' some some' same =
-    let m = length_bytes (length x) in
-    let n = length_bytes (length y) in
-    let tails : (m ++ (x ++ framed a)) ++ r ≡ (n ++ (y ++ framed b)) ++ s = cc same in
-    let parts : m ++ (x ++ (framed a ++ r)) ≡ n ++ (y ++ (framed b ++ s)) = simp append_assoc at tails in
-    let heads = same_front m n (x ++ (framed a ++ r)) (y ++ (framed b ++ s)) (length-length_bytes (length x) ∙
-    sym (length-length_bytes (length y))) parts in
-    let bodies = same_front x y (framed a ++ r) (framed b ++ s) (same_length (length x) (length y) are.0.1 are'.0.1 heads.0)
-    heads.1 in
+    let bodies = same_heads x y a b r s are.0 are'.0 same in
     with_head x y a b r s bodies.0 (agreeing a b r s are.1 are'.1 (λ more. some (omega arith)) (λ more. some' (omega arith))
     bodies.1)
 

@@ -3,7 +3,7 @@ use Rattle.std.proofs.Common.{◌≡◌, ◌≤◌, ◌+◌, ◌-◌, min, inl, 
 use Rattle.std.proofs.Common.{append_assoc, length-append, take-append-drop}
 use Rattle.std.proofs.lemmas.List.{length-take, length-take-le, length-drop, take_at, drop_at, take_min, take_all}
 use Rattle.std.proofs.lemmas.Bool.{cases_lt}
-use Rattle.chain_disk.specs.Told.{IsRead}
+use Rattle.chain_disk.specs.OnDisk.{IsRead}
 use Rattle.frames.specs.Frames.{length_bytes, IsCounted, IsClosed}
 use Rattle.frames.specs.Lengths.{length-length_bytes}
 use Rattle.journal.specs.Step.{IsStep}

@@ -1,6 +1,6 @@
 -- Bytes written behind a gate byte, and then the gate opened.
 use Rattle.std.specs.Prelude.{◌≡◌, ◌⊎◌, ◌+◌, ◌≤◌, max, ℕ, List, ◌∷◌, ◌++◌, length, take, drop}
-use Rattle.chain_disk.specs.Told.{Told, IsSettled}
+use Rattle.chain_disk.specs.OnDisk.{OnDisk, IsSettled}
 use Rattle.journal.specs.declared.TheConstants.{HEADER}
 
 -- the content with this gate byte and these bytes behind it
@@ -17,12 +17,12 @@ abbrev pub IsCommitImage : List ℕ → ℕ → List ℕ → List ℕ → Type 0
 IsCommitImage content gate bytes c = IsUpToGate content gate bytes c ⊎ ((x : ℕ) × (c ≡ gated content gate x bytes))
 
 -- nothing is pending, and the gate is open
-pub record IsCommitted (old : Told) (gate : ℕ) (bytes : List ℕ) (new : Told) : Type 0 where
+pub record IsCommitted (old : OnDisk) (gate : ℕ) (bytes : List ℕ) (new : OnDisk) : Type 0 where
   pub content : new.content ≡ gated old.content gate 1 bytes
   pub nothing_pending : IsSettled new
 
 -- a content whose first byte is there and isn't 1, of at most 20 bytes, with nothing pending
-pub record IsShut (t : Told) : Type 0 where
+pub record IsShut (t : OnDisk) : Type 0 where
   pub gate : ℕ
   pub rest : List ℕ
   pub content : t.content ≡ gate ∷ rest

@@ -1,6 +1,6 @@
 -- What a file stands for, at the level of its frames.
 use Rattle.std.specs.Prelude.{◌≡◌, ◌⊎◌, ◌≤◌, ◌+◌, ℕ, List, [], ◌∷◌, ◌++◌, length, codes}
-use Rattle.chain_disk.specs.Told.{Told, IsSettled}
+use Rattle.chain_disk.specs.OnDisk.{OnDisk, IsSettled}
 use Rattle.frames.specs.Frames.{length_bytes, IsBody}
 use Rattle.parties.specs.Nif.{IsNif}
 use Rattle.journal.specs.declared.TheConstants.{HEADER}
@@ -45,11 +45,11 @@ abbrev pub closing_gate : List (List ℕ) → ℕ
 closing_gate bodies = HEADER + length (framed bodies)
 
 -- the disk reads as such a file, nothing is pending, and the closing gate is at this place
-pub record IsAt (issuer : List ℕ) (bodies : List (List ℕ)) (gate : ℕ) (t : Told) : Type 0 where
+pub record IsAt (issuer : List ℕ) (bodies : List (List ℕ)) (gate : ℕ) (t : OnDisk) : Type 0 where
   pub file : IsFile issuer bodies t.content
   pub place : gate ≡ closing_gate bodies
   pub nothing_pending : IsSettled t
 
 -- the file of some issuer and some bodies, and its closing gate is at this place
-abbrev pub IsAtSome : ℕ → Told → Type 0
+abbrev pub IsAtSome : ℕ → OnDisk → Type 0
 IsAtSome gate t = ∥ ((issuer : List ℕ) × (bodies : List (List ℕ)) × IsAt issuer bodies gate t) ∥₁

@@ -6,4 +6,4 @@ pub mod Walk
 pub mod Framed
 pub mod Laws
 pub mod Journal
-pub mod StoreFault
+pub mod Faults

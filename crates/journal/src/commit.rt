@@ -1,7 +1,7 @@
 // Bytes behind a gate, and then the gate.
 ghost use Rattle.std.specs.Prelude.{◌≡◌, ◌<◌, ◌^◌, length, OnOk, IsTrue};
 ghost use Rattle.ports.specs.Causes.{HasCause};
-ghost use Rattle.chain_disk.specs.Told.{LeavesOnly, IsSettled};
+ghost use Rattle.chain_disk.specs.OnDisk.{LeavesOnly, IsSettled};
 ghost use Rattle.journal.specs.Commit.{IsCommitImage, IsCommitted};
 
 use chain_disk::Disk;

@@ -1,7 +1,7 @@
 // The creation of a file.
 ghost use Rattle.std.specs.Prelude.{◌≡◌, ◌<◌, ◌^◌, ◌++◌, [], ◌∷◌, length, OnOk, IsTrue};
 ghost use Rattle.ports.specs.Causes.{HasCause};
-ghost use Rattle.chain_disk.specs.Told.{LeavesOnly, IsSettled};
+ghost use Rattle.chain_disk.specs.OnDisk.{LeavesOnly, IsSettled};
 ghost use Rattle.parties.specs.Nif.{IsNif};
 ghost use Rattle.journal.specs.Commit.{IsShut};
 ghost use Rattle.journal.specs.declared.TheConstants.{HEADER};

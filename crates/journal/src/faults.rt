@@ -1,6 +1,6 @@
 // The faults of the layers above the journal.
 ghost use Rattle.std.specs.Prelude.{◌≡◌};
-ghost use Rattle.journal.specs.StoreFault.{store_fault, no_memory};
+ghost use Rattle.journal.specs.Faults.{store_fault, no_memory};
 
 use crate::JournalFault;
 use ports::NoMemory;

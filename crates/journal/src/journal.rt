@@ -2,7 +2,7 @@
 ghost use Rattle.std.specs.Prelude.{◌≡◌, ◌<◌, ◌≤◌, ◌+◌, ◌^◌, ◌++◌, ◌∷◌, [], ◌↔◌, List, ℕ, length, IfOk, IfErr, OnOk, OnErr};
 ghost use Rattle.std.specs.Prelude.{IsErrOf, IsSome, IsTrue, None, Some};
 ghost use Rattle.ports.specs.Causes.{Rose};
-ghost use Rattle.chain_disk.specs.Told.{LeavesOnly, LeavesNow, IsSettled};
+ghost use Rattle.chain_disk.specs.OnDisk.{LeavesOnly, LeavesNow, IsSettled};
 ghost use Rattle.frames.specs.Frames.{IsBody, frame};
 ghost use Rattle.journal.specs.File.{IsAt, IsAtSome, IsFile, IsBeforeOrAfter, IsNotBegun, IsNotBegunOrEmpty};
 

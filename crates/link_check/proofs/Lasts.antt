@@ -11,7 +11,7 @@ use Rattle.record_fields.specs.declared.records.Sealed.{Sealed}
 use Rattle.record_codec.specs.declared.entries.Entry.{Entry}
 use Rattle.shop_core.specs.History.{recs}
 use Rattle.shop_core.specs.Standing.{has_num, is_refused, last_accepted}
-use Rattle.link_check.specs.Checked.{last_accepted_alta}
+use Rattle.link_check.specs.Checking.{last_accepted_alta}
 
 length_after : {A : Type 0} (xs : List A) (x : A) → length (xs ++ x ∷ []) - 1 ≡ length xs
 length_after xs x = simp length-append (omega arith)

@@ -7,7 +7,7 @@ use Rattle.std.proofs.lemmas.List.Elements.{All-push}
 use Rattle.std.proofs.lemmas.List.{drop_all, drop-drop, take_more}
 use Rattle.std.specs.declared.alloc.Global.{Global}
 use Rattle.ports.specs.declared.faults.NoMemory.{NoMemory}
-use Rattle.link_check.specs.Checked.{Chain, IsChecked, AreChecked}
+use Rattle.link_check.specs.Checking.{Chain, IsChecked, AreChecked}
 use Rattle.link_check.specs.Pieces.{answers_in}
 use Rattle.link_check.specs.declared.checked.Checked.{Checked}
 

@@ -10,8 +10,8 @@ use Rattle.record_fields.specs.declared.records.Sealed.{Sealed}
 use Rattle.record_codec.specs.declared.entries.Entry.{Entry}
 use Rattle.shop_core.specs.Standing.{is_known_on, last_accepted}
 use Rattle.verify_link.specs.declared.parts.LinkParts.{LinkParts}
-use Rattle.link_check.specs.Checked.{answer_to, compared, last_accepted_alta}
-use Rattle.link_check.specs.Checked.Chain.{begun}
+use Rattle.link_check.specs.Checking.{answer_to, compared, last_accepted_alta}
+use Rattle.link_check.specs.Checking.Chain.{begun}
 use Rattle.link_check.specs.Said.{settled}
 use Rattle.link_check.specs.declared.checked.Checked.{Checked}
 use Rattle.link_check.specs.declared.checked.Checked.TheVariants.{Cancelled, Refused, Unknown, OtherIssuer}

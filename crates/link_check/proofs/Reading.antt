@@ -4,8 +4,8 @@ use Rattle.verify_link.specs.Reading.{IsLinkReading}
 use Rattle.verify_link.specs.declared.parts.LinkParts.{LinkParts}
 use Rattle.verify_link.specs.declared.parts.LinkFault.{LinkFault}
 use Rattle.verify_link.specs.declared.parts.LinkFault.TheVariants as link_fault
-use Rattle.link_check.specs.Checked.{Chain, IsChecked, AnswersAreOne, answer_to}
-use Rattle.link_check.specs.Checked.IsChecked.{no_text, no_link, link}
+use Rattle.link_check.specs.Checking.{Chain, IsChecked, AnswersAreOne, answer_to}
+use Rattle.link_check.specs.Checking.IsChecked.{no_text, no_link, link}
 use Rattle.link_check.specs.declared.checked.Checked.{Checked}
 use Rattle.link_check.specs.declared.checked.Checked.TheVariants.{BadLink}
 

@@ -4,7 +4,7 @@ use Rattle.record_fields.specs.Records.{is_alta}
 use Rattle.record_fields.specs.declared.records.Sealed.{Sealed}
 use Rattle.verify_link.specs.Reading.{IsLinkReading}
 use Rattle.verify_link.specs.declared.parts.LinkParts.{LinkParts}
-use Rattle.link_check.specs.Checked.{Chain, IsChecked, compared}
+use Rattle.link_check.specs.Checking.{Chain, IsChecked, compared}
 use Rattle.link_check.specs.declared.checked.Checked.{Checked}
 use Rattle.link_check.specs.declared.checked.Checked.TheVariants.{Cancelled}
 

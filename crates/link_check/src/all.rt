@@ -1,8 +1,8 @@
 // All lines, in pieces that are worked beside each other.
 ghost use Rattle.std.specs.Prelude.{◌≡◌, IfOk, IsOk, All, flat_map};
 ghost use Rattle.std.specs.Int.{IsInRange};
-ghost use Rattle.link_check.specs.Checked.{AreChecked};
-ghost use Rattle.link_check.specs.Checked.Chain.{begun, not_begun};
+ghost use Rattle.link_check.specs.Checking.{AreChecked};
+ghost use Rattle.link_check.specs.Checking.Chain.{begun, not_begun};
 ghost use Rattle.link_check.specs.Pieces.{answers_in};
 ghost use Rattle.link_check.specs.declared.all.TheConstants.{MAX_WORKERS};
 

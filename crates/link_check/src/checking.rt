@@ -1,7 +1,7 @@
 // A line that is read as a link, and held against the chain.
 ghost use Rattle.std.specs.Prelude.{◌≡◌, IfOk, Some};
-ghost use Rattle.link_check.specs.Checked.{answer_to, IsChecked};
-ghost use Rattle.link_check.specs.Checked.Chain.{begun, not_begun};
+ghost use Rattle.link_check.specs.Checking.{answer_to, IsChecked};
+ghost use Rattle.link_check.specs.Checking.Chain.{begun, not_begun};
 ghost use Rattle.link_check.specs.Said.{IsSaid, settled};
 
 use crate::Checked;

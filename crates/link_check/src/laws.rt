@@ -1,5 +1,5 @@
 //! What holds of every list of lines.
-ghost use Rattle.link_check.specs.Checked.{AnswersAreOne};
+ghost use Rattle.link_check.specs.Checking.{AnswersAreOne};
 
 use verify_link::text_determines_reading;
 

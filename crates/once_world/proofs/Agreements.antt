@@ -14,7 +14,7 @@ use Rattle.shop_core.specs.Legal.{AreNext}
 use Rattle.shop_core.specs.Sales.{SalesAreNew}
 use Rattle.shop_core.specs.Spans.{NotedWithinRecords}
 use Rattle.agency_rules.specs.declared.plans.PlannedVerdict.{PlannedVerdict}
-use Rattle.agency_rules.specs.Delivery.{delivered, delivered_all}
+use Rattle.agency_rules.specs.Pairs.{delivered, delivered_all}
 use Rattle.agency_port.specs.Rules.{AreAmong}
 use Rattle.once_world.specs.Agreement.{IsPrefix, IsRun, Agree, AreNextLines, AreOnce, records_of, lines_of}
 use Rattle.once_world.specs.Laws.{RecordsKeepAgreement, RecordsKeepNextLines, SendingKeepsAgreement, NotingKeepsAgreement}

@@ -21,8 +21,8 @@ use Rattle.agency_rules.specs.declared.judging.Past.{Past}
 use Rattle.agency_rules.specs.declared.plans.PlannedVerdict.{PlannedVerdict}
 use Rattle.agency_rules.specs.declared.plans.Verdict.{Verdict}
 use Rattle.agency_rules.specs.declared.plans.Verdict.TheVariants as verdict_of
-use Rattle.agency_rules.specs.Judgement.{of_id, past_of, verdict_for, judge, judgement}
-use Rattle.agency_rules.specs.Delivery.{line_of, after_record, delivered}
+use Rattle.agency_rules.specs.Judging.{of_id, past_of, verdict_for, judge, judgement}
+use Rattle.agency_rules.specs.Pairs.{line_of, after_record, delivered}
 use Rattle.once_world.specs.Agreement.{IsPrefix, records_of, contradicts, is_sale_refused, AddsNoRefusedSale}
 use Rattle.once_world.proofs.Lists.{bytes_same, not_same}
 

@@ -8,7 +8,7 @@ use Rattle.record_fields.specs.declared.lines.Line.{Line}
 use Rattle.record_codec.specs.declared.entries.Entry.{Entry}
 use Rattle.shop_core.specs.History.{recs, noted, waiting}
 use Rattle.shop_core.specs.Sales.{SalesAreNew}
-use Rattle.agency_rules.specs.Delivery.{line_of}
+use Rattle.agency_rules.specs.Pairs.{line_of}
 use Rattle.agency_port.specs.Answers.{seen_of}
 use Rattle.agency_port.specs.declared.answers.Seen.{Seen}
 use Rattle.agency_port.specs.declared.answers.Seen.TheVariants.{NotSeen, Was}

@@ -10,8 +10,8 @@ use Rattle.record_codec.specs.declared.entries.Entry.{Entry}
 use Rattle.shop_core.specs.History.{recs, noted, waiting}
 use Rattle.shop_core.specs.Sales.{SalesAreNew}
 use Rattle.agency_rules.specs.declared.plans.PlannedVerdict.{PlannedVerdict}
-use Rattle.agency_rules.specs.Judgement.{judgement}
-use Rattle.agency_rules.specs.Delivery.{line_of, met, delivered_record, after_record, delivered, delivered_all}
+use Rattle.agency_rules.specs.Judging.{judgement}
+use Rattle.agency_rules.specs.Pairs.{line_of, met, delivered_record, after_record, delivered, delivered_all}
 use Rattle.agency_port.specs.Answers.{reply_line, answers}
 use Rattle.agency_port.specs.declared.answers.ReplyLine.{ReplyLine}
 use Rattle.agency_port.specs.declared.answers.ReplyLine.TheVariants.{First}

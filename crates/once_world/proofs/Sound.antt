@@ -6,8 +6,8 @@ use Rattle.record_fields.specs.declared.lines.Line.{Line}
 use Rattle.record_fields.specs.declared.records.Sealed.{Sealed}
 use Rattle.record_codec.specs.declared.entries.Entry.{Entry}
 use Rattle.record_codec.specs.declared.entries.Entry.TheVariants.{Notes}
-use Rattle.shop_core.specs.Answer.{answer, MakesRecords}
-use Rattle.shop_core.specs.Asked.{Asked, IsAsked}
+use Rattle.shop_core.specs.Plans.{answer, MakesRecords}
+use Rattle.shop_core.specs.Requests.{Asked, IsAsked}
 use Rattle.shop_core.specs.History.{noted}
 use Rattle.shop_core.specs.Legal.{Legal, GoesOn, MadeContinues}
 use Rattle.shop_core.specs.Sales.{SalesAreNew}

@@ -7,13 +7,13 @@ use Rattle.std.specs.List.{Contains}
 use Rattle.record_fields.specs.declared.records.Sealed.{Sealed}
 use Rattle.record_fields.specs.declared.lines.Line.{Line}
 use Rattle.record_codec.specs.declared.entries.Entry.{Entry}
-use Rattle.shop_core.specs.Answer.{answer, MakesRecords}
-use Rattle.shop_core.specs.Asked.{Asked}
+use Rattle.shop_core.specs.Plans.{answer, MakesRecords}
+use Rattle.shop_core.specs.Requests.{Asked}
 use Rattle.shop_core.specs.History.{recs, noted, is_record, waiting}
 use Rattle.shop_core.specs.Legal.{AreNext}
 use Rattle.shop_core.specs.declared.answers.Planned.{Planned}
 use Rattle.shop_core.specs.declared.answers.Planned.TheVariants.{Again, Refused, Made}
-use Rattle.agency_rules.specs.Delivery.{delivered}
+use Rattle.agency_rules.specs.Pairs.{delivered}
 use Rattle.agency_rules.specs.declared.plans.Plan.{Plan}
 use Rattle.once_world.specs.Agreement.{IsPrefix, Agree, IsLearnt, HasNoRefusedSale, is_sale_refused, lines_of}
 use Rattle.once_world.specs.Looks.{answers_for, lines_in_front}

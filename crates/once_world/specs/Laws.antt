@@ -7,11 +7,11 @@ use Rattle.record_fields.specs.declared.lines.TheConstants.{BATCH}
 use Rattle.record_codec.specs.declared.entries.Entry.{Entry}
 use Rattle.record_codec.specs.declared.entries.Entry.TheVariants.{Notes}
 use Rattle.shop_core.specs.History.{recs, noted, is_record, waiting}
-use Rattle.shop_core.specs.Asked.{IsAsked}
+use Rattle.shop_core.specs.Requests.{IsAsked}
 use Rattle.shop_core.specs.Items.{entries_of}
 use Rattle.shop_core.specs.declared.items.Item.{Item}
 use Rattle.shop_core.specs.Legal.{Legal}
-use Rattle.agency_rules.specs.Delivery.{delivered, delivered_all, line_of}
+use Rattle.agency_rules.specs.Pairs.{delivered, delivered_all, line_of}
 use Rattle.agency_rules.specs.declared.plans.Plan.{Plan}
 use Rattle.agency_rules.specs.declared.plans.PlannedVerdict.{PlannedVerdict}
 use Rattle.agency_port.specs.Answers.{answers}

@@ -1,6 +1,6 @@
 // The waiting time between submissions, by the tax agency's description of the submission service.
 ghost use Rattle.std.specs.Prelude.{◌≡◌, MatchResult, true, false};
-ghost use Rattle.pacing.specs.Due.{is_due, due_at};
+ghost use Rattle.pacing.specs.Pace.{is_due, due_at};
 ghost use Rattle.pacing.specs.declared.pace.TheConstants.{FIRST_WAIT};
 
 /// The agency's first waiting time, in seconds: it holds until a reply sets another.

@@ -14,9 +14,9 @@ use Rattle.parties.specs.Nif.{IsNif}
 use Rattle.parties.specs.declared.name.Party.{Party}
 use Rattle.series.specs.declared.numbers.InvoiceId.{InvoiceId}
 use Rattle.series.specs.Numbers.{is_num_serie}
-use Rattle.stamps.specs.Civil.{last_day}
+use Rattle.stamps.specs.Day.{last_day}
 use Rattle.stamps.specs.Clock.{IsStampOffset}
-use Rattle.stamps.specs.Moment.{Moment}
+use Rattle.stamps.specs.Stamp.{Moment}
 use Rattle.stamps.specs.declared.stamp.TheConstants.{CLOCK_FROM, CLOCK_TO}
 use Rattle.tax_lines.specs.declared.classes.LineKey.{LineKey}
 use Rattle.tax_lines.specs.declared.lines.TaxLine.{TaxLine}
@@ -37,10 +37,10 @@ use Rattle.record_codec.specs.declared.entries.TheConstants.{LAST_TILL}
 use Rattle.record_codec.specs.declared.entries.Entry.{Entry}
 use Rattle.record_codec.specs.declared.entries.Entry.TheVariants.{Rec, Notes}
 use Rattle.record_codec.specs.declared.faults.BadEntry.TheVariants as bad
-use Rattle.record_codec.specs.Bytes.{text_bytes, id_bytes, customer_bytes, refs_bytes, tax_line_bytes, draft_bytes, link_bytes}
-use Rattle.record_codec.specs.Bytes.{line_bytes}
+use Rattle.record_codec.specs.Writing.{text_bytes, id_bytes, customer_bytes, refs_bytes, tax_line_bytes, draft_bytes, link_bytes}
+use Rattle.record_codec.specs.Writing.{line_bytes}
 use Rattle.record_codec.specs.Codes.{flag_code, kind_code, kinds, rect_code, rects, previo_code, previos, classes, of_code}
-use Rattle.record_codec.specs.Fields.{AreBytes, IsHuella, IsMoment, IsLink, IsLine, IsFullDraft, IsNoEncoding}
+use Rattle.record_codec.specs.Validity.{AreBytes, IsHuella, IsMoment, IsLink, IsLine, IsFullDraft, IsNoEncoding}
 use Rattle.record_codec.specs.Laws.{AFaultIsBehindWholeFields}
 use Rattle.record_codec.specs.Layout.{byte_field, id_fields, party_fields, customer_fields, refs_fields, tax_line_fields}
 use Rattle.record_codec.specs.Layout.{breakdown_fields, draft_fields, link_fields, moment_fields, alta_fields, anulacion_fields}

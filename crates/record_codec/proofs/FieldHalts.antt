@@ -18,9 +18,9 @@ use Rattle.record_fields.specs.Picks.{when}
 use Rattle.record_fields.specs.declared.lines.Line.TheVariants.{Correcto}
 use Rattle.record_fields.specs.declared.records.Previo.{Previo}
 use Rattle.record_fields.specs.declared.records.Previo.TheVariants as previo
-use Rattle.record_codec.specs.Bytes.{text_bytes, line_bytes}
+use Rattle.record_codec.specs.Writing.{text_bytes, line_bytes}
 use Rattle.record_codec.specs.Codes.{flag_code, flags, kind_code, kinds, rect_code, rects, previo_code, previos, classes, of_code}
-use Rattle.record_codec.specs.Fields.{IsHuella, IsLine}
+use Rattle.record_codec.specs.Validity.{IsHuella, IsLine}
 use Rattle.record_codec.specs.Layout.{byte_field}
 use Rattle.record_codec.specs.Reading.{Reading, ◌>>=◌, byte_at, fixed_at, number_at, number_in, text_at, many_at, flag_at, nif_in}
 use Rattle.record_codec.specs.Reading.{base_in, offset_in, line_in, huella_at}

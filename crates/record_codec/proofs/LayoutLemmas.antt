@@ -6,7 +6,7 @@ use Rattle.std.proofs.lemmas.List.{append-nil}
 use Rattle.std.proofs.lemmas.List.Folds.{concat-append}
 use Rattle.parties.specs.declared.name.Party.{Party}
 use Rattle.series.specs.declared.numbers.InvoiceId.{InvoiceId}
-use Rattle.stamps.specs.Moment.{Moment}
+use Rattle.stamps.specs.Stamp.{Moment}
 use Rattle.tax_lines.specs.declared.lines.TaxLine.{TaxLine}
 use Rattle.record_fields.specs.declared.drafts.Draft.{Draft}
 use Rattle.record_fields.specs.declared.lines.Line.{Line}
@@ -17,9 +17,9 @@ use Rattle.record_fields.specs.declared.records.Link.TheVariants.{First, After}
 use Rattle.record_fields.specs.declared.records.Record.{Record}
 use Rattle.record_fields.specs.declared.records.Record.TheVariants as record_of
 use Rattle.record_codec.specs.declared.entries.Entry.TheVariants.{Rec, Notes}
-use Rattle.record_codec.specs.Bytes.{text_bytes, id_bytes, party_bytes, customer_bytes, refs_bytes, tax_line_bytes}
-use Rattle.record_codec.specs.Bytes.{breakdown_bytes, draft_bytes, link_bytes, moment_bytes, alta_bytes, anulacion_bytes}
-use Rattle.record_codec.specs.Bytes.{line_bytes, record_bytes, entry_bytes}
+use Rattle.record_codec.specs.Writing.{text_bytes, id_bytes, party_bytes, customer_bytes, refs_bytes, tax_line_bytes}
+use Rattle.record_codec.specs.Writing.{breakdown_bytes, draft_bytes, link_bytes, moment_bytes, alta_bytes, anulacion_bytes}
+use Rattle.record_codec.specs.Writing.{line_bytes, record_bytes, entry_bytes}
 use Rattle.record_codec.specs.Codes.{kind_code, rect_code}
 use Rattle.record_codec.specs.Laws.{AnEncodingIsItsFields}
 use Rattle.record_codec.proofs.RecordReaders.{said_bytes}

@@ -5,7 +5,7 @@ use Rattle.std.specs.Int.{w16, w32, w64, to_be_bytes, cast_unsigned}
 use Rattle.std.specs.List.{flat_map, concat}
 use Rattle.parties.specs.declared.name.Party.{Party}
 use Rattle.series.specs.declared.numbers.InvoiceId.{InvoiceId}
-use Rattle.stamps.specs.Moment.{Moment}
+use Rattle.stamps.specs.Stamp.{Moment}
 use Rattle.tax_lines.specs.declared.lines.TaxLine.{TaxLine}
 use Rattle.tax_lines.specs.Classes.{key_code}
 use Rattle.record_fields.specs.declared.drafts.Draft.{Draft}
@@ -18,9 +18,9 @@ use Rattle.record_fields.specs.declared.records.Record.{Record}
 use Rattle.record_fields.specs.declared.records.Record.TheVariants as record_of
 use Rattle.record_codec.specs.declared.entries.Entry.{Entry}
 use Rattle.record_codec.specs.declared.entries.Entry.TheVariants.{Rec, Notes}
-use Rattle.record_codec.specs.Bytes.{text_bytes, line_bytes}
+use Rattle.record_codec.specs.Writing.{text_bytes, line_bytes}
 use Rattle.record_codec.specs.Codes.{flag_code, kind_code, rect_code, previo_code}
-use Rattle.record_codec.specs.Fields.{AreFields, HasIssuer}
+use Rattle.record_codec.specs.Validity.{AreFields, HasIssuer}
 
 -- a field of one byte
 abbrev pub byte_field : ℕ → List ℕ

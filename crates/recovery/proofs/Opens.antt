@@ -1,7 +1,7 @@
 -- A file that was opened.
 use Rattle.std.proofs.Common.{◌≡◌, ℕ, List, [], refl, inl, inr, Result, Ok, Err, IfOk}
 use Rattle.recovery.specs.Opening.{IsFound}
-use Rattle.chain_disk.specs.Told.{Told, IsSettled, LeavesNow, LeavesOnly}
+use Rattle.chain_disk.specs.OnDisk.{OnDisk, IsSettled, LeavesNow, LeavesOnly}
 use Rattle.chain_disk.specs.Runs.{leaves_now, started_settled, weaker}
 use Rattle.journal.specs.File.{IsAtSome, IsFile, IsNotBegunOrEmpty, closing_gate}
 use Rattle.record_codec.specs.declared.entries.Entry.{Entry}
@@ -9,10 +9,10 @@ use Rattle.shop_core.specs.Legal.{Legal}
 use Rattle.shop_core.specs.Files.{StandsFor, bodies_of}
 
 -- a file that was begun stands for the empty history
-pub begun : (issuer : List ℕ) (t : Told) → Legal issuer [] → LeavesNow t (IsFile issuer []) → LeavesNow t (StandsFor issuer [])
+pub begun : (issuer : List ℕ) (t : OnDisk) → Legal issuer [] → LeavesNow t (IsFile issuer []) → LeavesNow t (StandsFor issuer [])
 begun issuer t legal only = λ c left. record { frames = only c left; encoded = tt; legal = legal }
 
-pub at_some : (issuer : List ℕ) (entries : List Entry) (end : ℕ) (t : Told) → StandsFor issuer entries t.content →
+pub at_some : (issuer : List ℕ) (entries : List Entry) (end : ℕ) (t : OnDisk) → StandsFor issuer entries t.content →
     end ≡ closing_gate (bodies_of entries) → IsSettled t → IsAtSome end t
 at_some issuer entries end t stands place quiet = ∣ (
   issuer,
@@ -24,7 +24,7 @@ at_some issuer entries end t stands place quiet = ∣ (
   },
 ) ∣₁
 
-pub stays : (issuer : List ℕ) (entries : List Entry) (t : Told) → StandsFor issuer entries t.content → IsSettled t →
+pub stays : (issuer : List ℕ) (entries : List Entry) (t : OnDisk) → StandsFor issuer entries t.content → IsSettled t →
     LeavesNow t (StandsFor issuer entries)
 stays issuer entries t stands quiet = leaves_now t (StandsFor issuer entries) quiet stands
 
@@ -33,12 +33,12 @@ found_empty issuer c legal (inl not_begun) = inl (not_begun, refl)
 found_empty issuer c legal (inr file) = inr (record { frames = file; encoded = tt; legal = legal })
 
 -- while a file is begun, each crash leaves the empty history
-pub begins : (issuer : List ℕ) (t u : Told) → Legal issuer [] → LeavesOnly t u (IsNotBegunOrEmpty issuer) →
+pub begins : (issuer : List ℕ) (t u : OnDisk) → Legal issuer [] → LeavesOnly t u (IsNotBegunOrEmpty issuer) →
     LeavesOnly t u (IsFound issuer [])
 begins issuer t u legal only = weaker t u (IsNotBegunOrEmpty issuer) (IsFound issuer []) only (λ c left. found_empty issuer c
     legal left)
 
-pub holds_on : (issuer : List ℕ) (entries : List Entry) (t : Told) → StandsFor issuer entries t.content → IsSettled t →
+pub holds_on : (issuer : List ℕ) (entries : List Entry) (t : OnDisk) → StandsFor issuer entries t.content → IsSettled t →
     LeavesOnly t t (IsFound issuer entries)
 holds_on issuer entries t stands quiet = started_settled t (IsFound issuer entries) quiet (inr stands)
 

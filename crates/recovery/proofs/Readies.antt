@@ -1,13 +1,13 @@
 -- A store is ready at the history that its file was found to stand for.
 use Rattle.std.proofs.Common.{◌≡◌, ℕ, ◌≤◌, List, [], sym, subst, arith, Bool, IsTrue, Option, None}
-use Rattle.chain_disk.specs.Told.{Told, IsSettled}
+use Rattle.chain_disk.specs.OnDisk.{OnDisk, IsSettled}
 use Rattle.journal.specs.File.{IsAt, closing_gate}
 use Rattle.shop_core.specs.Files.{StandsFor, bodies_of, furthest_gate}
 use Rattle.shop_core.specs.History.{History}
 use Rattle.chain_store.specs.Ready.{IsReady}
 
 -- of a file that was begun
-pub ready_empty : (tells : Bool) (issuer : List ℕ) (history : History) (stopped : Option ℕ) (gate : ℕ) (t : Told) →
+pub ready_empty : (tells : Bool) (issuer : List ℕ) (history : History) (stopped : Option ℕ) (gate : ℕ) (t : OnDisk) →
     history ≡ record { issuer = issuer; entries = []; room = None } →
     gate ≡ 19 → (IsTrue tells → IsAt issuer [] gate t) → IsReady tells history stopped gate t
 ready_empty tells issuer history stopped gate t made at file = subst (λ (h : History). IsReady tells h stopped gate t) (sym made)
@@ -17,7 +17,7 @@ ready_empty tells issuer history stopped gate t made at file = subst (λ (h : Hi
     })
 
 -- of a file that was read
-pub ready_held : (tells : Bool) (history : History) (stopped : Option ℕ) (gate : ℕ) (t : Told) →
+pub ready_held : (tells : Bool) (history : History) (stopped : Option ℕ) (gate : ℕ) (t : OnDisk) →
     gate ≤ furthest_gate history.entries →
     (IsTrue tells → (StandsFor history.issuer history.entries t.content × (gate ≡ closing_gate (bodies_of history.entries))) ×
     IsSettled t) → IsReady tells history stopped gate t

@@ -1,6 +1,6 @@
 -- What an opening finds.
 use Rattle.std.specs.Prelude.{◌≡◌, ◌≢◌, ◌⊎◌, ℕ, List, []}
-use Rattle.chain_disk.specs.Told.{Told, IsSyncFailed, LeavesOnly, synced}
+use Rattle.chain_disk.specs.OnDisk.{OnDisk, IsSyncFailed, LeavesOnly, synced}
 use Rattle.journal.specs.File.{IsNotBegun, IsNotBegunOrEmpty}
 use Rattle.record_codec.specs.declared.entries.Entry.{Entry}
 use Rattle.shop_core.specs.Files.{IsDamagedFile, StandsFor}
@@ -12,7 +12,7 @@ abbrev pub IsFound : List ℕ → List Entry → List ℕ → Type 0
 IsFound issuer entries file = (IsNotBegun file × (entries ≡ [])) ⊎ StandsFor issuer entries file
 
 -- a file that wasn't begun is still none, or is begun and empty; so is each that a crash since this moment may leave
-pub record IsBegunInPart (issuer : List ℕ) (settled new : Told) : Type 0 where
+pub record IsBegunInPart (issuer : List ℕ) (settled new : OnDisk) : Type 0 where
   pub not_begun : IsNotBegun settled.content
   pub reads : IsNotBegunOrEmpty issuer new.content
   pub any_moment : LeavesOnly settled new (IsNotBegunOrEmpty issuer)
@@ -25,14 +25,14 @@ pub record IsOthers (issuer held file : List ℕ) : Type 0 where
 
 -- What is left where the disk failed: by the sync at the start, which then did nothing or left all pending; by a reading,
 -- after that sync; or while the file was begun.
-pub data IsDiskLost (issuer : List ℕ) (old new : Told) : Type 0 where
+pub data IsDiskLost (issuer : List ℕ) (old new : OnDisk) : Type 0 where
   not_synced : IsSyncFailed old new → IsDiskLost issuer old new
   not_read : new ≡ synced old → IsDiskLost issuer old new
   in_part : IsBegunInPart issuer (synced old) new → IsDiskLost issuer old new
 
 -- What an opening that failed says of the file, and leaves of it: what the sync at the start left, and nothing more, unless
 -- the disk failed.
-abbrev pub IsLeftUnopened : List ℕ → OpenCause → Told → Told → Type 0
+abbrev pub IsLeftUnopened : List ℕ → OpenCause → OnDisk → OnDisk → Type 0
 IsLeftUnopened issuer DiskFault old new = IsDiskLost issuer old new
 IsLeftUnopened issuer (Damaged at) old new = IsDamagedFile old.content at × (new ≡ synced old)
 IsLeftUnopened issuer (OtherIssuer held) old new = IsOthers issuer held old.content × (new ≡ synced old)

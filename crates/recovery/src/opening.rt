@@ -1,7 +1,7 @@
 // Opens a file for an issuer.
 ghost use Rattle.std.specs.Prelude.{◌≡◌, ◌≢◌, ◌≤◌, [], ℕ, IsTrue, IfOk, IfErr, None};
 ghost use Rattle.ports.specs.Causes.{Rose};
-ghost use Rattle.chain_disk.specs.Told.{IsSettled, LeavesNow, LeavesOnly, synced};
+ghost use Rattle.chain_disk.specs.OnDisk.{IsSettled, LeavesNow, LeavesOnly, synced};
 ghost use Rattle.journal.specs.File.{IsNotBegun};
 ghost use Rattle.journal.specs.Journal.{disk_of, stopped_of};
 ghost use Rattle.shop_core.specs.Files.{StandsFor, furthest_gate};

@@ -7,7 +7,7 @@ use Rattle.record_fields.specs.declared.checks.DraftFault.{DraftFault}
 use Rattle.record_fields.specs.declared.checks.DraftFault.TheVariants.{CustomerMissing, CustomerUnwanted, RectMissing}
 use Rattle.record_fields.specs.declared.checks.DraftFault.TheVariants.{RectUnwanted, RefsMissing, RefsUnwanted, TooManyRefs}
 use Rattle.record_fields.specs.declared.checks.DraftFault.TheVariants.{OverSimplified}
-use Rattle.huella.specs.FieldText.{huella_text}
+use Rattle.huella.specs.Texts.{huella_text}
 use Rattle.shop_core.specs.declared.receipts.Receipt.{Receipt}
 use Rattle.shop_core.specs.declared.answers.Refusal.{Refusal}
 use Rattle.shop_core.specs.declared.answers.Refusal.TheVariants.{Passed, BadDraft, Unknown, Cancelled, RefNotSimplified}

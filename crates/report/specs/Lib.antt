@@ -1,9 +1,9 @@
 pub mod Answers
-pub mod Chain
+pub mod Pieces
 pub mod Listing
 pub mod Turns
 pub mod Sums
 pub mod Summary
-pub mod Statuses
+pub mod Ended
 pub mod Faults
 pub mod Verdicts

@@ -9,8 +9,8 @@ use Rattle.record_fields.specs.declared.records.Record.{Record}
 use Rattle.record_fields.specs.declared.records.Record.TheVariants as record_of
 use Rattle.record_fields.specs.declared.records.Sealed.{Sealed}
 use Rattle.record_codec.specs.declared.entries.Entry.{Entry}
-use Rattle.shop_core.specs.History.{recs, noted, sealed_at}
-use Rattle.report.specs.Chain.{chain_text}
+use Rattle.shop_core.specs.History.{last_huella, recs, noted}
+use Rattle.report.specs.Pieces.{chain_text}
 use Rattle.report.specs.Verdicts.{last_text}
 use Rattle.report.specs.declared.summary.Sums.{Sums}
 
@@ -47,10 +47,6 @@ sums_line records s = counts_text records s ++ amounts_text s
 -- the Huella of a record, where there is one
 abbrev pub huella_in : Option Sealed → Option (List ℕ)
 huella_in found = option_map (λ (s : Sealed). s.huella) found
-
--- the Huella of the last record
-abbrev pub last_huella : List Entry → Option (List ℕ)
-last_huella entries = huella_in (sealed_at entries (length (recs entries)))
 
 -- chain N noted M last HUELLA
 abbrev pub end_text : ℕ → ℕ → Option (List ℕ) → List ℕ

@@ -2,7 +2,7 @@
 use Rattle.std.specs.Prelude.{ℕ, List, ◌++◌, codes, decimal, flat_map}
 use Rattle.agency_port.specs.declared.turns.Told.{Told}
 use Rattle.agency_port.specs.declared.turns.Told.TheVariants as told
-use Rattle.report.specs.Chain.{chain_line}
+use Rattle.report.specs.Pieces.{chain_line}
 
 abbrev pub told_text : Told → List ℕ
 told_text (told.Wait moment) = codes "wait " ++ decimal moment

@@ -1,6 +1,6 @@
 -- The verdict on a file. The texts are this project's own; a Huella is written as in the field text.
 use Rattle.std.specs.Prelude.{ℕ, List, ◌++◌, codes, decimal, Option, Some, None}
-use Rattle.huella.specs.FieldText.{huella_text}
+use Rattle.huella.specs.Texts.{huella_text}
 use Rattle.shop_core.specs.declared.audits.AuditEnd.{AuditEnd}
 use Rattle.shop_core.specs.declared.audits.AuditEnd.TheVariants.{Sound, Broken}
 use Rattle.shop_core.specs.declared.audits.What.{What}

@@ -1,5 +1,5 @@
 // What is printed on standard error.
-ghost use Rattle.std.specs.Prelude.{◌≡◌, ◌++◌, OnOk, IfOk};
+ghost use Rattle.std.specs.Prelude.{◌≡◌, ◌++◌, OnOk, IfOk, codes, decimal};
 ghost use Rattle.report.specs.Faults as spec;
 
 use crate::Detail;
@@ -38,13 +38,20 @@ fn word_text(word: Word) -> &'static [u8]
     }
 }
 
+// A number, a word behind it, and the end of the line.
+fn put_named(text: &mut Vec<u8>, n: u32, word: &[u8]) -> Result<(), AllocError>
+    ensures { OnOk result (text.new.items ≡ text.old.items ++ (decimal n ++ codes " " ++ word.now ++ codes "\n")) }
+{
+    put_number(text, u64::from(n))?;
+    put(text, b" ")?;
+    put(text, word)?;
+    put(text, b"\n")
+}
+
 fn put_bad_line(text: &mut Vec<u8>, line: u32, fault: Word) -> Result<(), AllocError>
     ensures { OnOk result (text.new.items ≡ text.old.items ++ spec.bad_line_text line fault) }
 {
-    put_number(text, u64::from(line))?;
-    put(text, b" ")?;
-    put(text, word_text(fault))?;
-    put(text, b"\n")
+    put_named(text, line, word_text(fault))
 }
 
 fn put_damage(text: &mut Vec<u8>, at: u64) -> Result<(), AllocError>
@@ -82,10 +89,7 @@ fn put_place(text: &mut Vec<u8>, evidence: Evidence) -> Result<(), AllocError>
 fn put_broken(text: &mut Vec<u8>, place: u32, what: What) -> Result<(), AllocError>
     ensures { OnOk result (text.new.items ≡ text.old.items ++ spec.break_text place what) }
 {
-    put_number(text, u64::from(place))?;
-    put(text, b" ")?;
-    put(text, what_text(what))?;
-    put(text, b"\n")
+    put_named(text, place, what_text(what))
 }
 
 fn put_nif(text: &mut Vec<u8>, nif: &Nif) -> Result<(), AllocError>

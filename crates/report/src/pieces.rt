@@ -2,8 +2,8 @@
 ghost use Rattle.std.specs.Prelude.{◌≡◌, ◌++◌, ◌+◌, ◌/◌, ◌%◌, ◌<◌, ◌∷◌, [], OnOk, decimal};
 ghost use Rattle.std.specs.Fmt.{signed_decimal};
 ghost use Rattle.amounts.specs.Text.{amount_text, cents_text};
-ghost use Rattle.huella.specs.FieldText.{huella_text};
-ghost use Rattle.report.specs.Chain.{chain_line, chain_text};
+ghost use Rattle.huella.specs.Texts.{huella_text};
+ghost use Rattle.report.specs.Pieces.{chain_line, chain_text};
 
 use huella::huella_text;
 use itoa::Buffer;

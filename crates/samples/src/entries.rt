@@ -1,6 +1,6 @@
 ghost use Rattle.record_fields.specs.declared.checks.TheConstants.{MAX_REFS};
 ghost use Rattle.std.specs.Prelude.{◌≤◌, length, IfOk};
-ghost use Rattle.record_codec.specs.Fields.{InRanges};
+ghost use Rattle.record_codec.specs.Validity.{InRanges};
 
 use crate::records::{TEN, breakdown, draft, issuer, line, nif, number};
 use invoice_kinds::{Kind, RectKind};

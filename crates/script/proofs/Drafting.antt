@@ -9,13 +9,13 @@ use Rattle.record_fields.specs.Picks.{first_of}
 use Rattle.record_fields.specs.declared.drafts.Draft.{Draft}
 use Rattle.shop_core.specs.declared.words.Word.{Word}
 use Rattle.script.specs.Gathered.{IsGathered, gathered_said}
-use Rattle.script.specs.Kept.{Answers}
+use Rattle.script.specs.SoFar.{IsSaid}
 use Rattle.script.specs.declared.faults.Fault.{Fault}
 use Rattle.script.specs.declared.faults.Fault.TheVariants.{Bad, NoMemory}
 use Rattle.script.specs.Options.{each_said, item_said, seen_in, draft_said}
 use Rattle.script.specs.declared.drafts.Gathered.{Gathered}
 use Rattle.script.specs.declared.options.Item.{Item}
-use Rattle.script.specs.declared.options.Seen.{Seen}
+use Rattle.script.specs.declared.options.FieldsSeen.{FieldsSeen}
 
 each_append : (p : List ℕ → Option Party) (before xs ys : List (List ℕ)) → each_said p before (xs ++ ys) ≡ each_said p before xs
     ++ each_said p (before ++ xs) ys
@@ -46,7 +46,7 @@ ok_more [] item = refl
 ok_more (x ∷ items) item = ap (λ (t : List (Result Item Word)). Ok x ∷ t) (ok_more items item)
 
 -- all fields are those that were read and those to come; the items are those of the fields that were read
-pub record IsHalfway (p : List ℕ → Option Party) (all front left : List (List ℕ)) (items : List Item) (seen : Seen)
+pub record IsHalfway (p : List ℕ → Option Party) (all front left : List (List ℕ)) (items : List Item) (seen : FieldsSeen)
     (gathered : Gathered) : Type 0 where
   pub split : all ≡ front ++ left
   pub said : each_said p [] front ≡ map Ok items
@@ -54,7 +54,7 @@ pub record IsHalfway (p : List ℕ → Option Party) (all front left : List (Lis
   pub together : IsGathered items gathered
 
 pub next_field : (p : List ℕ → Option Party) (all front left after : List (List ℕ)) (field : List ℕ) (items : List Item)
-    (item : Item) (seen more : Seen) (gathered new : Gathered)
+    (item : Item) (seen more : FieldsSeen) (gathered new : Gathered)
     → IsHalfway p all front left items seen gathered → left ≡ field ∷ after → item_said p seen field ≡ Ok item
     → ((before : List (List ℕ)) → seen ≡ seen_in before → more ≡ seen_in (before ++ field ∷ [])) → IsGathered (items ++ item ∷ [])
     new
@@ -62,7 +62,8 @@ pub next_field : (p : List ℕ → Option Party) (all front left after : List (L
 next_field p all front left after field items item seen more gathered new h e is onward g = record {
   split = h.split ∙ ap (λ (t : List (List ℕ)). front ++ t) e ∙ sym (append_assoc front (field ∷ []) after);
   said =
-      let here : item_said p (seen_in front) field ≡ Ok item = subst (λ (s : Seen). item_said p s field ≡ Ok item) h.shown is in
+      let here : item_said p (seen_in front) field ≡ Ok item = subst (λ (s : FieldsSeen). item_said p s field ≡ Ok item) h.shown
+      is in
       each_append p [] front (field ∷ []) ∙ ap (λ (t : List (Result Item Word)). t ++ item_said p (seen_in front) field ∷ [])
       h.said
       ∙ ap (λ (r : Result Item Word). all_ok items ++ r ∷ []) here ∙ ok_more items item;
@@ -71,11 +72,12 @@ next_field p all front left after field items item seen more gathered new h e is
 }
 
 pub bad_field : (p : List ℕ → Option Party) (kind : Kind) (all front left after : List (List ℕ)) (field : List ℕ)
-    (items : List Item) (word : Word) (seen : Seen) (gathered : Gathered)
+    (items : List Item) (word : Word) (seen : FieldsSeen) (gathered : Gathered)
     → IsHalfway p all front left items seen gathered → left ≡ field ∷ after → item_said p seen field ≡ Err word →
     draft_said p kind all ≡ Err word
 bad_field p kind all front left after field items word seen gathered h e is =
-    let here : item_said p (seen_in front) field ≡ Err word = subst (λ (s : Seen). item_said p s field ≡ Err word) h.shown is in
+    let here : item_said p (seen_in front) field ≡ Err word = subst (λ (s : FieldsSeen). item_said p s field ≡ Err word) h.shown
+    is in
     let whole : all ≡ front ++ field ∷ after = h.split ∙ ap (λ (t : List (List ℕ)). front ++ t) e in
     let said : each_said p [] all ≡ all_ok items ++ Err word ∷ each_said p (front ++ field ∷ []) after =
     ap (λ (t : List (List ℕ)). each_said p [] t) whole ∙ each_append p [] front (field ∷ after)
@@ -84,7 +86,7 @@ bad_field p kind all front left after field items word seen gathered h e is =
     ∙ ap (λ (r : Result Item Word). all_ok items ++ r ∷ each_said p (front ++ field ∷ []) after) here in
     rw (said, first_word) refl
 
-pub all_read : (p : List ℕ → Option Party) (kind : Kind) (all front left : List (List ℕ)) (items : List Item) (seen : Seen)
+pub all_read : (p : List ℕ → Option Party) (kind : Kind) (all front left : List (List ℕ)) (items : List Item) (seen : FieldsSeen)
     (gathered : Gathered)
     → IsHalfway p all front left items seen gathered → left ≡ [] → draft_said p kind all ≡ gathered_said kind items
 all_read p kind all front left items seen gathered h e =
@@ -93,10 +95,10 @@ all_read p kind all front left items seen gathered h e =
     rw (said, ok_items, no_word) refl
 
 pub bad_answer : (p : List ℕ → Option Party) (kind : Kind) (all front left after : List (List ℕ)) (field : List ℕ)
-    (items : List Item) (fault : Fault) (seen : Seen) (gathered : Gathered)
-    → IsHalfway p all front left items seen gathered → left ≡ field ∷ after → Answers {A = Item} (item_said p seen field)
+    (items : List Item) (fault : Fault) (seen : FieldsSeen) (gathered : Gathered)
+    → IsHalfway p all front left items seen gathered → left ≡ field ∷ after → IsSaid {A = Item} (item_said p seen field)
     (Err fault)
-    → Answers {A = Draft} (draft_said p kind all) (Err fault)
+    → IsSaid {A = Draft} (draft_said p kind all) (Err fault)
 bad_answer p kind all front left after field items (Bad word) seen gathered h e is = bad_field p kind all front left after field
     items word seen gathered h e is
 bad_answer p kind all front left after field items NoMemory seen gathered h e is = tt

@@ -4,16 +4,14 @@ use Rattle.std.proofs.Common.{Bool, true, false, bytes_eq, ◌==◌, ◌⊎◌, 
 use Rattle.std.proofs.lemmas.Slice.Eq.{bytes_eq-Decides}
 use Rattle.std.specs.List.{range_with_len}
 use Rattle.std.proofs.lemmas.Bool.Decides.{nat_tests}
-use Rattle.invoice_kinds.specs.Kinds.{kind_text}
+use Rattle.invoice_kinds.specs.Kinds.{kind_text, kinds}
 use Rattle.invoice_kinds.specs.declared.kind.Kind.{Kind}
-use Rattle.invoice_kinds.specs.declared.kind.Kind.TheVariants.{F1, F2, F3, R1, R2, R3, R4, R5}
-use Rattle.script.specs.Readings.{named, kinds, classes, kind_of, class_of, first_days, day_of}
+use Rattle.invoice_kinds.specs.declared.kind.Kind.TheVariants.{F1}
+use Rattle.script.specs.Readings.{named, kind_of, class_of, first_days, day_of}
 use Rattle.stamps.specs.Text.{date_text_of}
-use Rattle.tax_lines.specs.Classes.{key_text}
+use Rattle.tax_lines.specs.Classes.{key_text, classes}
 use Rattle.tax_lines.specs.declared.classes.LineKey.{LineKey}
-use Rattle.tax_lines.specs.declared.classes.LineKey.TheVariants.{General, Reduced, SuperReduced, Zero, GeneralSurcharge}
-use Rattle.tax_lines.specs.declared.classes.LineKey.TheVariants.{ReducedSurcharge, SuperReducedSurcharge, S2, N1, N2, E1, E2, E3}
-use Rattle.tax_lines.specs.declared.classes.LineKey.TheVariants.{E4, E5, E6}
+use Rattle.tax_lines.specs.declared.classes.LineKey.TheVariants.{General}
 
 cases : (b : Bool) → (b ≡ true) ⊎ (b ≡ false)
 cases true = inl refl
@@ -39,13 +37,7 @@ none_unless (Some y) h = absurd (h y refl)
 kind_there : (kind : Kind) → kind_of (kind_text kind) ≡ Some kind
 unfolding kind_of
 kind_there F1 = refl
-kind_there F2 = refl
-kind_there F3 = refl
-kind_there R1 = refl
-kind_there R2 = refl
-kind_there R3 = refl
-kind_there R4 = refl
-kind_there R5 = refl
+kind_there other = refl
 
 pub kind_is : (text : List ℕ) (r : Option Kind) → IfSome r (λ (kind : Kind). text ≡ kind_text kind)
     → ((kind : Kind) → text ≡ kind_text kind → r ≡ Some kind) → r ≡ kind_of text
@@ -56,21 +48,7 @@ kind_is text (Some kind) value complete = sym (ap kind_of value ∙ kind_there k
 class_there : (key : LineKey) → class_of (key_text key) ≡ Some key
 unfolding class_of
 class_there General = refl
-class_there Reduced = refl
-class_there SuperReduced = refl
-class_there Zero = refl
-class_there GeneralSurcharge = refl
-class_there ReducedSurcharge = refl
-class_there SuperReducedSurcharge = refl
-class_there S2 = refl
-class_there N1 = refl
-class_there N2 = refl
-class_there E1 = refl
-class_there E2 = refl
-class_there E3 = refl
-class_there E4 = refl
-class_there E5 = refl
-class_there E6 = refl
+class_there other = refl
 
 pub class_is : (text : List ℕ) (r : Option LineKey) → IfSome r (λ (key : LineKey). text ≡ key_text key)
     → ((key : LineKey) → text ≡ key_text key → r ≡ Some key) → r ≡ class_of text

@@ -8,7 +8,7 @@ use Rattle.std.proofs.lemmas.Bool.{and_parts, cases_Bool, eqb-true}
 use Rattle.std.proofs.lemmas.List.{append-nil}
 use Rattle.std.proofs.lemmas.List.Sums.{sum_by-append}
 use Rattle.std.proofs.lemmas.Slice.Eq.{bytes_eq-Decides}
-use Rattle.agency_rules.specs.Judgement.{verdict_for}
+use Rattle.agency_rules.specs.Judging.{verdict_for}
 use Rattle.agency_rules.specs.Plans.{fate_at}
 use Rattle.agency_rules.specs.declared.plans.Plan.{Plan}
 use Rattle.agency_rules.specs.declared.plans.PlannedFate.{PlannedFate}
@@ -19,7 +19,7 @@ use Rattle.script.specs.Lines.{Above, above_of, line_said, verdict_in, wait_in, 
 use Rattle.script.specs.Planned.{IsPlannedVerdict, IsPlannedCall, is_on, is_of, IsPlanned}
 use Rattle.script.specs.Script.{EachSays, plan_of}
 use Rattle.script.specs.declared.forms.Form.{Form}
-use Rattle.script.specs.declared.lines.Line.{Line}
+use Rattle.script.specs.declared.lines.Meaning.{Meaning}
 use Rattle.script.proofs.Gathering.{or_none}
 use Rattle.script.proofs.Reading.{Gives, line_gives, with_line, above_more}
 
@@ -118,10 +118,10 @@ more_wait verdicts wait fates seconds s few none =
 abbrev IsSound : Above → Type 0
 IsSound above = Sound above.verdicts above.wait above.fates
 
-said_sound : (form : Form) (above : Above) (text : List ℕ) (meaning : Line) → line_said form above text ≡ Ok meaning →
+said_sound : (form : Form) (above : Above) (text : List ℕ) (meaning : Meaning) → line_said form above text ≡ Ok meaning →
     IsSound above → IsSound (with_line above meaning)
 said_sound form above text meaning e s =
-    line_gives form above (λ (m : Line). IsSound (with_line above m)) (record {
+    line_gives form above (λ (m : Meaning). IsSound (with_line above m)) (record {
       skip = unplanned above.verdicts above.wait above.fates s;
       clock = λ start step first. unplanned above.verdicts above.wait above.fates s;
       customer = λ key party first. unplanned above.verdicts above.wait above.fates s;
@@ -131,23 +131,24 @@ said_sound form above text meaning e s =
       link = λ fate fits first. more_fate above.verdicts above.wait above.fates fate s fits first;
     }) text meaning e
 
-all_sound : (form : Form) (before : List Line) (lines : List (List ℕ)) (meanings : List Line) → EachSays form before lines
+all_sound : (form : Form) (before : List Meaning) (lines : List (List ℕ)) (meanings : List Meaning) → EachSays form before lines
     meanings → IsSound (above_of before)
     → IsSound (above_of (before ++ meanings))
-all_sound form before [] [] h s = subst (λ (b : List Line). IsSound (above_of b)) (sym (append-nil before)) s
+all_sound form before [] [] h s = subst (λ (b : List Meaning). IsSound (above_of b)) (sym (append-nil before)) s
 all_sound form before [] (m ∷ ms) h s = absurd h
 all_sound form before (l ∷ ls) [] h s = absurd h
 all_sound form before (l ∷ ls) (m ∷ ms) h s =
     let one : IsSound (above_of (before ++ m ∷ [])) = subst IsSound (sym (above_more before m)) (said_sound form (above_of before)
     l m h.0 s) in
-    subst (λ (b : List Line). IsSound (above_of b)) (append_assoc before (m ∷ []) ms) (all_sound form (before ++ m ∷ []) ls ms h.1
+    subst (λ (b : List Meaning). IsSound (above_of b)) (append_assoc before (m ∷ []) ms)
+    (all_sound form (before ++ m ∷ []) ls ms h.1
     one)
 
 waits : (o : Option ℕ) → IfSome o (λ seconds. seconds ≤ MAX_WAIT) → unwrap_or o FIRST_WAIT ≤ MAX_WAIT
 waits None h = omega arith
 waits (Some seconds) h = h
 
-pub plan_sound : (form : Form) (lines : List (List ℕ)) (meanings : List Line) → EachSays form [] lines meanings →
+pub plan_sound : (form : Form) (lines : List (List ℕ)) (meanings : List Meaning) → EachSays form [] lines meanings →
     IsPlanned (plan_of meanings)
 plan_sound form lines meanings h =
     let s = all_sound form [] lines meanings h (record {

@@ -18,7 +18,7 @@ use Rattle.std.proofs.lemmas.List.Elements.{filter_map-append}
 use Rattle.std.proofs.lemmas.List.Sums.{sum_by-append}
 use Rattle.std.proofs.lemmas.Slice.Eq.{bytes_eq-Decides}
 use Rattle.std.proofs.lemmas.Str.{is_utf8-from_IsUtf8, IsUtf8-from_is_utf8}
-use Rattle.agency_rules.specs.Judgement.{verdict_for}
+use Rattle.agency_rules.specs.Judging.{verdict_for}
 use Rattle.agency_rules.specs.Plans.{fate_at}
 use Rattle.agency_rules.specs.declared.plans.Fate.{Fate}
 use Rattle.agency_rules.specs.declared.plans.Fate.TheVariants.{Lost, Taken, Stale, Again, Late}
@@ -26,7 +26,7 @@ use Rattle.agency_rules.specs.declared.plans.PlannedFate.{PlannedFate}
 use Rattle.agency_rules.specs.declared.plans.PlannedVerdict.{PlannedVerdict}
 use Rattle.parties.specs.declared.name.Party.{Party}
 use Rattle.record_fields.specs.Picks.{first_of, when}
-use Rattle.shop_core.specs.Asked.{Asked}
+use Rattle.shop_core.specs.Requests.{Asked}
 use Rattle.shop_core.specs.declared.requests.Request.{Request}
 use Rattle.shop_core.specs.declared.words.Word.{Word}
 use Rattle.shop_core.specs.declared.words.Word.TheVariants as word
@@ -36,7 +36,7 @@ use Rattle.script.specs.Numbers.{number_in}
 use Rattle.series.specs.Numbers.{is_num_serie}
 use Rattle.script.specs.Planned.{IsPlannedVerdict, IsPlannedFate, IsPlannedCall}
 use Rattle.script.specs.Readings.{is_key, is_nif, fate_of}
-use Rattle.script.specs.Kept.{Answers, IsNew, IsRead, known, party_of}
+use Rattle.script.specs.SoFar.{IsSaid, IsNew, IsSoFar, known, party_of}
 use Rattle.script.specs.Lines.{Above, above_of, said, line_said, fields_said, form_said, clock_said, customer_said, command_said}
 use Rattle.script.specs.Lines.{request_said, name_said, has_commands, is_skipped, verdict_of, verdict_said, wait_said, late_said}
 use Rattle.script.specs.Lines.{fate_said, link_said, planned_said, clock_in, ask_in, party_in, verdict_in, wait_in, fate_in}
@@ -48,8 +48,8 @@ use Rattle.script.specs.declared.faults.Fault.TheVariants as fault
 use Rattle.script.specs.declared.forms.Form.{Form}
 use Rattle.script.specs.declared.limits.TheConstants.{MAX_START, MAX_STEP, MAX_CUSTOMERS, MAX_COMMANDS, MAX_NTH, MAX_CODE}
 use Rattle.script.specs.declared.limits.TheConstants.{MAX_WAIT, MAX_CALL, MAX_LATE}
-use Rattle.script.specs.declared.lines.Line.{Line}
-use Rattle.script.specs.declared.lines.Line.TheVariants as line
+use Rattle.script.specs.declared.lines.Meaning.{Meaning}
+use Rattle.script.specs.declared.lines.Meaning.TheVariants as line
 use Rattle.script.specs.declared.planning.Judging.{Judging}
 use Rattle.script.specs.declared.planning.Judging.TheVariants as judging
 use Rattle.script.specs.declared.requests.Command.{Command}
@@ -59,14 +59,14 @@ use Rattle.script.proofs.Gathering.{first_more, or_none}
 
 -- an answer of an earlier step is handed on
 
-pub passes_on : {A B : Type 0} (bad : Fault) (first : Result A Word) (next : A → Result B Word) → Answers {A = A} first (Err bad)
-    → Answers {A = B} (and_then first next) (Err bad)
+pub passes_on : {A B : Type 0} (bad : Fault) (first : Result A Word) (next : A → Result B Word) → IsSaid {A = A} first (Err bad)
+    → IsSaid {A = B} (and_then first next) (Err bad)
 passes_on (fault.Bad w) first next h = rw h refl
 passes_on fault.NoMemory first next h = tt
 
-pub answers_along : {B : Type 0} (one other : Result B Word) (answer : Result B Fault) → one ≡ other → Answers other answer →
-    Answers one answer
-answers_along {B} one other answer e h = subst (λ (r : Result B Word). Answers r answer) (sym e) h
+pub answers_along : {B : Type 0} (one other : Result B Word) (answer : Result B Fault) → one ≡ other → IsSaid other answer →
+    IsSaid one answer
+answers_along {B} one other answer e h = subst (λ (r : Result B Word). IsSaid r answer) (sym e) h
 
 -- a line that is read, and one that is no text
 
@@ -90,17 +90,17 @@ no_text form above text some hash utf8 = rw (some, other_than (get_or text 0 0) 
 
 -- what a line that says something says
 
-once : {A : Type 0} (P : Line → Type 0) (o : Option A) (meaning : Line) → (o ≡ None → P meaning)
+once : {A : Type 0} (P : Meaning → Type 0) (o : Option A) (meaning : Meaning) → (o ≡ None → P meaning)
     → IfOk (unless_any (when (is_some o) word.Twice ∷ []) (Ok meaning)) P
 once P None meaning h = h refl
 once P (Some x) meaning h = tt
 
-worded_gives : (P : Line → Type 0) (o : Option Word) (answer : Result Line Word) → IfOk answer P → IfOk (word_or o answer) P
+worded_gives : (P : Meaning → Type 0) (o : Option Word) (answer : Result Meaning Word) → IfOk answer P → IfOk (word_or o answer) P
 worded_gives P None answer h = h
 worded_gives P (Some w) answer h = tt
 
 -- what holds of each line that may stand below these
-pub record Gives (form : Form) (above : Above) (P : Line → Type 0) : Type 0 where
+pub record Gives (form : Form) (above : Above) (P : Meaning → Type 0) : Type 0 where
   pub skip : P line.Skip
   pub clock : (start step : ℕ) → above.clock ≡ None → P (line.Clock start step)
   pub customer : (key : List ℕ) (party : Party) → above.party key ≡ None → P (line.Customer key party)
@@ -110,7 +110,7 @@ pub record Gives (form : Form) (above : Above) (P : Line → Type 0) : Type 0 wh
   pub wait : (seconds : ℕ) → seconds ≤ MAX_WAIT → above.wait ≡ None → P (line.Wait seconds)
   pub link : (fate : PlannedFate) → IsPlannedCall fate → fate_at above.fates fate.call ≡ None → P (line.Link fate)
 
-clock_shape : (P : Line → Type 0) (above : Above) (a b : Result ℕ Word) (o : Option Word) →
+clock_shape : (P : Meaning → Type 0) (above : Above) (a b : Result ℕ Word) (o : Option Word) →
     ((start step : ℕ) → above.clock ≡ None → P (line.Clock start step))
     → IfOk (and_then a (λ start. and_then b (λ step. word_or o (unless_any (when (is_some above.clock) word.Twice ∷ [])
     (Ok (line.Clock start step)))))) P
@@ -119,7 +119,7 @@ clock_shape P above (Ok start) (Err w) o h = tt
 clock_shape P above (Ok start) (Ok step) (Some w) h = tt
 clock_shape P above (Ok start) (Ok step) None h = once P above.clock (line.Clock start step) (h start step)
 
-customer_shape : (P : Line → Type 0) (above : Above) (o : Option Word) (a b n : Result (List ℕ) Word) →
+customer_shape : (P : Meaning → Type 0) (above : Above) (o : Option Word) (a b n : Result (List ℕ) Word) →
     ((key : List ℕ) (party : Party) → above.party key ≡ None → P (line.Customer key party))
     → IfOk (word_or o (and_then a (λ key. and_then b (λ nif. and_then n
     (λ name. unless_any (when (is_some (above.party key)) word.Twice ∷ [])
@@ -135,7 +135,7 @@ room : (n : ℕ) → nat_le MAX_COMMANDS n ≡ false → n < MAX_COMMANDS
 room n h = grind (arith, nat_tests)
 
 -- in a script with commands, below so many of them
-command_shape : (P : Line → Type 0) (commands many : Bool) (a b : Result ℕ Word) (r : Result Request Word) →
+command_shape : (P : Meaning → Type 0) (commands many : Bool) (a b : Result ℕ Word) (r : Result Request Word) →
     ((ask : Asked) → commands ≡ true → many ≡ false → P (line.Command ask))
     → IfOk (unless_any (when (not commands) word.Command ∷ when many word.TooMany ∷ [])
     (and_then a (λ till. and_then b (λ serial. and_then r
@@ -213,7 +213,7 @@ verdict_fits : (judging : Judging) (num : List ℕ) (n code : ℕ) → IsInRange
 verdict_fits judging.Vet num n code h k = (h, k)
 verdict_fits judging.Warn num n code h k = (h, k)
 
-verdict_shape : (P : Line → Type 0) (judging : Judging) (above : Above) (a : Result (List ℕ) Word) (b d : Result ℕ Word)
+verdict_shape : (P : Meaning → Type 0) (judging : Judging) (above : Above) (a : Result (List ℕ) Word) (b d : Result ℕ Word)
     (o : Option Word)
     → IfOk b (IsInRange 1 MAX_NTH) → IfOk d (IsInRange 1 MAX_CODE)
     → ((verdict : PlannedVerdict) → IsPlannedVerdict verdict → verdict_for above.verdicts verdict.num verdict.n ≡ None →
@@ -229,14 +229,14 @@ verdict_shape P judging above (Ok num) (Ok n) (Ok code) None nth coded h =
     let verdict : PlannedVerdict = record { num = num; n = n; verdict = verdict_of judging code } in
     once P (verdict_for above.verdicts num n) (line.Verdict verdict) (h verdict (verdict_fits judging num n code nth coded))
 
-wait_shape : (P : Line → Type 0) (above : Above) (a : Result ℕ Word) (o : Option Word) → IfOk a (IsInRange 0 MAX_WAIT)
+wait_shape : (P : Meaning → Type 0) (above : Above) (a : Result ℕ Word) (o : Option Word) → IfOk a (IsInRange 0 MAX_WAIT)
     → ((seconds : ℕ) → seconds ≤ MAX_WAIT → above.wait ≡ None → P (line.Wait seconds))
     → IfOk (and_then a (λ seconds. word_or o (unless_any (when (is_some above.wait) word.Twice ∷ []) (Ok (line.Wait seconds))))) P
 wait_shape P above (Err w) o range h = tt
 wait_shape P above (Ok seconds) (Some w) range h = tt
 wait_shape P above (Ok seconds) None range h = once P above.wait (line.Wait seconds) (h seconds range.1)
 
-link_shape : (P : Line → Type 0) (above : Above) (a : Result ℕ Word) (b : Result Fate Word) → IfOk a (IsInRange 1 MAX_CALL) →
+link_shape : (P : Meaning → Type 0) (above : Above) (a : Result ℕ Word) (b : Result Fate Word) → IfOk a (IsInRange 1 MAX_CALL) →
     IfOk b IsPlannedFate
     → ((fate : PlannedFate) → IsPlannedCall fate → fate_at above.fates fate.call ≡ None → P (line.Link fate))
     → IfOk (and_then a (λ call. and_then b (λ fate. unless_any (when (is_some (fate_at above.fates call)) word.Twice ∷ [])
@@ -247,14 +247,14 @@ link_shape P above (Ok call) (Ok fate) range fits h =
     let planned : PlannedFate = record { call = call; fate = fate } in once P (fate_at above.fates call) (line.Link planned)
     (h planned (range, fits))
 
-command_gives : (form : Form) (above : Above) (P : Line → Type 0) → Gives form above P →
+command_gives : (form : Form) (above : Above) (P : Meaning → Type 0) → Gives form above P →
     (command : Command) (fields : List (List ℕ)) → IfOk (command_said form above command fields) P
 command_gives form above P g command fields =
     command_shape P (has_commands form) (nat_le MAX_COMMANDS above.commands) (field_at 0 fields (number_in 1 64) word.Till)
     (field_at 1 fields (number_in 1 4_294_967_295) word.Number)
     (request_said command above.party (past 2 fields)) (λ ask full few. g.command ask full (room above.commands few))
 
-verdict_gives : (form : Form) (above : Above) (P : Line → Type 0) → Gives form above P →
+verdict_gives : (form : Form) (above : Above) (P : Meaning → Type 0) → Gives form above P →
     (judging : Judging) (fields : List (List ℕ)) → IfOk (verdict_said judging above fields) P
 verdict_gives form above P g judging fields =
     verdict_shape P judging above (field_at 0 fields (such is_num_serie) word.Num) (field_at 1 fields (number_in 1 MAX_NTH)
@@ -262,12 +262,13 @@ verdict_gives form above P g judging fields =
     (field_at 2 fields (number_in 1 MAX_CODE) word.Number) (first_of (when (is_left (past 3 fields)) word.Fields ∷ []))
     (first_range 1 MAX_NTH (past 1 fields) word.Number) (first_range 1 MAX_CODE (past 2 fields) word.Number) g.verdict
 
-choice : (P : Line → Type 0) (b : Bool) (one other : Result Line Word) → IfOk one P → IfOk other P →
+choice : (P : Meaning → Type 0) (b : Bool) (one other : Result Meaning Word) → IfOk one P → IfOk other P →
     IfOk (if b then one else other) P
 choice P true one other h k = h
 choice P false one other h k = k
 
-planned_gives : (form : Form) (above : Above) (P : Line → Type 0) → Gives form above P → (verb : List ℕ) (fields : List (List ℕ))
+planned_gives : (form : Form) (above : Above) (P : Meaning → Type 0) → Gives form above P → (verb : List ℕ)
+    (fields : List (List ℕ))
     → IfOk (planned_said above verb fields) P
 planned_gives form above P g verb fields =
     let linked = if bytes_eq verb (codes "link") then link_said above fields else Err word.Verb in
@@ -285,7 +286,8 @@ planned_gives form above P g verb fields =
     (link_shape P above (field_at 0 fields (number_in 1 MAX_CALL) word.Number) (fate_said (past 1 fields))
     (first_range 1 MAX_CALL fields word.Number) (fate_fits (past 1 fields)) g.link) tt)))
 
-form_gives : (form : Form) (above : Above) (P : Line → Type 0) → Gives form above P → (verb : List ℕ) (fields : List (List ℕ)) →
+form_gives : (form : Form) (above : Above) (P : Meaning → Type 0) → Gives form above P → (verb : List ℕ)
+    (fields : List (List ℕ)) →
     IfOk (form_said form above verb fields) P
 form_gives form above P g verb fields =
     let cancelled = command_said form above command.Cancel fields in
@@ -309,21 +311,21 @@ form_gives form above P g verb fields =
     (choice P (bytes_eq verb (codes "cancel")) cancelled planned (command_gives form above P g command.Cancel fields)
     (planned_gives form above P g verb fields)))))
 
-fields_give : (form : Form) (above : Above) (P : Line → Type 0) → Gives form above P → (fields : List (List ℕ)) →
+fields_give : (form : Form) (above : Above) (P : Meaning → Type 0) → Gives form above P → (fields : List (List ℕ)) →
     IfOk (fields_said form above fields) P
 fields_give form above P g [] = tt
 fields_give form above P g (verb ∷ fields) = form_gives form above P g verb fields
 
-pub line_gives : (form : Form) (above : Above) (P : Line → Type 0) → Gives form above P → (text : List ℕ) (meaning : Line) →
+pub line_gives : (form : Form) (above : Above) (P : Meaning → Type 0) → Gives form above P → (text : List ℕ) (meaning : Meaning) →
     line_said form above text ≡ Ok meaning → P meaning
 line_gives form above P g text meaning e =
     let fields = fields_said form above (parts_of 32 text) in
     let utf8 = first_of (when (not (is_utf8 text)) word.Utf8 ∷ []) in
-    subst (λ (r : Result Line Word). IfOk r P) e
+    subst (λ (r : Result Meaning Word). IfOk r P) e
     (choice P (is_skipped text) (Ok line.Skip) (word_or utf8 fields) g.skip
     (worded_gives P utf8 fields (fields_give form above P g (parts_of 32 text))))
 
-pub said_is_new : (form : Form) (above : Above) (text : List ℕ) (meaning : Line) → line_said form above text ≡ Ok meaning →
+pub said_is_new : (form : Form) (above : Above) (text : List ℕ) (meaning : Meaning) → line_said form above text ≡ Ok meaning →
     IsNew above meaning
 said_is_new form above text meaning e =
     line_gives form above (IsNew above) (record {
@@ -338,10 +340,11 @@ said_is_new form above text meaning e =
 
 -- without commands no line asks for anything
 
-no_ask : (form : Form) (above : Above) (text : List ℕ) (meaning : Line) → has_commands form ≡ false → line_said form above text ≡
+no_ask : (form : Form) (above : Above) (text : List ℕ) (meaning : Meaning) → has_commands form ≡ false →
+    line_said form above text ≡
     Ok meaning → ask_in meaning ≡ None
 no_ask form above text meaning none e =
-    line_gives form above (λ (m : Line). ask_in m ≡ None) (record {
+    line_gives form above (λ (m : Meaning). ask_in m ≡ None) (record {
       skip = refl;
       clock = λ start step first. refl;
       customer = λ key party first. refl;
@@ -351,11 +354,12 @@ no_ask form above text meaning none e =
       link = λ fate fits first. refl;
     }) text meaning e
 
-skipped : (meaning : Line) (meanings : List Line) → ask_in meaning ≡ None → filter_map ask_in meanings ≡ [] →
+skipped : (meaning : Meaning) (meanings : List Meaning) → ask_in meaning ≡ None → filter_map ask_in meanings ≡ [] →
     filter_map ask_in (meaning ∷ meanings) ≡ []
 skipped meaning meanings none rest = rw none rest
 
-pub no_asks : (form : Form) (before : List Line) (lines : List (List ℕ)) (meanings : List Line) → has_commands form ≡ false →
+pub no_asks : (form : Form) (before : List Meaning) (lines : List (List ℕ)) (meanings : List Meaning) →
+    has_commands form ≡ false →
     EachSays form before lines meanings
     → filter_map ask_in meanings ≡ []
 no_asks form before [] [] none h = refl
@@ -366,7 +370,7 @@ no_asks form before (l ∷ ls) (m ∷ ms) none h =
 
 -- what is above one line more
 
-abbrev pub with_line : Above → Line → Above
+abbrev pub with_line : Above → Meaning → Above
 with_line above meaning = record {
   clock = option_or above.clock (clock_in meaning);
   commands = above.commands + count_by is_command (meaning ∷ []);
@@ -399,12 +403,13 @@ same_above one other s =
       s.fates,
     ) refl
 
-pub above_more : (before : List Line) (meaning : Line) → above_of (before ++ meaning ∷ []) ≡ with_line (above_of before) meaning
+pub above_more : (before : List Meaning) (meaning : Meaning) →
+    above_of (before ++ meaning ∷ []) ≡ with_line (above_of before) meaning
 above_more before meaning =
     same_above (above_of (before ++ meaning ∷ [])) (with_line (above_of before) meaning) (record {
       clock = first_more clock_in before meaning;
-      commands = sum_by-append (λ (l : Line). cond (is_command l) 1 0) before (meaning ∷ []);
-      customers = sum_by-append (λ (l : Line). cond (is_customer l) 1 0) before (meaning ∷ []);
+      commands = sum_by-append (λ (l : Meaning). cond (is_command l) 1 0) before (meaning ∷ []);
+      customers = sum_by-append (λ (l : Meaning). cond (is_customer l) 1 0) before (meaning ∷ []);
       party = λ key. first_more (party_in key) before meaning;
       verdicts = filter_map-append verdict_in before (meaning ∷ []);
       wait = first_more wait_in before meaning;
@@ -412,10 +417,10 @@ above_more before meaning =
     })
 
 -- one line more was read
-read_more : (before : List Line) (meaning : Line) (old new : SoFar) → IsRead before old →
+read_more : (before : List Meaning) (meaning : Meaning) (old new : SoFar) → IsSoFar before old →
     IsSame (known new) (with_line (known old) meaning)
     → new.asks.items ≡ old.asks.items ++ filter_map ask_in (meaning ∷ []) → length new.asks.items ≤ MAX_COMMANDS →
-    IsRead (before ++ meaning ∷ []) new
+    IsSoFar (before ++ meaning ∷ []) new
 read_more before meaning old new r same asks few = record {
   above = same_above (known new) (with_line (known old) meaning) same ∙ ap (λ (above : Above). with_line above meaning) r.above ∙
       sym (above_more before meaning);
@@ -426,7 +431,7 @@ read_more before meaning old new r same asks few = record {
 none_more : (n : ℕ) → n ≡ n + 0
 none_more n = omega arith
 
-pub read_skip : (before : List Line) (read : SoFar) → IsRead before read → IsRead (before ++ line.Skip ∷ []) read
+pub read_skip : (before : List Meaning) (read : SoFar) → IsSoFar before read → IsSoFar (before ++ line.Skip ∷ []) read
 read_skip before read r = read_more before line.Skip read read r (record {
   clock = or_none read.clock;
   commands = none_more (length read.asks.items);
@@ -440,8 +445,8 @@ read_skip before read r = read_more before line.Skip read read r (record {
 first_one : {A : Type 0} (o : Option A) (x : A) → o ≡ None → Some x ≡ option_or o (Some x)
 first_one {A} o x none = subst (λ (p : Option A). Some x ≡ option_or p (Some x)) (sym none) refl
 
-pub read_clock : (before : List Line) (read : SoFar) (start step : ℕ) → IsRead before read → read.clock ≡ None
-    → IsRead (before ++ line.Clock start step ∷ []) (record read { clock = Some (start, step) })
+pub read_clock : (before : List Meaning) (read : SoFar) (start step : ℕ) → IsSoFar before read → read.clock ≡ None
+    → IsSoFar (before ++ line.Clock start step ∷ []) (record read { clock = Some (start, step) })
 read_clock before read start step r none =
     let now : ℕ × ℕ = (start, step) in
     read_more before (line.Clock start step) read (record read { clock = Some now }) r (record {
@@ -461,11 +466,11 @@ party_new key other party of true e none =
     subst (λ (o : Option Party). Some party ≡ option_or o (Some party)) (sym none ∙ ap of same) refl
 party_new key other party of false e none = or_none (of other)
 
-pub read_customer : (before : List Line) (read : SoFar) (customers : Customers) (key : List ℕ) (party : Party) →
-    IsRead before read → party_of read.customers key ≡ None
+pub read_customer : (before : List Meaning) (read : SoFar) (customers : Customers) (key : List ℕ) (party : Party) →
+    IsSoFar before read → party_of read.customers key ≡ None
     → btree_map_len customers.by_key ≡ btree_map_len read.customers.by_key + 1
     → ((other : List ℕ) → party_of customers other ≡ (if bytes_eq key other then Some party else party_of read.customers other))
-    → IsRead (before ++ line.Customer key party ∷ []) (record read { customers = customers })
+    → IsSoFar (before ++ line.Customer key party ∷ []) (record read { customers = customers })
 read_customer before read customers key party r none count found =
     read_more before (line.Customer key party) read (record read { customers = customers }) r
     (record {
@@ -479,9 +484,9 @@ read_customer before read customers key party r none count found =
     })
     (sym (append-nil _)) r.few
 
-pub read_command : (before : List Line) (read : SoFar) (ask : Asked) (asks : Vec Asked Global) → IsRead before read →
+pub read_command : (before : List Meaning) (read : SoFar) (ask : Asked) (asks : Vec Asked Global) → IsSoFar before read →
     length read.asks.items < MAX_COMMANDS → asks.items ≡ read.asks.items ++ ask ∷ []
-    → IsRead (before ++ line.Command ask ∷ []) (record read { asks = asks })
+    → IsSoFar (before ++ line.Command ask ∷ []) (record read { asks = asks })
 read_command before read ask asks r less e =
     let more = ap length e ∙ length-append read.asks.items (ask ∷ []) in
     read_more before (line.Command ask) read (record read { asks = asks }) r (record {
@@ -494,9 +499,9 @@ read_command before read ask asks r less e =
       fates = sym (append-nil read.fates);
     }) e (omega arith)
 
-pub read_verdict : (before : List Line) (read : SoFar) (verdict : PlannedVerdict) (verdicts : List PlannedVerdict) →
-    IsRead before read → verdicts ≡ read.verdicts ++ verdict ∷ []
-    → IsRead (before ++ line.Verdict verdict ∷ []) (record read { verdicts = verdicts })
+pub read_verdict : (before : List Meaning) (read : SoFar) (verdict : PlannedVerdict) (verdicts : List PlannedVerdict) →
+    IsSoFar before read → verdicts ≡ read.verdicts ++ verdict ∷ []
+    → IsSoFar (before ++ line.Verdict verdict ∷ []) (record read { verdicts = verdicts })
 read_verdict before read verdict verdicts r e =
     read_more before (line.Verdict verdict) read (record read { verdicts = verdicts }) r (record {
       clock = or_none read.clock;
@@ -508,8 +513,8 @@ read_verdict before read verdict verdicts r e =
       fates = sym (append-nil read.fates);
     }) (sym (append-nil _)) r.few
 
-pub read_wait : (before : List Line) (read : SoFar) (seconds : ℕ) → IsRead before read → read.wait ≡ None
-    → IsRead (before ++ line.Wait seconds ∷ []) (record read { wait = Some seconds })
+pub read_wait : (before : List Meaning) (read : SoFar) (seconds : ℕ) → IsSoFar before read → read.wait ≡ None
+    → IsSoFar (before ++ line.Wait seconds ∷ []) (record read { wait = Some seconds })
 read_wait before read seconds r none =
     read_more before (line.Wait seconds) read (record read { wait = Some seconds }) r (record {
       clock = or_none read.clock;
@@ -521,9 +526,9 @@ read_wait before read seconds r none =
       fates = sym (append-nil read.fates);
     }) (sym (append-nil _)) r.few
 
-pub read_link : (before : List Line) (read : SoFar) (fate : PlannedFate) (fates : List PlannedFate) → IsRead before read →
+pub read_link : (before : List Meaning) (read : SoFar) (fate : PlannedFate) (fates : List PlannedFate) → IsSoFar before read →
     fates ≡ read.fates ++ fate ∷ []
-    → IsRead (before ++ line.Link fate ∷ []) (record read { fates = fates })
+    → IsSoFar (before ++ line.Link fate ∷ []) (record read { fates = fates })
 read_link before read fate fates r e =
     read_more before (line.Link fate) read (record read { fates = fates }) r (record {
       clock = or_none read.clock;
@@ -537,18 +542,19 @@ read_link before read fate fates r e =
 
 -- all lines, those that were read and those to come
 
-each_more : (form : Form) (before : List Line) (lines : List (List ℕ)) (meanings : List Line) (text : List ℕ) (meaning : Line)
+each_more : (form : Form) (before : List Meaning) (lines : List (List ℕ)) (meanings : List Meaning) (text : List ℕ)
+    (meaning : Meaning)
     → EachSays form before lines meanings → said form (before ++ meanings) text ≡ Ok meaning →
     EachSays form before (lines ++ text ∷ []) (meanings ++ meaning ∷ [])
 each_more form before [] [] text meaning h e = (
-  subst (λ (b : List Line). said form b text ≡ Ok meaning) (append-nil before) e,
+  subst (λ (b : List Meaning). said form b text ≡ Ok meaning) (append-nil before) e,
   tt,
 )
 each_more form before [] (x ∷ xs) text meaning h e = absurd h
 each_more form before (l ∷ ls) [] text meaning h e = absurd h
 each_more form before (l ∷ ls) (x ∷ xs) text meaning h e = (
   h.0,
-  each_more form (before ++ x ∷ []) ls xs text meaning h.1 (subst (λ (b : List Line). said form b text ≡ Ok meaning)
+  each_more form (before ++ x ∷ []) ls xs text meaning h.1 (subst (λ (b : List Meaning). said form b text ≡ Ok meaning)
       (sym (append_assoc before (x ∷ []) xs)) e),
 )
 
@@ -556,15 +562,15 @@ abbrev pub to_come : List (List ℕ) → List (List ℕ)
 to_come lines = map strip_carriage_return lines
 
 -- all lines are those that were read and those to come, and as many were numbered as were read
-pub record IsPartway (form : Form) (all front left : List (List ℕ)) (meanings : List Line) (number : ℕ) (read : SoFar) : Type 0
+pub record IsPartway (form : Form) (all front left : List (List ℕ)) (meanings : List Meaning) (number : ℕ) (read : SoFar) : Type 0
   where
     pub split : all ≡ front ++ to_come left
     pub each : EachSays form [] front meanings
     pub numbered : number ≡ length front
-    pub good : IsRead meanings read
+    pub good : IsSoFar meanings read
 
-said_here : (form : Form) (meanings : List Line) (read : SoFar) (line text : List ℕ) (answer : Result Line Word)
-    → IsRead meanings read → line ≡ strip_carriage_return text → line_said form (known read) line ≡ answer →
+said_here : (form : Form) (meanings : List Meaning) (read : SoFar) (line text : List ℕ) (answer : Result Meaning Word)
+    → IsSoFar meanings read → line ≡ strip_carriage_return text → line_said form (known read) line ≡ answer →
     said form meanings (strip_carriage_return text) ≡ answer
 said_here form meanings read line text answer r e h =
     subst (λ (above : Above). line_said form above (strip_carriage_return text) ≡ answer) r.above
@@ -574,10 +580,11 @@ onward : (all front left after : List (List ℕ)) (text : List ℕ) → all ≡ 
     → all ≡ front ++ strip_carriage_return text ∷ to_come after
 onward all front left after text split e = split ∙ ap (λ (ls : List (List ℕ)). front ++ to_come ls) e
 
-pub next_line : (form : Form) (all front left after : List (List ℕ)) (meanings : List Line) (line text : List ℕ) (meaning : Line)
+pub next_line : (form : Form) (all front left after : List (List ℕ)) (meanings : List Meaning) (line text : List ℕ)
+    (meaning : Meaning)
     (number : ℕ) (read new : SoFar)
     → IsPartway form all front left meanings number read → left ≡ text ∷ after → line ≡ strip_carriage_return text
-    → line_said form (known read) line ≡ Ok meaning → IsRead (meanings ++ meaning ∷ []) new
+    → line_said form (known read) line ≡ Ok meaning → IsSoFar (meanings ++ meaning ∷ []) new
     → IsPartway form all (front ++ strip_carriage_return text ∷ []) after (meanings ++ meaning ∷ []) (number + 1) new
 next_line form all front left after meanings line text meaning number read new h e cut is good = record {
   split = onward all front left after text h.split e ∙ sym (append_assoc front (strip_carriage_return text ∷ []) (to_come after));
@@ -587,7 +594,7 @@ next_line form all front left after meanings line text meaning number read new h
   good = good;
 }
 
-pub first_bad : (form : Form) (all front left after : List (List ℕ)) (meanings : List Line) (line text : List ℕ) (w : Word)
+pub first_bad : (form : Form) (all front left after : List (List ℕ)) (meanings : List Meaning) (line text : List ℕ) (w : Word)
     (number : ℕ) (read : SoFar)
     → IsPartway form all front left meanings number read → left ≡ text ∷ after → line ≡ strip_carriage_return text
     → line_said form (known read) line ≡ Err w → IsFirstBad form all (number + 1) w

@@ -5,7 +5,7 @@ pub mod Readings
 pub mod Options
 pub mod Lines
 pub mod Script
-pub mod Kept
+pub mod SoFar
 pub mod Gathered
 pub mod Tables
 pub mod Planned

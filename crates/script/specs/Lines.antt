@@ -4,7 +4,7 @@ use Rattle.std.specs.Prelude.{nat_le, slice_index, if◌then◌else◌, is_some,
 use Rattle.std.specs.List.{join_with_byte}
 use Rattle.std.specs.Option.{ok_or}
 use Rattle.std.specs.Str.{is_utf8}
-use Rattle.agency_rules.specs.Judgement.{verdict_for}
+use Rattle.agency_rules.specs.Judging.{verdict_for}
 use Rattle.agency_rules.specs.Plans.{fate_at}
 use Rattle.agency_rules.specs.declared.plans.Fate.{Fate}
 use Rattle.agency_rules.specs.declared.plans.Fate.TheVariants.{Late}
@@ -17,7 +17,7 @@ use Rattle.parties.specs.declared.name.Party.{Party}
 use Rattle.record_fields.specs.Picks.{first_of, when}
 use Rattle.record_fields.specs.declared.drafts.Draft.{Draft}
 use Rattle.series.specs.Numbers.{is_series, is_num_serie}
-use Rattle.shop_core.specs.Asked.{Asked}
+use Rattle.shop_core.specs.Requests.{Asked}
 use Rattle.shop_core.specs.declared.requests.Request.{Request}
 use Rattle.shop_core.specs.declared.requests.Request.TheVariants.{Sale, Fix, Cancel}
 use Rattle.shop_core.specs.declared.words.Word.{Word}
@@ -35,80 +35,45 @@ use Rattle.script.specs.declared.requests.Command.{Command}
 use Rattle.script.specs.declared.requests.Command.TheVariants as command
 use Rattle.script.specs.declared.limits.TheConstants.{MAX_START, MAX_STEP, MAX_CUSTOMERS, MAX_COMMANDS, MAX_NTH, MAX_CODE}
 use Rattle.script.specs.declared.limits.TheConstants.{MAX_WAIT, MAX_CALL, MAX_LATE}
-use Rattle.script.specs.declared.lines.Line.{Line}
-use Rattle.script.specs.declared.lines.Line.TheVariants as line
+use Rattle.script.specs.declared.lines.Meaning.{Meaning}
+use Rattle.script.specs.declared.lines.Meaning.TheVariants as line
 
 -- commands may stand in the script
 abbrev pub has_commands : Form → Bool
 has_commands Full = true
 has_commands NoCommands = false
 
-abbrev pub clock_in : Line → Option (ℕ × ℕ)
-clock_in line.Skip = None
+abbrev pub clock_in : Meaning → Option (ℕ × ℕ)
 clock_in (line.Clock start step) = Some (start, step)
-clock_in (line.Customer key party) = None
-clock_in (line.Command ask) = None
-clock_in (line.Verdict verdict) = None
-clock_in (line.Wait seconds) = None
-clock_in (line.Link fate) = None
+clock_in other = None
 
-abbrev pub ask_in : Line → Option Asked
-ask_in line.Skip = None
-ask_in (line.Clock start step) = None
-ask_in (line.Customer key party) = None
+abbrev pub ask_in : Meaning → Option Asked
 ask_in (line.Command ask) = Some ask
-ask_in (line.Verdict verdict) = None
-ask_in (line.Wait seconds) = None
-ask_in (line.Link fate) = None
+ask_in other = None
 
 -- the customer with this key
-abbrev pub party_in : List ℕ → Line → Option Party
-party_in key line.Skip = None
-party_in key (line.Clock start step) = None
+abbrev pub party_in : List ℕ → Meaning → Option Party
 party_in key (line.Customer own party) = when (bytes_eq own key) party
-party_in key (line.Command ask) = None
-party_in key (line.Verdict verdict) = None
-party_in key (line.Wait seconds) = None
-party_in key (line.Link fate) = None
+party_in key other = None
 
-abbrev pub verdict_in : Line → Option PlannedVerdict
-verdict_in line.Skip = None
-verdict_in (line.Clock start step) = None
-verdict_in (line.Customer key party) = None
-verdict_in (line.Command ask) = None
+abbrev pub verdict_in : Meaning → Option PlannedVerdict
 verdict_in (line.Verdict verdict) = Some verdict
-verdict_in (line.Wait seconds) = None
-verdict_in (line.Link fate) = None
+verdict_in other = None
 
-abbrev pub wait_in : Line → Option ℕ
-wait_in line.Skip = None
-wait_in (line.Clock start step) = None
-wait_in (line.Customer key party) = None
-wait_in (line.Command ask) = None
-wait_in (line.Verdict verdict) = None
+abbrev pub wait_in : Meaning → Option ℕ
 wait_in (line.Wait seconds) = Some seconds
-wait_in (line.Link fate) = None
+wait_in other = None
 
-abbrev pub fate_in : Line → Option PlannedFate
-fate_in line.Skip = None
-fate_in (line.Clock start step) = None
-fate_in (line.Customer key party) = None
-fate_in (line.Command ask) = None
-fate_in (line.Verdict verdict) = None
-fate_in (line.Wait seconds) = None
+abbrev pub fate_in : Meaning → Option PlannedFate
 fate_in (line.Link fate) = Some fate
+fate_in other = None
 
-abbrev pub is_command : Line → Bool
+abbrev pub is_command : Meaning → Bool
 is_command said = is_some (ask_in said)
 
-abbrev pub is_customer : Line → Bool
-is_customer line.Skip = false
-is_customer (line.Clock start step) = false
+abbrev pub is_customer : Meaning → Bool
 is_customer (line.Customer key party) = true
-is_customer (line.Command ask) = false
-is_customer (line.Verdict verdict) = false
-is_customer (line.Wait seconds) = false
-is_customer (line.Link fate) = false
+is_customer other = false
 
 -- what a line looks at of those above: a clock, how many commands and customers, the customer with a key, the verdicts, a
 -- pause, and the fates
@@ -121,7 +86,7 @@ pub record Above : Type 0 where
   pub wait : Option ℕ
   pub fates : List PlannedFate
 
-abbrev pub above_of : List Line → Above
+abbrev pub above_of : List Meaning → Above
 above_of before = record {
   clock = first_of (map clock_in before);
   commands = count_by is_command before;
@@ -133,7 +98,7 @@ above_of before = record {
 }
 
 -- `clock START STEP`, behind its first field
-abbrev pub clock_said : Above → List (List ℕ) → Result Line Word
+abbrev pub clock_said : Above → List (List ℕ) → Result Meaning Word
 clock_said above fields =
     and_then (field_at 0 fields (number_in 0 MAX_START) word.Number) (λ (start : ℕ).
     and_then (field_at 1 fields (number_in 0 MAX_STEP) word.Number) (λ (step : ℕ).
@@ -145,7 +110,7 @@ name_said [] = Err word.Fields
 name_said (field ∷ fields) = ok_or (such is_name (join_with_byte 32 (field ∷ fields))) word.Name
 
 -- `customer KEY NIF NAME`
-abbrev pub customer_said : Above → List (List ℕ) → Result Line Word
+abbrev pub customer_said : Above → List (List ℕ) → Result Meaning Word
 customer_said above fields =
     unless_any (when (nat_le MAX_CUSTOMERS above.customers) word.TooMany ∷ []) (
     and_then (field_at 0 fields (such is_key) word.Customer) (λ (key : List ℕ).
@@ -179,7 +144,7 @@ request_said command.Fix party_of fields = fix_said party_of fields
 request_said command.Cancel party_of fields = cancel_said fields
 
 -- a command, `TILL SERIAL` and then what it asks for
-abbrev pub command_said : Form → Above → Command → List (List ℕ) → Result Line Word
+abbrev pub command_said : Form → Above → Command → List (List ℕ) → Result Meaning Word
 command_said form above command fields =
     unless_any (when (not (has_commands form)) word.Command ∷ when (nat_le MAX_COMMANDS above.commands) word.TooMany ∷ []) (
     and_then (field_at 0 fields (number_in 1 64) word.Till) (λ (till : ℕ).
@@ -193,7 +158,7 @@ verdict_of judging.Vet code = Vet code
 verdict_of judging.Warn code = Warn code
 
 -- `vet NUM N CODE` or `warn NUM N CODE`: the verdict on the N-th record of this number that reaches the agency
-abbrev pub verdict_said : Judging → Above → List (List ℕ) → Result Line Word
+abbrev pub verdict_said : Judging → Above → List (List ℕ) → Result Meaning Word
 verdict_said judging above fields =
     and_then (field_at 0 fields (such is_num_serie) word.Num) (λ (num : List ℕ).
     and_then (field_at 1 fields (number_in 1 MAX_NTH) word.Number) (λ (n : ℕ).
@@ -202,7 +167,7 @@ verdict_said judging above fields =
     Ok (line.Verdict (record { num = num; n = n; verdict = verdict_of judging code })))))))
 
 -- `wait SECONDS`: the pause that the agency asks for after each answer
-abbrev pub wait_said : Above → List (List ℕ) → Result Line Word
+abbrev pub wait_said : Above → List (List ℕ) → Result Meaning Word
 wait_said above fields =
     and_then (field_at 0 fields (number_in 0 MAX_WAIT) word.Number) (λ (seconds : ℕ).
     ends_at 1 fields (unless_any (when (is_some above.wait) word.Twice ∷ []) (Ok (line.Wait seconds))))
@@ -220,7 +185,7 @@ fate_said (field ∷ fields) =
     else and_then (ok_or (fate_of field) word.Fate) (λ (fate : Fate). ends_at 0 fields (Ok fate))
 
 -- `link CALL FATE`: what befalls the call of this number
-abbrev pub link_said : Above → List (List ℕ) → Result Line Word
+abbrev pub link_said : Above → List (List ℕ) → Result Meaning Word
 link_said above fields =
     and_then (field_at 0 fields (number_in 1 MAX_CALL) word.Number) (λ (call : ℕ).
     and_then (fate_said (past 1 fields)) (λ (fate : Fate).
@@ -228,7 +193,7 @@ link_said above fields =
     (Ok (line.Link (record { call = call; fate = fate })))))
 
 -- a form that plans what the practice agency does
-abbrev pub planned_said : Above → List ℕ → List (List ℕ) → Result Line Word
+abbrev pub planned_said : Above → List ℕ → List (List ℕ) → Result Meaning Word
 planned_said above verb fields =
     if bytes_eq verb (codes "vet") then verdict_said judging.Vet above fields
     else if bytes_eq verb (codes "warn") then verdict_said judging.Warn above fields
@@ -237,7 +202,7 @@ planned_said above verb fields =
     else Err word.Verb
 
 -- the form that a first field begins
-abbrev pub form_said : Form → Above → List ℕ → List (List ℕ) → Result Line Word
+abbrev pub form_said : Form → Above → List ℕ → List (List ℕ) → Result Meaning Word
 form_said form above verb fields =
     if bytes_eq verb (codes "clock") then clock_said above fields
     else if bytes_eq verb (codes "customer") then customer_said above fields
@@ -246,7 +211,7 @@ form_said form above verb fields =
     else if bytes_eq verb (codes "cancel") then command_said form above command.Cancel fields
     else planned_said above verb fields
 
-abbrev pub fields_said : Form → Above → List (List ℕ) → Result Line Word
+abbrev pub fields_said : Form → Above → List (List ℕ) → Result Meaning Word
 fields_said form above [] = Err word.Verb
 fields_said form above (verb ∷ fields) = form_said form above verb fields
 
@@ -255,11 +220,11 @@ abbrev pub is_skipped : List ℕ → Bool
 is_skipped text = (length text == 0) || (slice_index text 0 == 35)
 
 -- what a line says below these; its fields are cut at each blank
-abbrev pub line_said : Form → Above → List ℕ → Result Line Word
+abbrev pub line_said : Form → Above → List ℕ → Result Meaning Word
 line_said form above text =
     if is_skipped text then Ok line.Skip
     else unless_any (when (not (is_utf8 text)) word.Utf8 ∷ []) (fields_said form above (parts_of 32 text))
 
 -- what a line says after the lines before it
-abbrev pub said : Form → List Line → List ℕ → Result Line Word
+abbrev pub said : Form → List Meaning → List ℕ → Result Meaning Word
 said form before text = line_said form (above_of before) text

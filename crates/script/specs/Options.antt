@@ -22,7 +22,7 @@ use Rattle.script.specs.Numbers.{cents_of}
 use Rattle.script.specs.Readings.{rect_of, day_of, class_of, is_breakdown}
 use Rattle.script.specs.declared.options.Item.{Item}
 use Rattle.script.specs.declared.options.Item.TheVariants.{To, Rect, Ref, Line}
-use Rattle.script.specs.declared.options.Seen.{Seen}
+use Rattle.script.specs.declared.options.FieldsSeen.{FieldsSeen}
 
 -- a field that holds `=` is an option
 abbrev pub is_option : List ℕ → Bool
@@ -33,7 +33,7 @@ abbrev pub is_named : List ℕ → List ℕ → Bool
 is_named name field = is_option field && bytes_eq (before_first (λ b. b == 61) field) name
 
 -- what stands among these fields
-abbrev pub seen_in : List (List ℕ) → Seen
+abbrev pub seen_in : List (List ℕ) → FieldsSeen
 seen_in fields = record {
   to = list_any (is_named (codes "to")) fields;
   rect = list_any (is_named (codes "rect")) fields;
@@ -41,11 +41,11 @@ seen_in fields = record {
 }
 
 -- KEY of a customer above, once
-abbrev pub to_said : (List ℕ → Option Party) → Seen → List ℕ → Result Item Word
+abbrev pub to_said : (List ℕ → Option Party) → FieldsSeen → List ℕ → Result Item Word
 to_said party_of seen value = unless_any (when seen.to word.Option ∷ []) (ok_or (option_map To (party_of value)) word.Customer)
 
 -- S or I, once
-abbrev pub rect_said : Seen → List ℕ → Result Item Word
+abbrev pub rect_said : FieldsSeen → List ℕ → Result Item Word
 rect_said seen value = unless_any (when seen.rect word.Option ∷ []) (ok_or (option_map Rect (rect_of value)) word.Option)
 
 -- NUM@DD-MM-YYYY, cut at its last `@`
@@ -57,7 +57,7 @@ ref_said value =
     Ok (Ref (record { num = num; day = day })))))
 
 -- an option of this name and value; none stands after a line
-abbrev pub option_said : (List ℕ → Option Party) → Seen → List ℕ → List ℕ → Result Item Word
+abbrev pub option_said : (List ℕ → Option Party) → FieldsSeen → List ℕ → List ℕ → Result Item Word
 option_said party_of seen name value =
     if seen.line then Err word.Option
     else if bytes_eq name (codes "to") then to_said party_of seen value
@@ -74,7 +74,7 @@ tax_line_said field =
     Ok (Line (record { key = key; base = base })))))
 
 -- what a field says after those in which this was seen
-abbrev pub item_said : (List ℕ → Option Party) → Seen → List ℕ → Result Item Word
+abbrev pub item_said : (List ℕ → Option Party) → FieldsSeen → List ℕ → Result Item Word
 item_said party_of seen field =
     if is_option field then option_said party_of seen (before_first (λ b. b == 61) field) (after_first (λ b. b == 61) field)
     else tax_line_said field
@@ -87,27 +87,19 @@ each_said party_of before (field ∷ fields) =
 
 abbrev pub to_in : Item → Option Party
 to_in (To party) = Some party
-to_in (Rect rect) = None
-to_in (Ref id) = None
-to_in (Line line) = None
+to_in other = None
 
 abbrev pub rect_in : Item → Option RectKind
-rect_in (To party) = None
 rect_in (Rect rect) = Some rect
-rect_in (Ref id) = None
-rect_in (Line line) = None
+rect_in other = None
 
 abbrev pub ref_in : Item → Option InvoiceId
-ref_in (To party) = None
-ref_in (Rect rect) = None
 ref_in (Ref id) = Some id
-ref_in (Line line) = None
+ref_in other = None
 
 abbrev pub line_in : Item → Option TaxLine
-line_in (To party) = None
-line_in (Rect rect) = None
-line_in (Ref id) = None
 line_in (Line line) = Some line
+line_in other = None
 
 -- the draft of an invoice of this kind
 abbrev pub draft_of : Kind → List Item → Draft

@@ -3,7 +3,7 @@ use Rattle.std.specs.Prelude.{ℕ, ◌≤◌, List, count_by, Bool, ◌&&◌, �
 use Rattle.std.specs.Int.{IsInRange}
 use Rattle.std.specs.List.{AllByRecursion}
 use Rattle.agency_rules.specs.declared.plans.Fate.{Fate}
-use Rattle.agency_rules.specs.declared.plans.Fate.TheVariants.{Lost, Taken, Stale, Again, Late}
+use Rattle.agency_rules.specs.declared.plans.Fate.TheVariants.{Late}
 use Rattle.agency_rules.specs.declared.plans.Plan.{Plan}
 use Rattle.agency_rules.specs.declared.plans.PlannedFate.{PlannedFate}
 use Rattle.agency_rules.specs.declared.plans.PlannedVerdict.{PlannedVerdict}
@@ -19,11 +19,8 @@ abbrev pub IsPlannedVerdict : PlannedVerdict → Type 0
 IsPlannedVerdict v = IsInRange 1 MAX_NTH v.n × IsInRange 1 MAX_CODE (code_of v.verdict)
 
 abbrev pub IsPlannedFate : Fate → Type 0
-IsPlannedFate Lost = Unit {0}
-IsPlannedFate Taken = Unit {0}
-IsPlannedFate Stale = Unit {0}
-IsPlannedFate Again = Unit {0}
 IsPlannedFate (Late calls) = IsInRange 1 MAX_LATE calls
+IsPlannedFate other = Unit {0}
 
 abbrev pub IsPlannedCall : PlannedFate → Type 0
 IsPlannedCall f = IsInRange 1 MAX_CALL f.call × IsPlannedFate f.fate

@@ -5,9 +5,8 @@ use Rattle.std.specs.Char.{is_ascii_alphanumeric}
 use Rattle.std.specs.List.{list_all, range_with_len}
 use Rattle.agency_rules.specs.declared.plans.Fate.{Fate}
 use Rattle.agency_rules.specs.declared.plans.Fate.TheVariants.{Lost, Taken, Stale, Again}
-use Rattle.invoice_kinds.specs.Kinds.{kind_text}
+use Rattle.invoice_kinds.specs.Kinds.{kind_text, kinds}
 use Rattle.invoice_kinds.specs.declared.kind.Kind.{Kind}
-use Rattle.invoice_kinds.specs.declared.kind.Kind.TheVariants.{F1, F2, F3, R1, R2, R3, R4, R5}
 use Rattle.invoice_kinds.specs.declared.kind.RectKind.{RectKind}
 use Rattle.invoice_kinds.specs.declared.kind.RectKind.TheVariants.{S, I}
 use Rattle.parties.specs.Nif.{is_person, is_entity, is_controlled}
@@ -15,29 +14,18 @@ use Rattle.parties.specs.NameForm.{is_control}
 use Rattle.record_fields.specs.Picks.{first_of, when}
 use Rattle.stamps.specs.Text.{date_text_of}
 use Rattle.tax_lines.specs.Breakdown.{is_past}
-use Rattle.tax_lines.specs.Classes.{key_text}
+use Rattle.tax_lines.specs.Classes.{classes, key_text}
 use Rattle.tax_lines.specs.declared.breakdown.TheConstants.{MAX_LINES}
 use Rattle.tax_lines.specs.declared.classes.LineKey.{LineKey}
-use Rattle.tax_lines.specs.declared.classes.LineKey.TheVariants.{General, Reduced, SuperReduced, Zero, GeneralSurcharge}
-use Rattle.tax_lines.specs.declared.classes.LineKey.TheVariants.{ReducedSurcharge, SuperReducedSurcharge, S2, N1, N2, E1, E2, E3}
-use Rattle.tax_lines.specs.declared.classes.LineKey.TheVariants.{E4, E5, E6}
 use Rattle.tax_lines.specs.declared.lines.TaxLine.{TaxLine}
 
 -- the first of all whose text this is
 abbrev pub named : {A : Type 0} → (A → List ℕ) → List A → List ℕ → Option A
 named text_of all text = first_of (map (λ x. when (bytes_eq text (text_of x)) x) all)
 
-abbrev pub kinds : List Kind
-kinds = F1 ∷ F2 ∷ F3 ∷ R1 ∷ R2 ∷ R3 ∷ R4 ∷ R5 ∷ []
-
 -- the kind of an invoice with this code
 unfoldable pub kind_of : List ℕ → Option Kind
 kind_of text = named kind_text kinds text
-
-abbrev pub classes : List LineKey
-classes =
-    General ∷ Reduced ∷ SuperReduced ∷ Zero ∷ GeneralSurcharge ∷ ReducedSurcharge ∷ SuperReducedSurcharge
-    ∷ S2 ∷ N1 ∷ N2 ∷ E1 ∷ E2 ∷ E3 ∷ E4 ∷ E5 ∷ E6 ∷ []
 
 -- the class of a line with this word
 unfoldable pub class_of : List ℕ → Option LineKey

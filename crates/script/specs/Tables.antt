@@ -1,7 +1,7 @@
 -- The tables beside the lists of what is planned.
 use Rattle.std.specs.Prelude.{◌≡◌, ℕ, List, Bool, is_some, nat_eq, bytes_eq, ◌&&◌}
 use Rattle.std.specs.HashSet.{HashSet, contains}
-use Rattle.agency_rules.specs.Judgement.{verdict_for}
+use Rattle.agency_rules.specs.Judging.{verdict_for}
 use Rattle.agency_rules.specs.Plans.{fate_at}
 use Rattle.agency_rules.specs.declared.plans.PlannedFate.{PlannedFate}
 use Rattle.agency_rules.specs.declared.plans.PlannedVerdict.{PlannedVerdict}

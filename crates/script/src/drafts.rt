@@ -3,13 +3,13 @@ ghost use Rattle.std.specs.Prelude.{◌≡◌, ◌++◌, ◌∷◌, [], List, �
 ghost use Rattle.invoice_kinds.specs.declared.kind.Kind.{Kind as AnyKind};
 ghost use Rattle.script.specs.declared.options.Item.{Item as AnyItem};
 ghost use Rattle.script.specs.Options.{draft_said};
-ghost use Rattle.script.specs.Kept.{Answers, party_of};
+ghost use Rattle.script.specs.SoFar.{IsSaid, party_of};
 ghost use Rattle.script.specs.Gathered.{IsGathered, Gathers, breakdown_said, gathered_said};
 
 use crate::customers::Customers;
 use crate::faults::Fault;
 use crate::fields::Fields;
-use crate::options::{Item, Seen, said_by};
+use crate::options::{FieldsSeen, Item, said_by};
 use invoice_kinds::{Kind, RectKind};
 use parties::Party;
 use ports::NoMemory;
@@ -63,7 +63,7 @@ impl Gathered {
 }
 
 fn breakdown_of(alloc: Global, lines: &[TaxLine]) -> Result<Breakdown, Fault>
-    ensures { Answers (breakdown_said lines.now) result }
+    ensures { IsSaid (breakdown_said lines.now) result }
 {
     match Breakdown::of(alloc, lines) {
         Ok(breakdown) => Ok(breakdown),
@@ -76,7 +76,7 @@ fn breakdown_of(alloc: Global, lines: &[TaxLine]) -> Result<Breakdown, Fault>
 
 // The draft that was gathered.
 fn draft_of(alloc: Global, kind: Kind, gathered: Gathered) -> Result<Draft, Fault>
-    ensures { (items : List AnyItem) → IsGathered items gathered → Answers (gathered_said kind items) result }
+    ensures { (items : List AnyItem) → IsGathered items gathered → IsSaid (gathered_said kind items) result }
 {
     let lines = breakdown_of(alloc, &gathered.lines)?;
     Ok(Draft {
@@ -95,9 +95,9 @@ pub fn draft(
     kind: Kind,
     fields: &mut Fields,
 ) -> Result<Draft, Fault>
-    ensures { Answers (draft_said (party_of customers.now) kind fields.old) result }
+    ensures { IsSaid (draft_said (party_of customers.now) kind fields.old) result }
 {
-    let mut seen = Seen::nothing();
+    let mut seen = FieldsSeen::nothing();
     let mut gathered = Gathered::nothing(alloc);
     while let Some(field) = fields.next() {
         match said_by(alloc, customers, seen, field) {

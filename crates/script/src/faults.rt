@@ -1,12 +1,10 @@
 // Why a line, or a part of it, says nothing.
-ghost use Rattle.script.specs.Kept.{Answers};
+ghost use Rattle.script.specs.SoFar.{IsSaid};
 
 use ports::NoMemory;
 use shop_core::Word;
 
 /// Why a line, or a part of it, says nothing.
-ghost use Rattle.script.specs.Kept.{Answers};
-
 #[derive(Clone, Copy, Drop)]
 pub enum Fault {
     /// What is wrong in it.
@@ -39,7 +37,7 @@ impl From<NoMemory> for Fault {
 
 /// The same answer, where want of memory may come too.
 pub fn worded<T>(said: Result<T, Word>) -> Result<T, Fault>
-    ensures { Answers said result }
+    ensures { IsSaid said result }
 {
     match said {
         Ok(said) => Ok(said),

@@ -7,7 +7,7 @@ use shop_core::Ask;
 
 /// What a line says.
 #[derive(Drop)]
-pub enum Line {
+pub enum Meaning {
     /// Nothing: it is empty, or begins with `#`.
     Skip,
     /// `clock START STEP`, in seconds.

@@ -1,7 +1,7 @@
 // The options and the lines of an invoice, field by field.
 ghost use Rattle.std.specs.Prelude.{◌≡◌, ◌∷◌, ◌++◌, [], ℕ, List, bytes_eq};
 ghost use Rattle.script.specs.Options as spec;
-ghost use Rattle.script.specs.Kept.{Answers, party_of};
+ghost use Rattle.script.specs.SoFar.{IsSaid, party_of};
 
 use crate::customers::Customers;
 use crate::faults::{Fault, worded};
@@ -31,18 +31,18 @@ pub enum Item {
 
 /// What stands among the fields before.
 #[derive(Clone, Copy, Drop)]
-pub struct Seen {
+pub struct FieldsSeen {
     pub to: bool,
     pub rect: bool,
     pub line: bool,
 }
 
-impl Seen {
+impl FieldsSeen {
     /// Nothing.
-    pub fn nothing() -> Seen
+    pub fn nothing() -> FieldsSeen
         ensures { result ≡ spec.seen_in [] }
     {
-        Seen {
+        FieldsSeen {
             to: false,
             rect: false,
             line: false,
@@ -50,16 +50,16 @@ impl Seen {
     }
 
     /// What stands among them with this field.
-    pub fn with(self, field: &str) -> Seen
+    pub fn with(self, field: &str) -> FieldsSeen
         ensures { (before : List (List ℕ)) → self ≡ spec.seen_in before → result ≡ spec.seen_in (before ++ field.now ∷ []) }
     {
         match at_equals(field) {
-            Some((name, _)) => Seen {
+            Some((name, _)) => FieldsSeen {
                 to: self.to || is_word(name, "to"),
                 rect: self.rect || is_word(name, "rect"),
                 line: self.line,
             },
-            None => Seen {
+            None => FieldsSeen {
                 to: self.to,
                 rect: self.rect,
                 line: true,
@@ -75,8 +75,8 @@ pub fn is_word(text: &str, word: &str) -> bool
     text == word
 }
 
-fn to_of(alloc: Global, customers: &Customers, seen: Seen, value: &str) -> Result<Item, Fault>
-    ensures { Answers (spec.to_said (party_of customers.now) seen value.now) result }
+fn to_of(alloc: Global, customers: &Customers, seen: FieldsSeen, value: &str) -> Result<Item, Fault>
+    ensures { IsSaid (spec.to_said (party_of customers.now) seen value.now) result }
 {
     if seen.to {
         return Err(Fault::Bad(Word::Option));
@@ -90,7 +90,7 @@ fn to_of(alloc: Global, customers: &Customers, seen: Seen, value: &str) -> Resul
     }
 }
 
-fn rect_item(seen: Seen, value: &str) -> Result<Item, Word>
+fn rect_item(seen: FieldsSeen, value: &str) -> Result<Item, Word>
     ensures { result ≡ spec.rect_said seen value.now }
 {
     if seen.rect {
@@ -138,11 +138,11 @@ fn line_item(field: &str) -> Result<Item, Word>
 fn option_item(
     alloc: Global,
     customers: &Customers,
-    seen: Seen,
+    seen: FieldsSeen,
     name: &str,
     value: &str,
 ) -> Result<Item, Fault>
-    ensures { Answers (spec.option_said (party_of customers.now) seen name.now value.now) result }
+    ensures { IsSaid (spec.option_said (party_of customers.now) seen name.now value.now) result }
 {
     if seen.line {
         return Err(Fault::Bad(Word::Option));
@@ -160,8 +160,13 @@ fn option_item(
 }
 
 /// What a field says after those in which that was seen.
-pub fn said_by(alloc: Global, customers: &Customers, seen: Seen, field: &str) -> Result<Item, Fault>
-    ensures { Answers (spec.item_said (party_of customers.now) seen field.now) result }
+pub fn said_by(
+    alloc: Global,
+    customers: &Customers,
+    seen: FieldsSeen,
+    field: &str,
+) -> Result<Item, Fault>
+    ensures { IsSaid (spec.item_said (party_of customers.now) seen field.now) result }
 {
     match at_equals(field) {
         Some((name, value)) => option_item(alloc, customers, seen, name, value),

@@ -1,6 +1,6 @@
 // What the lines plan for the practice agency. A table beside each list tells whether a line stands above.
 ghost use Rattle.std.specs.Prelude.{◌≡◌, ◌++◌, ◌∷◌, [], OnOk, is_some};
-ghost use Rattle.agency_rules.specs.Judgement.{verdict_for};
+ghost use Rattle.agency_rules.specs.Judging.{verdict_for};
 ghost use Rattle.agency_rules.specs.Plans.{fate_at};
 
 use agency_rules::{Fates, PlannedFate, PlannedVerdict, Verdicts};

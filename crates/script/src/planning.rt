@@ -1,12 +1,12 @@
 // What the lines of the forms say that plan what the practice agency does.
 ghost use Rattle.std.specs.Prelude.{◌≡◌};
 ghost use Rattle.std.specs.Int.{IsInRange};
-ghost use Rattle.script.specs.Kept.{known};
+ghost use Rattle.script.specs.SoFar.{known};
 ghost use Rattle.script.specs.Lines as spec;
 
 use crate::fields::Fields;
 use crate::limits::{MAX_CALL, MAX_CODE, MAX_LATE, MAX_NTH, MAX_WAIT};
-use crate::lines::Line;
+use crate::lines::Meaning;
 use crate::options::is_word;
 use crate::readings::{fate_of, num, number};
 use crate::scripts::SoFar;
@@ -32,7 +32,7 @@ impl Judging {
 }
 
 // `NUM N CODE`
-fn verdict(read: &SoFar, judging: Judging, fields: &mut Fields) -> Result<Line, Word>
+fn verdict(read: &SoFar, judging: Judging, fields: &mut Fields) -> Result<Meaning, Word>
     ensures { result ≡ spec.verdict_said judging (known read.now) fields.old }
 {
     let num = num(fields)?;
@@ -42,7 +42,7 @@ fn verdict(read: &SoFar, judging: Judging, fields: &mut Fields) -> Result<Line, 
     if read.verdicts.has(num, n as u32) {
         return Err(Word::Twice);
     }
-    Ok(Line::Verdict(PlannedVerdict {
+    Ok(Meaning::Verdict(PlannedVerdict {
         num,
         n: n as u32,
         verdict: judging.with(code as u16),
@@ -50,7 +50,7 @@ fn verdict(read: &SoFar, judging: Judging, fields: &mut Fields) -> Result<Line, 
 }
 
 // `SECONDS`
-fn wait(read: &SoFar, fields: &mut Fields) -> Result<Line, Word>
+fn wait(read: &SoFar, fields: &mut Fields) -> Result<Meaning, Word>
     ensures { result ≡ spec.wait_said (known read.now) fields.old }
 {
     let seconds = number(fields, 0, MAX_WAIT, Word::Number)?;
@@ -58,7 +58,7 @@ fn wait(read: &SoFar, fields: &mut Fields) -> Result<Line, Word>
     if read.wait.is_some() {
         return Err(Word::Twice);
     }
-    Ok(Line::Wait {
+    Ok(Meaning::Wait {
         seconds: seconds as u32,
     })
 }
@@ -88,7 +88,7 @@ fn fate(fields: &mut Fields) -> Result<Fate, Word>
 }
 
 // `CALL FATE`
-fn link(read: &SoFar, fields: &mut Fields) -> Result<Line, Word>
+fn link(read: &SoFar, fields: &mut Fields) -> Result<Meaning, Word>
     ensures { result ≡ spec.link_said (known read.now) fields.old }
 {
     let call = number(fields, 1, MAX_CALL, Word::Number)?;
@@ -96,14 +96,14 @@ fn link(read: &SoFar, fields: &mut Fields) -> Result<Line, Word>
     if read.fates.has(call as u32) {
         return Err(Word::Twice);
     }
-    Ok(Line::Link(PlannedFate {
+    Ok(Meaning::Link(PlannedFate {
         call: call as u32,
         fate,
     }))
 }
 
 /// What the fields past the first say, where that is `vet`, `warn`, `wait` or `link`.
-pub fn planned_line(read: &SoFar, verb: &str, fields: &mut Fields) -> Result<Line, Word>
+pub fn planned_line(read: &SoFar, verb: &str, fields: &mut Fields) -> Result<Meaning, Word>
     ensures { result ≡ spec.planned_said (known read.now) verb.now fields.old }
 {
     if is_word(verb, "vet") {

@@ -1,6 +1,6 @@
 // The requests of `sale`, `fix` and `cancel`, past their tills and serials.
 ghost use Rattle.std.specs.Prelude.{◌≡◌};
-ghost use Rattle.script.specs.Kept.{Answers, party_of};
+ghost use Rattle.script.specs.SoFar.{IsSaid, party_of};
 ghost use Rattle.script.specs.Lines as spec;
 
 use crate::customers::Customers;
@@ -21,7 +21,7 @@ pub enum Command {
 
 // `SERIES KIND OPTION.. LINE..`
 fn sale(alloc: Global, customers: &Customers, fields: &mut Fields) -> Result<Request, Fault>
-    ensures { Answers (spec.sale_said (party_of customers.now) fields.old) result }
+    ensures { IsSaid (spec.sale_said (party_of customers.now) fields.old) result }
 {
     let series = series(fields)?;
     let kind = kind(fields)?;
@@ -31,7 +31,7 @@ fn sale(alloc: Global, customers: &Customers, fields: &mut Fields) -> Result<Req
 
 // `NUM KIND OPTION.. LINE..`
 fn fix(alloc: Global, customers: &Customers, fields: &mut Fields) -> Result<Request, Fault>
-    ensures { Answers (spec.fix_said (party_of customers.now) fields.old) result }
+    ensures { IsSaid (spec.fix_said (party_of customers.now) fields.old) result }
 {
     let num = num(fields)?;
     let kind = kind(fields)?;
@@ -55,7 +55,7 @@ pub fn request(
     command: Command,
     fields: &mut Fields,
 ) -> Result<Request, Fault>
-    ensures { Answers (spec.request_said command (party_of customers.now) fields.old) result }
+    ensures { IsSaid (spec.request_said command (party_of customers.now) fields.old) result }
 {
     match command {
         Command::Sale => sale(alloc, customers, fields),

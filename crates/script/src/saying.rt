@@ -1,7 +1,7 @@
 // What a line of a script says, below those that were read.
 ghost use Rattle.std.specs.Prelude.{◌≡◌, ◌+◌, Ok, Err};
 ghost use Rattle.script.specs.Cuts.{parts_of};
-ghost use Rattle.script.specs.Kept.{Answers, known};
+ghost use Rattle.script.specs.SoFar.{IsSaid, known};
 ghost use Rattle.script.specs.Lines as spec;
 
 use crate::faults::{Fault, worded};
@@ -9,7 +9,7 @@ use crate::fields::Fields;
 use crate::forms::Form;
 use crate::keys::Key;
 use crate::limits::{MAX_COMMANDS, MAX_CUSTOMERS, MAX_START, MAX_STEP};
-use crate::lines::Line;
+use crate::lines::Meaning;
 use crate::options::is_word;
 use crate::planning::planned_line;
 use crate::readings::{key, nif, number};
@@ -20,7 +20,7 @@ use shop_core::{Ask, Word};
 use std::alloc::Global;
 
 // `clock START STEP`
-fn clock(read: &SoFar, fields: &mut Fields) -> Result<Line, Word>
+fn clock(read: &SoFar, fields: &mut Fields) -> Result<Meaning, Word>
     ensures { result ≡ spec.clock_said (known read.now) fields.old }
 {
     let start = number(fields, 0, MAX_START, Word::Number)?;
@@ -29,12 +29,12 @@ fn clock(read: &SoFar, fields: &mut Fields) -> Result<Line, Word>
     if read.clock.is_some() {
         return Err(Word::Twice);
     }
-    Ok(Line::Clock { start, step })
+    Ok(Meaning::Clock { start, step })
 }
 
 // The name that the rest of a line is.
 fn name(alloc: Global, fields: &mut Fields) -> Result<Name, Fault>
-    ensures { Answers (spec.name_said fields.old) result }
+    ensures { IsSaid (spec.name_said fields.old) result }
 {
     let Some(text) = fields.rest() else {
         return Err(Fault::Bad(Word::Fields));
@@ -49,8 +49,8 @@ fn name(alloc: Global, fields: &mut Fields) -> Result<Name, Fault>
 }
 
 // `customer KEY NIF NAME`
-fn customer(alloc: Global, read: &SoFar, fields: &mut Fields) -> Result<Line, Fault>
-    ensures { Answers (spec.customer_said (known read.now) fields.old) result }
+fn customer(alloc: Global, read: &SoFar, fields: &mut Fields) -> Result<Meaning, Fault>
+    ensures { IsSaid (spec.customer_said (known read.now) fields.old) result }
 {
     if read.customers.len() >= MAX_CUSTOMERS {
         return Err(Fault::Bad(Word::TooMany));
@@ -62,7 +62,7 @@ fn customer(alloc: Global, read: &SoFar, fields: &mut Fields) -> Result<Line, Fa
         return Err(Fault::Bad(Word::Twice));
     }
     let key = Key::of(alloc, key)?;
-    Ok(Line::Customer {
+    Ok(Meaning::Customer {
         key,
         party: Party { nif, name },
     })
@@ -75,8 +75,8 @@ fn command(
     read: &SoFar,
     command: Command,
     fields: &mut Fields,
-) -> Result<Line, Fault>
-    ensures { Answers (spec.command_said form (known read.now) command fields.old) result }
+) -> Result<Meaning, Fault>
+    ensures { IsSaid (spec.command_said form (known read.now) command fields.old) result }
 {
     if form == Form::NoCommands {
         return Err(Fault::Bad(Word::Command));
@@ -87,7 +87,7 @@ fn command(
     let till = number(fields, 1, 64, Word::Till)?;
     let serial = number(fields, 1, 4_294_967_295, Word::Number)?;
     match request(alloc, &read.customers, command, fields) {
-        Ok(request) => Ok(Line::Command(Ask::new(till as u8, serial as u32, request))),
+        Ok(request) => Ok(Meaning::Command(Ask::new(till as u8, serial as u32, request))),
         Err(fault) => Err(fault),
     }
 }
@@ -99,8 +99,8 @@ fn form_line(
     read: &SoFar,
     verb: &str,
     fields: &mut Fields,
-) -> Result<Line, Fault>
-    ensures { Answers (spec.form_said form (known read.now) verb.now fields.old) result }
+) -> Result<Meaning, Fault>
+    ensures { IsSaid (spec.form_said form (known read.now) verb.now fields.old) result }
 {
     if is_word(verb, "clock") {
         return worded(clock(read, fields));
@@ -120,8 +120,8 @@ fn form_line(
     worded(planned_line(read, verb, fields))
 }
 
-fn fields_line(alloc: Global, form: Form, read: &SoFar, text: &str) -> Result<Line, Fault>
-    ensures { Answers (spec.fields_said form (known read.now) (parts_of 32 text.now)) result }
+fn fields_line(alloc: Global, form: Form, read: &SoFar, text: &str) -> Result<Meaning, Fault>
+    ensures { IsSaid (spec.fields_said form (known read.now) (parts_of 32 text.now)) result }
 {
     let mut fields = Fields::of(text);
     match fields.next() {
@@ -131,11 +131,11 @@ fn fields_line(alloc: Global, form: Form, read: &SoFar, text: &str) -> Result<Li
 }
 
 /// What a line says below those that were read. It has no carriage return at its end any more.
-pub fn line(alloc: Global, form: Form, read: &SoFar, text: &[u8]) -> Result<Line, Fault>
-    ensures { Answers (spec.line_said form (known read.now) text.now) result }
+pub fn line(alloc: Global, form: Form, read: &SoFar, text: &[u8]) -> Result<Meaning, Fault>
+    ensures { IsSaid (spec.line_said form (known read.now) text.now) result }
 {
     if text.is_empty() || text[0] == b'#' {
-        return Ok(Line::Skip);
+        return Ok(Meaning::Skip);
     }
     match str::from_utf8(text) {
         Ok(text) => fields_line(alloc, form, read, text),

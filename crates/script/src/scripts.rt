@@ -1,17 +1,17 @@
 // Scripts: what their lines say, or the first bad line.
 ghost use Rattle.std.specs.Prelude.{◌≡◌, ◌≤◌, ◌<◌, IfOk, ◌++◌, ◌∷◌, [], List, length};
-ghost use Rattle.script.specs.Kept.{IsRead, IsNew, Reads, known, script_kept};
+ghost use Rattle.script.specs.SoFar.{IsSoFar, IsNew, Reads, known, script_kept};
 ghost use Rattle.script.specs.Planned.{IsPlanned};
 ghost use Rattle.script.specs.Script.{IsScript};
 ghost use Rattle.script.specs.declared.forms.Form.TheVariants.{NoCommands};
 ghost use Rattle.script.specs.declared.limits.TheConstants.{MAX_COMMANDS};
-ghost use Rattle.script.specs.declared.lines.Line.{Line as AnyLine};
+ghost use Rattle.script.specs.declared.lines.Meaning.{Meaning as AnyMeaning};
 
 use crate::customers::Customers;
 use crate::cuts::{Parts, without_return};
 use crate::faults::Fault;
 use crate::forms::Form;
-use crate::lines::Line;
+use crate::lines::Meaning;
 use crate::planned::{LinkLines, VerdictLines};
 use crate::saying::line;
 use agency_rules::Plan;
@@ -65,7 +65,7 @@ pub struct SoFar {
 
 impl SoFar {
     fn nothing(alloc: Global) -> SoFar
-        ensures { IsRead [] result }
+        ensures { IsSoFar [] result }
     {
         SoFar {
             clock: None,
@@ -78,33 +78,33 @@ impl SoFar {
     }
 
     // One more line that says something below the others.
-    fn add(&mut self, line: Line) -> Result<(), NoMemory>
+    fn add(&mut self, line: Meaning) -> Result<(), NoMemory>
         requires { IsNew (known self.old) line }
-        ensures { (lines : List AnyLine) → IsRead lines self.old → Reads (lines ++ line ∷ []) self.new result }
+        ensures { (lines : List AnyMeaning) → IsSoFar lines self.old → Reads (lines ++ line ∷ []) self.new result }
     {
         match line {
-            Line::Skip => Ok(()),
-            Line::Clock { start, step } => {
+            Meaning::Skip => Ok(()),
+            Meaning::Clock { start, step } => {
                 self.clock = Some((start, step));
                 Ok(())
             }
-            Line::Customer { key, party } => {
+            Meaning::Customer { key, party } => {
                 self.customers.add(key, party)?;
                 Ok(())
             }
-            Line::Command(ask) => {
+            Meaning::Command(ask) => {
                 self.asks.push(ask)?;
                 Ok(())
             }
-            Line::Verdict(verdict) => {
+            Meaning::Verdict(verdict) => {
                 self.verdicts.add(verdict)?;
                 Ok(())
             }
-            Line::Wait { seconds } => {
+            Meaning::Wait { seconds } => {
                 self.wait = Some(seconds);
                 Ok(())
             }
-            Line::Link(fate) => {
+            Meaning::Link(fate) => {
                 self.fates.add(fate)?;
                 Ok(())
             }

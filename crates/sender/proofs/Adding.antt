@@ -1,104 +1,33 @@
 -- What turns add to a shop.
 use Rattle.std.proofs.Common.{◌≡◌, ◌⊎◌, inl, inr, ℕ, zero, suc, ◌≤◌, List, [], ◌∷◌, ◌++◌, refl, sym, ◌∙◌, ap, subst, length}
-use Rattle.std.proofs.Common.{length-append, drop, arith, append_assoc, append-nil, Bool, Some, None, Result, Ok, Err, IsTrue}
-use Rattle.std.proofs.Common.{slice_get, Option}
+use Rattle.std.proofs.Common.{length-append, drop, arith, append_assoc, append-nil, Bool, Some, None, Result, Err, IsTrue}
+use Rattle.std.proofs.Common.{slice_get}
 use Rattle.std.proofs.Math.Seq.{drop-append_seam}
 use Rattle.std.specs.Prelude.{Contains}
 use Rattle.record_fields.specs.declared.lines.Line.{Line}
 use Rattle.record_fields.specs.declared.records.Sealed.{Sealed}
 use Rattle.record_codec.specs.declared.entries.Entry.{Entry}
 use Rattle.record_codec.specs.declared.entries.Entry.TheVariants.{Rec, Notes as notes_of}
-use Rattle.journal.specs.declared.faults.StoreFault.{StoreFault}
 use Rattle.journal.specs.declared.faults.StoreFault.TheVariants as store
 use Rattle.shop_core.specs.declared.items.Item.{Item}
 use Rattle.shop_core.specs.declared.items.Item.TheVariants as recorded
 use Rattle.shop_core.specs.History.{noted}
-use Rattle.shop_core.specs.declared.waiting.Waiting.{Waiting}
-use Rattle.agency_port.specs.Replied.{Replied}
-use Rattle.agency_port.specs.declared.answers.Seen.{Seen}
-use Rattle.agency_port.specs.declared.answers.AgencyFault.TheVariants as agency
 use Rattle.agency_port.specs.declared.turns.Told.{Told}
 use Rattle.once_world.specs.Agreement.{IsPrefix, Agree}
-use Rattle.once_world.specs.Outbox.{Sight, Grows, AddsOwn, StopsHere, NotedBy, notes_behind, history_of, GainsOwnNotes}
+use Rattle.once_world.specs.Outbox.{Sight, AddsOwn, notes_behind, history_of}
 use Rattle.sender.specs.declared.answers.Turn.{Turn}
-use Rattle.sender.specs.declared.answers.Turn.TheVariants.{Idle, WaitUntil, Noted, Cleared, Doubt}
 use Rattle.sender.specs.declared.answers.SendFault.{SendFault}
-use Rattle.sender.specs.declared.answers.SendFault.TheVariants.{LinkFault, Contradiction, Store, NoMemory}
+use Rattle.sender.specs.declared.answers.SendFault.TheVariants.{Store}
 use Rattle.sender.specs.declared.answers.DrainFault.{DrainFault}
 use Rattle.sender.specs.Sending.{Sending}
-use Rattle.sender.specs.Turning.{Deed, Nothing, Asked, Handed, Kind, Desk, SeenEnds, ReplyEnds, Ends, Turned}
-use Rattle.sender.specs.Agreeing.{AreSeen, KeepsAgreement, Gains, HasAt, AreNotes, AreNotesOrTorn, Adds, AgreesIfTorn}
+use Rattle.sender.specs.Turning.{Kind, Desk, Turned}
+use Rattle.sender.specs.Agreeing.{InOneSession, KeepsAgreement, Gains, HasAt, AreNotes, AreNotesOrTorn, Adds, AgreesIfTorn}
 use Rattle.sender.specs.Draining.{Scene, Turns, none, more, GoesOn, Drained}
 use Rattle.sender.proofs.Lists.{all_both, all_change}
 use Rattle.sender.specs.Known.{Known}
 use Rattle.sender.proofs.Drained.{last}
 use Rattle.sender.proofs.Growing.{all_contained}
-
--- what a turn adds behind its look
-pub data Added (look after : Sight) (result : Result Turn SendFault) : Type 0 where
-  quiet : after.issuer ≡ look.issuer → IsPrefix look.items after.items → after.own ≡ look.own → Added look after result
-  notes : after.issuer ≡ look.issuer → (lines : List Line) → AddsOwn look after (λ (items : List Item). recorded.Entry
-      (notes_behind items lines)) → Added look after result
-  stops : after.issuer ≡ look.issuer → (lines : List Line) → StopsHere look after lines → result ≡ Err (Store store.DiskFault) →
-      Added look after result
-
-same_added : (look after : Sight) (result : Result Turn SendFault) → after ≡ look → Added look after result
-same_added look after result e = quiet (ap (λ (s : Sight). s.issuer) e) (record {
-  rest = [];
-  is = ap (λ (s : Sight). s.items) e ∙
-      sym (append-nil look.items);
-}) (ap (λ (s : Sight). s.own) e)
-
-noted_added : (look after : Sight) (lines : List Line) (n : ℕ) → Grows look after → NotedBy look after lines (Ok tt) →
-    Added look after (Ok (Noted n))
-noted_added look after lines n g a = notes g.issuer lines a
-
-fault_added : (look after : Sight) (lines : List Line) (fault : StoreFault) → Grows look after →
-    NotedBy look after lines (Err fault) → Added look after (Err (Store fault))
-fault_added look after lines store.DiskFault g a = stops g.issuer lines a refl
-fault_added look after lines (store.Stopped faults) g a = quiet g.issuer g.items a.own
-fault_added look after lines store.NoMemory g a = quiet g.issuer g.items a
-
-seen_added : (said : Option Replied) (shown : Waiting) (seen : List Seen) (look after : Sight) (result : Result Turn SendFault)
-    (doubt : Bool) → SeenEnds said shown seen look after result doubt → Added look after result
-seen_added said shown seen look after (Ok (Noted n)) doubt ends = noted_added look after ends.0.lines n ends.0.grows ends.0.noted
-seen_added said shown seen look after (Ok Cleared) doubt ends = same_added look after (Ok Cleared) ends.1
-seen_added said shown seen look after (Err (Contradiction evidence)) doubt ends = same_added look after
-    (Err (Contradiction evidence)) ends.1
-seen_added said shown seen look after (Err (Store fault)) doubt ends = fault_added look after ends.0.1.lines fault ends.0.1.grows
-    ends.0.1.noted
-seen_added said shown seen look after (Err NoMemory) doubt ends = same_added look after (Err NoMemory) ends.0
-seen_added said shown seen look after (Ok (Idle records)) doubt ends = absurd ends
-seen_added said shown seen look after (Ok (WaitUntil at)) doubt ends = absurd ends
-seen_added said shown seen look after (Ok (Doubt place)) doubt ends = absurd ends
-seen_added said shown seen look after (Err LinkFault) doubt ends = absurd ends
-
-reply_added : (shown : Waiting) (reply : Replied) (look after : Sight) (result : Result Turn SendFault) (doubt : Bool) →
-    ReplyEnds shown reply look after result doubt → Added look after result
-reply_added shown reply look after (Ok (Noted n)) doubt ends = noted_added look after ends.0.lines n ends.0.grows ends.0.noted
-reply_added shown reply look after (Ok (Doubt place)) doubt ends = same_added look after (Ok (Doubt place)) ends.1
-reply_added shown reply look after (Err (Store fault)) doubt ends = fault_added look after ends.0.1.lines fault ends.0.1.grows
-    ends.0.1.noted
-reply_added shown reply look after (Err NoMemory) doubt ends = same_added look after (Err NoMemory) ends.0
-reply_added shown reply look after (Ok (Idle records)) doubt ends = absurd ends
-reply_added shown reply look after (Ok (WaitUntil at)) doubt ends = absurd ends
-reply_added shown reply look after (Ok Cleared) doubt ends = absurd ends
-reply_added shown reply look after (Err LinkFault) doubt ends = absurd ends
-reply_added shown reply look after (Err (Contradiction evidence)) doubt ends = absurd ends
-
-pub ends_added : (old : Sending) (now : ℕ) (shown : Waiting) (look after : Sight) (deed : Deed) (result : Result Turn SendFault)
-    (new : Sending) → Ends old now shown look after deed result new → Added look after result
-ends_added old now shown look after Nothing result new ends = same_added look after result ends.2
-ends_added old now shown look after (Asked (Ok seen)) result new ends = seen_added old.said shown seen look after result new.doubt
-    ends.2.3
-ends_added old now shown look after (Asked (Err agency.Failed)) result new ends = same_added look after result ends.2.2
-ends_added old now shown look after (Asked (Err agency.NoMemory)) result new ends = same_added look after result ends.2.2
-ends_added old now shown look after (Handed (Ok reply)) result new ends = elim ends.3 [
-  | inl r ↦ reply_added shown reply look after result new.doubt r.ends
-  | inr r ↦ same_added look after result r.after_is
-]
-ends_added old now shown look after (Handed (Err agency.Failed)) result new ends = same_added look after result ends.3.2
-ends_added old now shown look after (Handed (Err agency.NoMemory)) result new ends = same_added look after result ends.3.2
+use Rattle.sender.proofs.Added.{Added, quiet, notes, stops, ends_added}
 
 -- an element in front, and one at the seam
 pub get_front : {A : Type 0} (xs ys : List A) (k : ℕ) (x : A) → slice_get xs k ≡ Some x → slice_get (xs ++ ys) k ≡ Some x
@@ -305,12 +234,11 @@ drained_adds kind exact start then old new result d =
 
 pub drained_if_torn : Known → (kind : Kind) (exact : Bool) (start then : Scene) (old new : List Told)
     (result : Result (Unit {0}) DrainFault) → Drained kind exact start then old new result →
-    (IsTrue kind.keeps_rules → IsTrue kind.tells) → IsTrue kind.keeps_rules →
-    Agree (history_of start.sight) start.desk.ledger.processed start.desk.ledger.sent → AreSeen start.desk.ledger.processed
-    start.sending.said → GainsOwnNotes start.sight then.sight →
-    AgreesIfTorn start.sight then.sight then.desk.ledger
-drained_if_torn known kind exact start then old new result d tells keeps agree seen gains items faults torn is own =
-    let k = (last known kind exact start then old new result d tells keeps agree seen gains).1 in
+    (IsTrue kind.keeps_rules → IsTrue kind.tells) →
+    InOneSession kind.keeps_rules start.sight then.sight start.desk.ledger start.sending.said
+    (AgreesIfTorn start.sight then.sight then.desk.ledger)
+drained_if_torn known kind exact start then old new result d tells keeps session gains items faults torn is own =
+    let k = (last known kind exact start then old new result d tells keeps session gains).1 in
     let g = turns_notes kind exact start d.answers d.links d.scene d.made in
     let h = turn_adds kind d.scene.desk then.desk d.scene.sight then.sight d.scene.sending then.sending d.turn.now d.answer
     d.turn.turned in

@@ -13,9 +13,9 @@ use Rattle.record_fields.specs.declared.lines.Line.{Line}
 use Rattle.record_codec.specs.declared.entries.Entry.{Entry}
 use Rattle.shop_core.specs.History.{recs, noted, waiting}
 use Rattle.shop_core.specs.declared.waiting.Waiting.{Waiting}
-use Rattle.pacing.specs.Due.{due_at}
+use Rattle.pacing.specs.Pace.{due_at}
 use Rattle.batches.specs.Batches.{huellas_of}
-use Rattle.agency_port.specs.Replied.{Replied}
+use Rattle.agency_port.specs.Reply.{Replied}
 use Rattle.agency_port.specs.Answers.{looked}
 use Rattle.agency_port.specs.declared.answers.Seen.{Seen}
 use Rattle.agency_port.specs.declared.answers.AgencyFault.TheVariants as agency
@@ -25,11 +25,11 @@ use Rattle.once_world.specs.Outbox.{Sight, Grows, ShowsWaiting, history_of, Gain
 use Rattle.sender.specs.declared.answers.Turn.{Turn}
 use Rattle.sender.specs.declared.answers.Turn.TheVariants.{Idle, WaitUntil, Noted, Cleared, Doubt}
 use Rattle.sender.specs.declared.answers.SendFault.{SendFault}
-use Rattle.sender.specs.declared.answers.SendFault.TheVariants.{LinkFault, Contradiction, Store, NoMemory}
+use Rattle.sender.specs.declared.answers.SendFault.TheVariants.{LinkFault, NoMemory}
 use Rattle.sender.specs.Sending.{Sending}
 use Rattle.sender.specs.Turning.{Deed, Nothing, Asked, Handed, Kind, Desk, Dealt, RestEnds, SeenEnds, ReplyEnds, Ends}
 use Rattle.sender.specs.Turning.{count_waiting}
-use Rattle.sender.specs.Agreeing.{AreSeen}
+use Rattle.sender.specs.Agreeing.{InSession, InOneSession, AreSeen}
 use Rattle.sender.specs.Draining.{Scene, Turns, none, more, IsTurn, GoesOn, links_with, moment_after, told_in, list_of, told_list}
 use Rattle.sender.specs.Draining.{is_link, IsBounded, Drained}
 use Rattle.sender.specs.Known.{Known}
@@ -102,13 +102,8 @@ rest_step before look after shown g old new moment now left (Ok (WaitUntil at)) 
 rest_step before look after shown g old new moment now left (Ok (WaitUntil at)) w later e same ends on (sure_last le d s l) =
     in_doubt old.doubt d ends.1
 rest_step before look after shown g old new moment now left (Ok (Idle records)) w later e same ends on st = absurd on
-rest_step before look after shown g old new moment now left (Ok (Noted n)) w later e same ends on st = absurd ends
-rest_step before look after shown g old new moment now left (Ok Cleared) w later e same ends on st = absurd ends
-rest_step before look after shown g old new moment now left (Ok (Doubt place)) w later e same ends on st = absurd ends
-rest_step before look after shown g old new moment now left (Err LinkFault) w later e same ends on st = absurd ends
-rest_step before look after shown g old new moment now left (Err (Contradiction evidence)) w later e same ends on st = absurd ends
-rest_step before look after shown g old new moment now left (Err (Store fault)) w later e same ends on st = absurd ends
 rest_step before look after shown g old new moment now left (Err NoMemory) w later e same ends on st = absurd on
+rest_step before look after shown g old new moment now left _ w later e same ends on st = absurd ends
 
 -- a consultation that noted lines
 looked_step : (before look after : Sight) (shown : Waiting) (g : Grows before look) (old new : Sending) (moment left n : ℕ)
@@ -201,14 +196,9 @@ seen_step before look after shown g old new moment left seen (Ok (Noted n)) w so
 seen_step before look after shown g old new moment left seen (Ok Cleared) w some doubt whole ends on st =
     cleared_step before look after shown g old new moment left w some doubt ends.2 (same_wait before look after shown g w ends.1)
     (λ s. whole [] ends.0.0 s) st
-seen_step before look after shown g old new moment left seen (Ok (Idle records)) w some doubt whole ends on st = absurd ends
-seen_step before look after shown g old new moment left seen (Ok (WaitUntil at)) w some doubt whole ends on st = absurd ends
-seen_step before look after shown g old new moment left seen (Ok (Doubt place)) w some doubt whole ends on st = absurd ends
+seen_step before look after shown g old new moment left seen (Ok turn) w some doubt whole ends on st = absurd ends
 seen_step before look after shown g old new moment left seen (Err LinkFault) w some doubt whole ends on st = absurd ends
-seen_step before look after shown g old new moment left seen (Err (Contradiction evidence)) w some doubt whole ends on st =
-    absurd on
-seen_step before look after shown g old new moment left seen (Err (Store fault)) w some doubt whole ends on st = absurd on
-seen_step before look after shown g old new moment left seen (Err NoMemory) w some doubt whole ends on st = absurd on
+seen_step before look after shown g old new moment left seen _ w some doubt whole ends on st = absurd on
 
 -- a batch that was noted
 handed_step : (before look after : Sight) (shown : Waiting) (g : Grows before look) (old new : Sending) (moment left n : ℕ)
@@ -303,20 +293,10 @@ reply_step before look after shown g old new moment left reply (Ok (Noted n)) w 
 reply_step before look after shown g old new moment left reply (Ok (Doubt place)) w some doubt names matched said ends on st =
     doubt_step before look after shown g old new moment left place reply w some doubt ends.2 (same_wait before look after shown g
     w ends.1) said names st
-reply_step before look after shown g old new moment left reply (Ok (Idle records)) w some doubt names matched said ends on st =
-    absurd ends
-reply_step before look after shown g old new moment left reply (Ok (WaitUntil at)) w some doubt names matched said ends on st =
-    absurd ends
-reply_step before look after shown g old new moment left reply (Ok Cleared) w some doubt names matched said ends on st =
-    absurd ends
+reply_step before look after shown g old new moment left reply (Ok turn) w some doubt names matched said ends on st = absurd ends
 reply_step before look after shown g old new moment left reply (Err LinkFault) w some doubt names matched said ends on st =
     absurd ends
-reply_step before look after shown g old new moment left reply (Err (Contradiction evidence)) w some doubt names matched said ends
-    on st = absurd ends
-reply_step before look after shown g old new moment left reply (Err (Store fault)) w some doubt names matched said ends on st =
-    absurd on
-reply_step before look after shown g old new moment left reply (Err NoMemory) w some doubt names matched said ends on st =
-    absurd on
+reply_step before look after shown g old new moment left reply _ w some doubt names matched said ends on st = absurd on
 
 -- by what was asked
 deed_step : Known → (kind : Kind) (desk desk_then : Desk) (before look after : Sight) (g : Grows before look) (shown : Waiting)
@@ -380,11 +360,8 @@ turn_step known kind exact before after answer left keeps agree there gains few 
     before.moment t.now left answer u.deals.deed keeps u.shows agree there w t.later u.deals.dealt u.deals.ends on st)
 
 links_more : (links : ℕ) (answer : Result Turn SendFault) → links_with links answer ≡ links + links_with 0 answer
-links_more links (Ok turn) = omega arith
 links_more links (Err LinkFault) = omega arith
-links_more links (Err (Contradiction evidence)) = omega arith
-links_more links (Err (Store fault)) = omega arith
-links_more links (Err NoMemory) = omega arith
+links_more links _ = omega arith
 
 -- what is left after turns
 pub record LeftAfter (batches links : ℕ) (answers : List (Result Turn SendFault)) (scene : Scene) : Type 0 where
@@ -394,26 +371,25 @@ pub record LeftAfter (batches links : ℕ) (answers : List (Result Turn SendFaul
 
 pub turns_left : Known → (kind : Kind) (exact : Bool) (begin : Scene) (answers : List (Result Turn SendFault)) (links : ℕ)
     (scene : Scene) (batches : ℕ) → (IsTrue kind.keeps_rules → IsTrue kind.tells) → IsTrue kind.keeps_rules →
-    Agree (history_of begin.sight) begin.desk.ledger.processed begin.desk.ledger.sent → AreSeen begin.desk.ledger.processed
-    begin.sending.said → length (waiting (history_of begin.sight)) ≤ 1000 * batches →
+    InSession begin.sight begin.desk.ledger begin.sending.said → length (waiting (history_of begin.sight)) ≤ 1000 * batches →
     Turns kind exact begin answers links scene → GainsOwnNotes begin.sight scene.sight → length (recs (history_of scene.sight)) ≤
     length (recs (history_of begin.sight)) → LeftAfter batches links answers scene
-turns_left known kind exact begin answers links scene batches tells keeps agree seen le none gains few =
+turns_left known kind exact begin answers links scene batches tells keeps session le none gains few =
     record {
       left = 2 * batches + 3;
       spent = omega arith;
       stand = stand_first (history_of begin.sight) begin.sending begin.moment
           batches le;
     }
-turns_left known kind exact begin answers links scene batches tells keeps agree seen le (more before_answers before_links mid
+turns_left known kind exact begin answers links scene batches tells keeps session le (more before_answers before_links mid
     answer then t turn on below) gains few =
     let first = turns_growth kind exact begin before_answers before_links mid t in
     let second = is_turn_growth kind exact mid then answer turn in
     let each = gains_each begin.sight mid.sight then.sight first second gains in
     let a = recs_grow begin.sight mid.sight first in
     let b = recs_grow mid.sight then.sight second in
-    let k = turns_keep known kind exact begin before_answers before_links mid tells keeps agree seen t each.0 in
-    let l = turns_left known kind exact begin before_answers before_links mid batches tells keeps agree seen le t each.0
+    let k = turns_keep known kind exact begin before_answers before_links mid tells t keeps session each.0 in
+    let l = turns_left known kind exact begin before_answers before_links mid batches tells keeps session le t each.0
     (omega arith) in
     let s = turn_step known kind exact mid then answer l.left keeps k.session.agree k.session.said_seen each.1 (omega arith) turn
     on l.stand in
@@ -426,15 +402,12 @@ turns_left known kind exact begin answers links scene batches tells keeps agree 
     }
 
 links_told : (answer : Result Turn SendFault) → GoesOn answer → count_by is_link (told_list answer) ≡ links_with 0 answer
-links_told (Ok (Idle records)) on = absurd on
 links_told (Ok (WaitUntil at)) on = refl
 links_told (Ok (Noted n)) on = refl
 links_told (Ok Cleared) on = refl
 links_told (Ok (Doubt place)) on = refl
 links_told (Err LinkFault) on = refl
-links_told (Err (Contradiction evidence)) on = absurd on
-links_told (Err (Store fault)) on = absurd on
-links_told (Err NoMemory) on = absurd on
+links_told _ on = absurd on
 
 count_append : (xs ys : List Told) → count_by is_link (xs ++ ys) ≡ count_by is_link xs + count_by is_link ys
 count_append xs ys = sum_by-append (λ (x : Told). cond (is_link x) 1 0) xs ys
@@ -466,18 +439,17 @@ told_short (answer ∷ answers) =
 
 pub drained_bounded : Known → (kind : Kind) (exact : Bool) (begin then : Scene) (old new : List Told)
     (result : Result (Unit {0}) DrainFault) → Drained kind exact begin then old new result →
-    (IsTrue kind.keeps_rules → IsTrue kind.tells) → IsTrue kind.keeps_rules →
-    Agree (history_of begin.sight) begin.desk.ledger.processed begin.desk.ledger.sent → AreSeen begin.desk.ledger.processed
-    begin.sending.said → GainsOwnNotes begin.sight then.sight → length (recs (history_of then.sight)) ≤ length
-    (recs (history_of begin.sight)) →
-    (batches : ℕ) → length (waiting (history_of begin.sight)) ≤ 1000 * batches → IsBounded batches old new
-drained_bounded known kind exact begin then old new result d tells keeps agree seen gains few batches le =
+    (IsTrue kind.keeps_rules → IsTrue kind.tells) →
+    InOneSession kind.keeps_rules begin.sight then.sight begin.desk.ledger begin.sending.said
+    (length (recs (history_of then.sight)) ≤ length (recs (history_of begin.sight)) →
+    (batches : ℕ) → length (waiting (history_of begin.sight)) ≤ 1000 * batches → IsBounded batches old new)
+drained_bounded known kind exact begin then old new result d tells keeps session gains few batches le =
     let first = turns_growth kind exact begin d.answers d.links d.scene d.made in
     let second = is_turn_growth kind exact d.scene then d.answer d.turn in
     let each = gains_each begin.sight d.scene.sight then.sight first second gains in
     let a = recs_grow d.scene.sight then.sight second in
-    let l = turns_left known kind exact begin d.answers d.links d.scene batches tells keeps agree seen le d.made each.0
-    (omega arith) in
+    let l = turns_left known kind exact begin d.answers d.links d.scene batches tells keeps session le
+    d.made each.0 (omega arith) in
     let spent = l.spent in
     let o = some_left (history_of d.scene.sight) d.scene.sending d.scene.moment l.left l.stand in
     let links = turns_links kind exact begin d.answers d.links d.scene d.made in

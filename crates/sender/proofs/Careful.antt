@@ -16,7 +16,7 @@ use Rattle.shop_core.specs.declared.items.Item.TheVariants as recorded
 use Rattle.shop_core.specs.Legal.{Legal}
 use Rattle.shop_core.specs.declared.waiting.Waiting.{Waiting}
 use Rattle.batches.specs.Batches.{huellas_of}
-use Rattle.agency_port.specs.Replied.{Replied}
+use Rattle.agency_port.specs.Reply.{Replied}
 use Rattle.agency_port.specs.Messages.{batch_in, batches_in}
 use Rattle.agency_port.specs.Ledger.{Ledger}
 use Rattle.agency_port.specs.declared.messages.Message.{Message}
@@ -28,9 +28,9 @@ use Rattle.agency_port.specs.declared.answers.AgencyFault.TheVariants as agency
 use Rattle.consultation.specs.Sorting.{unseen_ones, IsFront}
 use Rattle.once_world.specs.Outbox.{Sight, Grows, ShowsWaiting, AddsOwn, history_of, notes_behind}
 use Rattle.sender.specs.declared.answers.Turn.{Turn}
-use Rattle.sender.specs.declared.answers.Turn.TheVariants.{Idle, WaitUntil, Noted, Cleared, Doubt}
+use Rattle.sender.specs.declared.answers.Turn.TheVariants.{Noted, Cleared, Doubt}
 use Rattle.sender.specs.declared.answers.SendFault.{SendFault}
-use Rattle.sender.specs.declared.answers.SendFault.TheVariants.{LinkFault, Contradiction, Store, NoMemory}
+use Rattle.sender.specs.declared.answers.SendFault.TheVariants.{Contradiction, Store, NoMemory}
 use Rattle.sender.specs.Sending.{Sending}
 use Rattle.sender.specs.Turning.{Deed, Nothing, Asked, Handed, Kind, Desk, Dealt, SeenEnds, ReplyEnds, Ends, Turned}
 use Rattle.sender.specs.Dark.{AreLight, NoneInTheDark, IsRunBy, AreRunsBy}
@@ -230,10 +230,7 @@ seen_after linked past look after shown messages old new said seen (Err (Store f
 seen_after linked past look after shown messages old new said seen (Err NoMemory) legal shows a count ends =
     asked_after linked past look after messages old new (huellas_of shown.list) (Ok seen) zero a (stays look after legal ends.0)
     (λ e. in_doubt new.doubt ends.1 e)
-seen_after linked past look after shown messages old new said seen (Ok (Idle records)) legal shows a count ends = absurd ends
-seen_after linked past look after shown messages old new said seen (Ok (WaitUntil at)) legal shows a count ends = absurd ends
-seen_after linked past look after shown messages old new said seen (Ok (Doubt place)) legal shows a count ends = absurd ends
-seen_after linked past look after shown messages old new said seen (Err LinkFault) legal shows a count ends = absurd ends
+seen_after linked past look after shown messages old new said seen _ legal shows a count ends = absurd ends
 
 -- all that is shown is a run that ends so far past the noted ones
 shown_run : (look : Sight) (shown : Waiting) (to : ℕ) → ShowsWaiting look 1000 shown → length (noted (history_of look)) + length
@@ -304,15 +301,7 @@ reply_after linked past look after shown messages old new reply (Err (Store faul
 reply_after linked past look after shown messages old new reply (Err NoMemory) legal shows a doubt names matched ends =
     handed_after linked past look after shown messages old new (Ok reply) zero shows a doubt (stays look after legal ends.0)
     (λ e. in_doubt new.doubt ends.1 e)
-reply_after linked past look after shown messages old new reply (Ok (Idle records)) legal shows a doubt names matched ends =
-    absurd ends
-reply_after linked past look after shown messages old new reply (Ok (WaitUntil at)) legal shows a doubt names matched ends =
-    absurd ends
-reply_after linked past look after shown messages old new reply (Ok Cleared) legal shows a doubt names matched ends = absurd ends
-reply_after linked past look after shown messages old new reply (Err LinkFault) legal shows a doubt names matched ends =
-    absurd ends
-reply_after linked past look after shown messages old new reply (Err (Contradiction evidence)) legal shows a doubt names matched
-    ends = absurd ends
+reply_after linked past look after shown messages old new reply _ legal shows a doubt names matched ends = absurd ends
 
 with_messages : (past : List Message) (after : Sight) (messages then : List Message) (new : Sending) → then ≡ messages →
     IsCareful past after messages new → IsCareful past after then new

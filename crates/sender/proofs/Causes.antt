@@ -1,17 +1,15 @@
 -- The agency's count of faults over a turn.
-use Rattle.std.proofs.Common.{inl, inr, ℕ, ◌≤◌, List, ap, subst, arith, Result, Ok, Err, Option, Bool}
+use Rattle.std.proofs.Common.{inl, inr, ℕ, ◌≤◌, ap, subst, arith, Result, Ok, Err}
 use Rattle.std.specs.Prelude.{IsErrOf}
 use Rattle.ports.specs.Causes.{Rose}
 use Rattle.shop_core.specs.declared.waiting.Waiting.{Waiting}
-use Rattle.agency_port.specs.Replied.{Replied}
-use Rattle.agency_port.specs.declared.answers.Seen.{Seen}
 use Rattle.agency_port.specs.declared.answers.AgencyFault.TheVariants as agency
 use Rattle.once_world.specs.Outbox.{Sight}
 use Rattle.sender.specs.declared.answers.Turn.{Turn}
 use Rattle.sender.specs.declared.answers.SendFault.{SendFault}
 use Rattle.sender.specs.declared.answers.SendFault.TheVariants.{LinkFault}
 use Rattle.sender.specs.Sending.{Sending}
-use Rattle.sender.specs.Turning.{Deed, Nothing, Asked, Handed, Kind, Desk, Dealt, RestEnds, SeenEnds, ReplyEnds, Ends, Turned}
+use Rattle.sender.specs.Turning.{Deed, Nothing, Asked, Handed, Kind, Desk, Dealt, Ends, Turned}
 
 later : (kind : Kind) (desk desk_then : Desk) (shown : Waiting) (deed : Deed) → Dealt kind desk desk_then shown deed →
     desk.faults ≤ desk_then.faults
@@ -22,17 +20,6 @@ later kind desk desk_then shown (Handed answer) dealt = dealt.0.later
 pub turn_later : (kind : Kind) (desk desk_then : Desk) (before after : Sight) (old new : Sending) (now : ℕ)
     (result : Result Turn SendFault) → Turned kind desk desk_then before after old new now result → desk.faults ≤ desk_then.faults
 turn_later kind desk desk_then before after old new now result t = later kind desk desk_then t.shown t.deals.deed t.deals.dealt
-
-no_link_at_rest : (old : Sending) (now : ℕ) (shown : Waiting) → RestEnds old now shown (Err LinkFault) → ⊥
-no_link_at_rest old now shown ends = ends
-
-no_link_seen : (said : Option Replied) (shown : Waiting) (seen : List Seen) (look after : Sight) (doubt : Bool) →
-    SeenEnds said shown seen look after (Err LinkFault) doubt → ⊥
-no_link_seen said shown seen look after doubt ends = ends
-
-no_link_told : (shown : Waiting) (reply : Replied) (look after : Sight) (doubt : Bool) → ReplyEnds shown reply look after
-    (Err LinkFault) doubt → ⊥
-no_link_told shown reply look after doubt ends = ends
 
 link : (kind : Kind) (desk desk_then : Desk) (look after : Sight) (shown : Waiting) (old new : Sending) (now : ℕ) (deed : Deed) →
     Dealt kind desk desk_then shown deed → Ends old now shown look after deed (Err LinkFault) new →

@@ -11,12 +11,12 @@ use Rattle.record_fields.specs.declared.records.Sealed.{Sealed}
 use Rattle.agency_port.specs.declared.messages.Message.{Message}
 use Rattle.agency_port.specs.declared.messages.Message.TheVariants.{Begun, Submitted, Consulted}
 use Rattle.agency_port.specs.Messages.{batches_in}
-use Rattle.agency_port.specs.Replied.{Replied}
+use Rattle.agency_port.specs.Reply.{Replied}
 use Rattle.batches.specs.Batches.{huellas_of}
 use Rattle.record_fields.specs.declared.lines.Line.{Line}
 use Rattle.agency_port.specs.declared.answers.Seen.{Seen}
 use Rattle.agency_port.specs.declared.answers.Seen.TheVariants.{NotSeen, Was}
-use Rattle.agency_rules.specs.Delivery.{names}
+use Rattle.agency_rules.specs.Pairs.{names}
 use Rattle.agency_port.specs.Sessions.{says_unseen, MayGo, dark_after, dark_from, dark}
 use Rattle.agency_port.specs.Laws.{MayGoUnlessDark}
 use Rattle.sender.specs.Dark.{AreLight, IsLight, NoneInTheDark, IsRunBy, AreRunsBy}

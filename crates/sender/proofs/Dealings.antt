@@ -9,10 +9,10 @@ use Rattle.record_fields.specs.declared.lines.Line.{Line}
 use Rattle.record_codec.specs.declared.entries.Entry.{Entry}
 use Rattle.shop_core.specs.History.{noted, waiting}
 use Rattle.shop_core.specs.Legal.{Legal}
-use Rattle.agency_rules.specs.Delivery.{line_of, delivered, delivered_all}
+use Rattle.agency_rules.specs.Pairs.{line_of, delivered, delivered_all}
 use Rattle.agency_rules.specs.declared.plans.PlannedVerdict.{PlannedVerdict}
 use Rattle.batches.specs.Batches.{huellas_of}
-use Rattle.agency_port.specs.Replied.{Replied}
+use Rattle.agency_port.specs.Reply.{Replied}
 use Rattle.agency_port.specs.Answers.{looked}
 use Rattle.agency_port.specs.Ledger.{Ledger, Names, Submits, Consults}
 use Rattle.agency_port.specs.Rules.{Delivers, LooksUp, SubmitKeeps, ConsultKeeps}

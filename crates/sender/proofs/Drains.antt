@@ -8,7 +8,14 @@ use Rattle.sender.specs.declared.answers.SendFault.{SendFault}
 use Rattle.sender.specs.declared.answers.DrainFault.{DrainFault}
 use Rattle.sender.specs.declared.draining.TheConstants.{MAX_LINK_FAULTS}
 use Rattle.sender.specs.Turning.{Kind}
-use Rattle.sender.specs.Draining.{told_in, list_of, told_list, links_with, Scene, Turns, none, more, GoingOn, Made, Next, Drained}
+use Rattle.sender.specs.Draining.{told_in, list_of, told_list, links_with, Scene, Turns, none, more, Made, Next, Drained}
+
+-- turns that go on, each told
+pub record GoingOn (kind : Kind) (exact : Bool) (before now : Scene) (old new : List Told) (links : ℕ) : Type 0 where
+  pub answers : List (Result Turn SendFault)
+  pub made : Turns kind exact before answers links now
+  pub told : new ≡ old ++ filter_map told_in answers
+  pub few : links < MAX_LINK_FAULTS
 
 pub one_listed : (answer : Result Turn SendFault) (o : Option Told) → told_in answer ≡ o → filter_map told_in (answer ∷ []) ≡
     list_of o

@@ -1,6 +1,6 @@
 -- How the parts of a turn make a turn.
 use Rattle.std.proofs.Common.{◌≡◌, ◌≢◌, ℕ, ◌<◌, List, [], ◌∷◌, refl, sym, ◌∙◌, ap, subst, length, length-append, map, ◌≤◌, arith}
-use Rattle.std.proofs.Common.{Option, Some, None, Result, Ok, Err, true, false, Bool, IsTrue, ◌==◌}
+use Rattle.std.proofs.Common.{Option, Some, None, Result, Ok, Err, true, false, Bool, IsTrue, ◌==◌, inl, inr}
 use Rattle.std.proofs.lemmas.Bool.{eqb-true, eqb-false}
 use Rattle.std.proofs.lemmas.List.{length-map}
 use Rattle.agency_replies.specs.Sorting.{IsFirstAgain}
@@ -8,11 +8,11 @@ use Rattle.consultation.specs.Sorting.{IsFront, unseen_ones}
 use Rattle.agency_port.specs.declared.answers.Seen.TheVariants.{Was}
 use Rattle.record_fields.specs.declared.records.Sealed.{Sealed}
 use Rattle.record_fields.specs.declared.lines.Line.{Line}
-use Rattle.pacing.specs.Due.{is_due}
+use Rattle.pacing.specs.Pace.{is_due}
 use Rattle.pacing.specs.declared.pace.Pace.{Pace}
 use Rattle.shop_core.specs.declared.waiting.Waiting.{Waiting}
 use Rattle.batches.specs.Batches.{huellas_of}
-use Rattle.agency_port.specs.Replied.{Replied}
+use Rattle.agency_port.specs.Reply.{Replied}
 use Rattle.agency_port.specs.Ledger.{HasCause, Names, StaleShows, Submits, Consults}
 use Rattle.agency_port.specs.Rules.{SubmitKeeps, ConsultKeeps}
 use Rattle.agency_port.specs.declared.answers.Seen.{Seen}
@@ -21,13 +21,13 @@ use Rattle.agency_port.specs.declared.answers.ReplyLine.TheVariants.{First, Dupl
 use Rattle.agency_port.specs.declared.answers.AgencyFault.{AgencyFault}
 use Rattle.once_world.specs.Outbox.{Sight}
 use Rattle.sender.specs.declared.answers.Turn.{Turn}
-use Rattle.sender.specs.declared.answers.Turn.TheVariants.{Idle, WaitUntil, Noted, Cleared, Doubt}
+use Rattle.sender.specs.declared.answers.Turn.TheVariants.{Cleared, Doubt}
 use Rattle.sender.specs.declared.answers.SendFault.{SendFault}
-use Rattle.sender.specs.declared.answers.SendFault.TheVariants.{LinkFault, Contradiction, Store, NoMemory}
-use Rattle.sender.specs.Evident.{Shows, Learns}
+use Rattle.sender.specs.declared.answers.SendFault.TheVariants.{LinkFault, Contradiction, NoMemory}
+use Rattle.sender.specs.Evidence.{Shows, Learns}
 use Rattle.sender.specs.Sending.{Sending}
-use Rattle.sender.specs.Turning.{Asked, Handed, Kind, Desk, SeenEnds, ReplyEnds, AskedEnds, HandedEnds, NoteEnds, IsLook, Deals}
-use Rattle.sender.specs.Turning.{Replies, IsStale, unanswered, first_place, count_waiting}
+use Rattle.sender.specs.Turning.{Asked, Handed, Kind, Desk, NotesEnd, SeenEnds, ReplyEnds, AskedEnds, HandedEnds, NoteEnds}
+use Rattle.sender.specs.Turning.{IsLook, Deals, Replies, IsStale, unanswered, first_place, count_waiting}
 
 pub asked_deal : (kind : Kind) (desk desk_then : Desk) (look after : Sight) (shown : Waiting) (old new : Sending) (now : ℕ)
     (result : Result Turn SendFault) (huellas : List (List ℕ)) (got answer : Result (List Seen) AgencyFault) →
@@ -55,10 +55,9 @@ asked_deal kind desk desk_then look after shown old new now result huellas got a
 learn_none : (said : Option Replied) (shown : Waiting) (seen : List Seen) (look : Sight) (doubt : Bool) (fault : SendFault) →
     doubt ≡ true → Learns said (first_place shown) (huellas_of shown.list) seen (Err fault) →
     SeenEnds said shown seen look look (Err fault) doubt
-learn_none said shown seen look doubt LinkFault e learns = absurd learns
 learn_none said shown seen look doubt (Contradiction evidence) e learns = (learns, refl, e)
-learn_none said shown seen look doubt (Store fault) e learns = absurd learns
 learn_none said shown seen look doubt NoMemory e learns = (refl, e)
+learn_none said shown seen look doubt _ e learns = absurd learns
 
 -- what was learnt, by the names that the code has for it
 pub same_learns : (said said_then : Option Replied) (first : ℕ) (records records_then : List Sealed) (seen seen_then : List Seen)
@@ -108,42 +107,41 @@ seen_cleared old new shown seen look lines count pace said doubt none learns = (
 )
 
 -- lines that were handed to the shop
-noted_seen : (said : Option Replied) (shown : Waiting) (seen : List Seen) (look after : Sight) (lines : List Line)
-    (result : Result Turn SendFault) (mid new : Sending) → 1 ≤ length lines → length lines ≤ 1000 → mid.doubt ≡ true →
-    Shows said (first_place shown) (huellas_of shown.list) seen (Ok lines) → NoteEnds look after lines result mid new →
-    SeenEnds said shown seen look after result new.doubt
-noted_seen said shown seen look after lines (Ok (Noted n)) mid new some few doubt shows e = (
-  record { lines = lines; are = shows; some = some; few = few; count_is = e.0; grows = e.1; noted = e.2 },
-  ap (λ (s : Sending). s.doubt) e.3,
-)
-noted_seen said shown seen look after lines (Err (Store fault)) mid new some few doubt shows e = (
-  (length lines, record { lines = lines; are = shows; some = some; few = few; count_is = refl; grows = e.0; noted = e.1 }),
-  ap (λ (s : Sending). s.doubt) e.2 ∙ doubt,
-)
-noted_seen said shown seen look after lines (Ok (Idle records)) mid new some few doubt shows e = absurd e
-noted_seen said shown seen look after lines (Ok (WaitUntil at)) mid new some few doubt shows e = absurd e
-noted_seen said shown seen look after lines (Ok Cleared) mid new some few doubt shows e = absurd e
-noted_seen said shown seen look after lines (Ok (Doubt place)) mid new some few doubt shows e = absurd e
-noted_seen said shown seen look after lines (Err LinkFault) mid new some few doubt shows e = absurd e
-noted_seen said shown seen look after lines (Err (Contradiction evidence)) mid new some few doubt shows e = absurd e
-noted_seen said shown seen look after lines (Err NoMemory) mid new some few doubt shows e = absurd e
+noted_end : (P : List Line → Type 0) (look after : Sight) (lines : List Line) (result : Result Turn SendFault)
+    (mid new : Sending) → 1 ≤ length lines → length lines ≤ 1000 → mid.doubt ≡ true → P lines →
+    NoteEnds look after lines result mid new → NotesEnd P look after result new.doubt
+noted_end P look after lines result mid new some few doubt are e = elim e.1 [
+  | inl n ↦ subst (λ (r : Result Turn SendFault). NotesEnd P look after r new.doubt) (sym n.0) (
+    record { lines = lines; are = are; some = some; few = few; count_is = refl; grows = e.0; noted = n.1 },
+    ap (λ (s : Sending). s.doubt) n.2,
+  )
+  | inr n ↦ subst (λ (r : Result Turn SendFault). NotesEnd P look after r new.doubt) (sym n.1) (
+    (length lines, record { lines = lines; are = are; some = some; few = few; count_is = refl; grows = e.0; noted = n.2 }),
+    ap (λ (s : Sending). s.doubt) n.3 ∙ doubt,
+  )
+]
+
+as_seen : (said : Option Replied) (shown : Waiting) (seen : List Seen) (look after : Sight) (result : Result Turn SendFault)
+    (doubt : Bool) →
+    NotesEnd (λ (lines : List Line). Shows said (first_place shown) (huellas_of shown.list) seen (Ok lines)) look after result
+    doubt → SeenEnds said shown seen look after result doubt
+as_seen said shown seen look after (Ok Cleared) doubt e = absurd e
+as_seen said shown seen look after (Err (Contradiction evidence)) doubt e = absurd e
+as_seen said shown seen look after result doubt e = e
+
+as_reply : (shown : Waiting) (reply : Replied) (look after : Sight) (result : Result Turn SendFault) (doubt : Bool) →
+    NotesEnd (λ (lines : List Line). reply.lines ≡ map First lines) look after result doubt →
+    ReplyEnds shown reply look after result doubt
+as_reply shown reply look after (Ok (Doubt place)) doubt e = absurd e
+as_reply shown reply look after result doubt e = e
 
 -- noting changes nothing of the sender but its doubt
 note_keeps_pace : (look after : Sight) (lines : List Line) (result : Result Turn SendFault) (mid new : Sending) →
     NoteEnds look after lines result mid new → (new.pace ≡ mid.pace) × (new.said ≡ mid.said)
-note_keeps_pace look after lines (Ok (Noted n)) mid new e = (ap (λ (s : Sending). s.pace) e.3, ap (λ (s : Sending). s.said) e.3)
-note_keeps_pace look after lines (Err (Store fault)) mid new e = (
-  ap (λ (s : Sending). s.pace) e.2,
-  ap (λ (s : Sending). s.said)
-      e.2,
-)
-note_keeps_pace look after lines (Ok (Idle records)) mid new e = absurd e
-note_keeps_pace look after lines (Ok (WaitUntil at)) mid new e = absurd e
-note_keeps_pace look after lines (Ok Cleared) mid new e = absurd e
-note_keeps_pace look after lines (Ok (Doubt place)) mid new e = absurd e
-note_keeps_pace look after lines (Err LinkFault) mid new e = absurd e
-note_keeps_pace look after lines (Err (Contradiction evidence)) mid new e = absurd e
-note_keeps_pace look after lines (Err NoMemory) mid new e = absurd e
+note_keeps_pace look after lines result mid new e = elim e.1 [
+  | inl n ↦ (ap (λ (s : Sending). s.pace) n.2, ap (λ (s : Sending). s.said) n.2)
+  | inr n ↦ (ap (λ (s : Sending). s.pace) n.3, ap (λ (s : Sending). s.said) n.3)
+]
 
 pub seen_noted : (old mid new : Sending) (shown : Waiting) (seen : List Seen) (look after : Sight) (lines : List Line)
     (result : Result Turn SendFault) → length seen ≡ length shown.list → mid.pace ≡ old.pace → mid.said ≡ None →
@@ -151,8 +149,14 @@ pub seen_noted : (old mid new : Sending) (shown : Waiting) (seen : List Seen) (l
     1 ≤ length lines → length lines ≤ 1000 → Learns old.said (first_place shown) (huellas_of shown.list) seen (Ok lines) →
     NoteEnds look after lines result mid new → AskedEnds old shown look after (Ok seen) result new
 seen_noted old mid new shown seen look after lines result count pace said doubt some few learns e =
-    let k = note_keeps_pace look after lines result mid new e in
-    (count, k.0 ∙ pace, k.1 ∙ said, noted_seen old.said shown seen look after lines result mid new some few doubt learns e)
+    let k = note_keeps_pace look after lines result mid new e in (
+      count,
+      k.0 ∙ pace,
+      k.1 ∙ said,
+      as_seen old.said shown seen look after result new.doubt
+          (noted_end (λ (ls : List Line). Shows old.said (first_place shown) (huellas_of shown.list) seen (Ok ls)) look after
+          lines result mid new some few doubt learns e),
+    )
 
 pub handed_deal : (kind : Kind) (desk desk_then : Desk) (look after : Sight) (shown : Waiting) (old new : Sending) (now : ℕ)
     (result : Result Turn SendFault) (batch : List Sealed) (got answer : Result Replied AgencyFault) →
@@ -176,25 +180,6 @@ handed_deal kind desk desk_then look after shown old new now result batch got an
       ends = (is_look.some, doubt, due, ends);
     }
 
-noted_reply : (shown : Waiting) (reply : Replied) (look after : Sight) (lines : List Line) (result : Result Turn SendFault)
-    (mid new : Sending) → 1 ≤ length lines → length lines ≤ 1000 → mid.doubt ≡ true →
-    reply.lines ≡ map First lines → NoteEnds look after lines result mid new → ReplyEnds shown reply look after result new.doubt
-noted_reply shown reply look after lines (Ok (Noted n)) mid new some few doubt all e = (
-  record { lines = lines; are = all; some = some; few = few; count_is = e.0; grows = e.1; noted = e.2 },
-  ap (λ (s : Sending). s.doubt) e.3,
-)
-noted_reply shown reply look after lines (Err (Store fault)) mid new some few doubt all e = (
-  (length lines, record { lines = lines; are = all; some = some; few = few; count_is = refl; grows = e.0; noted = e.1 }),
-  ap (λ (s : Sending). s.doubt) e.2 ∙ doubt,
-)
-noted_reply shown reply look after lines (Ok (Idle records)) mid new some few doubt all e = absurd e
-noted_reply shown reply look after lines (Ok (WaitUntil at)) mid new some few doubt all e = absurd e
-noted_reply shown reply look after lines (Ok Cleared) mid new some few doubt all e = absurd e
-noted_reply shown reply look after lines (Ok (Doubt place)) mid new some few doubt all e = absurd e
-noted_reply shown reply look after lines (Err LinkFault) mid new some few doubt all e = absurd e
-noted_reply shown reply look after lines (Err (Contradiction evidence)) mid new some few doubt all e = absurd e
-noted_reply shown reply look after lines (Err NoMemory) mid new some few doubt all e = absurd e
-
 pub reply_noted : (mid new : Sending) (now : ℕ) (shown : Waiting) (reply : Replied) (look after : Sight) (lines : List Line)
     (result : Result Turn SendFault) → Names reply shown.list → length reply.lines ≡ length reply.huellas →
     mid.pace ≡ record { last = now; wait = reply.wait } → mid.said ≡ Some reply → mid.doubt ≡ true → 1 ≤ length lines →
@@ -207,8 +192,8 @@ reply_noted mid new now shown reply look after lines result names matched pace s
       matched = matched;
       pace = k.0 ∙ pace;
       said = k.1 ∙ said;
-      ends = noted_reply shown reply look after
-          lines result mid new some few doubt all e;
+      ends = as_reply shown reply look after result new.doubt
+          (noted_end (λ (ls : List Line). reply.lines ≡ map First ls) look after lines result mid new some few doubt all e);
     }
 
 -- a record that came before is one of them

@@ -1,28 +1,22 @@
 -- What a shop gained in several turns, and that notes of its own alone in all are notes of its own alone in each.
 use Rattle.std.proofs.Common.{◌≡◌, inl, inr, ℕ, zero, suc, ◌+◌, ◌<◌, ◌≤◌, List, [], ◌∷◌, ◌++◌, sym, ◌∙◌, ap, subst, length}
-use Rattle.std.proofs.Common.{length-append, drop, arith, append_assoc, append-nil, get_or, Option, Result, Ok, Err, Bool}
+use Rattle.std.proofs.Common.{length-append, drop, arith, append_assoc, append-nil, get_or, Result}
 use Rattle.std.proofs.Math.Seq.{drop-append_seam}
 use Rattle.std.proofs.lemmas.List.Elements.{Contains-append_cases}
 use Rattle.std.specs.Prelude.{Contains}
 use Rattle.std.specs.List.{AllByRecursion}
-use Rattle.record_fields.specs.declared.lines.Line.{Line}
 use Rattle.record_codec.specs.declared.entries.Entry.TheVariants.{Rec, Notes as notes_of}
-use Rattle.journal.specs.declared.faults.StoreFault.{StoreFault}
-use Rattle.journal.specs.declared.faults.StoreFault.TheVariants as store
 use Rattle.shop_core.specs.declared.items.Item.{Item}
 use Rattle.shop_core.specs.declared.items.Item.TheVariants as recorded
 use Rattle.shop_core.specs.declared.waiting.Waiting.{Waiting}
-use Rattle.agency_port.specs.Replied.{Replied}
-use Rattle.agency_port.specs.declared.answers.Seen.{Seen}
-use Rattle.agency_port.specs.declared.answers.AgencyFault.TheVariants as agency
-use Rattle.once_world.specs.Outbox.{Sight, Grows, AddsOwn, NotedBy, AreOwnNotes, GainsOwnNotes}
+use Rattle.once_world.specs.Agreement.{IsPrefix}
+use Rattle.once_world.specs.Outbox.{Sight, Grows, AddsOwn, AreOwnNotes, GainsOwnNotes}
 use Rattle.sender.specs.declared.answers.Turn.{Turn}
-use Rattle.sender.specs.declared.answers.Turn.TheVariants.{Idle, WaitUntil, Noted, Cleared, Doubt}
 use Rattle.sender.specs.declared.answers.SendFault.{SendFault}
-use Rattle.sender.specs.declared.answers.SendFault.TheVariants.{LinkFault, Contradiction, Store, NoMemory}
 use Rattle.sender.specs.Sending.{Sending}
-use Rattle.sender.specs.Turning.{Deed, Nothing, Asked, Handed, Kind, Desk, SeenEnds, ReplyEnds, Ends, Turned}
+use Rattle.sender.specs.Turning.{Deed, Kind, Desk, Ends, Turned}
 use Rattle.sender.proofs.Lists.{all_both, all_change}
+use Rattle.sender.proofs.Added.{Added, quiet, notes, stops, ends_added}
 
 all_at : {A : Type 0} (P : A → Type 0) (xs : List A) (k : ℕ) (x : A) → AllByRecursion P xs → k < length xs → get_or xs k x ≡ x →
     P x
@@ -72,15 +66,18 @@ growth_then a b c g h =
     }
 
 -- a grown shop that added nothing of its own, or one item
-pub quiet_growth : (before after : Sight) → Grows before after → after.own ≡ before.own → Growth before after
-quiet_growth before after g own = record {
-  items = g.items.rest;
-  items_is = g.items.is;
+quiet_gained : (before after : Sight) → IsPrefix before.items after.items → after.own ≡ before.own → Growth before after
+quiet_gained before after items own = record {
+  items = items.rest;
+  items_is = items.is;
   own = [];
   own_is = own ∙ sym (append-nil before.own);
   low = tt;
   high = tt;
 }
+
+pub quiet_growth : (before after : Sight) → Grows before after → after.own ≡ before.own → Growth before after
+quiet_growth before after g own = quiet_gained before after g.items own
 
 own_growth : (before after : Sight) (item : List Item → Item) → AddsOwn before after item → Growth before after
 own_growth before after item a =
@@ -98,57 +95,15 @@ own_growth before after item a =
       high = (omega arith, tt);
     }
 
-noted_growth : (look after : Sight) (lines : List Line) (answer : Result (Unit {0}) StoreFault) → Grows look after →
-    NotedBy look after lines answer → Growth look after
-noted_growth look after lines (Ok done) g n = own_growth look after _ n
-noted_growth look after lines (Err store.DiskFault) g n = own_growth look after _ n.adds
-noted_growth look after lines (Err (store.Stopped faults)) g n = quiet_growth look after g n.own
-noted_growth look after lines (Err store.NoMemory) g n = quiet_growth look after g n
-
-same_growth : (look after : Sight) → after ≡ look → Growth look after
-same_growth look after e = subst (λ (s : Sight). Growth look s) (sym e) (no_growth look)
-
-seen_growth : (said : Option Replied) (shown : Waiting) (seen : List Seen) (look after : Sight) (result : Result Turn SendFault)
-    (doubt : Bool) → SeenEnds said shown seen look after result doubt → Growth look after
-seen_growth said shown seen look after (Ok (Noted n)) doubt ends = noted_growth look after ends.0.lines (Ok tt) ends.0.grows
-    ends.0.noted
-seen_growth said shown seen look after (Ok Cleared) doubt ends = same_growth look after ends.1
-seen_growth said shown seen look after (Err (Contradiction evidence)) doubt ends = same_growth look after ends.1
-seen_growth said shown seen look after (Err (Store fault)) doubt ends = noted_growth look after ends.0.1.lines (Err fault)
-    ends.0.1.grows ends.0.1.noted
-seen_growth said shown seen look after (Err NoMemory) doubt ends = same_growth look after ends.0
-seen_growth said shown seen look after (Ok (Idle records)) doubt ends = absurd ends
-seen_growth said shown seen look after (Ok (WaitUntil at)) doubt ends = absurd ends
-seen_growth said shown seen look after (Ok (Doubt place)) doubt ends = absurd ends
-seen_growth said shown seen look after (Err LinkFault) doubt ends = absurd ends
-
-reply_growth : (shown : Waiting) (reply : Replied) (look after : Sight) (result : Result Turn SendFault) (doubt : Bool) →
-    ReplyEnds shown reply look after result doubt → Growth look after
-reply_growth shown reply look after (Ok (Noted n)) doubt ends = noted_growth look after ends.0.lines (Ok tt) ends.0.grows
-    ends.0.noted
-reply_growth shown reply look after (Ok (Doubt place)) doubt ends = same_growth look after ends.1
-reply_growth shown reply look after (Err (Store fault)) doubt ends = noted_growth look after ends.0.1.lines (Err fault)
-    ends.0.1.grows ends.0.1.noted
-reply_growth shown reply look after (Err NoMemory) doubt ends = same_growth look after ends.0
-reply_growth shown reply look after (Ok (Idle records)) doubt ends = absurd ends
-reply_growth shown reply look after (Ok (WaitUntil at)) doubt ends = absurd ends
-reply_growth shown reply look after (Ok Cleared) doubt ends = absurd ends
-reply_growth shown reply look after (Err LinkFault) doubt ends = absurd ends
-reply_growth shown reply look after (Err (Contradiction evidence)) doubt ends = absurd ends
+added_growth : (look after : Sight) (result : Result Turn SendFault) → Added look after result → Growth look after
+added_growth look after result (quiet issuer items own) = quiet_gained look after items own
+added_growth look after result (notes issuer lines a) = own_growth look after _ a
+added_growth look after result (stops issuer lines a is) = own_growth look after _ a.adds
 
 pub ends_growth : (old : Sending) (now : ℕ) (shown : Waiting) (look after : Sight) (deed : Deed) (result : Result Turn SendFault)
     (new : Sending) → Ends old now shown look after deed result new → Growth look after
-ends_growth old now shown look after Nothing result new ends = same_growth look after ends.2
-ends_growth old now shown look after (Asked (Ok seen)) result new ends = seen_growth old.said shown seen look after result
-    new.doubt ends.2.3
-ends_growth old now shown look after (Asked (Err agency.Failed)) result new ends = same_growth look after ends.2.2
-ends_growth old now shown look after (Asked (Err agency.NoMemory)) result new ends = same_growth look after ends.2.2
-ends_growth old now shown look after (Handed (Ok reply)) result new ends = elim ends.3 [
-  | inl r ↦ reply_growth shown reply look after result new.doubt r.ends
-  | inr r ↦ same_growth look after r.after_is
-]
-ends_growth old now shown look after (Handed (Err agency.Failed)) result new ends = same_growth look after ends.3.2
-ends_growth old now shown look after (Handed (Err agency.NoMemory)) result new ends = same_growth look after ends.3.2
+ends_growth old now shown look after deed result new ends =
+    added_growth look after result (ends_added old now shown look after deed result new ends)
 
 pub turn_growth : (kind : Kind) (desk desk_then : Desk) (before after : Sight) (old new : Sending) (now : ℕ)
     (result : Result Turn SendFault) → Turned kind desk desk_then before after old new now result → Growth before after

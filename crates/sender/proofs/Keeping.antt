@@ -15,25 +15,26 @@ use Rattle.shop_core.specs.declared.items.Item.TheVariants as recorded
 use Rattle.shop_core.specs.Legal.{Legal}
 use Rattle.shop_core.specs.declared.waiting.Waiting.{Waiting}
 use Rattle.batches.specs.Batches.{huellas_of}
-use Rattle.agency_port.specs.Replied.{Replied}
+use Rattle.agency_port.specs.Reply.{Replied}
 use Rattle.agency_port.specs.Ledger.{Ledger, Submits, Consults}
 use Rattle.agency_port.specs.Rules.{SubmitKeeps, ConsultKeeps}
 use Rattle.agency_port.specs.declared.answers.Seen.{Seen}
 use Rattle.agency_port.specs.declared.answers.ReplyLine.TheVariants.{First}
 use Rattle.agency_port.specs.declared.answers.AgencyFault.{AgencyFault}
 use Rattle.agency_port.specs.declared.answers.AgencyFault.TheVariants as agency
-use Rattle.once_world.specs.Agreement.{Agree, AreNextLines}
+use Rattle.once_world.specs.Agreement.{IsPrefix, Agree, AreNextLines, lines_of}
 use Rattle.once_world.specs.Laws.{AreRecords}
 use Rattle.once_world.specs.Outbox.{Sight, Grows, ShowsWaiting, AddsOwn, NotedBy, history_of, notes_behind, GainsOwnNotes}
 use Rattle.sender.specs.declared.answers.Turn.{Turn}
 use Rattle.sender.specs.declared.answers.Turn.TheVariants.{Idle, WaitUntil, Noted, Cleared, Doubt}
 use Rattle.sender.specs.declared.answers.SendFault.{SendFault}
 use Rattle.sender.specs.declared.answers.SendFault.TheVariants.{LinkFault, Contradiction, Store, NoMemory}
-use Rattle.sender.specs.Evident.{Shows}
+use Rattle.sender.specs.Answers.{of_agency}
+use Rattle.sender.specs.Evidence.{Shows}
 use Rattle.sender.specs.Sending.{Sending}
-use Rattle.sender.specs.Turning.{Deed, Nothing, Asked, Handed, Kind, Desk, Dealt, RestEnds, SeenEnds, ReplyEnds, Ends, Turned}
-use Rattle.sender.specs.Turning.{first_place}
-use Rattle.sender.specs.Agreeing.{AreSeen, MayBeTorn, Gains, KeepsAgreement}
+use Rattle.sender.specs.Turning.{Deed, Nothing, Asked, Handed, Kind, Desk, Dealt, RestEnds, NotesEnd, SeenEnds, ReplyEnds, Ends}
+use Rattle.sender.specs.Turning.{Turned, first_place}
+use Rattle.sender.specs.Agreeing.{InOneSession, AreSeen, MayBeTorn, Gains, KeepsAgreement}
 use Rattle.sender.specs.Known.{Known}
 use Rattle.sender.proofs.Histories.{entries_both, grown, stays}
 use Rattle.sender.proofs.Seens.{nothing_shown, seen_kept}
@@ -66,6 +67,16 @@ pub record Quiet (entries : List Entry) (old new : Ledger) (said : Option Replie
   pub dealing : Dealing entries old new
   pub sent : SentBy old new (take 1000 (waiting entries))
   pub seen : AreSeen new.processed said
+
+with_lines : (entries : List Entry) (old new : Ledger) (said : Option Replied) (lines : List Line) → Quiet entries old new said →
+    IsPrefix (noted entries ++ lines) (lines_of new.processed) → 1 ≤ length lines → length lines ≤ 1000 →
+    Middle entries old new said lines
+with_lines entries old new said lines quiet run some few = record {
+  dealing = quiet.dealing;
+  sent = quiet.sent;
+  next = record { run = run; some = some; few = few };
+  seen = quiet.seen;
+}
 
 same_history : (before look after : Sight) (g : Grows before look) → after ≡ look → history_of after ≡ at_look before look g
 same_history before look after g e = ap history_of e ∙ grown before look g
@@ -213,13 +224,14 @@ rest_gains : (old : Sending) (now : ℕ) (shown : Waiting) (entries : List Entry
     RestEnds old now shown result → history_of after ≡ entries → Gains entries processed sent after result
 rest_gains old now shown entries processed sent after (Ok (Idle records)) ends e = e
 rest_gains old now shown entries processed sent after (Ok (WaitUntil at)) ends e = e
-rest_gains old now shown entries processed sent after (Ok (Noted n)) ends e = absurd ends
-rest_gains old now shown entries processed sent after (Ok Cleared) ends e = absurd ends
-rest_gains old now shown entries processed sent after (Ok (Doubt place)) ends e = absurd ends
-rest_gains old now shown entries processed sent after (Err LinkFault) ends e = absurd ends
-rest_gains old now shown entries processed sent after (Err (Contradiction evidence)) ends e = absurd ends
-rest_gains old now shown entries processed sent after (Err (Store fault)) ends e = absurd ends
 rest_gains old now shown entries processed sent after (Err NoMemory) ends e = e
+rest_gains old now shown entries processed sent after _ ends e = absurd ends
+
+-- where the agency failed
+failed_gains : (entries : List Entry) (processed : List (Sealed × Line)) (sent : List (List Sealed)) (after : Sight)
+    (why : AgencyFault) → history_of after ≡ entries → Gains entries processed sent after (Err (of_agency why))
+failed_gains entries processed sent after agency.Failed e = e
+failed_gains entries processed sent after agency.NoMemory e = e
 
 -- What each part of a turn begins with.
 pub record Start (before look : Sight) (g : Grows before look) (shown : Waiting) (old : Ledger) : Type 0 where
@@ -278,6 +290,27 @@ asked_quiet known before look g shown old new said said_then answer shows agree 
         subst (λ (p : List (Sealed × Line)). AreSeen p said) (sym keeps.delivers.is) (seen_kept known.stays old.verdicts
         old.processed keeps.delivers.batches said there)
 
+-- lines were handed to the shop, or there was no memory
+notes_keep : Known → (P : List Line → Type 0) (before look after : Sight) (g : Grows before look) (old new : Ledger)
+    (said : Option Replied) (result : Result Turn SendFault) (doubt : Bool) → look.own ≡ before.own →
+    GainsOwnNotes before after → (AreRecords (entries_of g.items.rest) → Quiet (at_look before look g) old new said) →
+    ((lines : List Line) → P lines → AreRecords (entries_of g.items.rest) →
+    IsPrefix (noted (at_look before look g) ++ lines) (lines_of new.processed)) → NotesEnd P look after result doubt →
+    KeepsAgreement before after old new said result
+notes_keep known P before look after g old new said (Ok (Noted n)) doubt own gains quiet run ends =
+    let notes = ends.0 in
+    noted_keeps known before look after old new said notes.lines n g own notes.count_is notes.noted gains
+    (λ are. with_lines (at_look before look g) old new said notes.lines (quiet are) (run notes.lines notes.are are) notes.some
+    notes.few)
+notes_keep known P before look after g old new said (Err (Store fault)) doubt own gains quiet run ends =
+    let notes = ends.0.1 in
+    store_keeps known before look after old new said notes.lines fault g own notes.grows notes.noted gains
+    (λ are. with_lines (at_look before look g) old new said notes.lines (quiet are) (run notes.lines notes.are are) notes.some
+    notes.few)
+notes_keep known P before look after g old new said (Err NoMemory) doubt own gains quiet run ends =
+    quiet_keeps known before look after old new said (Err NoMemory) g own ends.0 gains quiet (λ e. e)
+notes_keep known P before look after g old new said _ doubt own gains quiet run ends = absurd ends
+
 -- a consultation that was answered
 seen_ends : Known → (before look after : Sight) (g : Grows before look) (shown : Waiting) (old new : Ledger)
     (said : Option Replied) (seen : List Seen) (result : Result Turn SendFault) (doubt : Bool) → look.own ≡ before.own →
@@ -286,25 +319,6 @@ seen_ends : Known → (before look after : Sight) (g : Grows before look) (shown
     (Ok seen) → ConsultKeeps old new (huellas_of shown.list) (Ok seen) →
     GainsOwnNotes before after → SeenEnds said shown seen look after result doubt → KeepsAgreement before after old new None
     result
-seen_ends known before look after g shown old new said seen (Ok (Noted n)) doubt own shows agree there consults keeps gains ends =
-    let notes = ends.0 in
-    noted_keeps known before look after old new None notes.lines n g own notes.count_is notes.noted gains
-    (λ are. asked_middle notes.lines notes.are notes.some notes.few are)
-  where
-    asked_middle : (lines : List Line) → Shows said (first_place shown) (huellas_of shown.list) seen (Ok lines) →
-        1 ≤ length lines → length lines ≤ 1000 → AreRecords (entries_of g.items.rest) → Middle (at_look before look g) old new
-        None lines
-    asked_middle lines shows_lines some few are =
-        let q = asked_quiet known before look g shown old new said None (Ok seen) shows agree there (inr refl) consults keeps are
-        in
-        let l = looked_there known before look g shown old new said seen (start known before look g shown old shows agree are)
-        there keeps in
-        record {
-          dealing = q.dealing;
-          sent = q.sent;
-          next = record { run = l.lines lines shows_lines.0; some = some; few = few };
-          seen = tt;
-        }
 seen_ends known before look after g shown old new said seen (Ok Cleared) doubt own shows agree there consults keeps gains ends =
     quiet_keeps known before look after old new None (Ok Cleared) g own ends.1 gains (λ are. asked_quiet known before look g shown
     old new said None (Ok seen) shows agree there (inr refl) consults keeps are) (λ e. e)
@@ -315,37 +329,12 @@ seen_ends known before look after g shown old new said seen (Err (Contradiction 
     let l = looked_there known before look g shown old new said seen (start known before look g shown old shows agree are) there
     keeps in
     absurd (nothing_shown l.then said (first_place shown) (huellas_of shown.list) seen evidence l.is l.whole l.there ends.0)
-seen_ends known before look after g shown old new said seen (Err (Store fault)) doubt own shows agree there consults keeps gains
-    ends =
-    let notes = ends.0.1 in
-    store_keeps known before look after old new None notes.lines fault g own notes.grows notes.noted gains
-    (λ are. asked_middle notes.lines notes.are notes.some notes.few are)
-  where
-    asked_middle : (lines : List Line) → Shows said (first_place shown) (huellas_of shown.list) seen (Ok lines) →
-        1 ≤ length lines → length lines ≤ 1000 → AreRecords (entries_of g.items.rest) → Middle (at_look before look g) old new
-        None lines
-    asked_middle lines shows_lines some few are =
-        let q = asked_quiet known before look g shown old new said None (Ok seen) shows agree there (inr refl) consults keeps are
-        in
-        let l = looked_there known before look g shown old new said seen (start known before look g shown old shows agree are)
-        there keeps in
-        record {
-          dealing = q.dealing;
-          sent = q.sent;
-          next = record { run = l.lines lines shows_lines.0; some = some; few = few };
-          seen = tt;
-        }
-seen_ends known before look after g shown old new said seen (Err NoMemory) doubt own shows agree there consults keeps gains ends =
-    quiet_keeps known before look after old new None (Err NoMemory) g own ends.0 gains (λ are. asked_quiet known before look g
-    shown old new said None (Ok seen) shows agree there (inr refl) consults keeps are) (λ e. e)
-seen_ends known before look after g shown old new said seen (Ok (Idle records)) doubt own shows agree there consults keeps gains
-    ends = absurd ends
-seen_ends known before look after g shown old new said seen (Ok (WaitUntil at)) doubt own shows agree there consults keeps gains
-    ends = absurd ends
-seen_ends known before look after g shown old new said seen (Ok (Doubt place)) doubt own shows agree there consults keeps gains
-    ends = absurd ends
-seen_ends known before look after g shown old new said seen (Err LinkFault) doubt own shows agree there consults keeps gains ends
-    = absurd ends
+seen_ends known before look after g shown old new said seen result doubt own shows agree there consults keeps gains ends =
+    notes_keep known (λ (lines : List Line). Shows said (first_place shown) (huellas_of shown.list) seen (Ok lines)) before look
+    after g old new None result doubt own gains
+    (λ are. asked_quiet known before look g shown old new said None (Ok seen) shows agree there (inr refl) consults keeps are)
+    (λ lines front are. (looked_there known before look g shown old new said seen (start known before look g shown old shows agree
+    are) there keeps).lines lines front.0) ends
 
 -- a batch was handed over
 handed_quiet : Known → (before look : Sight) (g : Grows before look) (shown : Waiting) (old new : Ledger) (said : Option Replied)
@@ -389,54 +378,20 @@ replied_quiet known before look g shown old new reply shows agree submits keeps 
           keeps names are).there;
     }
 
-replied_middle : Known → (before look : Sight) (g : Grows before look) (shown : Waiting) (old new : Ledger) (reply : Replied)
-    (lines : List Line) → ShowsWaiting look 1000 shown → Agree (history_of before) old.processed old.sent →
-    Submits old new shown.list (Ok reply) → SubmitKeeps old new shown.list (Ok reply) → (reply.huellas ≡ huellas_of shown.list) →
-    reply.lines ≡ map First lines → 1 ≤ length lines → length lines ≤ 1000 → AreRecords (entries_of g.items.rest) →
-    Middle (at_look before look g) old new (Some reply) lines
-replied_middle known before look g shown old new reply lines shows agree submits keeps names are_lines some few are =
-    let q = replied_quiet known before look g shown old new reply shows agree submits keeps names are in
-    let t = told_there known before look g shown old new reply shows agree submits keeps names are in
-    record {
-      dealing = q.dealing;
-      sent = q.sent;
-      next = record { run = t.lines lines are_lines; some = some; few = few };
-      seen = q.seen;
-    }
-
 reply_ends : Known → (before look after : Sight) (g : Grows before look) (shown : Waiting) (old new : Ledger) (reply : Replied)
     (result : Result Turn SendFault) (doubt : Bool) → look.own ≡ before.own → ShowsWaiting look 1000 shown →
     Agree (history_of before) old.processed old.sent → Submits old new shown.list (Ok reply) → SubmitKeeps old new shown.list
     (Ok reply) → (reply.huellas ≡ huellas_of shown.list) →
     GainsOwnNotes before after → ReplyEnds shown reply look after result doubt → KeepsAgreement before after old new (Some reply)
     result
-reply_ends known before look after g shown old new reply (Ok (Noted n)) doubt own shows agree submits keeps names gains ends =
-    let notes = ends.0 in
-    noted_keeps known before look after old new (Some reply) notes.lines n g own notes.count_is notes.noted gains
-    (λ are. replied_middle known before look g shown old new reply notes.lines shows agree submits keeps names notes.are
-    notes.some notes.few are)
 reply_ends known before look after g shown old new reply (Ok (Doubt place)) doubt own shows agree submits keeps names gains ends =
     quiet_keeps known before look after old new (Some reply) (Ok (Doubt place)) g own ends.1 gains
     (λ are. replied_quiet known before look g shown old new reply shows agree submits keeps names are) (λ e. e)
-reply_ends known before look after g shown old new reply (Err (Store fault)) doubt own shows agree submits keeps names gains ends
-    =
-    let notes = ends.0.1 in
-    store_keeps known before look after old new (Some reply) notes.lines fault g own notes.grows notes.noted gains
-    (λ are. replied_middle known before look g shown old new reply notes.lines shows agree submits keeps names notes.are
-    notes.some notes.few are)
-reply_ends known before look after g shown old new reply (Err NoMemory) doubt own shows agree submits keeps names gains ends =
-    quiet_keeps known before look after old new (Some reply) (Err NoMemory) g own ends.0 gains (λ are. replied_quiet known before
-    look g shown old new reply shows agree submits keeps names are) (λ e. e)
-reply_ends known before look after g shown old new reply (Ok (Idle records)) doubt own shows agree submits keeps names gains ends
-    = absurd ends
-reply_ends known before look after g shown old new reply (Ok (WaitUntil at)) doubt own shows agree submits keeps names gains ends
-    = absurd ends
-reply_ends known before look after g shown old new reply (Ok Cleared) doubt own shows agree submits keeps names gains ends =
-    absurd ends
-reply_ends known before look after g shown old new reply (Err LinkFault) doubt own shows agree submits keeps names gains ends =
-    absurd ends
-reply_ends known before look after g shown old new reply (Err (Contradiction evidence)) doubt own shows agree submits keeps names
-    gains ends = absurd ends
+reply_ends known before look after g shown old new reply result doubt own shows agree submits keeps names gains ends =
+    notes_keep known (λ (lines : List Line). reply.lines ≡ map First lines) before look after g old new (Some reply) result doubt
+    own gains (λ are. replied_quiet known before look g shown old new reply shows agree submits keeps names are)
+    (λ lines all are. (told_there known before look g shown old new reply shows agree submits keeps names are).lines lines all)
+    ends
 
 -- by what was asked
 deed_keeps : Known → (kind : Kind) (desk desk_then : Desk) (before look after : Sight) (g : Grows before look) (shown : Waiting)
@@ -465,20 +420,14 @@ deed_keeps known kind desk desk_then before look after g shown old new now resul
     subst (λ (o : Option Replied). KeepsAgreement before after desk.ledger desk_then.ledger o result) (sym e.2)
     (seen_ends known before look after g shown desk.ledger desk_then.ledger old.said seen result new.doubt own shows agree there
     (dealt.1 tells) (dealt.2 keeps) gains e.3)
-deed_keeps known kind desk desk_then before look after g shown old new now result (Asked (Err agency.Failed)) tells keeps own
-    shows agree there gains dealt ends =
+deed_keeps known kind desk desk_then before look after g shown old new now result (Asked (Err why)) tells keeps own shows agree
+    there gains dealt ends =
     let e = ends.2 in
     subst (λ (r : Result Turn SendFault). KeepsAgreement before after desk.ledger desk_then.ledger new.said r) (sym e.0)
-    (quiet_keeps known before look after desk.ledger desk_then.ledger new.said (Err LinkFault) g own e.2 gains
-    (λ are. asked_quiet known before look g shown desk.ledger desk_then.ledger old.said new.said (Err agency.Failed) shows agree
-    there (inl (ap (λ (s : Sending). s.said) e.1)) (dealt.1 tells) (dealt.2 keeps) are) (λ h. h))
-deed_keeps known kind desk desk_then before look after g shown old new now result (Asked (Err agency.NoMemory)) tells keeps own
-    shows agree there gains dealt ends =
-    let e = ends.2 in
-    subst (λ (r : Result Turn SendFault). KeepsAgreement before after desk.ledger desk_then.ledger new.said r) (sym e.0)
-    (quiet_keeps known before look after desk.ledger desk_then.ledger new.said (Err NoMemory) g own e.2 gains
-    (λ are. asked_quiet known before look g shown desk.ledger desk_then.ledger old.said new.said (Err agency.NoMemory) shows agree
-    there (inl (ap (λ (s : Sending). s.said) e.1)) (dealt.1 tells) (dealt.2 keeps) are) (λ h. h))
+    (quiet_keeps known before look after desk.ledger desk_then.ledger new.said (Err (of_agency why)) g own e.2 gains
+    (λ are. asked_quiet known before look g shown desk.ledger desk_then.ledger old.said new.said (Err why) shows agree there
+    (inl (ap (λ (s : Sending). s.said) e.1)) (dealt.1 tells) (dealt.2 keeps) are)
+    (failed_gains (at_look before look g) desk_then.ledger.processed desk_then.ledger.sent after why))
 deed_keeps known kind desk desk_then before look after g shown old new now result (Handed (Ok reply)) tells keeps own shows agree
     there gains dealt ends =
     elim ends.3 [
@@ -493,31 +442,23 @@ deed_keeps known kind desk desk_then before look after g shown old new now resul
           (handed_quiet known before look g shown desk.ledger desk_then.ledger old.said (Ok reply) shows agree there
           (dealt.2 tells) (dealt.3 keeps) are)) (λ h. h))
     ]
-deed_keeps known kind desk desk_then before look after g shown old new now result (Handed (Err agency.Failed)) tells keeps own
-    shows agree there gains dealt ends =
+deed_keeps known kind desk desk_then before look after g shown old new now result (Handed (Err why)) tells keeps own shows agree
+    there gains dealt ends =
     let e = ends.3 in
     subst (λ (x : Result Turn SendFault). KeepsAgreement before after desk.ledger desk_then.ledger new.said x) (sym e.0)
-    (quiet_keeps known before look after desk.ledger desk_then.ledger new.said (Err LinkFault) g own e.2 gains
+    (quiet_keeps known before look after desk.ledger desk_then.ledger new.said (Err (of_agency why)) g own e.2 gains
     (λ are. subst (λ (o : Option Replied). Quiet (at_look before look g) desk.ledger desk_then.ledger o)
     (sym (ap (λ (s : Sending). s.said) e.1))
-    (handed_quiet known before look g shown desk.ledger desk_then.ledger old.said (Err agency.Failed) shows agree there
-    (dealt.2 tells) (dealt.3 keeps) are)) (λ h. h))
-deed_keeps known kind desk desk_then before look after g shown old new now result (Handed (Err agency.NoMemory)) tells keeps own
-    shows agree there gains dealt ends =
-    let e = ends.3 in
-    subst (λ (x : Result Turn SendFault). KeepsAgreement before after desk.ledger desk_then.ledger new.said x) (sym e.0)
-    (quiet_keeps known before look after desk.ledger desk_then.ledger new.said (Err NoMemory) g own e.2 gains
-    (λ are. subst (λ (o : Option Replied). Quiet (at_look before look g) desk.ledger desk_then.ledger o)
-    (sym (ap (λ (s : Sending). s.said) e.1))
-    (handed_quiet known before look g shown desk.ledger desk_then.ledger old.said (Err agency.NoMemory) shows agree there
-    (dealt.2 tells) (dealt.3 keeps) are)) (λ h. h))
+    (handed_quiet known before look g shown desk.ledger desk_then.ledger old.said (Err why) shows agree there (dealt.2 tells)
+    (dealt.3 keeps) are))
+    (failed_gains (at_look before look g) desk_then.ledger.processed desk_then.ledger.sent after why))
 
 -- the whole turn
 pub turn_keeps : Known → (kind : Kind) (desk desk_then : Desk) (before after : Sight) (old new : Sending) (now : ℕ)
     (result : Result Turn SendFault) → Turned kind desk desk_then before after old new now result →
-    (IsTrue kind.keeps_rules → IsTrue kind.tells) → IsTrue kind.keeps_rules → Agree (history_of before) desk.ledger.processed
-    desk.ledger.sent → AreSeen desk.ledger.processed old.said → GainsOwnNotes before after →
-    KeepsAgreement before after desk.ledger desk_then.ledger new.said result
-turn_keeps known kind desk desk_then before after old new now result t tells keeps agree there gains =
+    (IsTrue kind.keeps_rules → IsTrue kind.tells) →
+    InOneSession kind.keeps_rules before after desk.ledger old.said
+    (KeepsAgreement before after desk.ledger desk_then.ledger new.said result)
+turn_keeps known kind desk desk_then before after old new now result t tells keeps session gains =
     deed_keeps known kind desk desk_then before t.look after t.grows t.shown old new now result t.deals.deed (tells keeps) keeps
-    t.own t.shows agree there gains t.deals.dealt t.deals.ends
+    t.own t.shows session.agree session.said_seen gains t.deals.dealt t.deals.ends

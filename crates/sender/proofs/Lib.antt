@@ -10,6 +10,7 @@ pub mod Saids
 pub mod Careful
 pub mod Causes
 pub mod Drains
+pub mod Added
 pub mod Growing
 pub mod Sessions
 pub mod Drained

@@ -1,12 +1,11 @@
 -- The reply that a sender keeps is the last one of its session that named its batch, until a consultation answers.
 use Rattle.std.proofs.Common.{◌≡◌, inl, inr, ℕ, List, [], ◌∷◌, ◌++◌, refl, sym, ◌∙◌, ap, append_assoc, unwrap_or, option_map}
-use Rattle.std.proofs.Common.{Option, Some, None, Result, Ok, Err, Bool, true, false, IsTrue}
+use Rattle.std.proofs.Common.{Option, Some, Result, Ok, Err, Bool, true, false, IsTrue}
 use Rattle.record_fields.specs.Picks.{when}
-use Rattle.record_fields.specs.declared.records.Sealed.{Sealed}
 use Rattle.shop_core.specs.declared.waiting.Waiting.{Waiting}
 use Rattle.batches.specs.Batches.{huellas_of}
-use Rattle.agency_port.specs.Replied.{Replied}
-use Rattle.agency_port.specs.Ledger.{Ledger, Names}
+use Rattle.agency_port.specs.Reply.{Replied}
+use Rattle.agency_port.specs.Ledger.{Ledger}
 use Rattle.agency_port.specs.Laws.{KeptByOneMore}
 use Rattle.agency_port.specs.Practice.{is_reply_to}
 use Rattle.agency_port.specs.Sessions.{keeps}

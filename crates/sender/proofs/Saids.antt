@@ -4,11 +4,11 @@ use Rattle.std.proofs.Common.{add-one, bytes_eq, false, None}
 use Rattle.record_fields.specs.declared.records.Sealed.{Sealed}
 use Rattle.record_fields.specs.declared.lines.Line.{Line}
 use Rattle.batches.specs.Batches.{huellas_of}
-use Rattle.agency_port.specs.Replied.{Replied}
+use Rattle.agency_port.specs.Reply.{Replied}
 use Rattle.agency_port.specs.declared.answers.ReplyLine.{ReplyLine}
 use Rattle.agency_port.specs.declared.answers.Seen.{Seen}
 use Rattle.agency_port.specs.declared.answers.Seen.TheVariants.{NotSeen, Was}
-use Rattle.sender.specs.Evident.{said_in, forgotten_in}
+use Rattle.sender.specs.Evidence.{said_in, forgotten_in}
 
 said_suc : (huellas : List (List ℕ)) (lines : List ReplyLine) (huella : List ℕ) (i : ℕ) → i < length huellas →
     length lines ≡ length huellas → bytes_eq (get_or huellas i []) huella ≡ false →

@@ -7,9 +7,9 @@ use Rattle.std.proofs.lemmas.Bool.{cases_Bool}
 use Rattle.std.proofs.lemmas.Slice.Eq.{bytes_eq-Decides}
 use Rattle.record_fields.specs.declared.records.Sealed.{Sealed}
 use Rattle.record_fields.specs.declared.lines.Line.{Line}
-use Rattle.agency_rules.specs.Delivery.{line_of, delivered_all}
+use Rattle.agency_rules.specs.Pairs.{line_of, delivered_all}
 use Rattle.agency_rules.specs.declared.plans.PlannedVerdict.{PlannedVerdict}
-use Rattle.agency_port.specs.Replied.{Replied}
+use Rattle.agency_port.specs.Reply.{Replied}
 use Rattle.agency_port.specs.Answers.{seen_of, looked}
 use Rattle.agency_port.specs.declared.answers.ReplyLine.{ReplyLine}
 use Rattle.agency_port.specs.declared.answers.Seen.{Seen}
@@ -19,7 +19,7 @@ use Rattle.agency_port.specs.declared.turns.Evidence.TheVariants.{Hole, Forgotte
 use Rattle.consultation.specs.Sorting.{unseen_ones, IsHole, IsFront}
 use Rattle.once_world.specs.Laws.{SeenStays}
 use Rattle.once_world.specs.Looks.{lines_in_front, HasNoHole}
-use Rattle.sender.specs.Evident.{said_in, forgotten_in, forgotten, Shows}
+use Rattle.sender.specs.Evidence.{said_in, forgotten_in, forgotten, Shows}
 use Rattle.sender.specs.Agreeing.{AreSeen}
 
 front_of_unseen : (rest : ℕ) → lines_in_front (replicate rest NotSeen) ≡ []

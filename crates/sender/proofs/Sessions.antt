@@ -1,12 +1,12 @@
 -- What turns keep, one after another.
 use Rattle.std.proofs.Common.{ℕ, List, [], ◌++◌, sym, ◌∙◌, ap, append_assoc, append-nil, Bool, Result, IsTrue}
 use Rattle.agency_port.specs.declared.messages.Message.{Message}
-use Rattle.once_world.specs.Agreement.{IsPrefix, Agree}
-use Rattle.once_world.specs.Outbox.{history_of, GainsOwnNotes}
+use Rattle.once_world.specs.Agreement.{IsPrefix}
+use Rattle.once_world.specs.Outbox.{GainsOwnNotes}
 use Rattle.sender.specs.declared.answers.Turn.{Turn}
 use Rattle.sender.specs.declared.answers.SendFault.{SendFault}
 use Rattle.sender.specs.Turning.{Kind}
-use Rattle.sender.specs.Agreeing.{AreSeen, KeepsAgreement, KeepsSession, IsCareful}
+use Rattle.sender.specs.Agreeing.{InOneSession, KeepsAgreement, KeepsSession, IsCareful}
 use Rattle.sender.specs.Draining.{Scene, Turns, none, more, IsTurn}
 use Rattle.sender.specs.Known.{Known}
 use Rattle.sender.proofs.Keeping.{turn_keeps}
@@ -44,7 +44,7 @@ pub one_keeps : Known → (kind : Kind) (exact : Bool) (start mid then : Scene) 
     Keeps start then × KeepsAgreement mid.sight then.sight mid.desk.ledger then.desk.ledger then.sending.said answer
 one_keeps known kind exact start mid then answer tells keeps turn gains k =
     let t = turn_keeps known kind mid.desk then.desk mid.sight then.sight mid.sending then.sending turn.now answer turn.turned
-    tells keeps k.session.agree k.session.said_seen gains in (
+    tells keeps k.session gains in (
       record {
         session = t.session;
         begins = prefix_then start.desk.ledger.processed mid.desk.ledger.processed
@@ -54,18 +54,16 @@ one_keeps known kind exact start mid then answer tells keeps turn gains k =
     )
 
 pub turns_keep : Known → (kind : Kind) (exact : Bool) (start : Scene) (answers : List (Result Turn SendFault)) (links : ℕ)
-    (scene : Scene) → (IsTrue kind.keeps_rules → IsTrue kind.tells) → IsTrue kind.keeps_rules →
-    Agree (history_of start.sight) start.desk.ledger.processed start.desk.ledger.sent → AreSeen start.desk.ledger.processed
-    start.sending.said → Turns kind exact start answers links scene → GainsOwnNotes start.sight scene.sight →
-    Keeps start scene
-turns_keep known kind exact start answers links scene tells keeps agree seen none gains =
-    record { session = record { agree = agree; said_seen = seen }; begins = prefix_same start.desk.ledger.processed }
-turns_keep known kind exact start answers links scene tells keeps agree seen (more before_answers before_links mid answer then t
-    turn on few) gains =
+    (scene : Scene) → (IsTrue kind.keeps_rules → IsTrue kind.tells) → Turns kind exact start answers links scene →
+    InOneSession kind.keeps_rules start.sight scene.sight start.desk.ledger start.sending.said (Keeps start scene)
+turns_keep known kind exact start answers links scene tells none keeps session gains =
+    record { session = session; begins = prefix_same start.desk.ledger.processed }
+turns_keep known kind exact start answers links scene tells (more before_answers before_links mid answer then t turn on few)
+    keeps session gains =
     let each = gains_each start.sight mid.sight then.sight (turns_growth kind exact start before_answers before_links mid t)
     (is_turn_growth kind exact mid then answer turn) gains in
     (one_keeps known kind exact start mid then answer tells keeps turn each.1 (turns_keep known kind exact start before_answers
-    before_links mid tells keeps agree seen t each.0)).0
+    before_links mid tells t keeps session each.0)).0
 
 pub turns_careful : AreLinked → (past : List Message) (kind : Kind) (exact : Bool) (start : Scene)
     (answers : List (Result Turn SendFault)) (links : ℕ) (scene : Scene) → IsTrue kind.tells → Turns kind exact start answers

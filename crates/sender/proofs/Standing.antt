@@ -13,10 +13,10 @@ use Rattle.shop_core.specs.History.{recs, noted, waiting}
 use Rattle.shop_core.specs.Items.{entries_of}
 use Rattle.shop_core.specs.declared.waiting.Waiting.{Waiting}
 use Rattle.pacing.specs.declared.pace.Pace.{Pace}
-use Rattle.pacing.specs.Due.{is_due, due_at}
+use Rattle.pacing.specs.Pace.{is_due, due_at}
 use Rattle.batches.specs.Batches.{huellas_of}
-use Rattle.agency_rules.specs.Delivery.{line_of}
-use Rattle.agency_port.specs.Replied.{Replied}
+use Rattle.agency_rules.specs.Pairs.{line_of}
+use Rattle.agency_port.specs.Reply.{Replied}
 use Rattle.agency_port.specs.Answers.{seen_of, looked}
 use Rattle.agency_port.specs.declared.answers.Seen.{Seen}
 use Rattle.agency_port.specs.declared.answers.Seen.TheVariants.{Was}

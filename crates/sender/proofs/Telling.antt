@@ -4,7 +4,7 @@ use Rattle.std.proofs.Common.{IsTrue}
 use Rattle.journal.specs.declared.faults.StoreFault.TheVariants as store
 use Rattle.shop_core.specs.declared.waiting.Waiting.{Waiting}
 use Rattle.batches.specs.Batches.{huellas_of}
-use Rattle.agency_port.specs.Replied.{Replied}
+use Rattle.agency_port.specs.Reply.{Replied}
 use Rattle.agency_port.specs.Ledger.{Ledger}
 use Rattle.agency_port.specs.declared.answers.Seen.{Seen}
 use Rattle.agency_port.specs.declared.answers.AgencyFault.TheVariants as agency
@@ -15,7 +15,7 @@ use Rattle.once_world.specs.Outbox.{Sight}
 use Rattle.sender.specs.declared.answers.Turn.{Turn}
 use Rattle.sender.specs.declared.answers.Turn.TheVariants.{Idle, WaitUntil, Noted, Cleared, Doubt}
 use Rattle.sender.specs.declared.answers.SendFault.{SendFault}
-use Rattle.sender.specs.declared.answers.SendFault.TheVariants.{LinkFault, Contradiction, Store, NoMemory}
+use Rattle.sender.specs.declared.answers.SendFault.TheVariants.{Contradiction, Store, NoMemory}
 use Rattle.sender.specs.Sending.{Sending}
 use Rattle.sender.specs.Turning.{Deed, Nothing, Asked, Handed, Kind, Desk, Dealt, RestEnds, SeenEnds, ReplyEnds, Ends, Turned}
 use Rattle.sender.specs.Turning.{first_place}
@@ -27,13 +27,8 @@ rest_quiet : (old : Sending) (now : ℕ) (shown : Waiting) (result : Result Turn
     IsQuiet (told_in result)
 rest_quiet old now shown (Ok (Idle records)) ends = tt
 rest_quiet old now shown (Ok (WaitUntil at)) ends = tt
-rest_quiet old now shown (Ok (Noted n)) ends = absurd ends
-rest_quiet old now shown (Ok Cleared) ends = absurd ends
-rest_quiet old now shown (Ok (Doubt place)) ends = absurd ends
-rest_quiet old now shown (Err LinkFault) ends = absurd ends
-rest_quiet old now shown (Err (Contradiction evidence)) ends = absurd ends
-rest_quiet old now shown (Err (Store fault)) ends = absurd ends
 rest_quiet old now shown (Err NoMemory) ends = tt
+rest_quiet old now shown _ ends = absurd ends
 
 -- the line of an answered consultation
 pub record LineFor (P : Told → Type 0) (result : Result Turn SendFault) : Type 0 where
@@ -53,12 +48,7 @@ seen_line said shown seen look after (Err (Contradiction evidence)) doubt ends =
     record {
       line = told.Contradiction;
       told = refl;
-      is = record {
-        said = said;
-        first = first_place shown;
-        evidence = evidence;
-        shows = ends.0;
-      };
+      is = (said, first_place shown, evidence, ends.0);
     }
 seen_line said shown seen look after (Err (Store store.DiskFault)) doubt ends = record {
   line = told.Disk;
@@ -72,10 +62,7 @@ seen_line said shown seen look after (Err (Store (store.Stopped faults))) doubt 
 }
 seen_line said shown seen look after (Err (Store store.NoMemory)) doubt ends = record { line = told.Memory; told = refl; is = tt }
 seen_line said shown seen look after (Err NoMemory) doubt ends = record { line = told.Memory; told = refl; is = tt }
-seen_line said shown seen look after (Ok (Idle records)) doubt ends = absurd ends
-seen_line said shown seen look after (Ok (WaitUntil at)) doubt ends = absurd ends
-seen_line said shown seen look after (Ok (Doubt place)) doubt ends = absurd ends
-seen_line said shown seen look after (Err LinkFault) doubt ends = absurd ends
+seen_line said shown seen look after _ doubt ends = absurd ends
 
 reply_line : (shown : Waiting) (reply : Replied) (look after : Sight) (result : Result Turn SendFault) (doubt : Bool) →
     reply.huellas ≡ huellas_of shown.list → length reply.lines ≡ length reply.huellas → ReplyEnds shown reply look after result
@@ -86,7 +73,7 @@ reply_line shown reply look after (Ok (Noted n)) doubt names matched ends =
       line = told.Noted n;
       told = refl;
       is = (
-        record { names = names; lines = ends.0.lines; first = ends.0.are },
+        (names, (ends.0.lines, ends.0.are)),
         ends.0.count_is ∙ as_many reply shown.list ends.0.lines names matched ends.0.are,
       );
     }
@@ -98,13 +85,13 @@ reply_line shown reply look after (Ok (Doubt place)) doubt names matched ends = 
 reply_line shown reply look after (Err (Store store.DiskFault)) doubt names matched ends = record {
   line = told.Disk;
   told = refl;
-  is = record { names = names; lines = ends.0.1.lines; first = ends.0.1.are };
+  is = (names, (ends.0.1.lines, ends.0.1.are));
 }
 reply_line shown reply look after (Err (Store (store.Stopped faults))) doubt names matched ends =
     record {
       line = told.Stopped faults;
       told = refl;
-      is = record { names = names; lines = ends.0.1.lines; first = ends.0.1.are };
+      is = (names, (ends.0.1.lines, ends.0.1.are));
     }
 reply_line shown reply look after (Err (Store store.NoMemory)) doubt names matched ends = record {
   line = told.Memory;
@@ -112,11 +99,7 @@ reply_line shown reply look after (Err (Store store.NoMemory)) doubt names match
   is = tt;
 }
 reply_line shown reply look after (Err NoMemory) doubt names matched ends = record { line = told.Memory; told = refl; is = tt }
-reply_line shown reply look after (Ok (Idle records)) doubt names matched ends = absurd ends
-reply_line shown reply look after (Ok (WaitUntil at)) doubt names matched ends = absurd ends
-reply_line shown reply look after (Ok Cleared) doubt names matched ends = absurd ends
-reply_line shown reply look after (Err LinkFault) doubt names matched ends = absurd ends
-reply_line shown reply look after (Err (Contradiction evidence)) doubt names matched ends = absurd ends
+reply_line shown reply look after _ doubt names matched ends = absurd ends
 
 deed_tells : (kind : Kind) (desk desk_then : Desk) (look after : Sight) (shown : Waiting) (old new : Sending) (now : ℕ)
     (result : Result Turn SendFault) (deed : Deed) → IsTrue kind.tells → Dealt kind desk desk_then shown deed →

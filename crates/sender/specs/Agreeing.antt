@@ -1,20 +1,20 @@
 -- That turns keep the agreement of a shop and its agency, and hand no record over in the dark.
 use Rattle.std.specs.Prelude.{◌≡◌, ◌⊎◌, ℕ, ◌+◌, List, [], ◌∷◌, ◌++◌, length, take, drop, ⊤, ◌≤◌, false, Option, Some}
-use Rattle.std.specs.Prelude.{None, IsSome, Result, Ok, Err, Contains, slice_get}
+use Rattle.std.specs.Prelude.{None, IsSome, IsTrue, Bool, Result, Ok, Err, Contains, slice_get}
 use Rattle.std.specs.List.{AllByRecursion}
 use Rattle.record_fields.specs.declared.records.Sealed.{Sealed}
 use Rattle.record_fields.specs.declared.lines.Line.{Line}
 use Rattle.record_fields.specs.declared.lines.TheConstants.{BATCH}
 use Rattle.record_codec.specs.declared.entries.Entry.{Entry}
-use Rattle.record_codec.specs.declared.entries.Entry.TheVariants.{Rec, Notes}
+use Rattle.record_codec.specs.declared.entries.Entry.TheVariants.{Notes}
 use Rattle.journal.specs.declared.faults.StoreFault.{StoreFault}
 use Rattle.journal.specs.declared.faults.StoreFault.TheVariants as store
 use Rattle.shop_core.specs.History.{recs, noted, waiting}
 use Rattle.shop_core.specs.declared.items.Item.{Item}
 use Rattle.shop_core.specs.declared.items.Item.TheVariants as recorded
 use Rattle.shop_core.specs.Legal.{Legal}
-use Rattle.agency_rules.specs.Delivery.{line_of}
-use Rattle.agency_port.specs.Replied.{Replied}
+use Rattle.agency_rules.specs.Pairs.{line_of}
+use Rattle.agency_port.specs.Reply.{Replied}
 use Rattle.agency_port.specs.Messages.{batches_in}
 use Rattle.agency_port.specs.Ledger.{Ledger}
 use Rattle.agency_port.specs.Rules.{Delivers}
@@ -23,11 +23,11 @@ use Rattle.agency_port.specs.declared.messages.Message.TheVariants.{Submitted}
 use Rattle.agency_port.specs.declared.answers.AgencyFault.{AgencyFault}
 use Rattle.once_world.specs.Agreement.{IsPrefix, Agree, AreNextLines}
 use Rattle.once_world.specs.Laws.{AreRecords}
-use Rattle.once_world.specs.Outbox.{Sight, history_of}
+use Rattle.once_world.specs.Outbox.{Sight, GainsOwnNotes, history_of}
 use Rattle.sender.specs.declared.answers.Turn.{Turn}
-use Rattle.sender.specs.declared.answers.Turn.TheVariants.{Idle, WaitUntil, Noted, Cleared, Doubt}
+use Rattle.sender.specs.declared.answers.Turn.TheVariants.{Noted}
 use Rattle.sender.specs.declared.answers.SendFault.{SendFault}
-use Rattle.sender.specs.declared.answers.SendFault.TheVariants.{LinkFault, Contradiction, Store, NoMemory}
+use Rattle.sender.specs.declared.answers.SendFault.TheVariants.{Contradiction, Store}
 use Rattle.sender.specs.Sending.{Sending, fresh}
 use Rattle.agency_port.specs.Sessions.{MayGo, kept_reply}
 use Rattle.sender.specs.Dark.{AreLight, NoneInTheDark, AreRunsBy}
@@ -42,6 +42,11 @@ AreSeen processed (Some reply) = AllByRecursion (λ (huella : List ℕ). IsSome 
 pub record InSession (seen : Sight) (ledger : Ledger) (said : Option Replied) : Type 0 where
   pub agree : Agree (history_of seen) ledger.processed ledger.sent
   pub said_seen : AreSeen ledger.processed said
+
+-- the claim, of turns of a sender with an agency that keeps its rules, in one session, where the shop gained no notes but theirs
+abbrev pub InOneSession : Bool → Sight → Sight → Ledger → Option Replied → Type 0 → Type 0
+InOneSession keeps_rules before after ledger said Claim =
+    IsTrue keeps_rules → InSession before ledger said → GainsOwnNotes before after → Claim
 
 -- a new sender is in session where shop and agency agree
 abbrev pub BeginsInSession : Type 0
@@ -64,8 +69,7 @@ MayBeTorn look more processed sent after lines store.DiskFault =
     ((items : List Item)
     × ((faults : ℕ) × (after.items ≡ items ++ recorded.Stop faults (Notes (length (noted look)) lines) ∷ [])))
     × Agree ((look ++ more) ++ Notes (length (noted look)) lines ∷ []) processed sent
-MayBeTorn look more processed sent after lines (store.Stopped faults) = ⊤
-MayBeTorn look more processed sent after lines store.NoMemory = ⊤
+MayBeTorn look more processed sent after lines _ = ⊤
 
 -- more records came, and the agency's next lines could not be noted
 pub record NotesNone (look : List Entry) (processed : List (Sealed × Line)) (sent : List (List Sealed)) (after : Sight)
@@ -80,14 +84,9 @@ pub record NotesNone (look : List Entry) (processed : List (Sealed × Line)) (se
 -- what a turn adds behind the history at its look, by its answer; a contradiction never comes
 abbrev pub Gains : List Entry → List (Sealed × Line) → List (List Sealed) → Sight → Result Turn SendFault → Type 0
 Gains look processed sent after (Ok (Noted n)) = NotesNext look processed (history_of after) n
-Gains look processed sent after (Ok (Idle records)) = history_of after ≡ look
-Gains look processed sent after (Ok (WaitUntil at)) = history_of after ≡ look
-Gains look processed sent after (Ok Cleared) = history_of after ≡ look
-Gains look processed sent after (Ok (Doubt place)) = history_of after ≡ look
-Gains look processed sent after (Err LinkFault) = history_of after ≡ look
-Gains look processed sent after (Err (Contradiction evidence)) = ⊥
 Gains look processed sent after (Err (Store fault)) = NotesNone look processed sent after fault
-Gains look processed sent after (Err NoMemory) = history_of after ≡ look
+Gains look processed sent after (Err (Contradiction evidence)) = ⊥
+Gains look processed sent after _ = history_of after ≡ look
 
 -- A turn with an agency that keeps its rules, in one session.
 pub record KeepsAgreement (before after : Sight) (old new : Ledger) (said : Option Replied)
@@ -158,16 +157,13 @@ HasAt P items place = (x : Item) × (slice_get items place ≡ Some x) × P x
 
 -- notes
 abbrev pub AreNotes : Item → Type 0
-AreNotes (recorded.Entry (Rec till serial sealed)) = ⊥
 AreNotes (recorded.Entry (Notes first lines)) = ⊤
-AreNotes (recorded.Stop faults torn) = ⊥
+AreNotes _ = ⊥
 
 -- notes, or the stop over notes
 abbrev pub AreNotesOrTorn : Item → Type 0
-AreNotesOrTorn (recorded.Entry (Rec till serial sealed)) = ⊥
-AreNotesOrTorn (recorded.Entry (Notes first lines)) = ⊤
-AreNotesOrTorn (recorded.Stop faults (Rec till serial sealed)) = ⊥
-AreNotesOrTorn (recorded.Stop faults (Notes first lines)) = ⊤
+AreNotesOrTorn (recorded.Stop faults torn) = AreNotes (recorded.Entry torn)
+AreNotesOrTorn item = AreNotes item
 
 -- A shop's sight after turns of its sender: it grew, and P holds of each item that its own notes added.
 pub record Adds (P : Item → Type 0) (before after : Sight) : Type 0 where

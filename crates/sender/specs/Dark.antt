@@ -3,7 +3,7 @@ use Rattle.std.specs.Prelude.{◌≡◌, ℕ, ◌+◌, ◌≤◌, List, [], ◌�
 use Rattle.std.specs.List.{AllByRecursion}
 use Rattle.record_fields.specs.declared.records.Sealed.{Sealed}
 use Rattle.agency_port.specs.declared.messages.Message.{Message}
-use Rattle.agency_port.specs.declared.messages.Message.TheVariants.{Begun, Submitted, Consulted}
+use Rattle.agency_port.specs.declared.messages.Message.TheVariants.{Submitted}
 use Rattle.agency_port.specs.Sessions.{dark}
 
 -- none of the records is in the dark
@@ -12,9 +12,8 @@ AreLight messages records = AllByRecursion (λ (s : Sealed). dark messages s.hue
 
 -- a submission hands over none that is
 abbrev pub IsLight : List Message → Message → Type 0
-IsLight before (Begun plan pairs) = ⊤
 IsLight before (Submitted batch answer) = AreLight before batch
-IsLight before (Consulted huellas answer) = ⊤
+IsLight before _ = ⊤
 
 -- nor does any of these, one after the other
 abbrev pub NoneInTheDark : List Message → List Message → Type 0

@@ -28,8 +28,7 @@ told_in (Err LinkFault) = Some told.Link
 told_in (Err (Contradiction evidence)) = Some told.Contradiction
 told_in (Err (Store store.DiskFault)) = Some told.Disk
 told_in (Err (Store (store.Stopped faults))) = Some (told.Stopped faults)
-told_in (Err (Store store.NoMemory)) = Some told.Memory
-told_in (Err NoMemory) = Some told.Memory
+told_in _ = Some told.Memory
 
 abbrev pub list_of : {A : Type 0} → Option A → List A
 list_of None = []
@@ -41,31 +40,21 @@ told_list answer = list_of (told_in answer)
 -- the sleeper's moment after a turn with this answer
 abbrev pub moment_after : ℕ → Result Turn SendFault → ℕ
 moment_after moment (Ok (WaitUntil at)) = max moment at
-moment_after moment (Ok (Idle records)) = moment
-moment_after moment (Ok (Noted n)) = moment
-moment_after moment (Ok Cleared) = moment
-moment_after moment (Ok (Doubt place)) = moment
-moment_after moment (Err why) = moment
+moment_after moment _ = moment
 
 -- the turns go on after this answer
 abbrev pub GoesOn : Result Turn SendFault → Type 0
-GoesOn (Ok (Idle records)) = ⊥
 GoesOn (Ok (WaitUntil at)) = ⊤
 GoesOn (Ok (Noted n)) = ⊤
 GoesOn (Ok Cleared) = ⊤
 GoesOn (Ok (Doubt place)) = ⊤
 GoesOn (Err LinkFault) = ⊤
-GoesOn (Err (Contradiction evidence)) = ⊥
-GoesOn (Err (Store fault)) = ⊥
-GoesOn (Err NoMemory) = ⊥
+GoesOn _ = ⊥
 
 -- the count of link faults after this answer
 abbrev pub links_with : ℕ → Result Turn SendFault → ℕ
 links_with links (Err LinkFault) = links + 1
-links_with links (Ok turn) = links
-links_with links (Err (Contradiction evidence)) = links
-links_with links (Err (Store fault)) = links
-links_with links (Err NoMemory) = links
+links_with links _ = links
 
 -- the counts of a shop in which some record waits
 pub record CountsOf (seen : Sight) (noted_count records_count : ℕ) : Type 0 where
@@ -98,6 +87,9 @@ pub record Scene : Type 0 where
   pub sight : Sight
   pub sending : Sending
   pub moment : ℕ
+
+abbrev pub scene_of : Desk → Sight → Sending → ℕ → Scene
+scene_of desk sight sending moment = record { desk = desk; sight = sight; sending = sending; moment = moment }
 
 -- one turn at the sleeper's second
 pub record IsTurn (kind : Kind) (exact : Bool) (before after : Scene) (answer : Result Turn SendFault) : Type 0 where
@@ -141,24 +133,10 @@ pub record Drained (kind : Kind) (exact : Bool) (before after : Scene) (old new 
   pub ends : ((new ≡ old ++ filter_map told_in (answers ++ answer ∷ [])) × EndsWith links after.sight answer result)
       ⊎ ((result ≡ Err drain.NoMemory) × (new ≡ old ++ filter_map told_in answers))
 
--- turns that go on, each told
-pub record GoingOn (kind : Kind) (exact : Bool) (before now : Scene) (old new : List Told) (links : ℕ) : Type 0 where
-  pub answers : List (Result Turn SendFault)
-  pub made : Turns kind exact before answers links now
-  pub told : new ≡ old ++ filter_map told_in answers
-  pub few : links < MAX_LINK_FAULTS
-
 -- a turn that had a link fault
 abbrev pub is_link : Told → Bool
-is_link (told.Wait at) = false
-is_link (told.Noted n) = false
-is_link told.Cleared = false
-is_link (told.Doubt place) = false
 is_link told.Link = true
-is_link told.Contradiction = false
-is_link told.Disk = false
-is_link (told.Stopped faults) = false
-is_link told.Memory = false
+is_link _ = false
 
 -- What was told, and one turn more, is no more than two turns for each batch that waited, six for each link fault, and eight.
 pub record IsBounded (batches : ℕ) (old new : List Told) : Type 0 where

@@ -1,5 +1,5 @@
-pub mod Faults
-pub mod Evident
+pub mod Answers
+pub mod Evidence
 pub mod Sending
 pub mod Turning
 pub mod Dark

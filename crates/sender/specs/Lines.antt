@@ -3,7 +3,7 @@ use Rattle.std.specs.Prelude.{◌≡◌, ◌⊎◌, ℕ, List, [], ◌∷◌, �
 use Rattle.std.specs.List.{AllByRecursion}
 use Rattle.record_fields.specs.declared.records.Sealed.{Sealed}
 use Rattle.record_fields.specs.declared.lines.Line.{Line}
-use Rattle.agency_port.specs.Replied.{Replied}
+use Rattle.agency_port.specs.Reply.{Replied}
 use Rattle.agency_port.specs.Ledger.{Names}
 use Rattle.agency_port.specs.declared.answers.Seen.{Seen}
 use Rattle.agency_port.specs.declared.answers.ReplyLine.TheVariants.{First}
@@ -17,47 +17,36 @@ use Rattle.agency_replies.specs.Sorting.{IsFirstAgain}
 use Rattle.consultation.specs.Sorting.{IsFront}
 use Rattle.sender.specs.declared.answers.Turn.{Turn}
 use Rattle.sender.specs.declared.answers.SendFault.{SendFault}
-use Rattle.sender.specs.Evident.{Shows}
+use Rattle.sender.specs.Evidence.{Shows}
 use Rattle.sender.specs.declared.answers.DrainFault.{DrainFault}
 use Rattle.sender.specs.declared.answers.DrainFault.TheVariants as drain
 use Rattle.sender.specs.Draining.{told_in, list_of}
 
 -- all records of the batch are new
-pub record AreAllNew (batch : List Sealed) (reply : Replied) : Type 0 where
-  pub names : Names reply batch
-  pub lines : List Line
-  pub first : reply.lines ≡ map First lines
+abbrev pub AreAllNew : List Sealed → Replied → Type 0
+AreAllNew batch reply = Names reply batch × ((lines : List Line) × (reply.lines ≡ map First lines))
+
+-- the line of lines that were handed to the shop: P holds of them, and Q of their count where they were noted
+abbrev pub NotedLineOf : Type 0 → (ℕ → Type 0) → Told → Type 0
+NotedLineOf P Q (told.Noted n) = Q n
+NotedLineOf P Q told.Disk = P
+NotedLineOf P Q (told.Stopped faults) = P
+NotedLineOf P Q told.Memory = ⊤
+NotedLineOf P Q _ = ⊥
 
 -- the line of a submission that was replied to
 abbrev pub ReplyLineOf : List Sealed → Replied → Told → Type 0
 ReplyLineOf batch reply told.Link = Names reply batch → ⊥
 ReplyLineOf batch reply (told.Doubt place) = Names reply batch × ((index : ℕ) × IsFirstAgain reply.lines index)
-ReplyLineOf batch reply (told.Noted n) = AreAllNew batch reply × (n ≡ length batch)
-ReplyLineOf batch reply told.Disk = AreAllNew batch reply
-ReplyLineOf batch reply (told.Stopped faults) = AreAllNew batch reply
-ReplyLineOf batch reply told.Memory = ⊤
-ReplyLineOf batch reply (told.Wait at) = ⊥
-ReplyLineOf batch reply told.Cleared = ⊥
-ReplyLineOf batch reply told.Contradiction = ⊥
+ReplyLineOf batch reply line = NotedLineOf (AreAllNew batch reply) (λ (n : ℕ). AreAllNew batch reply × (n ≡ length batch)) line
 
--- a contradiction that the answers show, perhaps beside an earlier reply
-pub record AreContrary (huellas : List (List ℕ)) (seen : List Seen) : Type 0 where
-  pub said : Option Replied
-  pub first : ℕ
-  pub evidence : Evidence
-  pub shows : Shows said first huellas seen (Err evidence)
-
--- the line of a consultation that was answered
+-- the line of a consultation that was answered; what contradicts itself may do so beside an earlier reply
 abbrev pub SeenLineOf : List (List ℕ) → List Seen → Told → Type 0
 SeenLineOf huellas seen told.Cleared = IsFront seen []
-SeenLineOf huellas seen (told.Noted n) = (lines : List Line) × IsFront seen lines × (n ≡ length lines)
-SeenLineOf huellas seen told.Contradiction = AreContrary huellas seen
-SeenLineOf huellas seen told.Disk = (lines : List Line) × IsFront seen lines
-SeenLineOf huellas seen (told.Stopped faults) = (lines : List Line) × IsFront seen lines
-SeenLineOf huellas seen told.Memory = ⊤
-SeenLineOf huellas seen told.Link = ⊥
-SeenLineOf huellas seen (told.Wait at) = ⊥
-SeenLineOf huellas seen (told.Doubt place) = ⊥
+SeenLineOf huellas seen told.Contradiction =
+    (said : Option Replied) × (first : ℕ) × (evidence : Evidence) × Shows said first huellas seen (Err evidence)
+SeenLineOf huellas seen line = NotedLineOf ((lines : List Line) × IsFront seen lines)
+    (λ (n : ℕ). (lines : List Line) × IsFront seen lines × (n ≡ length lines)) line
 
 abbrev pub IsLineOf : Message → Told → Type 0
 IsLineOf (Begun plan pairs) printed = ⊥
@@ -73,13 +62,7 @@ abbrev pub IsQuiet : Option Told → Type 0
 IsQuiet None = ⊤
 IsQuiet (Some (told.Wait at)) = ⊤
 IsQuiet (Some told.Memory) = ⊤
-IsQuiet (Some (told.Noted n)) = ⊥
-IsQuiet (Some told.Cleared) = ⊥
-IsQuiet (Some (told.Doubt place)) = ⊥
-IsQuiet (Some told.Link) = ⊥
-IsQuiet (Some told.Contradiction) = ⊥
-IsQuiet (Some told.Disk) = ⊥
-IsQuiet (Some (told.Stopped faults)) = ⊥
+IsQuiet _ = ⊥
 
 -- one message more, and its line
 pub record Spoke (old new : List Message) (answer : Result Turn SendFault) : Type 0 where
@@ -114,8 +97,7 @@ pub record DrainTells (old new : List Message) (told_old told_new : List Told)
 -- a submission or a consultation
 abbrev pub IsCall : Message → Type 0
 IsCall (Begun plan pairs) = ⊥
-IsCall (Submitted batch answer) = ⊤
-IsCall (Consulted huellas answer) = ⊤
+IsCall _ = ⊤
 
 -- submissions and consultations alone were said
 pub record SaysCalls (old new : List Message) : Type 0 where

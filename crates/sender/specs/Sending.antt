@@ -2,7 +2,7 @@
 use Rattle.std.specs.Prelude.{Bool, true, None, Option}
 use Rattle.pacing.specs.declared.pace.Pace.{Pace}
 use Rattle.pacing.specs.declared.pace.TheConstants.{FIRST_WAIT}
-use Rattle.agency_port.specs.Replied.{Replied}
+use Rattle.agency_port.specs.Reply.{Replied}
 
 -- whether it is in doubt what came of its last batch; its pace; and the last reply that named its batch, until a consultation
 -- has been answered

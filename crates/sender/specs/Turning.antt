@@ -3,15 +3,14 @@ use Rattle.std.specs.Prelude.{◌≡◌, ◌⊎◌, ℕ, ◌+◌, ◌-◌, ◌^�
 use Rattle.std.specs.Prelude.{None, Result, Ok, Err, IsTrue, ⊤}
 use Rattle.record_fields.specs.declared.lines.Line.{Line}
 use Rattle.record_fields.specs.declared.lines.TheConstants.{BATCH}
-use Rattle.pacing.specs.Due.{is_due, due_at}
+use Rattle.pacing.specs.Pace.{is_due, due_at}
 use Rattle.batches.specs.Batches.{huellas_of}
-use Rattle.agency_port.specs.Replied.{Replied}
+use Rattle.agency_port.specs.Reply.{Replied}
 use Rattle.agency_port.specs.Ledger.{Ledger, HasCause, Names, StaleShows, Submits, Consults}
 use Rattle.agency_port.specs.Rules.{SubmitKeeps, ConsultKeeps}
 use Rattle.agency_port.specs.declared.answers.ReplyLine.TheVariants.{First}
 use Rattle.agency_port.specs.declared.answers.Seen.{Seen}
 use Rattle.agency_port.specs.declared.answers.AgencyFault.{AgencyFault}
-use Rattle.agency_port.specs.declared.answers.AgencyFault.TheVariants as agency
 use Rattle.agency_replies.specs.Sorting.{IsFirstAgain}
 use Rattle.journal.specs.declared.faults.StoreFault.{StoreFault}
 use Rattle.shop_core.specs.declared.waiting.Waiting.{Waiting}
@@ -21,7 +20,8 @@ use Rattle.sender.specs.declared.answers.Turn.{Turn}
 use Rattle.sender.specs.declared.answers.Turn.TheVariants.{Idle, WaitUntil, Noted, Cleared, Doubt}
 use Rattle.sender.specs.declared.answers.SendFault.{SendFault}
 use Rattle.sender.specs.declared.answers.SendFault.TheVariants.{LinkFault, Contradiction, Store, NoMemory}
-use Rattle.sender.specs.Evident.{Shows}
+use Rattle.sender.specs.Answers.{of_agency}
+use Rattle.sender.specs.Evidence.{Shows}
 use Rattle.sender.specs.Sending.{Sending}
 
 -- what was asked of the agency in a turn, and what it answered: nothing; what it has seen of the records shown; or to take them
@@ -53,31 +53,24 @@ abbrev pub RestEnds : Sending → ℕ → Waiting → Result Turn SendFault → 
 RestEnds old now shown (Ok (Idle records)) = (shown.noted ≡ shown.records) × (records ≡ shown.records)
 RestEnds old now shown (Ok (WaitUntil at)) = (shown.noted < shown.records) × (old.doubt ≡ false)
     × (is_due old.pace now (count_waiting shown) ≡ false) × (at ≡ due_at old.pace)
-RestEnds old now shown (Ok (Noted n)) = ⊥
-RestEnds old now shown (Ok Cleared) = ⊥
-RestEnds old now shown (Ok (Doubt place)) = ⊥
-RestEnds old now shown (Err LinkFault) = ⊥
-RestEnds old now shown (Err (Contradiction evidence)) = ⊥
-RestEnds old now shown (Err (Store fault)) = ⊥
 RestEnds old now shown (Err NoMemory) = ⊤
+RestEnds old now shown _ = ⊥
 
--- How a turn ends whose consultation was answered. The last part says whether it is in doubt afterwards.
+-- How a turn ends that handed lines to the shop, or found no memory. The last part says whether it is in doubt afterwards.
+abbrev pub NotesEnd : (List Line → Type 0) → Sight → Sight → Result Turn SendFault → Bool → Type 0
+NotesEnd AreLines look after (Ok (Noted n)) doubt = Notes look after AreLines n (Ok tt) × (doubt ≡ false)
+NotesEnd AreLines look after (Err (Store fault)) doubt = ((n : ℕ) × Notes look after AreLines n (Err fault)) × (doubt ≡ true)
+NotesEnd AreLines look after (Err NoMemory) doubt = (after ≡ look) × (doubt ≡ true)
+NotesEnd AreLines look after _ doubt = ⊥
+
+-- how a turn ends whose consultation was answered
 abbrev pub SeenEnds : Option Replied → Waiting → List Seen → Sight → Sight → Result Turn SendFault → Bool → Type 0
-SeenEnds said shown seen look after (Ok (Noted n)) doubt =
-    Notes look after (λ (lines : List Line). Shows said (first_place shown) (huellas_of shown.list) seen (Ok lines)) n (Ok tt)
-    × (doubt ≡ false)
 SeenEnds said shown seen look after (Ok Cleared) doubt =
     Shows said (first_place shown) (huellas_of shown.list) seen (Ok []) × (after ≡ look) × (doubt ≡ false)
 SeenEnds said shown seen look after (Err (Contradiction evidence)) doubt =
     Shows said (first_place shown) (huellas_of shown.list) seen (Err evidence) × (after ≡ look) × (doubt ≡ true)
-SeenEnds said shown seen look after (Err (Store fault)) doubt =
-    ((n : ℕ) × Notes look after (λ (lines : List Line). Shows said (first_place shown) (huellas_of shown.list) seen (Ok lines)) n
-    (Err fault)) × (doubt ≡ true)
-SeenEnds said shown seen look after (Err NoMemory) doubt = (after ≡ look) × (doubt ≡ true)
-SeenEnds said shown seen look after (Ok (Idle records)) doubt = ⊥
-SeenEnds said shown seen look after (Ok (WaitUntil at)) doubt = ⊥
-SeenEnds said shown seen look after (Ok (Doubt place)) doubt = ⊥
-SeenEnds said shown seen look after (Err LinkFault) doubt = ⊥
+SeenEnds said shown seen look after result doubt = NotesEnd
+    (λ (lines : List Line). Shows said (first_place shown) (huellas_of shown.list) seen (Ok lines)) look after result doubt
 
 -- the place of the first record that came before, by the reply
 pub record IsDoubtAt (shown : Waiting) (reply : Replied) (place : ℕ) : Type 0 where
@@ -87,17 +80,9 @@ pub record IsDoubtAt (shown : Waiting) (reply : Replied) (place : ℕ) : Type 0 
 
 -- How a turn ends whose batch got a reply that names it.
 abbrev pub ReplyEnds : Waiting → Replied → Sight → Sight → Result Turn SendFault → Bool → Type 0
-ReplyEnds shown reply look after (Ok (Noted n)) doubt =
-    Notes look after (λ (lines : List Line). reply.lines ≡ map First lines) n (Ok tt) × (doubt ≡ false)
 ReplyEnds shown reply look after (Ok (Doubt place)) doubt = IsDoubtAt shown reply place × (after ≡ look) × (doubt ≡ true)
-ReplyEnds shown reply look after (Err (Store fault)) doubt =
-    ((n : ℕ) × Notes look after (λ (lines : List Line). reply.lines ≡ map First lines) n (Err fault)) × (doubt ≡ true)
-ReplyEnds shown reply look after (Err NoMemory) doubt = (after ≡ look) × (doubt ≡ true)
-ReplyEnds shown reply look after (Ok (Idle records)) doubt = ⊥
-ReplyEnds shown reply look after (Ok (WaitUntil at)) doubt = ⊥
-ReplyEnds shown reply look after (Ok Cleared) doubt = ⊥
-ReplyEnds shown reply look after (Err LinkFault) doubt = ⊥
-ReplyEnds shown reply look after (Err (Contradiction evidence)) doubt = ⊥
+ReplyEnds shown reply look after result doubt =
+    NotesEnd (λ (lines : List Line). reply.lines ≡ map First lines) look after result doubt
 
 -- the sender after a submission at this second that got no reply of its own
 abbrev pub unanswered : Sending → ℕ → Sending
@@ -124,16 +109,13 @@ abbrev pub AskedEnds : Sending → Waiting → Sight → Sight → Result (List 
     Type 0
 AskedEnds old shown look after (Ok seen) result new = (length seen ≡ length shown.list) × (new.pace ≡ old.pace)
     × (new.said ≡ None) × SeenEnds old.said shown seen look after result new.doubt
-AskedEnds old shown look after (Err agency.Failed) result new = (result ≡ Err LinkFault) × (new ≡ old) × (after ≡ look)
-AskedEnds old shown look after (Err agency.NoMemory) result new = (result ≡ Err NoMemory) × (new ≡ old) × (after ≡ look)
+AskedEnds old shown look after (Err why) result new = (result ≡ Err (of_agency why)) × (new ≡ old) × (after ≡ look)
 
 abbrev pub HandedEnds : Sending → ℕ → Waiting → Sight → Sight → Result Replied AgencyFault → Result Turn SendFault → Sending →
     Type 0
 HandedEnds old now shown look after (Ok reply) result new = Replies now shown look after reply result new
     ⊎ IsStale old now shown look after reply result new
-HandedEnds old now shown look after (Err agency.Failed) result new = (result ≡ Err LinkFault) × (new ≡ unanswered old now)
-    × (after ≡ look)
-HandedEnds old now shown look after (Err agency.NoMemory) result new = (result ≡ Err NoMemory) × (new ≡ unanswered old now)
+HandedEnds old now shown look after (Err why) result new = (result ≡ Err (of_agency why)) × (new ≡ unanswered old now)
     × (after ≡ look)
 
 -- How a turn ends, by what was shown and what was asked. In doubt it consults; otherwise it submits where a submission is due.
@@ -154,6 +136,12 @@ pub record Kind : Type 0 where
 pub record Desk : Type 0 where
   pub ledger : Ledger
   pub faults : ℕ
+
+abbrev pub kind_of : Bool → Bool → Kind
+kind_of tells keeps_rules = record { tells = tells; keeps_rules = keeps_rules }
+
+abbrev pub desk_of : {G : Type 0} → (G → Ledger) → (G → ℕ) → G → Desk
+desk_of ledger faults agency = record { ledger = ledger agency; faults = faults agency }
 
 -- what the deed is to the agency
 abbrev pub Dealt : Kind → Desk → Desk → Waiting → Deed → Type 0
@@ -177,16 +165,10 @@ pub record IsLook (look : Sight) (shown : Waiting) : Type 0 where
 
 -- how a turn ends that handed these lines to the shop
 abbrev pub NoteEnds : Sight → Sight → List Line → Result Turn SendFault → Sending → Sending → Type 0
-NoteEnds look after lines (Ok (Noted n)) old new = (n ≡ length lines) × Grows look after × NotedBy look after lines (Ok tt)
-    × (new ≡ record { doubt = false; pace = old.pace; said = old.said })
-NoteEnds look after lines (Err (Store fault)) old new = Grows look after × NotedBy look after lines (Err fault) × (new ≡ old)
-NoteEnds look after lines (Ok (Idle records)) old new = ⊥
-NoteEnds look after lines (Ok (WaitUntil at)) old new = ⊥
-NoteEnds look after lines (Ok Cleared) old new = ⊥
-NoteEnds look after lines (Ok (Doubt place)) old new = ⊥
-NoteEnds look after lines (Err LinkFault) old new = ⊥
-NoteEnds look after lines (Err (Contradiction evidence)) old new = ⊥
-NoteEnds look after lines (Err NoMemory) old new = ⊥
+NoteEnds look after lines result old new = Grows look after
+    × (((result ≡ Ok (Noted (length lines))) × NotedBy look after lines (Ok tt)
+    × (new ≡ record { doubt = false; pace = old.pace; said = old.said }))
+    ⊎ ((fault : StoreFault) × (result ≡ Err (Store fault)) × NotedBy look after lines (Err fault) × (new ≡ old)))
 
 -- a turn behind a look
 pub record Deals (kind : Kind) (desk desk_then : Desk) (look after : Sight) (shown : Waiting) (old new : Sending) (now : ℕ)

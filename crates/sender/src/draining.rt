@@ -3,12 +3,13 @@ ghost use Rattle.std.specs.Prelude.{◌≡◌, ◌<◌, ◌≤◌, ◌+◌, ◌-
 ghost use Rattle.agency_port.specs.declared.messages.Message.{Message as AnyMessage};
 ghost use Rattle.agency_port.specs.declared.turns.Evidence.{Evidence as AnyEvidence};
 ghost use Rattle.shop_core.specs.History.{recs, noted, waiting};
-ghost use Rattle.once_world.specs.Outbox.{GainsOwnNotes, history_of};
-ghost use Rattle.sender.specs.Agreeing.{InSession, KeepsReply, KeepsSession, AgreesTorn, AgreesIfTorn, Adds, AreNotesOrTorn};
+ghost use Rattle.once_world.specs.Outbox.{history_of};
+ghost use Rattle.sender.specs.Agreeing.{InOneSession, KeepsReply, KeepsSession, AgreesTorn, AgreesIfTorn, Adds, AreNotesOrTorn};
 ghost use Rattle.sender.specs.Agreeing.{IsCareful};
 ghost use Rattle.sender.specs.declared.draining.TheConstants.{MAX_LINK_FAULTS};
 ghost use Rattle.sender.specs.Lines.{DrainTells, SaysCalls};
-ghost use Rattle.sender.specs.Draining.{told_in, told_list, moment_after, LinksAfter, Made, Drained, IsBounded};
+ghost use Rattle.sender.specs.Turning.{kind_of, desk_of};
+ghost use Rattle.sender.specs.Draining.{told_in, told_list, moment_after, scene_of, LinksAfter, Made, Drained, IsBounded};
 ghost use Rattle.record_fields.specs.declared.lines.TheConstants.{BATCH};
 
 use crate::laws::what_is_known;
@@ -108,19 +109,9 @@ impl Sender {
         links: &mut u32,
     ) -> Result<bool, DrainFault>
         requires { links.old < MAX_LINK_FAULTS }
-        ensures made { Made (record { tells = G.tells; keeps_rules = G.keeps_rules }) Z.tells
-            (record {
-              desk = record { ledger = G.ledger agency.old; faults = G.faults agency.old };
-              sight = O.sight outbox.old;
-              sending = self.old;
-              moment = Z.moment sleeper.old;
-            })
-            (record {
-              desk = record { ledger = G.ledger agency.new; faults = G.faults agency.new };
-              sight = O.sight outbox.new;
-              sending = self.new;
-              moment = Z.moment sleeper.new;
-            })
+        ensures made { Made (kind_of G.tells G.keeps_rules) Z.tells
+            (scene_of (desk_of G.ledger G.faults agency.old) (O.sight outbox.old) self.old (Z.moment sleeper.old))
+            (scene_of (desk_of G.ledger G.faults agency.new) (O.sight outbox.new) self.new (Z.moment sleeper.new))
             turns.old turns.new links.old links.new result }
         ensures fixed { O.fixed outbox.new ≡ O.fixed outbox.old }
     {
@@ -145,41 +136,29 @@ impl Sender {
         sleeper: &mut Z,
         turns: &mut Turns,
     ) -> Result<(), DrainFault>
-        ensures drained { Drained (record { tells = G.tells; keeps_rules = G.keeps_rules }) Z.tells
-            (record {
-              desk = record { ledger = G.ledger agency.old; faults = G.faults agency.old };
-              sight = O.sight outbox.old;
-              sending = self.old;
-              moment = Z.moment sleeper.old;
-            })
-            (record {
-              desk = record { ledger = G.ledger agency.new; faults = G.faults agency.new };
-              sight = O.sight outbox.new;
-              sending = self.new;
-              moment = Z.moment sleeper.new;
-            })
+        ensures drained { Drained (kind_of G.tells G.keeps_rules) Z.tells
+            (scene_of (desk_of G.ledger G.faults agency.old) (O.sight outbox.old) self.old (Z.moment sleeper.old))
+            (scene_of (desk_of G.ledger G.faults agency.new) (O.sight outbox.new) self.new (Z.moment sleeper.new))
             turns.old turns.new result }
         ensures fixed { O.fixed outbox.new ≡ O.fixed outbox.old }
 
         // With an agency that keeps its rules, in whose session the earlier turns were, agreement stays, and it contradicts
         // itself never.
-        ensures agreement { IsTrue G.keeps_rules → InSession (O.sight outbox.old) (G.ledger agency.old) self.old.said →
-            GainsOwnNotes (O.sight outbox.old) (O.sight outbox.new) →
-            KeepsSession (O.sight outbox.old) (O.sight outbox.new) (G.ledger agency.old) (G.ledger agency.new) self.new.said }
-        ensures no_contradiction { IsTrue G.keeps_rules → InSession (O.sight outbox.old) (G.ledger agency.old) self.old.said →
-            GainsOwnNotes (O.sight outbox.old) (O.sight outbox.new) →
-            (evidence : AnyEvidence) → IsErrOf result (DrainFault.Contradiction evidence) → ⊥ }
+        ensures agreement { InOneSession G.keeps_rules (O.sight outbox.old) (O.sight outbox.new) (G.ledger agency.old)
+            self.old.said
+            (KeepsSession (O.sight outbox.old) (O.sight outbox.new) (G.ledger agency.old) (G.ledger agency.new) self.new.said) }
+        ensures no_contradiction { InOneSession G.keeps_rules (O.sight outbox.old) (O.sight outbox.new) (G.ledger agency.old)
+            self.old.said ((evidence : AnyEvidence) → IsErrOf result (DrainFault.Contradiction evidence) → ⊥) }
 
         // Where the disk failed amid its notes, the shop agrees with them too.
-        ensures torn { IsTrue G.keeps_rules → InSession (O.sight outbox.old) (G.ledger agency.old) self.old.said →
-            GainsOwnNotes (O.sight outbox.old) (O.sight outbox.new) →
-            IsErrOf result (DrainFault.Store StoreFault.DiskFault) → AgreesTorn (O.sight outbox.new) (G.ledger agency.new) }
+        ensures torn { InOneSession G.keeps_rules (O.sight outbox.old) (O.sight outbox.new) (G.ledger agency.old) self.old.said
+            (IsErrOf result (DrainFault.Store StoreFault.DiskFault) →
+            AgreesTorn (O.sight outbox.new) (G.ledger agency.new)) }
 
         // The same by what its own notes added, whatever is answered: notes, or the stop over them.
         ensures adds { Adds AreNotesOrTorn (O.sight outbox.old) (O.sight outbox.new) }
-        ensures if_torn { IsTrue G.keeps_rules → InSession (O.sight outbox.old) (G.ledger agency.old) self.old.said →
-            GainsOwnNotes (O.sight outbox.old) (O.sight outbox.new) →
-            AgreesIfTorn (O.sight outbox.old) (O.sight outbox.new) (G.ledger agency.new) }
+        ensures if_torn { InOneSession G.keeps_rules (O.sight outbox.old) (O.sight outbox.new) (G.ledger agency.old) self.old.said
+            (AgreesIfTorn (O.sight outbox.old) (O.sight outbox.new) (G.ledger agency.new)) }
 
         // No record is handed over again unless a consultation since has answered that it didn't come.
         ensures careful { IsTrue G.tells → (past : List AnyMessage) →
@@ -205,11 +184,10 @@ impl Sender {
             (length (noted (history_of (O.sight outbox.new))) ≡ length (recs (history_of (O.sight outbox.new)))) }
 
         // Where no record comes in between, the turns are bounded by the batches that waited and by the link faults.
-        ensures bound { IsTrue G.keeps_rules → InSession (O.sight outbox.old) (G.ledger agency.old) self.old.said →
-            GainsOwnNotes (O.sight outbox.old) (O.sight outbox.new) →
-            length (recs (history_of (O.sight outbox.new))) ≤ length (recs (history_of (O.sight outbox.old))) →
+        ensures bound { InOneSession G.keeps_rules (O.sight outbox.old) (O.sight outbox.new) (G.ledger agency.old) self.old.said
+            (length (recs (history_of (O.sight outbox.new))) ≤ length (recs (history_of (O.sight outbox.old))) →
             (batches : ℕ) → length (waiting (history_of (O.sight outbox.old))) ≤ BATCH * batches →
-            IsBounded batches turns.old turns.new }
+            IsBounded batches turns.old turns.new) }
     {
         legal_is_chained();
         what_is_known();
@@ -227,19 +205,9 @@ impl Sender {
         sleeper: &mut Z,
         turns: &mut Turns,
     ) -> Result<(), DrainFault>
-        ensures drained { Drained (record { tells = G.tells; keeps_rules = G.keeps_rules }) Z.tells
-            (record {
-              desk = record { ledger = G.ledger agency.old; faults = G.faults agency.old };
-              sight = O.sight outbox.old;
-              sending = self.old;
-              moment = Z.moment sleeper.old;
-            })
-            (record {
-              desk = record { ledger = G.ledger agency.new; faults = G.faults agency.new };
-              sight = O.sight outbox.new;
-              sending = self.new;
-              moment = Z.moment sleeper.new;
-            })
+        ensures drained { Drained (kind_of G.tells G.keeps_rules) Z.tells
+            (scene_of (desk_of G.ledger G.faults agency.old) (O.sight outbox.old) self.old (Z.moment sleeper.old))
+            (scene_of (desk_of G.ledger G.faults agency.new) (O.sight outbox.new) self.new (Z.moment sleeper.new))
             turns.old turns.new result }
         ensures fixed { O.fixed outbox.new ≡ O.fixed outbox.old }
     {

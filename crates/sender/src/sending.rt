@@ -2,17 +2,17 @@
 ghost use Rattle.std.specs.Prelude.{◌≡◌, ◌≤◌, ◌<◌, ◌^◌, ℕ, List, IsTrue, IsErrOf, true, false, length};
 ghost use Rattle.ports.specs.Causes.{Rose};
 ghost use Rattle.agency_port.specs.declared.messages.Message.{Message as AnyMessage};
-ghost use Rattle.sender.specs.Agreeing.{InSession, KeepsReply, KeepsAgreement, IsCareful, Adds, AreNotes, AreNotesOrTorn};
+ghost use Rattle.sender.specs.Agreeing.{InOneSession, KeepsReply, KeepsAgreement, IsCareful, Adds, AreNotes, AreNotesOrTorn};
 ghost use Rattle.sender.specs.Agreeing.{AgreesIfTorn};
-ghost use Rattle.pacing.specs.Due.{is_due};
+ghost use Rattle.pacing.specs.Pace.{is_due};
 ghost use Rattle.shop_core.specs.History as history;
 ghost use Rattle.shop_core.specs.Legal.{Legal};
-ghost use Rattle.once_world.specs.Outbox.{GainsOwnNotes, history_of, ShowsWaiting};
+ghost use Rattle.once_world.specs.Outbox.{history_of, ShowsWaiting};
 ghost use Rattle.sender.specs.Sending.{fresh};
 ghost use Rattle.agency_port.specs.Ledger.{Names};
 ghost use Rattle.sender.specs.Draining.{CountsOf};
 ghost use Rattle.sender.specs.Lines.{TellsOf, SaysCalls};
-ghost use Rattle.sender.specs.Turning.{NoteEnds, IsLook, Deals, Replies, Turned, count_waiting};
+ghost use Rattle.sender.specs.Turning.{NoteEnds, IsLook, Deals, Replies, Turned, count_waiting, kind_of, desk_of};
 ghost use Rattle.record_fields.specs.declared.lines.TheConstants.{BATCH};
 
 use crate::draining::Counted;
@@ -103,9 +103,8 @@ impl Sender {
     ) -> Result<Turn, SendFault>
         requires look { IsLook (O.sight outbox.old) shown.now }
         requires doubt { self.old.doubt ≡ true }
-        ensures ends { (now : ℕ) → Deals (record { tells = G.tells; keeps_rules = G.keeps_rules })
-            (record { ledger = G.ledger agency.old; faults = G.faults agency.old })
-            (record { ledger = G.ledger agency.new; faults = G.faults agency.new })
+        ensures ends { (now : ℕ) → Deals (kind_of G.tells G.keeps_rules)
+            (desk_of G.ledger G.faults agency.old) (desk_of G.ledger G.faults agency.new)
             (O.sight outbox.old) (O.sight outbox.new) shown.now self.old self.new now result }
         ensures fixed { O.fixed outbox.new ≡ O.fixed outbox.old }
     {
@@ -143,9 +142,8 @@ impl Sender {
         requires look { IsLook (O.sight outbox.old) shown.now }
         requires doubt { self.old.doubt ≡ false }
         requires due { is_due self.old.pace now (count_waiting shown.now) ≡ true }
-        ensures ends { Deals (record { tells = G.tells; keeps_rules = G.keeps_rules })
-            (record { ledger = G.ledger agency.old; faults = G.faults agency.old })
-            (record { ledger = G.ledger agency.new; faults = G.faults agency.new })
+        ensures ends { Deals (kind_of G.tells G.keeps_rules)
+            (desk_of G.ledger G.faults agency.old) (desk_of G.ledger G.faults agency.new)
             (O.sight outbox.old) (O.sight outbox.new) shown.now self.old self.new now result }
         ensures fixed { O.fixed outbox.new ≡ O.fixed outbox.old }
     {
@@ -210,9 +208,8 @@ impl Sender {
     ) -> Result<Turn, SendFault>
         requires shows { ShowsWaiting (O.sight outbox.old) BATCH shown.now }
         requires legal { Legal (O.sight outbox.old).issuer (history_of (O.sight outbox.old)) }
-        ensures ends { Deals (record { tells = G.tells; keeps_rules = G.keeps_rules })
-            (record { ledger = G.ledger agency.old; faults = G.faults agency.old })
-            (record { ledger = G.ledger agency.new; faults = G.faults agency.new })
+        ensures ends { Deals (kind_of G.tells G.keeps_rules)
+            (desk_of G.ledger G.faults agency.old) (desk_of G.ledger G.faults agency.new)
             (O.sight outbox.old) (O.sight outbox.new) shown.now self.old self.new now result }
         ensures fixed { O.fixed outbox.new ≡ O.fixed outbox.old }
     {
@@ -240,9 +237,8 @@ impl Sender {
         agency: &mut G,
         now: u64,
     ) -> Counted
-        ensures turned { Turned (record { tells = G.tells; keeps_rules = G.keeps_rules })
-            (record { ledger = G.ledger agency.old; faults = G.faults agency.old })
-            (record { ledger = G.ledger agency.new; faults = G.faults agency.new })
+        ensures turned { Turned (kind_of G.tells G.keeps_rules)
+            (desk_of G.ledger G.faults agency.old) (desk_of G.ledger G.faults agency.new)
             (O.sight outbox.old) (O.sight outbox.new) self.old self.new now result.answer }
         ensures fixed { O.fixed outbox.new ≡ O.fixed outbox.old }
         ensures counts { IsErrOf result.answer SendFault.LinkFault → CountsOf (O.sight outbox.new) result.noted result.records }
@@ -272,17 +268,16 @@ impl Sender {
         now: u64,
     ) -> Result<Turn, SendFault>
         // What was looked at, said and noted, and what is answered for it.
-        ensures turned { Turned (record { tells = G.tells; keeps_rules = G.keeps_rules })
-            (record { ledger = G.ledger agency.old; faults = G.faults agency.old })
-            (record { ledger = G.ledger agency.new; faults = G.faults agency.new })
+        ensures turned { Turned (kind_of G.tells G.keeps_rules)
+            (desk_of G.ledger G.faults agency.old) (desk_of G.ledger G.faults agency.new)
             (O.sight outbox.old) (O.sight outbox.new) self.old self.new now result }
 
         // With an agency that keeps its rules, in whose session the earlier turns were, agreement stays, what is noted are the
         // agency's next lines, and it contradicts itself never.
-        ensures agreement { IsTrue G.keeps_rules → InSession (O.sight outbox.old) (G.ledger agency.old) self.old.said →
-            GainsOwnNotes (O.sight outbox.old) (O.sight outbox.new) →
-            KeepsAgreement (O.sight outbox.old) (O.sight outbox.new) (G.ledger agency.old) (G.ledger agency.new) self.new.said
-            result }
+        ensures agreement { InOneSession G.keeps_rules (O.sight outbox.old) (O.sight outbox.new) (G.ledger agency.old)
+            self.old.said
+            (KeepsAgreement (O.sight outbox.old) (O.sight outbox.new) (G.ledger agency.old) (G.ledger agency.new)
+            self.new.said result) }
 
         // No record is handed over again unless a consultation since has answered that it didn't come.
         ensures careful { IsTrue G.tells → (past : List AnyMessage) →
@@ -300,9 +295,8 @@ impl Sender {
         ensures notes { (IsErrOf result (SendFault.Store StoreFault.DiskFault) → ⊥) →
             Adds AreNotes (O.sight outbox.old) (O.sight outbox.new) }
         // Where the disk failed amid its notes, the shop agrees with them too.
-        ensures torn { IsTrue G.keeps_rules → InSession (O.sight outbox.old) (G.ledger agency.old) self.old.said →
-            GainsOwnNotes (O.sight outbox.old) (O.sight outbox.new) →
-            AgreesIfTorn (O.sight outbox.old) (O.sight outbox.new) (G.ledger agency.new) }
+        ensures torn { InOneSession G.keeps_rules (O.sight outbox.old) (O.sight outbox.new) (G.ledger agency.old) self.old.said
+            (AgreesIfTorn (O.sight outbox.old) (O.sight outbox.new) (G.ledger agency.new)) }
         ensures fixed { O.fixed outbox.new ≡ O.fixed outbox.old }
 
         // A link fault comes only where the agency's count of faults rose.

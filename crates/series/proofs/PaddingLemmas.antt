@@ -4,7 +4,7 @@ use Rattle.std.proofs.Common.{length-drop}
 use Rattle.std.proofs.lemmas.List.{length-take-le, drop-drop, drop-replicate}
 use Rattle.std.proofs.lemmas.Slice.{drop-put_mid}
 use borrow.Rule.Slice.PartMut.{put_mid}
-use Rattle.series.specs.Padding.{IsPadded}
+use Rattle.series.specs.Inline.{IsPadded}
 
 pub IsPadded-put_mid : (size len k end : ℕ) (bytes more : List ℕ)
     → IsPadded size len bytes → k ≡ length more → end ≡ len + k → end ≤ size → IsPadded size end (put_mid len k bytes more)

@@ -1,2 +1,2 @@
 pub mod Numbers
-pub mod Padding
+pub mod Inline

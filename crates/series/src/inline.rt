@@ -19,7 +19,7 @@ pub(crate) struct Inline<const N: usize> {
 
 impl<const N: usize> Model for Inline<N> {
     ghost use Rattle.std.specs.Prelude.{ℕ, ◌-◌, List, ◌++◌, length, take, replicate};
-    ghost use Rattle.series.specs.Padding.{IsPadded, length_front, padded_front};
+    ghost use Rattle.series.specs.Inline.{IsPadded, length_front, padded_front};
 
     ghost Value = { List ℕ };
 

@@ -11,7 +11,7 @@ use Rattle.journal.specs.File.{framed, AreBodies, closing_gate}
 use Rattle.journal.specs.Header.{HasMark, HasVersion, IsBegun, IsHeaderDamaged}
 use Rattle.journal.specs.Header.IsHeaderDamaged.{cut_in_mark, cut_in_issuer}
 use Rattle.journal.specs.Laws.{WalkEnds}
-use Rattle.record_codec.specs.Bytes.{entry_bytes}
+use Rattle.record_codec.specs.Writing.{entry_bytes}
 use Rattle.record_codec.specs.declared.entries.Entry.{Entry}
 use Rattle.shop_core.specs.FileLaws.{CutIsDamaged, IsCutAt, SoundBegins, SoundGoesOn}
 use Rattle.shop_core.specs.FileLaws.IsCutAt.{in_frame, in_header as in_the_header}

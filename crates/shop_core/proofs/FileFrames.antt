@@ -4,8 +4,8 @@ use Rattle.std.proofs.lemmas.List.{map-append}
 use Rattle.frames.specs.Frames.{IsCounted, IsClosed}
 use Rattle.journal.specs.Laws.{WalkBegins, WalkGoesOn, WalkEnds}
 use Rattle.journal.specs.Walk.{AreFrames}
-use Rattle.record_codec.specs.Bytes.{entry_bytes}
-use Rattle.record_codec.specs.Fields.{IsEncoding}
+use Rattle.record_codec.specs.Writing.{entry_bytes}
+use Rattle.record_codec.specs.Validity.{IsEncoding}
 use Rattle.record_codec.specs.declared.entries.Entry.{Entry}
 use Rattle.shop_core.specs.Legal.{Legal, GoesOn}
 use Rattle.shop_core.specs.FileLaws.{SoundBegins, SoundGoesOn, SoundEnds}

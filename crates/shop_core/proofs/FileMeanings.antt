@@ -6,7 +6,7 @@ use Rattle.journal.specs.File.{IsNotBegun, closing_gate}
 use Rattle.journal.specs.Header.{IsHeaderDamaged, IsBegun}
 use Rattle.journal.specs.Laws.{OneHeader}
 use Rattle.journal.specs.declared.reading.Header.TheVariants.{NotBegun, Begun, Damaged}
-use Rattle.record_codec.specs.Fields.{IsEncoding}
+use Rattle.record_codec.specs.Validity.{IsEncoding}
 use Rattle.record_codec.specs.Laws.{EncodingsAreApart}
 use Rattle.record_codec.specs.declared.entries.Entry.{Entry}
 use Rattle.shop_core.specs.Legal.{Continues}

@@ -4,8 +4,8 @@ use Rattle.frames.specs.Frames.{IsCounted, IsClosed}
 use Rattle.journal.specs.File.{closing_gate}
 use Rattle.journal.specs.Laws.{WalkEnds, WalksAgree}
 use Rattle.journal.specs.Walk.{GoOn}
-use Rattle.record_codec.specs.Bytes.{entry_bytes}
-use Rattle.record_codec.specs.Fields.{IsEncoding}
+use Rattle.record_codec.specs.Writing.{entry_bytes}
+use Rattle.record_codec.specs.Validity.{IsEncoding}
 use Rattle.record_codec.specs.Laws.{EncodingsAreApart}
 use Rattle.record_codec.specs.declared.entries.Entry.{Entry}
 use Rattle.shop_core.specs.FileLaws.{StopsAt, OneStop, StopsAtItsGate}

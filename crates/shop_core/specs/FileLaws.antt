@@ -4,8 +4,8 @@ use Rattle.frames.specs.Frames.{IsCounted, IsClosed}
 use Rattle.journal.specs.File.{IsNotBegun, closing_gate}
 use Rattle.journal.specs.Header.{IsBegun}
 use Rattle.journal.specs.declared.TheConstants.{HEADER}
-use Rattle.record_codec.specs.Bytes.{entry_bytes}
-use Rattle.record_codec.specs.Fields.{IsEncoding}
+use Rattle.record_codec.specs.Writing.{entry_bytes}
+use Rattle.record_codec.specs.Validity.{IsEncoding}
 use Rattle.record_codec.specs.declared.entries.Entry.{Entry}
 use Rattle.shop_core.specs.Legal.{Continues}
 use Rattle.shop_core.specs.Files.{StandsFor, IsSoundUpTo, IsDamagedFile, bodies_of}

@@ -5,8 +5,8 @@ use Rattle.frames.specs.Frames.{IsCounted, IsDamaged}
 use Rattle.journal.specs.File.{IsFile}
 use Rattle.journal.specs.Header.{IsBegun, IsHeaderDamaged}
 use Rattle.journal.specs.Walk.{AreFrames}
-use Rattle.record_codec.specs.Bytes.{entry_bytes}
-use Rattle.record_codec.specs.Fields.{IsEncoding}
+use Rattle.record_codec.specs.Writing.{entry_bytes}
+use Rattle.record_codec.specs.Validity.{IsEncoding}
 use Rattle.record_codec.specs.declared.entries.Entry.{Entry}
 use Rattle.shop_core.specs.Legal.{Legal, Continues}
 use Rattle.shop_core.specs.declared.answers.Planned.{Planned}

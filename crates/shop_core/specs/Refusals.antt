@@ -9,7 +9,7 @@ use Rattle.record_fields.specs.Checks.{draft_fault}
 use Rattle.record_fields.specs.declared.drafts.Draft.{Draft}
 use Rattle.record_fields.specs.declared.records.Sealed.{Sealed}
 use Rattle.record_codec.specs.declared.entries.Entry.{Entry}
-use Rattle.shop_core.specs.Asked.{Asked}
+use Rattle.shop_core.specs.Requests.{Asked}
 use Rattle.shop_core.specs.History.{recs, last_serial}
 use Rattle.shop_core.specs.Standing.{cancelled_at, is_known, is_simplified_held}
 use Rattle.shop_core.specs.Making.{made_sealed}

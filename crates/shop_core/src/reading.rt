@@ -2,7 +2,7 @@
 ghost use Rattle.std.specs.Prelude.{◌≡◌, ◌≤◌, ◌+◌, ◌++◌, ◌∷◌, [], List, ℕ, IsTrue, IfOk, IfSome, IfNone, IsErrOf, OnErr, Some};
 ghost use Rattle.ports.specs.Causes.{Rose};
 ghost use Rattle.journal.specs.Header.{IsBegun};
-ghost use Rattle.record_codec.specs.Bytes.{entry_bytes};
+ghost use Rattle.record_codec.specs.Writing.{entry_bytes};
 ghost use Rattle.shop_core.specs.Breaks.{IsBreak};
 ghost use Rattle.shop_core.specs.Files.{IsSoundUpTo, furthest_gate};
 ghost use Rattle.shop_core.specs.Legal.{Continues};

@@ -1,5 +1,5 @@
 ghost use Rattle.std.specs.Prelude.{◌≡◌, IfSome, IsTrue, None};
-ghost use Rattle.chain_disk.specs.Told.{IsSettled};
+ghost use Rattle.chain_disk.specs.OnDisk.{IsSettled};
 ghost use Rattle.chain_store.specs.Store.{Ready, journal_of};
 ghost use Rattle.journal.specs.File.{IsNotBegun};
 ghost use Rattle.journal.specs.Journal.{stopped_of};

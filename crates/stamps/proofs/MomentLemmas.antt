@@ -2,9 +2,9 @@
 use Rattle.std.proofs.Common.{◌≡◌, ℕ, ◌+◌, ◌/◌, ◌%◌, List, get_or, inl, inr, refl, sym, ◌∙◌, ap, ℤ, unsigned_abs, arith}
 use Rattle.stamps.proofs.CivilLemmas.{same_date}
 use Rattle.stamps.proofs.TextLemmas.{date_at_injective}
-use Rattle.stamps.specs.Civil.{date_at}
+use Rattle.stamps.specs.Day.{date_at}
 use Rattle.stamps.specs.Clock.{IsStampOffset}
-use Rattle.stamps.specs.Moment.{Moment, moment_text_of, local_seconds_of}
+use Rattle.stamps.specs.Stamp.{Moment, moment_text_of, local_seconds_of}
 use Rattle.stamps.specs.Text.{local_text_of}
 
 -- the digits of the text of a moment on a local clock

@@ -3,7 +3,7 @@ use Rattle.std.proofs.Common.{◌≡◌, ℕ, ◌+◌, ◌*◌, ◌/◌, ◌%◌
 use Rattle.jiff_core.specs.Calendar.{days_from_civil}
 use Rattle.stamps.specs.declared.civil.CivilDate.{CivilDate}
 use Rattle.stamps.proofs.CivilLemmas.{date_at-is, same_date, pos_injective}
-use Rattle.stamps.specs.Civil.{date_at, ymd}
+use Rattle.stamps.specs.Day.{date_at, ymd}
 use Rattle.stamps.specs.Text.{date_text_of}
 
 -- the digits of a text that is the date's

@@ -3,7 +3,7 @@ use Rattle.std.specs.Prelude.{ℕ, ◌+◌, ◌-◌, ◌*◌, ◌/◌, ◌%◌, 
 use Rattle.std.specs.Prelude.{if◌then◌else◌}
 use Rattle.std.specs.Int.{IsInRange}
 use Rattle.jiff.specs.Words.{days_in_month}
-use Rattle.stamps.specs.Civil.{date_at, day_number}
+use Rattle.stamps.specs.Day.{date_at, day_number}
 use Rattle.stamps.specs.declared.stamp.TheConstants.{CLOCK_FROM, CLOCK_TO}
 
 -- the last Sunday of a month: from its last day back by as many days as that day is after a Sunday.

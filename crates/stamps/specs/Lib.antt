@@ -1,4 +1,4 @@
-pub mod Civil
+pub mod Day
 pub mod Text
 pub mod Clock
-pub mod Moment
+pub mod Stamp

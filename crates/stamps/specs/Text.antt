@@ -1,6 +1,6 @@
 -- How dates and moments are written in a record: `FechaExpedicionFactura` and `FechaHoraHusoGenRegistro`.
 use Rattle.std.specs.Prelude.{ℕ, ◌+◌, ◌/◌, ◌%◌, List, [], ◌∷◌, ◌++◌, codes}
-use Rattle.stamps.specs.Civil.{date_at}
+use Rattle.stamps.specs.Day.{date_at}
 
 -- a number below 100 as two digits
 abbrev pub two_digits : ℕ → List ℕ

@@ -18,7 +18,7 @@ pub struct CivilDate {
 const BEFORE_1970: u32 = 4_371_587;
 
 impl CivilDate {
-    ghost use Rattle.stamps.specs.Civil.{date_at, last_day};
+    ghost use Rattle.stamps.specs.Day.{date_at, last_day};
 
     /// The date that many days after 01-01-1970.
     pub fn at(days: u32) -> CivilDate

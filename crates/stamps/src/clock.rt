@@ -2,7 +2,7 @@
 //! the rule holds unchanged up to 2100 is this project's own.
 ghost use Rattle.std.specs.Prelude.{◌≡◌, ◌≤◌, ◌⊎◌, ◌*◌, ℕ, pos, IfOk, IsOk};
 ghost use Rattle.std.specs.Int.{IsInRange};
-ghost use Rattle.stamps.specs.Civil.{IsLastSunday, last_day};
+ghost use Rattle.stamps.specs.Day.{IsLastSunday, last_day};
 ghost use Rattle.stamps.specs.Clock as clock;
 ghost use Rattle.stamps.specs.Clock.{IsStampSeconds};
 ghost use Rattle.jiff.specs.Words.{plain_zone, nanos_of_seconds, offset_at as zone_offset};

@@ -1,7 +1,7 @@
 //! Days from 01-01-1970 to 31-12-2100.
 ghost use Rattle.std.specs.Prelude.{◌≡◌, ℕ, ◌≤◌, ◌↔◌, IsSome, IfSome, IfNone, Some, ◌<◌, ◌+◌, ◌/◌, ◌%◌, ◌≢◌};
 ghost use Rattle.std.specs.Int.{IsInRange};
-ghost use Rattle.stamps.specs.Civil.{last_day, date_at};
+ghost use Rattle.stamps.specs.Day.{last_day, date_at};
 ghost use Rattle.stamps.specs.Text.{date_text_of};
 
 use crate::civil::{CivilDate, day_number, to_jiff};
@@ -67,7 +67,7 @@ impl Day {
 }
 
 impl Day {
-    ghost use Rattle.stamps.specs.Civil.{date_at, ymd};
+    ghost use Rattle.stamps.specs.Day.{date_at, ymd};
 
     /// 31-12-2100.
     pub fn last() -> Day

@@ -1,7 +1,7 @@
 //! What holds of every day, and of every moment.
 ghost use Rattle.std.specs.Prelude.{◌≡◌, ℕ};
 ghost use Rattle.stamps.specs.Clock.{IsStampSeconds, IsStampOffset};
-ghost use Rattle.stamps.specs.Moment.{Moment, moment_text_of};
+ghost use Rattle.stamps.specs.Stamp.{Moment, moment_text_of};
 ghost use Rattle.stamps.specs.Text.{date_text_of};
 
 /// Two days with one text are equal.

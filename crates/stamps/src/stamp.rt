@@ -1,7 +1,7 @@
 //! Moments on the peninsular clock.
 ghost use Rattle.std.specs.Prelude.{◌≡◌, ◌≤◌, ◌↔◌, IsTrue, IsSome, IfSome, IsOk, IfOk, unsigned_abs};
 ghost use Rattle.stamps.specs.Clock.{IsStampSeconds, IsStampOffset};
-ghost use Rattle.stamps.specs.Moment as spec;
+ghost use Rattle.stamps.specs.Stamp as spec;
 
 use crate::civil::CivilDate;
 use crate::clock;
@@ -24,7 +24,7 @@ pub struct Stamp {
 
 impl Model for Stamp {
     ghost use Rattle.stamps.specs.Clock.{IsStampSeconds, IsStampOffset};
-    ghost use Rattle.stamps.specs.Moment.{Moment};
+    ghost use Rattle.stamps.specs.Stamp.{Moment};
 
     ghost Value = { Moment };
 

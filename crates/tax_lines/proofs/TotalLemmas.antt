@@ -8,7 +8,7 @@ use Rattle.std.proofs.lemmas.Int.{ints}
 use Rattle.std.proofs.lemmas.List.{map_more, take_all}
 use Rattle.std.proofs.lemmas.List.Sums.{fold-append, fails_before_first}
 use Rattle.std.proofs.lemmas.Bool.{ltb-false, lt-ltb, cases_lt}
-use Rattle.amounts.specs.Amount.{tax, with_sign_of}
+use Rattle.amounts.specs.Cents.{tax, with_sign_of}
 use Rattle.tax_lines.specs.declared.lines.TaxLine.{TaxLine}
 use Rattle.tax_lines.specs.declared.classes.LineKey.{LineKey}
 use Rattle.tax_lines.specs.declared.classes.LineKey.TheVariants.{General, Reduced, SuperReduced, GeneralSurcharge}

@@ -1,49 +1,34 @@
 -- The line classes: their words, codes and rates. Rates are hundredths of a percent, 0 where there is no tax or no
 -- surcharge. S1, S2, N1, N2 and E1 to E6 are those of the agency's description of the records; the choice of classes, their
 -- words and their codes are this project's own.
-use Rattle.std.specs.Prelude.{ℕ, List, codes}
+use Rattle.std.specs.Prelude.{ℕ, List, [], ◌∷◌, codes}
 use Rattle.tax_lines.specs.declared.classes.LineKey.{LineKey}
 use Rattle.tax_lines.specs.declared.classes.LineKey.TheVariants.{General, Reduced, SuperReduced, Zero, GeneralSurcharge}
 use Rattle.tax_lines.specs.declared.classes.LineKey.TheVariants.{ReducedSurcharge, SuperReducedSurcharge, S2, N1, N2, E1, E2, E3}
 use Rattle.tax_lines.specs.declared.classes.LineKey.TheVariants.{E4, E5, E6}
+
+-- all classes, in the order of their codes
+abbrev pub classes : List LineKey
+classes =
+    General ∷ Reduced ∷ SuperReduced ∷ Zero ∷ GeneralSurcharge ∷ ReducedSurcharge ∷ SuperReducedSurcharge ∷ S2
+    ∷ N1 ∷ N2 ∷ E1 ∷ E2 ∷ E3 ∷ E4 ∷ E5 ∷ E6 ∷ []
 
 -- the rate of the tax
 abbrev pub rate_of : LineKey → ℕ
 rate_of General = 2100
 rate_of Reduced = 1000
 rate_of SuperReduced = 400
-rate_of Zero = 0
 rate_of GeneralSurcharge = 2100
 rate_of ReducedSurcharge = 1000
 rate_of SuperReducedSurcharge = 400
-rate_of S2 = 0
-rate_of N1 = 0
-rate_of N2 = 0
-rate_of E1 = 0
-rate_of E2 = 0
-rate_of E3 = 0
-rate_of E4 = 0
-rate_of E5 = 0
-rate_of E6 = 0
+rate_of other = 0
 
 -- the rate of the equivalence surcharge
 abbrev pub surcharge_of : LineKey → ℕ
-surcharge_of General = 0
-surcharge_of Reduced = 0
-surcharge_of SuperReduced = 0
-surcharge_of Zero = 0
 surcharge_of GeneralSurcharge = 520
 surcharge_of ReducedSurcharge = 140
 surcharge_of SuperReducedSurcharge = 50
-surcharge_of S2 = 0
-surcharge_of N1 = 0
-surcharge_of N2 = 0
-surcharge_of E1 = 0
-surcharge_of E2 = 0
-surcharge_of E3 = 0
-surcharge_of E4 = 0
-surcharge_of E5 = 0
-surcharge_of E6 = 0
+surcharge_of other = 0
 
 -- the word of a class
 abbrev pub key_text : LineKey → List ℕ

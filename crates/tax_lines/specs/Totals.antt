@@ -1,6 +1,6 @@
 -- The totals of an invoice's lines, `CuotaTotal` and `ImporteTotal` of the record.
 use Rattle.std.specs.Prelude.{◌≤◌, List, map, fold, ℤ, pos, ◌+ℤ◌, unsigned_abs}
-use Rattle.amounts.specs.Amount.{tax}
+use Rattle.amounts.specs.Cents.{tax}
 use Rattle.tax_lines.specs.declared.lines.TaxLine.{TaxLine}
 use Rattle.tax_lines.specs.Classes.{rate_of, surcharge_of}
 use Rattle.tax_lines.specs.Breakdown.{IsBreakdown}

@@ -6,12 +6,12 @@ use Rattle.std.proofs.lemmas.List.{length-append}
 use Rattle.chain_lock.specs.Known.{Known, IsNew, Fits, owners}
 use Rattle.chain_lock.specs.Lists.{EachOf, StartsWith}
 use Rattle.journal.specs.declared.faults.StoreFault.{StoreFault}
-use Rattle.shop_core.specs.Asked.{Asked}
+use Rattle.shop_core.specs.Requests.{Asked}
 use Rattle.shop_core.specs.declared.answers.Reply.{Reply}
 use Rattle.shop_core.specs.declared.items.Item.{Item}
 use Rattle.till_calls.specs.Own.{is_of, records_of, AreTaken, OwnsNone}
 use Rattle.till_calls.specs.Root.{Root}
-use Rattle.till_calls.specs.Runs.{TillRun}
+use Rattle.till_calls.specs.Client.{TillRun}
 use Rattle.till_calls.proofs.Places.{its_own, all_each}
 use Rattle.till_calls.proofs.Serving.{IsServed, serves_run, served_new, rises_more}
 

@@ -3,7 +3,7 @@ use Rattle.std.proofs.Common.{◌≡◌, ◌⊎◌, ◌↔◌, inl, inr, ℕ, �
 use Rattle.std.proofs.Common.{subst, refl, Bool, IsTrue, IsSome, is_some, true, Option, Some, None, Result, Ok, Err}
 use Rattle.std.specs.Prelude.{OnOk}
 use Rattle.std.proofs.lemmas.List.{append-nil, map-append, length-map}
-use Rattle.chain_disk.specs.Told.{Told, LeavesNow}
+use Rattle.chain_disk.specs.OnDisk.{OnDisk, LeavesNow}
 use Rattle.chain_lock.specs.Lists.{StartsWith, MayAdd}
 use Rattle.chain_store.specs.Ready.{IsReady, Takes, Tears as StoreTears}
 use Rattle.shop_core.specs.Files.{StandsFor, StandsAround}
@@ -12,19 +12,20 @@ use Rattle.journal.specs.declared.faults.StoreFault.TheVariants.{DiskFault, Stop
 use Rattle.ports.specs.Causes.{Rose}
 use Rattle.ports.specs.Readings.{IsTold}
 use Rattle.record_codec.specs.declared.entries.Entry.{Entry}
-use Rattle.shop_core.specs.Answer.{answer}
-use Rattle.shop_core.specs.Asked.{Asked}
+use Rattle.shop_core.specs.Plans.{answer}
+use Rattle.shop_core.specs.Requests.{Asked}
 use Rattle.shop_core.specs.Items.{entries_of}
 use Rattle.shop_core.specs.declared.items.Item.{Item}
 use Rattle.shop_core.specs.declared.items.Item.TheVariants as item
 use Rattle.shop_core.specs.Legal.{Legal}
-use Rattle.shop_core.specs.Runs.{Tells}
+use Rattle.shop_core.specs.Replies.{Tells}
 use Rattle.shop_core.specs.declared.answers.Planned.{Planned}
 use Rattle.shop_core.specs.declared.answers.Planned.TheVariants.{Again, Refused, Made}
 use Rattle.shop_core.specs.declared.answers.Reply.{Reply}
 use Rattle.till_calls.specs.Root.{Root, Parts, stop_in, items_in}
 use Rattle.till_calls.specs.Sound.{IsSound, IsLater, HasStopped}
 use Rattle.till_calls.specs.Turns.{IsReading, IsShopList, TillDoes, TillTurn}
+use Rattle.till_calls.proofs.Calls.{call_of}
 use Rattle.till_calls.proofs.Keeping.{sound_gains, sound_stays, sound_stops, between_around, later_more}
 
 entries_in_map : (es : List Entry) (more : List Item) → entries_of (map item.Entry es ++ more) ≡ es ++ entries_of more
@@ -93,13 +94,13 @@ till_adds coming ask (Err DiskFault) root before after t = inr (
 till_adds coming ask (Err (Stopped count)) root before after s = inl s.0
 till_adds coming ask (Err NoMemory) root before after e = inl e.0
 
-module _ {D C : Type 0} (tells : Bool) (told : D → Told) (faults : D → ℕ) (coming : C → ℕ → Option ℕ) (root : Root C) where
+module _ {D C : Type 0} (tells : Bool) (told : D → OnDisk) (faults : D → ℕ) (coming : C → ℕ → Option ℕ) (root : Root C) where
   -- what one ask of the store does, in its parts
   pub record Took (p q : Parts D C) (ask : Asked) (r : Result Reply StoreFault) : Type 0 where
     pub ready : IsReady tells q.state q.stopped q.gate (told q.disk)
     pub legal : Legal q.state.issuer q.state.entries
-    pub takes : p.stopped ≡ None → Takes p.state q.state ask (coming p.clock) (coming q.clock) tells (told p.disk) (told q.disk) r
-    pub torn : r ≡ Err DiskFault → StoreTears p.state q.state ask (coming p.clock) tells (told p.disk) (told q.disk) q.torn
+    pub takes : p.stopped ≡ None → Takes (call_of tells told coming p q) ask r
+    pub torn : r ≡ Err DiskFault → StoreTears (call_of tells told coming p q) ask q.torn
     pub acknowledged : OnOk r (IsTrue tells → LeavesNow (told q.disk) (StandsFor q.state.issuer q.state.entries))
     pub going_on : OnOk r ((p.stopped ≡ None) × (q.stopped ≡ None))
     pub no_memory : r ≡ Err NoMemory → (q.disk ≡ p.disk) × (q.stopped ≡ p.stopped)

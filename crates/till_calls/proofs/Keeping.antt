@@ -2,7 +2,7 @@
 use Rattle.std.proofs.Common.{◌≡◌, inl, inr, ℕ, ◌+◌, ◌≤◌, List, [], ◌∷◌, ◌++◌, append_assoc, sym, ◌∙◌, ap, subst, refl, arith}
 use Rattle.std.proofs.Common.{add_assoc, zero-add, Bool, IsTrue, Option, Some, None}
 use Rattle.std.proofs.lemmas.List.{append-nil}
-use Rattle.chain_disk.specs.Told.{Told, LeavesOnly, LeavesNow, moment}
+use Rattle.chain_disk.specs.OnDisk.{OnDisk, LeavesOnly, LeavesNow, moment}
 use Rattle.chain_disk.specs.Runs.{follows, weaker, started_settled, leaves_now}
 use Rattle.chain_lock.specs.Lists.{StartsWith}
 use Rattle.chain_store.specs.Ready.{IsReady, Holds}
@@ -11,7 +11,7 @@ use Rattle.ports.specs.Causes.{Rose}
 use Rattle.ports.specs.Readings.{MovedBy}
 use Rattle.record_codec.specs.declared.entries.Entry.{Entry}
 use Rattle.shop_core.specs.Legal.{Legal, Continues}
-use Rattle.shop_core.specs.Runs.{Tells}
+use Rattle.shop_core.specs.Replies.{Tells}
 use Rattle.shop_core.specs.declared.answers.Planned.{Planned}
 use Rattle.shop_core.specs.declared.answers.Planned.TheVariants.{Again, Refused, Made}
 use Rattle.shop_core.specs.declared.answers.Reply.{Reply}
@@ -90,7 +90,7 @@ pub later_same : {C : Type 0} (coming : C → ℕ → Option ℕ) (start now nex
     IsLater coming start next
 later_same {C = C} coming start now next h e = subst (λ (c : C). IsLater coming start c) (sym e) h
 
-module _ {D C : Type 0} (tells : Bool) (told : D → Told) (faults : D → ℕ) (coming : C → ℕ → Option ℕ) (root : Root C) where
+module _ {D C : Type 0} (tells : Bool) (told : D → OnDisk) (faults : D → ℕ) (coming : C → ℕ → Option ℕ) (root : Root C) where
   abbrev Sound : Parts D C → Type 0
   Sound p = IsSound tells told faults coming root p
 
@@ -209,7 +209,7 @@ module _ {D C : Type 0} (tells : Bool) (told : D → Told) (faults : D → ℕ) 
       )
 
 -- a store that begins
-module _ {D C : Type 0} (tells : Bool) (told : D → Told) (faults : D → ℕ) (coming : C → ℕ → Option ℕ) where
+module _ {D C : Type 0} (tells : Bool) (told : D → OnDisk) (faults : D → ℕ) (coming : C → ℕ → Option ℕ) where
   pub sound_at_start : (p : Parts D C) → p.stopped ≡ None → IsReady tells p.state p.stopped p.gate (told p.disk) →
       Legal p.state.issuer p.state.entries →
       IsSound tells told faults coming (root_of told faults p) p

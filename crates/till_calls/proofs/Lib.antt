@@ -1,3 +1,4 @@
+mod Calls
 mod Keeping
 mod Asking
 pub mod Sent

@@ -3,7 +3,7 @@ use Rattle.std.proofs.Common.{◌≡◌, ◌↔◌, inl, inr, ℕ, ◌≤◌, le
 use Rattle.std.proofs.Common.{IsTrue, Option, Some, None, Result, Ok, Err}
 use Rattle.std.specs.Prelude.{OnOk, OnErr}
 use Rattle.std.proofs.lemmas.List.{map-append}
-use Rattle.chain_disk.specs.Told.{Told, LeavesNow, LeavesOnly}
+use Rattle.chain_disk.specs.OnDisk.{OnDisk, LeavesNow, LeavesOnly}
 use Rattle.chain_lock.specs.Lists.{MayAdd}
 use Rattle.chain_store.specs.Ready.{IsReady, TearsLines}
 use Rattle.shop_core.specs.Files.{StandsFor, StandsBeforeOrWith}
@@ -20,6 +20,7 @@ use Rattle.shop_core.specs.Legal.{Legal}
 use Rattle.till_calls.specs.Root.{Root, Parts, items_in}
 use Rattle.till_calls.specs.Sound.{IsSound, IsLater, HasStopped}
 use Rattle.till_calls.specs.Turns.{SeatDoes, SeatTurn, Notes_behind}
+use Rattle.till_calls.proofs.Calls.{call_of}
 use Rattle.till_calls.proofs.Asking.{entries_in, items_going, items_stopped, list_of}
 use Rattle.till_calls.proofs.Keeping.{sound_gains, sound_stays, sound_stops, between_with, later_same}
 
@@ -30,7 +31,7 @@ seat_adds lines (Err DiskFault) root before after t = inr (item.Stop t.count (No
 seat_adds lines (Err (Stopped count)) root before after s = inl s.0
 seat_adds lines (Err NoMemory) root before after e = inl e.0
 
-module _ {D C : Type 0} (tells : Bool) (told : D → Told) (faults : D → ℕ) (coming : C → ℕ → Option ℕ) (root : Root C) where
+module _ {D C : Type 0} (tells : Bool) (told : D → OnDisk) (faults : D → ℕ) (coming : C → ℕ → Option ℕ) (root : Root C) where
   -- what one note of the store does, in its parts
   pub record Noted (p q : Parts D C) (lines : List Line) (r : Result (Unit {0}) StoreFault) : Type 0 where
     pub ready : IsReady tells q.state q.stopped q.gate (told q.disk)
@@ -45,7 +46,7 @@ module _ {D C : Type 0} (tells : Bool) (told : D → Told) (faults : D → ℕ) 
     pub going_on : OnOk r ((p.stopped ≡ None) × (q.stopped ≡ None))
     pub no_memory : r ≡ Err NoMemory → (q.disk ≡ p.disk) × (q.stopped ≡ p.stopped)
     pub fault : r ≡ Err DiskFault → Rose (faults p.disk) (faults q.disk) × (q.stopped ≡ Some (faults q.disk))
-    pub torn : r ≡ Err DiskFault → TearsLines p.state q.state lines tells (told p.disk) (told q.disk) q.torn
+    pub torn : r ≡ Err DiskFault → TearsLines (call_of tells told coming p q) lines q.torn
     pub stopped : (count : ℕ) → (r ≡ Err (Stopped count)) ↔ (p.stopped ≡ Some count)
     pub later : faults p.disk ≤ faults q.disk
 

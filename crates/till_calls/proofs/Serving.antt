@@ -12,14 +12,14 @@ use Rattle.journal.specs.declared.faults.StoreFault.{StoreFault}
 use Rattle.journal.specs.declared.faults.StoreFault.TheVariants.{DiskFault, Stopped, NoMemory}
 use Rattle.record_codec.specs.declared.entries.Entry.{Entry}
 use Rattle.record_codec.specs.declared.entries.Entry.TheVariants.{Rec, Notes}
-use Rattle.shop_core.specs.Answer.{answer, kept}
+use Rattle.shop_core.specs.Plans.{answer, kept}
 use Rattle.shop_core.specs.Refusals.{refusal}
-use Rattle.shop_core.specs.Asked.{Asked}
+use Rattle.shop_core.specs.Requests.{Asked}
 use Rattle.shop_core.specs.History.{recs}
 use Rattle.shop_core.specs.declared.items.Item.{Item}
 use Rattle.shop_core.specs.declared.items.Item.TheVariants as item
 use Rattle.shop_core.specs.Making.{made_sealed}
-use Rattle.shop_core.specs.Runs.{IsTakenAt, Tells}
+use Rattle.shop_core.specs.Replies.{IsTakenAt, Tells}
 use Rattle.shop_core.specs.declared.answers.Planned.{Planned}
 use Rattle.shop_core.specs.declared.answers.Planned.TheVariants as planned
 use Rattle.shop_core.specs.declared.answers.Refusal.{Refusal}
@@ -28,8 +28,8 @@ use Rattle.shop_core.specs.declared.answers.Reply.TheVariants.{Taken, Again, Ref
 use Rattle.shop_core.specs.declared.receipts.Receipt.{Receipt}
 use Rattle.till_calls.specs.Root.{Root}
 use Rattle.till_calls.specs.Own.{is_of, records_of, AreTaken}
-use Rattle.till_calls.specs.Runs.{TillRun}
-use Rattle.till_calls.specs.Runs.TillRun.{begun, asked}
+use Rattle.till_calls.specs.Client.{TillRun}
+use Rattle.till_calls.specs.Client.TillRun.{begun, asked}
 use Rattle.till_calls.specs.Shop.{Asks}
 use Rattle.till_calls.specs.Turns.{TillDoes}
 use Rattle.till_calls.proofs.Places.{Rises}

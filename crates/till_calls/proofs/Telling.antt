@@ -7,14 +7,14 @@ use Rattle.chain_lock.specs.Lists.{StartsWith}
 use Rattle.journal.specs.declared.faults.StoreFault.{StoreFault}
 use Rattle.journal.specs.declared.faults.StoreFault.TheVariants.{DiskFault, Stopped, NoMemory}
 use Rattle.record_codec.specs.declared.entries.Entry.{Entry}
-use Rattle.shop_core.specs.Asked.{Asked}
+use Rattle.shop_core.specs.Requests.{Asked}
 use Rattle.shop_core.specs.declared.items.Item.{Item}
 use Rattle.shop_core.specs.declared.items.Item.TheVariants as item
 use Rattle.shop_core.specs.declared.answers.Reply.{Reply}
 use Rattle.till_calls.specs.Root.{Root}
-use Rattle.till_calls.specs.Runs.{TillRun, TillTold}
-use Rattle.till_calls.specs.Runs.TillRun.{begun, asked}
-use Rattle.till_calls.specs.Runs.TillTold.{unasked, answered, torn, stopped, without_memory}
+use Rattle.till_calls.specs.Client.{TillRun, TillTold}
+use Rattle.till_calls.specs.Client.TillRun.{begun, asked}
+use Rattle.till_calls.specs.Client.TillTold.{unasked, answered, torn, stopped, without_memory}
 use Rattle.till_calls.specs.Shop.{Asks}
 use Rattle.till_calls.specs.Turns.{TillDoes}
 

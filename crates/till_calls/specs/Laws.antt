@@ -3,12 +3,12 @@ use Rattle.std.specs.Prelude.{◌≡◌, ◌≢◌, ◌⊎◌, ◌≤◌, ◌<�
 use Rattle.chain_lock.specs.Known.{Known, IsNew, Fits, owners}
 use Rattle.chain_lock.specs.Lists.{StartsWith}
 use Rattle.journal.specs.declared.faults.StoreFault.{StoreFault}
-use Rattle.shop_core.specs.Asked.{Asked}
+use Rattle.shop_core.specs.Requests.{Asked}
 use Rattle.shop_core.specs.declared.answers.Reply.{Reply}
 use Rattle.shop_core.specs.declared.items.Item.{Item}
 use Rattle.till_calls.specs.Own.{AreTaken, OwnsNone, records_of}
 use Rattle.till_calls.specs.Root.{Root}
-use Rattle.till_calls.specs.Runs.{TillRun, TillTold}
+use Rattle.till_calls.specs.Client.{TillRun, TillTold}
 
 -- a run of a new till is told of the list at the end
 abbrev pub ToldAtTheEnd : {C : Type 0} → (C → ℕ → Option ℕ) → Type 0

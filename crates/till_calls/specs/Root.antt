@@ -1,6 +1,6 @@
 -- What a shop's lock guards: the parts of its store, and how they were at the start.
 use Rattle.std.specs.Prelude.{ℕ, List, [], ◌∷◌, ◌++◌, map, Option, Some, None}
-use Rattle.chain_disk.specs.Told.{Told}
+use Rattle.chain_disk.specs.OnDisk.{OnDisk}
 use Rattle.chain_disk.specs.declared.disk.Disk.{Ghosts}
 use Rattle.chain_store.specs.Store.{clock_of, journal_of, state_of, torn_of}
 use Rattle.chain_store.specs.declared.store.Store.{Store}
@@ -15,7 +15,7 @@ pub record Root (C : Type 0) : Type 0 where
   pub issuer : List ℕ
   pub history : List Entry
   -- what the disk told
-  pub told : Told
+  pub told : OnDisk
   -- its count of faults
   pub faults : ℕ
   pub clock : C
@@ -56,7 +56,7 @@ with_torn history (Some faults) None = history
 with_torn history None torn = history
 
 -- the root of a shop that starts with this store
-abbrev pub root_of : {D C : Type 0} → (D → Told) → (D → ℕ) → Parts D C → Root C
+abbrev pub root_of : {D C : Type 0} → (D → OnDisk) → (D → ℕ) → Parts D C → Root C
 root_of told faults p =
     record { issuer = p.state.issuer; history = p.state.entries; told = told p.disk; faults = faults p.disk; clock = p.clock }
 

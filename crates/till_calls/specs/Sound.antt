@@ -1,6 +1,6 @@
 -- What holds of a shop's store whenever no turn is under way.
 use Rattle.std.specs.Prelude.{◌≡◌, ◌⊎◌, ◌≤◌, ℕ, List, Bool, IsTrue, Option, Some}
-use Rattle.chain_disk.specs.Told.{Told, LeavesOnly, LeavesNow}
+use Rattle.chain_disk.specs.OnDisk.{OnDisk, LeavesOnly, LeavesNow}
 use Rattle.chain_lock.specs.Lists.{StartsWith}
 use Rattle.chain_store.specs.Ready.{IsReady}
 use Rattle.shop_core.specs.Files.{StandsFor}
@@ -22,7 +22,7 @@ abbrev pub StandsForEither : List ℕ → List Entry → List Entry → List ℕ
 StandsForEither issuer history longer file = StandsFor issuer history file ⊎ StandsFor issuer longer file
 
 -- each crash since the start leaves a front of the history, or of that with the torn entry; now it leaves the whole
-pub record Leaves {C : Type 0} (root : Root C) (history longer : List Entry) (now : Told) : Type 0 where
+pub record Leaves {C : Type 0} (root : Root C) (history longer : List Entry) (now : OnDisk) : Type 0 where
   pub since : LeavesOnly root.told now (StandsBetween root.issuer root.history longer)
   pub whole : LeavesNow now (StandsForEither root.issuer history longer)
 
@@ -40,7 +40,7 @@ pub record IsLater {C : Type 0} (coming : C → ℕ → Option ℕ) (start now :
   pub moved : MovedBy number (coming start) (coming now)
 
 -- what a shop's store keeps
-pub record IsSound {D C : Type 0} (tells : Bool) (told : D → Told) (faults : D → ℕ) (coming : C → ℕ → Option ℕ)
+pub record IsSound {D C : Type 0} (tells : Bool) (told : D → OnDisk) (faults : D → ℕ) (coming : C → ℕ → Option ℕ)
     (root : Root C) (p : Parts D C) : Type 0 where
   -- where it hasn't stopped, its file stands for its history
   pub ready : IsReady tells p.state p.stopped p.gate (told p.disk)

@@ -11,13 +11,13 @@ use Rattle.record_codec.specs.declared.entries.Entry.TheVariants.{Notes}
 use Rattle.record_fields.specs.declared.lines.Line.{Line}
 use Rattle.shop_core.specs.History.{noted, recs, waiting}
 use Rattle.shop_core.specs.declared.waiting.Waiting.{Waiting}
-use Rattle.shop_core.specs.Answer.{answer}
-use Rattle.shop_core.specs.Asked.{Asked}
+use Rattle.shop_core.specs.Plans.{answer}
+use Rattle.shop_core.specs.Requests.{Asked}
 use Rattle.shop_core.specs.Items.{entries_of}
 use Rattle.shop_core.specs.declared.items.Item.{Item}
 use Rattle.shop_core.specs.declared.items.Item.TheVariants as item
 use Rattle.shop_core.specs.Legal.{Legal}
-use Rattle.shop_core.specs.Runs.{Tells}
+use Rattle.shop_core.specs.Replies.{Tells}
 use Rattle.shop_core.specs.declared.answers.Planned.TheVariants.{Made}
 use Rattle.shop_core.specs.declared.answers.Reply.{Reply}
 use Rattle.till_calls.specs.Root.{Root}

@@ -1,7 +1,7 @@
 // A till's requests, one after another.
 ghost use Rattle.std.specs.Prelude.{◌≡◌, ◌≤◌, ◌<◌, ◌^◌, [], length, vec_capacity};
 ghost use Rattle.till_calls.specs.Shop.{shop_id, till_knows, till_number, till_shop};
-ghost use Rattle.till_calls.specs.Runs.{TillRun, asks_of};
+ghost use Rattle.till_calls.specs.Client.{TillRun, asks_of};
 
 use crate::shop::Shop;
 use crate::tills::Till;

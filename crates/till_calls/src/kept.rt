@@ -4,7 +4,7 @@ ghost use Rattle.std.specs.Int.{IsInRange};
 ghost use Rattle.chain_store.specs.Store.{Ready, journal_of};
 ghost use Rattle.journal.specs.Journal.{stopped_of};
 ghost use Rattle.record_fields.specs.declared.lines.TheConstants.{BATCH};
-ghost use Rattle.shop_core.specs.Asked.{Asked};
+ghost use Rattle.shop_core.specs.Requests.{Asked};
 ghost use Rattle.till_calls.specs.Root.{items_in, parts_of, root_of};
 ghost use Rattle.till_calls.specs.Sound.{IsSound};
 ghost use Rattle.till_calls.specs.Turns.{LookTurn, SeatTurn, TillTurn};

@@ -38,7 +38,7 @@ pub(crate) struct Declining {
 
 impl<D: Disk, C: Clock> Act<Kept<D, C>> for Declining {
     ghost use Rattle.std.specs.Prelude.{Err};
-    ghost use Rattle.shop_core.specs.Asked.{Asked};
+    ghost use Rattle.shop_core.specs.Requests.{Asked};
     ghost use Rattle.till_calls.specs.Turns.{TillTurn};
 
     ghost relates = { λ old root before new after. (ask : Asked) → TillTurn C.coming ask (Err new.told) root before after };

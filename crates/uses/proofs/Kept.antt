@@ -9,26 +9,26 @@ use Rattle.std.proofs.lemmas.Bool.{cases_Bool}
 use Rattle.std.proofs.lemmas.List.{append-nil, length-map}
 use Rattle.std.proofs.lemmas.List.Elements.{filter_map-append}
 use Rattle.std.proofs.lemmas.Option.{slice_get-map}
-use Rattle.chain_disk.specs.Told.{Told}
-use Rattle.chain_store.specs.Ready.{Takes}
+use Rattle.chain_disk.specs.OnDisk.{OnDisk}
+use Rattle.chain_store.specs.Ready.{StoreCall, Takes}
 use Rattle.journal.specs.declared.faults.StoreFault.{StoreFault}
 use Rattle.record_codec.specs.declared.entries.Entry.{Entry}
 use Rattle.record_codec.specs.declared.entries.Entry.TheVariants.{Rec}
 use Rattle.record_fields.specs.declared.records.Sealed.{Sealed}
 use Rattle.recovery.specs.Opening.{IsFound}
-use Rattle.shop_core.specs.Answer.{answer, kept, kept_row}
-use Rattle.shop_core.specs.Asked.{Asked}
+use Rattle.shop_core.specs.Plans.{answer, kept, kept_row}
+use Rattle.shop_core.specs.Requests.{Asked}
 use Rattle.shop_core.specs.History.{History, Row, receipt as receipt_at, recs, row_in, rows, sealed_at}
 use Rattle.shop_core.specs.Making.{made_sealed}
 use Rattle.shop_core.specs.Refusals.{refusal}
-use Rattle.shop_core.specs.Runs.{IsReply, Tells}
+use Rattle.shop_core.specs.Replies.{IsReply, Tells}
 use Rattle.shop_core.specs.declared.answers.Planned.{Planned}
 use Rattle.shop_core.specs.declared.answers.Planned.TheVariants as planned
 use Rattle.shop_core.specs.declared.answers.Refusal.{Refusal}
 use Rattle.shop_core.specs.declared.answers.Reply.{Reply}
 use Rattle.shop_core.specs.declared.answers.Reply.TheVariants.{Again, Taken}
 use Rattle.shop_core.specs.declared.receipts.Receipt.{Receipt}
-use Rattle.uses.specs.Tickets.{Answers, IsTicketAt, IsTicketOf, Shows}
+use Rattle.uses.specs.Taking.{Answers, IsTicketAt, IsTicketOf, Shows}
 use Rattle.uses.specs.declared.taking.Ticket.{Ticket}
 
 -- what is found among elements numbered from n stands at its number
@@ -160,10 +160,21 @@ module _ (entries : List Entry) (till serial : ℕ) (sealed : Sealed) (told : Re
   again_by None (Some why) e t = absurd (let x = t.0 in cc)
   again_by None None e t = absurd (let x = t.0 in cc)
 
+abbrev call_of : History → History → (ℕ → Option ℕ) → (ℕ → Option ℕ) → Bool → OnDisk → OnDisk → StoreCall
+call_of old new coming after tells t u = record {
+  old = old;
+  new = new;
+  coming = coming;
+  coming_after = after;
+  tells = tells;
+  disk = t;
+  disk_after = u;
+}
+
 -- what is told as taken, or told again, stands under the ask's till and serial
-pub told_stands : (old new : History) (ask : Asked) (coming after : ℕ → Option ℕ) (tells : Bool) (t u : Told)
+pub told_stands : (old new : History) (ask : Asked) (coming after : ℕ → Option ℕ) (tells : Bool) (t u : OnDisk)
     (told : Result Reply StoreFault) (receipt : Receipt) → (told ≡ Ok (Taken receipt)) ⊎ (told ≡ Ok (Again receipt)) →
-    Takes old new ask coming after tells t u told → StandsAt new.entries ask.till ask.serial receipt.place
+    Takes (call_of old new coming after tells t u) ask told → StandsAt new.entries ask.till ask.serial receipt.place
 told_stands old new ask coming after tells t u told receipt which k =
     subst (λ (l : List Entry). StandsAt l ask.till ask.serial receipt.place) (sym k.entries) (by which)
   where
@@ -186,9 +197,10 @@ if_told told receipt P (inl e) h = subst (λ (r : Result Reply StoreFault). OnOk
 if_told told receipt P (inr e) h = subst (λ (r : Result Reply StoreFault). OnOk r P) e h
 
 -- an ask that was answered so at what was found
-pub answers : (tells : Bool) (issuer file : List ℕ) (old new : History) (ask : Asked) (coming after : ℕ → Option ℕ) (t u : Told)
+pub answers : (tells : Bool) (issuer file : List ℕ) (old new : History) (ask : Asked) (coming after : ℕ → Option ℕ) (t u : OnDisk)
     (told : Result Reply StoreFault) (receipt : Receipt) → (told ≡ Ok (Taken receipt)) ⊎ (told ≡ Ok (Again receipt)) →
-    Takes old new ask coming after tells t u told → old.issuer ≡ issuer → (IsTrue tells → IsFound issuer old.entries file) →
+    Takes (call_of old new coming after tells t u) ask told → old.issuer ≡ issuer → (IsTrue tells → IsFound issuer old.entries
+    file) →
     Answers tells issuer file coming ask new.entries
 answers tells issuer file old new ask coming after t u told receipt which k same found = by which
   where

@@ -10,7 +10,7 @@ use Rattle.chain_lock.specs.Known.{Fits, IsNew, Known, holders, owners, times_he
 use Rattle.chain_lock.specs.Lists.{StartsWith}
 use Rattle.journal.specs.declared.faults.StoreFault.{StoreFault}
 use Rattle.record_codec.specs.declared.entries.Entry.{Entry}
-use Rattle.shop_core.specs.Asked.{Asked}
+use Rattle.shop_core.specs.Requests.{Asked}
 use Rattle.shop_core.specs.declared.answers.Reply.{Reply}
 use Rattle.shop_core.specs.declared.items.Item.{Item}
 use Rattle.shop_core.specs.declared.items.Item.TheVariants as item
@@ -18,9 +18,9 @@ use Rattle.shop_core.specs.declared.requests.Request.{Request}
 use Rattle.till_calls.specs.Laws.{AddsForNoOther, AddsWhatIsTaken, ToldAtTheEnd}
 use Rattle.till_calls.specs.Own.{AreTaken, OwnsNone, is_of, records_of}
 use Rattle.till_calls.specs.Root.{Parts, Root, items_in, stop_in}
-use Rattle.till_calls.specs.Runs.{TillRun, TillTold, asks_of}
-use Rattle.till_calls.specs.Runs.TillRun.{begun, asked}
-use Rattle.uses.specs.Tills.{AreReplies, records_since}
+use Rattle.till_calls.specs.Client.{TillRun, TillTold, asks_of}
+use Rattle.till_calls.specs.Client.TillRun.{begun, asked}
+use Rattle.uses.specs.Threads.{AreReplies, records_since}
 
 -- asks leave a till its numbers
 pub run_numbers : {C : Type 0} (coming : C → ℕ → Option ℕ) (old new : Known Item (Root C)) (asks : List Asked)

@@ -1,4 +1,4 @@
-pub mod Tickets
-pub mod Tills
-pub mod Links
-pub mod Verdicts
+pub mod Taking
+pub mod Threads
+pub mod Linking
+pub mod Auditing

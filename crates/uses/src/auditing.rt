@@ -1,7 +1,7 @@
 // A file's verdict.
 ghost use Rattle.std.specs.Prelude.{◌≡◌, IfOk, IsErrOf, IsTrue};
 ghost use Rattle.ports.specs.Causes.{Rose};
-ghost use Rattle.uses.specs.Verdicts.{IsDamage};
+ghost use Rattle.uses.specs.Auditing.{IsDamage};
 
 use audit::{AuditFault, a_verdict_tells_what_a_file_is, audit};
 use chain_disk::Disk;

@@ -2,7 +2,7 @@
 ghost use Rattle.std.specs.Prelude.{◌≡◌, ℕ, IfOk, IsErrOf, IsTrue};
 ghost use Rattle.ports.specs.Causes.{Rose};
 ghost use Rattle.shop_core.specs.Files.{IsDamagedFile};
-ghost use Rattle.uses.specs.Links.{IsLinkIn, link_in};
+ghost use Rattle.uses.specs.Linking.{IsLinkIn, link_in};
 
 use chain_disk::Disk;
 use chain_store::{LoadFault, Loaded, load};

@@ -1,12 +1,12 @@
 // A sale, from the file to the ticket.
 ghost use Rattle.std.specs.Prelude.{◌≡◌, ◌⊎◌, IfOk, IsTrue};
 ghost use Rattle.std.specs.Int.{IsInRange};
-ghost use Rattle.chain_disk.specs.Told.{LeavesNow};
+ghost use Rattle.chain_disk.specs.OnDisk.{LeavesNow};
 ghost use Rattle.chain_store.specs.Store.{Ready, journal_of, state_of};
 ghost use Rattle.journal.specs.Journal.{disk_of};
 ghost use Rattle.record_codec.specs.declared.entries.TheConstants.{LAST_TILL};
 ghost use Rattle.shop_core.specs.Files.{StandsFor};
-ghost use Rattle.uses.specs.Tickets.{Answers, IsTicketAt, IsTicketOf};
+ghost use Rattle.uses.specs.Taking.{Answers, IsTicketAt, IsTicketOf};
 
 use amounts::Cents;
 use chain_disk::Disk;

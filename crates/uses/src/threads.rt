@@ -4,10 +4,10 @@ ghost use Rattle.chain_store.specs.Store.{Ready, journal_of};
 ghost use Rattle.journal.specs.Journal.{stopped_of};
 ghost use Rattle.till_calls.specs.Laws.{AddsForNoOther, AddsWhatIsTaken, ToldAtTheEnd};
 ghost use Rattle.till_calls.specs.Root.{items_in, parts_of, root_of};
-ghost use Rattle.till_calls.specs.Runs.{TillRun, asks_of};
+ghost use Rattle.till_calls.specs.Client.{TillRun, asks_of};
 ghost use Rattle.till_calls.specs.Shop.{shop_id, till_knows, till_number, till_shop};
 ghost use Rattle.till_calls.specs.Sound.{IsSound};
-ghost use Rattle.uses.specs.Tills.{AreReplies, records_since};
+ghost use Rattle.uses.specs.Threads.{AreReplies, records_since};
 
 use chain_disk::Disk;
 use chain_store::Store;

@@ -1,7 +1,7 @@
 // The records that wait, and the agency's lines for them.
 ghost use Rattle.std.specs.Prelude.{◌≡◌, ◌≤◌, ◌++◌, ◌∷◌, [], ℕ, IfOk, IsErrOf, IsTrue, OnErr, OnOk, Some, length, take};
 ghost use Rattle.std.specs.Int.{IsInRange};
-ghost use Rattle.chain_disk.specs.Told.{LeavesNow};
+ghost use Rattle.chain_disk.specs.OnDisk.{LeavesNow};
 ghost use Rattle.chain_store.specs.Ready.{noted_next};
 ghost use Rattle.chain_store.specs.Store.{Ready, journal_of, state_of};
 ghost use Rattle.journal.specs.Journal.{disk_of, stopped_of};

@@ -21,7 +21,7 @@ use Rattle.once_world.specs.Outbox.{history_of, plain_sight}
 use Rattle.till_calls.specs.Mark.{sight_by}
 use Rattle.till_calls.specs.Root.{Root, stop_in, with_torn}
 use Rattle.sender.specs.Agreeing.{AreNotesOrTorn, AgreesIfTorn}
-use Rattle.verifactu.specs.Drained.{AreNotesEntry, AddsNotesAlone, torn_in}
+use Rattle.verifactu.specs.Draining.{AreNotesEntry, AddsNotesAlone, torn_in}
 use Rattle.verifactu.proofs.Alone.{Closed, own_before, mine, all_seen, all_mine}
 
 pub entries_both : (xs ys : List Item) → entries_of (xs ++ ys) ≡ entries_of xs ++ entries_of ys

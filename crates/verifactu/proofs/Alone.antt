@@ -103,6 +103,20 @@ own_all (item.Stop faults torn ∷ items) at own h =
     own_all items (at + 1) own (λ m f l e. subst (λ (k : ℕ). Contains own k) (let s : at + suc m ≡ at + 1 + m = omega arith in
     s) (h (suc m) f l e))
 
+-- what came behind a sight without items of its own are no notes but its own, where each of the notes is
+pub gains_by : {C : Type 0} (seat then : Known Item (Root C)) (items : List Item) → (sight_by seat).own ≡ [] →
+    then.seen ≡ seat.seen ++ items → ((m first : ℕ) (lines : List Line) →
+    slice_get items m ≡ Some (item.Entry (Notes first lines)) → Contains (sight_by then).own (length seat.seen + m)) →
+    GainsOwnNotes (sight_by seat) (sight_by then)
+gains_by seat then items none is each =
+    let own : drop (length (sight_by seat).own) (sight_by then).own ≡ (sight_by then).own =
+    ap (λ (o : List ℕ). drop (length o) (sight_by then).own) none in
+    let gained : drop (length seat.seen) then.seen ≡ items = ap (λ (l : List Item). drop (length seat.seen) l) is ∙
+    drop-append_seam seat.seen items in
+    subst (λ (o : List ℕ). AreOwnNotes o (length seat.seen) (drop (length seat.seen) then.seen)) (sym own)
+    (subst (λ (l : List Item). AreOwnNotes (sight_by then).own (length seat.seen) l) (sym gained)
+    (own_all items (length seat.seen) (sight_by then).own each))
+
 module _ {C : Type 0} (base log : List Item) (root : Root C) (tills : List (Known Item (Root C)))
     (seat then : Known Item (Root C)) where
   -- a shop that was closed, whose seat alone added anything
@@ -159,21 +173,14 @@ module _ {C : Type 0} (base log : List Item) (root : Root C) (tills : List (Know
 
   -- so it gained no notes but its own
   pub gains : Closed → GainsOwnNotes (sight_by seat) (sight_by then)
-  gains h =
-      let own : drop (length (sight_by seat).own) (sight_by then).own ≡ (sight_by then).own =
-      ap (λ (o : List ℕ). drop (length o) (sight_by then).own) (own_before h) in
-      let items : drop (length seat.seen) then.seen ≡ h.adds.items = ap (λ (l : List Item). drop (length seat.seen) l)
-      h.adds.items_is ∙ drop-append_seam seat.seen h.adds.items in
-      subst (λ (o : List ℕ). AreOwnNotes o (length seat.seen) (drop (length seat.seen) then.seen)) (sym own)
-      (subst (λ (l : List Item). AreOwnNotes (sight_by then).own (length seat.seen) l) (sym items)
-      (own_all h.adds.items (length seat.seen) (sight_by then).own (λ m first lines e.
+  gains h = gains_by seat then h.adds.items (own_before h) h.adds.items_is (λ m first lines e.
       let n : ℕ = length seat.seen + m in
       let len = ap length h.adds.items_is in
       let app = length-append seat.seen h.adds.items in
       let same = ap length (all_seen h) in
       let in_it = slice_get_within h.adds.items m (item.Entry (Notes first lines)) e in
       let low : length base ≤ n = (let g = ap length h.fresh.seen in omega arith) in
-      mine h n low (omega arith))))
+      mine h n low (omega arith))
 
 -- the same numbers are held
 pub still_held : {C : Type 0} (tills : List (Known Item (Root C))) (seat then : Known Item (Root C)) (n : ℕ) →

@@ -6,7 +6,7 @@ use Rattle.std.proofs.lemmas.List.{map-append}
 use Rattle.std.proofs.lemmas.List.Sums.{sum_by-append}
 use Rattle.ports.specs.Causes.{Rose}
 use Rattle.chain_disk.specs.Runs.{follows, weaker}
-use Rattle.chain_disk.specs.Told.{Told, IsImage, LeavesOnly}
+use Rattle.chain_disk.specs.OnDisk.{OnDisk, IsImage, LeavesOnly}
 use Rattle.record_fields.specs.declared.records.Sealed.{Sealed}
 use Rattle.record_fields.specs.declared.lines.Line.{Line}
 use Rattle.huella.specs.Linked.{Linked}
@@ -30,16 +30,17 @@ use Rattle.sender.specs.Draining.{is_link}
 use Rattle.sender.specs.Turning.{Kind, Desk}
 use Rattle.recovery.specs.Opening.{IsFound}
 use Rattle.verifactu.specs.Crashes.{StandsBetween, StandsForEnd, StandsSince}
-use Rattle.verifactu.specs.Drained.{AddsNotesAlone, AgreesInFile, Beginning, DiskSpan, IsDiskAnswer, IsOpened, IsSession}
-use Rattle.verifactu.specs.Drained.{IsUnopened, Outcome, Sends, Span, StillAgrees, StoreDrains, from_desk, noted_pairs, spanning}
-use Rattle.verifactu.specs.Drained.{torn_in}
+use Rattle.verifactu.specs.Draining.{AddsNotesAlone, AgreesInFile, Beginning, DiskSpan, IsDiskAnswer, OpensSession, IsSession}
+use Rattle.verifactu.specs.Draining.{IsUnopened, Outcome, Sends, Span, StillAgrees, StoreDrains, from_desk, noted_pairs, spanning}
+use Rattle.verifactu.specs.Draining.{torn_in}
 use Rattle.verifactu.specs.Steps.{EndsBy, EndsSaying, Step, Steps, after_steps, at_start, line_in}
 use Rattle.verifactu.proofs.Agreed.{torn_is}
+use Rattle.verifactu.proofs.Finishing.{since_found}
 use Rattle.verifactu.proofs.Pairs.{pairs_count}
 
 -- the session was opened, and its sender sent
 pub in_session : (begun : Beginning) (plan : Plan) (d : Span) (opened : Desk) → (IsTrue d.kind.keeps_rules → IsTrue d.kind.tells)
-    → IsOpened d.kind begun plan d.start d.old opened → Sends (from_desk opened d) → IsSession begun plan d
+    → OpensSession d.kind begun plan d.start d.old opened → Sends (from_desk opened d) → IsSession begun plan d
 in_session begun plan d opened tells opens sends = record {
   opened = opened;
   opens = opens;
@@ -53,15 +54,15 @@ in_session begun plan d opened tells opens sends = record {
       record { whole = still.whole; torn = still.torn; no_contradiction = still.no_contradiction; bound = still.bound };
 }
 
-module _ {D C : Type 0} (tells : Bool) (told : D → Told) (faults : D → ℕ) (coming : C → ℕ → Option ℕ) (p0 p1 : Parts D C)
+module _ {D C : Type 0} (tells : Bool) (told : D → OnDisk) (faults : D → ℕ) (coming : C → ℕ → Option ℕ) (p0 p1 : Parts D C)
     (s : IsSound tells told faults coming (root_of told faults p0) p1) where
   pub between : (c : List ℕ) → sound.StandsBetween p0.state.issuer p0.state.entries (with_torn p1.state.entries p1.stopped
       p1.torn) c → StandsBetween p0.state.issuer p0.state.entries p1.state.entries (torn_in p1.stopped p1.torn) c
   between c h = record {
     history = h.history;
     stands = h.stands;
-    begins = record { rest = h.begins.0; parts = h.begins.1 };
-    within = record { rest = h.within.0; parts = sym (torn_is p1.state.entries p1.stopped p1.torn) ∙ h.within.1 };
+    begins = record { rest = h.begins.0; is = h.begins.1 };
+    within = record { rest = h.within.0; is = sym (torn_is p1.state.entries p1.stopped p1.torn) ∙ h.within.1 };
   }
 
   pub either : (c : List ℕ) → sound.StandsForEither p0.state.issuer p1.state.entries (with_torn p1.state.entries p1.stopped
@@ -130,22 +131,8 @@ module _ {D C : Type 0} (tells : Bool) (told : D → Told) (faults : D → ℕ) 
       in_file agrees c (inl h) = (_, h, agrees.whole)
       in_file agrees c (inr h) = (_, h, agrees.torn)
 
-since_found : (issuer : List ℕ) (start end torn : List Entry) (c : List ℕ) → AddsNotesAlone start end → IsFound issuer start c →
-    StandsSince issuer start end torn c
-since_found issuer start end torn c notes (inl not_begun) = inl not_begun
-since_found issuer start end torn c notes (inr stands) = inr (record {
-  history = start;
-  stands = stands;
-  begins = record { rest = []; parts = sym (append-nil start) };
-  within = record {
-    rest = notes.more ++ torn;
-    parts = ap (λ (es : List Entry). es ++ torn) notes.is ∙ append_assoc start
-        notes.more torn;
-  };
-})
-
 -- what a drain leaves, said since its file was opened
-pub since_opening : (begun : Beginning) (plan : Plan) (issuer : List ℕ) (k : DiskSpan) (d : Span) (first : Told) (faults : ℕ) →
+pub since_opening : (begun : Beginning) (plan : Plan) (issuer : List ℕ) (k : DiskSpan) (d : Span) (first : OnDisk) (faults : ℕ) →
     StoreDrains (StandsBetween issuer) begun plan issuer k d →
     (IsTrue k.tells → LeavesOnly first k.since (IsFound issuer d.start)) →
     faults ≤ k.faults → StoreDrains (StandsSince issuer) begun plan issuer (record {
@@ -163,7 +150,8 @@ since_opening begun plan issuer k d first faults h found early = record {
   kept = λ says. let kept = h.kept says in record {
     each_moment = follows first k.since k.now (IsFound issuer d.start) (StandsBetween issuer d.start d.end d.torn)
         (StandsSince issuer d.start d.end d.torn) (found says) kept.each_moment
-        (λ c here. since_found issuer d.start d.end d.torn c h.notes here) (λ c here. inr here);
+        (λ c here. since_found issuer d.start d.end d.torn c (record { rest = h.notes.more; is = h.notes.is }) here)
+        (λ c here. inr here);
     every_crash = kept.every_crash;
     reads = kept.reads;
   };
@@ -233,7 +221,7 @@ pub opened_by : (kind : Kind) (begun : Beginning) (plan : Plan) (start : List En
     (pairs : List (Sealed × Line)) → pairs ≡ noted_pairs start → length (noted start) ≤ length (recs start) →
     (IsTrue kind.tells → Begins old.ledger opened.ledger plan (length pairs)) →
     (IsTrue kind.keeps_rules → opened.ledger.processed ≡ begun old.ledger.processed pairs) → opened.faults ≡ old.faults →
-    IsOpened kind begun plan start old opened
+    OpensSession kind begun plan start old opened
 opened_by kind begun plan start old opened pairs are few lists rules faults = record {
   lists = λ tells. subst (λ (n : ℕ). Begins old.ledger opened.ledger plan n) (ap length are ∙ pairs_count (recs start)
       (noted start) few) (lists tells);

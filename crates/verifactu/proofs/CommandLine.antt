@@ -89,5 +89,4 @@ within words Audit h = tt
 within words (Link num host) h = tt
 within words (Check workers) h = (h.number.count.range.0, h.number.few)
 within words (Generate n) h = h.number.range
-within words Help h = tt
-within words Version h = tt
+within words _ h = tt

@@ -11,7 +11,7 @@ use Rattle.record_codec.specs.declared.entries.Entry.{Entry}
 use Rattle.shop_core.specs.History.{Row, noted, recs, row_in, rows, waiting}
 use Rattle.shop_core.specs.declared.waiting.Waiting.{Waiting}
 use Rattle.batches.specs.Batches.{huellas_of}
-use Rattle.agency_port.specs.Replied.{Replied}
+use Rattle.agency_port.specs.Reply.{Replied}
 use Rattle.agency_port.specs.Sessions.{kept_reply}
 use Rattle.agency_port.specs.declared.answers.AgencyFault.TheVariants as agency
 use Rattle.agency_port.specs.declared.answers.ReplyLine.{ReplyLine}
@@ -34,7 +34,7 @@ use Rattle.sender.specs.declared.answers.DrainFault.{DrainFault}
 use Rattle.sender.specs.declared.answers.DrainFault.TheVariants as drain
 use Rattle.sender.specs.Agreeing.{KeepsReply}
 use Rattle.sender.specs.Draining.{Drained, EndsWith, GoesOn, Scene, Turns, none as no_turn, more as one_turn}
-use Rattle.sender.specs.Evident.{Shows, forgotten, forgotten_in, said_at, said_in}
+use Rattle.sender.specs.Evidence.{Shows, forgotten, forgotten_in, said_at, said_in}
 use Rattle.sender.specs.Sending.{Sending}
 use Rattle.sender.specs.Turning.{Asked, Dealt, Deed, Desk, Ends, Handed, Kind, Nothing, SeenEnds, Turned}
 use Rattle.sender.proofs.Replying.{turn_keeps_reply}

@@ -5,7 +5,7 @@ use Rattle.std.specs.Prelude.{◌≢◌, Contains, IsErrOf}
 use Rattle.std.specs.List.{AllByRecursion, list_any, range_with_len}
 use Rattle.std.proofs.lemmas.List.{append-nil}
 use Rattle.std.proofs.lemmas.List.Elements.{All-contains, filter_passes}
-use Rattle.chain_disk.specs.Told.{IsImage, LeavesNow, LeavesOnly, synced}
+use Rattle.chain_disk.specs.OnDisk.{IsImage, LeavesNow, LeavesOnly, synced}
 use Rattle.chain_disk.specs.Runs.{follows, weaker}
 use Rattle.chain_disk.specs.Disks.{DiskRose, Disks, this_disk}
 use Rattle.huella.specs.Linked.{Linked}
@@ -20,14 +20,14 @@ use Rattle.report.specs.declared.ended.Detail.{Detail}
 use Rattle.report.specs.declared.ended.Detail.TheVariants as detail
 use Rattle.agency_rules.specs.declared.plans.Plan.{Plan}
 use Rattle.agency_port.specs.declared.turns.Evidence.{Evidence}
-use Rattle.once_world.specs.Agreement.{Agree}
+use Rattle.once_world.specs.Agreement.{Agree, IsPrefix}
 use Rattle.sender.specs.Turning.{Desk}
 use Rattle.sender.specs.declared.answers.DrainFault.{DrainFault}
 use Rattle.sender.specs.declared.answers.DrainFault.TheVariants as drain
 use Rattle.sender.specs.declared.draining.TheConstants.{MAX_LINK_FAULTS}
 use Rattle.script.specs.declared.forms.Form.TheVariants.{Full}
 use Rattle.script.specs.declared.scripts.Script.{Script}
-use Rattle.shop_core.specs.Asked.{Asked}
+use Rattle.shop_core.specs.Requests.{Asked}
 use Rattle.shop_core.specs.Files.{StandsFor}
 use Rattle.shop_core.specs.History.{recs, noted}
 use Rattle.shop_core.specs.Legal.{Legal}
@@ -35,23 +35,23 @@ use Rattle.till_calls.specs.Root.{Parts}
 use Rattle.till_calls.specs.Sound.{IsLater}
 use Rattle.verifactu.specs.Beside.{DayRunEnds, DaySession, DaySpan, IsUnbegun, KeptDay, ShowsLast, StaysAgreed}
 use Rattle.verifactu.specs.Beside.DayRunEnds.{done, write_fault, undelivered, contradiction, disk_fault, no_memory}
-use Rattle.verifactu.specs.Crashes.{IsPrefix, Kept, StandsBetween, StandsForEnd, StandsSince}
+use Rattle.verifactu.specs.Crashes.{Kept, StandsBetween, StandsForEnd, StandsSince}
 use Rattle.verifactu.specs.Day.{DayEnds, DayServed, LeftTime, NotServed, Served, ShopLeft, ShopRan, StoreDayEnds}
 use Rattle.verifactu.specs.Day.{StoreKind, TillsEnd, day_text, span_of}
 use Rattle.verifactu.specs.Devices.{Agencies, AllDevices, Clocks, LeftSleeper, Sleepers, this_clock}
 use Rattle.verifactu.specs.Drain.{AgreesAtStart, AllLeft, LeavesTime, NothingRose, desk_after, desk_before, kind_of}
-use Rattle.verifactu.specs.Drained.{AgreesInFile, IsDiskAnswer, IsFaultless, IsOpened, noted_pairs, torn_in}
+use Rattle.verifactu.specs.Draining.{AgreesInFile, IsDiskAnswer, IsFaultless, OpensSession, noted_pairs, torn_in}
 use Rattle.verifactu.specs.Readings.{readings_of}
 use Rattle.verifactu.specs.Scripts.{IsGoodScript}
 use Rattle.verifactu.specs.Scripts.ScriptedEnds.{ran}
 use Rattle.verifactu.specs.Replies.{AllGoOn, IsGoingOn, Replies, is_disk_fault}
-use Rattle.verifactu.specs.Tills.{StopsShop, TillRun, TillServed, TillTold, all_replies, has_asks, tills_of}
-use Rattle.verifactu.specs.Tills.TillRun.{unasked, answered, torn as tears, stopped as told_stop, without_memory}
+use Rattle.verifactu.specs.Tills.{StopsShop, ServedRun, TillServed, TillReplies, all_replies, has_asks, tills_of}
+use Rattle.verifactu.specs.Tills.ServedRun.{unasked, answered, torn as tears, stopped as told_stop, without_memory}
 use Rattle.verifactu.proofs.Agreed.{torn_one}
 use Rattle.verifactu.proofs.Closing.{between, either}
 use Rattle.verifactu.proofs.Each.{all_of_each, each_of_all, each_unmap, each_weaker}
 use Rattle.verifactu.proofs.Finishing.{since_found}
-use Rattle.verifactu.proofs.RunEnding.{rose_opening}
+use Rattle.verifactu.proofs.RunEnding.{no_room_by, not_opened_by, rose_opening}
 
 -- where each reply goes on, none is a fault of the disk
 no_fault : (replies : Replies) → AllGoOn replies → Contains replies (Err DiskFault) → ⊥
@@ -102,15 +102,16 @@ torn_day faults after (Some count) torn replies answer stops = inr (λ below. le
     let risen = stops.risen (omega (arith, below, within)) in omega (arith, within, risen))
 
 -- a till that asks for nothing is none of the tills that ask
-pub none_of : (asks : List Asked) (tills : List TillTold) (till : ℕ) → map (λ (t : TillTold). t.till) tills ≡ tills_of asks →
-    has_asks asks till ≡ false → AllByRecursion (λ (t : TillTold). t.till ≢ till) tills
+pub none_of : (asks : List Asked) (tills : List TillReplies) (till : ℕ) →
+    map (λ (t : TillReplies). t.till) tills ≡ tills_of asks → has_asks asks till ≡ false → AllByRecursion (λ (t : TillReplies).
+    t.till ≢ till) tills
 none_of asks tills till are none =
     let passes : AllByRecursion (λ (n : ℕ). has_asks asks n ≡ true) (tills_of asks) =
     each_of_all (λ (n : ℕ). has_asks asks n ≡ true) (tills_of asks) (filter_passes (has_asks asks)
     (range_with_len 1 LAST_TILL)) in
-    let each = each_unmap (λ (t : TillTold). t.till) (λ (n : ℕ). has_asks asks n ≡ true) tills
+    let each = each_unmap (λ (t : TillReplies). t.till) (λ (n : ℕ). has_asks asks n ≡ true) tills
     (subst (λ (l : List ℕ). AllByRecursion (λ (n : ℕ). has_asks asks n ≡ true) l) (sym are) passes) in
-    each_weaker (λ (t : TillTold). has_asks asks t.till ≡ true) (λ (t : TillTold). t.till ≢ till) tills
+    each_weaker (λ (t : TillReplies). has_asks asks t.till ≡ true) (λ (t : TillReplies). t.till ≢ till) tills
     (λ t has e. let both : true ≡ false = sym has ∙ ap (λ (n : ℕ). has_asks asks n) e ∙ none in absurd (let b = both in cc))
     each
 
@@ -133,14 +134,14 @@ module _ {D C Z G : Type 0} (h : StoreKind D C) (issuer : List ℕ) (asks : List
 
   -- there was no room for the day of the file that was opened
   left_opened : ShopLeft (LeftSleeper z) opened disk_after clock_after s end → IsUnbegun (kind_of a) (desk_before a)
-      (desk_after a) ⊎ IsOpened (kind_of a) a.kind.begun plan first (desk_before a) (desk_after a) →
+      (desk_after a) ⊎ OpensSession (kind_of a) a.kind.begun plan first (desk_before a) (desk_after a) →
       NotServed issuer plan (LeftTime clocks z) s disks a end
   left_opened l begun = record {
     ends = l.ends;
     start = first;
     found = found;
     kept = λ says.
-        let begins : IsPrefix first first = record { rest = []; parts = sym (append-nil first) } in
+        let begins : IsPrefix first first = record { rest = []; is = sym (append-nil first) } in
         subst (λ (d : D). Kept (StandsSince issuer first first) issuer first [] (synced (h.told disk)) (h.told d)) (sym l.disk)
         (record {
           torn = [];
@@ -156,7 +157,7 @@ module _ {D C Z G : Type 0} (h : StoreKind D C) (issuer : List ℕ) (asks : List
     rest = (l.clock ∙ same_clock, l.rest);
   }
 
-  module _ (desk : Desk) (opens : IsOpened (kind_of a) a.kind.begun plan first (desk_before a) desk)
+  module _ (desk : Desk) (opens : OpensSession (kind_of a) a.kind.begun plan first (desk_before a) desk)
       (r : ShopRan h asks (kind_of a) desk (desk_after a) opened disk_after clock_after s end) where
     abbrev torn : List Entry
     torn = torn_in r.new.stopped r.new.torn
@@ -165,7 +166,7 @@ module _ {D C Z G : Type 0} (h : StoreKind D C) (issuer : List ℕ) (asks : List
     span = span_of a first r.new.state.entries torn r.answer
 
     begins : IsPrefix first r.new.state.entries
-    begins = record { rest = r.run.sound.begins.0; parts = r.run.sound.begins.1 }
+    begins = record { rest = r.run.sound.begins.0; is = r.run.sound.begins.1 }
 
     stops : StopsShop (h.faults disk) (h.faults disk_after) r.new.stopped (all_replies r.tills) r.answer
     stops = stops_since (h.faults disk) (h.faults opened.disk) (h.faults disk_after) r.new.stopped (all_replies r.tills) r.answer
@@ -273,11 +274,7 @@ module _ {D C Z G : Type 0} (h : StoreKind D C) (issuer : List ℕ) (asks : List
         let one : x ≡ n = cc in
         let two : y ≡ m = cc in
         subst (λ (i : ℕ). Failing i m) one (subst (λ (j : ℕ). Failing x j) two (eight_failed x y e))
-    failed how (done all e same w) n m is = absurd cc
-    failed how (write_fault all e same w) n m is = absurd cc
-    failed how (contradiction evidence all e w) n m is = absurd cc
-    failed how (disk_fault memory sender some w) n m is = absurd cc
-    failed how (no_memory w) n m is = absurd cc
+    failed how _ n m is = absurd cc
 
     completed : (how : Detail) → Ends how → NothingRose s disks a → IsTrue a.kind.keeps_rules → AgreesAtStart a first →
         (how ≡ detail.Done) ⊎ (how ≡ detail.NoMemory)
@@ -301,11 +298,7 @@ module _ {D C Z G : Type 0} (h : StoreKind D C) (issuer : List ℕ) (asks : List
     only_shown how (contradiction found all e w) says evidence is =
         let same : found ≡ evidence = cc in
         r.sends.contrary says evidence (e ∙ ap (λ (x : Evidence). Err (drain.Contradiction x)) same)
-    only_shown how (done all e same w) says evidence is = absurd cc
-    only_shown how (write_fault all e same w) says evidence is = absurd cc
-    only_shown how (undelivered n m all e w) says evidence is = absurd cc
-    only_shown how (disk_fault memory sender some w) says evidence is = absurd cc
-    only_shown how (no_memory w) says evidence is = absurd cc
+    only_shown how _ says evidence is = absurd cc
 
     each_shown : (how : Detail) → Ends how → IsTrue a.kind.tells → (evidence : Evidence) → Shown evidence →
         (how ≡ detail.Contradiction evidence) ⊎ (how ≡ detail.NoMemory) ⊎ (how ≡ detail.DiskFault)
@@ -348,14 +341,14 @@ module _ {D C Z G : Type 0} (h : StoreKind D C) (issuer : List ℕ) (asks : List
           ShopRan h asks (kind_of a) d.opened (desk_after a) opened disk_after clock_after s end →
           TillsEnd issuer asks plan (h.coming clock) (AllLeft clocks z a) (LeftTime clocks z) (IsLater h.coming clock clock_after)
           s disks a end
-      by_served (inl l) = inr (inr (inl (left_opened l.0 (inr (subst (λ (k : Desk). IsOpened (kind_of a) a.kind.begun plan first
-          (desk_before a) k) (sym l.1) d.opens)))))
+      by_served (inl l) = inr (inr (inl (left_opened l.0 (inr (subst (λ (k : Desk). OpensSession (kind_of a) a.kind.begun plan
+          first (desk_before a) k) (sym l.1) d.opens)))))
       by_served (inr r) = inr (inr (inr (day_served d.opened d.opens r)))
 
 -- a till run by readings of one kind is one by readings of another kind that gives the same
 till_run_by : (issuer : List ℕ) (start end : List Entry) (old new : ℕ → Option ℕ) → ((k : ℕ) → old k ≡ new k) →
-    {asks : List Asked} {replies : Replies} {seen : ℕ} {mark : Bool} → TillRun issuer old start end asks replies seen mark →
-    TillRun issuer new start end asks replies seen mark
+    {asks : List Asked} {replies : Replies} {seen : ℕ} {mark : Bool} → ServedRun issuer old start end asks replies seen mark →
+    ServedRun issuer new start end asks replies seen mark
 till_run_by issuer start end old new same unasked = unasked
 till_run_by issuer start end old new same (answered asks replies seen ask reply history gained seconds before low reaches reading
     tells) =
@@ -369,7 +362,7 @@ till_run_by issuer start end old new same (without_memory asks replies seen ask 
     (till_run_by issuer start end old new same before)
 
 till_by : (issuer : List ℕ) (start end : List Entry) (count : Option ℕ) (asks : List Asked) (old new : ℕ → Option ℕ) →
-    ((k : ℕ) → old k ≡ new k) → (t : TillTold) → TillServed issuer old start end count asks t → TillServed issuer new start end
+    ((k : ℕ) → old k ≡ new k) → (t : TillReplies) → TillServed issuer old start end count asks t → TillServed issuer new start end
     count asks t
 till_by issuer start end count asks old new same t h = record {
   last = h.last;
@@ -387,17 +380,9 @@ pub tills_by : {D G : Type 0} (issuer : List ℕ) (asks : List Asked) (plan : Pl
     TillsEnd issuer asks plan old untouched unserved left s k a end → TillsEnd issuer asks plan new unread unasked' leaves s k a
     end
 tills_by issuer asks plan old new untouched unread unserved unasked' left leaves s k a end same u v l (inl h) =
-    inl (record { ends = h.ends; wrote = h.wrote; disk = h.disk; rest = u h.rest })
+    inl (no_room_by u h)
 tills_by issuer asks plan old new untouched unread unserved unasked' left leaves s k a end same u v l (inr (inl h)) =
-    inr (inl (record {
-      why = h.why;
-      ends = h.ends;
-      risen = h.risen;
-      left_by = h.left_by;
-      every_crash = h.every_crash;
-      wrote = h.wrote;
-      rest = u h.rest;
-    }))
+    inr (inl (not_opened_by u h))
 tills_by issuer asks plan old new untouched unread unserved unasked' left leaves s k a end same u v l (inr (inr (inl h))) =
     inr (inr (inl (record {
       ends = h.ends;
@@ -450,11 +435,7 @@ module _ {D G : Type 0} (issuer : List ℕ) (asks : List Asked) (plan : Plan) (c
       DiskRose k
   rose_served left end p (disk_fault memory sender some w) is = rose_day (k.faults k.disk) (k.faults k.disk_after) p.stopped
       (all_replies p.tills) p.answer p.stops some
-  rose_served left end p (done all e same w) is = absurd cc
-  rose_served left end p (write_fault all e same w) is = absurd cc
-  rose_served left end p (undelivered n m all e w) is = absurd cc
-  rose_served left end p (contradiction evidence all e w) is = absurd cc
-  rose_served left end p (no_memory w) is = absurd cc
+  rose_served left end p _ is = absurd cc
 
   rose_tills : (untouched unserved left : Type 0) (end : Detail) → TillsEnd issuer asks plan coming untouched unserved left s k a
       end → end ≡ detail.DiskFault → DiskRose k

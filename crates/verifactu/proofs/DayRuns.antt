@@ -6,15 +6,15 @@ use Rattle.std.specs.List.{AllByRecursion, flat_map}
 use Rattle.std.proofs.lemmas.List.{append-nil, length-append, length-map}
 use Rattle.std.proofs.lemmas.List.Folds.{flat_map-map}
 use Rattle.std.proofs.lemmas.List.Sums.{sum_by_push}
-use Rattle.chain_disk.specs.Told.{Told}
+use Rattle.chain_disk.specs.OnDisk.{OnDisk}
 use Rattle.chain_lock.specs.Known.{Known, IsNew, Fits, holders, owners, times_held}
 use Rattle.chain_lock.specs.Lists.{StartsWith}
 use Rattle.journal.specs.declared.faults.StoreFault.{StoreFault}
 use Rattle.journal.specs.declared.faults.StoreFault.TheVariants.{DiskFault, Stopped, NoMemory}
 use Rattle.record_codec.specs.declared.entries.Entry.{Entry}
 use Rattle.record_codec.specs.declared.entries.Entry.TheVariants.{Rec, Notes}
-use Rattle.shop_core.specs.Asked.{Asked}
-use Rattle.shop_core.specs.Runs.{IsTakenAt}
+use Rattle.shop_core.specs.Requests.{Asked}
+use Rattle.shop_core.specs.Replies.{IsTakenAt}
 use Rattle.shop_core.specs.declared.answers.Reply.{Reply}
 use Rattle.shop_core.specs.declared.answers.Reply.TheVariants.{Taken, Again, Refused}
 use Rattle.shop_core.specs.declared.items.Item.{Item}
@@ -27,9 +27,9 @@ use Rattle.till_calls.specs.Sound.{HasStopped, IsSound}
 use Rattle.sender.specs.Agreeing.{Adds, AreNotes, AreNotesOrTorn}
 use Rattle.sender.specs.declared.answers.DrainFault.{DrainFault}
 use Rattle.sender.specs.declared.answers.DrainFault.TheVariants as drain
-use Rattle.verifactu.specs.Drained.{IsDiskAnswer, IsFaultless}
+use Rattle.verifactu.specs.Draining.{IsDiskAnswer, IsFaultless}
 use Rattle.verifactu.specs.Replies.{IsGoingOn, Replies}
-use Rattle.verifactu.specs.Tills.{AreTaken, DayRun, StopsShop, TellsStop, TillServed, TillTold, all_replies, asks_of, is_from}
+use Rattle.verifactu.specs.Tills.{AreTaken, DayRun, StopsShop, TellsStop, TillServed, TillReplies, all_replies, asks_of, is_from}
 use Rattle.verifactu.specs.Tills.{own_of, stops_in}
 use Rattle.verifactu.specs.Works.{Ran, Row, Worked, told_in}
 use Rattle.verifactu.specs.declared.tills.TillDay.{TillDay}
@@ -138,7 +138,7 @@ no_stop_yet p e =
     ap (λ (s : Option ℕ). length (map item.Entry p.state.entries ++ stop_in s p.torn)) e ∙ ap (λ (l : List Item). length l)
     (append-nil (map item.Entry p.state.entries)) ∙ length-map p.state.entries (λ (x : Entry). item.Entry x)
 
-module _ {D C : Type 0} (tells : Bool) (tell : D → Told) (faults : D → ℕ) (coming : C → ℕ → Option ℕ) (asks : List Asked)
+module _ {D C : Type 0} (tells : Bool) (tell : D → OnDisk) (faults : D → ℕ) (coming : C → ℕ → Option ℕ) (asks : List Asked)
     (root : Root C) (p : Parts D C) (for_no_other : AddsForNoOther coming) (what_is_taken : AddsWhatIsTaken coming) where
   abbrev Sound : Type 0
   Sound = IsSound tells tell faults coming root p
@@ -222,11 +222,11 @@ module _ {D C : Type 0} (tells : Bool) (tell : D → Told) (faults : D → ℕ) 
         (served base size sound) all_told (rows_own coming asks base root p.stopped p.torn p.state.entries for_no_other
         what_is_taken size rows seat distinct news bare worked fits starts since)
 
-    abbrev tills : List TillTold
+    abbrev tills : List TillReplies
     tills = map told_in (map (λ (r : Row C). r.done) rows)
 
     replies_are : all_replies tills ≡ flat_map (λ (r : Row C). r.done.answers.items) rows
-    replies_are = flat_map-map (λ (t : TillTold). t.replies) told_in (map (λ (r : Row C). r.done) rows) ∙
+    replies_are = flat_map-map (λ (t : TillReplies). t.replies) told_in (map (λ (r : Row C). r.done) rows) ∙
         flat_map-map (λ (d : TillDay). d.answers.items) (λ (r : Row C). r.done) rows
 
     stops_told : AllByRecursion (StopTold p.stopped) (flat_map (λ (r : Row C). r.done.answers.items) rows)
@@ -278,7 +278,7 @@ module _ {D C : Type 0} (tells : Bool) (tell : D → Told) (faults : D → ℕ) 
           (sym (since_start base size sound till) ∙ none_else coming asks base root p.stopped p.torn p.state.entries for_no_other
           what_is_taken size rows seat distinct news bare worked fits starts since first first_new till
           (each_unmap (λ (r : Row C). r.done) (λ (d : TillDay). d.till ≢ till) rows
-          (each_unmap told_in (λ (t : TillTold). t.till ≢ till) (map (λ (r : Row C). r.done) rows) other)));
+          (each_unmap told_in (λ (t : TillReplies). t.till ≢ till) (map (λ (r : Row C). r.done) rows) other)));
       stops = subst (λ (rs : Replies). StopsShop root.faults (faults p.disk) p.stopped rs answer) (sym replies_are)
           (stops_by sound (flat_map (λ (r : Row C). r.done.answers.items) rows) answer stops_told disk
           (some_told answer first_told) p.stopped refl);
@@ -309,7 +309,7 @@ own_rows {C} coming asks base root (r ∷ rs) news worked =
           root rs news.1 worked.1,
     )
 
-module _ {D C : Type 0} (tells : Bool) (tell : D → Told) (faults : D → ℕ) (coming : C → ℕ → Option ℕ) (asks : List Asked)
+module _ {D C : Type 0} (tells : Bool) (tell : D → OnDisk) (faults : D → ℕ) (coming : C → ℕ → Option ℕ) (asks : List Asked)
     (p : Parts D C) (root : Root C) (base : List Item) (days done : List TillDay) (old new : List (Known Item (Root C)))
     (seat then : Known Item (Root C))
     (ran : Ran coming asks days old done new) (fresh : All (IsNew base root) (old ++ seat ∷ [])) where

@@ -9,14 +9,14 @@ use Rattle.journal.specs.declared.faults.StoreFault.{StoreFault}
 use Rattle.journal.specs.declared.faults.StoreFault.TheVariants as store
 use Rattle.sender.specs.declared.answers.DrainFault.{DrainFault}
 use Rattle.sender.specs.declared.answers.DrainFault.TheVariants as drain
-use Rattle.shop_core.specs.Asked.{Asked}
+use Rattle.shop_core.specs.Requests.{Asked}
 use Rattle.shop_core.specs.declared.answers.Reply.{Reply}
 use Rattle.verifactu.specs.Beside.{DayRunEnds, sender_lacks_memory}
 use Rattle.verifactu.specs.Beside.DayRunEnds.{undelivered, contradiction, disk_fault, no_memory}
-use Rattle.verifactu.specs.Drained.{IsDiskAnswer, fault_end}
+use Rattle.verifactu.specs.Draining.{IsDiskAnswer, fault_end}
 use Rattle.verifactu.specs.Printed.{answers}
 use Rattle.verifactu.specs.Replies.{AllReplied, is_no_memory}
-use Rattle.verifactu.specs.Tills.{TillTold, all_replies}
+use Rattle.verifactu.specs.Tills.{TillReplies, all_replies}
 use Rattle.verifactu.specs.Works.{told_in}
 use Rattle.verifactu.specs.declared.tills.TillDay.{TillDay}
 use Rattle.verifactu.proofs.Finished.{either_part}
@@ -37,11 +37,12 @@ list_any_pieces p f (x ∷ xs) = list_any-append p (f x) (flat_map f xs) ∙ ap 
 -- whether some reply of a day passes a test
 pub any_reply : (p : Result Reply StoreFault → Bool) (days : List TillDay) → list_any p (all_replies (map told_in days)) ≡
     list_any (λ (d : TillDay). list_any p d.answers.items) days
-any_reply p days = ap (λ (l : List (Result Reply StoreFault)). list_any p l) (flat_map-map (λ (t : TillTold). t.replies) told_in
-    days) ∙ list_any_pieces p (λ (d : TillDay). d.answers.items) days
+any_reply p days = ap (λ (l : List (Result Reply StoreFault)). list_any p l) (flat_map-map (λ (t : TillReplies). t.replies)
+    told_in days) ∙ list_any_pieces p (λ (d : TillDay). d.answers.items) days
 
 -- the tills are those of their days
-pub same_numbers : (days : List TillDay) → map (λ (t : TillTold). t.till) (map told_in days) ≡ map (λ (d : TillDay). d.till) days
+pub same_numbers : (days : List TillDay) → map (λ (t : TillReplies). t.till) (map told_in days) ≡
+    map (λ (d : TillDay). d.till) days
 same_numbers [] = refl
 same_numbers (d ∷ days) = ap (λ (l : List ℕ). d.till ∷ l) (same_numbers days)
 

@@ -5,7 +5,7 @@ use Rattle.ports.specs.Sinks.{FailedIn, OutputIs, Sinks, Wrote, WrotePart}
 use Rattle.ports.specs.declared.faults.Failed.{Failed}
 use Rattle.journal.specs.declared.faults.StoreFault.TheVariants as store
 use Rattle.chain_disk.specs.Disks.{DiskRose, Disks}
-use Rattle.chain_disk.specs.Told.{Told, LeavesOnly, synced}
+use Rattle.chain_disk.specs.OnDisk.{OnDisk, LeavesOnly, synced}
 use Rattle.record_codec.specs.declared.entries.Entry.{Entry}
 use Rattle.agency_rules.specs.declared.plans.Plan.{Plan}
 use Rattle.till_calls.specs.Sound.{IsLater}
@@ -22,12 +22,12 @@ use Rattle.verifactu.specs.Crashes.{StandsSince}
 use Rattle.verifactu.specs.Devices.{Agencies, Clocks, LeftClock, LeftSleeper, Sleepers}
 use Rattle.verifactu.specs.Drain.{AgreesAtStart, AllLeft, FileDrainEnds, FileDrained, LeavesTime, NothingRose, ScriptDrainEnds}
 use Rattle.verifactu.specs.Drain.{desk_after, desk_before, file_span, first_moment, kind_of, tells_moment}
-use Rattle.verifactu.specs.Drained.{DiskSpan, DrainRunEnds, Outcome, Span, StoreDrainEnds, StoreDrains, drain_text, fault_end}
-use Rattle.verifactu.specs.Drained.{spanning}
-use Rattle.verifactu.specs.Drained.DrainRunEnds.{done, write_fault, undelivered, contradiction, disk_fault, no_memory}
+use Rattle.verifactu.specs.Draining.{DiskSpan, DrainRunEnds, Outcome, Span, StoreDrainEnds, StoreDrains, drain_text, fault_end}
+use Rattle.verifactu.specs.Draining.{spanning}
+use Rattle.verifactu.specs.Draining.DrainRunEnds.{done, write_fault, undelivered, contradiction, disk_fault, no_memory}
 use Rattle.verifactu.specs.Opening.{NotOpened, opening_end}
 use Rattle.verifactu.proofs.Bytewise.{part_of_output}
-use Rattle.verifactu.proofs.RunEnding.{written_either}
+use Rattle.verifactu.proofs.RunEnding.{not_opened_by, rose_opening, written_either}
 use Rattle.verifactu.proofs.Closing.{never_contrary, since_opening, undelivered_by}
 
 pub not_later : {C : Type 0} (coming : C → ℕ → Option ℕ) (start now : C) → now ≡ start → IsLater coming start now
@@ -53,11 +53,7 @@ module _ {D G : Type 0} (issuer : List ℕ) (plan : Plan) (exact : Bool) (moment
       let u : Failing m q = undelivered_by (StandsSince issuer) a.kind.begun plan issuer (file_span k)
       (spanning start (kind_of a) (desk_before a) (desk_after a) exact moment o) h m q e in
       subst (λ (x : ℕ). Failing x r) first (subst (λ (y : ℕ). Failing m y) second u)
-  eight_failed end (done e w) n r is = absurd cc
-  eight_failed end (write_fault e w) n r is = absurd cc
-  eight_failed end (contradiction evidence e w) n r is = absurd cc
-  eight_failed end (disk_fault e w) n r is = absurd cc
-  eight_failed end (no_memory w) n r is = absurd cc
+  eight_failed end _ n r is = absurd cc
 
   completed : (end : Detail) → DrainRunEnds o.answer (drain_text o) s end → NothingRose s k a → IsTrue a.kind.keeps_rules →
       AgreesAtStart a start → (end ≡ detail.Done) ⊎ (end ≡ detail.NoMemory)
@@ -89,22 +85,11 @@ disk_failed : {D G : Type 0} (issuer : List ℕ) (plan : Plan) (exact : Bool) (m
     (a : Agencies G) (end : Detail) (f : FileDrained issuer plan exact moment s k a end) → DrainRunEnds f.outcome.answer
     (drain_text f.outcome) s end → end ≡ detail.DiskFault → DiskRose k
 disk_failed issuer plan exact moment s k a end f (disk_fault e w) is = f.drains.risen e
-disk_failed issuer plan exact moment s k a end f (done e w) is = absurd cc
-disk_failed issuer plan exact moment s k a end f (write_fault e w) is = absurd cc
-disk_failed issuer plan exact moment s k a end f (undelivered n r e w) is = absurd cc
-disk_failed issuer plan exact moment s k a end f (contradiction evidence e w) is = absurd cc
-disk_failed issuer plan exact moment s k a end f (no_memory w) is = absurd cc
+disk_failed issuer plan exact moment s k a end f _ is = absurd cc
 
 pub drain_rose : {D G : Type 0} (issuer : List ℕ) (plan : Plan) (exact : Bool) (moment : ℕ) (s : Sinks) (k : Disks D)
     (a : Agencies G) (end : Detail) → FileDrained issuer plan exact moment s k a end → end ≡ detail.DiskFault → DiskRose k
 drain_rose issuer plan exact moment s k a end f is = disk_failed issuer plan exact moment s k a end f f.ends is
-
-rose_opening : {D : Type 0} (why : OpenCause) (k : Disks D) → (why ≡ cause.DiskFault → DiskRose k) →
-    opening_end why ≡ detail.DiskFault → DiskRose k
-rose_opening cause.DiskFault k risen is = risen refl
-rose_opening (cause.Damaged at) k risen is = absurd cc
-rose_opening (cause.OtherIssuer held) k risen is = absurd cc
-rose_opening cause.NoMemory k risen is = absurd cc
 
 -- a drain of a file whose disk failed
 pub file_rose : {D G : Type 0} (issuer : List ℕ) (left : Type 0) (plan : Plan) (exact : Bool) (moment : ℕ) (s : Sinks)
@@ -114,22 +99,9 @@ pub file_rose : {D G : Type 0} (issuer : List ℕ) (left : Type 0) (plan : Plan)
 file_rose issuer left plan exact moment s k a end (inl h) is = rose_opening h.why k h.risen (sym h.ends ∙ is)
 file_rose issuer left plan exact moment s k a end (inr h) is = drain_rose issuer plan exact moment s k a end h is
 
--- the same end, where more is left
-pub not_opened_by : {D : Type 0} (issuer : List ℕ) (left more : Type 0) (s : Sinks) (k : Disks D) (end : Detail) → (left → more) →
-    NotOpened issuer left s k end → NotOpened issuer more s k end
-not_opened_by issuer left more s k end f h = record {
-  why = h.why;
-  ends = h.ends;
-  risen = h.risen;
-  left_by = h.left_by;
-  every_crash = h.every_crash;
-  wrote = h.wrote;
-  rest = f h.rest;
-}
-
 -- the drain of a store whose file was opened
 pub opened_drained : {D G : Type 0} (issuer own : List ℕ) (plan : Plan) (exact : Bool) (moment : ℕ) (s : Sinks) (k : Disks D)
-    (a : Agencies G) (start : List Entry) (since : Told) (between : ℕ) (end : Detail) → own ≡ issuer →
+    (a : Agencies G) (start : List Entry) (since : OnDisk) (between : ℕ) (end : Detail) → own ≡ issuer →
     (IsTrue k.tells → IsFound issuer start (k.told k.disk).content) → (IsTrue k.tells → LeavesOnly (synced (k.told k.disk)) since
     (IsFound issuer start)) → k.faults k.disk ≤ between →
     StoreDrainEnds a.kind.begun plan own start (record {
@@ -180,7 +152,7 @@ module _ {D C Z G : Type 0} (issuer : List ℕ) (script : Script) (s : Sinks) (k
     where
       timed : NotOpened issuer (AllLeft own leap a) s k end ⊎ FileDrained issuer script.plan leap.tells (leap.moment leap.sleeper)
           s k a end → NotOpened issuer (AllLeft t z a) s k end ⊎ FileDrained issuer script.plan true line.0 s k a end
-      timed (inl n) = inl (not_opened_by issuer (AllLeft own leap a) (AllLeft t z a) s k end (λ left. record {
+      timed (inl n) = inl (not_opened_by (λ left. record {
         clock = clock;
         sleeper = sleeper;
         agency = left.agency;

@@ -3,7 +3,7 @@ use Rattle.std.proofs.Common.{◌≡◌, inl, inr, ℕ, ◌+◌, List, [], ◌�
 use Rattle.std.proofs.Common.{Option, Some, None, Result, Err}
 use Rattle.std.specs.List.{AllByRecursion}
 use Rattle.std.proofs.lemmas.List.{append-nil}
-use Rattle.chain_disk.specs.Told.{Told, IsImage, LeavesOnly}
+use Rattle.chain_disk.specs.OnDisk.{OnDisk, IsImage, LeavesOnly}
 use Rattle.chain_disk.specs.Runs.{leaves_now, started_settled, follows}
 use Rattle.chain_store.specs.Ready.{Holds}
 use Rattle.shop_core.specs.Files.{StandsFor}
@@ -11,19 +11,20 @@ use Rattle.journal.specs.declared.faults.StoreFault.{StoreFault}
 use Rattle.journal.specs.declared.faults.StoreFault.TheVariants.{DiskFault}
 use Rattle.record_codec.specs.declared.entries.Entry.{Entry}
 use Rattle.recovery.specs.Opening.{IsFound}
-use Rattle.shop_core.specs.Asked.{Asked}
+use Rattle.shop_core.specs.Requests.{Asked}
 use Rattle.shop_core.specs.History.{History}
 use Rattle.shop_core.specs.Legal.{Legal}
-use Rattle.shop_core.specs.Runs.{ChainRun}
-use Rattle.shop_core.specs.Runs.ChainRun.{begun}
+use Rattle.shop_core.specs.Replies.{ChainRun}
+use Rattle.shop_core.specs.Replies.ChainRun.{begun}
 use Rattle.shop_core.specs.declared.answers.Reply.{Reply}
-use Rattle.verifactu.specs.Crashes.{IsPrefix, Kept, StandsBetween, StandsForEnd, StandsSince}
+use Rattle.once_world.specs.Agreement.{IsPrefix}
+use Rattle.verifactu.specs.Crashes.{Kept, StandsBetween, StandsForEnd, StandsSince}
 use Rattle.verifactu.specs.Readings.{IsComing}
-use Rattle.verifactu.specs.Replies.{AllGoOn, IsGoingOn, StopsAt, StopsOnce}
+use Rattle.verifactu.specs.Replies.{AllGoOn, IsGoingOn, StopsByFault, StopsOnce}
 use Rattle.verifactu.proofs.Progress.{Origin, Point, Progress, SoFar}
 
 -- a store that holds its history stands for it
-pub stands : (history : History) (gate : ℕ) (t : Told) → Holds history gate t → Legal history.issuer history.entries →
+pub stands : (history : History) (gate : ℕ) (t : OnDisk) → Holds history gate t → Legal history.issuer history.entries →
     StandsFor history.issuer history.entries t.content
 stands history gate t h legal = record { frames = h.file.file; encoded = h.encoded; legal = legal }
 
@@ -33,17 +34,17 @@ pub begins : (o : Origin) (p : Point) (replies : List (Result Reply StoreFault))
     (IsTrue o.tells → Holds p.history gate p.now) →
     SoFar o [] replies p
 begins o p replies gate none issuer start since faults going next legal holds =
-    let whole : IsPrefix o.start p.history.entries = record { rest = []; parts = start ∙ sym (append-nil o.start) } in
+    let whole : IsPrefix o.start p.history.entries = record { rest = []; is = start ∙ sym (append-nil o.start) } in
     let only : IsTrue o.tells → LeavesOnly o.since p.now (StandsBetween o.issuer o.start p.history.entries []) = λ tells.
     let h = holds tells in
     let here : StandsFor o.issuer p.history.entries p.now.content = subst (λ (n : List ℕ). StandsFor n p.history.entries
     p.now.content) issuer (stands p.history gate p.now h legal) in
-    subst (λ (t : Told). LeavesOnly t p.now (StandsBetween o.issuer o.start p.history.entries [])) since
+    subst (λ (t : OnDisk). LeavesOnly t p.now (StandsBetween o.issuer o.start p.history.entries [])) since
     (started_settled p.now (StandsBetween o.issuer o.start p.history.entries []) h.file.nothing_pending (record {
       history = p.history.entries;
       stands = here;
       begins = whole;
-      within = record { rest = []; parts = refl };
+      within = record { rest = []; is = refl };
     })) in
     let progress : Progress o [] p None = record { go_on = tt; only = only } in
     subst (λ (rs : List (Result Reply StoreFault)). SoFar o [] rs p) (sym none) (record {
@@ -61,7 +62,8 @@ all_middle P [] behind x h = h.0
 all_middle P (y ∷ before) behind x h = all_middle P before behind x h.1
 
 -- where the journal has stopped, not all replies go on
-stopped_once : (faults count : ℕ) (replies : List (Result Reply StoreFault)) → StopsAt faults count replies → AllGoOn replies → ⊥
+stopped_once : (faults count : ℕ) (replies : List (Result Reply StoreFault)) → StopsByFault faults count replies →
+    AllGoOn replies → ⊥
 stopped_once faults count replies h all =
     all_middle IsGoingOn h.before h.behind (Err DiskFault) (subst (λ (rs : List (Result Reply StoreFault)). AllGoOn rs) h.parts
     all)
@@ -69,7 +71,7 @@ stopped_once faults count replies h all =
 stops_by : (stopped : Option ℕ) (o : Origin) (replies : List (Result Reply StoreFault)) (p : Point) → Progress o replies p stopped
     → StopsOnce o.at_faults p.faults replies
 stops_by None o replies p h = inl h.go_on
-stops_by (Some count) o replies p h = inr (subst (λ (n : ℕ). StopsAt o.at_faults n replies) h.at_this h.stops)
+stops_by (Some count) o replies p h = inr (subst (λ (n : ℕ). StopsByFault o.at_faults n replies) h.at_this h.stops)
 
 pub stops : (o : Origin) (asks : List Asked) (replies : List (Result Reply StoreFault)) (p : Point) → SoFar o asks replies p →
     StopsOnce o.at_faults p.faults replies
@@ -115,16 +117,16 @@ since_found issuer start end torn c begins (inl not_begun) = inl not_begun
 since_found issuer start end torn c begins (inr stands) = inr (record {
   history = start;
   stands = stands;
-  begins = record { rest = []; parts = sym (append-nil start) };
+  begins = record { rest = []; is = sym (append-nil start) };
   within = record {
     rest = begins.rest ++ torn;
-    parts = ap (λ (es : List Entry). es ++ torn) begins.parts ∙ append_assoc start
-        begins.rest torn;
+    is = ap (λ (es : List Entry). es ++ torn) begins.is ∙ append_assoc start begins.rest torn;
   };
 })
 
 -- what a run leaves, said since its file was opened
-pub kept_since : (issuer : List ℕ) (start end : List Entry) (replies : List (Result Reply StoreFault)) (first opened now : Told) →
+pub kept_since : (issuer : List ℕ) (start end : List Entry) (replies : List (Result Reply StoreFault)) (first opened now : OnDisk)
+    →
     IsPrefix start end →
     LeavesOnly first opened (IsFound issuer start) → Kept (StandsBetween issuer start end) issuer end replies opened now →
     Kept (StandsSince issuer start end) issuer end replies first now

@@ -3,7 +3,7 @@ use Rattle.std.proofs.Common.{◌≡◌, ◌∙◌, ◌⊎◌, inl, inr, ℕ, �
 use Rattle.std.proofs.Common.{IsTrue, Option, Result, Err}
 use Rattle.std.specs.Prelude.{IsErrOf}
 use Rattle.record_fields.specs.declared.lines.Line.{Line}
-use Rattle.chain_disk.specs.Told.{Told}
+use Rattle.chain_disk.specs.OnDisk.{OnDisk}
 use Rattle.chain_lock.specs.Known.{Known}
 use Rattle.record_codec.specs.declared.entries.Entry.{Entry}
 use Rattle.shop_core.specs.History.{recs, noted, waiting}
@@ -20,19 +20,19 @@ use Rattle.till_calls.specs.Mark.{sight_by}
 use Rattle.till_calls.specs.Root.{Parts, Root, items_in}
 use Rattle.till_calls.specs.Sound.{IsSound}
 use Rattle.sender.specs.Agreeing.{BeginsCareful, BeginsInSession, InSession, KeepsReply}
-use Rattle.sender.specs.Evident.{Shows}
+use Rattle.sender.specs.Evidence.{Shows}
 use Rattle.sender.specs.Dark.{AreRunsBy}
 use Rattle.sender.specs.Sending.{Sending, fresh}
 use Rattle.sender.specs.Turning.{Desk, Kind}
 use Rattle.sender.specs.declared.answers.DrainFault.{DrainFault}
 use Rattle.sender.specs.declared.answers.DrainFault.TheVariants as drain
 use Rattle.verifactu.specs.Beside.{DaySpan, SendsBeside, SendsOn, ShowsLast, StaysAgreed}
-use Rattle.verifactu.specs.Drained.{SaysNothingBlindly, torn_in}
+use Rattle.verifactu.specs.Draining.{SaysNothingBlindly, torn_in}
 use Rattle.verifactu.proofs.Agreed.{agree_new, entries_back, sight_new, torn_is}
 use Rattle.verifactu.proofs.Contrary.{asked_of_more, none_yet, one_shown}
 use Rattle.verifactu.proofs.Whole.{Kept, Shared, agreed, agreed_torn, gains, still_waits}
 
-module _ {D C : Type 0} (tells : Bool) (told : D → Told) (faults : D → ℕ) (coming : C → ℕ → Option ℕ) (p : Parts D C)
+module _ {D C : Type 0} (tells : Bool) (told : D → OnDisk) (faults : D → ℕ) (coming : C → ℕ → Option ℕ) (p : Parts D C)
     (root : Root C) (base : List Item) (tills : List (Known Item (Root C))) (seat then : Known Item (Root C))
     (h : Shared base (items_in p) root tills seat then)
     (sound : IsSound tells told faults coming root p) (is : base ≡ map item.Entry root.history)
@@ -112,8 +112,8 @@ module _ {D C : Type 0} (tells : Bool) (told : D → Told) (faults : D → ℕ) 
       evidence → IsErrOf answer (drain.Contradiction evidence) ⊎ (answer ≡ Err drain.NoMemory)
   each_shown says evidence s = elim (sends.shown says old.ledger.messages begins (none_yet old.ledger.messages) p.state.entries
       evidence s) [
-        | inl c ↦ inl (subst (λ (e : Evidence). IsErrOf answer (drain.Contradiction e)) (one_shown p.state.entries old.ledger.messages
-            new.ledger.messages c.0 evidence (only_shown says c.0 c.1) s) c.1)
+        | inl c ↦ inl (subst (λ (e : Evidence). IsErrOf answer (drain.Contradiction e)) (one_shown p.state.entries
+            old.ledger.messages new.ledger.messages c.0 evidence (only_shown says c.0 c.1) s) c.1)
         | inr m ↦ inr m
       ]
 

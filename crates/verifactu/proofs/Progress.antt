@@ -1,8 +1,8 @@
 -- How far a run of a store has come.
 use Rattle.std.proofs.Common.{◌≡◌, ℕ, ◌≤◌, List, [], length, Bool, IsTrue, IsSome, OnOk, Option, Some, None, Result, Err, ◌↔◌}
-use Rattle.chain_disk.specs.Told.{Told, LeavesOnly, LeavesNow}
+use Rattle.chain_disk.specs.OnDisk.{OnDisk, LeavesOnly, LeavesNow}
 use Rattle.chain_disk.specs.declared.disk.Disk.{Ghosts}
-use Rattle.chain_store.specs.Ready.{Takes}
+use Rattle.chain_store.specs.Ready.{StoreCall, Takes}
 use Rattle.chain_store.specs.Store.{clock_of, journal_of, state_of}
 use Rattle.chain_store.specs.declared.store.Store.{Store}
 use Rattle.journal.specs.Journal.{disk_of, stopped_of}
@@ -11,27 +11,28 @@ use Rattle.journal.specs.declared.faults.StoreFault.TheVariants.{DiskFault, Stop
 use Rattle.ports.specs.Causes.{Rose}
 use Rattle.ports.specs.Readings.{MovedBy}
 use Rattle.record_codec.specs.declared.entries.Entry.{Entry}
-use Rattle.shop_core.specs.Asked.{Asked}
+use Rattle.shop_core.specs.Requests.{Asked}
 use Rattle.shop_core.specs.History.{History}
-use Rattle.shop_core.specs.Runs.{ChainRun}
+use Rattle.shop_core.specs.Replies.{ChainRun}
 use Rattle.shop_core.specs.declared.answers.Reply.{Reply}
-use Rattle.verifactu.specs.Crashes.{IsPrefix, StandsBetween, StandsForEnd}
+use Rattle.once_world.specs.Agreement.{IsPrefix}
+use Rattle.verifactu.specs.Crashes.{StandsBetween, StandsForEnd}
 use Rattle.verifactu.specs.Readings.{IsComing, readings}
-use Rattle.verifactu.specs.Replies.{AllGoOn, StopsAt}
+use Rattle.verifactu.specs.Replies.{AllGoOn, StopsByFault}
 
 -- where the run began
 pub record Origin : Type 0 where
   pub issuer : List ℕ
   pub start : List Entry
   pub tells : Bool
-  pub since : Told
+  pub since : OnDisk
   pub at_faults : ℕ
   pub coming : ℕ → Option ℕ
 
 -- what the store is now
 pub record Point : Type 0 where
   pub history : History
-  pub now : Told
+  pub now : OnDisk
   pub faults : ℕ
   pub stopped : Option ℕ
   pub next : ℕ → Option ℕ
@@ -50,13 +51,25 @@ pub record Torn (o : Origin) (p : Point) : Type 0 where
 
 -- the journal has stopped
 pub record Halted (o : Origin) (replies : List (Result Reply StoreFault)) (p : Point) (count : ℕ) : Type 0 where
-  pub stops : StopsAt o.at_faults count replies
+  pub stops : StopsByFault o.at_faults count replies
   pub at_this : count ≡ p.faults
   pub left : IsTrue o.tells → Torn o p
 
 abbrev pub Progress : Origin → List (Result Reply StoreFault) → Point → Option ℕ → Type 0
 Progress o replies p None = GoingOn o replies p
 Progress o replies p (Some count) = Halted o replies p count
+
+-- one call of a store, from this point to that
+abbrev pub call_at : Bool → Point → Point → StoreCall
+call_at tells p q = record {
+  old = p.history;
+  new = q.history;
+  coming = p.next;
+  coming_after = q.next;
+  tells = tells;
+  disk = p.now;
+  disk_after = q.now;
+}
 
 -- these asks got these replies, up to this point
 pub record SoFar (o : Origin) (asks : List Asked) (replies : List (Result Reply StoreFault)) (p : Point) : Type 0 where
@@ -69,7 +82,7 @@ pub record SoFar (o : Origin) (asks : List Asked) (replies : List (Result Reply 
 
 -- one ask more
 pub record Step (tells : Bool) (p : Point) (ask : Asked) (told : Result Reply StoreFault) (q : Point) : Type 0 where
-  pub takes : p.stopped ≡ None → Takes p.history q.history ask p.next q.next tells p.now q.now told
+  pub takes : p.stopped ≡ None → Takes (call_at tells p q) ask told
   pub going_on : OnOk told ((p.stopped ≡ None) × (q.stopped ≡ None))
   pub no_memory : told ≡ Err NoMemory → (q.now ≡ p.now) × (q.stopped ≡ p.stopped)
   pub fault : told ≡ Err DiskFault → Rose p.faults q.faults × (q.stopped ≡ Some q.faults)
@@ -77,7 +90,7 @@ pub record Step (tells : Bool) (p : Point) (ask : Asked) (told : Result Reply St
   pub untouched : IsSome p.stopped → q ≡ p
   pub later : p.faults ≤ q.faults
 
-abbrev pub origin_of : {D C : Type 0} {g : Ghosts D} → Bool → (D → Told) → (D → ℕ) → (C → ℕ → Option ℕ) → Store D C g → Origin
+abbrev pub origin_of : {D C : Type 0} {g : Ghosts D} → Bool → (D → OnDisk) → (D → ℕ) → (C → ℕ → Option ℕ) → Store D C g → Origin
 origin_of tells told faults coming store = record {
   issuer = (state_of store).issuer;
   start = (state_of store).entries;
@@ -87,7 +100,7 @@ origin_of tells told faults coming store = record {
   coming = coming (clock_of store);
 }
 
-abbrev pub point_of : {D C : Type 0} {g : Ghosts D} → (D → Told) → (D → ℕ) → (C → ℕ → Option ℕ) → Store D C g → Point
+abbrev pub point_of : {D C : Type 0} {g : Ghosts D} → (D → OnDisk) → (D → ℕ) → (C → ℕ → Option ℕ) → Store D C g → Point
 point_of told faults coming store = record {
   history = state_of store;
   now = told (disk_of (journal_of store));

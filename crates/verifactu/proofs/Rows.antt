@@ -11,12 +11,12 @@ use Rattle.chain_lock.specs.Known.{Known, IsNew, Fits, holders, owners, times_he
 use Rattle.chain_lock.specs.Lists.{StartsWith}
 use Rattle.journal.specs.declared.faults.StoreFault.TheVariants.{DiskFault}
 use Rattle.record_codec.specs.declared.entries.Entry.{Entry}
-use Rattle.shop_core.specs.Asked.{Asked}
+use Rattle.shop_core.specs.Requests.{Asked}
 use Rattle.shop_core.specs.declared.items.Item.{Item}
 use Rattle.till_calls.specs.Laws.{AddsForNoOther, AddsWhatIsTaken}
 use Rattle.till_calls.specs.Own.{AreTaken, OwnsNone, records_of}
 use Rattle.till_calls.specs.Root.{Root}
-use Rattle.till_calls.specs.Runs.TillRun.{begun}
+use Rattle.till_calls.specs.Client.TillRun.{begun}
 use Rattle.verifactu.specs.Tills.{asks_of}
 use Rattle.verifactu.specs.Works.{Row, Worked, known_after}
 use Rattle.verifactu.proofs.Each.{all_of_each, each_both, each_front, each_map, each_of_all, each_snoc, each_unmap, each_weaker}

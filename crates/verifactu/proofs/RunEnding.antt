@@ -3,7 +3,7 @@ use Rattle.std.proofs.Common.{◌≡◌, inl, inr, ◌⊎◌, ℕ, ◌+◌, ◌�
 use Rattle.std.proofs.Common.{IsTrue, Option, Result, Ok, Err}
 use Rattle.std.specs.List.{list_any}
 use Rattle.chain_disk.specs.Runs.{started_settled, weaker}
-use Rattle.chain_disk.specs.Told.{Told, LeavesOnly, synced}
+use Rattle.chain_disk.specs.OnDisk.{OnDisk, LeavesOnly, synced}
 use Rattle.journal.specs.File.{IsNotBegun, IsNotBegunOrEmpty}
 use Rattle.chain_store.specs.declared.causes.OpenCause.{OpenCause}
 use Rattle.chain_store.specs.declared.causes.OpenCause.TheVariants as cause
@@ -17,21 +17,21 @@ use Rattle.recovery.specs.Opening.{IsDiskLost, IsFound, IsLeftUnopened}
 use Rattle.recovery.specs.Opening.IsDiskLost.{not_synced, not_read, in_part}
 use Rattle.report.specs.declared.ended.Detail.{Detail}
 use Rattle.report.specs.declared.ended.Detail.TheVariants as detail
-use Rattle.shop_core.specs.Asked.{Asked}
+use Rattle.shop_core.specs.Requests.{Asked}
 use Rattle.huella.specs.Linked.{Linked}
 use Rattle.shop_core.specs.History.{recs}
 use Rattle.shop_core.specs.Legal.{Legal}
-use Rattle.shop_core.specs.Runs.{ChainRun}
-use Rattle.shop_core.specs.Runs.ChainRun.{begun, replied}
+use Rattle.shop_core.specs.Replies.{ChainRun}
+use Rattle.shop_core.specs.Replies.ChainRun.{begun, replied}
 use Rattle.shop_core.specs.declared.answers.Reply.{Reply}
 use Rattle.verifactu.specs.Crashes.{Kept, KeepsFile, StandsBetween}
 use Rattle.verifactu.specs.Printed.{printed}
 use Rattle.verifactu.specs.Readings.{IsComing, IsAsked, LeavesClock, readings, readings_of}
 use Rattle.verifactu.specs.Replies.{AllGoOn, AllReplied, StopsOnce, is_disk_fault, is_no_memory}
-use Rattle.ports.specs.Sinks.{FailedIn, OutputIs, Sinks, Wrote}
+use Rattle.ports.specs.Sinks.{FailedIn, OutputIs, Sinks, Wrote, WroteNothing}
 use Rattle.chain_disk.specs.Disks.{DiskRose, Disks}
 use Rattle.verifactu.specs.Chain.{ChainEnds, Played, ScriptEnds}
-use Rattle.verifactu.specs.Opening.{opening_end}
+use Rattle.verifactu.specs.Opening.{NoRoom, NotOpened, opening_end}
 use Rattle.verifactu.specs.Scripts.{IsGoodScript, ScriptIs, ScriptedEnds, no_script_end}
 use Rattle.verifactu.specs.Scripts.ScriptedEnds.{ran, bad_line, read_fault, too_big, no_memory as unread_memory}
 use Rattle.verifactu.specs.Commands.{Answers, Stores}
@@ -76,12 +76,12 @@ pub written_either : (text : List ℕ) (s : Sinks) (w : Result (Unit {0}) Failed
 written_either text s (Ok u) h = inl h
 written_either text s (Err e) h = inr h
 
-as_it_stood : (issuer : List ℕ) (old new : Told) → new ≡ synced old → KeepsFile issuer old new
+as_it_stood : (issuer : List ℕ) (old new : OnDisk) → new ≡ synced old → KeepsFile issuer old new
 as_it_stood issuer old new is =
     let P : List ℕ → Type 0 = λ c. (c ≡ old.content) ⊎ (IsNotBegun old.content × IsNotBegunOrEmpty issuer c) in
-    inr (subst (λ (t : Told). LeavesOnly (synced old) t P) (sym is) (started_settled (synced old) P refl (inl refl)))
+    inr (subst (λ (t : OnDisk). LeavesOnly (synced old) t P) (sym is) (started_settled (synced old) P refl (inl refl)))
 
-disk_lost : (issuer : List ℕ) (old new : Told) → IsDiskLost issuer old new → KeepsFile issuer old new
+disk_lost : (issuer : List ℕ) (old new : OnDisk) → IsDiskLost issuer old new → KeepsFile issuer old new
 disk_lost issuer old new (not_synced failed) = inl failed
 disk_lost issuer old new (not_read is) = as_it_stood issuer old new is
 disk_lost issuer old new (in_part h) =
@@ -89,12 +89,44 @@ disk_lost issuer old new (in_part h) =
     (IsNotBegun old.content × IsNotBegunOrEmpty issuer c)) h.any_moment (λ c empty. inr (h.not_begun, empty)))
 
 -- what an opening that failed leaves keeps the file
-pub keeps_file : (issuer : List ℕ) (why : OpenCause) (old new : Told) → IsLeftUnopened issuer why old new →
+pub keeps_file : (issuer : List ℕ) (why : OpenCause) (old new : OnDisk) → IsLeftUnopened issuer why old new →
     KeepsFile issuer old new
 keeps_file issuer cause.DiskFault old new h = disk_lost issuer old new h
 keeps_file issuer (cause.Damaged at) old new h = as_it_stood issuer old new h.1
 keeps_file issuer (cause.OtherIssuer held) old new h = as_it_stood issuer old new h.1
 keeps_file issuer cause.NoMemory old new h = as_it_stood issuer old new h
+
+-- an opening that failed, by what it answers
+pub not_opened : {D : Type 0} {issuer : List ℕ} {left : Type 0} {s : Sinks} {k : Disks D} {end : Detail} (why : OpenCause) →
+    end ≡ opening_end why → (why ≡ cause.DiskFault → DiskRose k) →
+    (IsTrue k.tells → IsLeftUnopened issuer why (k.told k.disk) (k.told k.disk_after)) → WroteNothing s → left →
+    NotOpened issuer left s k end
+not_opened {D} {issuer} {left} {s} {k} {end} why ends risen left_by wrote rest = record {
+  why = why;
+  ends = ends;
+  risen = risen;
+  left_by = left_by;
+  every_crash = λ says. keeps_file issuer why (k.told k.disk) (k.told k.disk_after) (left_by says);
+  wrote = wrote;
+  rest = rest;
+}
+
+-- the same end, where more is left
+pub not_opened_by : {D : Type 0} {issuer : List ℕ} {left more : Type 0} {s : Sinks} {k : Disks D} {end : Detail} →
+    (left → more) → NotOpened issuer left s k end → NotOpened issuer more s k end
+not_opened_by f h = record {
+  why = h.why;
+  ends = h.ends;
+  risen = h.risen;
+  left_by = h.left_by;
+  every_crash = h.every_crash;
+  wrote = h.wrote;
+  rest = f h.rest;
+}
+
+pub no_room_by : {D : Type 0} {left more : Type 0} {s : Sinks} {k : Disks D} {end : Detail} → (left → more) →
+    NoRoom left s k end → NoRoom more s k end
+no_room_by f h = record { ends = h.ends; wrote = h.wrote; disk = h.disk; rest = f h.rest }
 
 pub not_asked : {C : Type 0} (t : Clocks C) → LeftClock t → IsAsked t 0
 not_asked t same = record {
@@ -125,7 +157,7 @@ pub store_ran : {D C : Type 0} (issuer : List ℕ) (asks : List Asked) (replies 
 store_ran issuer asks replies s sink k end own tells faults_after now later found any h ends =
     let kept_here : IsTrue k.tells → Kept (StandsBetween issuer s.start s.end) issuer s.end replies s.since (k.told k.disk_after)
     = λ says.
-    subst (λ (t : Told). Kept (StandsBetween issuer s.start s.end) issuer s.end replies s.since t) now
+    subst (λ (t : OnDisk). Kept (StandsBetween issuer s.start s.end) issuer s.end replies s.since t) now
     (subst (λ (n : List ℕ). Kept (StandsBetween n s.start s.end) n s.end replies s.since s.now) own
     (h.kept (subst (λ (b : Bool). IsTrue b) (sym tells) says))) in
     inr (inr (
@@ -162,21 +194,8 @@ pub script_by : {D : Type 0} (issuer : List ℕ) (asks : List Asked) (old new : 
     (Leaves Left : List (Result Reply StoreFault) → Type 0) (s : Sinks) (k : Disks D) (end : Detail) →
     ((i : ℕ) → old i ≡ new i) → ((replies : List (Result Reply StoreFault)) → Leaves replies → Left replies) →
     ScriptEnds issuer asks old Leaves s k end → ScriptEnds issuer asks new Left s k end
-script_by issuer asks old new Leaves Left s k end same leaves (inl h) = inl (record {
-  ends = h.ends;
-  wrote = h.wrote;
-  disk = h.disk;
-  rest = leaves [] h.rest;
-})
-script_by issuer asks old new Leaves Left s k end same leaves (inr (inl h)) = inr (inl (record {
-  why = h.why;
-  ends = h.ends;
-  risen = h.risen;
-  left_by = h.left_by;
-  every_crash = h.every_crash;
-  wrote = h.wrote;
-  rest = leaves [] h.rest;
-}))
+script_by issuer asks old new Leaves Left s k end same leaves (inl h) = inl (no_room_by (leaves []) h)
+script_by issuer asks old new Leaves Left s k end same leaves (inr (inl h)) = inr (inl (not_opened_by (leaves []) h))
 script_by issuer asks old new Leaves Left s k end same leaves (inr (inr h)) =
     let p = h.0 in
     inr (inr (
@@ -209,16 +228,12 @@ rose_ran : {D : Type 0} (issuer : List ℕ) (asks : List Asked) (coming : ℕ �
     DiskRose k
 rose_ran issuer asks coming Leaves s k end p (disk_fault memory some wrote) is = rose_of (k.faults k.disk) (k.faults k.disk_after)
     p.replies p.stops some
-rose_ran issuer asks coming Leaves s k end p (done all wrote) is = absurd cc
-rose_ran issuer asks coming Leaves s k end p (write_fault all wrote) is = absurd cc
-rose_ran issuer asks coming Leaves s k end p (no_memory wrote) is = absurd cc
+rose_ran issuer asks coming Leaves s k end p _ is = absurd cc
 
 pub rose_opening : {D : Type 0} (why : OpenCause) (k : Disks D) → (why ≡ cause.DiskFault → DiskRose k) →
     opening_end why ≡ detail.DiskFault → DiskRose k
 rose_opening cause.DiskFault k risen is = risen refl
-rose_opening (cause.Damaged at) k risen is = absurd cc
-rose_opening (cause.OtherIssuer held) k risen is = absurd cc
-rose_opening cause.NoMemory k risen is = absurd cc
+rose_opening _ k risen is = absurd cc
 
 disk_rose : {D : Type 0} (issuer : List ℕ) (asks : List Asked) (coming : ℕ → Option ℕ) (Leaves : List (Result Reply StoreFault) →
     Type 0) (s : Sinks) (k : Disks D) (end : Detail) →

@@ -12,7 +12,7 @@ use Rattle.record_fields.specs.declared.lines.Line.{Line}
 use Rattle.record_codec.specs.declared.entries.Entry.{Entry}
 use Rattle.record_codec.specs.declared.entries.Entry.TheVariants.{Notes as notes_of}
 use Rattle.batches.specs.Batches.{huellas_of}
-use Rattle.pacing.specs.Due.{is_due, due_at}
+use Rattle.pacing.specs.Pace.{is_due, due_at}
 use Rattle.pacing.specs.declared.pace.Pace.{Pace}
 use Rattle.journal.specs.declared.faults.StoreFault.{StoreFault}
 use Rattle.journal.specs.declared.faults.StoreFault.TheVariants as store
@@ -21,7 +21,7 @@ use Rattle.shop_core.specs.Items.{entries_of}
 use Rattle.shop_core.specs.declared.items.Item.{Item}
 use Rattle.shop_core.specs.declared.items.Item.TheVariants as item
 use Rattle.shop_core.specs.declared.waiting.Waiting.{Waiting}
-use Rattle.agency_port.specs.Replied.{Replied}
+use Rattle.agency_port.specs.Reply.{Replied}
 use Rattle.agency_port.specs.Ledger.{Ledger, Names, Submits}
 use Rattle.agency_port.specs.Practice.{is_reply_to}
 use Rattle.agency_port.specs.Sessions.{named_reply}
@@ -40,7 +40,7 @@ use Rattle.sender.specs.declared.answers.Turn.TheVariants.{Idle, WaitUntil, Note
 use Rattle.sender.specs.declared.answers.SendFault.{SendFault}
 use Rattle.sender.specs.declared.answers.SendFault.TheVariants.{LinkFault, Contradiction, Store, NoMemory}
 use Rattle.sender.specs.Draining.{told_in, list_of, told_list, GoesOn, moment_after}
-use Rattle.sender.specs.Evident.{Shows}
+use Rattle.sender.specs.Evidence.{Shows}
 use Rattle.sender.specs.Sending.{Sending}
 use Rattle.sender.specs.Turning.{Deed, Nothing, Asked, Handed, Kind, Desk, Dealt, RestEnds, SeenEnds, ReplyEnds, Replies, Ends}
 use Rattle.sender.proofs.Ending.{as_many}
@@ -395,10 +395,7 @@ module _ (tells exact : Bool) (records : List Sealed) (st : Standing) (said said
         spoke_quietly (Err NoMemory) (Consulted (huellas_of shown.list) (Ok seen)) told.Memory refl refl refl
         (ap huellas_of shown_list, tt) messages (ap history_of ends.0) (λ on. absurd on) (λ on. absurd on)
         (λ evidence e. absurd cc)
-    seen_did seen (Ok (Idle count)) messages pace kept ends = absurd ends
-    seen_did seen (Ok (WaitUntil at)) messages pace kept ends = absurd ends
-    seen_did seen (Ok (Doubt place)) messages pace kept ends = absurd ends
-    seen_did seen (Err LinkFault) messages pace kept ends = absurd ends
+    seen_did seen _ messages pace kept ends = absurd ends
 
     -- a batch was handed over when one was due
     handed : (answer : Result Replied _) (printed : Told) → is_due old.pace now (shown.records - shown.noted) ≡ true →
@@ -473,11 +470,7 @@ module _ (tells exact : Bool) (records : List Sealed) (st : Standing) (said said
             (λ evidence e. absurd cc)
         by_answer (Err NoMemory) ends = spoke_quietly (Err NoMemory) m told.Memory refl refl refl (handed (Ok reply) told.Memory
             due names) messages (ap history_of ends.0) (λ on. absurd on) (λ on. absurd on) (λ evidence e. absurd cc)
-        by_answer (Ok (Idle count)) ends = absurd ends
-        by_answer (Ok (WaitUntil at)) ends = absurd ends
-        by_answer (Ok Cleared) ends = absurd ends
-        by_answer (Err LinkFault) ends = absurd ends
-        by_answer (Err (Contradiction evidence)) ends = absurd ends
+        by_answer _ ends = absurd ends
 
     -- one turn behind its look
     pub ends_did : (kind : Kind) (desk desk_then : Desk) (deed : Deed) (answer : Result Turn SendFault) → tells ≡ kind.tells →

@@ -2,7 +2,7 @@
 use Rattle.std.proofs.Common.{◌≡◌, ◌∙◌, refl, inl, List, [], ◌++◌, length, append-nil, sym, ap, subst, arith, zero-add, Bool, ℕ}
 use Rattle.std.proofs.Common.{Option, Some, None, Result, Err, OnOk}
 use Rattle.std.specs.List.{AllByRecursion}
-use Rattle.chain_disk.specs.Told.{Told}
+use Rattle.chain_disk.specs.OnDisk.{OnDisk}
 use Rattle.chain_disk.specs.Runs.{weaker, started_settled, leaves_now}
 use Rattle.chain_lock.specs.Lists.{StartsWith}
 use Rattle.chain_store.specs.Ready.{IsReady, Holds}
@@ -16,7 +16,7 @@ use Rattle.sender.specs.declared.answers.DrainFault.TheVariants as drain
 use Rattle.sender.specs.Turning.{Desk}
 use Rattle.till_calls.specs.Root.{Parts, with_torn, root_of}
 use Rattle.till_calls.specs.Sound.{Leaves, IsSound}
-use Rattle.verifactu.specs.Drained.{AddsNotesAlone, AreNotesEntry, Sends, Span}
+use Rattle.verifactu.specs.Draining.{AddsNotesAlone, AreNotesEntry, Sends, Span}
 use Rattle.verifactu.specs.Steps.{EndsBy, at_start}
 
 pub none_torn : (history : List Entry) (stopped : Option ℕ) (torn : Option Entry) → stopped ≡ None →
@@ -27,7 +27,7 @@ none_torn history (Some count) torn e = absurd cc
 front_all : (entries : List Entry) → StartsWith entries entries
 front_all entries = ([], sym (append-nil entries))
 
-module _ {D C : Type 0} (tells : Bool) (told : D → Told) (faults : D → ℕ) (coming : C → ℕ → Option ℕ) where
+module _ {D C : Type 0} (tells : Bool) (told : D → OnDisk) (faults : D → ℕ) (coming : C → ℕ → Option ℕ) where
   pub sound_at_start : (p : Parts D C) → p.stopped ≡ None → IsReady tells p.state p.stopped p.gate (told p.disk) →
       Legal p.state.issuer p.state.entries → IsSound tells told faults coming (root_of told faults p) p
   sound_at_start p going ready legal = record {

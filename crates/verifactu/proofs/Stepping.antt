@@ -4,7 +4,7 @@ use Rattle.std.proofs.Common.{arith, add_assoc, add-zero, Bool, true, cond, IsTr
 use Rattle.std.specs.List.{AllByRecursion}
 use Rattle.std.proofs.lemmas.List.{append-nil}
 use Rattle.std.proofs.lemmas.List.Sums.{sum_by-append}
-use Rattle.chain_disk.specs.Told.{Told, LeavesOnly, LeavesNow, moment}
+use Rattle.chain_disk.specs.OnDisk.{OnDisk, LeavesOnly, LeavesNow, moment}
 use Rattle.chain_disk.specs.Runs.{follows, weaker}
 use Rattle.chain_store.specs.Ready.{Takes}
 use Rattle.shop_core.specs.Files.{StandsFor, StandsAround}
@@ -13,17 +13,18 @@ use Rattle.journal.specs.declared.faults.StoreFault.TheVariants.{DiskFault, Stop
 use Rattle.ports.specs.Causes.{Rose}
 use Rattle.ports.specs.Readings.{IsTold, MovedBy}
 use Rattle.record_codec.specs.declared.entries.Entry.{Entry}
-use Rattle.shop_core.specs.Answer.{answer}
-use Rattle.shop_core.specs.Asked.{Asked}
-use Rattle.shop_core.specs.Runs.{ChainRun, IsReply, Tells}
-use Rattle.shop_core.specs.Runs.ChainRun.{replied}
+use Rattle.shop_core.specs.Plans.{answer}
+use Rattle.shop_core.specs.Requests.{Asked}
+use Rattle.shop_core.specs.Replies.{ChainRun, IsReply, Tells}
+use Rattle.shop_core.specs.Replies.ChainRun.{replied}
 use Rattle.shop_core.specs.declared.answers.Planned.{Planned}
 use Rattle.shop_core.specs.declared.answers.Planned.TheVariants.{Again, Refused, Made}
 use Rattle.shop_core.specs.declared.answers.Reply.{Reply}
-use Rattle.verifactu.specs.Crashes.{IsPrefix, StandsBetween, StandsForEnd}
+use Rattle.once_world.specs.Agreement.{IsPrefix}
+use Rattle.verifactu.specs.Crashes.{StandsBetween, StandsForEnd}
 use Rattle.verifactu.specs.Readings.{IsComing, has_read, readings}
-use Rattle.verifactu.specs.Replies.{IsGoingOn, IsStopped, StopsAt}
-use Rattle.verifactu.proofs.Progress.{Origin, Point, GoingOn, Torn, Halted, Progress, SoFar, Step}
+use Rattle.verifactu.specs.Replies.{IsGoingOn, IsStopped, StopsByFault}
+use Rattle.verifactu.proofs.Progress.{Origin, Point, GoingOn, Torn, Halted, Progress, SoFar, Step, call_at}
 
 abbrev Told_reply : Type 0
 Told_reply = Result Reply StoreFault
@@ -57,11 +58,11 @@ prefix_more : (start entries gained whole : List Entry) → whole ≡ entries ++
     IsPrefix start whole
 prefix_more start entries gained whole is h = record {
   rest = h.rest ++ gained;
-  parts = is ∙ ap (λ (es : List Entry). es ++ gained) h.parts ∙ append_assoc start h.rest gained;
+  is = is ∙ ap (λ (es : List Entry). es ++ gained) h.is ∙ append_assoc start h.rest gained;
 }
 
 prefix_all : (entries : List Entry) → IsPrefix entries entries
-prefix_all entries = record { rest = []; parts = sym (append-nil entries) }
+prefix_all entries = record { rest = []; is = sym (append-nil entries) }
 
 -- what was left of a run is left of a longer one
 pub between_more : (issuer : List ℕ) (start entries gained torn whole : List Entry) → whole ≡ entries ++ gained → (c : List ℕ) →
@@ -83,7 +84,7 @@ stands_between issuer start entries history rest c begins is stands = record {
   history = history;
   stands = stands;
   begins = begins;
-  within = record { rest = rest; parts = append-nil entries ∙ is };
+  within = record { rest = rest; is = append-nil entries ∙ is };
 }
 
 -- what one answered ask leaves
@@ -124,7 +125,7 @@ end_between issuer start entries torn c begins (inl stands) = record {
   history = entries;
   stands = stands;
   begins = begins;
-  within = record { rest = torn; parts = refl };
+  within = record { rest = torn; is = refl };
 }
 end_between issuer start entries torn c begins (inr stands) = record {
   history = entries ++ torn;
@@ -162,7 +163,7 @@ pub record Taking (o : Origin) (p : Point) (ask : Asked) (told : Told_reply) (q 
       (answer o.issuer p.history.entries ask seconds))
 
 taking : (o : Origin) (p q : Point) (ask : Asked) (told : Told_reply) → p.history.issuer ≡ o.issuer →
-    Takes p.history q.history ask p.next q.next o.tells p.now q.now told → Taking o p ask told q
+    Takes (call_at o.tells p q) ask told → Taking o p ask told q
 taking o p q ask told own t = record {
   seconds = t.seconds;
   reading = t.reading;
@@ -196,7 +197,7 @@ unanswered : (o : Origin) (p q : Point) (ask : Asked) (replies : List Told_reply
     GoingOn o (replies ++ Err NoMemory ∷ []) q
 unanswered o p q ask replies g t same = record {
   go_on = all_push IsGoingOn replies (Err NoMemory) tt g.go_on;
-  only = λ tells. subst (λ (u : Told). LeavesOnly o.since u (StandsBetween o.issuer o.start q.history.entries [])) (sym same)
+  only = λ tells. subst (λ (u : OnDisk). LeavesOnly o.since u (StandsBetween o.issuer o.start q.history.entries [])) (sym same)
       (weaker o.since p.now (StandsBetween o.issuer o.start p.history.entries []) (StandsBetween o.issuer o.start
       q.history.entries []) (g.only tells)
       (between_more o.issuer o.start p.history.entries t.gained [] q.history.entries t.entries));
@@ -280,8 +281,8 @@ step_on o asks replies p q ask told none h s =
       progress = progress_on o p q ask told replies h.begins h.later g none t s;
     }
 
-stopped_more : (faults count : ℕ) (replies : List Told_reply) → StopsAt faults count replies →
-    StopsAt faults count (replies ++ Err (Stopped count) ∷ [])
+stopped_more : (faults count : ℕ) (replies : List Told_reply) → StopsByFault faults count replies →
+    StopsByFault faults count (replies ++ Err (Stopped count) ∷ [])
 stopped_more faults count replies h = record {
   before = h.before;
   behind = h.behind ++ Err (Stopped count) ∷ [];

@@ -12,7 +12,7 @@ use Rattle.journal.specs.declared.faults.StoreFault.TheVariants as store
 use Rattle.shop_core.specs.declared.items.Item.{Item}
 use Rattle.shop_core.specs.declared.items.Item.TheVariants as item
 use Rattle.shop_core.specs.declared.waiting.Waiting.{Waiting}
-use Rattle.agency_port.specs.Replied.{Replied}
+use Rattle.agency_port.specs.Reply.{Replied}
 use Rattle.agency_port.specs.declared.answers.Seen.{Seen}
 use Rattle.agency_port.specs.declared.answers.AgencyFault.TheVariants as agency
 use Rattle.agency_port.specs.declared.turns.Told.{Told}
@@ -30,7 +30,7 @@ use Rattle.sender.specs.Sending.{Sending}
 use Rattle.sender.specs.Turning.{Deed, Nothing, Asked, Handed, Kind, Ends, SeenEnds, ReplyEnds}
 use Rattle.sender.proofs.Adding.{adds_then, turn_notes, turns_notes}
 use Rattle.verifactu.specs.Beside.{EndsStopped}
-use Rattle.verifactu.specs.Drained.{IsDiskAnswer, IsFaultless, torn_in}
+use Rattle.verifactu.specs.Draining.{IsDiskAnswer, IsFaultless, torn_in}
 use Rattle.verifactu.proofs.Alone.{Closed, all_contained, all_seen, mine, own_before}
 use Rattle.verifactu.proofs.Agreed.{Stored}
 

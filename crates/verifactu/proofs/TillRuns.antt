@@ -10,19 +10,19 @@ use Rattle.chain_lock.specs.Lists.{StartsWith}
 use Rattle.journal.specs.declared.faults.StoreFault.{StoreFault}
 use Rattle.journal.specs.declared.faults.StoreFault.TheVariants.{DiskFault, Stopped, NoMemory}
 use Rattle.record_codec.specs.declared.entries.Entry.{Entry}
-use Rattle.shop_core.specs.Asked.{Asked}
+use Rattle.shop_core.specs.Requests.{Asked}
 use Rattle.shop_core.specs.declared.answers.Reply.{Reply}
 use Rattle.shop_core.specs.declared.items.Item.{Item}
 use Rattle.shop_core.specs.declared.items.Item.TheVariants as item
 use Rattle.till_calls.specs.Root.{Root, stop_in}
-use Rattle.till_calls.specs.Runs.{TillRun as Asking}
-use Rattle.till_calls.specs.Runs.TillRun.{begun, asked}
+use Rattle.till_calls.specs.Client.{TillRun as Asking}
+use Rattle.till_calls.specs.Client.TillRun.{begun, asked}
 use Rattle.till_calls.specs.Shop.{Asks}
 use Rattle.till_calls.specs.Turns.{TillDoes}
-use Rattle.verifactu.specs.Crashes.{IsPrefix}
+use Rattle.once_world.specs.Agreement.{IsPrefix}
 use Rattle.verifactu.specs.Replies.{Replies}
-use Rattle.verifactu.specs.Tills.{TillRun}
-use Rattle.verifactu.specs.Tills.TillRun.{unasked, answered, torn as tears, stopped as told_stop, without_memory}
+use Rattle.verifactu.specs.Tills.{ServedRun}
+use Rattle.verifactu.specs.Tills.ServedRun.{unasked, answered, torn as tears, stopped as told_stop, without_memory}
 use Rattle.verifactu.proofs.Each.{each_append, each_back, each_placed, each_snoc}
 
 abbrev pub is_stop : Item → Bool
@@ -59,14 +59,14 @@ module _ (stopped : Option ℕ) (torn : Option Entry) where
 
   -- what begins a list with entries alone begins its history
   pub begins : (end h : List Entry) (rest : List Item) → items end ≡ map item.Entry h ++ rest → IsPrefix h end
-  begins end [] rest is = record { rest = end; parts = refl }
+  begins end [] rest is = record { rest = end; is = refl }
   begins [] (x ∷ h) rest is = absurd (no_entry stopped torn x (map item.Entry h ++ rest) is)
   begins (y ∷ end) (x ∷ h) rest is =
       let more = begins end h rest (let e = is in cc) in
       let same : y ≡ x = (let e = is in cc) in
       record {
         rest = more.rest;
-        parts = ap (λ (l : List Entry). y ∷ l) more.parts ∙ ap (λ (z : Entry). z ∷ (h ++ more.rest)) same;
+        is = ap (λ (l : List Entry). y ∷ l) more.is ∙ ap (λ (z : Entry). z ∷ (h ++ more.rest)) same;
       }
 
   record StopThere (end h : List Entry) (count : ℕ) : Type 0 where
@@ -102,7 +102,7 @@ module _ {C : Type 0} (coming : C → ℕ → Option ℕ) (root : Root C) (stopp
     log = items stopped torn end
 
     abbrev Run : List Asked → Replies → ℕ → Bool → Type 0
-    Run asks replies seen told = TillRun root.issuer (coming root.clock) root.history end asks replies seen told
+    Run asks replies seen told = ServedRun root.issuer (coming root.clock) root.history end asks replies seen told
 
     abbrev pub IsClean : List (ℕ × Item) → Type 0
     IsClean own = AllByRecursion (λ (z : ℕ × Item). is_stop z.1 ≡ false) own
@@ -133,8 +133,8 @@ module _ {C : Type 0} (coming : C → ℕ → Option ℕ) (root : Root C) (stopp
     none_more before more e = subst (λ (l : List Item). AllByRecursion (λ (x : Item). is_stop x ≡ false) l)
         (sym (append_cancel_left before more [] (e ∙ sym (append-nil before)))) tt
 
-    stop_long : (h : List Entry) (count : ℕ) (e : Entry) (items' : List Item) → StartsWith log items' → items' ≡ map item.Entry h ++
-        item.Stop count e ∷ [] → (stopped ≡ Some count) × (length end < length items')
+    stop_long : (h : List Entry) (count : ℕ) (e : Entry) (items' : List Item) → StartsWith log items' →
+        items' ≡ map item.Entry h ++ item.Stop count e ∷ [] → (stopped ≡ Some count) × (length end < length items')
     stop_long h count e items' starts is =
         let there = stop_there stopped torn end h count e starts.0 (starts.1 ∙ ap (λ (l : List Item). l ++ starts.0) is ∙
         append_assoc (map item.Entry h) (item.Stop count e ∷ []) starts.0) in
@@ -159,7 +159,7 @@ module _ {C : Type 0} (coming : C → ℕ → Option ℕ) (root : Root C) (stopp
               let size = ap (λ (l : List Item). length l) is ∙ length-map history (λ (x : Entry). item.Entry x) in
               let front = begins stopped torn end history (more ++ reaches.0) (reaches.1 ∙ append_assoc before more reaches.0 ∙
               ap (λ (l : List Item). l ++ (more ++ reaches.0)) is) in
-              let whole = ap (λ (l : List Entry). length l) front.parts ∙ length-append history front.rest in
+              let whole = ap (λ (l : List Entry). length l) front.is ∙ length-append history front.rest in
               absurd (omega (arith, s.whole e, long, size, whole))
 
       on : (s : SoFar asks replies old) → s.told ≡ false → Run asks replies s.seen false
@@ -173,8 +173,8 @@ module _ {C : Type 0} (coming : C → ℕ → Option ℕ) (root : Root C) (stopp
           let long = no_shorter before old.seen starts in
           let all : length (before ++ more) ≡ length (a.history ++ a.gained) = ap (λ (l : List Item). length l) a.after_is ∙
           length-map (a.history ++ a.gained) (λ (e : Entry). item.Entry e) in
-          let front = begins stopped torn end (a.history ++ a.gained) reaches.0 (reaches.1 ∙ ap (λ (l : List Item). l ++ reaches.0)
-          a.after_is) in
+          let front = begins stopped torn end (a.history ++ a.gained) reaches.0 (reaches.1 ∙
+          ap (λ (l : List Item). l ++ reaches.0) a.after_is) in
           record {
             seen = length (a.history ++ a.gained);
             told = false;
@@ -221,8 +221,8 @@ module _ {C : Type 0} (coming : C → ℕ → Option ℕ) (root : Root C) (stopp
 
     clean_more : (replies : Replies) (reply : Result Reply StoreFault) (own : List (ℕ × Item)) (place : ℕ) (more : List Item) →
         IsClean own ⊎ Contains replies (Err DiskFault) →
-        AllByRecursion (λ (x : Item). is_stop x ≡ false) more ⊎ (reply ≡ Err DiskFault) → IsClean (own ++ enumerate_from place more)
-        ⊎ Contains (replies ++ reply ∷ []) (Err DiskFault)
+        AllByRecursion (λ (x : Item). is_stop x ≡ false) more ⊎ (reply ≡ Err DiskFault) →
+        IsClean (own ++ enumerate_from place more) ⊎ Contains (replies ++ reply ∷ []) (Err DiskFault)
     clean_more replies reply own place more (inr told) any = inr (Contains-append_left replies (reply ∷ []) (Err DiskFault) told)
     clean_more replies reply own place more (inl clean) (inr told) =
         inr (subst (λ (r : Result Reply StoreFault). Contains (replies ++ r ∷ []) (Err DiskFault)) (sym told)
@@ -238,8 +238,8 @@ module _ {C : Type 0} (coming : C → ℕ → Option ℕ) (root : Root C) (stopp
         let is : t.home ≡ root = (let e = same in cc) in
         let seen : new.seen ≡ t.before ++ t.added = ap (λ (k : Known Item (Root C)). k.seen) t.after in
         let reaches : StartsWith log (t.before ++ t.added) = subst (λ (l : List Item). StartsWith log l) seen whole in
-        let does : TillDoes coming ask reply root t.before (t.before ++ t.added) = subst (λ (r : Root C). TillDoes coming ask reply
-        r t.before (t.before ++ t.added)) is t.related.does in
+        let does : TillDoes coming ask reply root t.before (t.before ++ t.added) =
+        subst (λ (r : Root C). TillDoes coming ask reply r t.before (t.before ++ t.added)) is t.related.does in
         let next = step asks replies ask old t.before t.added t.begins reaches reply s does in
         record {
           seen = next.seen;
@@ -254,16 +254,16 @@ module _ {C : Type 0} (coming : C → ℕ → Option ℕ) (root : Root C) (stopp
               (sym t.after) (clean_more replies reply old.own (length t.before) t.added s.clean next.clean);
         }
 
-    seen_before : (ask : Asked) (reply : Result Reply StoreFault) (old new : Known Item (Root C)) → Asks coming ask reply old new →
-        StartsWith log new.seen → StartsWith log old.seen
+    seen_before : (ask : Asked) (reply : Result Reply StoreFault) (old new : Known Item (Root C)) →
+        Asks coming ask reply old new → StartsWith log new.seen → StartsWith log old.seen
     seen_before ask reply old new t whole =
         starts_trans log new.seen old.seen whole (subst (λ (l : List Item). StartsWith l old.seen)
         (sym (ap (λ (k : Known Item (Root C)). k.seen) t.after)) (starts_trans (t.before ++ t.added) t.before old.seen
         (t.added, refl) t.begins))
 
-    pub so_far : (old new : Known Item (Root C)) (asks : List Asked) (replies : Replies) → length root.history ≤ length old.seen →
-        old.root ≡ Some root → old.least ≡ length old.seen → old.own ≡ [] → StartsWith log new.seen → Asking coming old asks replies
-        new →
+    pub so_far : (old new : Known Item (Root C)) (asks : List Asked) (replies : Replies) →
+        length root.history ≤ length old.seen → old.root ≡ Some root → old.least ≡ length old.seen → old.own ≡ [] →
+        StartsWith log new.seen → Asking coming old asks replies new →
         SoFar asks replies new
     so_far old new asks replies low home least bare whole begun = record {
       seen = length root.history;

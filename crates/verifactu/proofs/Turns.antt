@@ -33,7 +33,7 @@ use Rattle.sender.proofs.Causes.{turn_later}
 use Rattle.sender.proofs.Growing.{Growth, all_contained, gains_each}
 use Rattle.sender.proofs.Lists.{all_both, all_change}
 use Rattle.verifactu.specs.Beside.{EndsStopped, FailsEightTimes, SendsOn, sending_end}
-use Rattle.verifactu.specs.Drained.{IsDiskAnswer, IsFaultless}
+use Rattle.verifactu.specs.Draining.{IsDiskAnswer, IsFaultless}
 use Rattle.verifactu.proofs.Contrary.{shows_nothing}
 use Rattle.verifactu.proofs.Stops.{ends_stopped, get_seam}
 
@@ -217,3 +217,11 @@ drained_missing kind exact start then old new result d n r is = elim d.ends [
 pub no_error : (answer : Result (Unit {0}) DrainFault) → is_err answer ≡ false → answer ≡ Ok tt
 no_error (Ok done) e = refl
 no_error (Err fault) e = absurd (let x = e in cc)
+
+-- the same, where the answer of the last turn is that of all
+pub sends_after : {kind : Kind} {a b c : Sight} {k l m : Desk} {said mid then : Sending}
+    {last answer : Result (Unit {0}) DrainFault} → last ≡ answer → SendsOn kind a b k l said mid (Ok tt) →
+    SendsOn kind b c l m mid then last → SendsOn kind a c k m said then answer
+sends_after {kind} {a} {b} {c} {k} {l} {m} {said} {mid} {then} {last} {answer} is x y =
+    subst (λ (r : Result (Unit {0}) DrainFault). SendsOn kind a c k m said then r) is
+    (sends_then kind a b c k l m said mid then last x y)

@@ -69,9 +69,7 @@ goes_lines (Ok (Noted n)) on o e = subst (λ (p : Option Told). AllByRecursion G
 goes_lines (Ok Cleared) on o e = subst (λ (p : Option Told). AllByRecursion GoesOnBehind (list_of p)) e (tt, tt)
 goes_lines (Ok (Doubt place)) on o e = subst (λ (p : Option Told). AllByRecursion GoesOnBehind (list_of p)) e (tt, tt)
 goes_lines (Err LinkFault) on o e = subst (λ (p : Option Told). AllByRecursion GoesOnBehind (list_of p)) e (tt, tt)
-goes_lines (Err (Contradiction evidence)) on o e = absurd on
-goes_lines (Err (Store fault)) on o e = absurd on
-goes_lines (Err NoMemory) on o e = absurd on
+goes_lines _ on o e = absurd on
 
 -- the count of link faults, by the line
 pub link_count : (links : ℕ) (answer : Result Turn SendFault) → links_with links answer ≡ links + count_by is_link

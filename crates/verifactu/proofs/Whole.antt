@@ -32,7 +32,7 @@ use Rattle.sender.proofs.Adding.{get_front}
 use Rattle.sender.proofs.Keeping.{noted_same}
 use Rattle.verifactu.specs.Beside.{EndsStopped}
 use Rattle.verifactu.proofs.Agreed.{entries_both, entries_in}
-use Rattle.verifactu.proofs.Alone.{all_by_place, all_contained, all_each, all_split, counted_in, get_behind, own_all}
+use Rattle.verifactu.proofs.Alone.{all_by_place, all_contained, all_each, all_split, counted_in, gains_by, get_behind}
 use Rattle.verifactu.proofs.Contrary.{drop_front, recs_both}
 use Rattle.verifactu.proofs.Each.{all_of_each}
 use Rattle.verifactu.proofs.Theirs.{IsOfTill, Theirs}
@@ -164,14 +164,7 @@ module _ {C : Type 0} (base log : List Item) (root : Root C) (tills : List (Know
 
   -- the outbox gained no notes but its own
   pub gains : Shared → GainsOwnNotes (sight_by seat) (sight_by then)
-  gains h =
-      let own : drop (length (sight_by seat).own) (sight_by then).own ≡ (sight_by then).own =
-      ap (λ (o : List ℕ). drop (length o) (sight_by then).own) (own_before h) in
-      let items : drop (length seat.seen) then.seen ≡ h.adds.items = ap (λ (l : List Item). drop (length seat.seen) l)
-      h.adds.items_is ∙ drop-append_seam seat.seen h.adds.items in
-      subst (λ (o : List ℕ). AreOwnNotes o (length seat.seen) (drop (length seat.seen) then.seen)) (sym own)
-      (subst (λ (l : List Item). AreOwnNotes (sight_by then).own (length seat.seen) l) (sym items)
-      (own_all h.adds.items (length seat.seen) (sight_by then).own (λ m first lines e.
+  gains h = gains_by seat then h.adds.items (own_before h) h.adds.items_is (λ m first lines e.
       let n : ℕ = length seat.seen + m in
       let seen : slice_get then.seen n ≡ Some (item.Entry (Notes first lines)) = ap (λ (l : List Item). slice_get l n)
       h.adds.items_is ∙ get_behind seat.seen h.adds.items m ∙ e in
@@ -179,7 +172,7 @@ module _ {C : Type 0} (base log : List Item) (root : Root C) (tills : List (Know
       get_front then.seen (rest_of h) n _ seen in
       let low : length base ≤ n = (let g = ap length h.fresh.seen in omega arith) in
       let high : n < length log = slice_get_within log n _ there in
-      by_case n first lines there (each h n low high))))
+      by_case n first lines there (each h n low high))
     where
       by_case : (n first : ℕ) (lines : List Line) → slice_get log n ≡ Some (item.Entry (Notes first lines)) →
           HasAt IsOfTill log n ⊎ Contains (sight_by then).own n → Contains (sight_by then).own n

@@ -1,10 +1,9 @@
 -- What a day's sender leaves of its shop and of its agency, and how a day ends.
 use Rattle.std.specs.Prelude.{◌≡◌, ◌⊎◌, ℕ, ◌+◌, ◌-◌, ◌^◌, ◌<◌, ◌≤◌, List, [], ◌∷◌, ◌++◌, length, Bool, true, false, IsTrue}
-use Rattle.std.specs.Prelude.{IsErrOf}
-use Rattle.std.specs.Prelude.{Result, Ok, Err}
+use Rattle.std.specs.Prelude.{IsErrOf, Result, Ok, Err}
 use Rattle.std.specs.List.{list_any}
 use Rattle.ports.specs.Sinks.{Sinks, Wrote, FailedIn, WrotePart}
-use Rattle.chain_disk.specs.Told.{Told, LeavesNow, LeavesOnly}
+use Rattle.chain_disk.specs.OnDisk.{OnDisk, LeavesNow, LeavesOnly}
 use Rattle.journal.specs.declared.faults.StoreFault.TheVariants as store
 use Rattle.record_codec.specs.declared.entries.Entry.{Entry}
 use Rattle.batches.specs.Batches.{huellas_of}
@@ -22,7 +21,7 @@ use Rattle.once_world.specs.Agreement.{Agree, IsPrefix}
 use Rattle.once_world.specs.Outbox.{GainsOwnNotes, Sight, history_of}
 use Rattle.sender.specs.Agreeing.{Adds, AgreesIfTorn, AreNotes, AreNotesOrTorn, InSession, IsCareful, KeepsReply, KeepsSession}
 use Rattle.sender.specs.Dark.{AreRunsBy}
-use Rattle.sender.specs.Evident.{Shows}
+use Rattle.sender.specs.Evidence.{Shows}
 use Rattle.sender.specs.Lines.{SaysCalls}
 use Rattle.sender.specs.Sending.{Sending}
 use Rattle.sender.specs.Turning.{Desk, Kind}
@@ -34,8 +33,9 @@ use Rattle.sender.specs.declared.answers.DrainFault.TheVariants as drain
 use Rattle.sender.specs.declared.draining.TheConstants.{MAX_LINK_FAULTS}
 use Rattle.report.specs.declared.ended.Detail.{Detail}
 use Rattle.report.specs.declared.ended.Detail.TheVariants as detail
+use Rattle.till_calls.specs.Root.{Parts}
 use Rattle.verifactu.specs.Crashes.{StandsForEnd}
-use Rattle.verifactu.specs.Drained.{Beginning, IsDiskAnswer, IsFaultless, IsOpened, SaysNothingBlindly, noted_pairs}
+use Rattle.verifactu.specs.Draining.{Beginning, IsDiskAnswer, IsFaultless, OpensSession, SaysNothingBlindly, noted_pairs, torn_in}
 use Rattle.verifactu.specs.Replies.{AllReplied, Replies, is_disk_fault, is_no_memory}
 
 -- the last item is a stop
@@ -123,6 +123,18 @@ pub record DaySpan : Type 0 where
   pub new : Desk
   pub answer : Result (Unit {0}) DrainFault
 
+-- the sending that began with this history and left these parts of a store
+abbrev pub day_span : {D C : Type 0} → List Entry → Kind → Desk → Desk → Parts D C → Result (Unit {0}) DrainFault → DaySpan
+day_span start kind old new parts answer = record {
+  start = start;
+  end = parts.state.entries;
+  torn = torn_in parts.stopped parts.torn;
+  kind = kind;
+  old = old;
+  new = new;
+  answer = answer;
+}
+
 -- with an agency that keeps its rules: it agrees with the history, and with what may be torn, and contradicts itself never
 pub record StaysAgreed (d : DaySpan) : Type 0 where
   pub whole : Agree d.end d.new.ledger.processed d.new.ledger.sent
@@ -169,27 +181,23 @@ day_from desk d = record {
 -- and agency agreed once it was open, they still do.
 pub record DaySession (begun : Beginning) (plan : Plan) (d : DaySpan) : Type 0 where
   pub opened : Desk
-  pub opens : IsOpened d.kind begun plan d.start d.old opened
+  pub opens : OpensSession d.kind begun plan d.start d.old opened
   pub sends : SendsBeside (day_from opened d)
   pub agreement : IsTrue d.kind.keeps_rules →
       Agree d.start (begun d.old.ledger.processed (noted_pairs d.start)) d.old.ledger.sent → StaysAgreed d
 
 -- Since some moment each crash leaves a file with P; now it leaves the history at the end, or that with the torn entry, and so
 -- reads the disk.
-pub record KeptDay (P : List ℕ → Type 0) (issuer : List ℕ) (end torn : List Entry) (since now : Told) : Type 0 where
+pub record KeptDay (P : List ℕ → Type 0) (issuer : List ℕ) (end torn : List Entry) (since now : OnDisk) : Type 0 where
   pub each_moment : LeavesOnly since now P
   pub every_crash : LeavesNow now (StandsForEnd issuer end torn)
   pub reads : StandsForEnd issuer end torn now.content
 
 -- the sender found no memory
 abbrev pub sender_lacks_memory : Result (Unit {0}) DrainFault → Bool
-sender_lacks_memory (Ok done) = false
-sender_lacks_memory (Err (drain.Undelivered noted_count records_count)) = false
-sender_lacks_memory (Err (drain.Contradiction evidence)) = false
-sender_lacks_memory (Err (drain.Store store.DiskFault)) = false
-sender_lacks_memory (Err (drain.Store (store.Stopped faults))) = false
 sender_lacks_memory (Err (drain.Store store.NoMemory)) = true
 sender_lacks_memory (Err drain.NoMemory) = true
+sender_lacks_memory _ = false
 
 -- How a day ends, by what its tills and its sender were told, by the two counts of its history, and by what the sink took of its
 -- text: want of memory before a fault of the disk, that before a contradiction and an undelivered drain, and these before a fault

@@ -1,22 +1,23 @@
 -- How `chain` ends.
 use Rattle.std.specs.Prelude.{◌≡◌, ◌⊎◌, ℕ, List, [], IsTrue, Option}
 use Rattle.ports.specs.Sinks.{Sinks}
-use Rattle.chain_disk.specs.Told.{synced}
+use Rattle.chain_disk.specs.OnDisk.{synced}
 use Rattle.chain_disk.specs.Disks.{Disks, DiskRose}
 use Rattle.huella.specs.Linked.{Linked}
 use Rattle.record_codec.specs.declared.entries.Entry.{Entry}
-use Rattle.shop_core.specs.Asked.{Asked}
+use Rattle.shop_core.specs.Requests.{Asked}
 use Rattle.shop_core.specs.History.{recs}
 use Rattle.shop_core.specs.Legal.{Legal}
 use Rattle.shop_core.specs.Rising.{SerialsRise}
-use Rattle.shop_core.specs.Runs.{ChainRun}
+use Rattle.shop_core.specs.Replies.{ChainRun}
 use Rattle.script.specs.declared.forms.Form.TheVariants.{Full}
 use Rattle.script.specs.declared.scripts.Script.{Script}
 use Rattle.recovery.specs.Opening.{IsFound}
 use Rattle.report.specs.declared.ended.Detail.{Detail}
 use Rattle.report.specs.declared.ended.Detail.TheVariants as detail
 use Rattle.verifactu.specs.Commands.{Answers, Stores}
-use Rattle.verifactu.specs.Crashes.{IsPrefix, Kept, StandsSince}
+use Rattle.once_world.specs.Agreement.{IsPrefix}
+use Rattle.verifactu.specs.Crashes.{Kept, StandsSince}
 use Rattle.verifactu.specs.Devices.{Devices, Untouched}
 use Rattle.verifactu.specs.Ending.{RunEnds}
 use Rattle.verifactu.specs.Opening.{NoRoom, NotOpened}

@@ -1,18 +1,19 @@
 -- What a script's commands leave of the store that replies to them.
 use Rattle.std.specs.Prelude.{ℕ, List, Bool, IsTrue, Option}
-use Rattle.chain_disk.specs.Told.{Told}
+use Rattle.chain_disk.specs.OnDisk.{OnDisk}
 use Rattle.chain_disk.specs.declared.disk.Disk.{Ghosts}
 use Rattle.huella.specs.Linked.{Linked}
 use Rattle.journal.specs.Journal.{disk_of}
 use Rattle.record_codec.specs.declared.entries.Entry.{Entry}
-use Rattle.shop_core.specs.Asked.{Asked}
+use Rattle.shop_core.specs.Requests.{Asked}
 use Rattle.shop_core.specs.History.{recs}
 use Rattle.shop_core.specs.Legal.{Legal}
 use Rattle.shop_core.specs.Rising.{SerialsRise}
-use Rattle.shop_core.specs.Runs.{ChainRun}
+use Rattle.shop_core.specs.Replies.{ChainRun}
 use Rattle.chain_store.specs.Store.{state_of, journal_of, clock_of}
 use Rattle.chain_store.specs.declared.store.Store.{Store}
-use Rattle.verifactu.specs.Crashes.{IsPrefix, Kept, StandsBetween}
+use Rattle.once_world.specs.Agreement.{IsPrefix}
+use Rattle.verifactu.specs.Crashes.{Kept, StandsBetween}
 use Rattle.verifactu.specs.Devices.{Clocks, this_clock}
 use Rattle.verifactu.specs.Readings.{IsComing, IsAsked, readings}
 use Rattle.verifactu.specs.Replies.{Replies, StopsOnce}
@@ -23,14 +24,14 @@ pub record Stores (C : Type 0) : Type 0 where
   pub start : List Entry
   pub end : List Entry
   pub tells : Bool
-  pub since : Told
-  pub now : Told
+  pub since : OnDisk
+  pub now : OnDisk
   pub faults : ℕ
   pub faults_after : ℕ
   pub clock : Clocks C
 
 -- this store in this call: of its kind, before and after
-abbrev pub this_store : {D C : Type 0} {g : Ghosts D} → Bool → (D → Told) → (D → ℕ) → (C → ℕ → Option ℕ) →
+abbrev pub this_store : {D C : Type 0} {g : Ghosts D} → Bool → (D → OnDisk) → (D → ℕ) → (C → ℕ → Option ℕ) →
     Store D C g → Store D C g → Stores C
 this_store tells told faults coming old new = record {
   issuer = (state_of old).issuer;

@@ -1,15 +1,11 @@
 -- What a crash leaves of a run.
 use Rattle.std.specs.Prelude.{◌≡◌, ◌⊎◌, ◌≤◌, ℕ, List, [], ◌++◌, length}
-use Rattle.chain_disk.specs.Told.{Told, IsSyncFailed, LeavesOnly, LeavesNow, synced}
+use Rattle.chain_disk.specs.OnDisk.{OnDisk, IsSyncFailed, LeavesOnly, LeavesNow, synced}
 use Rattle.journal.specs.File.{IsNotBegun, IsNotBegunOrEmpty}
 use Rattle.record_codec.specs.declared.entries.Entry.{Entry}
+use Rattle.once_world.specs.Agreement.{IsPrefix}
 use Rattle.shop_core.specs.Files.{StandsFor}
 use Rattle.verifactu.specs.Replies.{Replies, AllGoOn}
-
--- one history is a front of the other
-pub record IsPrefix (front whole : List Entry) : Type 0 where
-  pub rest : List Entry
-  pub parts : whole ≡ front ++ rest
 
 -- The file stands for a legal history that begins with the one at the start, and is a front of the one at the end, or of
 -- that with the torn entry.
@@ -30,7 +26,7 @@ StandsForEnd issuer end torn file = StandsFor issuer end file ⊎ StandsFor issu
 -- Since some moment each crash leaves a file with P; now it leaves the history at the end, or that with the torn entry, and so
 -- reads the disk. An entry is torn only where the disk failed while it was added.
 pub record Kept (P : List Entry → List ℕ → Type 0) (issuer : List ℕ) (end : List Entry) (replies : Replies)
-    (since now : Told) : Type 0 where
+    (since now : OnDisk) : Type 0 where
   pub torn : List Entry
   pub at_most_one : length torn ≤ 1
   pub by_a_fault : AllGoOn replies → torn ≡ []
@@ -40,7 +36,7 @@ pub record Kept (P : List Entry → List ℕ → Type 0) (issuer : List ℕ) (en
 
 -- What an opening that failed keeps of the file. The sync at the start failed; or since it each crash leaves the bytes that
 -- stood there, or, where they were no begun file, one that isn't begun or is begun and empty.
-abbrev pub KeepsFile : List ℕ → Told → Told → Type 0
+abbrev pub KeepsFile : List ℕ → OnDisk → OnDisk → Type 0
 KeepsFile issuer old new =
     IsSyncFailed old new
     ⊎ LeavesOnly (synced old) new (λ c. (c ≡ old.content) ⊎ (IsNotBegun old.content × IsNotBegunOrEmpty issuer c))

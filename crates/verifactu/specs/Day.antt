@@ -3,11 +3,13 @@ use Rattle.std.specs.Prelude.{◌≡◌, ◌⊎◌, ◌≤◌, ◌<◌, ◌+◌,
 use Rattle.std.specs.Prelude.{IsTrue, Option, Result}
 use Rattle.std.specs.List.{AllByRecursion}
 use Rattle.ports.specs.Sinks.{Sinks, WroteNothing}
-use Rattle.chain_disk.specs.Told.{LeavesNow, Told, synced}
+use Rattle.chain_disk.specs.OnDisk.{LeavesNow, OnDisk, synced}
 use Rattle.chain_disk.specs.Disks.{Disks, DiskRose}
+use Rattle.chain_disk.specs.declared.disk.Disk as disk
+use Rattle.ports.specs.declared.Clock as clock
 use Rattle.huella.specs.Linked.{Linked}
 use Rattle.record_codec.specs.declared.entries.Entry.{Entry}
-use Rattle.shop_core.specs.Asked.{Asked}
+use Rattle.shop_core.specs.Requests.{Asked}
 use Rattle.shop_core.specs.History.{recs, noted}
 use Rattle.shop_core.specs.Legal.{Legal}
 use Rattle.shop_core.specs.Rising.{SerialsRise}
@@ -27,23 +29,25 @@ use Rattle.report.specs.declared.ended.Detail.{Detail}
 use Rattle.report.specs.declared.ended.Detail.TheVariants as detail
 use Rattle.till_calls.specs.Root.{Parts, root_of}
 use Rattle.verifactu.specs.Beside.{DayRunEnds, DaySession, DaySpan, IsUnbegun, KeptDay, SendsBeside, ShowsLast, StaysAgreed}
-use Rattle.verifactu.specs.Crashes.{IsPrefix, Kept, StandsSince}
+use Rattle.verifactu.specs.Beside.{day_span}
+use Rattle.once_world.specs.Agreement.{IsPrefix}
+use Rattle.verifactu.specs.Crashes.{Kept, StandsSince}
 use Rattle.verifactu.specs.Devices.{Agencies, AllDevices, Clocks, LeftClock, LeftSleeper, NobodyCalled, Sleepers, Untouched}
 use Rattle.verifactu.specs.Drain.{AgreesAtStart, AllLeft, LeavesTime, NothingRose, desk_after, desk_before, kind_of}
-use Rattle.verifactu.specs.Drained.{AgreesInFile, Beginning, IsFaultless, IsOpened, torn_in}
+use Rattle.verifactu.specs.Draining.{AgreesInFile, Beginning, IsFaultless, OpensSession, torn_in}
 use Rattle.verifactu.specs.Opening.{NoRoom, NotOpened}
 use Rattle.verifactu.specs.Printed.{answers}
 use Rattle.verifactu.specs.Readings.{readings_of}
 use Rattle.verifactu.specs.Replies.{AllGoOn}
 use Rattle.verifactu.specs.Scripts.{ScriptedEnds}
-use Rattle.verifactu.specs.Tills.{DayRun, StopsShop, TillServed, TillTold, all_replies, asks_of, has_asks, own_of, tills_of}
+use Rattle.verifactu.specs.Tills.{DayRun, StopsShop, TillServed, TillReplies, all_replies, asks_of, has_asks, own_of, tills_of}
 
 -- what is printed of a till: the answers to its asks in line order, and how much it saw
-abbrev pub till_lines : List Asked → TillTold → List AnswerLine
+abbrev pub till_lines : List Asked → TillReplies → List AnswerLine
 till_lines asks t = answers (asks_of t.till asks) t.replies ++ Saw t.till t.saw ∷ []
 
 -- what is printed of a day: the lines of each till, then the listing and the chain line
-abbrev pub day_text : List Asked → List TillTold → List Entry → List ℕ
+abbrev pub day_text : List Asked → List TillReplies → List Entry → List ℕ
 day_text asks tills entries = answers_text (flat_map (till_lines asks) tills) ++ listing_text entries
 
 -- the file was opened, and there was no room for the day: nothing was asked, nothing printed and nothing handed over, and each
@@ -55,7 +59,7 @@ pub record NotServed {D G : Type 0} (issuer : List ℕ) (plan : Plan) (left : Ty
   pub found : IsTrue k.tells → IsFound issuer start (k.told k.disk).content
   pub kept : IsTrue k.tells → Kept (StandsSince issuer start start) issuer start [] (synced (k.told k.disk)) (k.told k.disk_after)
   pub begun : IsUnbegun (kind_of a) (desk_before a) (desk_after a)
-      ⊎ IsOpened (kind_of a) a.kind.begun plan start (desk_before a) (desk_after a)
+      ⊎ OpensSession (kind_of a) a.kind.begun plan start (desk_before a) (desk_after a)
   pub wrote : WroteNothing s
   pub rest : left
 
@@ -83,14 +87,14 @@ span_of a start end torn answer = record {
 pub record Served {D G : Type 0} (issuer : List ℕ) (asks : List Asked) (plan : Plan) (coming : ℕ → Option ℕ) (left : Type 0)
     (k : Disks D) (a : Agencies G) : Type 0 where
   pub start : List Entry
-  pub tills : List TillTold
+  pub tills : List TillReplies
   pub end : List Entry
   pub stopped : Option ℕ
   pub torn : List Entry
   -- how the sending ended
   pub answer : Result (Unit {0}) DrainFault
   pub found : IsTrue k.tells → IsFound issuer start (k.told k.disk).content
-  pub tills_are : map (λ (t : TillTold). t.till) tills ≡ tills_of asks
+  pub tills_are : map (λ (t : TillReplies). t.till) tills ≡ tills_of asks
   pub served : AllByRecursion (TillServed issuer coming start end stopped asks) tills
   pub others : (till : ℕ) → has_asks asks till ≡ false → own_of till (drop (length start) end) ≡ []
   pub begins : IsPrefix start end
@@ -143,29 +147,24 @@ pub record ShopLeft {D C : Type 0} (left : Type 0) (old : Parts D C) (disk_after
 -- answers
 pub record StoreKind (D C : Type 0) : Type 0 where
   pub tells : Bool
-  pub told : D → Told
+  pub told : D → OnDisk
   pub faults : D → ℕ
   pub coming : C → ℕ → Option ℕ
+
+abbrev pub store_kind : {D C : Type 0} → disk.Ghosts D → clock.Ghosts C → StoreKind D C
+store_kind d c = record { tells = d.tells; told = d.told; faults = d.faults; coming = c.coming }
 
 -- the tills of an opened store asked beside a sender, and this is what the day made of it, and how it ended
 pub record ShopRan {D C : Type 0} (h : StoreKind D C) (asks : List Asked) (kind : Kind) (opened new_desk : Desk) (old : Parts D C)
     (disk_after : D) (clock_after : C) (s : Sinks) (end : Detail) : Type 0 where
   pub new : Parts D C
-  pub tills : List TillTold
+  pub tills : List TillReplies
   pub answer : Result (Unit {0}) DrainFault
   pub disk : disk_after ≡ new.disk
   pub clock : clock_after ≡ new.clock
-  pub tills_are : map (λ (t : TillTold). t.till) tills ≡ tills_of asks
+  pub tills_are : map (λ (t : TillReplies). t.till) tills ≡ tills_of asks
   pub run : DayRun h.tells h.told h.faults h.coming asks (root_of h.told h.faults old) new tills answer
-  pub sends : SendsBeside (record {
-    start = old.state.entries;
-    end = new.state.entries;
-    torn = torn_in new.stopped new.torn;
-    kind = kind;
-    old = opened;
-    new = new_desk;
-    answer = answer;
-  })
+  pub sends : SendsBeside (day_span old.state.entries kind opened new_desk new answer)
   pub linked : Linked old.state.issuer (recs new.state.entries)
   pub rising : (till : ℕ) → SerialsRise new.state.entries till
   pub ends : DayRunEnds (all_replies tills) answer (length (noted new.state.entries)) (length (recs new.state.entries))
@@ -183,7 +182,7 @@ pub record StoreDay {D C : Type 0} (left : Type 0) (h : StoreKind D C) (begun : 
     (kind : Kind) (old_desk new_desk : Desk) (old : Parts D C) (disk_after : D) (clock_after : C) (s : Sinks) (end : Detail) :
     Type 0 where
   pub opened : Desk
-  pub opens : IsOpened kind begun plan old.state.entries old_desk opened
+  pub opens : OpensSession kind begun plan old.state.entries old_desk opened
   pub served : StoreServed left h asks kind opened new_desk old disk_after clock_after s end
 
 -- no session was opened, or one was

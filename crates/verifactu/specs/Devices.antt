@@ -2,10 +2,16 @@
 use Rattle.std.specs.Prelude.{◌≡◌, ℕ, Bool, List, Option}
 use Rattle.ports.specs.Sinks.{Sinks, WroteNothing}
 use Rattle.ports.specs.Sources.{Sources}
-use Rattle.chain_disk.specs.Disks.{Disks, LeftDisk, OnlyRead}
+use Rattle.ports.specs.declared.Clock as clock
+use Rattle.ports.specs.declared.sleeper.Sleeper as sleeper
+use Rattle.chain_disk.specs.Disks.{Disks, LeftDisk, OnlyRead, this_disk}
+use Rattle.chain_disk.specs.declared.disk.Disk as disk
 use Rattle.record_fields.specs.declared.records.Sealed.{Sealed}
 use Rattle.record_fields.specs.declared.lines.Line.{Line}
 use Rattle.agency_port.specs.Ledger.{Ledger}
+use Rattle.agency_port.specs.declared.agency.Agency as agency
+use Rattle.sender.specs.Turning.{Desk, Kind}
+use Rattle.verifactu.specs.declared.outside.Outside.{Outside}
 
 -- a clock and the answers to come that its kind tells
 pub record Clocks (C : Type 0) : Type 0 where
@@ -27,10 +33,6 @@ pub record Sleepers (Z : Type 0) : Type 0 where
   pub sleeper : Z
   pub sleeper_after : Z
 
--- this sleeper in this call: of its kind, before and after
-abbrev pub this_sleeper : {Z : Type 0} → Bool → (Z → ℕ) → Z → Z → Sleepers Z
-this_sleeper tells moment old new = record { tells = tells; moment = moment; sleeper = old; sleeper_after = new }
-
 abbrev pub LeftSleeper : {Z : Type 0} → Sleepers Z → Type 0
 LeftSleeper s = s.sleeper_after ≡ s.sleeper
 
@@ -48,20 +50,12 @@ pub record Agencies (G : Type 0) : Type 0 where
   pub agency : G
   pub agency_after : G
 
--- this agency in this call: of its kind, before and after
-abbrev pub this_agency : {G : Type 0} → AgencyKind G → G → G → Agencies G
-this_agency kind old new = record { kind = kind; agency = old; agency_after = new }
+-- what contracts say of a kind of agency, and of an agency of it
+abbrev pub agency_kind : {G : Type 0} → agency.Ghosts G → Kind
+agency_kind kind = record { tells = kind.tells; keeps_rules = kind.keeps_rules }
 
--- what the kind of an agency that is G tells
-abbrev pub agency_kind : {G : Type 0} → Bool → Bool → (G → Ledger) → (G → ℕ) →
-    (List (Sealed × Line) → List (Sealed × Line) → List (Sealed × Line)) → AgencyKind G
-agency_kind tells keeps_rules ledger faults begun = record {
-  tells = tells;
-  keeps_rules = keeps_rules;
-  ledger = ledger;
-  faults = faults;
-  begun = begun;
-}
+abbrev pub agency_desk : {G : Type 0} → agency.Ghosts G → G → Desk
+agency_desk kind agency = record { ledger = kind.ledger agency; faults = kind.faults agency }
 
 abbrev pub LeftAgency : {G : Type 0} → Agencies G → Type 0
 LeftAgency a = a.agency_after ≡ a.agency
@@ -106,13 +100,43 @@ pub record AllDevices (D C Z G : Type 0) : Type 0 where
   pub sleeper : Sleepers Z
   pub agency : Agencies G
 
--- these in this call
-abbrev pub this_call : {D C Z G : Type 0} → Sources → Sinks → Disks D → Clocks C → Sleepers Z → Agencies G → AllDevices D C Z G
-this_call source sink disk clock sleeper agency = record {
-  devices = record { source = source; sink = sink; disk = disk; clock = clock };
-  sleeper = sleeper;
-  agency = agency;
-}
+-- the parts of an outside in a call, before it and after it, by what their kinds tell
+module _ {D C Z G : Type 0} where
+  abbrev pub disk_in : disk.Ghosts D → Outside D C Z G → Outside D C Z G → Disks D
+  disk_in kind old new = this_disk kind.tells kind.told kind.faults old.disk new.disk
+
+  abbrev pub clock_in : clock.Ghosts C → Outside D C Z G → Outside D C Z G → Clocks C
+  clock_in kind old new = this_clock kind.coming old.clock new.clock
+
+  abbrev pub sleeper_in : sleeper.Ghosts Z → Outside D C Z G → Outside D C Z G → Sleepers Z
+  sleeper_in kind old new = record {
+    tells = kind.tells;
+    moment = kind.moment;
+    sleeper = old.sleeper;
+    sleeper_after = new.sleeper;
+  }
+
+  abbrev pub agency_in : agency.Ghosts G → Outside D C Z G → Outside D C Z G → Agencies G
+  agency_in kind old new = record {
+    kind = record {
+      tells = kind.tells;
+      keeps_rules = kind.keeps_rules;
+      ledger = kind.ledger;
+      faults = kind.faults;
+      begun = kind.begun;
+    };
+    agency = old.agency;
+    agency_after = new.agency;
+  }
+
+  -- all of them, with the source and the sink
+  abbrev pub this_call : Sources → Sinks → disk.Ghosts D → clock.Ghosts C → sleeper.Ghosts Z → agency.Ghosts G → Outside D C Z G →
+      Outside D C Z G → AllDevices D C Z G
+  this_call source sink d c z g old new = record {
+    devices = record { source = source; sink = sink; disk = disk_in d old new; clock = clock_in c old new };
+    sleeper = sleeper_in z old new;
+    agency = agency_in g old new;
+  }
 
 -- neither the sleeper nor the agency was touched
 pub record NobodyCalled {D C Z G : Type 0} (a : AllDevices D C Z G) : Type 0 where

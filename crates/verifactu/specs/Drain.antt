@@ -2,7 +2,7 @@
 use Rattle.std.specs.Prelude.{◌≡◌, ◌⊎◌, ℕ, ◌+◌, ◌-◌, ◌^◌, ◌<◌, ◌≤◌, List, Bool, true, IsTrue, Option, Some, None}
 use Rattle.ports.specs.Causes.{Rose}
 use Rattle.ports.specs.Sinks.{Sinks}
-use Rattle.chain_disk.specs.Told.{synced}
+use Rattle.chain_disk.specs.OnDisk.{synced}
 use Rattle.chain_disk.specs.Disks.{Disks, DiskRose}
 use Rattle.record_codec.specs.declared.entries.Entry.{Entry}
 use Rattle.agency_rules.specs.declared.plans.Plan.{Plan}
@@ -18,7 +18,7 @@ use Rattle.report.specs.declared.ended.Detail.TheVariants as detail
 use Rattle.verifactu.specs.Crashes.{StandsSince}
 use Rattle.verifactu.specs.Devices.{Agencies, AllDevices, Clocks, LeftAgency, LeftClock, LeftSleeper, NobodyCalled, Sleepers}
 use Rattle.verifactu.specs.Devices.{Untouched}
-use Rattle.verifactu.specs.Drained.{DiskSpan, DrainRunEnds, Outcome, StoreDrains, drain_text, noted_pairs, spanning}
+use Rattle.verifactu.specs.Draining.{DiskSpan, DrainRunEnds, Outcome, StoreDrains, drain_text, noted_pairs, spanning}
 use Rattle.verifactu.specs.Opening.{NotOpened}
 use Rattle.verifactu.specs.Scripts.{ScriptedEnds}
 

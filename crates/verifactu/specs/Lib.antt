@@ -13,8 +13,9 @@ pub mod Chain
 pub mod Generated
 pub mod Generate
 pub mod Steps
-pub mod Drained
+pub mod Draining
 pub mod Outcomes
+pub mod Started
 pub mod Drain
 pub mod Beside
 pub mod Tills

@@ -1,7 +1,7 @@
 -- What a drain's end says.
 use Rattle.chain_disk.specs.declared.disk.Disk.{Ghosts}
 use Rattle.till_calls.specs.Root.{parts_of}
-use Rattle.verifactu.specs.Drained.{Outcome, torn_in}
+use Rattle.verifactu.specs.Draining.{Outcome, torn_in}
 use Rattle.verifactu.specs.declared.draining.DrainEnd.{DrainEnd}
 
 abbrev pub outcome_of : {D C : Type 0} {g : Ghosts D} → DrainEnd D C g → Outcome

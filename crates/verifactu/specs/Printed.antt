@@ -2,7 +2,7 @@
 use Rattle.std.specs.Prelude.{ℕ, List, ◌++◌, map, zip, Result}
 use Rattle.journal.specs.declared.faults.StoreFault.{StoreFault}
 use Rattle.record_codec.specs.declared.entries.Entry.{Entry}
-use Rattle.shop_core.specs.Asked.{Asked}
+use Rattle.shop_core.specs.Requests.{Asked}
 use Rattle.shop_core.specs.declared.answers.Reply.{Reply}
 use Rattle.report.specs.Answers.{answers_text}
 use Rattle.report.specs.Listing.{listing_text}

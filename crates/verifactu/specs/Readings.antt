@@ -10,10 +10,8 @@ use Rattle.verifactu.specs.Replies.{Replies}
 
 -- whether the clock was read for a reply: for each but those of a journal that had stopped
 abbrev pub has_read : Result Reply StoreFault → Bool
-has_read (Ok reply) = true
-has_read (Err DiskFault) = true
 has_read (Err (Stopped faults)) = false
-has_read (Err NoMemory) = true
+has_read _ = true
 
 -- how often the clock was read for these replies
 abbrev pub readings : Replies → ℕ

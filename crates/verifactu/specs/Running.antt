@@ -1,7 +1,7 @@
 -- One call of the program, by what it is given and what it leaves.
 use Rattle.std.specs.Prelude.{◌≡◌, ℕ, List, Option, Some, None}
 use Rattle.ports.specs.Sinks.{WroteNothing}
-use Rattle.report.specs.Statuses.{status_of}
+use Rattle.report.specs.Ended.{status_of}
 use Rattle.report.specs.declared.ended.Detail.{Detail}
 use Rattle.report.specs.declared.ended.Detail.TheVariants as detail
 use Rattle.report.specs.declared.ended.Ended.{Ended}

@@ -5,11 +5,11 @@ use Rattle.std.specs.List.{AllByRecursion}
 use Rattle.record_fields.specs.declared.records.Sealed.{Sealed}
 use Rattle.record_fields.specs.declared.lines.Line.{Line}
 use Rattle.batches.specs.Batches.{huellas_of}
-use Rattle.pacing.specs.Due.{is_due, due_at}
+use Rattle.pacing.specs.Pace.{is_due, due_at}
 use Rattle.pacing.specs.declared.pace.Pace.{Pace}
 use Rattle.journal.specs.declared.faults.StoreFault.{StoreFault}
 use Rattle.journal.specs.declared.faults.StoreFault.TheVariants as store
-use Rattle.agency_port.specs.Replied.{Replied}
+use Rattle.agency_port.specs.Reply.{Replied}
 use Rattle.agency_port.specs.Ledger.{Names}
 use Rattle.agency_port.specs.Sessions.{named_reply}
 use Rattle.agency_port.specs.declared.answers.Seen.{Seen}
@@ -26,7 +26,7 @@ use Rattle.sender.specs.declared.answers.DrainFault.{DrainFault}
 use Rattle.sender.specs.declared.answers.DrainFault.TheVariants as drain
 use Rattle.sender.specs.declared.draining.TheConstants.{MAX_LINK_FAULTS}
 use Rattle.sender.specs.Draining.{is_link}
-use Rattle.sender.specs.Evident.{Shows}
+use Rattle.sender.specs.Evidence.{Shows}
 use Rattle.sender.specs.Sending.{fresh}
 use Rattle.sender.specs.Turning.{Desk}
 
@@ -83,15 +83,8 @@ after_message st (Consulted huellas (Err why)) = st
 
 -- the lines that a turn noted
 abbrev pub noted_in : Told → ℕ
-noted_in (told.Wait at) = 0
 noted_in (told.Noted n) = n
-noted_in told.Cleared = 0
-noted_in (told.Doubt place) = 0
-noted_in told.Link = 0
-noted_in told.Contradiction = 0
-noted_in told.Disk = 0
-noted_in (told.Stopped faults) = 0
-noted_in told.Memory = 0
+noted_in _ = 0
 
 abbrev pub noting : ℕ → Standing → Standing
 noting n st = record { noted = st.noted + n; pace = st.pace; said = st.said; moment = st.moment }
@@ -134,9 +127,7 @@ IsReplyLine st batch reply (told.Noted n) = AreAllNew batch reply × (n ≡ leng
 IsReplyLine st batch reply told.Disk = AreAllNew batch reply
 IsReplyLine st batch reply (told.Stopped faults) = AreAllNew batch reply
 IsReplyLine st batch reply told.Memory = Names reply batch
-IsReplyLine st batch reply (told.Wait at) = ⊥
-IsReplyLine st batch reply told.Cleared = ⊥
-IsReplyLine st batch reply told.Contradiction = ⊥
+IsReplyLine _ _ _ _ = ⊥
 
 abbrev pub IsSubmissionLine : Standing → List Sealed → Result Replied AgencyFault → Told → Type 0
 IsSubmissionLine st batch (Ok reply) printed = IsReplyLine st batch reply printed
@@ -156,9 +147,7 @@ IsSeenLine st huellas seen told.Contradiction = (evidence : Evidence) × ShowsHe
 IsSeenLine st huellas seen told.Disk = (lines : List Line) × ShowsHere st huellas seen (Ok lines)
 IsSeenLine st huellas seen (told.Stopped faults) = (lines : List Line) × ShowsHere st huellas seen (Ok lines)
 IsSeenLine st huellas seen told.Memory = ⊤
-IsSeenLine st huellas seen (told.Wait at) = ⊥
-IsSeenLine st huellas seen (told.Doubt place) = ⊥
-IsSeenLine st huellas seen told.Link = ⊥
+IsSeenLine _ _ _ _ = ⊥
 
 abbrev pub IsConsultationLine : Standing → List (List ℕ) → Result (List Seen) AgencyFault → Told → Type 0
 IsConsultationLine st huellas (Ok seen) printed = IsSeenLine st huellas seen printed
@@ -189,10 +178,7 @@ GoesOnBehind (told.Noted n) = ⊤
 GoesOnBehind told.Cleared = ⊤
 GoesOnBehind (told.Doubt place) = ⊤
 GoesOnBehind told.Link = ⊤
-GoesOnBehind told.Contradiction = ⊥
-GoesOnBehind told.Disk = ⊥
-GoesOnBehind (told.Stopped faults) = ⊥
-GoesOnBehind told.Memory = ⊥
+GoesOnBehind _ = ⊥
 
 abbrev pub fault_line : StoreFault → Told
 fault_line store.DiskFault = told.Disk
@@ -221,8 +207,7 @@ EndsBy records st links noted last (Err (drain.Undelivered noted_count records_c
 EndsBy records st links noted last (Err (drain.Contradiction evidence)) = EndsContrary st last evidence
 EndsBy records st links noted last (Err (drain.Store store.DiskFault)) = EndsSaying last told.Disk
 EndsBy records st links noted last (Err (drain.Store (store.Stopped faults))) = EndsSaying last (told.Stopped faults)
-EndsBy records st links noted last (Err (drain.Store store.NoMemory)) = ⊤
-EndsBy records st links noted last (Err drain.NoMemory) = ⊤
+EndsBy _ _ _ _ _ _ = ⊤
 
 -- the lines of these steps were told; without memory the last may be untold
 abbrev pub AreTold : List Told → List Step → List Step → Result (Unit {0}) DrainFault → Type 0

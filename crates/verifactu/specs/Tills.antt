@@ -2,7 +2,7 @@
 use Rattle.std.specs.Prelude.{◌≡◌, ◌≢◌, ◌⊎◌, ◌≤◌, ℕ, ◌+◌, ◌==◌, Bool, true, false, List, [], ◌∷◌, ◌++◌, filter, drop, flat_map}
 use Rattle.std.specs.Prelude.{length, Contains, Option, None, Some, Result, Ok, Err}
 use Rattle.std.specs.List.{AllByRecursion, list_any, range_with_len}
-use Rattle.chain_disk.specs.Told.{Told}
+use Rattle.chain_disk.specs.OnDisk.{OnDisk}
 use Rattle.journal.specs.declared.faults.StoreFault.{StoreFault}
 use Rattle.journal.specs.declared.faults.StoreFault.TheVariants.{DiskFault, Stopped, NoMemory}
 use Rattle.ports.specs.Causes.{Rose}
@@ -10,16 +10,16 @@ use Rattle.ports.specs.Readings.{IsTold}
 use Rattle.record_codec.specs.declared.entries.Entry.{Entry}
 use Rattle.record_codec.specs.declared.entries.Entry.TheVariants.{Rec, Notes}
 use Rattle.record_codec.specs.declared.entries.TheConstants.{LAST_TILL}
-use Rattle.shop_core.specs.Answer.{answer}
-use Rattle.shop_core.specs.Asked.{Asked}
-use Rattle.shop_core.specs.Runs.{IsTakenAt, Tells}
+use Rattle.shop_core.specs.Plans.{answer}
+use Rattle.shop_core.specs.Requests.{Asked}
+use Rattle.shop_core.specs.Replies.{IsTakenAt, Tells}
 use Rattle.shop_core.specs.declared.answers.Reply.{Reply}
 use Rattle.shop_core.specs.declared.answers.Reply.TheVariants.{Taken, Again, Refused}
 use Rattle.till_calls.specs.Root.{Parts, Root}
 use Rattle.till_calls.specs.Sound.{IsSound}
 use Rattle.sender.specs.declared.answers.DrainFault.{DrainFault}
-use Rattle.verifactu.specs.Crashes.{IsPrefix}
-use Rattle.verifactu.specs.Drained.{IsDiskAnswer, IsFaultless}
+use Rattle.once_world.specs.Agreement.{IsPrefix}
+use Rattle.verifactu.specs.Draining.{IsDiskAnswer, IsFaultless}
 use Rattle.verifactu.specs.Replies.{Replies, AllGoOn}
 
 -- the asks of a till, in line order
@@ -35,7 +35,7 @@ abbrev pub tills_of : List Asked → List ℕ
 tills_of asks = filter (has_asks asks) (range_with_len 1 LAST_TILL)
 
 -- what a till was told, and how many items of the shop's list it saw at its end
-pub record TillTold : Type 0 where
+pub record TillReplies : Type 0 where
   pub till : ℕ
   pub replies : Replies
   pub saw : ℕ
@@ -48,23 +48,23 @@ IsSomeReading coming seconds = (number : ℕ) × IsTold (coming number) seconds
 -- at a front of the history at the end and at a coming reading of the clock. That front is no shorter than all that the till
 -- had seen, and where a record was taken it is the next entry there. Once the disk has failed each later ask is told of the
 -- stop. The number is how many entries the till had seen at its last answer, the mark whether it was told of the stop.
-pub data TillRun (issuer : List ℕ) (coming : ℕ → Option ℕ) (start end : List Entry) :
+pub data ServedRun (issuer : List ℕ) (coming : ℕ → Option ℕ) (start end : List Entry) :
     List Asked → Replies → ℕ → Bool → Type 0 where
-  unasked : TillRun issuer coming start end [] [] (length start) false
+  unasked : ServedRun issuer coming start end [] [] (length start) false
   answered : (asks : List Asked) (replies : Replies) (seen : ℕ) (ask : Asked) (reply : Reply) (history gained : List Entry)
-      (seconds : ℕ) → TillRun issuer coming start end asks replies seen false → seen ≤ length history →
+      (seconds : ℕ) → ServedRun issuer coming start end asks replies seen false → seen ≤ length history →
       IsPrefix (history ++ gained) end → IsSomeReading coming seconds →
       Tells history (answer issuer history ask seconds) reply gained →
-      TillRun issuer coming start end (asks ++ ask ∷ []) (replies ++ Ok reply ∷ []) (length (history ++ gained)) false
+      ServedRun issuer coming start end (asks ++ ask ∷ []) (replies ++ Ok reply ∷ []) (length (history ++ gained)) false
   torn : (asks : List Asked) (replies : Replies) (seen : ℕ) (ask : Asked) →
-      TillRun issuer coming start end asks replies seen false →
-      TillRun issuer coming start end (asks ++ ask ∷ []) (replies ++ Err DiskFault ∷ []) seen true
+      ServedRun issuer coming start end asks replies seen false →
+      ServedRun issuer coming start end (asks ++ ask ∷ []) (replies ++ Err DiskFault ∷ []) seen true
   stopped : (asks : List Asked) (replies : Replies) (seen : ℕ) (told : Bool) (ask : Asked) (count : ℕ) →
-      TillRun issuer coming start end asks replies seen told →
-      TillRun issuer coming start end (asks ++ ask ∷ []) (replies ++ Err (Stopped count) ∷ []) seen true
+      ServedRun issuer coming start end asks replies seen told →
+      ServedRun issuer coming start end (asks ++ ask ∷ []) (replies ++ Err (Stopped count) ∷ []) seen true
   without_memory : (asks : List Asked) (replies : Replies) (seen : ℕ) (ask : Asked) →
-      TillRun issuer coming start end asks replies seen false →
-      TillRun issuer coming start end (asks ++ ask ∷ []) (replies ++ Err NoMemory ∷ []) seen false
+      ServedRun issuer coming start end asks replies seen false →
+      ServedRun issuer coming start end (asks ++ ask ∷ []) (replies ++ Err NoMemory ∷ []) seen false
 
 -- the entry is a record of this till
 abbrev pub is_from : ℕ → Entry → Bool
@@ -92,24 +92,22 @@ stops_in (Some count) = 1
 -- One till's part of a day from this history to that one: the run of its own asks, its records since the start, and how much it
 -- saw at its end: no less than at its last answer, and no more than the history at the end, and the stop behind it.
 pub record TillServed (issuer : List ℕ) (coming : ℕ → Option ℕ) (start end : List Entry) (stopped : Option ℕ)
-    (asks : List Asked) (t : TillTold) : Type 0 where
+    (asks : List Asked) (t : TillReplies) : Type 0 where
   pub last : ℕ
   pub told : Bool
-  pub run : TillRun issuer coming start end (asks_of t.till asks) t.replies last told
+  pub run : ServedRun issuer coming start end (asks_of t.till asks) t.replies last told
   pub own : AreTaken t.replies (own_of t.till (drop (length start) end))
   pub at_least : last ≤ t.saw
   pub at_most : t.saw ≤ length end + stops_in stopped
 
 -- all that the tills were told
-abbrev pub all_replies : List TillTold → Replies
-all_replies tills = flat_map (λ (t : TillTold). t.replies) tills
+abbrev pub all_replies : List TillReplies → Replies
+all_replies tills = flat_map (λ (t : TillReplies). t.replies) tills
 
 -- a stop is told by this count
 abbrev pub TellsStop : ℕ → Result Reply StoreFault → Type 0
-TellsStop count (Ok reply) = Unit {0}
-TellsStop count (Err DiskFault) = Unit {0}
 TellsStop count (Err (Stopped faults)) = faults ≡ count
-TellsStop count (Err NoMemory) = Unit {0}
+TellsStop _ _ = Unit {0}
 
 -- The disk failed, its count of faults having risen to this one. A till was told so, or the sender was, which may have found no
 -- memory to tell it. The stop is told by this count.
@@ -127,12 +125,12 @@ StopsShop faults faults_after (Some count) replies answer = StoppedAt faults fau
 -- What a day of these tills and of a sender makes of a shop: how the shop was at its start, the parts of its store after its
 -- close,
 -- what each till was told, and how the sending ended. No other till has a record since the start.
-pub record DayRun {D C : Type 0} (tells : Bool) (told : D → Told) (faults : D → ℕ) (coming : C → ℕ → Option ℕ)
-    (asks : List Asked) (root : Root C) (new : Parts D C) (tills : List TillTold) (answer : Result (Unit {0}) DrainFault) :
+pub record DayRun {D C : Type 0} (tells : Bool) (told : D → OnDisk) (faults : D → ℕ) (coming : C → ℕ → Option ℕ)
+    (asks : List Asked) (root : Root C) (new : Parts D C) (tills : List TillReplies) (answer : Result (Unit {0}) DrainFault) :
     Type 0 where
   pub sound : IsSound tells told faults coming root new
   pub served : AllByRecursion
       (TillServed root.issuer (coming root.clock) root.history new.state.entries new.stopped asks) tills
-  pub others : (till : ℕ) → AllByRecursion (λ (t : TillTold). t.till ≢ till) tills →
+  pub others : (till : ℕ) → AllByRecursion (λ (t : TillReplies). t.till ≢ till) tills →
       own_of till (drop (length root.history) new.state.entries) ≡ []
   pub stops : StopsShop root.faults (faults new.disk) new.stopped (all_replies tills) answer

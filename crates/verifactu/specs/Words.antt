@@ -106,12 +106,6 @@ IsAskedFor words (Some command) = AsksFor words command
 
 -- a command that words can ask for
 abbrev pub IsWithin : Command → Type 0
-IsWithin (Chain issuer) = Unit {0}
-IsWithin (Day issuer) = Unit {0}
-IsWithin (Drain issuer) = Unit {0}
-IsWithin Audit = Unit {0}
-IsWithin (Link num host) = Unit {0}
 IsWithin (Check workers) = IsInRange 1 MAX_WORKERS workers
 IsWithin (Generate n) = IsInRange 1 MOST n
-IsWithin Help = Unit {0}
-IsWithin Version = Unit {0}
+IsWithin _ = Unit {0}

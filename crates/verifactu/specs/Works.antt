@@ -2,18 +2,18 @@
 use Rattle.std.specs.Prelude.{◌≡◌, ◌≤◌, ℕ, List, [], length, map, vec_capacity, Option}
 use Rattle.std.specs.List.{AllByRecursion}
 use Rattle.chain_lock.specs.Known.{Known}
-use Rattle.shop_core.specs.Asked.{Asked}
+use Rattle.shop_core.specs.Requests.{Asked}
 use Rattle.shop_core.specs.declared.items.Item.{Item}
 use Rattle.till_calls.specs.Root.{Root}
-use Rattle.till_calls.specs.Runs.{TillRun}
+use Rattle.till_calls.specs.Client.{TillRun}
 use Rattle.till_calls.specs.Shop.{till_knows, till_number}
 use Rattle.verifactu.specs.Replies.{Replies}
-use Rattle.verifactu.specs.Tills.{TillTold, asks_of}
+use Rattle.verifactu.specs.Tills.{TillReplies, asks_of}
 use Rattle.verifactu.specs.declared.tills.Job.{Job}
 use Rattle.verifactu.specs.declared.tills.TillDay.{TillDay}
 
 -- what a till was told
-abbrev pub told_in : TillDay → TillTold
+abbrev pub told_in : TillDay → TillReplies
 told_in day = record { till = day.till; replies = day.answers.items; saw = day.saw }
 
 -- there is room for the answers to its asks, and none stands there yet

@@ -3,6 +3,7 @@ ghost use Rattle.std.specs.Prelude.{◌≡◌, map, reverse, All, vec_len};
 ghost use Rattle.sender.specs.Sending.{fresh};
 ghost use Rattle.till_calls.specs.Mark.{mark_by, sight_by};
 ghost use Rattle.till_calls.specs.Shop.{seat_knows, seat_shop, shop_id, till_shop};
+ghost use Rattle.verifactu.specs.Devices.{agency_desk, agency_kind};
 ghost use Rattle.verifactu.specs.Beside.{SendsOn};
 ghost use Rattle.verifactu.specs.Works.{HasRoom, Ran, day_of, job_knows};
 
@@ -67,10 +68,8 @@ pub(crate) fn beside<
     ensures own { All (λ j. till_shop j.till ≡ shop_id shop.now) result.0.items }
     ensures len { vec_len result.0 ≡ vec_len jobs }
     ensures mark { mark_by (seat_shop result.1.seat) (seat_knows result.1.seat) ≡ mark_by (seat_shop seat) (seat_knows seat) }
-    ensures sends { SendsOn (record { tells = G.tells; keeps_rules = G.keeps_rules }) (sight_by (seat_knows seat))
-        (sight_by (seat_knows result.1.seat)) (record { ledger = G.ledger agency; faults = G.faults agency })
-        (record { ledger = G.ledger result.1.agency; faults = G.faults result.1.agency }) fresh result.1.sender
-        result.1.answer }
+    ensures sends { SendsOn (agency_kind G.Agency) (sight_by (seat_knows seat)) (sight_by (seat_knows result.1.seat))
+        (agency_desk G.Agency agency) (agency_desk G.Agency result.1.agency) fresh result.1.sender result.1.answer }
 {
     let stop = AtomicBool::new(false);
     let told = &stop;
@@ -79,9 +78,8 @@ pub(crate) fn beside<
         move || -> Sent<D, C, G, Z>
             requires { seat_shop seat ≡ shop_id shop.now }
             ensures { (mark_by (seat_shop result.seat) (seat_knows result.seat) ≡ mark_by (seat_shop seat) (seat_knows seat))
-                × SendsOn (record { tells = G.tells; keeps_rules = G.keeps_rules }) (sight_by (seat_knows seat))
-                (sight_by (seat_knows result.seat)) (record { ledger = G.ledger agency; faults = G.faults agency })
-                (record { ledger = G.ledger result.agency; faults = G.faults result.agency }) fresh result.sender result.answer }
+                × SendsOn (agency_kind G.Agency) (sight_by (seat_knows seat)) (sight_by (seat_knows result.seat))
+                (agency_desk G.Agency agency) (agency_desk G.Agency result.agency) fresh result.sender result.answer }
         { send_part(rt, alloc, gate, shop, seat, agency, sleeper, told) },
         move || -> Vec<Job<D, C>>
             requires { All (λ j. till_shop j.till ≡ shop_id shop.now) jobs.items

@@ -6,7 +6,7 @@ ghost use Rattle.chain_disk.specs.Disks.{this_disk};
 ghost use Rattle.journal.specs.Journal.{disk_of, stopped_of};
 ghost use Rattle.record_codec.specs.declared.entries.Entry.{Entry};
 ghost use Rattle.chain_store.specs.Store.{Ready, clock_of, journal_of, state_of};
-ghost use Rattle.report.specs.Statuses.{status_of};
+ghost use Rattle.report.specs.Ended.{status_of};
 ghost use Rattle.verifactu.specs.Chain.{ChainEnds, ScriptEnds, StoreEnds};
 ghost use Rattle.verifactu.specs.Commands.{this_store};
 ghost use Rattle.verifactu.specs.Devices.{this_clock};
@@ -48,28 +48,12 @@ pub fn chain_cmd<S: Source, K: Sink, D: Disk, C: Clock>(
       clock = this_clock C.coming clock result.2;
     }) result.0.detail }
 {
-    let (detail, disk, clock) = chain(alloc, issuer, source, sink, disk, clock);
-    (ended_as(detail), disk, clock)
-}
-
-fn chain<S: Source, K: Sink, D: Disk, C: Clock>(
-    alloc: Global,
-    issuer: &Nif,
-    source: &mut S,
-    sink: &mut K,
-    disk: D,
-    clock: C,
-) -> (Detail, D, C)
-    ensures { ChainEnds issuer.now (record {
-      source = this_source S.left S.faults source.old source.new;
-      sink = this_sink K.taken K.faults sink.old sink.new;
-      disk = this_disk D.tells D.told D.faults disk result.1;
-      clock = this_clock C.coming clock result.2;
-    }) result.0 }
-{
     match read_source(alloc, source, Form::Full) {
-        Err(fault) => (fault.detail(), disk, clock),
-        Ok(script) => run_script(alloc, issuer, &script, sink, disk, clock),
+        Err(fault) => (ended_as(fault.detail()), disk, clock),
+        Ok(script) => {
+            let (detail, disk, clock) = run_script(alloc, issuer, &script, sink, disk, clock);
+            (ended_as(detail), disk, clock)
+        }
     }
 }
 

@@ -3,18 +3,17 @@
 ghost use Rattle.std.specs.Prelude.{◌≡◌, IsTrue, None, map, All, length};
 ghost use Rattle.ports.specs.Sinks.{this_sink};
 ghost use Rattle.ports.specs.Sources.{this_source};
-ghost use Rattle.chain_disk.specs.Disks.{this_disk};
-ghost use Rattle.chain_disk.specs.Told.{IsImage};
+ghost use Rattle.chain_disk.specs.OnDisk.{IsImage};
 ghost use Rattle.journal.specs.Journal.{stopped_of};
 ghost use Rattle.chain_store.specs.Store.{Ready, journal_of};
-ghost use Rattle.report.specs.Statuses.{status_of};
+ghost use Rattle.report.specs.Ended.{status_of};
 ghost use Rattle.report.specs.declared.ended.Detail.TheVariants as detail;
 ghost use Rattle.shop_core.specs.History.{recs, noted};
 ghost use Rattle.till_calls.specs.Root.{parts_of};
 ghost use Rattle.till_calls.specs.Sound.{IsLater};
 ghost use Rattle.verifactu.specs.Beside.{DayRunEnds};
-ghost use Rattle.verifactu.specs.Day.{DayEnds, LeftTime, StoreDayEnds, StoreServed, TillsEnd, day_text};
-ghost use Rattle.verifactu.specs.Devices.{agency_kind, this_agency, this_call, this_clock, this_sleeper};
+ghost use Rattle.verifactu.specs.Day.{DayEnds, LeftTime, StoreDayEnds, StoreServed, TillsEnd, day_text, store_kind};
+ghost use Rattle.verifactu.specs.Devices.{agency_desk, agency_in, agency_kind, clock_in, disk_in, sleeper_in, this_call};
 ghost use Rattle.verifactu.specs.Drain.{AllLeft, LeavesTime};
 ghost use Rattle.verifactu.specs.Readings.{readings_of};
 ghost use Rattle.verifactu.specs.Tills.{all_replies, tills_of};
@@ -33,7 +32,7 @@ use chain_disk::Disk;
 use chain_store::Store;
 use file_commands::{ended_as, write_texts};
 use parties::Nif;
-use ports::{Clock, CountingClock, Gate, LeapSleeper, Sink, Sleeper, Source};
+use ports::{Clock, Gate, Sink, Sleeper, Source};
 use recovery::open_store;
 use report::{Detail, Ended};
 use script::{Form, Script};
@@ -68,49 +67,15 @@ where
     T: Gate + Sync,
     R: Threads + Wait + Sync,
     ensures status { result.0.status ≡ status_of result.0.detail }
-    ensures ends { DayEnds issuer.now (this_call
-        (this_source S.left S.faults source.old source.new)
-        (this_sink K.taken K.faults sink.old sink.new)
-        (this_disk D.tells D.told D.faults outside.disk result.1.disk)
-        (this_clock C.coming outside.clock result.1.clock)
-        (this_sleeper Z.tells Z.moment outside.sleeper result.1.sleeper)
-        (this_agency (agency_kind G.tells G.keeps_rules G.ledger G.faults G.begun)
-        outside.agency result.1.agency)) result.0.detail }
-{
-    let (detail, outside) = day(rt, alloc, issuer, source, sink, outside, gate);
-    (ended_as(detail), outside)
-}
-
-fn day<S, K, D, C, Z, G, T, R>(
-    rt: &R,
-    alloc: Global,
-    issuer: &Nif,
-    source: &mut S,
-    sink: &mut K,
-    outside: Outside<D, C, Z, G>,
-    gate: &T,
-) -> (Detail, Outside<D, C, Z, G>)
-where
-    S: Source,
-    K: Sink,
-    D: Disk + Send + Drop,
-    C: Clock + Send + Drop,
-    Z: Sleeper + Send + Drop,
-    G: Agency + Send + Drop,
-    T: Gate + Sync,
-    R: Threads + Wait + Sync,
-    ensures { DayEnds issuer.now (this_call
-        (this_source S.left S.faults source.old source.new)
-        (this_sink K.taken K.faults sink.old sink.new)
-        (this_disk D.tells D.told D.faults outside.disk result.1.disk)
-        (this_clock C.coming outside.clock result.1.clock)
-        (this_sleeper Z.tells Z.moment outside.sleeper result.1.sleeper)
-        (this_agency (agency_kind G.tells G.keeps_rules G.ledger G.faults G.begun)
-        outside.agency result.1.agency)) result.0 }
+    ensures ends { DayEnds issuer.now (this_call (this_source S.left S.faults source.old source.new)
+        (this_sink K.taken K.faults sink.old sink.new) D.Disk C.Clock Z.Sleeper G.Agency outside result.1) result.0.detail }
 {
     match read_source(alloc, source, Form::Full) {
-        Err(fault) => (fault.detail(), outside),
-        Ok(script) => day_script(rt, alloc, issuer, &script, sink, outside, gate),
+        Err(fault) => (ended_as(fault.detail()), outside),
+        Ok(script) => {
+            let (detail, outside) = day_script(rt, alloc, issuer, &script, sink, outside, gate);
+            (ended_as(detail), outside)
+        }
     }
 }
 
@@ -132,45 +97,19 @@ where
     G: Agency + Send + Drop,
     T: Gate + Sync,
     R: Threads + Wait + Sync,
-    ensures { TillsEnd issuer.now script.now.asks script.now.plan (readings_of script.now.clock (C.coming outside.clock))
-        (AllLeft (this_clock C.coming outside.clock result.1.clock)
-        (this_sleeper Z.tells Z.moment outside.sleeper result.1.sleeper)
-        (this_agency (agency_kind G.tells G.keeps_rules G.ledger G.faults G.begun) outside.agency result.1.agency))
-        (LeftTime (this_clock C.coming outside.clock result.1.clock)
-        (this_sleeper Z.tells Z.moment outside.sleeper result.1.sleeper))
-        (LeavesTime script.now.clock (this_clock C.coming outside.clock result.1.clock)
-        (this_sleeper Z.tells Z.moment outside.sleeper result.1.sleeper))
-        (this_sink K.taken K.faults sink.old sink.new)
-        (this_disk D.tells D.told D.faults outside.disk result.1.disk)
-        (this_agency (agency_kind G.tells G.keeps_rules G.ledger G.faults G.begun) outside.agency result.1.agency) result.0 }
+    ensures { let t = clock_in C.Clock outside result.1 in
+        let z = sleeper_in Z.Sleeper outside result.1 in
+        let a = agency_in G.Agency outside result.1 in
+        TillsEnd issuer.now script.now.asks script.now.plan (readings_of script.now.clock (C.coming outside.clock))
+        (AllLeft t z a) (LeftTime t z) (LeavesTime script.now.clock t z) (this_sink K.taken K.faults sink.old sink.new)
+        (disk_in D.Disk outside result.1) a result.0 }
 {
     let Some((start, step)) = script.clock else {
         return day_file(rt, alloc, issuer, script, sink, outside, gate);
     };
-    let Outside {
-        disk,
-        clock,
-        sleeper,
-        agency,
-    } = outside;
-    let own = Outside {
-        disk,
-        clock: CountingClock::new(start, step),
-        sleeper: LeapSleeper::new(start),
-        agency,
-    };
-    let (detail, Outside { disk, agency, .. }) = day_file(
-        rt, alloc, issuer, script, sink, own, gate,
-    );
-    (
-        detail,
-        Outside {
-            disk,
-            clock,
-            sleeper,
-            agency,
-        },
-    )
+    let (own, clock, sleeper) = outside.with_own_time(start, step);
+    let (detail, own) = day_file(rt, alloc, issuer, script, sink, own, gate);
+    (detail, own.with_time(clock, sleeper))
 }
 
 // Opens the file and runs the day on it. The room for the tills' answers is made first.
@@ -191,16 +130,12 @@ where
     G: Agency + Send + Drop,
     T: Gate + Sync,
     R: Threads + Wait + Sync,
-    ensures { TillsEnd issuer.now script.now.asks script.now.plan (C.coming outside.clock)
-        (AllLeft (this_clock C.coming outside.clock result.1.clock)
-        (this_sleeper Z.tells Z.moment outside.sleeper result.1.sleeper)
-        (this_agency (agency_kind G.tells G.keeps_rules G.ledger G.faults G.begun) outside.agency result.1.agency))
-        (LeftTime (this_clock C.coming outside.clock result.1.clock)
-        (this_sleeper Z.tells Z.moment outside.sleeper result.1.sleeper))
-        (IsLater C.coming outside.clock result.1.clock)
-        (this_sink K.taken K.faults sink.old sink.new)
-        (this_disk D.tells D.told D.faults outside.disk result.1.disk)
-        (this_agency (agency_kind G.tells G.keeps_rules G.ledger G.faults G.begun) outside.agency result.1.agency) result.0 }
+    ensures { let t = clock_in C.Clock outside result.1 in
+        let z = sleeper_in Z.Sleeper outside result.1 in
+        let a = agency_in G.Agency outside result.1 in
+        TillsEnd issuer.now script.now.asks script.now.plan (C.coming outside.clock) (AllLeft t z a) (LeftTime t z)
+        (IsLater C.coming outside.clock result.1.clock) (this_sink K.taken K.faults sink.old sink.new)
+        (disk_in D.Disk outside result.1) a result.0 }
 {
     let Ok(tills) = till_days(alloc, script.asks.as_slice()) else {
         return (Detail::NoMemory, outside);
@@ -262,10 +197,8 @@ where
     requires tills { map (λ d. d.till) tills.items ≡ tills_of script.now.asks }
     requires room { All (HasRoom script.now.asks) tills.items }
     ensures { StoreDayEnds (result.1.sleeper ≡ sleeper)
-        (record { tells = D.tells; told = D.told; faults = D.faults; coming = C.coming })
-        G.begun script.now.plan script.now.asks (record { tells = G.tells; keeps_rules = G.keeps_rules })
-        (record { ledger = G.ledger agency; faults = G.faults agency })
-        (record { ledger = G.ledger result.1.agency; faults = G.faults result.1.agency })
+        (store_kind D.Disk C.Clock) G.begun script.now.plan script.now.asks (agency_kind G.Agency)
+        (agency_desk G.Agency agency) (agency_desk G.Agency result.1.agency)
         (parts_of store) result.1.disk result.1.clock (this_sink K.taken K.faults sink.old sink.new) result.0 }
 {
     match begin(alloc, &script.plan, store.state(), &mut agency) {
@@ -339,10 +272,8 @@ where
     requires tills { map (λ d. d.till) tills.items ≡ tills_of asks.now }
     requires room { All (HasRoom asks.now) tills.items }
     ensures { StoreServed (result.1.sleeper ≡ sleeper)
-        (record { tells = D.tells; told = D.told; faults = D.faults; coming = C.coming })
-        asks.now (record { tells = G.tells; keeps_rules = G.keeps_rules })
-        (record { ledger = G.ledger agency; faults = G.faults agency })
-        (record { ledger = G.ledger result.1.agency; faults = G.faults result.1.agency })
+        (store_kind D.Disk C.Clock) asks.now (agency_kind G.Agency) (agency_desk G.Agency agency)
+        (agency_desk G.Agency result.1.agency)
         (parts_of store) result.1.disk result.1.clock (this_sink K.taken K.faults sink.old sink.new) result.0 }
 {
     match serve(rt, alloc, store, asks, tills, agency, sleeper, gate) {

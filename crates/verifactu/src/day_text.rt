@@ -2,7 +2,7 @@
 ghost use Rattle.std.specs.Prelude.{◌≡◌, ◌++◌, ◌∷◌, ℕ, List, map, flat_map, IfOk, OnOk, IsTrue};
 ghost use Rattle.std.specs.List.{list_any};
 ghost use Rattle.ports.specs.Sinks.{OutputIs, Sinks};
-ghost use Rattle.shop_core.specs.Asked.{Asked};
+ghost use Rattle.shop_core.specs.Requests.{Asked};
 ghost use Rattle.verifactu.specs.Day as spec;
 ghost use Rattle.verifactu.specs.Beside as beside;
 ghost use Rattle.verifactu.specs.Beside.{DayRunEnds};
@@ -13,7 +13,7 @@ ghost use Rattle.verifactu.specs.Works.{told_in};
 
 use crate::drain::fault_end;
 use crate::ending::{lacks_disk, lacks_memory};
-use crate::printed::Told;
+use crate::printed::RunText;
 use crate::tills::TillDay;
 use journal::StoreFault;
 use ports::{Failed, NoMemory};
@@ -81,14 +81,14 @@ pub fn told_of_day(
     asks: &[Ask],
     days: &[TillDay],
     state: &State,
-) -> Result<Told, NoMemory>
+) -> Result<RunText, NoMemory>
     ensures { IfOk result (λ told.
         told.answers ++ told.listing ≡ spec.day_text asks.now (map told_in days.now) state.now.entries) }
 {
     let lines = day_lines(alloc, asks, days)?;
     let answers = answers_text(alloc, &lines)?;
     let listing = listing_text(alloc, state)?;
-    Ok(Told { answers, listing })
+    Ok(RunText { answers, listing })
 }
 
 fn one_lacks_memory(days: &[TillDay]) -> bool

@@ -3,17 +3,16 @@
 ghost use Rattle.std.specs.Prelude.{◌≡◌, ℕ, List, [], IsTrue, IfOk, OnOk, OnErr, None, Err};
 ghost use Rattle.ports.specs.Sinks.{OutputIs, Sinks, this_sink};
 ghost use Rattle.ports.specs.Sources.{this_source};
-ghost use Rattle.chain_disk.specs.Disks.{this_disk};
 ghost use Rattle.chain_store.specs.Store.{Ready, clock_of, journal_of, state_of};
 ghost use Rattle.journal.specs.Journal.{disk_of, stopped_of};
 ghost use Rattle.till_calls.specs.Root.{parts_of};
 ghost use Rattle.till_calls.specs.Sound.{IsLater};
-ghost use Rattle.report.specs.Statuses.{status_of};
+ghost use Rattle.report.specs.Ended.{status_of};
 ghost use Rattle.verifactu.specs.Crashes.{StandsBetween};
-ghost use Rattle.verifactu.specs.Devices.{agency_kind, this_agency, this_call, this_clock, this_sleeper};
+ghost use Rattle.verifactu.specs.Devices.{agency_desk, agency_in, agency_kind, clock_in, disk_in, sleeper_in, this_call};
 ghost use Rattle.verifactu.specs.Drain.{DrainEnds, FileDrainEnds, ScriptDrainEnds};
-ghost use Rattle.verifactu.specs.Drained as spec;
-ghost use Rattle.verifactu.specs.Drained.{DrainRunEnds, IsOpened, StoreDrainEnds, StoreDrains, drain_text, spanning};
+ghost use Rattle.verifactu.specs.Draining as spec;
+ghost use Rattle.verifactu.specs.Draining.{DrainRunEnds, StoreDrainEnds, StoreDrains, disk_span, drain_text, spanning};
 ghost use Rattle.verifactu.specs.Outcomes.{outcome_of};
 
 use crate::draining::{DrainEnd, drain_shop};
@@ -28,7 +27,7 @@ use chain_store::Store;
 use file_commands::{ended_as, write_texts};
 use journal::StoreFault;
 use parties::Nif;
-use ports::{Clock, CountingClock, Failed, LeapSleeper, NoMemory, Sink, Sleeper, Source};
+use ports::{Clock, Failed, NoMemory, Sink, Sleeper, Source};
 use record_fields::{Line, Sealed};
 use recovery::open_store;
 use report::{Detail, Ended, turns_text};
@@ -50,17 +49,9 @@ fn send<D: Disk, C: Clock, G: Agency, Z: Sleeper, R: Wait>(
     requires going_on { stopped_of (journal_of store) ≡ None }
     requires ready { Ready D.tells D.told store }
     ensures drains { StoreDrains (StandsBetween (state_of store).issuer) G.begun plan.now (state_of store).issuer
-        (record {
-          tells = D.tells;
-          since = D.told (disk_of (journal_of store));
-          now = D.told (disk_of (journal_of result.store));
-          faults = D.faults (disk_of (journal_of store));
-          faults_after = D.faults (disk_of (journal_of result.store));
-        })
-        (spanning (state_of store).entries (record { tells = G.tells; keeps_rules = G.keeps_rules })
-        (record { ledger = G.ledger agency.old; faults = G.faults agency.old })
-        (record { ledger = G.ledger agency.new; faults = G.faults agency.new })
-        Z.tells (Z.moment sleeper.old) (outcome_of result)) }
+        (disk_span D.Disk (disk_of (journal_of store)) (disk_of (journal_of result.store)))
+        (spanning (state_of store).entries (agency_kind G.Agency) (agency_desk G.Agency agency.old)
+        (agency_desk G.Agency agency.new) Z.tells (Z.moment sleeper.old) (outcome_of result)) }
     ensures clock { IsLater C.coming (clock_of store) (clock_of result.store) }
 {
     legal_is_chained();
@@ -149,17 +140,8 @@ fn drain_opened<K: Sink, D: Disk, C: Clock, G: Agency, Z: Sleeper, R: Wait>(
     requires going_on { stopped_of (journal_of store) ≡ None }
     requires ready { Ready D.tells D.told store }
     ensures ends { StoreDrainEnds G.begun plan.now (state_of store).issuer (state_of store).entries
-        (record {
-          tells = D.tells;
-          since = D.told (disk_of (journal_of store));
-          now = D.told result.1;
-          faults = D.faults (disk_of (journal_of store));
-          faults_after = D.faults result.1;
-        })
-        (record { tells = G.tells; keeps_rules = G.keeps_rules })
-        (record { ledger = G.ledger agency.old; faults = G.faults agency.old })
-        (record { ledger = G.ledger agency.new; faults = G.faults agency.new })
-        Z.tells (Z.moment sleeper.old) (this_sink K.taken K.faults sink.old sink.new) result.0 }
+        (disk_span D.Disk (disk_of (journal_of store)) result.1) (agency_kind G.Agency) (agency_desk G.Agency agency.old)
+        (agency_desk G.Agency agency.new) Z.tells (Z.moment sleeper.old) (this_sink K.taken K.faults sink.old sink.new) result.0 }
     ensures clock { IsLater C.coming (clock_of store) result.2 }
 {
     let end = send(rt, alloc, plan, store, agency, sleeper);
@@ -186,10 +168,8 @@ where
     G: Agency,
     R: Wait,
     ensures { FileDrainEnds issuer.now plan.now (this_sink K.taken K.faults sink.old sink.new)
-        (this_disk D.tells D.told D.faults outside.disk result.1.disk)
-        (this_clock C.coming outside.clock result.1.clock)
-        (this_sleeper Z.tells Z.moment outside.sleeper result.1.sleeper)
-        (this_agency (agency_kind G.tells G.keeps_rules G.ledger G.faults G.begun) outside.agency result.1.agency) result.0 }
+        (disk_in D.Disk outside result.1) (clock_in C.Clock outside result.1) (sleeper_in Z.Sleeper outside result.1)
+        (agency_in G.Agency outside result.1) result.0 }
 {
     let Outside {
         disk,
@@ -247,43 +227,15 @@ where
     G: Agency,
     R: Wait,
     ensures { ScriptDrainEnds issuer.now script.now (this_sink K.taken K.faults sink.old sink.new)
-        (this_disk D.tells D.told D.faults outside.disk result.1.disk)
-        (this_clock C.coming outside.clock result.1.clock)
-        (this_sleeper Z.tells Z.moment outside.sleeper result.1.sleeper)
-        (this_agency (agency_kind G.tells G.keeps_rules G.ledger G.faults G.begun) outside.agency result.1.agency) result.0 }
+        (disk_in D.Disk outside result.1) (clock_in C.Clock outside result.1) (sleeper_in Z.Sleeper outside result.1)
+        (agency_in G.Agency outside result.1) result.0 }
 {
     let Some((start, step)) = script.clock else {
         return drain_file(rt, alloc, issuer, &script.plan, sink, outside);
     };
-    let Outside {
-        disk,
-        clock,
-        sleeper,
-        agency,
-    } = outside;
-    let own = Outside {
-        disk,
-        clock: CountingClock::new(start, step),
-        sleeper: LeapSleeper::new(start),
-        agency,
-    };
-    let (detail, Outside { disk, agency, .. }) = drain_file(
-        rt,
-        alloc,
-        issuer,
-        &script.plan,
-        sink,
-        own,
-    );
-    (
-        detail,
-        Outside {
-            disk,
-            clock,
-            sleeper,
-            agency,
-        },
-    )
+    let (own, clock, sleeper) = outside.with_own_time(start, step);
+    let (detail, own) = drain_file(rt, alloc, issuer, &script.plan, sink, own);
+    (detail, own.with_time(clock, sleeper))
 }
 
 /// Reads a script without commands from the source, opens the disk for this issuer, opens the agency's session once with the
@@ -306,46 +258,14 @@ where
     G: Agency,
     R: Wait,
     ensures status { result.0.status ≡ status_of result.0.detail }
-    ensures ends { DrainEnds issuer.now (this_call
-        (this_source S.left S.faults source.old source.new)
-        (this_sink K.taken K.faults sink.old sink.new)
-        (this_disk D.tells D.told D.faults outside.disk result.1.disk)
-        (this_clock C.coming outside.clock result.1.clock)
-        (this_sleeper Z.tells Z.moment outside.sleeper result.1.sleeper)
-        (this_agency (agency_kind G.tells G.keeps_rules G.ledger G.faults G.begun)
-        outside.agency result.1.agency)) result.0.detail }
-{
-    let (detail, outside) = drain(rt, alloc, issuer, source, sink, outside);
-    (ended_as(detail), outside)
-}
-
-fn drain<S, K, D, C, Z, G, R>(
-    rt: &R,
-    alloc: Global,
-    issuer: &Nif,
-    source: &mut S,
-    sink: &mut K,
-    outside: Outside<D, C, Z, G>,
-) -> (Detail, Outside<D, C, Z, G>)
-where
-    S: Source,
-    K: Sink,
-    D: Disk,
-    C: Clock,
-    Z: Sleeper,
-    G: Agency,
-    R: Wait,
-    ensures { DrainEnds issuer.now (this_call
-        (this_source S.left S.faults source.old source.new)
-        (this_sink K.taken K.faults sink.old sink.new)
-        (this_disk D.tells D.told D.faults outside.disk result.1.disk)
-        (this_clock C.coming outside.clock result.1.clock)
-        (this_sleeper Z.tells Z.moment outside.sleeper result.1.sleeper)
-        (this_agency (agency_kind G.tells G.keeps_rules G.ledger G.faults G.begun)
-        outside.agency result.1.agency)) result.0 }
+    ensures ends { DrainEnds issuer.now (this_call (this_source S.left S.faults source.old source.new)
+        (this_sink K.taken K.faults sink.old sink.new) D.Disk C.Clock Z.Sleeper G.Agency outside result.1) result.0.detail }
 {
     match read_source(alloc, source, Form::NoCommands) {
-        Err(fault) => (fault.detail(), outside),
-        Ok(script) => drain_script(rt, alloc, issuer, &script, sink, outside),
+        Err(fault) => (ended_as(fault.detail()), outside),
+        Ok(script) => {
+            let (detail, outside) = drain_script(rt, alloc, issuer, &script, sink, outside);
+            (ended_as(detail), outside)
+        }
     }
 }

@@ -1,14 +1,14 @@
 // Sends a store's waiting records until none is left.
-ghost use Rattle.std.specs.Prelude.{◌≡◌, ◌<◌, ◌++◌, ◌∷◌, [], ℕ, map, All, IsSome, None, Err};
-ghost use Rattle.chain_lock.specs.Known.{IsNew, holders};
+ghost use Rattle.std.specs.Prelude.{◌≡◌, [], IsSome, None, Err};
 ghost use Rattle.chain_store.specs.Store.{Ready, journal_of};
 ghost use Rattle.journal.specs.Journal.{stopped_of};
-ghost use Rattle.shop_core.specs.Legal.{Legal};
-ghost use Rattle.shop_core.specs.declared.items.Item.TheVariants as item;
 ghost use Rattle.till_calls.specs.Root.{parts_of, root_of};
-ghost use Rattle.till_calls.specs.Shop.{first_items, places, seat_knows, seat_shop, shop_id, shop_root, tills_know, tills_shop};
+ghost use Rattle.till_calls.specs.Shop.{shop_root};
 ghost use Rattle.till_calls.specs.Sound.{IsSound};
-ghost use Rattle.verifactu.specs.Drained.{IsDiskAnswer, Sends, torn_in};
+ghost use Rattle.verifactu.specs.Devices.{agency_desk, agency_kind};
+ghost use Rattle.verifactu.specs.Draining.{IsDiskAnswer, Sends, spanning};
+ghost use Rattle.verifactu.specs.Outcomes.{outcome_of};
+ghost use Rattle.verifactu.specs.Started.{IsStarted};
 
 use agency_port::{Agency, Turns};
 use chain_disk::Disk;
@@ -36,27 +36,11 @@ fn drain_started<D: Disk, C: Clock, G: Agency, Z: Sleeper, R: Wait>(
     agency: &mut G,
     sleeper: &mut Z,
 ) -> DrainEnd<D, C>
-    requires own { (tills_shop started.tills ≡ shop_id started.shop) × (seat_shop started.seat ≡ shop_id started.shop) }
-    requires new { All (IsNew (first_items started.shop) (shop_root started.shop))
-        (tills_know started.tills ++ seat_knows started.seat ∷ []) }
-    requires whole { (n : ℕ) → n < places started.shop →
-        holders n (tills_know started.tills ++ seat_knows started.seat ∷ []) ≡ 1 }
-    requires legal { Legal (shop_root started.shop).issuer (shop_root started.shop).history }
-    requires base { first_items started.shop ≡ map item.Entry (shop_root started.shop).history }
+    requires { IsStarted started }
     ensures sound { IsSound D.tells D.told D.faults C.coming (shop_root started.shop) (parts_of result.store) }
     ensures stopped { IsDiskAnswer result.answer → IsSome (parts_of result.store).stopped }
-    ensures sends { Sends (record {
-      start = (shop_root started.shop).history;
-      end = (parts_of result.store).state.entries;
-      torn = torn_in (parts_of result.store).stopped (parts_of result.store).torn;
-      kind = record { tells = G.tells; keeps_rules = G.keeps_rules };
-      old = record { ledger = G.ledger agency.old; faults = G.faults agency.old };
-      new = record { ledger = G.ledger agency.new; faults = G.faults agency.new };
-      exact = Z.tells;
-      moment = Z.moment sleeper.old;
-      turns = result.turns;
-      answer = result.answer;
-    }) }
+    ensures sends { Sends (spanning (shop_root started.shop).history (agency_kind G.Agency) (agency_desk G.Agency agency.old)
+        (agency_desk G.Agency agency.new) Z.tells (Z.moment sleeper.old) (outcome_of result)) }
 {
     agreement_is_kept();
     a_session_begins();
@@ -91,18 +75,8 @@ pub fn drain_shop<D: Disk, C: Clock, G: Agency, Z: Sleeper, R: Wait>(
     ensures stopped { IsDiskAnswer result.answer → IsSome (parts_of result.store).stopped }
 
     // What the turns said and noted, and what the agency then agrees with.
-    ensures sends { Sends (record {
-      start = (parts_of store).state.entries;
-      end = (parts_of result.store).state.entries;
-      torn = torn_in (parts_of result.store).stopped (parts_of result.store).torn;
-      kind = record { tells = G.tells; keeps_rules = G.keeps_rules };
-      old = record { ledger = G.ledger agency.old; faults = G.faults agency.old };
-      new = record { ledger = G.ledger agency.new; faults = G.faults agency.new };
-      exact = Z.tells;
-      moment = Z.moment sleeper.old;
-      turns = result.turns;
-      answer = result.answer;
-    }) }
+    ensures sends { Sends (spanning (parts_of store).state.entries (agency_kind G.Agency) (agency_desk G.Agency agency.old)
+        (agency_desk G.Agency agency.new) Z.tells (Z.moment sleeper.old) (outcome_of result)) }
 {
     store.state().is_legal();
     match Shop::start(alloc, store, &[]) {

@@ -11,7 +11,7 @@ use std::alloc::Global;
 
 /// The text of a run, in two parts.
 #[derive(Drop)]
-pub struct Told {
+pub struct RunText {
     pub answers: Text,
     pub listing: Text,
 }
@@ -22,13 +22,13 @@ pub fn told_of(
     asks: &[Ask],
     replies: &[Result<Reply, StoreFault>],
     state: &State,
-) -> Result<Told, NoMemory>
+) -> Result<RunText, NoMemory>
     ensures { IfOk result (λ told. told.answers ++ told.listing ≡ spec.printed asks.now replies.now state.now.entries) }
 {
     let lines = answers_of(alloc, asks, replies)?;
     let answers = answers_text(alloc, &lines)?;
     let listing = listing_text(alloc, state)?;
-    Ok(Told { answers, listing })
+    Ok(RunText { answers, listing })
 }
 
 fn answered(ask: &Ask, reply: &Result<Reply, StoreFault>) -> AnswerLine

@@ -2,9 +2,8 @@
 ghost use Rattle.std.specs.Prelude.{◌≡◌, map, string_bytes};
 ghost use Rattle.ports.specs.Sinks.{this_sink};
 ghost use Rattle.ports.specs.Sources.{this_source};
-ghost use Rattle.chain_disk.specs.Disks.{this_disk};
-ghost use Rattle.verifactu.specs.Devices.{agency_kind, this_agency, this_call, this_clock, this_sleeper};
-ghost use Rattle.report.specs.Statuses.{status_of};
+ghost use Rattle.verifactu.specs.Devices.{this_call};
+ghost use Rattle.report.specs.Ended.{status_of};
 ghost use Rattle.report.specs.declared.ended.Detail.TheVariants as detail;
 ghost use Rattle.file_commands.specs.Output.{PrintEnds};
 ghost use Rattle.verifactu.specs.Running.{CommandEnds, EndsAs};
@@ -49,14 +48,8 @@ where
     G: Agency + Send + Drop,
     T: Gate + Sync,
     R: Threads + Wait + Sync,
-    ensures { EndsAs (map string_bytes words.now) (this_call
-        (this_source S.left S.faults source.old source.new)
-        (this_sink K.taken K.faults sink.old sink.new)
-        (this_disk D.tells D.told D.faults outside.disk result.1.disk)
-        (this_clock C.coming outside.clock result.1.clock)
-        (this_sleeper Z.tells Z.moment outside.sleeper result.1.sleeper)
-        (this_agency (agency_kind G.tells G.keeps_rules G.ledger G.faults G.begun)
-        outside.agency result.1.agency)) result.0 }
+    ensures { EndsAs (map string_bytes words.now) (this_call (this_source S.left S.faults source.old source.new)
+        (this_sink K.taken K.faults sink.old sink.new) D.Disk C.Clock Z.Sleeper G.Agency outside result.1) result.0 }
 {
     match command_of(words) {
         None => (ended_as(Detail::Usage), outside),
@@ -84,14 +77,8 @@ where
     R: Threads + Wait + Sync,
     requires { IsWithin command }
     ensures status { result.0.status ≡ status_of result.0.detail }
-    ensures ends { CommandEnds command (this_call
-        (this_source S.left S.faults source.old source.new)
-        (this_sink K.taken K.faults sink.old sink.new)
-        (this_disk D.tells D.told D.faults outside.disk result.1.disk)
-        (this_clock C.coming outside.clock result.1.clock)
-        (this_sleeper Z.tells Z.moment outside.sleeper result.1.sleeper)
-        (this_agency (agency_kind G.tells G.keeps_rules G.ledger G.faults G.begun)
-        outside.agency result.1.agency)) result.0.detail }
+    ensures ends { CommandEnds command (this_call (this_source S.left S.faults source.old source.new)
+        (this_sink K.taken K.faults sink.old sink.new) D.Disk C.Clock Z.Sleeper G.Agency outside result.1) result.0.detail }
 {
     match command {
         Command::Chain(issuer) => {

@@ -6,6 +6,7 @@ ghost use Rattle.sender.specs.Sending.{Sending, fresh};
 ghost use Rattle.sender.specs.Turning.{Desk};
 ghost use Rattle.till_calls.specs.Mark.{mark_by, sight_by};
 ghost use Rattle.till_calls.specs.Shop.{seat_knows, seat_shop, shop_id};
+ghost use Rattle.verifactu.specs.Devices.{agency_desk, agency_kind};
 ghost use Rattle.verifactu.specs.Beside.{SendsOn, sending_end};
 
 use agency_port::{Agency, Turns};
@@ -88,9 +89,8 @@ fn one_turn<R: Wait, T: Gate, O: Outbox, G: Agency, Z: Sleeper>(
     stop: &AtomicBool,
 ) -> Result<(), DrainFault>
     ensures fixed { O.fixed outbox.new ≡ O.fixed outbox.old }
-    ensures sends { SendsOn (record { tells = G.tells; keeps_rules = G.keeps_rules }) (O.sight outbox.old) (O.sight outbox.new)
-        (record { ledger = G.ledger agency.old; faults = G.faults agency.old })
-        (record { ledger = G.ledger agency.new; faults = G.faults agency.new }) sender.old sender.new result }
+    ensures sends { SendsOn (agency_kind G.Agency) (O.sight outbox.old) (O.sight outbox.new)
+        (agency_desk G.Agency agency.old) (agency_desk G.Agency agency.new) sender.old sender.new result }
 {
     let now = sleeper.now();
     let answer = sender.turn(rt, alloc, outbox, agency, now);
@@ -110,9 +110,8 @@ pub fn send_until<R: Wait, T: Gate, O: Outbox, G: Agency, Z: Sleeper>(
     stop: &AtomicBool,
 ) -> Result<(), DrainFault>
     ensures fixed { O.fixed outbox.new ≡ O.fixed outbox.old }
-    ensures sends { SendsOn (record { tells = G.tells; keeps_rules = G.keeps_rules }) (O.sight outbox.old) (O.sight outbox.new)
-        (record { ledger = G.ledger agency.old; faults = G.faults agency.old })
-        (record { ledger = G.ledger agency.new; faults = G.faults agency.new }) sender.old sender.new result }
+    ensures sends { SendsOn (agency_kind G.Agency) (O.sight outbox.old) (O.sight outbox.new)
+        (agency_desk G.Agency agency.old) (agency_desk G.Agency agency.new) sender.old sender.new result }
 {
     for _ in rt.forever() {
         if stop.load(Ordering::SeqCst) {
@@ -138,9 +137,8 @@ pub(crate) fn send_part<D: Disk, C: Clock, G: Agency + Drop, Z: Sleeper + Drop, 
 ) -> Sent<D, C, G, Z>
     requires own { seat_shop seat ≡ shop_id shop.now }
     ensures mark { mark_by (seat_shop result.seat) (seat_knows result.seat) ≡ mark_by (seat_shop seat) (seat_knows seat) }
-    ensures sends { SendsOn (record { tells = G.tells; keeps_rules = G.keeps_rules }) (sight_by (seat_knows seat))
-        (sight_by (seat_knows result.seat)) (record { ledger = G.ledger agency; faults = G.faults agency })
-        (record { ledger = G.ledger result.agency; faults = G.faults result.agency }) fresh result.sender result.answer }
+    ensures sends { SendsOn (agency_kind G.Agency) (sight_by (seat_knows seat)) (sight_by (seat_knows result.seat))
+        (agency_desk G.Agency agency) (agency_desk G.Agency result.agency) fresh result.sender result.answer }
 {
     let mut outbox = shop.seat_box(seat);
     let mut sender = Sender::new();
@@ -174,10 +172,10 @@ pub(crate) fn drain_rest<D: Disk, C: Clock, G: Agency + Drop, Z: Sleeper + Drop,
     ensures mark { mark_by (seat_shop result.seat) (seat_knows result.seat)
         ≡ mark_by (seat_shop sent.seat) (seat_knows sent.seat) }
     ensures sends { (before : Sight) (old : Desk) (sending : Sending) →
-        SendsOn (record { tells = G.tells; keeps_rules = G.keeps_rules }) before (sight_by (seat_knows sent.seat)) old
-        (record { ledger = G.ledger sent.agency; faults = G.faults sent.agency }) sending sent.sender sent.answer →
-        SendsOn (record { tells = G.tells; keeps_rules = G.keeps_rules }) before (sight_by (seat_knows result.seat)) old
-        (record { ledger = G.ledger result.agency; faults = G.faults result.agency }) sending result.sender result.answer }
+        SendsOn (agency_kind G.Agency) before (sight_by (seat_knows sent.seat)) old (agency_desk G.Agency sent.agency) sending
+        sent.sender sent.answer →
+        SendsOn (agency_kind G.Agency) before (sight_by (seat_knows result.seat)) old (agency_desk G.Agency result.agency)
+        sending result.sender result.answer }
     ensures delivered { OnOk result.answer (length (noted (history_of (sight_by (seat_knows result.seat))))
         ≡ length (recs (history_of (sight_by (seat_knows result.seat))))) }
 {

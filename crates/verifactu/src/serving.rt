@@ -1,18 +1,14 @@
 // The day of a shop: its tills, and the sender beside them.
-ghost use Rattle.std.specs.Prelude.{◌≡◌, ◌≢◌, ◌≤◌, ◌<◌, ◌++◌, ◌∷◌, [], ℕ, length, map, All, AllPairs, IfOk, IfErr, None, vec_len};
-ghost use Rattle.std.specs.Prelude.{vec_capacity};
+ghost use Rattle.std.specs.Prelude.{◌≡◌, ◌≢◌, ◌≤◌, [], length, map, All, AllPairs, IfOk, IfErr, None, vec_capacity, vec_len};
 ghost use Rattle.std.specs.Int.{IsInRange};
-ghost use Rattle.chain_lock.specs.Known.{IsNew, holders};
 ghost use Rattle.chain_store.specs.Store.{Ready, journal_of};
 ghost use Rattle.journal.specs.Journal.{stopped_of};
 ghost use Rattle.record_codec.specs.declared.entries.TheConstants.{LAST_TILL};
-ghost use Rattle.shop_core.specs.Legal.{Legal};
-ghost use Rattle.shop_core.specs.declared.items.Item.TheVariants as item;
 ghost use Rattle.till_calls.specs.Root.{parts_of, root_of};
-ghost use Rattle.till_calls.specs.Shop.{first_items, made_tills, numbers, places, seat_knows, seat_shop, shop_id, shop_root};
-ghost use Rattle.till_calls.specs.Shop.{tills_know, tills_shop};
-ghost use Rattle.verifactu.specs.Beside.{SendsBeside};
-ghost use Rattle.verifactu.specs.Drained.{torn_in};
+ghost use Rattle.till_calls.specs.Shop.{made_tills, numbers, shop_root};
+ghost use Rattle.verifactu.specs.Beside.{SendsBeside, day_span};
+ghost use Rattle.verifactu.specs.Devices.{agency_desk, agency_kind};
+ghost use Rattle.verifactu.specs.Started.{IsStarted};
 ghost use Rattle.verifactu.specs.Tills.{DayRun};
 ghost use Rattle.verifactu.specs.Works.{HasRoom, told_in};
 
@@ -77,25 +73,12 @@ fn serve_started<
     requires distinct { AllPairs (λ a b. a.till ≢ b.till) days.items }
     requires room { All (HasRoom asks.now) days.items }
     requires jobs { (jobs.items ≡ []) × (vec_len days ≤ vec_capacity jobs) }
-    requires own { (tills_shop started.tills ≡ shop_id started.shop) × (seat_shop started.seat ≡ shop_id started.shop) }
-    requires new { All (IsNew (first_items started.shop) (shop_root started.shop))
-        (tills_know started.tills ++ seat_knows started.seat ∷ []) }
-    requires whole { (n : ℕ) → n < places started.shop →
-        holders n (tills_know started.tills ++ seat_knows started.seat ∷ []) ≡ 1 }
-    requires legal { Legal (shop_root started.shop).issuer (shop_root started.shop).history }
-    requires base { first_items started.shop ≡ map item.Entry (shop_root started.shop).history }
+    requires begun { IsStarted started }
     ensures day { DayRun D.tells D.told D.faults C.coming asks.now (shop_root started.shop) (parts_of result.store)
         (map told_in result.tills.items) result.answer }
     ensures same { map (λ t. t.till) result.tills.items ≡ map (λ t. t.till) days.items }
-    ensures sends { SendsBeside (record {
-      start = (shop_root started.shop).history;
-      end = (parts_of result.store).state.entries;
-      torn = torn_in (parts_of result.store).stopped (parts_of result.store).torn;
-      kind = record { tells = G.tells; keeps_rules = G.keeps_rules };
-      old = record { ledger = G.ledger agency; faults = G.faults agency };
-      new = record { ledger = G.ledger result.agency; faults = G.faults result.agency };
-      answer = result.answer;
-    }) }
+    ensures sends { SendsBeside (day_span (shop_root started.shop).history (agency_kind G.Agency) (agency_desk G.Agency agency)
+        (agency_desk G.Agency result.agency) (parts_of result.store) result.answer) }
 {
     agreement_is_kept();
     a_session_begins();
@@ -156,15 +139,8 @@ pub fn serve<
     ensures day { IfOk result (λ d. DayRun D.tells D.told D.faults C.coming asks.now
         (root_of D.told D.faults (parts_of store)) (parts_of d.store) (map told_in d.tills.items) d.answer) }
     ensures same { IfOk result (λ d. map (λ t. t.till) d.tills.items ≡ map (λ t. t.till) tills.items) }
-    ensures sends { IfOk result (λ d. SendsBeside (record {
-      start = (parts_of store).state.entries;
-      end = (parts_of d.store).state.entries;
-      torn = torn_in (parts_of d.store).stopped (parts_of d.store).torn;
-      kind = record { tells = G.tells; keeps_rules = G.keeps_rules };
-      old = record { ledger = G.ledger agency; faults = G.faults agency };
-      new = record { ledger = G.ledger d.agency; faults = G.faults d.agency };
-      answer = d.answer;
-    })) }
+    ensures sends { IfOk result (λ d. SendsBeside (day_span (parts_of store).state.entries (agency_kind G.Agency)
+        (agency_desk G.Agency agency) (agency_desk G.Agency d.agency) (parts_of d.store) d.answer)) }
     ensures refused { IfErr result (λ e. (parts_of e.store ≡ parts_of store) × (e.agency ≡ agency) × (e.sleeper ≡ sleeper)) }
 {
     store.state().is_legal();

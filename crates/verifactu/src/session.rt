@@ -1,7 +1,8 @@
 // The agency's session.
 ghost use Rattle.std.specs.Prelude.{◌≡◌, IsTrue, IfOk, OnOk, OnErr};
-ghost use Rattle.verifactu.specs.Drained as spec;
-ghost use Rattle.verifactu.specs.Drained.{IsOpened};
+ghost use Rattle.verifactu.specs.Devices.{agency_desk, agency_kind};
+ghost use Rattle.verifactu.specs.Draining as spec;
+ghost use Rattle.verifactu.specs.Draining.{OpensSession};
 
 use agency_port::Agency;
 use agency_rules::Plan;
@@ -35,10 +36,8 @@ pub fn begin<G: Agency>(
     state: &State,
     agency: &mut G,
 ) -> Result<(), NoMemory>
-    ensures ok { OnOk result (IsOpened (record { tells = G.tells; keeps_rules = G.keeps_rules }) G.begun plan.now
-        state.now.entries
-        (record { ledger = G.ledger agency.old; faults = G.faults agency.old })
-        (record { ledger = G.ledger agency.new; faults = G.faults agency.new })) }
+    ensures ok { OnOk result (OpensSession (agency_kind G.Agency) G.begun plan.now state.now.entries
+        (agency_desk G.Agency agency.old) (agency_desk G.Agency agency.new)) }
     ensures err { OnErr result ((IsTrue G.tells → G.ledger agency.new ≡ G.ledger agency.old)
         × (G.faults agency.new ≡ G.faults agency.old)) }
 {

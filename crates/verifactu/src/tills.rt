@@ -1,8 +1,8 @@
 // The tills of a day, each in a thread of its own.
 ghost use Rattle.std.specs.Prelude.{◌≡◌, ◌≤◌, ◌<◌, ◌+◌, ◌++◌, ◌∷◌, [], ℕ, List, length, map, reverse, All};
 ghost use Rattle.std.specs.Prelude.{IfOk, IfSome, vec_len, vec_capacity, slice_index_or};
-ghost use Rattle.shop_core.specs.Asked.{Asked};
-ghost use Rattle.till_calls.specs.Runs.{TillRun};
+ghost use Rattle.shop_core.specs.Requests.{Asked};
+ghost use Rattle.till_calls.specs.Client.{TillRun};
 ghost use Rattle.till_calls.specs.Shop.{made_tills, numbers, shop_id, till_knows, till_number, till_shop, tills_know, tills_shop};
 ghost use Rattle.verifactu.specs.Tills.{asks_of};
 ghost use Rattle.verifactu.specs.Works.{HasRoom, Works, day_of, job_knows};

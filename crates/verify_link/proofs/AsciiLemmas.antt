@@ -9,8 +9,8 @@ use Rattle.std.proofs.lemmas.Str.{IsAscii-append}
 use Rattle.std.proofs.lemmas.Str.Ascii.{IsAscii-nil, IsAscii-cons}
 use Rattle.verify_link.specs.declared.parts.Host.{Host}
 use Rattle.verify_link.specs.declared.parts.Host.TheVariants.{Real, Practice}
-use Rattle.verify_link.specs.Encoding.{is_plain, encoded}
-use Rattle.verify_link.specs.Link.{beginning, joined_link}
+use Rattle.verify_link.specs.Writing.{is_plain, encoded}
+use Rattle.verify_link.specs.Parts.{beginning, joined_link}
 use Rattle.verify_link.proofs.EncodingLemmas.{encoded-nil, encoded-plain, encoded-escaped}
 
 plain_low : (b : ℕ) → is_plain b ≡ true → b < 128

@@ -10,7 +10,7 @@ use Rattle.std.proofs.lemmas.List.{length-take-le}
 use Rattle.std.proofs.lemmas.Bool.{and_parts, cases_Bool, le-leb, eqb-true, eq-eqb}
 use Rattle.std.proofs.lemmas.Bool.Decides.{nat_tests}
 use Rattle.std.proofs.lemmas.List.{ext_get_or}
-use Rattle.verify_link.specs.Encoding.{is_plain, encoded, is_behind_percent, agrees_at, AgreeButInCase}
+use Rattle.verify_link.specs.Writing.{is_plain, encoded, is_behind_percent, agrees_at, AgreeButInCase}
 use Rattle.verify_link.proofs.EncodingLemmas.{encoded-nil, encoded-plain, encoded-escaped}
 
 -- the text with the two bytes after each `%` as capitals, and as many of its own first bytes as are still due

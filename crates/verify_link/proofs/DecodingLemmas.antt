@@ -8,7 +8,7 @@ use Rattle.std.proofs.lemmas.Bool.Decides.{nat_tests}
 use Rattle.std.proofs.lemmas.List.{get_or_past}
 use Rattle.percent_encoding.specs.Percent.{percent_decode}
 use Rattle.percent_encoding.proofs.PercentLemmas.{percent_decode-nil, percent_decode_not_percent, percent_decode_escape}
-use Rattle.verify_link.specs.Encoding.{is_plain, encoded, is_bad_escape}
+use Rattle.verify_link.specs.Writing.{is_plain, encoded, is_bad_escape}
 use Rattle.verify_link.proofs.EncodingLemmas.{encoded-nil, encoded-plain, encoded-escaped}
 use Rattle.verify_link.proofs.CapitalLemmas.{capitals, due_past, capitals-nil, capitals-cons, plain_percent}
 

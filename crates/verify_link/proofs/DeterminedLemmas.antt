@@ -6,8 +6,8 @@ use Rattle.verify_link.specs.declared.parts.Host.{Host}
 use Rattle.verify_link.specs.declared.parts.LinkParts.{LinkParts}
 use Rattle.verify_link.specs.declared.parts.LinkFault.{LinkFault}
 use Rattle.verify_link.specs.declared.parts.LinkFault.TheVariants.{Prefix, Field, Escape, NoMemory}
-use Rattle.verify_link.specs.Encoding.{encoded, AgreeButInCase, IsFirstBadEscape}
-use Rattle.verify_link.specs.Link.{beginning, link_text, IsLinkParts}
+use Rattle.verify_link.specs.Writing.{encoded, AgreeButInCase, IsFirstBadEscape}
+use Rattle.verify_link.specs.Parts.{beginning, link_text, IsLinkParts}
 use Rattle.verify_link.specs.Reading.{Begins, name_of, value_of, IsFieldValue, IsField, HasPlace, after_beginning, after_field}
 use Rattle.verify_link.specs.Reading.{IsWrongField, unnamed, no_value, HasBadEscape, IsFieldFault, IsFirstFault, IsLinkReading}
 use Rattle.verify_link.proofs.CapitalLemmas.{capitals_from}

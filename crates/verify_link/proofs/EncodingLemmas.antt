@@ -11,7 +11,7 @@ use Rattle.percent_encoding.specs.declared.ascii_set.AsciiSet.{AsciiSet}
 use Rattle.percent_encoding.specs.AsciiSet.{should_percent_encode}
 use Rattle.percent_encoding.specs.Percent.{percent_encode, percent_encode_byte}
 use Rattle.percent_encoding.proofs.PercentLemmas.{IsByte, percent_encode-nil, percent_encode_escaped, percent_encode_kept}
-use Rattle.verify_link.specs.Encoding.{is_plain, encoded}
+use Rattle.verify_link.specs.Writing.{is_plain, encoded}
 
 pub encoded-nil : encoded [] ≡ []
 unfolding encoded

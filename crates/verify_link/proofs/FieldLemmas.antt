@@ -7,7 +7,7 @@ use Rattle.std.proofs.lemmas.List.{drop-drop, length-take}
 use Rattle.std.proofs.lemmas.List.Prefix.{front_fits}
 use Rattle.std.proofs.lemmas.Bool.{cond_both}
 use Rattle.percent_encoding.specs.Percent.{percent_decode}
-use Rattle.verify_link.specs.Encoding.{encoded, AgreeButInCase, is_bad_escape, IsFirstBadEscape}
+use Rattle.verify_link.specs.Writing.{encoded, AgreeButInCase, is_bad_escape, IsFirstBadEscape}
 use Rattle.verify_link.specs.Reading.{Begins, name_of, is_ampersand, value_in, value_of, IsFieldValue, IsWrongField, HasBadEscape}
 use Rattle.verify_link.specs.Reading.{IsWholeField, IsFieldAt, unnamed, no_value}
 use Rattle.verify_link.proofs.BeginsLemmas.{begins_from, begins_not}

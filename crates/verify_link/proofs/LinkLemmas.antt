@@ -14,8 +14,8 @@ use Rattle.verify_link.specs.declared.parts.Host.TheVariants.{Real, Practice}
 use Rattle.verify_link.specs.declared.parts.LinkParts.{LinkParts}
 use Rattle.verify_link.specs.declared.parts.LinkFault.{LinkFault}
 use Rattle.verify_link.specs.declared.parts.LinkFault.TheVariants.{Prefix, Field, Escape, NoMemory}
-use Rattle.verify_link.specs.Encoding.{is_plain, encoded}
-use Rattle.verify_link.specs.Link.{beginning, link_text, IsLinkParts}
+use Rattle.verify_link.specs.Writing.{is_plain, encoded}
+use Rattle.verify_link.specs.Parts.{beginning, link_text, IsLinkParts}
 use Rattle.verify_link.specs.Reading.{Begins, name_of, value_in, value_of, is_ampersand, IsFieldValue, HasPlace, after_beginning}
 use Rattle.verify_link.specs.Reading.{after_field, IsWrongField, unnamed, no_value, IsLinkReading}
 use Rattle.verify_link.proofs.EncodingLemmas.{encoded-nil, encoded-plain, encoded-escaped}

@@ -13,8 +13,8 @@ use Rattle.verify_link.specs.declared.parts.Host.TheVariants.{Real, Practice}
 use Rattle.verify_link.specs.declared.parts.LinkParts.{LinkParts}
 use Rattle.verify_link.specs.declared.parts.LinkFault.{LinkFault}
 use Rattle.verify_link.specs.declared.parts.LinkFault.TheVariants.{Prefix, Field, Escape, NoMemory}
-use Rattle.verify_link.specs.Encoding.{encoded}
-use Rattle.verify_link.specs.Link.{beginning, joined_link, link_text}
+use Rattle.verify_link.specs.Writing.{encoded}
+use Rattle.verify_link.specs.Parts.{beginning, joined_link, link_text}
 use Rattle.verify_link.specs.Reading.{Begins, name_of, value_in, is_ampersand, IsFieldAt, HasPlace, after_field, IsFieldFault}
 use Rattle.verify_link.specs.Reading.{IsLinkReading}
 use Rattle.verify_link.proofs.CapitalLemmas.{capitals, capitals_from, due_after, due_after-encoded, capitals-nil, capitals-plain}

@@ -11,7 +11,7 @@ use Rattle.amounts.specs.Text.{whole_text, cents_text, amount_text}
 use Rattle.parties.proofs.NifLemmas.{nif_ascii}
 use Rattle.series.specs.Numbers.{is_num_serie}
 use Rattle.series.proofs.NumLemmas.{num_ascii}
-use Rattle.stamps.specs.Civil.{last_day, date_at}
+use Rattle.stamps.specs.Day.{last_day, date_at}
 use Rattle.stamps.specs.Text.{date_text_of}
 use Rattle.stamps.proofs.CivilLemmas.{date_at-bounds}
 use Rattle.verify_link.specs.Reading.{IsFieldValue}

@@ -1,3 +1,3 @@
-pub mod Encoding
-pub mod Link
+pub mod Writing
+pub mod Parts
 pub mod Reading

@@ -2,19 +2,19 @@
 use Rattle.std.specs.Prelude.{◌≡◌, ⊤, ℕ, zero, suc, ◌+◌, ◌<◌, ◌≤◌, List, ◌++◌, length, drop, codes, Bool, false, ◌==◌}
 use Rattle.std.specs.Prelude.{if◌then◌else◌, IsTrue, ℤ, Result, Ok, Err}
 use Rattle.std.specs.List.{before_first}
-use Rattle.amounts.specs.Amount.{IsCents}
+use Rattle.amounts.specs.Cents.{IsCents}
 use Rattle.amounts.specs.Text.{amount_text}
 use Rattle.parties.specs.Nif.{IsNif}
 use Rattle.percent_encoding.specs.Percent.{percent_decode}
 use Rattle.series.specs.Numbers.{is_num_serie}
-use Rattle.stamps.specs.Civil.{last_day}
+use Rattle.stamps.specs.Day.{last_day}
 use Rattle.stamps.specs.Text.{date_text_of}
 use Rattle.verify_link.specs.declared.parts.Host.{Host}
 use Rattle.verify_link.specs.declared.parts.LinkParts.{LinkParts}
 use Rattle.verify_link.specs.declared.parts.LinkFault.{LinkFault}
 use Rattle.verify_link.specs.declared.parts.LinkFault.TheVariants.{Prefix, Field, Escape, NoMemory}
-use Rattle.verify_link.specs.Encoding.{encoded, AgreeButInCase, is_bad_escape, IsFirstBadEscape}
-use Rattle.verify_link.specs.Link.{beginning, link_text, IsLinkParts}
+use Rattle.verify_link.specs.Writing.{encoded, AgreeButInCase, is_bad_escape, IsFirstBadEscape}
+use Rattle.verify_link.specs.Parts.{beginning, link_text, IsLinkParts}
 
 -- the front stands at the text's front
 abbrev pub Begins : List ℕ → List ℕ → Type 0

@@ -4,7 +4,7 @@ ghost use Rattle.std.specs.Prelude.{false, slice_index};
 ghost use Rattle.std.specs.String.{string_bytes};
 ghost use Rattle.std.specs.Char.{is_digit};
 ghost use Rattle.percent_encoding.specs.Percent.{percent_decode as decoded_bytes};
-ghost use Rattle.verify_link.specs.Encoding as spec;
+ghost use Rattle.verify_link.specs.Writing as spec;
 
 use percent_encoding::{AsciiSet, NON_ALPHANUMERIC, ascii_set, percent_decode, percent_encode};
 use ports::NoMemory;

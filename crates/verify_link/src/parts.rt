@@ -1,6 +1,6 @@
 // What a link says, and why a text is no link.
 ghost use Rattle.std.specs.Prelude.{◌≡◌};
-ghost use Rattle.verify_link.specs.Link as spec;
+ghost use Rattle.verify_link.specs.Parts as spec;
 ghost use Rattle.verify_link.specs.declared.parts.LinkFault.TheVariants as link_fault;
 
 use amounts::Cents;

@@ -1,11 +1,11 @@
 // A text read as a link.
 ghost use Rattle.std.specs.Prelude.{◌≡◌, ◌+◌, ◌<◌, ◌≤◌, ℕ, List, length, drop, IfOk, IfErr, MatchOption, MatchResult, position};
 ghost use Rattle.amounts.specs.Text.{amount_text};
-ghost use Rattle.amounts.specs.Amount.{IsCents};
-ghost use Rattle.stamps.specs.Civil.{last_day};
+ghost use Rattle.amounts.specs.Cents.{IsCents};
+ghost use Rattle.stamps.specs.Day.{last_day};
 ghost use Rattle.stamps.specs.Text.{date_text_of};
-ghost use Rattle.verify_link.specs.Encoding.{AgreeButInCase};
-ghost use Rattle.verify_link.specs.Link.{beginning, link_text, IsLinkParts};
+ghost use Rattle.verify_link.specs.Writing.{AgreeButInCase};
+ghost use Rattle.verify_link.specs.Parts.{beginning, link_text, IsLinkParts};
 ghost use Rattle.verify_link.specs.Reading as spec;
 ghost use Rattle.verify_link.specs.declared.parts.Host.{Host as AnyHost};
 ghost use Rattle.verify_link.specs.declared.parts.LinkParts.{LinkParts as AnyParts};

@@ -1,10 +1,10 @@
 // What the bytes of a field's value say.
 ghost use Rattle.std.specs.Prelude.{◌≡◌, ◌≢◌, ◌≤◌, ℕ, ℤ, IsTrue, IfSome, IfNone};
-ghost use Rattle.amounts.specs.Amount.{IsCents};
+ghost use Rattle.amounts.specs.Cents.{IsCents};
 ghost use Rattle.amounts.specs.Text.{amount_text};
 ghost use Rattle.parties.specs.Nif.{IsNif};
 ghost use Rattle.series.specs.Numbers.{is_num_serie};
-ghost use Rattle.stamps.specs.Civil.{last_day};
+ghost use Rattle.stamps.specs.Day.{last_day};
 ghost use Rattle.stamps.specs.Text.{date_text_of};
 
 use amounts::{Cents, read_cents};

@@ -1,8 +1,8 @@
 // A link as a text.
 ghost use Rattle.std.specs.Prelude.{◌≡◌, ◌++◌, IfOk, OnOk, IsAscii};
 ghost use Rattle.std.specs.String.{string_bytes};
-ghost use Rattle.verify_link.specs.Encoding.{encoded};
-ghost use Rattle.verify_link.specs.Link.{joined_link, link_text, parts_of, IsLinkParts};
+ghost use Rattle.verify_link.specs.Writing.{encoded};
+ghost use Rattle.verify_link.specs.Parts.{joined_link, link_text, parts_of, IsLinkParts};
 
 use crate::Host;
 use crate::encoding::encode_onto;

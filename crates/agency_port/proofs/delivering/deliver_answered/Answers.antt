@@ -1,6 +1,7 @@
 use Rattle.std.proofs.Common.{◌∙◌, ap, ◌++◌, ◌∷◌, []}
 use Rattle.agency_port.specs.declared.answers.ReplyLine.{ReplyLine}
-use Rattle.agency_port.proofs.Deliveries.{delivered_more, answers_more, front_after}
+use Rattle.agency_rules.proofs.Deliveries.{delivered_more}
+use Rattle.agency_port.proofs.Deliveries.{answers_more, front_after}
 use Rattle.agency_port.proofs.delivering.deliver_answered.Goals as goal
 
 pub loop-i-preserved : goal.loop-i-preserved

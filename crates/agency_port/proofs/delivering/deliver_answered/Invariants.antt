@@ -1,5 +1,5 @@
 use Rattle.std.proofs.Common.{◌≡◌, take, length}
-use Rattle.agency_rules.specs.Delivery.{delivered}
+use Rattle.agency_rules.specs.Pairs.{delivered}
 use Rattle.agency_port.specs.Answers.{answers}
 use Rattle.agency_port.proofs.delivering.deliver_answered.Given as goal
 

@@ -1,5 +1,5 @@
 use Rattle.std.proofs.Common.{◌≡◌, take, length}
-use Rattle.agency_rules.specs.Delivery.{delivered_all}
+use Rattle.agency_rules.specs.Pairs.{delivered_all}
 use Rattle.agency_port.specs.Practice.{late_for}
 use Rattle.agency_port.proofs.delivering.deliver_late.Given as goal
 

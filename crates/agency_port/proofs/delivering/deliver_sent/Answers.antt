@@ -1,5 +1,5 @@
 use Rattle.std.proofs.Common.{◌+◌, ◌∙◌, ap, sym, option_to_list, take}
-use Rattle.agency_rules.specs.Delivery.{delivered_all}
+use Rattle.agency_rules.specs.Pairs.{delivered_all}
 use Rattle.agency_port.specs.declared.messages.Logged.{Logged}
 use Rattle.agency_port.specs.Messages.{batch_in}
 use Rattle.agency_port.specs.Practice.{sent_in}

@@ -1,5 +1,5 @@
 use Rattle.std.proofs.Common.{◌≡◌, ◌≤◌, take}
-use Rattle.agency_rules.specs.Judgement.{past_of}
+use Rattle.agency_rules.specs.Judging.{past_of}
 use Rattle.agency_rules.proofs.pairs.past_in.Given as goal
 
 abbrev pub invariant-loop-i : goal.invariant-loop-i

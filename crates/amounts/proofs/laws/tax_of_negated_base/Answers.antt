@@ -1,6 +1,6 @@
 use Rattle.std.proofs.Common.{◌≡◌, ℕ, zero, suc, ◌+◌, ◌*◌, ◌/◌, refl, sym, arith, ℤ, pos, negsuc, neg_ℤ}
 use Rattle.std.proofs.Math.IntN.{neg_ℤ-neg_ℤ}
-use Rattle.amounts.specs.Amount.{tax}
+use Rattle.amounts.specs.Cents.{tax}
 use Rattle.amounts.proofs.laws.tax_of_negated_base.Goals as goal
 
 negated : (base : ℤ) (rate : ℕ) → tax (neg_ℤ base) rate ≡ neg_ℤ (tax base rate)

@@ -1,5 +1,5 @@
 use Rattle.std.proofs.Common.{rules, subst}
-use Rattle.link_check.specs.Checked.Chain.{begun, not_begun}
+use Rattle.link_check.specs.Checking.Chain.{begun, not_begun}
 use Rattle.shop_core.specs.Reading.{IsRead}
 use Rattle.shop_core.specs.declared.reading.FileRead.{FileRead}
 use Rattle.file_commands.specs.Checking.AnswersFrom.{read, damaged, disk_fault, no_memory}

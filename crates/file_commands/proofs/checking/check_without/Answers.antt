@@ -1,6 +1,6 @@
 use Rattle.std.proofs.Common.{List, ℕ, subst}
-use Rattle.link_check.specs.Checked.{AreChecked}
-use Rattle.link_check.specs.Checked.Chain.{not_begun}
+use Rattle.link_check.specs.Checking.{AreChecked}
+use Rattle.link_check.specs.Checking.Chain.{not_begun}
 use Rattle.file_commands.specs.Checking.AnswersPrinted.{answered, no_memory}
 use Rattle.file_commands.proofs.Bytewise.{took_nothing}
 use Rattle.file_commands.proofs.checking.check_without.Goals as goal

@@ -5,7 +5,7 @@ pub returns : goal.returns
 returns c a b here there e =
     let by : TextsDetermine = record {
       day = c.text_determines_day.ensures;
-      moment = c.text_determines_moment.ensures;
+      moment = λ m k here there. c.text_determines_moment.ensures m k (here.seconds, here.offset) (there.seconds, there.offset);
       amount = c.text_determines_amount.ensures;
     } in
     same_record by a b here there e

@@ -1,6 +1,6 @@
-use Rattle.std.proofs.Common.{◌≡◌, ◌∙◌, ap}
+use Rattle.std.proofs.Common.{◌∙◌, ap}
 use Rattle.sha2.specs.Sha256.{sha256}
-use Rattle.huella.specs.FieldText.{previous_text}
+use Rattle.huella.specs.Texts.{previous_text}
 use Rattle.huella.proofs.Fed.{fed_cancel}
 use Rattle.huella.proofs.sealing.digest_of_cancel.Goals as goal
 

@@ -1,6 +1,5 @@
-use Rattle.std.proofs.Common.{◌≡◌, ◌∙◌, refl}
 use Rattle.std.specs.Prelude.{option_copied}
-use Rattle.huella.specs.FieldText.{previous_digits}
+use Rattle.huella.specs.Texts.{previous_digits}
 use Rattle.huella.proofs.Fed.{fed_joined}
 use Rattle.huella.proofs.texts.joined.Goals as goal
 

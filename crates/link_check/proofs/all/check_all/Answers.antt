@@ -1,8 +1,8 @@
 use Rattle.std.proofs.Common.{◌≡◌, ◌∙◌, ◌+◌, ◌/◌, ◌%◌, ◌<◌, min, List, ℕ, Result, Vec, Global, length, get_or, subst, sym, arith}
 use Rattle.std.proofs.Common.{IfOk, IsOk, All, flat_map}
 use Rattle.ports.specs.declared.faults.NoMemory.{NoMemory}
-use Rattle.link_check.specs.Checked.{AreChecked}
-use Rattle.link_check.specs.Checked.Chain.{begun}
+use Rattle.link_check.specs.Checking.{AreChecked}
+use Rattle.link_check.specs.Checking.Chain.{begun}
 use Rattle.link_check.specs.Pieces.{answers_in}
 use Rattle.link_check.specs.declared.checked.Checked.{Checked}
 use Rattle.link_check.proofs.Lines.{of_joined}

@@ -1,6 +1,6 @@
 use Rattle.std.proofs.Common.{List, ℕ, subst}
-use Rattle.link_check.specs.Checked.{IsChecked}
-use Rattle.link_check.specs.Checked.Chain.{not_begun}
+use Rattle.link_check.specs.Checking.{IsChecked}
+use Rattle.link_check.specs.Checking.Chain.{not_begun}
 use Rattle.link_check.proofs.Lines.{next_checked}
 use Rattle.link_check.proofs.all.check_unbegun.Goals as goal
 

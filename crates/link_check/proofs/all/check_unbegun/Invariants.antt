@@ -1,6 +1,6 @@
 use Rattle.std.proofs.Common.{take}
-use Rattle.link_check.specs.Checked.{AreChecked}
-use Rattle.link_check.specs.Checked.Chain.{not_begun}
+use Rattle.link_check.specs.Checking.{AreChecked}
+use Rattle.link_check.specs.Checking.Chain.{not_begun}
 use Rattle.link_check.proofs.all.check_unbegun.Given as goal
 
 abbrev pub invariant-loop-line : goal.invariant-loop-line

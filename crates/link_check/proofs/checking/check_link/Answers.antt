@@ -1,8 +1,8 @@
 use Rattle.std.proofs.Common.{◌≡◌, Some, subst, Result}
 use Rattle.verify_link.specs.declared.parts.LinkParts.{LinkParts}
-use Rattle.link_check.specs.Checked.{answer_to, IsChecked}
-use Rattle.link_check.specs.Checked.Chain.{begun}
-use Rattle.link_check.specs.Checked.IsChecked.{link}
+use Rattle.link_check.specs.Checking.{answer_to, IsChecked}
+use Rattle.link_check.specs.Checking.Chain.{begun}
+use Rattle.link_check.specs.Checking.IsChecked.{link}
 use Rattle.link_check.specs.Said.{IsSaid}
 use Rattle.link_check.specs.declared.checked.Checked.{Checked}
 use Rattle.link_check.proofs.Reading.{ok_then}

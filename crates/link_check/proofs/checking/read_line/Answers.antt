@@ -1,6 +1,6 @@
 use Rattle.std.proofs.Common.{List, ℕ, subst, Err}
 use Rattle.verify_link.specs.Reading.{IsLinkReading}
-use Rattle.link_check.specs.Checked.IsChecked.{no_text, no_link}
+use Rattle.link_check.specs.Checking.IsChecked.{no_text, no_link}
 use Rattle.link_check.proofs.checking.read_line.Goals as goal
 
 pub returns-in-Err : goal.returns-in-Err

@@ -1,5 +1,5 @@
 use Rattle.std.proofs.Common.{◌≡◌, List, ℕ, rules, sym, ◌∙◌, ap, subst}
-use Rattle.chain_disk.specs.Told.{Told, LeavesNow, LeavesOnly}
+use Rattle.chain_disk.specs.OnDisk.{OnDisk, LeavesNow, LeavesOnly}
 use Rattle.journal.specs.Journal.{disk_of}
 use Rattle.record_codec.specs.declared.entries.Entry.{Entry}
 use Rattle.shop_core.specs.History.{History}
@@ -26,7 +26,7 @@ returns-clause-every_crash g c tells =
     let same : c.of.result.state.entries ≡ c.args.state.entries = ap (λ (s : History). s.entries) parts.0 in
     let disk = ap (λ j. disk_of j) parts.1 ∙ c.at.ensures.parts.0 in
     let told = ap (λ d. g.D.Disk.told d) disk in
-    subst (λ (t : Told). LeavesNow t (StandsFor c.args.issuer.now c.of.result.state.entries)) (sym told)
+    subst (λ (t : OnDisk). LeavesNow t (StandsFor c.args.issuer.now c.of.result.state.entries)) (sym told)
     (subst (λ (es : List Entry). LeavesNow (g.D.Disk.told c.args.disk) (StandsFor c.args.issuer.now es)) (sym same)
     (subst (λ (n : List ℕ). LeavesNow (g.D.Disk.told c.args.disk) (StandsFor n c.args.state.entries)) own
     (stays c.args.state.issuer c.args.state.entries (g.D.Disk.told c.args.disk) h.0.0 h.1)))
@@ -40,7 +40,7 @@ returns-clause-any_moment g c tells =
     let same : c.of.result.state.entries ≡ c.args.state.entries = ap (λ (s : History). s.entries) parts.0 in
     let disk = ap (λ j. disk_of j) parts.1 ∙ c.at.ensures.parts.0 in
     let told = ap (λ d. g.D.Disk.told d) disk in
-    subst (λ (t : Told). LeavesOnly old t (IsFound c.args.issuer.now c.of.result.state.entries)) (sym told)
+    subst (λ (t : OnDisk). LeavesOnly old t (IsFound c.args.issuer.now c.of.result.state.entries)) (sym told)
     (subst (λ (es : List Entry). LeavesOnly old old (IsFound c.args.issuer.now es)) (sym same)
     (subst (λ (n : List ℕ). LeavesOnly old old (IsFound n c.args.state.entries)) own
     (holds_on c.args.state.issuer c.args.state.entries old h.0.0 h.1)))

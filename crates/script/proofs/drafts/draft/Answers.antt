@@ -1,5 +1,5 @@
 use Rattle.std.proofs.Common.{[], ◌∷◌, ◌++◌, refl}
-use Rattle.script.specs.Kept.{party_of}
+use Rattle.script.specs.SoFar.{party_of}
 use Rattle.script.proofs.Drafting.{next_field, bad_answer, all_read}
 use Rattle.script.proofs.drafts.draft.Goals as goal
 

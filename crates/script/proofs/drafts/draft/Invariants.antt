@@ -1,5 +1,5 @@
 use Rattle.std.proofs.Common.{List, ℕ, length}
-use Rattle.script.specs.Kept.{party_of}
+use Rattle.script.specs.SoFar.{party_of}
 use Rattle.script.specs.declared.options.Item.{Item}
 use Rattle.script.proofs.Drafting.{IsHalfway}
 use Rattle.script.proofs.drafts.draft.Given as goal

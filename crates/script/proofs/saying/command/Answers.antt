@@ -2,17 +2,17 @@ use Rattle.std.proofs.Common.{◌≡◌, Result, rules, Ok, Err}
 use Rattle.shop_core.specs.declared.requests.Request.{Request}
 use Rattle.shop_core.specs.declared.words.Word.{Word}
 use Rattle.script.specs.Fields.{and_then}
-use Rattle.script.specs.Kept.{party_of, known}
+use Rattle.script.specs.SoFar.{party_of, known}
 use Rattle.script.specs.Lines.{command_said, request_said}
-use Rattle.script.specs.declared.lines.Line.{Line}
-use Rattle.script.specs.declared.lines.Line.TheVariants.{Command}
+use Rattle.script.specs.declared.lines.Meaning.{Meaning}
+use Rattle.script.specs.declared.lines.Meaning.TheVariants.{Command}
 use Rattle.script.proofs.Reading.{passes_on, answers_along}
 use Rattle.script.proofs.saying.command.Goals as goal
 
 pub returns-in-Err : goal.returns-in-Err
 returns-in-Err c =
     let asked = request_said c.args.command (party_of c.args.read.now.customers) c.number-2.new.fields in
-    let made : Request → Result Line Word = λ request. Ok (Command (record {
+    let made : Request → Result Meaning Word = λ request. Ok (Command (record {
       till = c.in_ok-till.till;
       serial = c.in_ok-serial.serial;
       request = request;

@@ -1,5 +1,5 @@
 use Rattle.std.proofs.Common.{sym}
-use Rattle.script.specs.Kept.{known}
+use Rattle.script.specs.SoFar.{known}
 use Rattle.script.specs.Lines.{line_said}
 use Rattle.script.proofs.Reading.{answers_along, read_on, no_text}
 use Rattle.script.proofs.saying.line.Goals as goal

@@ -5,7 +5,7 @@ use Rattle.std.specs.Str.Lines.{strip_carriage_return}
 use Rattle.agency_rules.specs.declared.plans.Plan.{Plan}
 use Rattle.pacing.specs.declared.pace.TheConstants.{FIRST_WAIT}
 use Rattle.script.specs.Cuts.{lines_of}
-use Rattle.script.specs.Kept.{known}
+use Rattle.script.specs.SoFar.{known}
 use Rattle.script.specs.Lines.{Above, has_commands}
 use Rattle.script.specs.Script.{EachSays, plan_of}
 use Rattle.script.specs.declared.scripts.Script.{Script}

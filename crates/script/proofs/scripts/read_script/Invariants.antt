@@ -1,13 +1,13 @@
 use Rattle.std.proofs.Common.{◌≤◌, ◌+◌, ℕ, List, length}
 use Rattle.script.specs.Cuts.{lines_of}
-use Rattle.script.specs.declared.lines.Line.{Line}
+use Rattle.script.specs.declared.lines.Meaning.{Meaning}
 use Rattle.script.proofs.Reading.{IsPartway}
 use Rattle.script.proofs.scripts.read_script.Given as goal
 
 abbrev pub invariant-loop-text : goal.invariant-loop-text
 invariant-loop-text l = record {
   front : List (List ℕ);
-  meanings : List Line;
+  meanings : List Meaning;
   partway : IsPartway l.form (lines_of l.bytes) front l.lines meanings l.number l.read;
   size : l.number + length l.lines ≤ 4_294_967_295;
 }

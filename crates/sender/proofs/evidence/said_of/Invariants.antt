@@ -1,5 +1,5 @@
 use Rattle.std.proofs.Common.{◌≡◌, drop}
-use Rattle.sender.specs.Evident.{said_in}
+use Rattle.sender.specs.Evidence.{said_in}
 use Rattle.sender.proofs.evidence.said_of.Given as goal
 
 -- what is said of it stands among the Huellas that are left

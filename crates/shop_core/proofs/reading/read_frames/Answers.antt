@@ -1,5 +1,5 @@
 use Rattle.std.proofs.Common.{◌≡◌, arith, drop, subst, sym}
-use Rattle.chain_disk.specs.Told.{Told}
+use Rattle.chain_disk.specs.OnDisk.{OnDisk}
 use Rattle.frames.specs.Frames.{IsClosed}
 use Rattle.shop_core.specs.History.{History}
 use Rattle.shop_core.specs.Reading.{Grows, IsRead, IsSeen}
@@ -23,5 +23,5 @@ returns-in-Closed-clause-read g c tells =
     let sound = c.loop.invariant.sound tells in
     let whole =
     c.a_history_is_read_by_frames.ensures.ends s.issuer s.entries c.loop.at file sound
-    (subst (λ (t : Told). IsClosed (drop c.loop.at t.content)) c.loop.invariant.same shut) in
+    (subst (λ (t : OnDisk). IsClosed (drop c.loop.at t.content)) c.loop.invariant.same shut) in
     subst (λ (h : History). IsRead file (Sound h c.loop.at)) (sym same) (stands s c.loop.at whole sound.frames.place)

@@ -5,11 +5,11 @@ use Rattle.std.proofs.Common.{◌≡◌, [], ℕ, List, length, ap, sym, ◌∙�
 use Rattle.std.proofs.Crossing.{send as heap_send}
 use Rattle.shop_core.specs.declared.items.Item.{Item}
 use Rattle.till_calls.specs.Root.{Root, items_in, parts_of}
-use Rattle.till_calls.specs.Runs.{TillRun, asks_of}
+use Rattle.till_calls.specs.Client.{TillRun, asks_of}
 use Rattle.till_calls.specs.Shop.{first_items, made_tills, numbers, seat_knows, shop_root, till_knows, till_number, tills_know}
 use Rattle.till_calls.proofs.Sent.{shop_sync, till_send}
 use Rattle.uses.proofs.Sent.{replies_send, request_sync, served_send}
-use Rattle.uses.specs.Tills.{AreReplies, records_since}
+use Rattle.uses.specs.Threads.{AreReplies, records_since}
 use Rattle.uses.proofs.Tills.{TwoRuns, first_replies, no_stop_yet, none_else, room_left, run_numbers, second_replies, still_held}
 use Rattle.uses.proofs.Tills.{two_numbers}
 use Rattle.uses.proofs.threads.one_till_a_thread.Given.{Over}

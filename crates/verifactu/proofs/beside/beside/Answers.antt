@@ -45,5 +45,6 @@ join-sent-requires-send-F g c κs within =
           ),
         ),
       );
-      leaving = λ k. Quiet-if (k (of_param 1)) _ _ (λ x w. (tt, (tt, (tt, (tt, ((((tt, tt), tt), tt), (tt, (tt, tt)))))))) (λ x w. tt);
+      leaving = λ k. Quiet-if (k (of_param 1)) _ _ (λ x w. (tt, (tt, (tt, (tt, ((((tt, tt), tt), tt), (tt, (tt, tt)))))))) (λ x w.
+          tt);
     }

@@ -1,4 +1,4 @@
-use Rattle.std.proofs.Common.{rules, inl, inr, subst, refl}
+use Rattle.std.proofs.Common.{inl, inr, subst, refl}
 use Rattle.chain_disk.specs.Disks.{this_disk}
 use Rattle.chain_store.specs.Store.{state_of, journal_of, clock_of}
 use Rattle.file_commands.proofs.Bytewise.{took_nothing}
@@ -8,23 +8,16 @@ use Rattle.verifactu.specs.Chain.{ScriptEnds}
 use Rattle.verifactu.specs.Commands.{Stores}
 use Rattle.verifactu.specs.Devices.{this_clock}
 use Rattle.verifactu.specs.Readings.{IsAsked, readings}
-use Rattle.verifactu.proofs.RunEnding.{keeps_file, not_asked, store_ran}
+use Rattle.verifactu.proofs.RunEnding.{not_asked, not_opened, store_ran}
 use Rattle.verifactu.proofs.chain.run_asks.Goals as goal
 
 pub returns-in-Err : goal.returns-in-Err
 returns-in-Err g c =
     let fault = c.in-Err.fault in
     let h = c.in-Err.ensures in
-    inr (inl (record {
-      why = fault.cause;
-      ends = c.opening_end.ensures;
-      risen = h.disk_fault;
-      left_by = h.left;
-      every_crash = λ says. keeps_file c.args.issuer.now fault.cause (g.D.Disk.told c.args.disk) (g.D.Disk.told fault.disk)
-          (h.left says);
-      wrote = search rules;
-      rest = not_asked (this_clock g.C.Clock.coming c.args.clock fault.clock) h.clock_err;
-    }))
+    inr (inl (not_opened fault.cause c.opening_end.ensures h.disk_fault h.left
+    (took_nothing (g.K.Sink.taken c.args.sink.now))
+    (not_asked (this_clock g.C.Clock.coming c.args.clock fault.clock) h.clock_err)))
 
 pub returns-then-is_err : goal.returns-then-is_err
 returns-then-is_err g c = inl (record {

@@ -4,7 +4,7 @@ use Rattle.std.proofs.lemmas.List.{take_more, take_all}
 use Rattle.chain_store.specs.Store.{journal_of, state_of, clock_of}
 use Rattle.journal.specs.Journal.{disk_of, end_of, stopped_of}
 use Rattle.journal.specs.declared.faults.StoreFault.{StoreFault}
-use Rattle.shop_core.specs.Asked.{Asked}
+use Rattle.shop_core.specs.Requests.{Asked}
 use Rattle.shop_core.specs.History.{History}
 use Rattle.shop_core.specs.Legal.{Legal}
 use Rattle.shop_core.specs.declared.answers.Reply.{Reply}

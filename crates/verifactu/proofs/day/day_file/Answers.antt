@@ -1,14 +1,15 @@
-use Rattle.std.proofs.Common.{rules, ◌≡◌, inl, inr, map, refl, subst, All, List}
+use Rattle.std.proofs.Common.{◌≡◌, inl, inr, map, refl, subst, All, List}
 use Rattle.file_commands.proofs.Bytewise.{took_nothing}
 use Rattle.ports.specs.Sinks.{this_sink}
-use Rattle.shop_core.specs.Asked.{Asked}
+use Rattle.shop_core.specs.Requests.{Asked}
 use Rattle.till_calls.specs.Root.{parts_of}
-use Rattle.verifactu.specs.Devices.{Agencies, this_sleeper}
+use Rattle.verifactu.specs.Day.{store_kind}
+use Rattle.verifactu.specs.Devices.{agency_in, sleeper_in}
 use Rattle.verifactu.specs.Tills.{tills_of}
 use Rattle.verifactu.specs.Works.{HasRoom}
 use Rattle.verifactu.specs.declared.tills.TillDay.{TillDay}
 use Rattle.verifactu.proofs.DayEnding.{store_day}
-use Rattle.verifactu.proofs.RunEnding.{keeps_file}
+use Rattle.verifactu.proofs.RunEnding.{not_opened}
 use Rattle.verifactu.proofs.day.day_file.Goals as goal
 
 pub day_opened-requires-clause-tills : goal.day_opened-requires-clause-tills
@@ -31,36 +32,17 @@ pub returns-in-Err : goal.returns-in-Err
 returns-in-Err g c =
     let fault = c.in-Err.fault in
     let h = c.in-Err.ensures in
-    inr (inl (record {
-      why = fault.cause;
-      ends = c.opening_end.ensures;
-      risen = h.disk_fault;
-      left_by = h.left;
-      every_crash = λ says. keeps_file c.args.issuer.now fault.cause (g.D.Disk.told c.args.outside.disk)
-          (g.D.Disk.told fault.disk) (h.left says);
-      wrote = search rules;
-      rest = record { clock = h.clock_err; sleeper = refl; agency = refl };
-    }))
+    inr (inl (not_opened fault.cause c.opening_end.ensures h.disk_fault h.left
+    (took_nothing (g.K.Sink.taken c.args.sink.now)) (record { clock = h.clock_err; sleeper = refl; agency = refl })))
 
 pub returns-in-Ok-open_store : goal.returns-in-Ok-open_store
 returns-in-Ok-open_store g c =
     let opened = c.in-Ok-open_store.ensures in
     let out = c.args.outside in
     let then = c.day_opened.result.1 in
-    let a : Agencies g.row.G.Denot = record {
-      kind = record {
-        tells = g.G.Agency.tells;
-        keeps_rules = g.G.Agency.keeps_rules;
-        ledger = g.G.Agency.ledger;
-        faults = g.G.Agency.faults;
-        begun = g.G.Agency.begun;
-      };
-      agency = out.agency;
-      agency_after = then.agency;
-    } in
-    store_day (record { tells = g.D.Disk.tells; told = g.D.Disk.told; faults = g.D.Disk.faults; coming = g.C.Clock.coming })
+    store_day (store_kind g.D.Disk g.C.Clock)
     c.args.issuer.now c.args.script.now.asks c.args.script.now.plan out.disk then.disk out.clock then.clock
-    (this_sleeper g.Z.Sleeper.tells g.Z.Sleeper.moment out.sleeper then.sleeper) a (parts_of c.in-Ok-open_store.store)
+    (sleeper_in g.Z.Sleeper out then) (agency_in g.G.Agency out then) (parts_of c.in-Ok-open_store.store)
     (this_sink g.K.Sink.taken g.K.Sink.faults c.args.sink.now c.day_opened.new.sink) c.day_opened.result.0
     opened.issuer opened.clock opened.found opened.any_moment opened.every_crash opened.later
     c.what_a_disk_reads_is_an_image.ensures c.who_keeps_the_rules_tells.ensures c.day_opened.ensures

@@ -1,12 +1,13 @@
 use Rattle.std.proofs.Common.{◌≡◌, ◌∙◌, List, inl, inr, sym, ap, subst, map, All}
 use Rattle.file_commands.proofs.Bytewise.{took_nothing}
 use Rattle.ports.specs.Sinks.{this_sink}
-use Rattle.shop_core.specs.Asked.{Asked}
+use Rattle.shop_core.specs.Requests.{Asked}
 use Rattle.shop_core.specs.History.{History}
 use Rattle.sender.specs.Turning.{Desk, Kind}
 use Rattle.till_calls.specs.Root.{parts_of}
-use Rattle.verifactu.specs.Day.{StoreServed}
-use Rattle.verifactu.specs.Drained.{IsOpened}
+use Rattle.verifactu.specs.Devices.{agency_desk, agency_kind}
+use Rattle.verifactu.specs.Day.{StoreServed, store_kind}
+use Rattle.verifactu.specs.Draining.{OpensSession}
 use Rattle.verifactu.specs.Tills.{tills_of}
 use Rattle.verifactu.specs.Works.{HasRoom}
 use Rattle.verifactu.specs.declared.tills.TillDay.{TillDay}
@@ -40,25 +41,17 @@ returns-in-Err g c =
 
 pub returns-in-Ok : goal.returns-in-Ok
 returns-in-Ok g c =
-    let kind : Kind = record { tells = g.G.Agency.tells; keeps_rules = g.G.Agency.keeps_rules } in
-    let old : Desk = record { ledger = g.G.Agency.ledger c.args.agency; faults = g.G.Agency.faults c.args.agency } in
-    let opened : Desk = record { ledger = g.G.Agency.ledger c.begin.new.agency; faults = g.G.Agency.faults c.begin.new.agency } in
-    let new : Desk = record {
-      ledger = g.G.Agency.ledger c.serve_opened.result.1.agency;
-      faults = g.G.Agency.faults c.serve_opened.result.1.agency;
-    } in
+    let kind = agency_kind g.G.Agency in
+    let old = agency_desk g.G.Agency c.args.agency in
+    let opened = agency_desk g.G.Agency c.begin.new.agency in
+    let new = agency_desk g.G.Agency c.serve_opened.result.1.agency in
     let then = c.serve_opened.result.1 in
     inr (record {
       opened = opened;
-      opens = subst (λ (h : History). IsOpened kind g.G.Agency.begun c.args.script.now.plan h.entries old opened) c.state.ensures
-          c.in-Ok.ensures.ok;
-      served = subst (λ (xs : List Asked). StoreServed (then.sleeper ≡ c.args.sleeper) (record {
-        tells = g.D.Disk.tells;
-        told = g.D.Disk.told;
-        faults = g.D.Disk.faults;
-        coming = g.C.Clock.coming;
-      }) xs kind opened new (parts_of c.args.store)
-          then.disk then.clock
+      opens = subst (λ (h : History). OpensSession kind g.G.Agency.begun c.args.script.now.plan h.entries old opened)
+          c.state.ensures c.in-Ok.ensures.ok;
+      served = subst (λ (xs : List Asked). StoreServed (then.sleeper ≡ c.args.sleeper) (store_kind g.D.Disk g.C.Clock) xs kind
+          opened new (parts_of c.args.store) then.disk then.clock
           (this_sink g.K.Sink.taken g.K.Sink.faults c.args.sink.now c.serve_opened.new.sink) c.serve_opened.result.0)
           c.as_slice.ensures c.serve_opened.ensures;
     })

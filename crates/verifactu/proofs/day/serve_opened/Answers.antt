@@ -10,6 +10,7 @@ use Rattle.ports.specs.Sinks.{this_sink}
 use Rattle.chain_store.specs.Store.{state_of}
 use Rattle.shop_core.specs.History.{History, noted, recs}
 use Rattle.till_calls.specs.Root.{Parts, parts_of}
+use Rattle.verifactu.specs.Devices.{agency_desk}
 use Rattle.verifactu.specs.Day.{day_text}
 use Rattle.verifactu.specs.Beside.{DayRunEnds}
 use Rattle.verifactu.specs.Tills.{all_replies, has_asks, tills_of}
@@ -49,7 +50,7 @@ returns-in-Err g c =
         clock = e.clock ∙ ap (λ (p : Parts g.row.D.Denot g.row.C.Denot). p.clock) same.0;
         rest = e.rest.0 ∙ same.2;
       },
-      ap (λ (x : g.row.G.Denot). record { ledger = g.G.Agency.ledger x; faults = g.G.Agency.faults x }) (e.rest.1 ∙ same.1),
+      ap (λ (x : g.row.G.Denot). agency_desk g.G.Agency x) (e.rest.1 ∙ same.1),
     )
 
 pub returns-in-Ok : goal.returns-in-Ok

@@ -1,4 +1,4 @@
-use Rattle.verifactu.specs.Drained.DrainRunEnds.{done, write_fault}
+use Rattle.verifactu.specs.Draining.DrainRunEnds.{done, write_fault}
 use Rattle.verifactu.proofs.Finished.{answer_ends}
 use Rattle.verifactu.proofs.RunEnding.{written_part, written_whole}
 use Rattle.verifactu.proofs.drain.end_by.Goals as goal

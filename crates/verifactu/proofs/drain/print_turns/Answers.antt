@@ -1,5 +1,5 @@
 use Rattle.file_commands.proofs.Bytewise.{took_nothing}
-use Rattle.verifactu.specs.Drained.DrainRunEnds.{no_memory}
+use Rattle.verifactu.specs.Draining.DrainRunEnds.{no_memory}
 use Rattle.verifactu.proofs.drain.print_turns.Goals as goal
 
 pub returns-in-Err : goal.returns-in-Err

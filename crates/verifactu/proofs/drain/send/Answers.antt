@@ -7,7 +7,8 @@ use Rattle.shop_core.specs.History.{History}
 use Rattle.shop_core.specs.Legal.{Legal}
 use Rattle.till_calls.specs.Root.{Parts, parts_of, root_of}
 use Rattle.till_calls.specs.Sound.{IsSound}
-use Rattle.verifactu.specs.Drained.{IsDiskAnswer, IsOpened, Span, spanning}
+use Rattle.verifactu.specs.Devices.{agency_desk, agency_kind}
+use Rattle.verifactu.specs.Draining.{IsDiskAnswer, OpensSession, Span, spanning}
 use Rattle.verifactu.specs.Outcomes.{outcome_of}
 use Rattle.verifactu.proofs.Agreed.{none_torn}
 use Rattle.verifactu.proofs.Closing.{in_session, store_drains}
@@ -19,15 +20,12 @@ pub returns-in-Ok-clause-drains : goal.returns-in-Ok-clause-drains
 returns-in-Ok-clause-drains g c =
     let p0 = parts_of c.args.store in
     let p1 = parts_of c.drain_shop.result.store in
-    let kind : Kind = record { tells = g.G.Agency.tells; keeps_rules = g.G.Agency.keeps_rules } in
-    let old : Desk = record { ledger = g.G.Agency.ledger c.args.agency.now; faults = g.G.Agency.faults c.args.agency.now } in
-    let opened : Desk = record { ledger = g.G.Agency.ledger c.begin.new.agency; faults = g.G.Agency.faults c.begin.new.agency } in
-    let new : Desk = record {
-      ledger = g.G.Agency.ledger c.drain_shop.new.agency;
-      faults = g.G.Agency.faults c.drain_shop.new.agency;
-    } in
+    let kind = agency_kind g.G.Agency in
+    let old = agency_desk g.G.Agency c.args.agency.now in
+    let opened = agency_desk g.G.Agency c.begin.new.agency in
+    let new = agency_desk g.G.Agency c.drain_shop.new.agency in
     let moment = g.Z.Sleeper.moment c.args.sleeper.now in
-    let opens = subst (λ (h : History). IsOpened kind g.G.Agency.begun c.args.plan.now h.entries old opened) c.state-2.ensures
+    let opens = subst (λ (h : History). OpensSession kind g.G.Agency.begun c.args.plan.now h.entries old opened) c.state-2.ensures
     c.in-Ok.ensures.ok in
     let d : Span = spanning p0.state.entries kind old new g.Z.Sleeper.tells moment (outcome_of c.drain_shop.result) in
     store_drains g.D.Disk.tells g.D.Disk.told g.D.Disk.faults g.C.Clock.coming p0 p1 c.drain_shop.ensures.sound g.G.Agency.begun
@@ -42,9 +40,9 @@ returns-in-Err-clause-drains g c =
     let p0 = parts_of c.args.store in
     let p1 = parts_of c.without_session.result.store in
     let same : p1 ≡ p0 = c.without_session.ensures.store in
-    let kind : Kind = record { tells = g.G.Agency.tells; keeps_rules = g.G.Agency.keeps_rules } in
-    let old : Desk = record { ledger = g.G.Agency.ledger c.args.agency.now; faults = g.G.Agency.faults c.args.agency.now } in
-    let new : Desk = record { ledger = g.G.Agency.ledger c.begin.new.agency; faults = g.G.Agency.faults c.begin.new.agency } in
+    let kind = agency_kind g.G.Agency in
+    let old = agency_desk g.G.Agency c.args.agency.now in
+    let new = agency_desk g.G.Agency c.begin.new.agency in
     let end = ap (λ (p : Parts g.row.D.Denot g.row.C.Denot). p.state.entries) same in
     let sound = subst (λ (p : Parts g.row.D.Denot g.row.C.Denot). IsSound g.D.Disk.tells g.D.Disk.told g.D.Disk.faults
     g.C.Clock.coming (root_of g.D.Disk.told g.D.Disk.faults p0) p) (sym same)

@@ -1,32 +1,35 @@
-use Rattle.std.proofs.Common.{◌≡◌, ◌∙◌, sym, ap, refl, subst, Result}
+use Rattle.std.proofs.Common.{◌≡◌, ◌∙◌, sym, ap, refl, rules, subst, Result}
 use Rattle.shop_core.specs.History.{History}
 use Rattle.shop_core.specs.Legal.{Legal}
 use Rattle.till_calls.specs.Root.{Root, Parts, parts_of, root_of}
 use Rattle.till_calls.specs.Sound.{IsSound}
 use Rattle.sender.specs.declared.answers.DrainFault.{DrainFault}
-use Rattle.verifactu.specs.Drained.{IsDiskAnswer, Sends, torn_in}
+use Rattle.verifactu.specs.Devices.{agency_desk, agency_kind}
+use Rattle.verifactu.specs.Draining.{IsDiskAnswer, Sends, spanning}
+use Rattle.verifactu.specs.Outcomes.{outcome_of}
 use Rattle.verifactu.proofs.Agreed.{none_torn}
 use Rattle.verifactu.proofs.Starting.{sound_at_start, nothing_sent}
 use Rattle.verifactu.proofs.draining.drain_shop.Goals as goal
 
+pub drain_started-requires : goal.drain_started-requires
+drain_started-requires g c =
+    let h = c.in-Ok.ensures in
+    let legal : Legal c.args.store.state.issuer c.args.store.state.entries =
+    subst (λ (h : History). Legal h.issuer h.entries) c.state.ensures c.is_legal.ensures in
+    record {
+      own = h.own;
+      new = h.new;
+      whole = h.whole;
+      legal = subst (λ (r : Root g.row.C.Denot). Legal r.issuer r.history) (sym h.root.0) legal;
+      base = search rules;
+    }
+
 pub returns-in-Ok-clause-sends : goal.returns-in-Ok-clause-sends
 returns-in-Ok-clause-sends g c =
-    let p = parts_of c.drain_started.result.store in
-    subst (λ (r : Root g.row.C.Denot). Sends (record {
-      start = r.history;
-      end = p.state.entries;
-      torn = torn_in p.stopped p.torn;
-      kind = record { tells = g.G.Agency.tells; keeps_rules = g.G.Agency.keeps_rules };
-      old = record { ledger = g.G.Agency.ledger c.args.agency.now; faults = g.G.Agency.faults c.args.agency.now };
-      new = record {
-        ledger = g.G.Agency.ledger c.drain_started.new.agency;
-        faults = g.G.Agency.faults c.drain_started.new.agency;
-      };
-      exact = g.Z.Sleeper.tells;
-      moment = g.Z.Sleeper.moment c.args.sleeper.now;
-      turns = c.drain_started.result.turns;
-      answer = c.drain_started.result.answer;
-    })) c.in-Ok.ensures.root.0 c.drain_started.ensures.sends
+    subst (λ (r : Root g.row.C.Denot). Sends (spanning r.history (agency_kind g.G.Agency)
+    (agency_desk g.G.Agency c.args.agency.now) (agency_desk g.G.Agency c.drain_started.new.agency) g.Z.Sleeper.tells
+    (g.Z.Sleeper.moment c.args.sleeper.now) (outcome_of c.drain_started.result)))
+    c.in-Ok.ensures.root.0 c.drain_started.ensures.sends
 
 pub returns-in-Err-clause-sound : goal.returns-in-Err-clause-sound
 returns-in-Err-clause-sound g c =
@@ -44,17 +47,9 @@ pub returns-in-Err-clause-sends : goal.returns-in-Err-clause-sends
 returns-in-Err-clause-sends g c =
     let p = parts_of c.without_memory.result.store in
     let same : p ≡ parts_of c.args.store = c.without_memory.ensures.parts ∙ c.in-Err.ensures.refused in
-    nothing_sent (record {
-      start = (parts_of c.args.store).state.entries;
-      end = p.state.entries;
-      torn = torn_in p.stopped p.torn;
-      kind = record { tells = g.G.Agency.tells; keeps_rules = g.G.Agency.keeps_rules };
-      old = record { ledger = g.G.Agency.ledger c.args.agency.now; faults = g.G.Agency.faults c.args.agency.now };
-      new = record { ledger = g.G.Agency.ledger c.args.agency.now; faults = g.G.Agency.faults c.args.agency.now };
-      exact = g.Z.Sleeper.tells;
-      moment = g.Z.Sleeper.moment c.args.sleeper.now;
-      turns = c.without_memory.result.turns;
-      answer = c.without_memory.result.answer;
-    }) (ap (λ (q : Parts g.row.D.Denot g.row.C.Denot). q.state.entries) same)
+    let desk = agency_desk g.G.Agency c.args.agency.now in
+    nothing_sent (spanning (parts_of c.args.store).state.entries (agency_kind g.G.Agency) desk desk g.Z.Sleeper.tells
+    (g.Z.Sleeper.moment c.args.sleeper.now) (outcome_of c.without_memory.result))
+    (ap (λ (q : Parts g.row.D.Denot g.row.C.Denot). q.state.entries) same)
     (none_torn p.stopped p.torn (ap (λ (q : Parts g.row.D.Denot g.row.C.Denot). q.stopped) same ∙ c.requires.going_on)) refl
     c.without_memory.ensures.turns c.without_memory.ensures.answer

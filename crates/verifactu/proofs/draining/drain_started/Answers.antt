@@ -16,7 +16,8 @@ use Rattle.till_calls.specs.Mark.{Mark, sight_by}
 use Rattle.till_calls.specs.Root.{items_in, parts_of}
 use Rattle.till_calls.specs.Seat.{box_knows}
 use Rattle.till_calls.specs.Shop.{first_items, seat_knows, shop_root, tills_know}
-use Rattle.verifactu.specs.Drained.{Span, StillAgrees, torn_in}
+use Rattle.verifactu.specs.Devices.{agency_desk, agency_kind}
+use Rattle.verifactu.specs.Draining.{Span, StillAgrees, spanning, torn_in}
 use Rattle.verifactu.specs.Steps.{Steps}
 use Rattle.verifactu.proofs.Alone.{Closed, closed_from, gains, mine, all_seen, still_held}
 use Rattle.verifactu.proofs.Agreed.{Stored, agree_new, agreed, agreed_torn, entries_back, notes_alone, same_records, seen_all}
@@ -77,17 +78,29 @@ begun g c agree =
     (c.a_session_begins.ensures.session (sight_by (box_knows c.seat_box-outbox.result)) l there)
 
 abbrev span : (g : Over) (c : goal.Joined-sender g) → Span
-span g c = record {
-  start = (shop_root c.args.started.shop).history;
-  end = (parts_of c.close.result).state.entries;
-  torn = torn_in (parts_of c.close.result).stopped (parts_of c.close.result).torn;
-  kind = record { tells = g.G.Agency.tells; keeps_rules = g.G.Agency.keeps_rules };
-  old = record { ledger = g.G.Agency.ledger c.args.agency.now; faults = g.G.Agency.faults c.args.agency.now };
-  new = record { ledger = g.G.Agency.ledger c.drain-answer.new.agency; faults = g.G.Agency.faults c.drain-answer.new.agency };
-  exact = g.Z.Sleeper.tells;
-  moment = g.Z.Sleeper.moment c.args.sleeper.now;
-  turns = c.drain-answer.new.turns;
-  answer = c.drain-answer.result;
+span g c = spanning (shop_root c.args.started.shop).history (agency_kind g.G.Agency) (agency_desk g.G.Agency c.args.agency.now)
+    (agency_desk g.G.Agency c.drain-answer.new.agency) g.Z.Sleeper.tells (g.Z.Sleeper.moment c.args.sleeper.now) (record {
+      end = (parts_of c.close.result).state.entries;
+      torn = torn_in (parts_of c.close.result).stopped (parts_of c.close.result).torn;
+      turns = c.drain-answer.new.turns;
+      answer = c.drain-answer.result;
+    })
+
+-- the drain's scenes, at its start with this sending and at its end
+abbrev first_scene : (g : Over) (c : goal.Joined-sender g) → Sending → Scene
+first_scene g c sending = record {
+  desk = (span g c).old;
+  sight = sight_by (box_knows c.seat_box-outbox.result);
+  sending = sending;
+  moment = (span g c).moment;
+}
+
+abbrev last_scene : (g : Over) (c : goal.Joined-sender g) → Scene
+last_scene g c = record {
+  desk = (span g c).new;
+  sight = sight_by (box_knows c.drain-answer.new.outbox);
+  sending = c.drain-answer.new.self;
+  moment = g.Z.Sleeper.moment c.drain-answer.new.sleeper;
 }
 
 agreement : (g : Over) (c : goal.Joined-sender g) → IsTrue g.G.Agency.keeps_rules → Agree (shop_root c.args.started.shop).history
@@ -113,33 +126,9 @@ agreement g c keeps agree =
           (subst (λ (es : List Entry). length (waiting es) ≤ 1000 * batches) (sym (begun_at g c)) few));
     }
 
-drained : (g : Over) (c : goal.Joined-sender g) →
-    Drained (span g c).kind (span g c).exact (record {
-      desk = (span g c).old;
-      sight = sight_by (box_knows c.seat_box-outbox.result);
-      sending = fresh;
-      moment = (span g c).moment;
-    })
-    (record {
-      desk = (span g c).new;
-      sight = sight_by (box_knows c.drain-answer.new.outbox);
-      sending = c.drain-answer.new.self;
-      moment = g.Z.Sleeper.moment c.drain-answer.new.sleeper;
-    })
-    c.new-turns.result c.drain-answer.new.turns c.drain-answer.result
-drained g c =
-    subst (λ (q : Sending). Drained (span g c).kind (span g c).exact (record {
-      desk = (span g c).old;
-      sight = sight_by (box_knows c.seat_box-outbox.result);
-      sending = q;
-      moment = (span g c).moment;
-    })
-    (record {
-      desk = (span g c).new;
-      sight = sight_by (box_knows c.drain-answer.new.outbox);
-      sending = c.drain-answer.new.self;
-      moment = g.Z.Sleeper.moment c.drain-answer.new.sleeper;
-    })
+drained : (g : Over) (c : goal.Joined-sender g) → Drained (span g c).kind (span g c).exact (first_scene g c fresh)
+    (last_scene g c) c.new-turns.result c.drain-answer.new.turns c.drain-answer.result
+drained g c = subst (λ (q : Sending). Drained (span g c).kind (span g c).exact (first_scene g c q) (last_scene g c)
     c.new-turns.result c.drain-answer.new.turns c.drain-answer.result) c.new-sender.ensures c.drain-answer.ensures.drained
 
 steps : (g : Over) (c : goal.Joined-sender g) → Steps g.G.Agency.tells g.Z.Sleeper.tells (recs (span g c).start)
@@ -148,12 +137,7 @@ steps : (g : Over) (c : goal.Joined-sender g) → Steps g.G.Agency.tells g.Z.Sle
 steps g c =
     let before = sight_by (box_knows c.seat_box-outbox.result) in
     let after = sight_by (box_knows c.drain-answer.new.outbox) in
-    let then : Scene = record {
-      desk = (span g c).new;
-      sight = after;
-      sending = c.drain-answer.new.self;
-      moment = g.Z.Sleeper.moment c.drain-answer.new.sleeper;
-    } in
+    let then = last_scene g c in
     let items : before.items ≡ first_items c.args.started.shop = (closed g c).fresh.seen in
     let log = all_seen _ _ _ _ _ _ (closed g c) in
     let there : (n : ℕ) → length before.items ≤ n → n < length after.items → Contains after.own n = λ n low high.

@@ -7,6 +7,7 @@ use Rattle.till_calls.specs.Mark.{sight_by}
 use Rattle.till_calls.specs.Root.{Root}
 use Rattle.till_calls.specs.Seat.{box_knows}
 use Rattle.till_calls.specs.Shop.{seat_knows}
+use Rattle.verifactu.specs.Devices.{agency_desk, agency_kind}
 use Rattle.verifactu.specs.Beside.{SendsOn}
 use Rattle.verifactu.proofs.Contrary.{drained_answers, drained_shows}
 use Rattle.verifactu.proofs.Stops.{drained_stopped, untorn_adds}
@@ -15,12 +16,9 @@ use Rattle.verifactu.proofs.sending.drain_rest.Goals as goal
 
 pub returns-clause-sends : goal.returns-clause-sends
 returns-clause-sends g c = λ before desk sending x.
-    let kind : Kind = record { tells = g.G.Agency.tells; keeps_rules = g.G.Agency.keeps_rules } in
-    let mid : Desk = record { ledger = g.G.Agency.ledger c.args.sent.agency; faults = g.G.Agency.faults c.args.sent.agency } in
-    let new : Desk = record {
-      ledger = g.G.Agency.ledger c.drain-answer.new.agency;
-      faults = g.G.Agency.faults c.drain-answer.new.agency;
-    } in
+    let kind = agency_kind g.G.Agency in
+    let mid = agency_desk g.G.Agency c.args.sent.agency in
+    let new = agency_desk g.G.Agency c.drain-answer.new.agency in
     let answer = c.drain-answer.result in
     let a = sight_by (box_knows c.seat_box-outbox.result) in
     let b = sight_by (box_knows c.drain-answer.new.outbox) in

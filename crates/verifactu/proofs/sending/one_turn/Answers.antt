@@ -1,6 +1,7 @@
 use Rattle.std.proofs.Common.{sym, subst, Result}
 use Rattle.sender.specs.Turning.{Desk, Kind}
 use Rattle.sender.specs.declared.answers.DrainFault.{DrainFault}
+use Rattle.verifactu.specs.Devices.{agency_desk, agency_kind}
 use Rattle.verifactu.specs.Beside.{SendsOn}
 use Rattle.verifactu.proofs.Contrary.{turn_answers, turn_shows}
 use Rattle.verifactu.proofs.Turns.{delivers_end, never_end, stopped_end, untorn_end}
@@ -8,12 +9,9 @@ use Rattle.verifactu.proofs.sending.one_turn.Goals as goal
 
 pub returns-clause-sends : goal.returns-clause-sends
 returns-clause-sends g c =
-    let kind : Kind = record { tells = g.G.Agency.tells; keeps_rules = g.G.Agency.keeps_rules } in
-    let old : Desk = record { ledger = g.G.Agency.ledger c.args.agency.now; faults = g.G.Agency.faults c.args.agency.now } in
-    let new : Desk = record {
-      ledger = g.G.Agency.ledger c.turn-answer.new.agency;
-      faults = g.G.Agency.faults c.turn-answer.new.agency;
-    } in
+    let kind = agency_kind g.G.Agency in
+    let old = agency_desk g.G.Agency c.args.agency.now in
+    let new = agency_desk g.G.Agency c.turn-answer.new.agency in
     let before = g.O.Outbox.sight c.args.outbox.now in
     let after = g.O.Outbox.sight c.turn-answer.new.outbox in
     let answer = c.turn-answer.result in

@@ -7,17 +7,15 @@ use Rattle.till_calls.specs.Mark.{sight_by}
 use Rattle.till_calls.specs.Root.{Root}
 use Rattle.till_calls.specs.Seat.{box_knows}
 use Rattle.till_calls.specs.Shop.{seat_knows}
+use Rattle.verifactu.specs.Devices.{agency_desk, agency_kind}
 use Rattle.verifactu.specs.Beside.{SendsOn}
 use Rattle.verifactu.proofs.sending.send_part.Goals as goal
 
 pub returns-clause-sends : goal.returns-clause-sends
 returns-clause-sends g c =
-    let kind : Kind = record { tells = g.G.Agency.tells; keeps_rules = g.G.Agency.keeps_rules } in
-    let old : Desk = record { ledger = g.G.Agency.ledger c.args.agency; faults = g.G.Agency.faults c.args.agency } in
-    let new : Desk = record {
-      ledger = g.G.Agency.ledger c.send_until-answer.new.agency;
-      faults = g.G.Agency.faults c.send_until-answer.new.agency;
-    } in
+    let kind = agency_kind g.G.Agency in
+    let old = agency_desk g.G.Agency c.args.agency in
+    let new = agency_desk g.G.Agency c.send_until-answer.new.agency in
     let answer = c.send_until-answer.result in
     let sender = c.send_until-answer.new.sender in
     let boxed = c.seat_box-outbox.result in

@@ -1,11 +1,11 @@
-use Rattle.std.proofs.Common.{List, ℕ, map, ap, sym, ◌∙◌, subst, All}
+use Rattle.std.proofs.Common.{List, ℕ, map, ap, rules, sym, ◌∙◌, subst, All}
 use Rattle.std.specs.Int.{IsInRange}
 use Rattle.std.proofs.lemmas.List.Elements.{All-map}
 use Rattle.shop_core.specs.History.{History}
 use Rattle.shop_core.specs.Legal.{Legal}
 use Rattle.till_calls.specs.Root.{Root, parts_of}
-use Rattle.verifactu.specs.Beside.{SendsBeside}
-use Rattle.verifactu.specs.Drained.{torn_in}
+use Rattle.verifactu.specs.Beside.{SendsBeside, day_span}
+use Rattle.verifactu.specs.Devices.{agency_desk, agency_kind}
 use Rattle.verifactu.specs.Tills.{DayRun}
 use Rattle.verifactu.specs.Works.{told_in}
 use Rattle.verifactu.specs.declared.tills.TillDay.{TillDay}
@@ -25,22 +25,20 @@ returns-in-Ok-start-clause-day g c =
 
 pub returns-in-Ok-start-clause-sends : goal.returns-in-Ok-start-clause-sends
 returns-in-Ok-start-clause-sends g c =
-    let p = parts_of c.serve_started.result.store in
-    subst (λ (r : Root g.row.C.Denot). SendsBeside (record {
-      start = r.history;
-      end = p.state.entries;
-      torn = torn_in p.stopped p.torn;
-      kind = record { tells = g.G.Agency.tells; keeps_rules = g.G.Agency.keeps_rules };
-      old = record { ledger = g.G.Agency.ledger c.args.agency; faults = g.G.Agency.faults c.args.agency };
-      new = record {
-        ledger = g.G.Agency.ledger c.serve_started.result.agency;
-        faults = g.G.Agency.faults c.serve_started.result.agency;
-      };
-      answer = c.serve_started.result.answer;
-    })) c.in-Ok-start.ensures.root.0 c.serve_started.ensures.sends
+    let served = c.serve_started.result in
+    subst (λ (r : Root g.row.C.Denot). SendsBeside (day_span r.history (agency_kind g.G.Agency)
+    (agency_desk g.G.Agency c.args.agency) (agency_desk g.G.Agency served.agency) (parts_of served.store) served.answer))
+    c.in-Ok-start.ensures.root.0 c.serve_started.ensures.sends
 
-pub serve_started-requires-clause-legal : goal.serve_started-requires-clause-legal
-serve_started-requires-clause-legal g c κs within =
+pub serve_started-requires-clause-begun : goal.serve_started-requires-clause-begun
+serve_started-requires-clause-begun g c κs within =
+    let h = c.in-Ok-start.ensures in
     let legal : Legal c.args.store.state.issuer c.args.store.state.entries =
     subst (λ (h : History). Legal h.issuer h.entries) c.state.ensures c.is_legal.ensures in
-    subst (λ (r : Root g.row.C.Denot). Legal r.issuer r.history) (sym c.in-Ok-start.ensures.root.0) legal
+    record {
+      own = h.own;
+      new = h.new;
+      whole = h.whole;
+      legal = subst (λ (r : Root g.row.C.Denot). Legal r.issuer r.history) (sym h.root.0) legal;
+      base = search rules;
+    }

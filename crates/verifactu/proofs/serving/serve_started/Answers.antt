@@ -7,6 +7,7 @@ use Rattle.till_calls.specs.Mark.{Mark}
 use Rattle.till_calls.specs.Root.{items_in, parts_of}
 use Rattle.till_calls.specs.Shop.{first_items, seat_knows, shop_root, tills_know}
 use Rattle.sender.specs.Turning.{Desk, Kind}
+use Rattle.verifactu.specs.Devices.{agency_desk, agency_kind}
 use Rattle.verifactu.specs.Tills.{asks_of}
 use Rattle.verifactu.specs.Works.{day_of}
 use Rattle.verifactu.specs.declared.tills.TillDay.{TillDay}
@@ -41,7 +42,7 @@ close-requires-clause-whole g c = λ n l.
     (tills_know c.args.started.tills) (tills_know c.hand_in.new.tills) (seat_knows c.args.started.seat)
     (seat_knows c.drain_rest-rest.result.seat) ran
     (ap (λ (m : Mark g.row.C.Denot). m.numbers) marks) n in
-    let once = c.requires.whole n l in
+    let once = c.requires.begun.whole n l in
     omega (arith, again, once)
 
 pub returns-clause-day : goal.returns-clause-day
@@ -55,17 +56,17 @@ returns-clause-day g c =
     let sends = c.drain_rest-rest.ensures.sends _ _ _ c.beside-jobs.ensures.sends in
     let h = shared g.D.Disk.tells g.D.Disk.told g.D.Disk.faults g.C.Clock.coming c.args.asks.now p (shop_root shop)
     (first_items shop) c.args.days.items c.hand_in.new.days.items (tills_know c.args.started.tills)
-    (tills_know c.hand_in.new.tills) seat then ran c.requires.new
+    (tills_know c.hand_in.new.tills) seat then ran c.requires.begun.new
     c.close.ensures.each c.close.ensures.begins c.close.ensures.since sends.adds in
     ended g.D.Disk.tells g.D.Disk.told g.D.Disk.faults g.C.Clock.coming c.args.asks.now p (shop_root shop) (first_items shop)
     c.args.days.items c.hand_in.new.days.items (tills_know c.args.started.tills) (tills_know c.hand_in.new.tills) seat then
-    ran c.requires.new
+    ran c.requires.begun.new
     c.drain_rest-rest.result.answer c.a_till_adds_for_no_other.ensures c.a_till_adds_what_is_taken.ensures
-    (ap (λ (l : List Item). length l) c.requires.base ∙ length-map (shop_root shop).history (λ (e : Entry). item.Entry e))
+    (ap (λ (l : List Item). length l) c.requires.begun.base ∙ length-map (shop_root shop).history (λ (e : Entry). item.Entry e))
     c.requires.distinct h sends.notes
     (λ disk. is_stopped (first_items shop) (items_in p) (shop_root shop) (tills_know c.hand_in.new.tills) seat then h
     (shop_root shop).history p.state.entries p.stopped p.torn (record {
-      base_is = c.requires.base;
+      base_is = c.requires.begun.base;
       log_is = refl;
       begins = c.close.ensures.sound.begins;
     }) (sends.stopped disk))
@@ -86,18 +87,15 @@ returns-clause-sends g c =
     let shop = c.args.started.shop in
     let seat = seat_knows c.args.started.seat in
     let then = seat_knows c.drain_rest-rest.result.seat in
-    let kind : Kind = record { tells = g.G.Agency.tells; keeps_rules = g.G.Agency.keeps_rules } in
-    let old : Desk = record { ledger = g.G.Agency.ledger c.args.agency; faults = g.G.Agency.faults c.args.agency } in
-    let new : Desk = record {
-      ledger = g.G.Agency.ledger c.drain_rest-rest.result.agency;
-      faults = g.G.Agency.faults c.drain_rest-rest.result.agency;
-    } in
+    let kind = agency_kind g.G.Agency in
+    let old = agency_desk g.G.Agency c.args.agency in
+    let new = agency_desk g.G.Agency c.drain_rest-rest.result.agency in
     let sends = c.drain_rest-rest.ensures.sends _ _ _ c.beside-jobs.ensures.sends in
     let h = shared g.D.Disk.tells g.D.Disk.told g.D.Disk.faults g.C.Clock.coming c.args.asks.now p (shop_root shop)
     (first_items shop) c.args.days.items c.hand_in.new.days.items (tills_know c.args.started.tills)
-    (tills_know c.hand_in.new.tills) seat then ran c.requires.new
+    (tills_know c.hand_in.new.tills) seat then ran c.requires.begun.new
     c.close.ensures.each c.close.ensures.begins c.close.ensures.since sends.adds in
     sends_beside g.D.Disk.tells g.D.Disk.told g.D.Disk.faults g.C.Clock.coming p (shop_root shop) (first_items shop)
-    (tills_know c.hand_in.new.tills) seat then h c.close.ensures.sound c.requires.base c.requires.legal kind old new
+    (tills_know c.hand_in.new.tills) seat then h c.close.ensures.sound c.requires.begun.base c.requires.begun.legal kind old new
     c.drain_rest-rest.result.sender c.drain_rest-rest.result.answer sends c.agreement_is_kept.ensures.records
     c.a_session_begins.ensures.session c.a_session_begins.ensures.careful

@@ -1,5 +1,6 @@
 use Rattle.std.proofs.Common.{◌≡◌, ◌∙◌, IsTrue, length}
 use Rattle.agency_port.specs.Ledger.{Begins}
+use Rattle.verifactu.specs.Devices.{agency_kind}
 use Rattle.verifactu.proofs.Closing.{both_ok, opened_by}
 use Rattle.verifactu.proofs.session.begin.Goals as goal
 
@@ -11,7 +12,7 @@ returns-clause-ok g c =
     both_ok c.begin.result
     (IsTrue g.G.Agency.tells → Begins old new c.args.plan.now (length c.deref.result.now))
     (IsTrue g.G.Agency.keeps_rules → new.processed ≡ g.G.Agency.begun old.processed c.deref.result.now) _
-    (λ lists rules. opened_by (record { tells = g.G.Agency.tells; keeps_rules = g.G.Agency.keeps_rules }) g.G.Agency.begun
+    (λ lists rules. opened_by (agency_kind g.G.Agency) g.G.Agency.begun
     c.args.plan.now es
     (record { ledger = old; faults = g.G.Agency.faults c.args.agency.now }) (record {
       ledger = new;

@@ -1,9 +1,9 @@
 use Rattle.std.proofs.Common.{◌==◌, ◌+◌, ◌≤◌, ◌∷◌, [], ℕ, List, Result, length, take, ap, sym, subst, refl, arith, vec_capacity}
 use Rattle.journal.specs.declared.faults.StoreFault.{StoreFault}
-use Rattle.shop_core.specs.Asked.{Asked}
+use Rattle.shop_core.specs.Requests.{Asked}
 use Rattle.shop_core.specs.declared.answers.Reply.{Reply}
-use Rattle.till_calls.specs.Runs.{TillRun}
-use Rattle.till_calls.specs.Runs.TillRun.{begun}
+use Rattle.till_calls.specs.Client.{TillRun}
+use Rattle.till_calls.specs.Client.TillRun.{begun}
 use Rattle.till_calls.specs.Shop.{till_knows, till_number}
 use Rattle.verifactu.specs.Tills.{asks_of}
 use Rattle.verifactu.proofs.TillDays.{filter_room}

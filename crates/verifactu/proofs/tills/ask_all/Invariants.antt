@@ -1,5 +1,5 @@
 use Rattle.std.proofs.Common.{◌≡◌, ◌≤◌, length, take, vec_capacity}
-use Rattle.till_calls.specs.Runs.{TillRun}
+use Rattle.till_calls.specs.Client.{TillRun}
 use Rattle.till_calls.specs.Shop.{till_knows, till_number, till_shop}
 use Rattle.verifactu.specs.Tills.{asks_of}
 use Rattle.verifactu.proofs.tills.ask_all.Given as goal

@@ -1,10 +1,10 @@
 use Rattle.std.proofs.Common.{◌≡◌, ◌++◌, ◌∷◌, [], ◌==◌, ℕ, List, Result, true, sym, subst, arith}
 use Rattle.std.proofs.lemmas.Bool.Decides.{nat_tests}
 use Rattle.journal.specs.declared.faults.StoreFault.{StoreFault}
-use Rattle.shop_core.specs.Asked.{Asked}
+use Rattle.shop_core.specs.Requests.{Asked}
 use Rattle.shop_core.specs.declared.answers.Reply.{Reply}
-use Rattle.till_calls.specs.Runs.{TillRun}
-use Rattle.till_calls.specs.Runs.TillRun.{asked}
+use Rattle.till_calls.specs.Client.{TillRun}
+use Rattle.till_calls.specs.Client.TillRun.{asked}
 use Rattle.till_calls.specs.Shop.{Asks, till_knows, till_number}
 use Rattle.verifactu.specs.Tills.{asks_of}
 use Rattle.verifactu.proofs.TillDays.{one_more}

@@ -1,6 +1,6 @@
 -- The bytes before this one agree.
 use Rattle.std.proofs.Common.{◌≡◌, ℕ, ◌<◌, true}
-use Rattle.verify_link.specs.Encoding.{agrees_at}
+use Rattle.verify_link.specs.Writing.{agrees_at}
 use Rattle.verify_link.proofs.encoding.agree_but_in_case.Given as goal
 
 abbrev pub invariant-loop-k : goal.invariant-loop-k

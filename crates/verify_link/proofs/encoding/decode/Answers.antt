@@ -2,7 +2,7 @@ use Rattle.std.proofs.Common.{◌≡◌, ap, ◌∙◌, subst, sym, List, ℕ}
 use Rattle.std.proofs.lemmas.Bool.{MatchBool-at_false}
 use Rattle.std.specs.String.{string_bytes}
 use Rattle.percent_encoding.specs.Percent.{percent_decode}
-use Rattle.verify_link.specs.Encoding.{encoded, AgreeButInCase}
+use Rattle.verify_link.specs.Writing.{encoded, AgreeButInCase}
 use Rattle.verify_link.proofs.CapitalLemmas.{capitals_from}
 use Rattle.verify_link.proofs.DecodingLemmas.{decoded}
 use Rattle.verify_link.proofs.encoding.decode.Goals as goal

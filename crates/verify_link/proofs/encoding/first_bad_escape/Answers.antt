@@ -1,6 +1,6 @@
 use Rattle.std.proofs.Common.{◌≡◌, ℕ, ◌<◌, ◌≤◌, List, length, false, sym, ◌∙◌, inl, inr, arith, below_more}
 use Rattle.std.proofs.lemmas.Bool.{cases_order}
-use Rattle.verify_link.specs.Encoding.{is_bad_escape}
+use Rattle.verify_link.specs.Writing.{is_bad_escape}
 use Rattle.verify_link.proofs.DecodingLemmas.{none_past}
 use Rattle.verify_link.proofs.encoding.first_bad_escape.Goals as goal
 

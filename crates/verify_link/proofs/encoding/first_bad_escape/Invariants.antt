@@ -1,6 +1,6 @@
 -- No escape before this byte is bad.
 use Rattle.std.proofs.Common.{◌≡◌, ℕ, ◌<◌, false}
-use Rattle.verify_link.specs.Encoding.{is_bad_escape}
+use Rattle.verify_link.specs.Writing.{is_bad_escape}
 use Rattle.verify_link.proofs.encoding.first_bad_escape.Given as goal
 
 abbrev pub invariant-loop-k : goal.invariant-loop-k

@@ -1,5 +1,5 @@
 use Rattle.std.proofs.Common.{◌∙◌, List, ℕ}
-use Rattle.verify_link.specs.Link.{beginning}
+use Rattle.verify_link.specs.Parts.{beginning}
 use Rattle.verify_link.specs.Reading.{Begins}
 use Rattle.verify_link.specs.declared.parts.Host.{Host}
 use Rattle.verify_link.specs.declared.parts.Host.TheVariants.{Real, Practice}

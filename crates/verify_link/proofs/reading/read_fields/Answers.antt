@@ -3,7 +3,7 @@ use Rattle.std.proofs.lemmas.Result.{err_from_is_err_and}
 use Rattle.stamps.specs.Text.{date_text_of}
 use Rattle.verify_link.specs.declared.parts.Host.{Host}
 use Rattle.verify_link.specs.declared.parts.LinkParts.{LinkParts}
-use Rattle.verify_link.specs.Link.{beginning, link_text}
+use Rattle.verify_link.specs.Parts.{beginning, link_text}
 use Rattle.verify_link.specs.Reading.{Begins, HasPlace, after_beginning, IsFieldAt}
 use Rattle.verify_link.proofs.CapitalLemmas.{agree_from}
 use Rattle.verify_link.proofs.PlaceLemmas.{place_next, fault_reading, whole_link}

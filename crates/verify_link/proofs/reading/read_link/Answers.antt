@@ -1,5 +1,5 @@
 use Rattle.std.proofs.Common.{◌∙◌, ap}
-use Rattle.verify_link.specs.Link.{link_text}
+use Rattle.verify_link.specs.Parts.{link_text}
 use Rattle.verify_link.proofs.CapitalLemmas.{capitals, capitals_from}
 use Rattle.verify_link.proofs.LinkLemmas.{read_back, capitals-link}
 use Rattle.verify_link.proofs.reading.read_link.Goals as goal

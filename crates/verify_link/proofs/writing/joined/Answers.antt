@@ -1,4 +1,4 @@
-use Rattle.verify_link.specs.Link.{joined_link}
+use Rattle.verify_link.specs.Parts.{joined_link}
 use Rattle.verify_link.proofs.AsciiLemmas.{link_ascii}
 use Rattle.verify_link.proofs.writing.joined.Goals as goal
 
@@ -17,17 +17,5 @@ returns-clause-text c = rw (
 )
 
 pub returns-clause-ascii : goal.returns-clause-ascii
-unfolding joined_link
 returns-clause-ascii c =
-    rw (
-      c.of.ensures,
-      c.into_bytes.ensures.value,
-      c.in_ok-add-4.ensures,
-      c.in_ok-add-3.ensures,
-      c.in_ok-add-2.ensures,
-      c.in_ok-add.ensures,
-      c.in_ok-push_str.ensures.bytes,
-      c.new-text.ensures.bytes,
-      c.beginning.ensures,
-    )
-    (link_ascii c.args.host c.args.nif.now c.args.num.now c.args.date.now c.args.total.now)
+    rw (returns-clause-text c) (link_ascii c.args.host c.args.nif.now c.args.num.now c.args.date.now c.args.total.now)

@@ -11,12 +11,13 @@ pub returns-clause-said : goal.returns-clause-said
 returns-clause-said c =
     let s = c.self.inside in
     let log = s.entries.items in
-    let fate = c.at-fate.result in
-    let now = c.deliver_before.new.pairs in
+    let fate = c.in_ok-fate.fate in
+    let found = c.in_ok-fate.ensures in
+    let now = c.fate_before.new.pairs in
     let huellas = c.args.huellas.now in
     subst (λ (x : Practice). c.in_ok-answer.answer ≡ consultation_answer x huellas) c.self.view_is (
     c.in_ok-answer.ensures
-    ∙ ap (λ (f : Option Fate). seen_by f now huellas) (same_fate s.plan log s.calls fate c.self.invariant c.at-fate.ensures)
+    ∙ ap (λ (f : Option Fate). seen_by f now huellas) (same_fate s.plan log s.calls fate c.self.invariant found.fate)
     ∙ ap (λ (ps : List (Sealed × Line)). seen_by (fate_at s.plan.fates (number log)) ps huellas)
     (same_before s.plan s.pairs now log c.deref.result.now s.fault_count s.calls fate c.self.invariant c.deref.ensures.value
-    c.at-fate.ensures c.in_ok-deliver_before.ensures.ok))
+    found.fate found.ok))

@@ -1,6 +1,6 @@
 use Rattle.std.proofs.Common.{◌∙◌, sym, ap}
 use Rattle.agency_rules.specs.declared.judging.Past.{Past}
-use Rattle.agency_rules.specs.Judgement.{past_after}
+use Rattle.agency_rules.specs.Judging.{past_after}
 use Rattle.agency_rules.proofs.Pasts.{past_next, after_refused, after_accepted}
 use Rattle.agency_rules.proofs.judging.Past.after.Goals as goal
 

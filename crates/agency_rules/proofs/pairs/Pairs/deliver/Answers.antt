@@ -1,7 +1,7 @@
 use Rattle.std.proofs.Common.{◌∙◌, ap, List, take, length}
 use Rattle.record_fields.specs.declared.lines.Line.{Line}
 use Rattle.record_fields.specs.declared.records.Sealed.{Sealed}
-use Rattle.agency_rules.specs.Delivery.{delivered_record}
+use Rattle.agency_rules.specs.Pairs.{delivered_record}
 use Rattle.agency_rules.proofs.Deliveries.{delivered_more, front_with, front_came}
 use Rattle.agency_rules.proofs.pairs.Pairs.deliver.Goals as goal
 

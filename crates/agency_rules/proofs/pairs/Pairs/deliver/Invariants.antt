@@ -1,5 +1,5 @@
 use Rattle.std.proofs.Common.{◌≡◌, take, length}
-use Rattle.agency_rules.specs.Delivery.{delivered}
+use Rattle.agency_rules.specs.Pairs.{delivered}
 use Rattle.agency_rules.proofs.pairs.Pairs.deliver.Given as goal
 
 abbrev pub invariant-loop-i : goal.invariant-loop-i

@@ -1,7 +1,7 @@
 use Rattle.std.proofs.Common.{◌∙◌, ap, List}
 use Rattle.record_fields.specs.declared.lines.Line.{Line}
 use Rattle.record_fields.specs.declared.records.Sealed.{Sealed}
-use Rattle.agency_rules.specs.Delivery.{line_of}
+use Rattle.agency_rules.specs.Pairs.{line_of}
 use Rattle.agency_rules.specs.Indexes.{line_at}
 use Rattle.agency_rules.proofs.Indexing.{line_found}
 use Rattle.agency_rules.proofs.pairs.Pairs.line_of.Goals as goal

@@ -1,5 +1,5 @@
 use Rattle.std.proofs.Common.{◌≡◌, ◌∙◌, ap, arith}
-use Rattle.agency_rules.specs.Judgement.{past_of}
+use Rattle.agency_rules.specs.Judging.{past_of}
 use Rattle.agency_rules.specs.declared.judging.Past.{Past}
 use Rattle.agency_rules.proofs.Indexing.{few_of_one}
 use Rattle.agency_rules.proofs.pairs.Pairs.past_of.Goals as goal

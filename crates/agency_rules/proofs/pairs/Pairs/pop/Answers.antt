@@ -3,7 +3,7 @@ use Rattle.series.specs.declared.numbers.InvoiceId.{InvoiceId}
 use Rattle.record_fields.specs.Records.{id_of}
 use Rattle.record_fields.specs.declared.lines.Line.{Line}
 use Rattle.record_fields.specs.declared.records.Sealed.{Sealed}
-use Rattle.agency_rules.specs.Judgement.{past_of}
+use Rattle.agency_rules.specs.Judging.{past_of}
 use Rattle.agency_rules.specs.Indexes.{place_at, past_at}
 use Rattle.agency_rules.proofs.Indexing.{ArePlaces, ArePasts, some_past, places_fewer, pasts_fewer, notes_as}
 use Rattle.agency_rules.proofs.pairs.Pairs.pop.Goals as goal

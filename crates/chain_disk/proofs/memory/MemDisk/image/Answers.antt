@@ -1,7 +1,7 @@
 use Rattle.std.proofs.Common.{◌∙◌, List, ℕ, take, length, ◌≤◌, ap, sym, subst, arith}
 use Rattle.chain_disk.specs.Fill.{IsFilled}
 use Rattle.chain_disk.specs.Memory.{told_by, fresh}
-use Rattle.chain_disk.specs.Told.{Told, IsLeft}
+use Rattle.chain_disk.specs.OnDisk.{OnDisk, IsLeft}
 use Rattle.chain_disk.specs.declared.event.Event.{Event}
 use Rattle.chain_disk.proofs.Images.{filled_image, image_left, moment_told}
 use Rattle.chain_disk.proofs.memory.MemDisk.image.Goals as goal
@@ -30,7 +30,7 @@ returns c =
     let within : m ≤ length events = omega (arith, c.if-moment-len.false, c.len.ensures) in
     let image = filled_image c.args.fill (told_by first (take m events)).content (told_by first (take m events)).now v filled in
     let told = c.new-2.ensures.told in
-    let content = ap (λ (t : Told). t.content) told in
+    let content = ap (λ (t : OnDisk). t.content) told in
     record {
       already = omega (arith, within, moment_told first events);
       told = told ∙ ap fresh (sym content);

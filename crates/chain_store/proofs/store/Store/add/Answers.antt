@@ -1,4 +1,4 @@
-use Rattle.std.proofs.Common.{◌≡◌, ℕ, ◌∷◌, [], ◌++◌, List, refl, sym, ◌∙◌, ap, subst, None, Err}
+use Rattle.std.proofs.Common.{rules, ◌≡◌, ℕ, ◌∷◌, [], ◌++◌, List, refl, sym, ◌∙◌, ap, subst, None, Err, IsTrue}
 use Rattle.journal.specs.declared.journal.JournalFault.{JournalFault}
 use Rattle.frames.specs.Frames.{IsBody}
 use Rattle.journal.specs.Journal.{disk_of, end_of, stopped_of}
@@ -8,13 +8,43 @@ use Rattle.chain_store.specs.Ready.{IsReady}
 use Rattle.chain_store.proofs.Stores.{adding, appended, gate_more, holds_more, on_disk, untouched_around}
 use Rattle.chain_store.proofs.store.Store.add.Goals as goal
 
-pub returns-in_default-clause-any_moment : goal.returns-in_default-clause-any_moment
-returns-in_default-clause-any_moment g c tells =
-    untouched_around c.args.self.now.state _ _ c.args.entry (c.requires.ready.holds refl tells) c.is_legal.ensures
+pub returns-in_default : goal.returns-in_default
+returns-in_default g c =
+    record {
+      ready = search rules;
+      issuer = search rules;
+      clock = search rules;
+      added = search rules;
+      same = search rules;
+      any_moment = λ tells. untouched_around c.args.self.now.state _ _ c.args.entry (c.requires.ready.holds refl tells)
+          c.is_legal.ensures;
+      acknowledged = search rules;
+      no_memory = search rules;
+      fault = search rules;
+      torn = search rules;
+      room = search rules;
+      not_stopped = search rules;
+      later = search rules;
+    }
 
-pub returns-in_default-reserve-clause-any_moment : goal.returns-in_default-reserve-clause-any_moment
-returns-in_default-reserve-clause-any_moment g c tells =
-    untouched_around c.args.self.now.state _ _ c.args.entry (c.requires.ready.holds refl tells) c.is_legal.ensures
+pub returns-in_default-reserve : goal.returns-in_default-reserve
+returns-in_default-reserve g c =
+    record {
+      ready = search rules;
+      issuer = search rules;
+      clock = search rules;
+      added = search rules;
+      same = search rules;
+      any_moment = λ tells. untouched_around c.args.self.now.state _ _ c.args.entry (c.requires.ready.holds refl tells)
+          c.is_legal.ensures;
+      acknowledged = search rules;
+      no_memory = search rules;
+      fault = search rules;
+      torn = search rules;
+      room = search rules;
+      not_stopped = search rules;
+      later = search rules;
+    }
 
 pub unreachable-requires : goal.unreachable-requires
 unreachable-requires g c =
@@ -24,8 +54,8 @@ unreachable-requires g c =
     let going_on = c.requires.going_on in
     absurd cc
 
-pub returns-in-Ok-append-clause-ready : goal.returns-in-Ok-append-clause-ready
-returns-in-Ok-append-clause-ready g c =
+pub returns-in-Ok-append : goal.returns-in-Ok-append
+returns-in-Ok-append g c =
     let s = c.args.self.now.state in
     let entry = c.args.entry in
     let is = c.as_slice.ensures ∙ c.in-Ok.ensures in
@@ -34,53 +64,61 @@ returns-in-Ok-append-clause-ready g c =
     c.in-Ok-reserve.ensures.ok in
     let body : IsBody c.as_slice.result.now = subst (λ (b : List ℕ). IsBody b) (sym is) (c.an_encoding_is_a_body.ensures entry
     c.fields_are_valid.ensures) in
-    subst (λ (h : History). IsReady g.D.Disk.tells h (stopped_of c.append.new.self) (end_of c.append.new.self)
+    let around = λ (tells : IsTrue g.D.Disk.tells). adding s (end_of c.args.self.now.journal)
+    (g.D.Disk.told (disk_of c.args.self.now.journal)) entry c.what_continues_fits_its_bytes.ensures
+    c.a_legal_history_goes_on.ensures (c.requires.ready.holds refl tells) c.is_legal.ensures c.requires.continues
+    c.fields_are_valid.ensures in
+    let ready = subst (λ (h : History). IsReady g.D.Disk.tells h (stopped_of c.append.new.self) (end_of c.append.new.self)
     (g.D.Disk.told (disk_of c.append.new.self))) (sym new)
     (record {
       place = gate_more s.entries entry (end_of c.args.self.now.journal) (end_of c.append.new.self) c.as_slice.result.now
           c.requires.ready.place c.in-Ok-append.ensures.place body;
-      holds = λ none tells.
+      holds = λ none tells. holds_more (around tells) is
+          (c.in-Ok-append.ensures.acknowledged tells s.issuer _ (c.requires.ready.holds refl tells).file);
+    }) in
+    let legal : Legal c.apply_encoded.new.self.issuer c.apply_encoded.new.self.entries =
+    subst (λ (h : History). Legal h.issuer h.entries) (sym new)
+    (c.a_legal_history_goes_on.ensures s.issuer s.entries entry c.is_legal.ensures c.requires.continues) in
+    record {
+      ready = ready;
+      issuer = search rules;
+      clock = search rules;
+      added = search rules;
+      same = search rules;
+      any_moment = λ tells. appended (around tells) is
+          (c.append.ensures.any_moment c.requires.going_on tells s.issuer _ (c.requires.ready.holds refl tells).file);
+      acknowledged = λ tells. on_disk c.apply_encoded.new.self (end_of c.append.new.self)
+          (g.D.Disk.told (disk_of c.append.new.self)) (ready.holds c.in-Ok-append.ensures.going_on.1 tells) legal;
+      no_memory = search rules;
+      fault = search rules;
+      torn = search rules;
+      room = search rules;
+      not_stopped = search rules;
+      later = search rules;
+    }
+
+pub returns-in-Err-DiskFault : goal.returns-in-Err-DiskFault
+returns-in-Err-DiskFault g c =
+    let s = c.args.self.now.state in
+    record {
+      ready = search rules;
+      issuer = search rules;
+      clock = search rules;
+      added = search rules;
+      same = search rules;
+      any_moment = λ tells.
           let holds = c.requires.ready.holds refl tells in
           let a =
-          adding s (end_of c.args.self.now.journal) (g.D.Disk.told (disk_of c.args.self.now.journal)) entry
+          adding s (end_of c.args.self.now.journal) (g.D.Disk.told (disk_of c.args.self.now.journal)) c.args.entry
           c.what_continues_fits_its_bytes.ensures c.a_legal_history_goes_on.ensures holds
           c.is_legal.ensures c.requires.continues c.fields_are_valid.ensures in
-          holds_more a is (c.in-Ok-append.ensures.acknowledged tells s.issuer _ holds.file);
-    })
-
-pub returns-in-Ok-append-clause-any_moment : goal.returns-in-Ok-append-clause-any_moment
-returns-in-Ok-append-clause-any_moment g c tells =
-    let s = c.args.self.now.state in
-    let entry = c.args.entry in
-    let is = c.as_slice.ensures ∙ c.in-Ok.ensures in
-    let holds = c.requires.ready.holds refl tells in
-    let a =
-    adding s (end_of c.args.self.now.journal) (g.D.Disk.told (disk_of c.args.self.now.journal)) entry
-    c.what_continues_fits_its_bytes.ensures c.a_legal_history_goes_on.ensures holds
-    c.is_legal.ensures c.requires.continues c.fields_are_valid.ensures in
-    appended a is (c.append.ensures.any_moment c.requires.going_on tells s.issuer _ holds.file)
-
-pub returns-in-Err-DiskFault-clause-any_moment : goal.returns-in-Err-DiskFault-clause-any_moment
-returns-in-Err-DiskFault-clause-any_moment g c tells =
-    let s = c.args.self.now.state in
-    let entry = c.args.entry in
-    let is = c.as_slice.ensures ∙ c.in-Ok.ensures in
-    let holds = c.requires.ready.holds refl tells in
-    let a =
-    adding s (end_of c.args.self.now.journal) (g.D.Disk.told (disk_of c.args.self.now.journal)) entry
-    c.what_continues_fits_its_bytes.ensures c.a_legal_history_goes_on.ensures holds
-    c.is_legal.ensures c.requires.continues c.fields_are_valid.ensures in
-    appended a is (c.append.ensures.any_moment c.requires.going_on tells s.issuer _ holds.file)
-
-pub returns-in-Ok-append-clause-acknowledged : goal.returns-in-Ok-append-clause-acknowledged
-returns-in-Ok-append-clause-acknowledged g c tells =
-    let s = c.args.self.now.state in
-    let entry = c.args.entry in
-    let next = c.a_legal_history_goes_on.ensures s.issuer s.entries entry c.is_legal.ensures c.requires.continues in
-    let new : c.apply_encoded.new.self ≡ record { issuer = s.issuer; entries = s.entries ++ entry ∷ []; room = None } =
-    c.apply_encoded.ensures ∙ ap (λ (h : History). record { issuer = h.issuer; entries = h.entries ++ entry ∷ []; room = None })
-    c.in-Ok-reserve.ensures.ok in
-    let legal : Legal c.apply_encoded.new.self.issuer c.apply_encoded.new.self.entries = subst (λ (h : History). Legal h.issuer h.entries)
-    (sym new) next in
-    on_disk c.apply_encoded.new.self (end_of c.append.new.self) (g.D.Disk.told (disk_of c.append.new.self))
-    ((returns-in-Ok-append-clause-ready g c).holds c.in-Ok-append.ensures.going_on.1 tells) legal
+          appended a (c.as_slice.ensures ∙ c.in-Ok.ensures)
+          (c.append.ensures.any_moment c.requires.going_on tells s.issuer _ holds.file);
+      acknowledged = search rules;
+      no_memory = search rules;
+      fault = search rules;
+      torn = search rules;
+      room = search rules;
+      not_stopped = search rules;
+      later = search rules;
+    }

@@ -1,13 +1,12 @@
-use Rattle.std.proofs.Common.{◌≡◌, ◌∷◌, [], ◌++◌, refl, sym, ◌∙◌, subst, None, Ok, Err}
-use Rattle.journal.specs.Journal.{end_of, stopped_of}
+use Rattle.std.proofs.lemmas.Result.{on_ok_weaker}
+use Rattle.std.proofs.Common.{refl, sym, ◌∙◌, subst, Ok, Err}
+use Rattle.journal.specs.Journal.{end_of}
 use Rattle.journal.specs.declared.faults.StoreFault.{StoreFault}
 use Rattle.ports.specs.Readings.{MovedBy}
-use Rattle.shop_core.specs.Answer.{answer}
-use Rattle.shop_core.specs.Runs.{IsTaken}
-use Rattle.shop_core.specs.declared.answers.Reply.{Reply}
+use Rattle.shop_core.specs.Plans.{answer}
 use Rattle.shop_core.specs.declared.answers.Reply.TheVariants as reply
 use Rattle.chain_store.proofs.Stores.{on_disk, untouched}
-use Rattle.chain_store.proofs.Taking.{both_taken, made, not_made, told_again, told_refused}
+use Rattle.chain_store.proofs.Taking.{made, not_made, told_again, told_refused}
 use Rattle.chain_store.proofs.store.Store.take.Goals as goal
 
 pub returns-in-Err-clause-takes : goal.returns-in-Err-clause-takes
@@ -50,13 +49,10 @@ pub returns-in-Ok-Made-clause-takes : goal.returns-in-Ok-Made-clause-takes
 returns-in-Ok-Made-clause-takes g c going_on =
     let s = c.args.self.now.state in
     let entry = c.in-Ok-Made.entry in
-    let t = c.take_made.ensures in
-    let both =
-    both_taken (λ (r : Reply). IsTaken s.entries entry r) (λ r. stopped_of c.take_made.new.self.journal ≡ None)
-    (λ r. c.take_made.new.self.state.entries ≡ s.entries ++ entry ∷ [])
-    c.take_made.result t.taken in
+    let t = c.take_made.ensures.adds in
     made s c.take_made.new.self.state c.args.ask.now _ _ g.D.Disk.tells _ _ c.take_made.result c.now-seconds.result entry
     c.now-seconds.ensures.told
     (subst (λ (k : g.row.C.Denot). MovedBy 1 (g.C.Clock.coming c.args.self.now.clock) (g.C.Clock.coming k)) (sym t.clock)
     c.now-seconds.ensures.moved)
-    t.issuer (sym c.in-Ok-Made.ensures.answer ∙ c.in-Ok-Made.field-0-is) both.0 both.1 t.same t.any_moment
+    t.issuer (sym c.in-Ok-Made.ensures.answer ∙ c.in-Ok-Made.field-0-is) c.take_made.ensures.reply
+    (on_ok_weaker c.take_made.result (λ both. both.1) t.added) t.same t.any_moment

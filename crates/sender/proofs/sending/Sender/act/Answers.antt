@@ -1,6 +1,6 @@
 use Rattle.std.proofs.Common.{◌∙◌, sym, ap, refl, arith}
 use Rattle.pacing.specs.declared.pace.Pace.{Pace}
-use Rattle.pacing.specs.Due.{is_due, due_at}
+use Rattle.pacing.specs.Pace.{is_due, due_at}
 use Rattle.sender.specs.Sending.{Sending}
 use Rattle.sender.specs.Turning.{Nothing, count_waiting}
 use Rattle.sender.proofs.Looks.{is_look}

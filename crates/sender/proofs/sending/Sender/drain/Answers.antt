@@ -8,19 +8,17 @@ use Rattle.sender.proofs.Saying.{drain_says}
 use Rattle.sender.proofs.sending.Sender.drain.Goals as goal
 
 pub returns-clause-agreement : goal.returns-clause-agreement
-returns-clause-agreement g c = λ keeps session gains.
+returns-clause-agreement g c =
     drained_keeps c.what_is_known.ensures _ _ _ _ _ _ c.drain_on.result c.drain_on.ensures.drained g.met.G.Agency.keeps_and_tells
-    keeps session.agree session.said_seen gains
 
 pub returns-clause-no_contradiction : goal.returns-clause-no_contradiction
-returns-clause-no_contradiction g c = λ keeps session gains.
+returns-clause-no_contradiction g c =
     drained_without c.what_is_known.ensures _ _ _ _ _ _ c.drain_on.result c.drain_on.ensures.drained
-    g.met.G.Agency.keeps_and_tells keeps session.agree session.said_seen gains
+    g.met.G.Agency.keeps_and_tells
 
 pub returns-clause-torn : goal.returns-clause-torn
-returns-clause-torn g c = λ keeps session gains.
+returns-clause-torn g c =
     drained_torn c.what_is_known.ensures _ _ _ _ _ _ c.drain_on.result c.drain_on.ensures.drained g.met.G.Agency.keeps_and_tells
-    keeps session.agree session.said_seen gains
 
 pub returns-clause-careful : goal.returns-clause-careful
 returns-clause-careful g c = drained_careful c.legal_is_chained.ensures.linked _ _ _ _ _ _ c.drain_on.result
@@ -30,9 +28,9 @@ pub returns-clause-delivered : goal.returns-clause-delivered
 returns-clause-delivered g c = drained_delivered _ _ _ _ _ _ c.drain_on.result c.drain_on.ensures.drained
 
 pub returns-clause-bound : goal.returns-clause-bound
-returns-clause-bound g c = λ keeps session gains.
+returns-clause-bound g c =
     drained_bounded c.what_is_known.ensures _ _ _ _ _ _ c.drain_on.result c.drain_on.ensures.drained
-    g.met.G.Agency.keeps_and_tells keeps session.agree session.said_seen gains
+    g.met.G.Agency.keeps_and_tells
 
 pub returns-clause-told : goal.returns-clause-told
 returns-clause-told g c = drained_tells _ _ _ _ _ _ c.drain_on.result c.drain_on.ensures.drained
@@ -44,9 +42,9 @@ pub returns-clause-adds : goal.returns-clause-adds
 returns-clause-adds g c = drained_adds _ _ _ _ _ _ c.drain_on.result c.drain_on.ensures.drained
 
 pub returns-clause-if_torn : goal.returns-clause-if_torn
-returns-clause-if_torn g c = λ keeps session gains.
+returns-clause-if_torn g c =
     drained_if_torn c.what_is_known.ensures _ _ _ _ _ _ c.drain_on.result c.drain_on.ensures.drained
-    g.met.G.Agency.keeps_and_tells keeps session.agree session.said_seen gains
+    g.met.G.Agency.keeps_and_tells
 
 pub returns-clause-says : goal.returns-clause-says
 returns-clause-says g c = λ tells. drain_says _ _ _ _ _ (drained_tells _ _ _ _ _ _ c.drain_on.result c.drain_on.ensures.drained

@@ -1,5 +1,5 @@
 use Rattle.std.proofs.Common.{arith, length, ap}
-use Rattle.series.specs.Padding.{length_front}
+use Rattle.series.specs.Inline.{length_front}
 use Rattle.series.proofs.PaddingLemmas.{IsPadded-put_mid}
 use Rattle.series.proofs.inline.Inline.append.Goals as goal
 

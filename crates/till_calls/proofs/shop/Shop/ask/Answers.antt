@@ -1,7 +1,7 @@
 use Rattle.std.proofs.Common.{◌≡◌, ◌∙◌, subst, refl, ℕ}
 use Rattle.chain_lock.specs.Known.{Turns}
 use Rattle.chain_lock.specs.Words.{known}
-use Rattle.shop_core.specs.Asked.{Asked}
+use Rattle.shop_core.specs.Requests.{Asked}
 use Rattle.shop_core.specs.declared.requests.Request.{Request}
 use Rattle.till_calls.specs.Shop.{till_knows, till_number}
 use Rattle.till_calls.specs.Turns.{TillTurn}

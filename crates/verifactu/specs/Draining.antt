@@ -8,13 +8,14 @@ use Rattle.record_fields.specs.declared.records.Sealed.{Sealed}
 use Rattle.record_fields.specs.declared.lines.Line.{Line}
 use Rattle.huella.specs.Linked.{Linked}
 use Rattle.record_codec.specs.declared.entries.Entry.{Entry}
-use Rattle.record_codec.specs.declared.entries.Entry.TheVariants.{Rec, Notes}
-use Rattle.chain_disk.specs.Told.{Told, LeavesNow, LeavesOnly}
+use Rattle.chain_disk.specs.OnDisk.{OnDisk, LeavesNow, LeavesOnly}
+use Rattle.chain_disk.specs.declared.disk.Disk.{Ghosts}
 use Rattle.journal.specs.declared.faults.StoreFault.{StoreFault}
 use Rattle.journal.specs.declared.faults.StoreFault.TheVariants as store
 use Rattle.shop_core.specs.Files.{StandsFor}
 use Rattle.shop_core.specs.History.{recs, noted, waiting}
 use Rattle.shop_core.specs.Legal.{Legal}
+use Rattle.shop_core.specs.declared.items.Item.TheVariants as item
 use Rattle.agency_rules.specs.declared.plans.Plan.{Plan}
 use Rattle.agency_port.specs.Ledger.{Begins}
 use Rattle.agency_port.specs.Messages.{batches_in}
@@ -24,6 +25,7 @@ use Rattle.agency_port.specs.declared.turns.Told.{Told as TurnLine}
 use Rattle.once_world.specs.Agreement.{Agree}
 use Rattle.sender.specs.declared.answers.DrainFault.{DrainFault}
 use Rattle.sender.specs.declared.answers.DrainFault.TheVariants as drain
+use Rattle.sender.specs.Agreeing.{AreNotes}
 use Rattle.sender.specs.Dark.{AreRunsBy, NoneInTheDark}
 use Rattle.sender.specs.Draining.{IsBounded}
 use Rattle.sender.specs.Turning.{Kind, Desk}
@@ -35,8 +37,7 @@ use Rattle.verifactu.specs.Steps.{Steps}
 
 -- an entry that notes lines
 abbrev pub AreNotesEntry : Entry → Type 0
-AreNotesEntry (Rec till serial sealed) = ⊥
-AreNotesEntry (Notes first lines) = ⊤
+AreNotesEntry entry = AreNotes (item.Entry entry)
 
 -- notes alone came behind the history before
 pub record AddsNotesAlone (before after : List Entry) : Type 0 where
@@ -93,21 +94,15 @@ spanning start kind old new exact moment o = record {
 
 -- an answer before which the disk didn't fail
 abbrev pub IsFaultless : Result (Unit {0}) DrainFault → Type 0
-IsFaultless (Ok done) = ⊤
-IsFaultless (Err (drain.Undelivered noted_count records_count)) = ⊤
-IsFaultless (Err (drain.Contradiction evidence)) = ⊤
 IsFaultless (Err (drain.Store fault)) = ⊥
 IsFaultless (Err drain.NoMemory) = ⊥
+IsFaultless _ = ⊤
 
 -- the disk failed while notes were added, or had stopped the shop
 abbrev pub IsDiskAnswer : Result (Unit {0}) DrainFault → Type 0
-IsDiskAnswer (Ok done) = ⊥
-IsDiskAnswer (Err (drain.Undelivered noted_count records_count)) = ⊥
-IsDiskAnswer (Err (drain.Contradiction evidence)) = ⊥
 IsDiskAnswer (Err (drain.Store store.DiskFault)) = ⊤
 IsDiskAnswer (Err (drain.Store (store.Stopped faults))) = ⊤
-IsDiskAnswer (Err (drain.Store store.NoMemory)) = ⊥
-IsDiskAnswer (Err drain.NoMemory) = ⊥
+IsDiskAnswer _ = ⊥
 
 -- With an agency that keeps its rules: it agrees with the history, and with what may be torn; it contradicts itself never; and
 -- the turns are bounded by the batches that waited and by the link faults.
@@ -146,7 +141,7 @@ abbrev pub Beginning : Type 0
 Beginning = List (Sealed × Line) → List (Sealed × Line) → List (Sealed × Line)
 
 -- a session was opened, with this plan and the pairs noted in the history
-pub record IsOpened (kind : Kind) (begun : Beginning) (plan : Plan) (start : List Entry) (old opened : Desk) : Type 0 where
+pub record OpensSession (kind : Kind) (begun : Beginning) (plan : Plan) (start : List Entry) (old opened : Desk) : Type 0 where
   pub lists : IsTrue kind.tells → Begins old.ledger opened.ledger plan (length (noted start))
   pub rules : IsTrue kind.keeps_rules → opened.ledger.processed ≡ begun old.ledger.processed (noted_pairs start)
   pub faults : opened.faults ≡ old.faults
@@ -179,14 +174,14 @@ from_desk desk d = record {
 -- once it was open, they still do.
 pub record IsSession (begun : Beginning) (plan : Plan) (d : Span) : Type 0 where
   pub opened : Desk
-  pub opens : IsOpened d.kind begun plan d.start d.old opened
+  pub opens : OpensSession d.kind begun plan d.start d.old opened
   pub sends : Sends (from_desk opened d)
   pub agreement : IsTrue d.kind.keeps_rules →
       Agree d.start (begun d.old.ledger.processed (noted_pairs d.start)) d.old.ledger.sent → StillAgrees d
 
 -- Since some moment each crash leaves a file with P; now it leaves the history at the end, or that with the torn notes, and so
 -- reads the disk.
-pub record KeptNotes (P : List ℕ → Type 0) (issuer : List ℕ) (d : Span) (since now : Told) : Type 0 where
+pub record KeptNotes (P : List ℕ → Type 0) (issuer : List ℕ) (d : Span) (since now : OnDisk) : Type 0 where
   pub each_moment : LeavesOnly since now P
   pub every_crash : LeavesNow now (StandsForEnd issuer d.end d.torn)
   pub reads : StandsForEnd issuer d.end d.torn now.content
@@ -199,10 +194,20 @@ AgreesInFile issuer desk file = (entries : List Entry)
 -- a disk that a store is on: whether its kind tells what it holds, and what it told and its count of faults before and after
 pub record DiskSpan : Type 0 where
   pub tells : Bool
-  pub since : Told
-  pub now : Told
+  pub since : OnDisk
+  pub now : OnDisk
   pub faults : ℕ
   pub faults_after : ℕ
+
+-- the disk of a store that was this and is that
+abbrev pub disk_span : {D : Type 0} → Ghosts D → D → D → DiskSpan
+disk_span kind old new = record {
+  tells = kind.tells;
+  since = kind.told old;
+  now = kind.told new;
+  faults = kind.faults old;
+  faults_after = kind.faults new;
+}
 
 -- The drain of an opened store. Each crash since some moment leaves what P says of the histories and the torn notes.
 pub record StoreDrains (P : List Entry → List Entry → List Entry → List ℕ → Type 0) (begun : Beginning) (plan : Plan)

@@ -7,7 +7,7 @@ use Rattle.record_fields.specs.declared.records.Record.TheVariants.{Alta, Anulac
 use Rattle.record_fields.specs.declared.records.Sealed.{Sealed}
 use Rattle.shop_core.specs.Files.{StandsFor}
 use Rattle.shop_core.specs.Standing.{last_alta}
-use Rattle.verify_link.specs.Link.{link_text, parts_of}
+use Rattle.verify_link.specs.Parts.{link_text, parts_of}
 use Rattle.verify_link.specs.declared.parts.Host.{Host}
 
 -- the link of an alta

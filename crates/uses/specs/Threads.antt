@@ -6,7 +6,7 @@ use Rattle.shop_core.specs.declared.items.Item.{Item}
 use Rattle.shop_core.specs.declared.requests.Request.{Request}
 use Rattle.till_calls.specs.Own.{AreTaken, records_of}
 use Rattle.till_calls.specs.Root.{Root}
-use Rattle.till_calls.specs.Runs.{TillTold, asks_of}
+use Rattle.till_calls.specs.Client.{TillTold, asks_of}
 
 -- the records of a till since the start, in the shop's list at the end
 abbrev pub records_since : {C : Type 0} → Root C → List Item → ℕ → List Item

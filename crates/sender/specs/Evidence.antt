@@ -1,7 +1,7 @@
 -- What a consultation shows, beside the last reply that named its batch.
-use Rattle.std.specs.Prelude.{◌≡◌, ℕ, ◌+◌, List, [], ◌∷◌, Option, Some, None, Result, Ok, Err, bytes_eq, if◌then◌else◌}
+use Rattle.std.specs.Prelude.{◌≡◌, ℕ, ◌+◌, List, [], ◌∷◌, Option, Some, None, Result, Ok, Err, bytes_eq, if◌then◌else◌, ⊤}
 use Rattle.record_fields.specs.declared.lines.Line.{Line}
-use Rattle.agency_port.specs.Replied.{Replied}
+use Rattle.agency_port.specs.Reply.{Replied}
 use Rattle.agency_port.specs.declared.answers.ReplyLine.{ReplyLine}
 use Rattle.agency_port.specs.declared.answers.Seen.{Seen}
 use Rattle.agency_port.specs.declared.answers.Seen.TheVariants.{NotSeen, Was}
@@ -9,7 +9,7 @@ use Rattle.agency_port.specs.declared.turns.Evidence.{Evidence}
 use Rattle.agency_port.specs.declared.turns.Evidence.TheVariants.{Hole, Forgotten}
 use Rattle.consultation.specs.Sorting.{IsHole, IsFront}
 use Rattle.sender.specs.declared.answers.SendFault.{SendFault}
-use Rattle.sender.specs.declared.answers.SendFault.TheVariants.{LinkFault, Contradiction, Store, NoMemory}
+use Rattle.sender.specs.declared.answers.SendFault.TheVariants.{Contradiction, NoMemory}
 
 -- what was said of the record with this Huella
 abbrev pub said_in : List (List ℕ) → List ReplyLine → List ℕ → Option ReplyLine
@@ -54,6 +54,5 @@ Shows said first huellas answers (Err (Forgotten place line)) = ((lines : List L
 abbrev pub Learns : Option Replied → ℕ → List (List ℕ) → List Seen → Result (List Line) SendFault → Type 0
 Learns said first huellas answers (Ok lines) = Shows said first huellas answers (Ok lines)
 Learns said first huellas answers (Err (Contradiction evidence)) = Shows said first huellas answers (Err evidence)
-Learns said first huellas answers (Err NoMemory) = Unit {0}
-Learns said first huellas answers (Err LinkFault) = ⊥
-Learns said first huellas answers (Err (Store fault)) = ⊥
+Learns said first huellas answers (Err NoMemory) = ⊤
+Learns said first huellas answers _ = ⊥

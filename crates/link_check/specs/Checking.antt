@@ -59,9 +59,8 @@ pub data IsChecked (chain : Chain) (line : List ℕ) : Checked → Type 0 where
 -- the answers are those of the lines, one each, in their order
 abbrev pub AreChecked : Chain → List (List ℕ) → List Checked → Type 0
 AreChecked chain [] [] = Unit {0}
-AreChecked chain [] (answer ∷ answers) = ⊥
-AreChecked chain (line ∷ lines) [] = ⊥
 AreChecked chain (line ∷ lines) (answer ∷ answers) = IsChecked chain line answer × AreChecked chain lines answers
+AreChecked chain lines answers = ⊥
 
 -- lines have one list of answers
 abbrev pub AnswersAreOne : Type 0

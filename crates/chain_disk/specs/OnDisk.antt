@@ -8,7 +8,7 @@ pub record Pending : Type 0 where
   pub ranges : List Range
 
 -- what a read gives, what is pending now, and what was pending at each earlier moment, the newest first
-pub record Told : Type 0 where
+pub record OnDisk : Type 0 where
   pub content : List ℕ
   pub now : Pending
   pub past : List Pending
@@ -34,11 +34,11 @@ IsLeftOf [] m c = ⊥
 IsLeftOf (p ∷ older) m c = ((m ≡ length older) × IsImage p c) ⊎ IsLeftOf older m c
 
 -- a moment is a number: how many moments were before it
-abbrev pub moment : Told → ℕ
+abbrev pub moment : OnDisk → ℕ
 moment t = length t.past
 
 -- the test of a list of bytes at a moment: a crash then may leave it
-abbrev pub IsLeft : Told → ℕ → List ℕ → Type 0
+abbrev pub IsLeft : OnDisk → ℕ → List ℕ → Type 0
 IsLeft t m c = IsLeftOf (t.now ∷ t.past) m c
 
 -- these bytes put at this place
@@ -56,19 +56,19 @@ abbrev pub wider : ℕ → ℕ → Pending → Pending
 wider at n p = record { synced = p.synced; ranges = (record { at = at; count = n }) ∷ p.ranges }
 
 -- a moment later, with this content and this pending
-abbrev pub moved : List ℕ → Pending → Told → Told
+abbrev pub moved : List ℕ → Pending → OnDisk → OnDisk
 moved content now t = record { content = content; now = now; past = t.now ∷ t.past }
 
 -- one range more is pending, a moment later
-abbrev pub ranged : ℕ → ℕ → List ℕ → Told → Told
+abbrev pub ranged : ℕ → ℕ → List ℕ → OnDisk → OnDisk
 ranged at n content t = moved content (wider at n t.now) t
 
 -- a write
-abbrev pub written : ℕ → List ℕ → Told → Told
+abbrev pub written : ℕ → List ℕ → OnDisk → OnDisk
 written at bytes t = ranged at (length bytes) (pasted at bytes t.content) t
 
 -- a write that failed: it did nothing, or the range holds any bytes
-abbrev pub IsWriteFailed : ℕ → ℕ → Told → Told → Type 0
+abbrev pub IsWriteFailed : ℕ → ℕ → OnDisk → OnDisk → Type 0
 IsWriteFailed at n old new = (new ≡ old) ⊎ ((content : List ℕ) × IsTorn at n old.content content ×
     (new ≡ ranged at n content old))
 
@@ -77,19 +77,19 @@ abbrev pub settled : List ℕ → Pending
 settled content = record { synced = content; ranges = [] }
 
 -- nothing is pending
-abbrev pub IsSettled : Told → Type 0
+abbrev pub IsSettled : OnDisk → Type 0
 IsSettled t = t.now ≡ settled t.content
 
 -- a sync: nothing is pending, a moment later
-abbrev pub synced : Told → Told
+abbrev pub synced : OnDisk → OnDisk
 synced t = moved t.content (settled t.content) t
 
 -- a moment later, with all that was pending
-abbrev pub later : Told → Told
+abbrev pub later : OnDisk → OnDisk
 later t = moved t.content t.now t
 
 -- a sync that failed: all that was pending stays pending
-abbrev pub IsSyncFailed : Told → Told → Type 0
+abbrev pub IsSyncFailed : OnDisk → OnDisk → Type 0
 IsSyncFailed old new = (new ≡ old) ⊎ (new ≡ later old)
 
 -- n bytes were read from this place into a buffer, as many as the content has and the buffer takes
@@ -98,22 +98,22 @@ pub record IsRead (content : List ℕ) (at n : ℕ) (old new : List ℕ) : Type 
   pub bytes : new ≡ take n (drop at content) ++ drop n old
 
 -- Each crash at a moment since old was told leaves a list of bytes with P. The tests of the moments before are as they were.
-pub record LeavesOnly (old new : Told) (P : List ℕ → Type 0) : Type 0 where
+pub record LeavesOnly (old new : OnDisk) (P : List ℕ → Type 0) : Type 0 where
   pub later : moment old ≤ moment new
   pub each : (m : ℕ) (c : List ℕ) → moment old ≤ m → IsLeft new m c → P c
   pub before : (m : ℕ) (c : List ℕ) → m < moment old → IsLeft new m c → IsLeft old m c
   pub stays : (m : ℕ) (c : List ℕ) → m ≤ moment old → IsLeft old m c → IsLeft new m c
 
 -- each crash at this moment leaves a list of bytes with P
-abbrev pub LeavesNow : Told → (List ℕ → Type 0) → Type 0
+abbrev pub LeavesNow : OnDisk → (List ℕ → Type 0) → Type 0
 LeavesNow t P = (c : List ℕ) → IsLeft t (moment t) c → P c
 
 -- Calls led from old to new: the tests of the moments before the first of them are as they were.
-pub record IsRun (old new : Told) : Type 0 where
+pub record IsRun (old new : OnDisk) : Type 0 where
   pub later : moment old ≤ moment new
   pub before : (m : ℕ) (c : List ℕ) → m < moment old → IsLeft new m c → IsLeft old m c
   pub stays : (m : ℕ) (c : List ℕ) → m ≤ moment old → IsLeft old m c → IsLeft new m c
 
 -- a crash at some moment since old was told may leave these bytes
-abbrev pub IsLeftSince : Told → Told → List ℕ → Type 0
+abbrev pub IsLeftSince : OnDisk → OnDisk → List ℕ → Type 0
 IsLeftSince old new c = (m : ℕ) × (moment old ≤ m) × IsLeft new m c

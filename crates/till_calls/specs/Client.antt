@@ -6,9 +6,9 @@ use Rattle.chain_lock.specs.Lists.{StartsWith}
 use Rattle.journal.specs.declared.faults.StoreFault.{StoreFault}
 use Rattle.journal.specs.declared.faults.StoreFault.TheVariants.{DiskFault, Stopped, NoMemory}
 use Rattle.record_codec.specs.declared.entries.Entry.{Entry}
-use Rattle.shop_core.specs.Answer.{answer}
-use Rattle.shop_core.specs.Asked.{Asked}
-use Rattle.shop_core.specs.Runs.{Tells}
+use Rattle.shop_core.specs.Plans.{answer}
+use Rattle.shop_core.specs.Requests.{Asked}
+use Rattle.shop_core.specs.Replies.{Tells}
 use Rattle.shop_core.specs.declared.answers.Reply.{Reply}
 use Rattle.shop_core.specs.declared.items.Item.{Item}
 use Rattle.shop_core.specs.declared.items.Item.TheVariants as item

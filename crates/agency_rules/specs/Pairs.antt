@@ -7,7 +7,7 @@ use Rattle.record_fields.specs.declared.lines.Line.{Line}
 use Rattle.agency_rules.specs.declared.plans.PlannedVerdict.{PlannedVerdict}
 use Rattle.agency_rules.specs.declared.pairs.Delivered.{Delivered}
 use Rattle.agency_rules.specs.declared.pairs.Delivered.TheVariants.{First, Again}
-use Rattle.agency_rules.specs.Judgement.{judgement}
+use Rattle.agency_rules.specs.Judging.{judgement}
 
 -- the line of the first record with this Huella, where one stands there
 abbrev pub line_of : List (Sealed × Line) → List ℕ → Option Line

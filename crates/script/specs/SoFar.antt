@@ -10,16 +10,16 @@ use Rattle.script.specs.declared.customers.Customers.{Customers}
 use Rattle.script.specs.declared.faults.Fault.{Fault}
 use Rattle.script.specs.declared.faults.Fault.TheVariants.{Bad, NoMemory}
 use Rattle.script.specs.declared.limits.TheConstants.{MAX_COMMANDS}
-use Rattle.script.specs.declared.lines.Line.{Line}
-use Rattle.script.specs.declared.lines.Line.TheVariants as line
+use Rattle.script.specs.declared.lines.Meaning.{Meaning}
+use Rattle.script.specs.declared.lines.Meaning.TheVariants as line
 use Rattle.script.specs.declared.scripts.Script.{Script}
 use Rattle.script.specs.declared.scripts.SoFar.{SoFar}
 
 -- a reader answers what the definition says; want of memory is free
-abbrev pub Answers : {A : Type 0} → Result A Word → Result A Fault → Type 0
-Answers said (Ok x) = said ≡ Ok x
-Answers said (Err (Bad word)) = said ≡ Err word
-Answers said (Err NoMemory) = Unit {0}
+abbrev pub IsSaid : {A : Type 0} → Result A Word → Result A Fault → Type 0
+IsSaid said (Ok x) = said ≡ Ok x
+IsSaid said (Err (Bad word)) = said ≡ Err word
+IsSaid said (Err NoMemory) = Unit {0}
 
 -- the customer with a key
 abbrev pub party_of : Customers → List ℕ → Option Party
@@ -46,22 +46,20 @@ script_kept read = record {
 }
 
 -- these meanings were read
-pub record IsRead (meanings : List Line) (read : SoFar) : Type 0 where
+pub record IsSoFar (meanings : List Meaning) (read : SoFar) : Type 0 where
   pub above : known read ≡ above_of meanings
   pub asks : read.asks.items ≡ filter_map ask_in meanings
   pub few : length read.asks.items ≤ MAX_COMMANDS
 
 -- they were read, unless there was no memory
-abbrev pub Reads : List Line → SoFar → Result (Unit {0}) NoRoom → Type 0
-Reads meanings read (Ok _) = IsRead meanings read
+abbrev pub Reads : List Meaning → SoFar → Result (Unit {0}) NoRoom → Type 0
+Reads meanings read (Ok _) = IsSoFar meanings read
 Reads meanings read (Err _) = Unit {0}
 
 -- a clock, the key of a customer and a pause stand nowhere above, and there is room for a command
-abbrev pub IsNew : Above → Line → Type 0
-IsNew above line.Skip = Unit {0}
+abbrev pub IsNew : Above → Meaning → Type 0
 IsNew above (line.Clock start step) = above.clock ≡ None
 IsNew above (line.Customer key party) = above.party key ≡ None
 IsNew above (line.Command ask) = above.commands < MAX_COMMANDS
-IsNew above (line.Verdict verdict) = Unit {0}
 IsNew above (line.Wait seconds) = above.wait ≡ None
-IsNew above (line.Link fate) = Unit {0}
+IsNew above other = Unit {0}

@@ -2,16 +2,12 @@
 use Rattle.std.specs.Prelude.{◌≡◌, ℕ, List, length, Option, None, option_map}
 use Rattle.record_fields.specs.declared.records.Sealed.{Sealed}
 use Rattle.record_codec.specs.declared.entries.Entry.{Entry}
-use Rattle.shop_core.specs.History.{recs, noted, sealed_at}
+use Rattle.shop_core.specs.History.{last_huella, recs, noted}
 use Rattle.shop_core.specs.Reading.{IsRead}
 use Rattle.shop_core.specs.declared.audits.AuditEnd.{AuditEnd}
 use Rattle.shop_core.specs.declared.audits.AuditEnd.TheVariants as end
 use Rattle.shop_core.specs.declared.reading.FileRead.{FileRead}
 use Rattle.shop_core.specs.declared.reading.FileRead.TheVariants.{NotBegun, Sound, Broken}
-
--- the Huella of the last record
-abbrev pub last_huella : List Entry → Option (List ℕ)
-last_huella entries = option_map (λ (s : Sealed). s.huella) (sealed_at entries (length (recs entries)))
 
 -- how many records and noted lines a history has, and its last Huella
 abbrev pub sound_end : List Entry → AuditEnd

@@ -6,7 +6,7 @@ use Rattle.amounts.specs.Text.{amount_text}
 use Rattle.tax_lines.specs.Totals.{cuota, total}
 use Rattle.invoice_kinds.specs.Kinds.{kind_text}
 use Rattle.stamps.specs.Text.{date_text_of}
-use Rattle.stamps.specs.Moment.{moment_text_of}
+use Rattle.stamps.specs.Stamp.{moment_text_of}
 use Rattle.record_fields.specs.declared.records.Alta.{Alta}
 use Rattle.record_fields.specs.declared.records.Anulacion.{Anulacion}
 use Rattle.record_fields.specs.declared.records.Record.{Record}

@@ -1,17 +1,17 @@
 -- The verification link of an invoice, and what it says: the tax agency's description of the QR code of invoices.
 use Rattle.std.specs.Prelude.{ℕ, ◌≤◌, List, ◌++◌, codes, IsTrue}
-use Rattle.amounts.specs.Amount.{IsCents}
+use Rattle.amounts.specs.Cents.{IsCents}
 use Rattle.amounts.specs.Text.{amount_text}
 use Rattle.parties.specs.Nif.{IsNif}
 use Rattle.series.specs.Numbers.{is_num_serie}
-use Rattle.stamps.specs.Civil.{last_day}
+use Rattle.stamps.specs.Day.{last_day}
 use Rattle.stamps.specs.Text.{date_text_of}
 use Rattle.tax_lines.specs.Totals.{total}
 use Rattle.record_fields.specs.declared.records.Alta.{Alta}
 use Rattle.verify_link.specs.declared.parts.Host.{Host}
 use Rattle.verify_link.specs.declared.parts.Host.TheVariants.{Real, Practice}
 use Rattle.verify_link.specs.declared.parts.LinkParts.{LinkParts}
-use Rattle.verify_link.specs.Encoding.{encoded}
+use Rattle.verify_link.specs.Writing.{encoded}
 
 abbrev pub host_name : Host → List ℕ
 host_name Real = codes "www2.agenciatributaria.gob.es"
