@@ -24,7 +24,7 @@ impl Model for AmountText {
 }
 
 impl AmountText {
-    /// Its bytes, all of them ASCII.
+    /// Its bytes.
     pub fn as_slice(&self) -> &[u8]
         ensures { result.now ≡ self.now }
     {

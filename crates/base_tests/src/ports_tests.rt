@@ -6,6 +6,7 @@ use std::alloc::Global;
 use std::io::ErrorKind;
 use std::sync::Wait;
 use std::test::Fail;
+use std::time::{SystemTime, UNIX_EPOCH};
 
 fn read_once<S: Source>(source: &mut S, room: usize) -> Result<([u8; 8], usize), Failed> {
     let mut buf = [b'.'; 8];
@@ -94,14 +95,27 @@ fn clocks_stand_still_at_their_ends(rt: HostRuntime) -> Result<(), Fail> {
     Ok(())
 }
 
+// The machine's seconds since 1970, as std tells them.
+fn machine_seconds(rt: &HostRuntime) -> Result<u64, Fail> {
+    let Ok(now) = SystemTime::now(rt) else {
+        return Err(Fail::from("the time"));
+    };
+    match now.duration_since(UNIX_EPOCH) {
+        Ok(since) => Ok(since.as_secs()),
+        Err(_) => Err(Fail::from("a time since 1970")),
+    }
+}
+
 #[test]
-fn the_system_clock_tells_this_machines_time(rt: HostRuntime) {
+fn the_system_clock_tells_this_machines_time(rt: HostRuntime) -> Result<(), Fail> {
+    let before = machine_seconds(&rt)?;
     let readings = four_readings(&mut SystemClock::new(&rt));
-    assert!(rt; 1767225600 < readings[0], "before 2026: {readings:?}");
+    let after = machine_seconds(&rt)?;
     assert!(rt;
-        readings[0] <= readings[3] && readings[3] < 4102444800,
-        "{readings:?}"
+        before <= readings[0] && readings[0] <= readings[3] && readings[3] <= after,
+        "{before} {readings:?} {after}"
     );
+    Ok(())
 }
 
 // Its seconds at first, after a rest, and after waiting for a second that many seconds from the first.
@@ -114,12 +128,18 @@ fn waited<Z: Sleeper, R: Wait>(sleeper: &mut Z, rt: &R, more: u64) -> [u64; 3] {
 }
 
 #[test]
-fn a_sleeper_reaches_the_second_that_it_waited_for(rt: HostRuntime) {
+fn a_sleeper_reaches_the_second_that_it_waited_for(rt: HostRuntime) -> Result<(), Fail> {
     let leaps = waited(&mut LeapSleeper::new(1735722000), &rt, 86400);
     assert_eq!(rt; leaps, [1735722000, 1735722000, 1735808400]);
+    let before = machine_seconds(&rt)?;
     let [first, rested, then] = waited(&mut ThreadSleeper::new(&rt), &rt, 1);
-    assert!(rt; 1767225600 < first && first <= rested, "{first}, {rested}");
-    assert!(rt; then > first && then < 4102444800, "{first}, {then}");
+    let after = machine_seconds(&rt)?;
+    assert!(rt;
+        before <= first && first <= rested,
+        "{before}, {first}, {rested}"
+    );
+    assert!(rt; first < then && then <= after, "{first}, {then}, {after}");
+    Ok(())
 }
 
 fn pass<T: Gate, R: Wait>(gate: &T, rt: &R) {

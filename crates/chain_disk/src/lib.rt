@@ -1,6 +1,6 @@
 //! A disk as a journal sees it: what it holds, and what a crash at each moment may leave of it. A disk in memory tells
-//! both, and lists the calls that fail. A file tells neither: contracts say of it that its faults are counted, and
-//! it is read and written by one program at a time, whose lock it holds from its first write or sync.
+//! both, and lists the calls that fail. A file tells neither: contracts say of it only that its faults are counted.
+//! That one program at a time writes it is kept by a lock, which it holds from its first write or sync.
 #![tactic(auto)]
 
 mod disk;

@@ -1,4 +1,6 @@
 // What may happen to a shop and its agency.
+ghost use Rattle.once_world.specs.Laws.{IsEvent};
+
 use shop_core::Ask;
 
 /// An event. One whose condition fails changes nothing.
@@ -20,4 +22,16 @@ pub enum Event {
     TearNote { kept: bool },
     /// The shop is opened again.
     Reopen,
+}
+
+impl Event {
+    /// What every event keeps: an ask in it is in its ranges. So `every_world_is_sound` speaks of any list of events.
+    pub fn is_valid(&self)
+        ensures { IsEvent self.now }
+    {
+        match self {
+            Event::Append { ask, .. } | Event::Tear { ask, .. } => ask.is_valid(),
+            _ => {}
+        }
+    }
 }

@@ -1,6 +1,6 @@
 //! What reaches the outside: a source of bytes, a sink of bytes, a clock, a sleeper and a gate. Each is a trait with
 //! its forms in memory, of which contracts say what they hold, and an adapter over the real thing, of which they
-//! say nothing but its count of faults. A call that fails answers `Failed` and raises the count, which stands still
+//! say no more than its count of faults, a clock's last answer and a sleeper's moment. A call that fails answers `Failed` and raises the count, which stands still
 //! at the greatest u64; where a fault has a cause, it is that the count of a device that was handed in rose.
 #![tactic(auto)]
 
