@@ -50,16 +50,22 @@ later_count a new huellas is = subst (λ (m : ℕ). counted a.faults ≤ counted
 
 pub consult_cause : (a : Practice) (huellas : List (List ℕ)) (r : Result (List Seen) AgencyFault) (new : Practice) →
     IsRow r (consultation_answer a huellas) a new (consulted a huellas) → HasCause (counted a.faults) (counted new.faults) r
-consult_cause a huellas (Ok seen) new row = record { later = later_count a new huellas row.1; failed = tt }
+consult_cause a huellas (Ok seen) new row = record {
+  later = later_count a new huellas row.1;
+  failed = tt;
+  no_memory = λ none. absurd cc;
+}
 consult_cause a huellas (Err Failed) new row = record {
   later = later_count a new huellas row.1;
   failed = subst (λ (m : ℕ). Rose (counted a.faults) (counted m)) (sym (faults_are a new huellas row.1))
       (faults_rose (fate_of a) a.faults (failed_by (is_faulty (fate_of a)) (looked (processed_before a) huellas) row.0));
+  no_memory = λ none. absurd cc;
 }
 consult_cause a huellas (Err NoMemory) new row = record {
   later = (let e : counted new.faults ≡ counted a.faults =
       ap (λ (x : Practice). counted x.faults) row in omega arith);
   failed = tt;
+  no_memory = λ none. ap (λ (x : Practice). counted x.faults) row;
 }
 
 pub consult_count : (a : Practice) (huellas : List (List ℕ)) (r : Result (List Seen) AgencyFault) (new : Practice) →

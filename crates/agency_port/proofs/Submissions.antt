@@ -147,15 +147,21 @@ risen_count a new batch is e = subst (λ (m : ℕ). Rose (counted a.faults) (cou
 
 pub submit_cause : (a : Practice) (batch : List Sealed) (r : Result Replied AgencyFault) (new : Practice) →
     IsRow r (submission_answer a batch) a new (submitted a batch) → HasCause (counted a.faults) (counted new.faults) r
-submit_cause a batch (Ok reply) new row = record { later = later_count a new batch row.1; failed = tt }
+submit_cause a batch (Ok reply) new row = record {
+  later = later_count a new batch row.1;
+  failed = tt;
+  no_memory = λ none. absurd cc;
+}
 submit_cause a batch (Err Failed) new row = record {
   later = later_count a new batch row.1;
   failed = risen_count a new batch row.1 (failed_faulty (fate_of a) a.plan (processed_before a) a.log batch row.0);
+  no_memory = λ none. absurd cc;
 }
 submit_cause a batch (Err NoMemory) new row = record {
   later = (let e : counted new.faults ≡ counted a.faults =
       ap (λ (x : Practice). counted x.faults) row in omega arith);
   failed = tt;
+  no_memory = λ none. ap (λ (x : Practice). counted x.faults) row;
 }
 
 pub submit_stale : (a : Practice) (batch : List Sealed) (r : Result Replied AgencyFault) (new : Practice) →

@@ -59,35 +59,34 @@ ok_counted (told.Submitted reply ∷ rest) huellas seen e = absurd cc
 ok_counted (told.Consulted kept ∷ rest) huellas seen e = counts_by (length kept == length huellas) (length kept) (length huellas)
     kept seen refl refl e
 
--- the count after an answer
+-- the count after an answer that isn't want of memory
 count_cause : {A : Type 0} (r answer : Result A AgencyFault) (n m : ℕ) → r ≡ answer → m ≡ faults_after answer n →
-    HasCause (counted n) (counted m) r
-count_cause (Ok value) answer n m e is = record {
+    (r ≡ Err NoMemory → ⊥) → HasCause (counted n) (counted m) r
+count_cause (Ok value) answer n m e is other = record {
   later = subst (λ (k : ℕ). counted n ≤ counted k) (sym is)
       (count_later answer n);
   failed = tt;
+  no_memory = λ none. absurd (other none);
 }
-count_cause (Err Failed) answer n m e is = record {
+count_cause (Err Failed) answer n m e is other = record {
   later = subst (λ (k : ℕ). counted n ≤ counted k) (sym is) (count_later answer n);
   failed = subst (λ (k : ℕ). Rose (counted n) (counted k)) (ap (λ (x : Result _ AgencyFault). faults_after x n) e ∙ sym is)
       (counted_rose n);
+  no_memory = λ none. absurd (other none);
 }
-count_cause (Err NoMemory) answer n m e is = record {
-  later = subst (λ (k : ℕ). counted n ≤ counted k) (sym is)
-      (count_later answer n);
-  failed = tt;
-}
+count_cause (Err NoMemory) answer n m e is other = absurd (other refl)
 
 pub submit_cause : (a : Telling) (batch : List Sealed) (r : Result Replied AgencyFault) (new : Telling) →
     IsRow r (submission_answer a.answers batch) a new (submitted a batch) → HasCause (counted a.faults) (counted new.faults) r
 submit_cause a batch (Ok reply) new row = count_cause (Ok reply) (submission_answer a.answers batch) a.faults new.faults row.0
-    (ap (λ (x : Telling). x.faults) row.1)
+    (ap (λ (x : Telling). x.faults) row.1) (λ none. cc)
 submit_cause a batch (Err Failed) new row = count_cause (Err Failed) (submission_answer a.answers batch) a.faults new.faults row.0
-    (ap (λ (x : Telling). x.faults) row.1)
+    (ap (λ (x : Telling). x.faults) row.1) (λ none. cc)
 submit_cause a batch (Err NoMemory) new row = record {
   later = (let e : counted new.faults ≡ counted a.faults =
       ap (λ (x : Telling). counted x.faults) row in omega arith);
   failed = tt;
+  no_memory = λ none. ap (λ (x : Telling). counted x.faults) row;
 }
 
 pub submit_stale : (a : Telling) (batch : List Sealed) (r : Result Replied AgencyFault) (new : Telling) →
@@ -118,13 +117,14 @@ pub consult_cause : (a : Telling) (huellas : List (List ℕ)) (r : Result (List 
     IsRow r (consultation_answer a.answers huellas) a new (consulted a huellas) → HasCause (counted a.faults) (counted new.faults)
     r
 consult_cause a huellas (Ok seen) new row = count_cause (Ok seen) (consultation_answer a.answers huellas) a.faults new.faults
-    row.0 (ap (λ (x : Telling). x.faults) row.1)
+    row.0 (ap (λ (x : Telling). x.faults) row.1) (λ none. cc)
 consult_cause a huellas (Err Failed) new row = count_cause (Err Failed) (consultation_answer a.answers huellas) a.faults
-    new.faults row.0 (ap (λ (x : Telling). x.faults) row.1)
+    new.faults row.0 (ap (λ (x : Telling). x.faults) row.1) (λ none. cc)
 consult_cause a huellas (Err NoMemory) new row = record {
   later = (let e : counted new.faults ≡ counted a.faults =
       ap (λ (x : Telling). counted x.faults) row in omega arith);
   failed = tt;
+  no_memory = λ none. ap (λ (x : Telling). counted x.faults) row;
 }
 
 pub consult_count : (a : Telling) (huellas : List (List ℕ)) (r : Result (List Seen) AgencyFault) (new : Telling) →

@@ -29,10 +29,11 @@ abbrev pub OnFailed : {T : Type 0} → Result T AgencyFault → Type 0 → Type 
 OnFailed (Err Failed) P = P
 OnFailed other P = ⊤
 
--- the count of faults never falls, and Failed shows in it
+-- The count of faults never falls, and Failed shows in it. Want of memory leaves it as it was.
 pub record HasCause {T : Type 0} (before now : ℕ) (result : Result T AgencyFault) : Type 0 where
   pub later : before ≤ now
   pub failed : OnFailed result (Rose before now)
+  pub no_memory : result ≡ Err NoMemory → now ≡ before
 
 -- the reply names exactly the batch's Huellas, in order
 abbrev pub Names : Replied → List Sealed → Type 0

@@ -44,7 +44,7 @@ pub trait Agency {
 
     ghost consultation: { Self → Self → List (List ℕ) → Result (List AnySeen) AnyFault → Type 0 } = { λ _ _ _ _. ⊤ };
 
-    /// Opens a session. Want of memory changes nothing.
+    /// Opens a session. Want of memory changes nothing that is told.
     fn begin(
         &mut self,
         alloc: Global,

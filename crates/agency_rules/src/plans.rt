@@ -8,7 +8,7 @@ use series::NumSerie;
 use std::alloc::Global;
 use std::marker::Model;
 
-/// What the agency says of a record beside the rules of its register, with its code from 1 to 65535.
+/// What the agency says of a record beside the rules of its register, with its code: from 1 to 65535 in a script that was read.
 #[derive(Clone, Copy, Debug, PartialEq, Eq)]
 pub enum Verdict {
     /// It is refused.
@@ -17,7 +17,8 @@ pub enum Verdict {
     Warn(u16),
 }
 
-/// The verdict on the `n`-th record of an invoice that reaches the agency, counted from 1 to 1000.
+/// The verdict on the `n`-th record of an invoice that reaches the agency, counted from 1. In a script that was read `n` is at
+/// most 1000, and never 0.
 #[derive(Clone, Copy, Debug, PartialEq, Eq)]
 pub struct PlannedVerdict {
     pub num: NumSerie,
@@ -25,29 +26,30 @@ pub struct PlannedVerdict {
     pub verdict: Verdict,
 }
 
-/// What befalls a call to the agency.
+/// What befalls a call to the agency. A consultation fails under every fate but `Again`.
 #[derive(Clone, Copy, Debug, PartialEq, Eq)]
 pub enum Fate {
     /// It does not arrive.
     Lost,
     /// It arrives, and its answer is lost.
     Taken,
-    /// It arrives, and the answer before is given once more.
+    /// It arrives, and is given the reply before it once more: one without lines where there is none. Where that reply names its
+    /// very batch, the call fails.
     Stale,
-    /// It arrives, and so do once more all those before it.
+    /// It arrives and is answered, and all batches handed over before it arrive once more, in front of it.
     Again,
-    /// It arrives so many calls later, 1 to 1000 of them.
+    /// It fails, and arrives so many calls later, with 0 at the next one. In a script that was read these are 1 to 1000.
     Late(u32),
 }
 
-/// The fate of a call, counted from 1 to 1,000,000.
+/// The fate of a call, counted from 1. In a script that was read `call` is at most 1,000,000, and never 0.
 #[derive(Clone, Copy, Debug, PartialEq, Eq)]
 pub struct PlannedFate {
     pub call: u32,
     pub fate: Fate,
 }
 
-/// The verdicts of a plan, at most one for an invoice and a count.
+/// The verdicts of a plan. Of two for one invoice and count the first holds; in a script that was read there are no two.
 #[derive(Drop)]
 pub struct Verdicts {
     list: Vec<PlannedVerdict>,
@@ -97,7 +99,7 @@ impl Verdicts {
     }
 }
 
-/// The fates of a plan, at most one for a call.
+/// The fates of a plan. Of two for one call the first holds; in a script that was read there are no two.
 #[derive(Drop)]
 pub struct Fates {
     list: Vec<PlannedFate>,
@@ -147,8 +149,8 @@ impl Fates {
     }
 }
 
-/// What the practice agency does beside its rules. `wait` is the pause in seconds that it asks for after each answer, up to
-/// 86400.
+/// What the practice agency does beside its rules. `wait` is the pause in seconds that it asks for after each answer: at most
+/// 86400 in a script that was read.
 #[derive(Drop)]
 pub struct Plan {
     pub verdicts: Verdicts,

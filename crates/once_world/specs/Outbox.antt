@@ -1,5 +1,6 @@
 -- What the sender sees of a shop: the items that it has seen so far, and which of them its own notes added.
-use Rattle.std.specs.Prelude.{◌≡◌, ℕ, ◌+◌, ◌<◌, List, [], ◌∷◌, ◌++◌, length, take, drop, map, Result, Ok, Err, ⊤, All, Contains}
+use Rattle.std.specs.Prelude.{◌≡◌, ℕ, ◌+◌, ◌<◌, ◌≤◌, List, [], ◌∷◌, ◌++◌, length, take, drop, map, Result, Ok, Err, ⊤, All}
+use Rattle.std.specs.Prelude.{Contains}
 use Rattle.std.specs.List.{AllByRecursion}
 use Rattle.record_fields.specs.declared.lines.Line.{Line}
 use Rattle.record_codec.specs.declared.entries.Entry.{Entry}
@@ -58,10 +59,12 @@ pub record AddsOwn (old new : Sight) (item : List Item → Item) : Type 0 where
   pub items : new.items ≡ (old.items ++ others) ++ item (old.items ++ others) ∷ []
   pub own : new.own ≡ old.own ++ length (old.items ++ others) ∷ []
 
--- the stop that this call recorded, with the notes that may be in the file
+-- The stop that this call recorded, with the notes that may be in the file. The lines are no more than wait in the history in
+-- front of it
 pub record StopsHere (old new : Sight) (lines : List Line) : Type 0 where
   pub faults : ℕ
   pub adds : AddsOwn old new (λ items. recorded.Stop faults (notes_behind items lines))
+  pub fits : length (noted (history_of new)) + length lines ≤ length (recs (history_of new))
 
 -- the last item is a stop with this count, which an earlier call recorded: this one added nothing
 pub record HasStopped (old new : Sight) (faults : ℕ) : Type 0 where

@@ -14,7 +14,7 @@ use shop_core::{State, Waiting};
 use std::alloc::Global;
 use std::sync::Wait;
 
-/// The outbox of a history that is kept in memory: nobody else adds to it, and it never stops.
+/// The outbox of a history that is kept in memory. It shows entries alone: it never stops.
 #[derive(Drop)]
 pub struct PlainOutbox {
     state: State,

@@ -1,6 +1,6 @@
 -- What a till's run adds to the list, told of the list at the end.
-use Rattle.std.proofs.Common.{◌≡◌, ◌⊎◌, inl, inr, ℕ, zero, suc, ◌<◌, ◌≤◌, false, List, [], ◌∷◌, length, drop, All, Option, Result}
-use Rattle.std.proofs.Common.{refl, ap, sym, subst, arith}
+use Rattle.std.proofs.Common.{◌≡◌, ◌⊎◌, inl, inr, ℕ, zero, suc, ◌<◌, ◌≤◌, true, false, List, [], ◌∷◌, length, drop, All, Option}
+use Rattle.std.proofs.Common.{Result, refl, ap, sym, subst, arith}
 use Rattle.std.specs.Prelude.{◌≢◌}
 use Rattle.std.proofs.lemmas.List.{length-append}
 use Rattle.chain_lock.specs.Known.{Known, IsNew, Fits, owners}
@@ -9,7 +9,7 @@ use Rattle.journal.specs.declared.faults.StoreFault.{StoreFault}
 use Rattle.shop_core.specs.Requests.{Asked}
 use Rattle.shop_core.specs.declared.answers.Reply.{Reply}
 use Rattle.shop_core.specs.declared.items.Item.{Item}
-use Rattle.till_calls.specs.Own.{is_of, records_of, AreTaken, OwnsNone}
+use Rattle.till_calls.specs.Own.{is_by, is_of, records_of, AreTaken, OwnsNone, OwnsOnly}
 use Rattle.till_calls.specs.Root.{Root}
 use Rattle.till_calls.specs.Client.{TillRun}
 use Rattle.till_calls.proofs.Places.{its_own, all_each}
@@ -34,6 +34,9 @@ module _ {C : Type 0} (coming : C → ℕ → Option ℕ) (till : ℕ) (root : R
 
     pub adds_for_no_other : (other : ℕ) → other ≢ till → OwnsNone other new
     adds_for_no_other other apart = each_all (λ (x : ℕ × Item). is_of other x.1 ≡ false) new.own (served.others other apart)
+
+    pub owns_only : OwnsOnly till new
+    owns_only = each_all (λ (x : ℕ × Item). is_by till x.1 ≡ true) new.own served.only
 
     either_way : (k : Known Item (Root C)) → (k ≡ new) ⊎ OwnsNone till k → (k ≡ new) ⊎
         EachOf (λ (x : ℕ × Item). is_of till x.1 ≡ false) k.own

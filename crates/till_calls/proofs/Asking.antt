@@ -28,7 +28,8 @@ use Rattle.till_calls.specs.Turns.{IsReading, IsShopList, TillDoes, TillTurn}
 use Rattle.till_calls.proofs.Calls.{call_of}
 use Rattle.till_calls.proofs.Keeping.{sound_gains, sound_stays, sound_stops, between_around, later_more}
 
-entries_in_map : (es : List Entry) (more : List Item) → entries_of (map item.Entry es ++ more) ≡ es ++ entries_of more
+-- the entries of entries, and of what stands behind them
+pub entries_in_map : (es : List Entry) (more : List Item) → entries_of (map item.Entry es ++ more) ≡ es ++ entries_of more
 entries_in_map [] more = refl
 entries_in_map (e ∷ es) more = ap (λ (l : List Entry). e ∷ l) (entries_in_map es more)
 

@@ -92,6 +92,7 @@ module _ {D C : Type 0} (tells : Bool) (told : D → OnDisk) (faults : D → ℕ
             going_on = items_going p going;
             count = faults q.disk;
             rose = stopped.rose;
+            fits = (t.torn refl).continues.within;
             after_is = items_stopped q (faults q.disk) e fault.1 torn ∙ ap (λ (es : List Entry). map item.Entry es ++ item.Stop
                 (faults q.disk) e ∷ []) t.same
                 ∙ ap (λ (l : List Item). l ++ item.Stop (faults q.disk) e ∷ []) (sym (items_going p going)) ∙

@@ -11,11 +11,14 @@ use Rattle.journal.specs.declared.faults.StoreFault.TheVariants.{DiskFault, Stop
 use Rattle.once_world.specs.Outbox.{AddsOwn, HasNoStop, HasStopped, NotedBy, OwnWithin, notes_behind}
 use Rattle.record_codec.specs.declared.entries.Entry.{Entry}
 use Rattle.record_fields.specs.declared.lines.Line.{Line}
+use Rattle.shop_core.specs.History.{noted, recs}
+use Rattle.shop_core.specs.Items.{entries_of}
 use Rattle.shop_core.specs.declared.items.Item.{Item}
 use Rattle.shop_core.specs.declared.items.Item.TheVariants as item
 use Rattle.till_calls.specs.Root.{Root}
 use Rattle.till_calls.specs.Mark.{sight_by}
 use Rattle.till_calls.specs.Turns.{SeatTurn, SeatDoes}
+use Rattle.till_calls.proofs.Asking.{entries_in_map}
 use Rattle.till_calls.proofs.Places.{all_each}
 use Rattle.till_calls.proofs.Serving.{each_front}
 
@@ -75,6 +78,17 @@ module _ {C : Type 0} (lines : List Line) (old : Known Item (Root C)) where
     own = own_one before (made before) ∙ ap (λ (l : List Item). (sight_by old).own ++ length l ∷ []) is;
   }
 
+  -- a stop leaves the history in front of it
+  fits_in_front : (before : List Item) (history : List Entry) (count : ℕ) (torn : Entry) → before ≡ map item.Entry history →
+      length (noted history) + length lines ≤ length (recs history) →
+      length (noted (entries_of (before ++ item.Stop count torn ∷ []))) + length lines ≤ length (recs
+      (entries_of (before ++ item.Stop count torn ∷ [])))
+  fits_in_front before history count torn going fits =
+      let same : entries_of (before ++ item.Stop count torn ∷ []) ≡ history =
+      ap (λ (l : List Item). entries_of (l ++ item.Stop count torn ∷ [])) going ∙ entries_in_map history
+      (item.Stop count torn ∷ []) ∙ append-nil history in
+      subst (λ (es : List Entry). length (noted es) + length lines ≤ length (recs es)) (sym same) fits
+
   noted_after : (told : Result (Unit {0}) StoreFault) (root : Root C) (before more others : List Item) →
       before ≡ old.seen ++ others → SeatDoes lines told root before (before ++ more) →
       NotedBy (sight_by old) (sight_by (after before more)) lines told
@@ -91,6 +105,7 @@ module _ {C : Type 0} (lines : List Line) (old : Known Item (Root C)) where
         faults = t.count;
         adds = adds_own before others t.history (λ items. item.Stop t.count (notes_behind items lines))
             is t.going_on;
+        fits = fits_in_front before t.history t.count (notes_behind before lines) t.going_on t.fits;
       })
   noted_after (Err (Stopped count)) root before more others is s =
       let none : more ≡ [] = append_cancel_left before more [] (s.0 ∙ sym (append-nil before)) in

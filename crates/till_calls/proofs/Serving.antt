@@ -27,7 +27,7 @@ use Rattle.shop_core.specs.declared.answers.Reply.{Reply}
 use Rattle.shop_core.specs.declared.answers.Reply.TheVariants.{Taken, Again, Refused}
 use Rattle.shop_core.specs.declared.receipts.Receipt.{Receipt}
 use Rattle.till_calls.specs.Root.{Root}
-use Rattle.till_calls.specs.Own.{is_of, records_of, AreTaken}
+use Rattle.till_calls.specs.Own.{is_by, is_of, records_of, AreTaken}
 use Rattle.till_calls.specs.Client.{TillRun}
 use Rattle.till_calls.specs.Client.TillRun.{begun, asked}
 use Rattle.till_calls.specs.Shop.{Asks}
@@ -38,12 +38,13 @@ use Rattle.till_calls.proofs.Places.{Rises}
 abbrev added : {R : Type 0} → Known Item R → List Item
 added k = map (λ (x : ℕ × Item). x.1) k.own
 
--- What a till has after asks of its own. Its own items are records of it that were told as taken, and stops, in order
+-- What a till has after asks of its own. Its own items are records of it that were told as taken, and stops over one, in order
 pub record IsServed {R : Type 0} (till : ℕ) (replies : List (Result Reply StoreFault)) (start : ℕ) (k : Known Item R) : Type 0
   where
     pub rises : Rises start (length k.seen) k.own
     pub taken : AreTaken replies (records_of till (added k))
     pub others : (other : ℕ) → other ≢ till → EachOf (λ (x : ℕ × Item). is_of other x.1 ≡ false) k.own
+    pub only : EachOf (λ (x : ℕ × Item). is_by till x.1 ≡ true) k.own
 
 made_of : (o : Option Receipt) (w : Option Refusal) (m e : Entry) → option_map_or planned.Again o (option_map_or planned.Refused w
     (planned.Made m)) ≡ planned.Made e → e ≡ m
@@ -178,14 +179,16 @@ module _ {C : Type 0} (till : ℕ) (start : ℕ) where
         (taken_none replies reply (records_of till (added old)) never s.taken);
     others = λ other apart. subst (λ (o : List (ℕ × Item)). EachOf (λ (x : ℕ × Item). is_of other x.1 ≡ false) o)
         (sym (append-nil old.own)) (s.others other apart);
+    only = subst (λ (o : List (ℕ × Item)). EachOf (λ (x : ℕ × Item). is_by till x.1 ≡ true) o) (sym (append-nil old.own)) s.only;
   }
 
   serves_one : (replies : List (Result Reply StoreFault)) (reply : Result Reply StoreFault) (old : Known Item (Root C))
       (before : List Item) (x : Item) → length old.seen ≤ length before →
-      ((other : ℕ) → other ≢ till → is_of other x ≡ false) → (AreTaken replies (records_of till (added old)) →
-      AreTaken (replies ++ reply ∷ []) (records_of till (added old) ++ records_of till (x ∷ []))) →
+      ((other : ℕ) → other ≢ till → is_of other x ≡ false) → is_by till x ≡ true →
+      (AreTaken replies (records_of till (added old)) → AreTaken (replies ++ reply ∷ []) (records_of till (added old) ++
+      records_of till (x ∷ []))) →
       Served replies old → Served (replies ++ reply ∷ []) (after old before (x ∷ []))
-  serves_one replies reply old before x longer apart told s = record {
+  serves_one replies reply old before x longer apart mine told s = record {
     rises = rises_snoc start (length old.seen) (length before) (length (before ++ x ∷ [])) x old.own longer
         (let e = length-append before (x ∷ []) in omega (arith, e)) s.rises;
     taken = subst (λ (l : List Item). AreTaken (replies ++ reply ∷ []) l)
@@ -193,6 +196,7 @@ module _ {C : Type 0} (till : ℕ) (start : ℕ) where
         filter_snoc till (added old) x)) (told s.taken);
     others = λ other ne. each_snoc (λ (y : ℕ × Item). is_of other y.1 ≡ false) old.own (length before, x) (s.others other ne)
         (apart other ne);
+    only = each_snoc (λ (y : ℕ × Item). is_by till y.1 ≡ true) old.own (length before, x) s.only mine;
   }
 
   -- one more ask of the till
@@ -213,7 +217,7 @@ module _ {C : Type 0} (till : ℕ) (start : ℕ) where
       (taken_snoc replies receipt (records_of till (added old)) g.0 (length (recs a.history) + 1) g.2 h) in
       subst (λ (l : List Item). Served (replies ++ Ok (Taken receipt) ∷ []) (after old before l)) (sym one)
       (serves_one replies (Ok (Taken receipt)) old before (item.Entry g.0) longer (λ other apart. of_no_other other till g.0 apart
-      own) told s)
+      own) own told s)
   serves_turn coming ask (Ok (Again receipt)) replies old home before more same longer a s =
       let none : more ≡ [] = turn_adds a.history a.gained before more a.going_on a.after_is
       ∙ ap (λ (l : List Entry). map item.Entry l) (gains_none a.history (answer home.issuer a.history ask a.seconds)
@@ -231,6 +235,7 @@ module _ {C : Type 0} (till : ℕ) (start : ℕ) where
       (t.after_is ∙ ap (λ (l : List Item). l ++ item.Stop t.count t.torn ∷ []) (sym t.going_on)) in
       subst (λ (l : List Item). Served (replies ++ Err DiskFault ∷ []) (after old before l)) (sym one)
       (serves_one replies (Err DiskFault) old before (item.Stop t.count t.torn) longer (λ other apart. refl)
+      (subst (λ (n : ℕ). is_of n (item.Entry t.torn) ≡ true) same (of_its_till home.issuer t.history ask t.seconds t.torn t.made))
       (λ h. taken_none replies (Err DiskFault) (records_of till (added old) ++ []) (λ r e. absurd (let x = e in cc))
       (subst (λ (l : List Item). AreTaken replies l) (sym (append-nil (records_of till (added old)))) h)) s)
   serves_turn coming ask (Err (Stopped count)) replies old home before more same longer t s =
@@ -267,4 +272,5 @@ module _ {C : Type 0} (till : ℕ) (start : ℕ) where
     taken = ap (λ (o : List (ℕ × Item)). records_of till (map (λ (x : ℕ × Item). x.1) o)) new.own;
     others = λ other apart. subst (λ (o : List (ℕ × Item)). EachOf (λ (x : ℕ × Item). is_of other x.1 ≡ false) o) (sym new.own)
         tt;
+    only = subst (λ (o : List (ℕ × Item)). EachOf (λ (x : ℕ × Item). is_by till x.1 ≡ true) o) (sym new.own) tt;
   }

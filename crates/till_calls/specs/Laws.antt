@@ -6,7 +6,7 @@ use Rattle.journal.specs.declared.faults.StoreFault.{StoreFault}
 use Rattle.shop_core.specs.Requests.{Asked}
 use Rattle.shop_core.specs.declared.answers.Reply.{Reply}
 use Rattle.shop_core.specs.declared.items.Item.{Item}
-use Rattle.till_calls.specs.Own.{AreTaken, OwnsNone, records_of}
+use Rattle.till_calls.specs.Own.{AreTaken, OwnsNone, OwnsOnly, records_of}
 use Rattle.till_calls.specs.Root.{Root}
 use Rattle.till_calls.specs.Client.{TillRun, TillTold}
 
@@ -31,3 +31,9 @@ abbrev pub AddsForNoOther : {C : Type 0} → (C → ℕ → Option ℕ) → Type
 AddsForNoOther {C} coming = (till other : ℕ) (root : Root C) (items : List Item) (old new : Known Item (Root C))
     (asks : List Asked) (replies : List (Result Reply StoreFault)) → IsNew items root old →
     TillRun coming old asks replies new → All (λ (a : Asked). a.till ≡ till) asks → other ≢ till → OwnsNone other new
+
+-- and all that it owns is a record of its own, or a stop over one
+abbrev pub OwnsRecordsAndStops : {C : Type 0} → (C → ℕ → Option ℕ) → Type 0
+OwnsRecordsAndStops {C} coming = (till : ℕ) (root : Root C) (items : List Item) (old new : Known Item (Root C))
+    (asks : List Asked) (replies : List (Result Reply StoreFault)) → IsNew items root old →
+    TillRun coming old asks replies new → All (λ (a : Asked). a.till ≡ till) asks → OwnsOnly till new

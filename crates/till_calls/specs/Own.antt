@@ -1,5 +1,5 @@
 -- What each till and the seat added to a shop's list.
-use Rattle.std.specs.Prelude.{◌≡◌, ℕ, ◌==◌, Bool, false, List, [], ◌∷◌, filter, All, Result, Ok, Err}
+use Rattle.std.specs.Prelude.{◌≡◌, ℕ, ◌==◌, Bool, true, false, List, [], ◌∷◌, filter, All, Result, Ok, Err}
 use Rattle.chain_lock.specs.Known.{Known}
 use Rattle.journal.specs.declared.faults.StoreFault.{StoreFault}
 use Rattle.record_codec.specs.declared.entries.Entry.{Entry}
@@ -15,6 +15,11 @@ abbrev pub is_of : ℕ → Item → Bool
 is_of till (item.Entry (Rec own serial sealed)) = own == till
 is_of till (item.Entry (Notes first lines)) = false
 is_of till (item.Stop faults torn) = false
+
+-- the item is a record of this till, or a stop over one
+abbrev pub is_by : ℕ → Item → Bool
+is_by till (item.Entry e) = is_of till (item.Entry e)
+is_by till (item.Stop faults torn) = is_of till (item.Entry torn)
 
 -- the records of a till among these items
 abbrev pub records_of : ℕ → List Item → List Item
@@ -32,3 +37,7 @@ AreTaken (Err fault ∷ replies) items = AreTaken replies items
 -- a pass owns no record of this till
 abbrev pub OwnsNone : {R : Type 0} → ℕ → Known Item R → Type 0
 OwnsNone till k = All (λ (x : ℕ × Item). is_of till x.1 ≡ false) k.own
+
+-- all that a pass owns is a record of this till, or a stop over one
+abbrev pub OwnsOnly : {R : Type 0} → ℕ → Known Item R → Type 0
+OwnsOnly till k = All (λ (x : ℕ × Item). is_by till x.1 ≡ true) k.own

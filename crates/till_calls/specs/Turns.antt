@@ -1,5 +1,5 @@
 -- What a turn of a till does, and one of the sender's seat.
-use Rattle.std.specs.Prelude.{◌≡◌, ℕ, List, [], ◌∷◌, ◌++◌, map, length, take, Option, Result, Ok, Err, IfOk}
+use Rattle.std.specs.Prelude.{◌≡◌, ℕ, ◌+◌, ◌≤◌, List, [], ◌∷◌, ◌++◌, map, length, take, Option, Result, Ok, Err, IfOk}
 use Rattle.chain_lock.specs.Lists.{StartsWith}
 use Rattle.journal.specs.declared.faults.StoreFault.{StoreFault}
 use Rattle.journal.specs.declared.faults.StoreFault.TheVariants.{DiskFault, Stopped, NoMemory}
@@ -91,12 +91,13 @@ pub record AddsNotes (lines : List Line) (before after : List Item) : Type 0 whe
   pub going_on : before ≡ map item.Entry history
   pub after_is : after ≡ before ++ item.Entry (Notes_behind before lines) ∷ []
 
--- the disk failed while they were added, which stops the shop
+-- The disk failed while they were added, which stops the shop. Nothing had stopped it before, and they were no more than waited
 pub record TearsNotes {C : Type 0} (lines : List Line) (root : Root C) (before after : List Item) : Type 0 where
   pub history : List Entry
   pub going_on : before ≡ map item.Entry history
   pub count : ℕ
   pub rose : Rose root.faults count
+  pub fits : length (noted history) + length lines ≤ length (recs history)
   pub after_is : after ≡ before ++ item.Stop count (Notes_behind before lines) ∷ []
 
 -- what a note of these lines does, by its answer

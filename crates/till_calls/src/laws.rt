@@ -1,5 +1,5 @@
 // What holds of runs alone.
-ghost use Rattle.till_calls.specs.Laws.{AddsForNoOther, AddsWhatIsTaken, ToldAtTheEnd};
+ghost use Rattle.till_calls.specs.Laws.{AddsForNoOther, AddsWhatIsTaken, OwnsRecordsAndStops, ToldAtTheEnd};
 
 use ports::Clock;
 
@@ -17,4 +17,9 @@ pub fn a_till_adds_what_is_taken<C: Clock>()
 /// A till's run leaves it no record of another till.
 pub fn a_till_adds_for_no_other<C: Clock>()
     ensures { AddsForNoOther C.coming }
+{}
+
+/// All that a till's run leaves it is a record of its own, or a stop over one.
+pub fn a_till_owns_records_and_stops<C: Clock>()
+    ensures { OwnsRecordsAndStops C.coming }
 {}

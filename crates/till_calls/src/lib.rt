@@ -18,7 +18,10 @@ mod turns;
 
 pub use client::serve;
 pub use kept::Kept;
-pub use laws::{a_run_is_told_at_the_end, a_till_adds_for_no_other, a_till_adds_what_is_taken};
+pub use laws::{
+    a_run_is_told_at_the_end, a_till_adds_for_no_other, a_till_adds_what_is_taken,
+    a_till_owns_records_and_stops,
+};
 pub use root::ShopRoot;
 pub use seat::{SeatBox, SeatMark};
 pub use shop::{Shop, StartRefused, Started};
