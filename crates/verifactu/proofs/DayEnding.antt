@@ -35,7 +35,7 @@ use Rattle.till_calls.specs.Root.{Parts}
 use Rattle.till_calls.specs.Sound.{IsLater}
 use Rattle.verifactu.specs.Beside.{DayRunEnds, DaySession, DaySpan, IsUnbegun, KeptDay, ShowsLast, StaysAgreed}
 use Rattle.verifactu.specs.Beside.DayRunEnds.{done, write_fault, undelivered, contradiction, disk_fault, no_memory}
-use Rattle.verifactu.specs.Crashes.{Kept, StandsBetween, StandsForEnd, StandsSince}
+use Rattle.verifactu.specs.Crashes.{Kept, NoneCutOff, StandsBetween, StandsForEnd, StandsSince}
 use Rattle.verifactu.specs.Day.{DayEnds, DayServed, LeftTime, NotServed, Served, ShopLeft, ShopRan, StoreDayEnds}
 use Rattle.verifactu.specs.Day.{StoreKind, TillsEnd, day_text, span_of}
 use Rattle.verifactu.specs.Devices.{Agencies, AllDevices, Clocks, LeftSleeper, Sleepers, this_clock}
@@ -45,7 +45,7 @@ use Rattle.verifactu.specs.Readings.{readings_of}
 use Rattle.verifactu.specs.Scripts.{IsGoodScript}
 use Rattle.verifactu.specs.Scripts.ScriptedEnds.{ran}
 use Rattle.verifactu.specs.Replies.{AllGoOn, IsGoingOn, Replies, is_disk_fault}
-use Rattle.verifactu.specs.Tills.{StopsShop, ServedRun, TillServed, TillReplies, all_replies, has_asks, tills_of}
+use Rattle.verifactu.specs.Tills.{IsCutOffInDay, StopsShop, ServedRun, TillServed, TillReplies, all_replies, has_asks, tills_of}
 use Rattle.verifactu.specs.Tills.ServedRun.{unasked, answered, torn as tears, stopped as told_stop, without_memory}
 use Rattle.verifactu.proofs.Agreed.{torn_one}
 use Rattle.verifactu.proofs.Closing.{between, either}
@@ -142,11 +142,13 @@ module _ {D C Z G : Type 0} (h : StoreKind D C) (issuer : List ℕ) (asks : List
     found = found;
     kept = λ says.
         let begins : IsPrefix first first = record { rest = []; is = sym (append-nil first) } in
-        subst (λ (d : D). Kept (StandsSince issuer first first) issuer first [] (synced (h.told disk)) (h.told d)) (sym l.disk)
+        subst (λ (d : D). Kept (StandsSince issuer first first) NoneCutOff issuer first [] (synced (h.told disk)) (h.told d))
+        (sym l.disk)
         (record {
           torn = [];
           at_most_one = omega arith;
           by_a_fault = λ all. refl;
+          made = tt;
           each_moment = weaker (synced (h.told disk)) (h.told opened.disk) (IsFound issuer first) (StandsSince issuer first first
               []) (any_moment says) (λ c here. since_found issuer first first [] c begins here);
           every_crash = λ c left. inl (every_crash says c left);
@@ -246,6 +248,10 @@ module _ {D C Z G : Type 0} (h : StoreKind D C) (issuer : List ℕ) (asks : List
       at_most_one = torn_one r.new.stopped r.new.torn;
       by_a_fault = λ all faultless. none_torn (h.faults disk) (h.faults disk_after) (all_replies r.tills) r.answer r.new.stopped
           r.new.torn stops all faultless;
+      made = subst (λ (c : C). AllByRecursion (IsCutOffInDay issuer (h.coming c) r.new.state.entries asks r.tills r.answer) torn)
+          same_clock
+          (subst (λ (n : List ℕ). AllByRecursion (IsCutOffInDay n (h.coming opened.clock) r.new.state.entries asks r.tills
+          r.answer) torn) own r.run.made);
       torn_risen = torn_day (h.faults disk) (h.faults disk_after) r.new.stopped r.new.torn (all_replies r.tills) r.answer stops;
       kept = kept;
       session = session;
@@ -258,10 +264,11 @@ module _ {D C Z G : Type 0} (h : StoreKind D C) (issuer : List ℕ) (asks : List
     Failing n m = (n < m) × (a.kind.faults a.agency_after < 2 ^ 64 - 1 → a.kind.faults a.agency + MAX_LINK_FAULTS ≤ a.kind.faults
         a.agency_after)
 
-    eight_failed : (n m : ℕ) → r.answer ≡ Err (drain.Undelivered n m) → Failing n m
-    eight_failed n m e = let u = r.sends.undelivered n m e in (
-      u.0,
-      λ below. let more = u.1 below in let same = opens.faults in
+    eight_failed : (n m : ℕ) → r.answer ≡ Err (drain.Undelivered n m) → Failing (length (noted r.new.state.entries))
+        (length (recs r.new.state.entries))
+    eight_failed n m e = let counts = r.sends.counts n m e in (
+      omega (arith, counts.noted_is, counts.within, counts.some),
+      λ below. let more = r.sends.undelivered n m e below in let same = opens.faults in
           omega (arith, more, same),
     )
 
@@ -271,9 +278,10 @@ module _ {D C Z G : Type 0} (h : StoreKind D C) (issuer : List ℕ) (asks : List
 
     failed : (how : Detail) → Ends how → (n m : ℕ) → how ≡ detail.Undelivered n m → Failing n m
     failed how (undelivered x y all e w) n m is =
-        let one : x ≡ n = cc in
-        let two : y ≡ m = cc in
-        subst (λ (i : ℕ). Failing i m) one (subst (λ (j : ℕ). Failing x j) two (eight_failed x y e))
+        let lines : ℕ = length (noted r.new.state.entries) in
+        let one : lines ≡ n = cc in
+        let two : length (recs r.new.state.entries) ≡ m = cc in
+        subst (λ (i : ℕ). Failing i m) one (subst (λ (j : ℕ). Failing lines j) two (eight_failed x y e))
     failed how _ n m is = absurd cc
 
     completed : (how : Detail) → Ends how → NothingRose s disks a → IsTrue a.kind.keeps_rules → AgreesAtStart a first →
@@ -373,6 +381,26 @@ till_by issuer start end count asks old new same t h = record {
   at_most = h.at_most;
 }
 
+cut_off_by : (issuer : List ℕ) (end : List Entry) (asks : List Asked) (tills : List TillReplies)
+    (answer : Result (Unit {0}) DrainFault) (old new : ℕ → Option ℕ) → ((k : ℕ) → old k ≡ new k) → (e : Entry) →
+    IsCutOffInDay issuer old end asks tills answer e → IsCutOffInDay issuer new end asks tills answer e
+cut_off_by issuer end asks tills answer old new same e (inl by) =
+    let c = by.2 in
+    inl (
+      by.0,
+      by.1,
+      record {
+        place = c.place;
+        told = c.told;
+        ask = c.ask;
+        asked = c.asked;
+        seconds = c.seconds;
+        reading = (c.reading.0, subst (λ (o : Option ℕ). IsTold o c.seconds) (same c.reading.0) c.reading.1);
+        made = c.made;
+      },
+    )
+cut_off_by issuer end asks tills answer old new same e (inr notes) = inr notes
+
 -- the same end, said of other readings, of another clock and of another sleeper
 pub tills_by : {D G : Type 0} (issuer : List ℕ) (asks : List Asked) (plan : Plan) (old new : ℕ → Option ℕ)
     (untouched unread unserved unasked' left leaves : Type 0) (s : Sinks) (k : Disks D) (a : Agencies G) (end : Detail) →
@@ -416,6 +444,9 @@ tills_by issuer asks plan old new untouched unread unserved unasked' left leaves
         at_most_one = p.at_most_one;
         by_a_fault = p.by_a_fault;
         torn_risen = p.torn_risen;
+        made = each_weaker (IsCutOffInDay issuer old p.end asks p.tills p.answer)
+            (IsCutOffInDay issuer new p.end asks p.tills p.answer) p.torn
+            (cut_off_by issuer p.end asks p.tills p.answer old new same) p.made;
         kept = p.kept;
         session = p.session;
         images = p.images;

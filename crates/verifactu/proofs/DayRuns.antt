@@ -3,9 +3,11 @@ use Rattle.std.proofs.Common.{◌≡◌, ◌⊎◌, inl, inr, ℕ, zero, suc, �
 use Rattle.std.proofs.Common.{map, All, Option, Some, None, Result, Ok, Err, slice_get, refl, ap, sym, ◌∙◌, subst, arith}
 use Rattle.std.specs.Prelude.{◌≢◌, AllPairs, Contains, IsSome}
 use Rattle.std.specs.List.{AllByRecursion, flat_map}
-use Rattle.std.proofs.lemmas.List.{append-nil, length-append, length-map}
+use Rattle.std.proofs.lemmas.List.{append-nil, get_or-map, length-append, length-map}
+use Rattle.std.proofs.lemmas.List.Elements.{Contains-append_left, Contains-append_right}
 use Rattle.std.proofs.lemmas.List.Folds.{flat_map-map}
 use Rattle.std.proofs.lemmas.List.Sums.{sum_by_push}
+use Rattle.std.proofs.lemmas.Option.{get_or_from_slice_get, slice_get_within}
 use Rattle.chain_disk.specs.OnDisk.{OnDisk}
 use Rattle.chain_lock.specs.Known.{Known, IsNew, Fits, holders, owners, times_held}
 use Rattle.chain_lock.specs.Lists.{StartsWith}
@@ -19,26 +21,25 @@ use Rattle.shop_core.specs.declared.answers.Reply.{Reply}
 use Rattle.shop_core.specs.declared.answers.Reply.TheVariants.{Taken, Again, Refused}
 use Rattle.shop_core.specs.declared.items.Item.{Item}
 use Rattle.shop_core.specs.declared.items.Item.TheVariants as item
-use Rattle.till_calls.specs.Laws.{AddsForNoOther, AddsWhatIsTaken}
+use Rattle.till_calls.specs.Laws.{AddsForNoOther, AddsWhatIsTaken, OwnsRecordsAndStops}
 use Rattle.till_calls.specs.Own.{OwnsNone, is_of, records_of, AreTaken as TakenItems}
 use Rattle.till_calls.specs.Mark.{sight_by}
 use Rattle.till_calls.specs.Root.{Root, Parts, items_in, stop_in}
 use Rattle.till_calls.specs.Sound.{HasStopped, IsSound}
 use Rattle.sender.specs.Agreeing.{Adds, AreNotes, AreNotesOrTorn}
 use Rattle.sender.specs.declared.answers.DrainFault.{DrainFault}
-use Rattle.sender.specs.declared.answers.DrainFault.TheVariants as drain
-use Rattle.verifactu.specs.Draining.{IsDiskAnswer, IsFaultless}
+use Rattle.verifactu.specs.Draining.{IsDiskAnswer, IsFaultless, torn_in}
 use Rattle.verifactu.specs.Replies.{IsGoingOn, Replies}
-use Rattle.verifactu.specs.Tills.{AreTaken, DayRun, StopsShop, TellsStop, TillServed, TillReplies, all_replies, asks_of, is_from}
-use Rattle.verifactu.specs.Tills.{own_of, stops_in}
+use Rattle.verifactu.specs.Tills.{AreTaken, DayRun, IsCutOffBy, IsCutOffInDay, StopsShop, TellsStop, TillServed, TillReplies}
+use Rattle.verifactu.specs.Tills.{all_replies, asks_of, is_from, own_of, stops_in}
 use Rattle.verifactu.specs.Works.{Ran, Row, Worked, told_in}
 use Rattle.verifactu.specs.declared.tills.TillDay.{TillDay}
 use Rattle.verifactu.proofs.Each.{each_both, each_front, each_map, each_of_all, each_piece, each_unmap, each_weaker}
-use Rattle.verifactu.proofs.Rows.{AreDistinct, after_all, distinct_of, none_else, own as rows_own, still_held, stop_told, told}
-use Rattle.verifactu.proofs.Rows.{Told as RowTold}
-use Rattle.verifactu.proofs.Theirs.{IsOfTill, Theirs, run_of_till}
-use Rattle.verifactu.proofs.TillRuns.{StopTold, is_stop, items}
-use Rattle.verifactu.proofs.Whole.{Shared, bare, unstopped}
+use Rattle.verifactu.proofs.Rows.{AreDistinct, after_all, distinct_of, none_else, own as rows_own, still_held, stop_whose, told}
+use Rattle.verifactu.proofs.Rows.{own_asks, Told as RowTold}
+use Rattle.verifactu.proofs.Theirs.{Theirs, run_of_till}
+use Rattle.verifactu.proofs.TillRuns.{StopTold, items}
+use Rattle.verifactu.proofs.Whole.{Shared, all_noted, bare}
 
 no_record : (stopped : Option ℕ) (torn : Option Entry) (till : ℕ) → records_of till (stop_in stopped torn) ≡ []
 no_record (Some faults) (Some t) till = refl
@@ -101,6 +102,25 @@ no_entries (e ∷ es) h = absurd (let x = h in cc)
 at_end : (es : List Entry) (x : Item) (rest : List Item) → slice_get (map item.Entry es ++ x ∷ rest) (length es) ≡ Some x
 at_end [] x rest = refl
 at_end (e ∷ es) x rest = at_end es x rest
+
+-- what is at a place of a list is in it, and so in a list that it is a piece of
+got : {A : Type 0} (xs : List A) (place : ℕ) (x : A) → slice_get xs place ≡ Some x → Contains xs x
+got xs place x is = (place, slice_get_within xs place x is, get_or_from_slice_get xs place x x is)
+
+in_map : {A B : Type 0} (f : A → B) (xs : List A) (x : A) → Contains xs x → Contains (map f xs) (f x)
+in_map {A} f xs x c = (
+  c.0,
+  (let l = c.1 in let e = length-map xs f in omega (arith, l, e)),
+  get_or-map f xs c.0 x (f x) c.1 ∙ ap f c.2,
+)
+
+in_piece : {A B : Type 0} (f : A → List B) (xs : List A) (x : A) (y : B) → Contains xs x → Contains (f x) y →
+    Contains (flat_map f xs) y
+in_piece f [] x y c has = absurd (let l = c.1 in omega (arith, l))
+in_piece {A} {B} f (z ∷ zs) x y (zero, l, is) has =
+    Contains-append_left (f z) (flat_map f zs) y (subst (λ (v : A). Contains (f v) y) (sym is) has)
+in_piece f (z ∷ zs) x y (suc k, l, is) has =
+    Contains-append_right (f z) (flat_map f zs) y (in_piece f zs x y (k, omega (arith, l), is) has)
 
 no_some : (o : Option ℕ) → o ≡ None → IsSome o → ⊥
 no_some None e some = absurd (let x = some in cc)
@@ -177,18 +197,18 @@ module _ {D C : Type 0} (tells : Bool) (tell : D → OnDisk) (faults : D → ℕ
       }
 
   stops_by : Sound → (replies : Replies) (answer : Result (Unit {0}) DrainFault) → AllByRecursion (StopTold p.stopped) replies →
-      (IsDiskAnswer answer → IsSome p.stopped) → (IsSome p.stopped → Contains replies (Err DiskFault) ⊎ (IsFaultless answer → ⊥))
-      → (s : Option ℕ) → p.stopped ≡ s →
+      (IsDiskAnswer answer → IsSome p.stopped) → (s : Option ℕ) → p.stopped ≡ s →
+      (IsSome s → Contains replies (Err DiskFault) ⊎ (IsFaultless answer → ⊥)) →
       StopsShop root.faults (faults p.disk) s replies answer
-  stops_by sound replies answer each disk first_told None e = (
+  stops_by sound replies answer each disk None e first_told = (
     each_weaker (StopTold None) IsGoingOn replies going_on (subst (λ (o : Option ℕ). AllByRecursion (StopTold o) replies) e
         each),
     λ is. no_some p.stopped e (disk is),
   )
-  stops_by sound replies answer each disk first_told (Some count) e =
+  stops_by sound replies answer each disk (Some count) e first_told =
       let h = sound.stop count e in
       record {
-        first = first_told (subst (λ (o : Option ℕ). IsSome o) (sym e) refl);
+        first = first_told refl;
         later = each_weaker (StopTold (Some count)) (TellsStop count) replies (tells_stop count)
             (subst (λ (o : Option ℕ). AllByRecursion (StopTold o) replies) e each);
         risen = h.rose;
@@ -200,8 +220,8 @@ module _ {D C : Type 0} (tells : Bool) (tell : D → OnDisk) (faults : D → ℕ
       (distinct : AreDistinct (map (λ (r : Row C). r.done.till) rows))
       (news : AllByRecursion (λ (r : Row C). IsNew base root r.from) rows)
       (first : Known Item (Root C)) (first_new : IsNew base root first) (answer : Result (Unit {0}) DrainFault)
-      (bare : (till : ℕ) → OwnsNone till seat) (unstopped : IsFaultless answer →
-      AllByRecursion (λ (z : ℕ × Item). is_stop z.1 ≡ false) seat.own)
+      (bare : (till : ℕ) → OwnsNone till seat)
+      (noted : AllByRecursion (λ (z : ℕ × Item). AreNotesOrTorn z.1 × (IsFaultless answer → AreNotes z.1)) seat.own)
       (disk : IsDiskAnswer answer → IsSome p.stopped) (worked : AllByRecursion (Worked coming asks) rows)
       (fits : AllByRecursion (Fits (items_in p)) (after_all coming asks rows ++ seat ∷ [])) (starts : StartsWith (items_in p)
       base)
@@ -234,38 +254,54 @@ module _ {D C : Type 0} (tells : Bool) (tell : D → OnDisk) (faults : D → ℕ
         (each_weaker RTold (λ (r : Row C). AllByRecursion (StopTold p.stopped) r.done.answers.items) rows (λ r t. t.told.stops)
         all_told)
 
-    first_told : IsFaultless answer → IsSome p.stopped → Contains (flat_map (λ (r : Row C). r.done.answers.items) rows)
-        (Err DiskFault)
-    first_told faultless is = by_stop p.stopped refl is
-      where
-        by_stop : (s : Option ℕ) → p.stopped ≡ s → IsSome s → Contains (flat_map (λ (r : Row C). r.done.answers.items) rows)
-            (Err DiskFault)
-        by_stop None e h = absurd (let x = h in cc)
-        by_stop (Some count) e h =
-            let stop = sound.stop count e in
-            let last : items_in p ≡ map item.Entry p.state.entries ++ item.Stop count stop.torn ∷ [] =
-            ap (λ (o : Option ℕ). map item.Entry p.state.entries ++ stop_in o p.torn) e ∙
-            ap (λ (o : Option Entry). map item.Entry p.state.entries ++ stop_in (Some count) o) stop.torn_is in
-            let there : slice_get (items_in p) (length p.state.entries) ≡ Some (item.Stop count stop.torn) =
-            ap (λ (l : List Item). slice_get l (length p.state.entries)) last ∙ at_end p.state.entries
-            (item.Stop count stop.torn) [] in
-            let total = ap (λ (l : List Item). length l) last ∙ length-append (map item.Entry p.state.entries)
-            (item.Stop count stop.torn ∷ []) in
-            let entries = length-map p.state.entries (λ (x : Entry). item.Entry x) in
-            stop_told coming asks base root p.stopped p.torn p.state.entries for_no_other what_is_taken size rows seat distinct
-            news bare worked fits starts since (unstopped faultless) (length p.state.entries) (item.Stop count stop.torn)
-            there refl
-            (let l = low sound in omega (arith, size, l)) (omega (arith, total, entries))
+    abbrev Cut : Entry → Type 0
+    Cut entry = IsCutOffInDay root.issuer (coming root.clock) p.state.entries asks tills answer entry
+
+    -- the entry of the stop is what a till's ask made, or the seat's notes
+    cut_at : (count : ℕ) (e : Entry) → p.stopped ≡ Some count → p.torn ≡ Some e → Cut e
+    cut_at count e is torn_is =
+        let last : items_in p ≡ map item.Entry p.state.entries ++ item.Stop count e ∷ [] =
+        ap (λ (o : Option ℕ). map item.Entry p.state.entries ++ stop_in o p.torn) is ∙
+        ap (λ (o : Option Entry). map item.Entry p.state.entries ++ stop_in (Some count) o) torn_is in
+        let there : slice_get (items_in p) (length p.state.entries) ≡ Some (item.Stop count e) =
+        ap (λ (l : List Item). slice_get l (length p.state.entries)) last ∙ at_end p.state.entries (item.Stop count e) [] in
+        let total = ap (λ (l : List Item). length l) last ∙ length-append (map item.Entry p.state.entries)
+        (item.Stop count e ∷ []) in
+        let entries = length-map p.state.entries (λ (x : Entry). item.Entry x) in
+        elim (stop_whose coming asks base root p.stopped p.torn p.state.entries for_no_other what_is_taken size rows seat
+        distinct news bare worked fits starts since (λ (x : Item). AreNotesOrTorn x × (IsFaultless answer → AreNotes x)) noted
+        (length p.state.entries) (item.Stop count e) there refl
+        (let l = low sound in omega (arith, size, l)) (omega (arith, total, entries))) [
+          | inl one ↦
+              (let same : Some one.cut.entry ≡ Some e = sym one.cut.is ∙ torn_is in
+              let entry_is : one.cut.entry ≡ e = (let s = same in cc) in
+              inl (
+                told_in one.row.done,
+                in_map told_in (map (λ (r : Row C). r.done) rows) one.row.done
+                    (in_map (λ (r : Row C). r.done) rows one.row one.among),
+                subst (λ (x : Entry). IsCutOffBy root.issuer (coming root.clock) p.state.entries
+                    (asks_of one.row.done.till asks) one.row.done.answers.items x) entry_is one.cut.by,
+              ))
+          | inr mine ↦ inr mine
+        ]
+
+    cut_in : (s : Option ℕ) (t : Option Entry) → p.stopped ≡ s → p.torn ≡ t → AllByRecursion Cut (torn_in s t)
+    cut_in None t is torn_is = tt
+    cut_in (Some count) None is torn_is = tt
+    cut_in (Some count) (Some e) is torn_is = (cut_at count e is torn_is, tt)
 
     -- a till was told of the fault, or the sender may have been
-    some_told : (a : Result (Unit {0}) DrainFault) → (IsFaultless a → IsSome p.stopped →
-        Contains (flat_map (λ (r : Row C). r.done.answers.items) rows) (Err DiskFault)) → IsSome p.stopped →
-        Contains (flat_map (λ (r : Row C). r.done.answers.items) rows) (Err DiskFault) ⊎ (IsFaultless a → ⊥)
-    some_told (Ok done) f is = inl (f tt is)
-    some_told (Err (drain.Undelivered n r)) f is = inl (f tt is)
-    some_told (Err (drain.Contradiction evidence)) f is = inl (f tt is)
-    some_told (Err (drain.Store fault)) f is = inr (λ faultless. faultless)
-    some_told (Err drain.NoMemory) f is = inr (λ faultless. faultless)
+    first_told : (e : Entry) → Cut e → Contains (all_replies tills) (Err DiskFault) ⊎ (IsFaultless answer → ⊥)
+    first_told e (inl by) = inl (in_piece (λ (t : TillReplies). t.replies) tills by.0 (Err DiskFault) by.1
+        (got by.0.replies by.2.place (Err DiskFault) by.2.told))
+    first_told e (inr mine) = inr mine.1
+
+    first_told_at : (s : Option ℕ) → p.stopped ≡ s → IsSome s → Contains (all_replies tills) (Err DiskFault) ⊎
+        (IsFaultless answer → ⊥)
+    first_told_at None is some = absurd (let x = some in cc)
+    first_told_at (Some count) is some =
+        let stop = sound.stop count is in
+        first_told stop.torn (cut_at count stop.torn is stop.torn_is)
 
     pub whole : DayRun tells tell faults coming asks root p tills answer
     whole = record {
@@ -279,9 +315,10 @@ module _ {D C : Type 0} (tells : Bool) (tell : D → OnDisk) (faults : D → ℕ
           what_is_taken size rows seat distinct news bare worked fits starts since first first_new till
           (each_unmap (λ (r : Row C). r.done) (λ (d : TillDay). d.till ≢ till) rows
           (each_unmap told_in (λ (t : TillReplies). t.till ≢ till) (map (λ (r : Row C). r.done) rows) other)));
-      stops = subst (λ (rs : Replies). StopsShop root.faults (faults p.disk) p.stopped rs answer) (sym replies_are)
-          (stops_by sound (flat_map (λ (r : Row C). r.done.answers.items) rows) answer stops_told disk
-          (some_told answer first_told) p.stopped refl);
+      stops = stops_by sound (all_replies tills) answer
+          (subst (λ (rs : Replies). AllByRecursion (StopTold p.stopped) rs) (sym replies_are) stops_told) disk p.stopped refl
+          (first_told_at p.stopped refl);
+      made = cut_in p.stopped p.torn refl refl;
     }
 
 -- each number is held again
@@ -298,16 +335,15 @@ held_again coming asks days done old new seat then ran same n =
 
 -- what the tills that ran own are their records, and the stop over one of them
 own_rows : {C : Type 0} (coming : C → ℕ → Option ℕ) (asks : List Asked) (base : List Item) (root : Root C) (rows : List (Row C)) →
+    OwnsRecordsAndStops coming →
     AllByRecursion (λ (r : Row C). IsNew base root r.from) rows → AllByRecursion (λ (r : Row C). Worked coming asks r) rows →
     AllByRecursion (λ (k : Known Item (Root C)). Theirs k) (after_all coming asks rows)
-own_rows coming asks base root [] news worked = tt
-own_rows {C} coming asks base root (r ∷ rs) news worked =
-    let none : Theirs r.from = subst (λ (o : List (ℕ × Item)). AllByRecursion (λ (z : ℕ × Item). IsOfTill z.1) o) (sym news.0.own)
-    tt in (
-      run_of_till coming r.from r.last (asks_of r.done.till asks) r.done.answers.items worked.0.run none,
-      own_rows coming asks base
-          root rs news.1 worked.1,
-    )
+own_rows coming asks base root [] owns news worked = tt
+own_rows coming asks base root (r ∷ rs) owns news worked = (
+  run_of_till coming r.done.till root base r.from r.last (asks_of r.done.till asks) r.done.answers.items owns news.0 worked.0.run
+      (own_asks r.done.till asks),
+  own_rows coming asks base root rs owns news.1 worked.1,
+)
 
 module _ {D C : Type 0} (tells : Bool) (tell : D → OnDisk) (faults : D → ℕ) (coming : C → ℕ → Option ℕ) (asks : List Asked)
     (p : Parts D C) (root : Root C) (base : List Item) (days done : List TillDay) (old new : List (Known Item (Root C)))
@@ -322,17 +358,17 @@ module _ {D C : Type 0} (tells : Bool) (tell : D → OnDisk) (faults : D → ℕ
       (each_unmap (λ (r : Row C). r.from) (IsNew base root) ran.rows split.0, split.1)
 
   -- the closed shop, which the tills and the seat shared
-  pub shared : All (Fits (items_in p)) (new ++ then ∷ []) → StartsWith (items_in p) base →
+  pub shared : OwnsRecordsAndStops coming → All (Fits (items_in p)) (new ++ then ∷ []) → StartsWith (items_in p) base →
       ((n : ℕ) → length base ≤ n → n < length (items_in p) → owners n (new ++ then ∷ []) ≡ 1) →
       Adds AreNotesOrTorn (sight_by seat) (sight_by then) →
       Shared base (items_in p) root new seat then
-  shared fits starts since adds = record {
+  shared owns fits starts since adds = record {
     fresh = news.1;
     fits = fits;
     starts = starts;
     since = since;
     theirs = subst (λ (l : List (Known Item (Root C))). AllByRecursion (λ (k : Known Item (Root C)). Theirs k) l)
-        (sym ran.new_are) (own_rows coming asks base root ran.rows news.0 ran.worked);
+        (sym ran.new_are) (own_rows coming asks base root ran.rows owns news.0 ran.worked);
     adds = adds;
   }
 
@@ -356,6 +392,6 @@ module _ {D C : Type 0} (tells : Bool) (tell : D → OnDisk) (faults : D → ℕ
       1) ran.new_are h.since in
       subst (λ (l : List TillDay). DayRun tells tell faults coming asks root p (map told_in l) answer) (sym ran.done_are)
       (whole tells tell faults coming asks root p for_no_other what_is_taken base size ran.rows then distinct' news.0 seat news.1
-      answer (bare base (items_in p) root new seat then h) (λ faultless. unstopped base (items_in p) root new seat then h
-      (notes faultless))
+      answer (bare base (items_in p) root new seat then h) (all_noted base (items_in p) root new seat then h
+      (IsFaultless answer) notes)
       disk ran.worked fits' h.starts since' sound)

@@ -11,9 +11,9 @@ use Rattle.sender.specs.declared.answers.DrainFault.{DrainFault}
 use Rattle.sender.specs.declared.answers.DrainFault.TheVariants as drain
 use Rattle.shop_core.specs.Requests.{Asked}
 use Rattle.shop_core.specs.declared.answers.Reply.{Reply}
-use Rattle.verifactu.specs.Beside.{DayRunEnds, sender_lacks_memory}
+use Rattle.verifactu.specs.Beside.{DayRunEnds, sender_end, sender_lacks_memory}
 use Rattle.verifactu.specs.Beside.DayRunEnds.{undelivered, contradiction, disk_fault, no_memory}
-use Rattle.verifactu.specs.Draining.{IsDiskAnswer, fault_end}
+use Rattle.verifactu.specs.Draining.{IsDiskAnswer}
 use Rattle.verifactu.specs.Printed.{answers}
 use Rattle.verifactu.specs.Replies.{AllReplied, is_no_memory}
 use Rattle.verifactu.specs.Tills.{TillReplies, all_replies}
@@ -50,7 +50,7 @@ same_numbers (d ∷ days) = ap (λ (l : List ℕ). d.till ∷ l) (same_numbers d
 pub sender_ends : (replies : List (Result Reply StoreFault)) (answer : Result (Unit {0}) DrainFault) (fault : DrainFault)
     (n r : ℕ) (text : List ℕ) (s : Sinks) → answer ≡ Err fault → AllReplied replies → list_any is_no_memory replies ≡ false →
     sender_lacks_memory answer ≡ false → Wrote s text ⊎ FailedIn s text →
-    DayRunEnds replies answer n r text s (fault_end fault)
+    DayRunEnds replies answer n r text s (sender_end n r fault)
 sender_ends replies answer (drain.Undelivered x y) n r text s is all memory sender w = undelivered x y all is w
 sender_ends replies answer (drain.Contradiction evidence) n r text s is all memory sender w = contradiction evidence all is w
 sender_ends replies answer (drain.Store store.DiskFault) n r text s is all memory sender w = disk_fault memory sender

@@ -18,7 +18,7 @@ use Rattle.shop_core.specs.Replies.{ChainRun}
 use Rattle.shop_core.specs.Replies.ChainRun.{begun}
 use Rattle.shop_core.specs.declared.answers.Reply.{Reply}
 use Rattle.once_world.specs.Agreement.{IsPrefix}
-use Rattle.verifactu.specs.Crashes.{Kept, StandsBetween, StandsForEnd, StandsSince}
+use Rattle.verifactu.specs.Crashes.{IsCutOff, Kept, StandsBetween, StandsForEnd, StandsSince}
 use Rattle.verifactu.specs.Readings.{IsComing}
 use Rattle.verifactu.specs.Replies.{AllGoOn, IsGoingOn, StopsByFault, StopsOnce}
 use Rattle.verifactu.proofs.Progress.{Origin, Point, Progress, SoFar}
@@ -46,14 +46,14 @@ begins o p replies gate none issuer start since faults going next legal holds =
       begins = whole;
       within = record { rest = []; is = refl };
     })) in
-    let progress : Progress o [] p None = record { go_on = tt; only = only } in
+    let progress : Progress o [] [] p None = record { go_on = tt; only = only } in
     subst (λ (rs : List (Result Reply StoreFault)). SoFar o [] rs p) (sym none) (record {
       own = issuer;
       run = subst (λ (es : List Entry). ChainRun o.issuer (IsComing o.coming) o.start [] [] es) (sym start) begun;
       moved = λ k. let e : k ≡ 0 + k = omega arith in next k ∙ ap o.coming e;
       begins = whole;
       later = omega (arith, faults);
-      progress = subst (λ (x : Option ℕ). Progress o [] p x) (sym going) progress;
+      progress = subst (λ (x : Option ℕ). Progress o [] [] p x) (sym going) progress;
     })
 
 all_middle : (P : Result Reply StoreFault → Type 0) (before behind : List (Result Reply StoreFault)) (x : Result Reply StoreFault)
@@ -68,21 +68,25 @@ stopped_once faults count replies h all =
     all_middle IsGoingOn h.before h.behind (Err DiskFault) (subst (λ (rs : List (Result Reply StoreFault)). AllGoOn rs) h.parts
     all)
 
-stops_by : (stopped : Option ℕ) (o : Origin) (replies : List (Result Reply StoreFault)) (p : Point) → Progress o replies p stopped
-    → StopsOnce o.at_faults p.faults replies
-stops_by None o replies p h = inl h.go_on
-stops_by (Some count) o replies p h = inr (subst (λ (n : ℕ). StopsByFault o.at_faults n replies) h.at_this h.stops)
+stops_by : (stopped : Option ℕ) (o : Origin) (asks : List Asked) (replies : List (Result Reply StoreFault)) (p : Point) →
+    Progress o asks replies p stopped → StopsOnce o.at_faults p.faults replies
+stops_by None o asks replies p h = inl h.go_on
+stops_by (Some count) o asks replies p h = inr (subst (λ (n : ℕ). StopsByFault o.at_faults n replies) h.at_this h.stops)
 
 pub stops : (o : Origin) (asks : List Asked) (replies : List (Result Reply StoreFault)) (p : Point) → SoFar o asks replies p →
     StopsOnce o.at_faults p.faults replies
-stops o asks replies p h = stops_by p.stopped o replies p h.progress
+stops o asks replies p h = stops_by p.stopped o asks replies p h.progress
 
-kept_by : (stopped : Option ℕ) (o : Origin) (replies : List (Result Reply StoreFault)) (p : Point) (gate : ℕ) →
-    p.history.issuer ≡ o.issuer → Progress o replies p stopped →
+-- what this run leaves up to this point
+abbrev KeptSoFar : Origin → List Asked → List (Result Reply StoreFault) → Point → Type 0
+KeptSoFar o asks replies p = Kept (StandsBetween o.issuer o.start p.history.entries)
+    (IsCutOff o.issuer (IsComing o.coming) asks p.history.entries replies) o.issuer p.history.entries replies o.since p.now
+
+kept_by : (stopped : Option ℕ) (o : Origin) (asks : List Asked) (replies : List (Result Reply StoreFault)) (p : Point) (gate : ℕ)
+    → p.history.issuer ≡ o.issuer → Progress o asks replies p stopped →
     Legal p.history.issuer p.history.entries → (stopped ≡ None → IsTrue o.tells → Holds p.history gate p.now) →
-    IsImage p.now.now p.now.content → IsTrue o.tells →
-    Kept (StandsBetween o.issuer o.start p.history.entries) o.issuer p.history.entries replies o.since p.now
-kept_by None o replies p gate own g legal holds image tells =
+    IsImage p.now.now p.now.content → IsTrue o.tells → KeptSoFar o asks replies p
+kept_by None o asks replies p gate own g legal holds image tells =
     let h = holds refl tells in
     let here : StandsFor o.issuer p.history.entries p.now.content = subst (λ (n : List ℕ). StandsFor n p.history.entries
     p.now.content) own (stands p.history gate p.now h legal) in
@@ -90,16 +94,18 @@ kept_by None o replies p gate own g legal holds image tells =
       torn = [];
       at_most_one = omega arith;
       by_a_fault = λ all. refl;
+      made = tt;
       each_moment = g.only tells;
       every_crash = leaves_now p.now (StandsForEnd o.issuer p.history.entries []) h.file.nothing_pending (inl here);
       reads = inl here;
     }
-kept_by (Some count) o replies p gate own g legal holds image tells =
+kept_by (Some count) o asks replies p gate own g legal holds image tells =
     let left = g.left tells in
     record {
       torn = left.torn;
       at_most_one = left.at_most_one;
       by_a_fault = λ all. absurd (stopped_once o.at_faults count replies g.stops all);
+      made = left.made;
       each_moment = left.only;
       every_crash = left.here;
       reads = left.here p.now.content (inl (refl, image));
@@ -108,8 +114,9 @@ kept_by (Some count) o replies p gate own g legal holds image tells =
 pub kept : (o : Origin) (asks : List Asked) (replies : List (Result Reply StoreFault)) (p : Point) (gate : ℕ) →
     SoFar o asks replies p → Legal p.history.issuer p.history.entries →
     (p.stopped ≡ None → IsTrue o.tells → Holds p.history gate p.now) → IsImage p.now.now p.now.content → IsTrue o.tells →
-    Kept (StandsBetween o.issuer o.start p.history.entries) o.issuer p.history.entries replies o.since p.now
-kept o asks replies p gate h legal holds image tells = kept_by p.stopped o replies p gate h.own h.progress legal holds image tells
+    KeptSoFar o asks replies p
+kept o asks replies p gate h legal holds image tells =
+    kept_by p.stopped o asks replies p gate h.own h.progress legal holds image tells
 
 pub since_found : (issuer : List ℕ) (start end torn : List Entry) (c : List ℕ) → IsPrefix start end → IsFound issuer start c →
     StandsSince issuer start end torn c
@@ -125,15 +132,15 @@ since_found issuer start end torn c begins (inr stands) = inr (record {
 })
 
 -- what a run leaves, said since its file was opened
-pub kept_since : (issuer : List ℕ) (start end : List Entry) (replies : List (Result Reply StoreFault)) (first opened now : OnDisk)
-    →
-    IsPrefix start end →
-    LeavesOnly first opened (IsFound issuer start) → Kept (StandsBetween issuer start end) issuer end replies opened now →
-    Kept (StandsSince issuer start end) issuer end replies first now
-kept_since issuer start end replies first opened now begins found h = record {
+pub kept_since : (IsTorn : Entry → Type 0) (issuer : List ℕ) (start end : List Entry) (replies : List (Result Reply StoreFault))
+    (first opened now : OnDisk) → IsPrefix start end → LeavesOnly first opened (IsFound issuer start) →
+    Kept (StandsBetween issuer start end) IsTorn issuer end replies opened now →
+    Kept (StandsSince issuer start end) IsTorn issuer end replies first now
+kept_since IsTorn issuer start end replies first opened now begins found h = record {
   torn = h.torn;
   at_most_one = h.at_most_one;
   by_a_fault = h.by_a_fault;
+  made = h.made;
   each_moment = follows first opened now (IsFound issuer start) (StandsBetween issuer start end h.torn)
       (StandsSince issuer start end h.torn) found h.each_moment
       (λ c here. since_found issuer start end h.torn c begins here) (λ c here. inr here);

@@ -1,8 +1,9 @@
 -- What a sender beside tills leaves, once its shop is closed.
-use Rattle.std.proofs.Common.{◌≡◌, ◌∙◌, ◌⊎◌, inl, inr, ℕ, ◌+◌, List, [], length, map, sym, ap, subst, refl, append-nil, Bool}
-use Rattle.std.proofs.Common.{IsTrue, Option, Result, Err}
+use Rattle.std.proofs.Common.{◌≡◌, ◌∙◌, ◌⊎◌, inl, inr, ℕ, ◌+◌, ◌-◌, List, [], length, map, sym, ap, subst, refl, append-nil, Bool}
+use Rattle.std.proofs.Common.{IsTrue, Option, Result, Err, length-append, length-drop, arith}
 use Rattle.std.specs.Prelude.{IsErrOf}
 use Rattle.record_fields.specs.declared.lines.Line.{Line}
+use Rattle.record_fields.specs.declared.records.Sealed.{Sealed}
 use Rattle.chain_disk.specs.OnDisk.{OnDisk}
 use Rattle.chain_lock.specs.Known.{Known}
 use Rattle.record_codec.specs.declared.entries.Entry.{Entry}
@@ -26,7 +27,7 @@ use Rattle.sender.specs.Sending.{Sending, fresh}
 use Rattle.sender.specs.Turning.{Desk, Kind}
 use Rattle.sender.specs.declared.answers.DrainFault.{DrainFault}
 use Rattle.sender.specs.declared.answers.DrainFault.TheVariants as drain
-use Rattle.verifactu.specs.Beside.{DaySpan, SendsBeside, SendsOn, ShowsLast, StaysAgreed}
+use Rattle.verifactu.specs.Beside.{CountsWithin, DaySpan, SendsBeside, SendsOn, ShowsLast, StaysAgreed}
 use Rattle.verifactu.specs.Draining.{SaysNothingBlindly, torn_in}
 use Rattle.verifactu.proofs.Agreed.{agree_new, entries_back, sight_new, torn_is}
 use Rattle.verifactu.proofs.Contrary.{asked_of_more, none_yet, one_shown}
@@ -117,6 +118,20 @@ module _ {D C : Type 0} (tells : Bool) (told : D → OnDisk) (faults : D → ℕ
         | inr m ↦ inr m
       ]
 
+  -- the counts of the last sight, with the records that came behind it
+  counts_within : (n r : ℕ) → IsErrOf answer (drain.Undelivered n r) → CountsWithin p.state.entries n r
+  counts_within n r is =
+      let c = sends.counts n r is in
+      let waits = still_waits base (items_in p) root tills seat then h root.history p.state.entries p.stopped p.torn kept in
+      let seen = history_of (sight_by then) in
+      let lines : length (noted p.state.entries) ≡ length (noted seen) = ap (λ (ls : List Line). length ls) waits.0 in
+      let more : length (waiting p.state.entries) ≡ length (waiting seen) + length waits.1.rest =
+      ap (λ (rs : List Sealed). length rs) waits.1.is ∙ length-append (waiting seen) waits.1.rest in
+      let few : length (waiting seen) ≡ length (recs seen) - length (noted seen) = length-drop (length (noted seen)) (recs seen) in
+      let many : length (waiting p.state.entries) ≡ length (recs p.state.entries) - length (noted p.state.entries) =
+      length-drop (length (noted p.state.entries)) (recs p.state.entries) in
+      record { noted_is = c.noted_is ∙ sym lines; within = omega arith; some = c.some }
+
   pub sends_beside : RecordsKeepAgreement → BeginsInSession → BeginsCareful → SendsBeside span
   sends_beside records session careful = record {
     agreement = still records session;
@@ -125,5 +140,7 @@ module _ {D C : Type 0} (tells : Bool) (told : D → OnDisk) (faults : D → ℕ
     contrary = only_shown;
     shown = each_shown;
     later = sends.later;
+    counts = counts_within;
     undelivered = sends.undelivered;
+    gives_up = sends.gives_up;
   }

@@ -26,6 +26,7 @@ pub mod TillDays
 pub mod DayEnding
 pub mod DayTexts
 pub mod Contrary
+pub mod GivingUp
 pub mod Turns
 pub mod Theirs
 pub mod Whole

@@ -1,8 +1,9 @@
 -- How far a run of a store has come.
 use Rattle.std.proofs.Common.{◌≡◌, ℕ, ◌≤◌, List, [], length, Bool, IsTrue, IsSome, OnOk, Option, Some, None, Result, Err, ◌↔◌}
+use Rattle.std.specs.List.{AllByRecursion}
 use Rattle.chain_disk.specs.OnDisk.{OnDisk, LeavesOnly, LeavesNow}
 use Rattle.chain_disk.specs.declared.disk.Disk.{Ghosts}
-use Rattle.chain_store.specs.Ready.{StoreCall, Takes}
+use Rattle.chain_store.specs.Ready.{StoreCall, Takes, Tears}
 use Rattle.chain_store.specs.Store.{clock_of, journal_of, state_of}
 use Rattle.chain_store.specs.declared.store.Store.{Store}
 use Rattle.journal.specs.Journal.{disk_of, stopped_of}
@@ -16,7 +17,7 @@ use Rattle.shop_core.specs.History.{History}
 use Rattle.shop_core.specs.Replies.{ChainRun}
 use Rattle.shop_core.specs.declared.answers.Reply.{Reply}
 use Rattle.once_world.specs.Agreement.{IsPrefix}
-use Rattle.verifactu.specs.Crashes.{StandsBetween, StandsForEnd}
+use Rattle.verifactu.specs.Crashes.{IsCutOff, StandsBetween, StandsForEnd}
 use Rattle.verifactu.specs.Readings.{IsComing, readings}
 use Rattle.verifactu.specs.Replies.{AllGoOn, StopsByFault}
 
@@ -43,21 +44,23 @@ pub record GoingOn (o : Origin) (replies : List (Result Reply StoreFault)) (p : 
   pub only : IsTrue o.tells → LeavesOnly o.since p.now (StandsBetween o.issuer o.start p.history.entries [])
 
 -- what a torn entry leaves
-pub record Torn (o : Origin) (p : Point) : Type 0 where
+pub record Torn (o : Origin) (asks : List Asked) (replies : List (Result Reply StoreFault)) (p : Point) : Type 0 where
   pub torn : List Entry
   pub at_most_one : length torn ≤ 1
+  pub made : AllByRecursion (IsCutOff o.issuer (IsComing o.coming) asks p.history.entries replies) torn
   pub only : LeavesOnly o.since p.now (StandsBetween o.issuer o.start p.history.entries torn)
   pub here : LeavesNow p.now (StandsForEnd o.issuer p.history.entries torn)
 
 -- the journal has stopped
-pub record Halted (o : Origin) (replies : List (Result Reply StoreFault)) (p : Point) (count : ℕ) : Type 0 where
-  pub stops : StopsByFault o.at_faults count replies
-  pub at_this : count ≡ p.faults
-  pub left : IsTrue o.tells → Torn o p
+pub record Halted (o : Origin) (asks : List Asked) (replies : List (Result Reply StoreFault)) (p : Point) (count : ℕ) : Type 0
+  where
+    pub stops : StopsByFault o.at_faults count replies
+    pub at_this : count ≡ p.faults
+    pub left : IsTrue o.tells → Torn o asks replies p
 
-abbrev pub Progress : Origin → List (Result Reply StoreFault) → Point → Option ℕ → Type 0
-Progress o replies p None = GoingOn o replies p
-Progress o replies p (Some count) = Halted o replies p count
+abbrev pub Progress : Origin → List Asked → List (Result Reply StoreFault) → Point → Option ℕ → Type 0
+Progress o asks replies p None = GoingOn o replies p
+Progress o asks replies p (Some count) = Halted o asks replies p count
 
 -- one call of a store, from this point to that
 abbrev pub call_at : Bool → Point → Point → StoreCall
@@ -78,7 +81,7 @@ pub record SoFar (o : Origin) (asks : List Asked) (replies : List (Result Reply 
   pub moved : MovedBy (readings replies) o.coming p.next
   pub begins : IsPrefix o.start p.history.entries
   pub later : o.at_faults ≤ p.faults
-  pub progress : Progress o replies p p.stopped
+  pub progress : Progress o asks replies p p.stopped
 
 -- one ask more
 pub record Step (tells : Bool) (p : Point) (ask : Asked) (told : Result Reply StoreFault) (q : Point) : Type 0 where
@@ -86,6 +89,7 @@ pub record Step (tells : Bool) (p : Point) (ask : Asked) (told : Result Reply St
   pub going_on : OnOk told ((p.stopped ≡ None) × (q.stopped ≡ None))
   pub no_memory : told ≡ Err NoMemory → (q.now ≡ p.now) × (q.stopped ≡ p.stopped)
   pub fault : told ≡ Err DiskFault → Rose p.faults q.faults × (q.stopped ≡ Some q.faults)
+  pub tears : told ≡ Err DiskFault → (torn : Option Entry) × Tears (call_at tells p q) ask torn
   pub stops : (count : ℕ) → (told ≡ Err (Stopped count)) ↔ (p.stopped ≡ Some count)
   pub untouched : IsSome p.stopped → q ≡ p
   pub later : p.faults ≤ q.faults

@@ -1,15 +1,14 @@
 -- What each till of a day did, once the shop's list at the end is known.
 use Rattle.std.proofs.Common.{◌≡◌, ◌⊎◌, inl, inr, ℕ, zero, suc, ◌<◌, ◌≤◌, true, false, List, [], ◌∷◌, ◌++◌, length, drop, map}
-use Rattle.std.proofs.Common.{All, Option, Some, Err, slice_get, refl, ap, sym, ◌∙◌, subst, arith, cond, ◌==◌}
+use Rattle.std.proofs.Common.{All, Option, Some, slice_get, refl, ap, sym, ◌∙◌, subst, arith, cond, ◌==◌}
 use Rattle.std.specs.Prelude.{◌≢◌, AllPairs, Contains}
-use Rattle.std.specs.List.{AllByRecursion, count_by, flat_map}
-use Rattle.std.proofs.lemmas.Bool.Decides.{nat_tests}
-use Rattle.std.proofs.lemmas.List.Elements.{All-weaker, Contains-append_left, Contains-append_right, filter_passes}
+use Rattle.std.specs.List.{AllByRecursion, count_by}
+use Rattle.std.proofs.lemmas.Bool.Decides.{eqb_tells, nat_tests}
+use Rattle.std.proofs.lemmas.List.Elements.{All-weaker, Contains-append_right, filter_passes}
 use Rattle.std.proofs.lemmas.List.{length-append}
-use Rattle.std.proofs.lemmas.List.Sums.{sum_by-cons}
+use Rattle.std.proofs.lemmas.List.Sums.{sum_by-cons, sum_by_push}
 use Rattle.chain_lock.specs.Known.{Known, IsNew, Fits, holders, owners, times_held, times_owned}
 use Rattle.chain_lock.specs.Lists.{StartsWith}
-use Rattle.journal.specs.declared.faults.StoreFault.TheVariants.{DiskFault}
 use Rattle.record_codec.specs.declared.entries.Entry.{Entry}
 use Rattle.shop_core.specs.Requests.{Asked}
 use Rattle.shop_core.specs.declared.items.Item.{Item}
@@ -20,7 +19,7 @@ use Rattle.till_calls.specs.Client.TillRun.{begun}
 use Rattle.verifactu.specs.Tills.{asks_of}
 use Rattle.verifactu.specs.Works.{Row, Worked, known_after}
 use Rattle.verifactu.proofs.Each.{all_of_each, each_both, each_front, each_map, each_of_all, each_snoc, each_unmap, each_weaker}
-use Rattle.verifactu.proofs.TillRuns.{SoFar, is_stop, items, run_numbers, so_far}
+use Rattle.verifactu.proofs.TillRuns.{CutOff, SoFar, is_stop, items, run_numbers, so_far}
 
 -- no two of the numbers are the same
 abbrev pub AreDistinct : List ℕ → Type 0
@@ -54,35 +53,44 @@ module _ {X : Type 0} (f : X → ℕ) where
   apart_all [] d = tt
   apart_all (x ∷ xs) d = ((inl refl, behind x xs d.0), ahead x xs xs d.0 (apart_all xs d.1))
 
-own_asks : (till : ℕ) (asks : List Asked) → All (λ (a : Asked). a.till ≡ till) (asks_of till asks)
+-- the asks of a till are its own
+pub own_asks : (till : ℕ) (asks : List Asked) → All (λ (a : Asked). a.till ≡ till) (asks_of till asks)
 own_asks till asks = All-weaker (λ (a : Asked). (a.till == till) ≡ true) (λ (a : Asked). a.till ≡ till)
     (λ a e. let x : a.till ≡ till = grind (arith, nat_tests, e) in x) (asks_of till asks)
     (filter_passes (λ (a : Asked). a.till == till) asks)
 
--- a pass without stops of its own doesn't own the place of a stop
-module _ (log : List Item) (n : ℕ) (x : Item) (there : slice_get log n ≡ Some x) (stops : is_stop x ≡ true) where
-  none_there : (own : List (ℕ × Item)) → AllByRecursion (λ (z : ℕ × Item). slice_get log z.0 ≡ Some z.1) own →
-      AllByRecursion (λ (z : ℕ × Item). is_stop z.1 ≡ false) own → count_by (λ (z : ℕ × Item). z.0 == n) own ≡ 0
-  none_there [] fits clean = refl
-  none_there (z ∷ zs) fits clean =
-      let apart : z.0 ≡ n → ⊥ = λ e.
-      let same : Some z.1 ≡ Some x = sym fits.0 ∙ ap (λ (k : ℕ). slice_get log k) e ∙ there in
-      let is : z.1 ≡ x = (let s = same in cc) in
-      let both : false ≡ true = sym clean.0 ∙ ap (λ (y : Item). is_stop y) is ∙ stops in
-      absurd (let b = both in cc) in
-      let no : ◌≡◌ {A = ℕ} (cond (z.0 == n) 1 0) 0 = grind (arith, nat_tests, apart) in
-      let rest = none_there zs fits.1 clean.1 in
-      let sum = sum_by-cons (λ (y : ℕ × Item). cond (y.0 == n) 1 0) z zs in
-      omega (arith, no, rest, sum)
+-- what holds of each item that a pass owns holds of the one at this place, or the pass doesn't own it
+module _ (log : List Item) (n : ℕ) (x : Item) (there : slice_get log n ≡ Some x) where
+  owned : (P : Item → Type 0) (own : List (ℕ × Item)) → AllByRecursion (λ (z : ℕ × Item). slice_get log z.0 ≡ Some z.1) own →
+      AllByRecursion (λ (z : ℕ × Item). P z.1) own → P x ⊎ (count_by (λ (z : ℕ × Item). z.0 == n) own ≡ 0)
+  owned P [] fits each = inr refl
+  owned P (z ∷ zs) fits each = elim (eqb_tells z.0 n) [
+    | inl same ↦
+        (let found : Some z.1 ≡ Some x = sym fits.0 ∙ ap (λ (k : ℕ). slice_get log k) same.1 ∙ there in
+        let is : z.1 ≡ x = (let s = found in cc) in
+        inl (subst P is each.0))
+    | inr apart ↦ elim (owned P zs fits.1 each.1) [
+      | inl here ↦ inl here
+      | inr none ↦
+          (let ne : z.0 ≡ n → ⊥ = apart.1 in
+          let no : ◌≡◌ {A = ℕ} (cond (z.0 == n) 1 0) 0 = grind (arith, nat_tests, ne) in
+          let sum = sum_by-cons (λ (y : ℕ × Item). cond (y.0 == n) 1 0) z zs in
+          inr (omega (arith, no, none, sum)))
+    ]
+  ]
 
-  pub none_own : {R : Type 0} (ks : List (Known Item R)) → AllByRecursion (Fits log) ks →
+  -- passes without stops of their own don't own the place of a stop
+  pub none_own : {R : Type 0} → is_stop x ≡ true → (ks : List (Known Item R)) → AllByRecursion (Fits log) ks →
       AllByRecursion (λ (k : Known Item R). AllByRecursion (λ (z : ℕ × Item). is_stop z.1 ≡ false) k.own) ks → owners n ks ≡ 0
-  none_own [] fits clean = refl
-  none_own {R} (k ∷ ks) fits clean =
-      let first = none_there k.own (each_of_all (λ (z : ℕ × Item). slice_get log z.0 ≡ Some z.1) k.own fits.0.own) clean.0 in
-      let rest = none_own ks fits.1 clean.1 in
+  none_own stops [] fits clean = refl
+  none_own {R} stops (k ∷ ks) fits clean =
+      let rest = none_own stops ks fits.1 clean.1 in
       let sum = sum_by-cons (times_owned n) k ks in
-      omega (arith, first, rest, sum)
+      elim (owned (λ (y : Item). is_stop y ≡ false) k.own (each_of_all (λ (z : ℕ × Item). slice_get log z.0 ≡ Some z.1) k.own
+      fits.0.own) clean.0) [
+        | inl going ↦ absurd (let b : true ≡ false = sym stops ∙ going in let e = b in cc)
+        | inr first ↦ (let first' : times_owned n k ≡ 0 = first in omega (arith, first', rest, sum))
+      ]
 
 module _ {C : Type 0} (coming : C → ℕ → Option ℕ) (asks : List Asked) where
   abbrev pub before_all : List (Row C) → List (Known Item (Root C))
@@ -226,39 +234,46 @@ module _ {C : Type 0} (coming : C → ℕ → Option ℕ) (asks : List Asked) wh
           what_is_taken till root base log first first [] [] passes new begun (λ i d l. absurd (omega (arith, l))) starts
           (new_fits first new) passes_fit apart since_last
 
-      -- where the list ends in a stop that isn't the seat's, a till was told that the disk failed
-      clean_or_told : (rs : List (Row C)) → AllByRecursion Told rs →
-          AllByRecursion (λ (r : Row C). AllByRecursion (λ (z : ℕ × Item). is_stop z.1 ≡ false) r.last.own) rs ⊎
-          Contains (flat_map (λ (r : Row C). r.done.answers.items) rs) (Err DiskFault)
-      clean_or_told [] t = inl tt
-      clean_or_told (r ∷ rs) t = both t.0.told.clean (clean_or_told rs t.1)
-        where
-          both : AllByRecursion (λ (z : ℕ × Item). is_stop z.1 ≡ false) r.last.own ⊎ Contains r.done.answers.items (Err DiskFault)
-              →
-              AllByRecursion (λ (s : Row C). AllByRecursion (λ (z : ℕ × Item). is_stop z.1 ≡ false) s.last.own) rs ⊎
-              Contains (flat_map (λ (s : Row C). s.done.answers.items) rs) (Err DiskFault) →
-              AllByRecursion (λ (s : Row C). AllByRecursion (λ (z : ℕ × Item). is_stop z.1 ≡ false) s.last.own) (r ∷ rs) ⊎
-              Contains (flat_map (λ (s : Row C). s.done.answers.items) (r ∷ rs)) (Err DiskFault)
-          both (inr told) rest = inr (Contains-append_left r.done.answers.items (flat_map (λ (s : Row C). s.done.answers.items)
-              rs) (Err DiskFault) told)
-          both (inl clean) (inl more) = inl (clean, more)
-          both (inl clean) (inr told) = inr (Contains-append_right r.done.answers.items
-              (flat_map (λ (s : Row C). s.done.answers.items) rs) (Err DiskFault) told)
+      -- one of these tills was told of the fault, and its ask made the entry of the stop
+      pub record CutByOne (rs : List (Row C)) : Type 0 where
+        pub row : Row C
+        pub among : Contains rs row
+        pub cut : CutOff coming root stopped torn end (asks_of row.done.till asks) row.done.answers.items
 
-      pub stop_told : AllByRecursion (λ (z : ℕ × Item). is_stop z.1 ≡ false) seat.own → (n : ℕ) (x : Item) →
-          slice_get log n ≡ Some x → is_stop x ≡ true → length base ≤ n → n < length log →
-          Contains (flat_map (λ (r : Row C). r.done.answers.items) rows) (Err DiskFault)
-      stop_told seat_clean n x there stops above below = decide (clean_or_told rows told)
+      clean_or_cut : (rs : List (Row C)) → AllByRecursion Told rs →
+          AllByRecursion (λ (r : Row C). AllByRecursion (λ (z : ℕ × Item). is_stop z.1 ≡ false) r.last.own) rs ⊎ CutByOne rs
+      clean_or_cut [] t = inl tt
+      clean_or_cut (r ∷ rs) t = both t.0.told.clean (clean_or_cut rs t.1)
+        where
+          both : AllByRecursion (λ (z : ℕ × Item). is_stop z.1 ≡ false) r.last.own ⊎
+              CutOff coming root stopped torn end (asks_of r.done.till asks) r.done.answers.items →
+              AllByRecursion (λ (s : Row C). AllByRecursion (λ (z : ℕ × Item). is_stop z.1 ≡ false) s.last.own) rs ⊎ CutByOne rs
+              → AllByRecursion (λ (s : Row C). AllByRecursion (λ (z : ℕ × Item). is_stop z.1 ≡ false) s.last.own) (r ∷ rs) ⊎
+              CutByOne (r ∷ rs)
+          both (inr cut) rest = inr (record { row = r; among = (0, omega arith, refl); cut = cut })
+          both (inl clean) (inl more) = inl (clean, more)
+          both (inl clean) (inr c) =
+              inr (record { row = c.row; among = Contains-append_right (r ∷ []) rs c.row c.among; cut = c.cut })
+
+      -- a stop behind the start is that of a till's ask, or it is the seat's, and what holds of each of the seat's holds of it
+      pub stop_whose : (P : Item → Type 0) → AllByRecursion (λ (z : ℕ × Item). P z.1) seat.own → (n : ℕ) (x : Item) →
+          slice_get log n ≡ Some x → is_stop x ≡ true → length base ≤ n → n < length log → CutByOne rows ⊎ P x
+      stop_whose P each n x there stops above below = decide (clean_or_cut rows told)
         where
           decide : AllByRecursion (λ (r : Row C). AllByRecursion (λ (z : ℕ × Item). is_stop z.1 ≡ false) r.last.own) rows ⊎
-              Contains (flat_map (λ (r : Row C). r.done.answers.items) rows) (Err DiskFault) →
-              Contains (flat_map (λ (r : Row C). r.done.answers.items) rows) (Err DiskFault)
-          decide (inr told) = told
-          decide (inl clean) =
-              let none = none_own log n x there stops passes (each_of_all (Fits log) passes passes_fit)
-              (each_snoc (λ (k : Known Item (Root C)). AllByRecursion (λ (z : ℕ × Item). is_stop z.1 ≡ false) k.own) (lasts rows)
-              seat (each_map (λ (r : Row C). r.last) (λ (k : Known Item (Root C)). AllByRecursion
-              (λ (z : ℕ × Item). is_stop z.1 ≡ false) k.own) rows clean)
-              seat_clean) in
-              let one = since_last n above below in
-              absurd (omega (arith, none, one))
+              CutByOne rows → CutByOne rows ⊎ P x
+          decide (inr cut) = inl cut
+          decide (inl clean) = elim (owned log n x there P seat.own (each_of_all
+              (λ (z : ℕ × Item). slice_get log z.0 ≡ Some z.1) seat.own seat_fits.own) each) [
+                | inl holds ↦ inr holds
+                | inr unowned ↦
+                    (let mine : times_owned n seat ≡ 0 = unowned in
+                    let none = none_own log n x there stops (lasts rows)
+                    (each_map (λ (r : Row C). r.last) (Fits log) rows
+                    (each_weaker Told (λ (r : Row C). Fits log r.last) rows (λ r t. t.fits) told))
+                    (each_map (λ (r : Row C). r.last) (λ (k : Known Item (Root C)). AllByRecursion
+                    (λ (z : ℕ × Item). is_stop z.1 ≡ false) k.own) rows clean) in
+                    let sum = sum_by_push (times_owned n) (lasts rows) seat in
+                    let one = since_last n above below in
+                    absurd (omega (arith, mine, none, sum, one)))
+              ]

@@ -24,7 +24,7 @@ use Rattle.shop_core.specs.Legal.{Legal}
 use Rattle.shop_core.specs.Replies.{ChainRun}
 use Rattle.shop_core.specs.Replies.ChainRun.{begun, replied}
 use Rattle.shop_core.specs.declared.answers.Reply.{Reply}
-use Rattle.verifactu.specs.Crashes.{Kept, KeepsFile, StandsBetween}
+use Rattle.verifactu.specs.Crashes.{IsCutOff, Kept, KeepsFile, StandsBetween}
 use Rattle.verifactu.specs.Printed.{printed}
 use Rattle.verifactu.specs.Readings.{IsComing, IsAsked, LeavesClock, readings, readings_of}
 use Rattle.verifactu.specs.Replies.{AllGoOn, AllReplied, StopsOnce, is_disk_fault, is_no_memory}
@@ -44,6 +44,7 @@ use Rattle.script.specs.declared.forms.Form.{Form}
 use Rattle.script.specs.declared.forms.Form.TheVariants.{Full}
 use Rattle.script.specs.declared.scripts.Script.{Script}
 use Rattle.ports.specs.Sources.{Sources}
+use Rattle.verifactu.proofs.Each.{each_weaker}
 use Rattle.verifactu.proofs.Finishing.{kept_since}
 
 -- no reply is want of memory, and none a fault of the disk
@@ -155,10 +156,11 @@ pub store_ran : {D C : Type 0} (issuer : List ℕ) (asks : List Asked) (replies 
     RunEnds replies (printed asks replies s.end) sink end → ScriptEnds issuer asks (s.clock.coming s.clock.clock)
     (λ rs. IsAsked s.clock (readings rs)) sink k end
 store_ran issuer asks replies s sink k end own tells faults_after now later found any h ends =
-    let kept_here : IsTrue k.tells → Kept (StandsBetween issuer s.start s.end) issuer s.end replies s.since (k.told k.disk_after)
-    = λ says.
-    subst (λ (t : OnDisk). Kept (StandsBetween issuer s.start s.end) issuer s.end replies s.since t) now
-    (subst (λ (n : List ℕ). Kept (StandsBetween n s.start s.end) n s.end replies s.since s.now) own
+    let Torn : List ℕ → Entry → Type 0 = λ n. IsCutOff n (IsComing (s.clock.coming s.clock.clock)) asks s.end replies in
+    let kept_here : IsTrue k.tells → Kept (StandsBetween issuer s.start s.end) (Torn issuer) issuer s.end replies s.since
+    (k.told k.disk_after) = λ says.
+    subst (λ (t : OnDisk). Kept (StandsBetween issuer s.start s.end) (Torn issuer) issuer s.end replies s.since t) now
+    (subst (λ (n : List ℕ). Kept (StandsBetween n s.start s.end) (Torn n) n s.end replies s.since s.now) own
     (h.kept (subst (λ (b : Bool). IsTrue b) (sym tells) says))) in
     inr (inr (
       record {
@@ -173,8 +175,8 @@ store_ran issuer asks replies s sink k end own tells faults_after now later foun
         rising = h.rising;
         stops = subst (λ (n : ℕ). StopsOnce (k.faults k.disk) n replies) faults_after (stops_from (k.faults k.disk) s.faults
             s.faults_after replies later h.stops);
-        kept = λ says. kept_since issuer s.start s.end replies (synced (k.told k.disk)) s.since (k.told k.disk_after) h.begins
-            (any says) (kept_here says);
+        kept = λ says. kept_since (Torn issuer) issuer s.start s.end replies (synced (k.told k.disk)) s.since
+            (k.told k.disk_after) h.begins (any says) (kept_here says);
         clock = h.asked;
       },
       ends,
@@ -189,6 +191,36 @@ run_by issuer R Q start each begun = begun
 run_by issuer R Q start each (replied asks replies entries ask told gained run seconds reading h) =
     replied asks replies entries ask told gained (run_by issuer R Q start each run) seconds (each replies seconds reading) h
 
+-- so is the entry that was cut off
+cut_off_by : (issuer : List ℕ) (R Q : List (Result Reply StoreFault) → ℕ → Type 0) (asks : List Asked) (history : List Entry)
+    (replies : List (Result Reply StoreFault)) →
+    ((replies : List (Result Reply StoreFault)) (seconds : ℕ) → R replies seconds → Q replies seconds) → (entry : Entry) →
+    IsCutOff issuer R asks history replies entry → IsCutOff issuer Q asks history replies entry
+cut_off_by issuer R Q asks history replies each entry h = record {
+  before = h.before;
+  behind = h.behind;
+  told = h.told;
+  ask = h.ask;
+  asked = h.asked;
+  seconds = h.seconds;
+  reading = each h.before h.seconds h.reading;
+  made = h.made;
+}
+
+-- what a run keeps, said of its torn entry in other words
+kept_with : {P : List Entry → List ℕ → Type 0} {issuer : List ℕ} {end : List Entry} {replies : List (Result Reply StoreFault)}
+    {since now : OnDisk} (IsTorn IsAlso : Entry → Type 0) → ((entry : Entry) → IsTorn entry → IsAlso entry) →
+    Kept P IsTorn issuer end replies since now → Kept P IsAlso issuer end replies since now
+kept_with IsTorn IsAlso each h = record {
+  torn = h.torn;
+  at_most_one = h.at_most_one;
+  by_a_fault = h.by_a_fault;
+  made = each_weaker IsTorn IsAlso h.torn each h.made;
+  each_moment = h.each_moment;
+  every_crash = h.every_crash;
+  reads = h.reads;
+}
+
 -- the same end, said of other readings and of another clock
 pub script_by : {D : Type 0} (issuer : List ℕ) (asks : List Asked) (old new : ℕ → Option ℕ)
     (Leaves Left : List (Result Reply StoreFault) → Type 0) (s : Sinks) (k : Disks D) (end : Detail) →
@@ -198,20 +230,22 @@ script_by issuer asks old new Leaves Left s k end same leaves (inl h) = inl (no_
 script_by issuer asks old new Leaves Left s k end same leaves (inr (inl h)) = inr (inl (not_opened_by (leaves []) h))
 script_by issuer asks old new Leaves Left s k end same leaves (inr (inr h)) =
     let p = h.0 in
+    let told : (replies : List (Result Reply StoreFault)) (seconds : ℕ) → IsComing old replies seconds → IsComing new replies
+    seconds = λ replies seconds. subst (λ (o : Option ℕ). IsTold o seconds) (same (readings replies)) in
     inr (inr (
       record {
         start = p.start;
         replies = p.replies;
         end = p.end;
         found = p.found;
-        run = run_by issuer (IsComing old) (IsComing new) p.start (λ replies seconds told. subst
-            (λ (o : Option ℕ). IsTold o seconds) (same (readings replies)) told) p.run;
+        run = run_by issuer (IsComing old) (IsComing new) p.start told p.run;
         begins = p.begins;
         legal = p.legal;
         linked = p.linked;
         rising = p.rising;
         stops = p.stops;
-        kept = p.kept;
+        kept = λ says. kept_with _ _
+            (cut_off_by issuer (IsComing old) (IsComing new) asks p.end p.replies told) (p.kept says);
         clock = leaves p.replies p.clock;
       },
       h.1,

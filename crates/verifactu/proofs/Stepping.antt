@@ -1,13 +1,16 @@
 -- A run of a store goes on by one more reply.
 use Rattle.std.proofs.Common.{◌≡◌, inl, inr, ℕ, ◌+◌, ◌≤◌, List, [], ◌∷◌, ◌++◌, length, append_assoc, sym, ◌∙◌, ap, subst, refl}
 use Rattle.std.proofs.Common.{arith, add_assoc, add-zero, Bool, true, cond, IsTrue, IsSome, Option, Some, None, Result, Ok, Err}
+use Rattle.std.proofs.Common.{get_or, length-append, slice_get}
 use Rattle.std.specs.List.{AllByRecursion}
-use Rattle.std.proofs.lemmas.List.{append-nil}
+use Rattle.std.proofs.Math.Seq.{get_or-append_seam}
+use Rattle.std.proofs.lemmas.List.{append-nil, get_or_append_left}
+use Rattle.std.proofs.lemmas.Option.{get_or_from_slice_get, slice_get_read, slice_get_within}
 use Rattle.std.proofs.lemmas.List.Sums.{sum_by-append}
 use Rattle.chain_disk.specs.OnDisk.{OnDisk, LeavesOnly, LeavesNow, moment}
 use Rattle.chain_disk.specs.Runs.{follows, weaker}
-use Rattle.chain_store.specs.Ready.{Takes}
-use Rattle.shop_core.specs.Files.{StandsFor, StandsAround}
+use Rattle.chain_store.specs.Ready.{Takes, Tears}
+use Rattle.shop_core.specs.Files.{StandsFor, StandsAround, StandsBeforeOrWith}
 use Rattle.journal.specs.declared.faults.StoreFault.{StoreFault}
 use Rattle.journal.specs.declared.faults.StoreFault.TheVariants.{DiskFault, Stopped, NoMemory}
 use Rattle.ports.specs.Causes.{Rose}
@@ -16,14 +19,15 @@ use Rattle.record_codec.specs.declared.entries.Entry.{Entry}
 use Rattle.shop_core.specs.Plans.{answer}
 use Rattle.shop_core.specs.Requests.{Asked}
 use Rattle.shop_core.specs.Replies.{ChainRun, IsReply, Tells}
-use Rattle.shop_core.specs.Replies.ChainRun.{replied}
+use Rattle.shop_core.specs.Replies.ChainRun.{begun, replied}
 use Rattle.shop_core.specs.declared.answers.Planned.{Planned}
 use Rattle.shop_core.specs.declared.answers.Planned.TheVariants.{Again, Refused, Made}
 use Rattle.shop_core.specs.declared.answers.Reply.{Reply}
 use Rattle.once_world.specs.Agreement.{IsPrefix}
-use Rattle.verifactu.specs.Crashes.{StandsBetween, StandsForEnd}
+use Rattle.verifactu.specs.Crashes.{IsCutOff, StandsBetween, StandsForEnd}
 use Rattle.verifactu.specs.Readings.{IsComing, has_read, readings}
 use Rattle.verifactu.specs.Replies.{IsGoingOn, IsStopped, StopsByFault}
+use Rattle.verifactu.proofs.Each.{each_weaker}
 use Rattle.verifactu.proofs.Progress.{Origin, Point, GoingOn, Torn, Halted, Progress, SoFar, Step, call_at}
 
 abbrev Told_reply : Type 0
@@ -101,23 +105,6 @@ around_gained issuer start entries gained whole (Made entry) told c begins is te
     let all : whole ≡ entries ++ entry ∷ [] = is ∙ ap (λ (es : List Entry). entries ++ es) tells.1 in
     stands_between issuer start whole (entries ++ entry ∷ []) [] c (prefix_more start entries (entry ∷ []) _ refl begins)
     (all ∙ sym (append-nil (entries ++ entry ∷ []))) with_it
-
--- the entry that was to be added, where there is one
-abbrev torn_of : Planned → List Entry
-torn_of (Again receipt) = []
-torn_of (Refused why) = []
-torn_of (Made entry) = entry ∷ []
-
-torn_size : (planned : Planned) → length (torn_of planned) ≤ 1
-torn_size (Again receipt) = omega arith
-torn_size (Refused why) = omega arith
-torn_size (Made entry) = omega arith
-
-around_torn : (issuer : List ℕ) (entries : List Entry) (planned : Planned) (c : List ℕ) → StandsAround issuer entries planned c →
-    StandsForEnd issuer entries (torn_of planned) c
-around_torn issuer entries (Again receipt) c stands = inl stands
-around_torn issuer entries (Refused why) c stands = inl stands
-around_torn issuer entries (Made entry) c stands = stands
 
 end_between : (issuer : List ℕ) (start entries torn : List Entry) (c : List ℕ) → IsPrefix start entries →
     StandsForEnd issuer entries torn c → StandsBetween issuer start entries torn c
@@ -203,72 +190,154 @@ unanswered o p q ask replies g t same = record {
       (between_more o.issuer o.start p.history.entries t.gained [] q.history.entries t.entries));
 }
 
-torn : (o : Origin) (p q : Point) (ask : Asked) (replies : List Told_reply) → IsPrefix o.start p.history.entries →
-    GoingOn o replies p → Taking o p ask (Err DiskFault) q →
-    IsTrue o.tells → Torn o q
-torn o p q ask replies begins g t tells =
-    let planned = answer o.issuer p.history.entries ask t.seconds in
-    let more = torn_of planned in
+-- what is said of an ask that was cut off, with the issuer of the run
+pub record Tearing (o : Origin) (p : Point) (ask : Asked) (q : Point) : Type 0 where
+  pub entry : Entry
+  pub seconds : ℕ
+  pub reading : IsTold (p.next 0) seconds
+  pub made : answer o.issuer p.history.entries ask seconds ≡ Made entry
+  pub any_moment : IsTrue o.tells → LeavesOnly p.now q.now (StandsBeforeOrWith o.issuer p.history.entries entry)
+
+tearing : (o : Origin) (p q : Point) (ask : Asked) (torn : Option Entry) → p.history.issuer ≡ o.issuer →
+    Tears (call_at o.tells p q) ask torn → Tearing o p ask q
+tearing o p q ask torn own t = record {
+  entry = t.entry;
+  seconds = t.seconds;
+  reading = t.reading;
+  made = subst (λ (n : List ℕ). answer n p.history.entries ask t.seconds ≡ Made t.entry) own t.made;
+  any_moment = λ tells. subst (λ (n : List ℕ). LeavesOnly p.now q.now (StandsBeforeOrWith n p.history.entries t.entry)) own
+      (t.any_moment tells);
+}
+
+-- a run has one reply an ask
+replies_of_asks : (issuer : List ℕ) (R : List Told_reply → ℕ → Type 0) (start : List Entry) {asks : List Asked}
+    {replies : List Told_reply} {entries : List Entry} → ChainRun issuer R start asks replies entries →
+    length asks ≡ length replies
+replies_of_asks issuer R start begun = refl
+replies_of_asks issuer R start (replied asks replies entries ask told gained run seconds reading h) =
+    let so_far = replies_of_asks issuer R start run in
+    omega (arith, so_far, length-append asks (ask ∷ []), length-append replies (told ∷ []))
+
+-- the last ask of a list is behind the others
+asked_last : (asks : List Asked) (ask : Asked) (place : ℕ) → length asks ≡ place → slice_get (asks ++ ask ∷ []) place ≡ Some ask
+asked_last asks ask place is =
+    let more = length-append asks (ask ∷ []) in
+    slice_get_read (asks ++ ask ∷ []) (length (asks ++ ask ∷ [])) place ask refl (omega (arith, is, more))
+    (sym (subst (λ (n : ℕ). get_or (asks ++ ask ∷ []) n ask ≡ ask) is (get_or-append_seam asks ask [] ask)))
+
+-- an ask keeps its place where others come behind it
+asked_before : (asks more : List Asked) (ask : Asked) (place : ℕ) → slice_get asks place ≡ Some ask →
+    slice_get (asks ++ more) place ≡ Some ask
+asked_before asks more ask place is =
+    let within = slice_get_within asks place ask is in
+    let size = length-append asks more in
+    slice_get_read (asks ++ more) (length (asks ++ more)) place ask refl (omega (arith, within, size))
+    (sym (get_or_append_left asks more ask place within ∙ get_or_from_slice_get asks place ask ask is))
+
+-- a clock's next answer is the coming one of the number of readings so far
+next_coming : (o : Origin) (replies : List Told_reply) (p : Point) (seconds : ℕ) → MovedBy (readings replies) o.coming p.next →
+    IsTold (p.next 0) seconds → IsComing o.coming replies seconds
+next_coming o replies p seconds moved told =
+    subst (λ (a : Option ℕ). IsTold a seconds) (moved 0 ∙ ap o.coming (add-zero (readings replies))) told
+
+-- the entry of an ask that was cut off, at the end of its run
+cut_off_here : (o : Origin) (asks : List Asked) (replies : List Told_reply) (p q : Point) (ask : Asked) → SoFar o asks replies p →
+    (t : Tearing o p ask q) → IsCutOff o.issuer (IsComing o.coming) (asks ++ ask ∷ []) p.history.entries
+    (replies ++ Err DiskFault ∷ []) t.entry
+cut_off_here o asks replies p q ask h t = record {
+  before = replies;
+  behind = [];
+  told = refl;
+  ask = ask;
+  asked = asked_last asks ask (length replies) (replies_of_asks o.issuer (IsComing o.coming) o.start h.run);
+  seconds = t.seconds;
+  reading = next_coming o replies p t.seconds h.moved t.reading;
+  made = t.made;
+}
+
+-- the same in a longer run
+cut_off_more : (o : Origin) (asks : List Asked) (history : List Entry) (replies : List Told_reply) (ask : Asked)
+    (told : Told_reply) (entry : Entry) → IsCutOff o.issuer (IsComing o.coming) asks history replies entry →
+    IsCutOff o.issuer (IsComing o.coming) (asks ++ ask ∷ []) history (replies ++ told ∷ []) entry
+cut_off_more o asks history replies ask told entry h = record {
+  before = h.before;
+  behind = h.behind ++ told ∷ [];
+  told = ap (λ (rs : List Told_reply). rs ++ told ∷ []) h.told ∙ append_assoc h.before (Err DiskFault ∷ h.behind) (told ∷ []);
+  ask = h.ask;
+  asked = asked_before asks (ask ∷ []) h.ask (length h.before) h.asked;
+  seconds = h.seconds;
+  reading = h.reading;
+  made = h.made;
+}
+
+torn : (o : Origin) (asks : List Asked) (replies : List Told_reply) (p q : Point) (ask : Asked) → SoFar o asks replies p →
+    GoingOn o replies p → q.history.entries ≡ p.history.entries → Tearing o p ask q → IsTrue o.tells →
+    Torn o (asks ++ ask ∷ []) (replies ++ Err DiskFault ∷ []) q
+torn o asks replies p q ask h g same t tells =
+    let more = t.entry ∷ [] in
     let any = t.any_moment tells in
-    let same : q.history.entries ≡ p.history.entries = t.entries ∙ ap (λ (es : List Entry). p.history.entries ++ es) t.reply ∙
-    append-nil p.history.entries in
-    let here : LeavesNow q.now (StandsForEnd o.issuer p.history.entries more) = λ c left. around_torn o.issuer p.history.entries
-    planned c (any.each (moment q.now) c any.later left) in
     let only : LeavesOnly o.since q.now (StandsBetween o.issuer o.start p.history.entries more) =
     follows o.since p.now q.now
     (StandsBetween o.issuer o.start p.history.entries [])
-    (StandsAround o.issuer p.history.entries planned)
+    (StandsBeforeOrWith o.issuer p.history.entries t.entry)
     (StandsBetween o.issuer o.start p.history.entries more)
     (g.only tells) any
     (between_more o.issuer o.start p.history.entries [] more p.history.entries (sym (append-nil p.history.entries)))
-    (λ c stands. end_between o.issuer o.start p.history.entries more c begins (around_torn o.issuer p.history.entries planned c
-    stands)) in
+    (λ c stands. end_between o.issuer o.start p.history.entries more c h.begins stands) in
     record {
       torn = more;
-      at_most_one = torn_size planned;
+      at_most_one = omega arith;
+      made = (
+        subst (λ (es : List Entry). IsCutOff o.issuer (IsComing o.coming) (asks ++ ask ∷ []) es (replies ++ Err DiskFault ∷ [])
+            t.entry) (sym same) (cut_off_here o asks replies p q ask h t),
+        tt,
+      );
       only = subst (λ (es : List Entry). LeavesOnly o.since q.now (StandsBetween o.issuer o.start es more)) (sym same) only;
-      here = subst (λ (es : List Entry). LeavesNow q.now (StandsForEnd o.issuer es more)) (sym same) here;
+      here = subst (λ (es : List Entry). LeavesNow q.now (StandsForEnd o.issuer es more)) (sym same)
+          (λ c left. any.each (moment q.now) c any.later left);
     }
 
 risen_from : (first before after : ℕ) → first ≤ before → Rose before after → Rose first after
 risen_from first before after later rose = λ below. let risen = rose below in omega (arith, later, risen)
 
 -- the journal went on before the ask
-progress_on : (o : Origin) (p q : Point) (ask : Asked) (told : Told_reply) (replies : List Told_reply) →
-    IsPrefix o.start p.history.entries → o.at_faults ≤ p.faults → GoingOn o replies p →
-    p.stopped ≡ None → Taking o p ask told q → Step o.tells p ask told q → Progress o (replies ++ told ∷ []) q q.stopped
-progress_on o p q ask (Ok reply) replies begins later g none t s =
-    subst (λ (x : Option ℕ). Progress o (replies ++ Ok reply ∷ []) q x) (sym s.going_on.1) (answered o p q ask reply replies
-    begins g t)
-progress_on o p q ask (Err NoMemory) replies begins later g none t s =
+progress_on : (o : Origin) (asks : List Asked) (replies : List Told_reply) (p q : Point) (ask : Asked) (told : Told_reply) →
+    SoFar o asks replies p → GoingOn o replies p → p.stopped ≡ None → Taking o p ask told q → Step o.tells p ask told q →
+    Progress o (asks ++ ask ∷ []) (replies ++ told ∷ []) q q.stopped
+progress_on o asks replies p q ask (Ok reply) h g none t s =
+    subst (λ (x : Option ℕ). Progress o (asks ++ ask ∷ []) (replies ++ Ok reply ∷ []) q x) (sym s.going_on.1)
+    (answered o p q ask reply replies h.begins g t)
+progress_on o asks replies p q ask (Err NoMemory) h g none t s =
     let same = s.no_memory refl in
-    subst (λ (x : Option ℕ). Progress o (replies ++ Err NoMemory ∷ []) q x) (sym (same.1 ∙ none)) (unanswered o p q ask replies g
-    t same.0)
-progress_on o p q ask (Err DiskFault) replies begins later g none t s =
+    subst (λ (x : Option ℕ). Progress o (asks ++ ask ∷ []) (replies ++ Err NoMemory ∷ []) q x) (sym (same.1 ∙ none))
+    (unanswered o p q ask replies g t same.0)
+progress_on o asks replies p q ask (Err DiskFault) h g none t s =
     let f = s.fault refl in
-    subst (λ (x : Option ℕ). Progress o (replies ++ Err DiskFault ∷ []) q x) (sym f.1) (record {
+    let cut = s.tears refl in
+    let same : q.history.entries ≡ p.history.entries = t.entries ∙ ap (λ (es : List Entry). p.history.entries ++ es) t.reply ∙
+    append-nil p.history.entries in
+    subst (λ (x : Option ℕ). Progress o (asks ++ ask ∷ []) (replies ++ Err DiskFault ∷ []) q x) (sym f.1) (record {
       stops = record {
         before = replies;
         behind = [];
         parts = refl;
         go_on = g.go_on;
         stopped = tt;
-        risen = risen_from o.at_faults p.faults q.faults later f.0;
+        risen = risen_from o.at_faults p.faults q.faults h.later f.0;
       };
       at_this = refl;
-      left = torn o p q ask replies begins g t;
+      left = torn o asks replies p q ask h g same (tearing o p q ask cut.0 h.own cut.1);
     })
-progress_on o p q ask (Err (Stopped count)) replies begins later g none t s = absurd (none_some none ((s.stops count).0 refl))
+progress_on o asks replies p q ask (Err (Stopped count)) h g none t s = absurd (none_some none ((s.stops count).0 refl))
 
 step_on : (o : Origin) (asks : List Asked) (replies : List Told_reply) (p q : Point) (ask : Asked) (told : Told_reply) →
     p.stopped ≡ None → SoFar o asks replies p → Step o.tells p ask told q →
     SoFar o (asks ++ ask ∷ []) (replies ++ told ∷ []) q
 step_on o asks replies p q ask told none h s =
     let t = taking o p q ask told h.own (s.takes none) in
-    let g : GoingOn o replies p = subst (λ (x : Option ℕ). Progress o replies p x) none h.progress in
+    let g : GoingOn o replies p = subst (λ (x : Option ℕ). Progress o asks replies p x) none h.progress in
     let read = readings_read replies told (reads told (λ count is. none_some none ((s.stops count).0 is))) in
-    let reading : IsComing o.coming replies t.seconds =
-    subst (λ (a : Option ℕ). IsTold a t.seconds) (h.moved 0 ∙ ap o.coming (add-zero (readings replies))) t.reading in
+    let reading = next_coming o replies p t.seconds h.moved t.reading in
     record {
       own = t.own;
       run = subst (λ (es : List Entry). ChainRun o.issuer (IsComing o.coming) o.start (asks ++ ask ∷ []) (replies ++ told ∷ [])
@@ -278,7 +347,7 @@ step_on o asks replies p q ask told none h s =
           t.moved);
       begins = prefix_more o.start p.history.entries t.gained q.history.entries t.entries h.begins;
       later = omega (arith, h.later, s.later);
-      progress = progress_on o p q ask told replies h.begins h.later g none t s;
+      progress = progress_on o asks replies p q ask told h g none t s;
     }
 
 stopped_more : (faults count : ℕ) (replies : List Told_reply) → StopsByFault faults count replies →
@@ -293,18 +362,28 @@ stopped_more faults count replies h = record {
   risen = h.risen;
 }
 
+torn_more : (o : Origin) (asks : List Asked) (replies : List Told_reply) (p : Point) (ask : Asked) (told : Told_reply) →
+    Torn o asks replies p → Torn o (asks ++ ask ∷ []) (replies ++ told ∷ []) p
+torn_more o asks replies p ask told h = record {
+  torn = h.torn;
+  at_most_one = h.at_most_one;
+  made = each_weaker _ _ h.torn (cut_off_more o asks p.history.entries replies ask told) h.made;
+  only = h.only;
+  here = h.here;
+}
+
 -- the journal had stopped before the ask
 step_stopped : (o : Origin) (asks : List Asked) (replies : List Told_reply) (p : Point) (ask : Asked) (count : ℕ) →
     p.stopped ≡ Some count → SoFar o asks replies p →
     SoFar o (asks ++ ask ∷ []) (replies ++ Err (Stopped count) ∷ []) p
 step_stopped o asks replies p ask count some h =
     let told : Told_reply = Err (Stopped count) in
-    let g : Halted o replies p count = subst (λ (x : Option ℕ). Progress o replies p x) some h.progress in
+    let g : Halted o asks replies p count = subst (λ (x : Option ℕ). Progress o asks replies p x) some h.progress in
     let any = some_told (o.coming (readings replies)) in
-    let here : Progress o (replies ++ told ∷ []) p (Some count) = record {
+    let here : Progress o (asks ++ ask ∷ []) (replies ++ told ∷ []) p (Some count) = record {
       stops = stopped_more o.at_faults count replies g.stops;
       at_this = g.at_this;
-      left = g.left;
+      left = λ tells. torn_more o asks replies p ask told (g.left tells);
     } in
     record {
       own = h.own;
@@ -314,7 +393,7 @@ step_stopped o asks replies p ask count some h =
       moved = subst (λ (n : ℕ). MovedBy n o.coming p.next) (sym (readings_stopped replies count)) h.moved;
       begins = h.begins;
       later = h.later;
-      progress = subst (λ (x : Option ℕ). Progress o (replies ++ told ∷ []) p x) (sym some) here;
+      progress = subst (λ (x : Option ℕ). Progress o (asks ++ ask ∷ []) (replies ++ told ∷ []) p x) (sym some) here;
     }
 
 step_by : (stopped : Option ℕ) (o : Origin) (asks : List Asked) (replies : List Told_reply) (p q : Point) (ask : Asked)

@@ -1,16 +1,17 @@
 -- What one till's asks come to, once the shop's list at the end is known.
 use Rattle.std.proofs.Common.{◌≡◌, ◌⊎◌, inl, inr, ℕ, ◌<◌, ◌≤◌, Bool, true, false, List, [], ◌∷◌, ◌++◌, length, map, Option, Some}
-use Rattle.std.proofs.Common.{None, Result, Ok, Err, refl, ap, sym, ◌∙◌, subst, arith, append_assoc}
-use Rattle.std.specs.Prelude.{Contains, IsSome}
+use Rattle.std.proofs.Common.{None, Result, Ok, Err, refl, ap, sym, ◌∙◌, subst, arith, append_assoc, slice_get}
+use Rattle.std.specs.Prelude.{IsSome}
 use Rattle.std.specs.List.{AllByRecursion, enumerate_from}
 use Rattle.std.proofs.lemmas.List.{append-nil, append_cancel_left, length-append, length-map}
-use Rattle.std.proofs.lemmas.List.Elements.{Contains-append_left, Contains-push}
 use Rattle.chain_lock.specs.Known.{Known}
 use Rattle.chain_lock.specs.Lists.{StartsWith}
 use Rattle.journal.specs.declared.faults.StoreFault.{StoreFault}
 use Rattle.journal.specs.declared.faults.StoreFault.TheVariants.{DiskFault, Stopped, NoMemory}
 use Rattle.record_codec.specs.declared.entries.Entry.{Entry}
+use Rattle.shop_core.specs.Plans.{answer}
 use Rattle.shop_core.specs.Requests.{Asked}
+use Rattle.shop_core.specs.declared.answers.Planned.TheVariants.{Made}
 use Rattle.shop_core.specs.declared.answers.Reply.{Reply}
 use Rattle.shop_core.specs.declared.items.Item.{Item}
 use Rattle.shop_core.specs.declared.items.Item.TheVariants as item
@@ -20,8 +21,9 @@ use Rattle.till_calls.specs.Client.TillRun.{begun, asked}
 use Rattle.till_calls.specs.Shop.{Asks}
 use Rattle.till_calls.specs.Turns.{TillDoes}
 use Rattle.once_world.specs.Agreement.{IsPrefix}
+use Rattle.sender.proofs.Adding.{get_front}
 use Rattle.verifactu.specs.Replies.{Replies}
-use Rattle.verifactu.specs.Tills.{ServedRun}
+use Rattle.verifactu.specs.Tills.{IsCutOffBy, IsSomeReading, ServedRun}
 use Rattle.verifactu.specs.Tills.ServedRun.{unasked, answered, torn as tears, stopped as told_stop, without_memory}
 use Rattle.verifactu.proofs.Each.{each_append, each_back, each_placed, each_snoc}
 
@@ -38,6 +40,10 @@ starts_trans a b c p q = (q.0 ++ p.0, p.1 ∙ ap (λ (l : List Item). l ++ p.0) 
 
 no_shorter : (a b : List Item) → StartsWith a b → length b ≤ length a
 no_shorter a b p = let e = ap (λ (l : List Item). length l) p.1 in let f = length-append b p.0 in omega (arith, e, f)
+
+get_last : {A : Type 0} (xs : List A) (x : A) → slice_get (xs ++ x ∷ []) (length xs) ≡ Some x
+get_last [] x = refl
+get_last (y ∷ xs) x = get_last xs x
 
 -- what a reply tells of the stop at the end
 abbrev pub StopTold : Option ℕ → Result Reply StoreFault → Type 0
@@ -69,25 +75,36 @@ module _ (stopped : Option ℕ) (torn : Option Entry) where
         is = ap (λ (l : List Entry). y ∷ l) more.is ∙ ap (λ (z : Entry). z ∷ (h ++ more.rest)) same;
       }
 
-  record StopThere (end h : List Entry) (count : ℕ) : Type 0 where
+  record StopThere (end h : List Entry) (count : ℕ) (e : Entry) : Type 0 where
     is : stopped ≡ Some count
-    long : length h ≡ length end
+    torn_is : torn ≡ Some e
+    whole : h ≡ end
 
   stop_of : (s : Option ℕ) (t : Option Entry) (count : ℕ) (e : Entry) (rest : List Item) → stop_in s t ≡ item.Stop count e ∷ rest
-      → s ≡ Some count
-  stop_of (Some faults) (Some t) count e rest h = let x : faults ≡ count = (let y = h in cc) in ap (λ (n : ℕ). Some n) x
+      → (s ≡ Some count) × (t ≡ Some e)
+  stop_of (Some faults) (Some t) count e rest h =
+      let x : faults ≡ count = (let z = h in cc) in
+      let y : t ≡ e = (let z = h in cc) in
+      (ap (λ (n : ℕ). Some n) x, ap (λ (u : Entry). Some u) y)
   stop_of (Some faults) None count e rest h = absurd (let x = h in cc)
   stop_of None t count e rest h = absurd (let x = h in cc)
 
   -- a stop in the list is the one at its end
   stop_there : (end h : List Entry) (count : ℕ) (e : Entry) (rest : List Item) → items end ≡ map item.Entry h ++ item.Stop count e
-      ∷ rest → StopThere end h count
-  stop_there [] [] count e rest is = record { is = stop_of stopped torn count e rest is; long = refl }
+      ∷ rest → StopThere end h count e
+  stop_there [] [] count e rest is =
+      let both = stop_of stopped torn count e rest is in
+      record { is = both.0; torn_is = both.1; whole = refl }
   stop_there [] (x ∷ h) count e rest is = absurd (no_entry stopped torn x (map item.Entry h ++ item.Stop count e ∷ rest) is)
   stop_there (y ∷ end) [] count e rest is = absurd (let x = is in cc)
   stop_there (y ∷ end) (x ∷ h) count e rest is =
       let more = stop_there end h count e rest (let x = is in cc) in
-      record { is = more.is; long = omega (arith, more.long) }
+      let same : x ≡ y = (let z = is in cc) in
+      record {
+        is = more.is;
+        torn_is = more.torn_is;
+        whole = ap (λ (l : List Entry). x ∷ l) more.whole ∙ ap (λ (z : Entry). z ∷ end) same;
+      }
 
 -- asks leave a till its numbers
 pub run_numbers : {C : Type 0} (coming : C → ℕ → Option ℕ) (old new : Known Item (Root C)) (asks : List Asked) (replies : Replies)
@@ -107,6 +124,12 @@ module _ {C : Type 0} (coming : C → ℕ → Option ℕ) (root : Root C) (stopp
     abbrev pub IsClean : List (ℕ × Item) → Type 0
     IsClean own = AllByRecursion (λ (z : ℕ × Item). is_stop z.1 ≡ false) own
 
+    -- the entry of the stop is what one of these asks made
+    pub record CutOff (asks : List Asked) (replies : Replies) : Type 0 where
+      pub entry : Entry
+      pub is : torn ≡ Some entry
+      pub by : IsCutOffBy root.issuer (coming root.clock) end asks replies entry
+
     -- how far the till has been told
     pub record SoFar (asks : List Asked) (replies : Replies) (k : Known Item (Root C)) : Type 0 where
       pub seen : ℕ
@@ -117,31 +140,43 @@ module _ {C : Type 0} (coming : C → ℕ → Option ℕ) (root : Root C) (stopp
       pub least : k.least ≡ length k.seen
       pub whole : told ≡ true → length end < length k.seen
       pub stops : AllByRecursion (StopTold stopped) replies
-      pub clean : IsClean k.own ⊎ Contains replies (Err DiskFault)
+      pub even : length replies ≡ length asks
+      pub clean : IsClean k.own ⊎ CutOff asks replies
+
+    -- this ask, whose reply tells the fault, made the entry of the stop
+    record Tore (ask : Asked) (reply : Result Reply StoreFault) : Type 0 where
+      told : reply ≡ Err DiskFault
+      entry : Entry
+      is : torn ≡ Some entry
+      seconds : ℕ
+      reading : IsSomeReading (coming root.clock) seconds
+      made : answer root.issuer end ask seconds ≡ Made entry
 
     -- what one more ask tells, at this list and with what it adds
-    record Step (asks : List Asked) (replies : Replies) (before more : List Item) (reply : Result Reply StoreFault) : Type 0 where
+    record Step (asks : List Asked) (replies : Replies) (ask : Asked) (before more : List Item)
+        (reply : Result Reply StoreFault) : Type 0 where
       seen : ℕ
       told : Bool
       run : Run asks replies seen told
       within : seen ≤ length (before ++ more)
       whole : told ≡ true → length end < length (before ++ more)
       stop : StopTold stopped reply
-      clean : AllByRecursion (λ (x : Item). is_stop x ≡ false) more ⊎ (reply ≡ Err DiskFault)
+      clean : AllByRecursion (λ (x : Item). is_stop x ≡ false) more ⊎ Tore ask reply
 
     none_more : (before more : List Item) → before ++ more ≡ before → AllByRecursion (λ (x : Item). is_stop x ≡ false) more
     none_more before more e = subst (λ (l : List Item). AllByRecursion (λ (x : Item). is_stop x ≡ false) l)
         (sym (append_cancel_left before more [] (e ∙ sym (append-nil before)))) tt
 
     stop_long : (h : List Entry) (count : ℕ) (e : Entry) (items' : List Item) → StartsWith log items' →
-        items' ≡ map item.Entry h ++ item.Stop count e ∷ [] → (stopped ≡ Some count) × (length end < length items')
+        items' ≡ map item.Entry h ++ item.Stop count e ∷ [] → StopThere stopped torn end h count e × (length end < length items')
     stop_long h count e items' starts is =
         let there = stop_there stopped torn end h count e starts.0 (starts.1 ∙ ap (λ (l : List Item). l ++ starts.0) is ∙
         append_assoc (map item.Entry h) (item.Stop count e ∷ []) starts.0) in
         let n = ap (λ (l : List Item). length l) is in
         let m = length-append (map item.Entry h) (item.Stop count e ∷ []) in
         let k = length-map h (λ (x : Entry). item.Entry x) in
-        (there.is, omega (arith, there.long, n, m, k))
+        let long = ap (λ (l : List Entry). length l) there.whole in
+        (there, omega (arith, long, n, m, k))
 
     module _ (asks : List Asked) (replies : Replies) (ask : Asked) (old : Known Item (Root C)) (before more : List Item)
         (starts : StartsWith before old.seen) (reaches : StartsWith log (before ++ more)) where
@@ -166,7 +201,7 @@ module _ {C : Type 0} (coming : C → ℕ → Option ℕ) (root : Root C) (stopp
       on s e = subst (λ (b : Bool). Run asks replies s.seen b) e s.run
 
       step : (reply : Result Reply StoreFault) → SoFar asks replies old → TillDoes coming ask reply root before (before ++ more) →
-          Step (asks ++ ask ∷ []) (replies ++ reply ∷ []) before more reply
+          Step (asks ++ ask ∷ []) (replies ++ reply ∷ []) ask before more reply
       step (Ok reply) s a =
           let sizes : length before ≡ length a.history = ap (λ (l : List Item). length l) a.going_on ∙ length-map a.history
           (λ (e : Entry). item.Entry e) in
@@ -195,8 +230,15 @@ module _ {C : Type 0} (coming : C → ℕ → Option ℕ) (root : Root C) (stopp
             run = tears asks replies s.seen ask (on s (going s t.history t.going_on));
             within = omega (arith, s.within, grows);
             whole = λ e. there.1;
-            stop = subst (λ (o : Option ℕ). IsSome o) (sym there.0) refl;
-            clean = inr refl;
+            stop = subst (λ (o : Option ℕ). IsSome o) (sym there.0.is) refl;
+            clean = inr (record {
+              told = refl;
+              entry = t.torn;
+              is = there.0.torn_is;
+              seconds = t.seconds;
+              reading = (t.reading.number, t.reading.told);
+              made = subst (λ (h : List Entry). answer root.issuer h ask t.seconds ≡ Made t.torn) there.0.whole t.made;
+            });
           }
       step (Err (Stopped count)) s t =
           let there = stop_long t.1.history count t.1.torn (before ++ more) reaches (t.0 ∙ t.1.items_are) in
@@ -206,7 +248,7 @@ module _ {C : Type 0} (coming : C → ℕ → Option ℕ) (root : Root C) (stopp
             run = told_stop asks replies s.seen s.told ask count s.run;
             within = omega (arith, s.within, grows);
             whole = λ e. there.1;
-            stop = there.0;
+            stop = there.0.is;
             clean = inl (none_more before more t.0);
           }
       step (Err NoMemory) s e = record {
@@ -219,16 +261,50 @@ module _ {C : Type 0} (coming : C → ℕ → Option ℕ) (root : Root C) (stopp
         clean = inl (none_more before more e.0);
       }
 
-    clean_more : (replies : Replies) (reply : Result Reply StoreFault) (own : List (ℕ × Item)) (place : ℕ) (more : List Item) →
-        IsClean own ⊎ Contains replies (Err DiskFault) →
-        AllByRecursion (λ (x : Item). is_stop x ≡ false) more ⊎ (reply ≡ Err DiskFault) →
-        IsClean (own ++ enumerate_from place more) ⊎ Contains (replies ++ reply ∷ []) (Err DiskFault)
-    clean_more replies reply own place more (inr told) any = inr (Contains-append_left replies (reply ∷ []) (Err DiskFault) told)
-    clean_more replies reply own place more (inl clean) (inr told) =
-        inr (subst (λ (r : Result Reply StoreFault). Contains (replies ++ r ∷ []) (Err DiskFault)) (sym told)
-        (Contains-push replies (Err DiskFault)))
-    clean_more replies reply own place more (inl clean) (inl none) = inl (each_append (λ (z : ℕ × Item). is_stop z.1 ≡ false) own
-        (enumerate_from place more) clean (each_placed (λ (x : Item). is_stop x ≡ false) place more none))
+    -- the same entry, after one more ask
+    cut_more : (asks : List Asked) (replies : Replies) (ask : Asked) (reply : Result Reply StoreFault) → CutOff asks replies →
+        CutOff (asks ++ ask ∷ []) (replies ++ reply ∷ [])
+    cut_more asks replies ask reply c = record {
+      entry = c.entry;
+      is = c.is;
+      by = record {
+        place = c.by.place;
+        told = get_front replies (reply ∷ []) c.by.place (Err DiskFault) c.by.told;
+        ask = c.by.ask;
+        asked = get_front asks (ask ∷ []) c.by.place c.by.ask c.by.asked;
+        seconds = c.by.seconds;
+        reading = c.by.reading;
+        made = c.by.made;
+      };
+    }
+
+    -- the entry of the last ask
+    cut_here : (asks : List Asked) (replies : Replies) (ask : Asked) (reply : Result Reply StoreFault) → length replies ≡ length
+        asks → Tore ask reply → CutOff (asks ++ ask ∷ []) (replies ++ reply ∷ [])
+    cut_here asks replies ask reply even t = record {
+      entry = t.entry;
+      is = t.is;
+      by = record {
+        place = length replies;
+        told = subst (λ (r : Result Reply StoreFault). slice_get (replies ++ reply ∷ []) (length replies) ≡ Some r) t.told
+            (get_last replies reply);
+        ask = ask;
+        asked = subst (λ (n : ℕ). slice_get (asks ++ ask ∷ []) n ≡ Some ask) (sym even) (get_last asks ask);
+        seconds = t.seconds;
+        reading = t.reading;
+        made = t.made;
+      };
+    }
+
+    clean_more : (asks : List Asked) (replies : Replies) (ask : Asked) (reply : Result Reply StoreFault) (own : List (ℕ × Item))
+        (place : ℕ) (more : List Item) → length replies ≡ length asks → IsClean own ⊎ CutOff asks replies →
+        AllByRecursion (λ (x : Item). is_stop x ≡ false) more ⊎ Tore ask reply →
+        IsClean (own ++ enumerate_from place more) ⊎ CutOff (asks ++ ask ∷ []) (replies ++ reply ∷ [])
+    clean_more asks replies ask reply own place more even (inr cut) any = inr (cut_more asks replies ask reply cut)
+    clean_more asks replies ask reply own place more even (inl clean) (inr tore) = inr (cut_here asks replies ask reply even tore)
+    clean_more asks replies ask reply own place more even (inl clean) (inl none) = inl (each_append
+        (λ (z : ℕ × Item). is_stop z.1 ≡ false) own (enumerate_from place more) clean
+        (each_placed (λ (x : Item). is_stop x ≡ false) place more none))
 
     one_more : (asks : List Asked) (replies : Replies) (ask : Asked) (reply : Result Reply StoreFault)
         (old new : Known Item (Root C)) → Asks coming ask reply old new → StartsWith log new.seen →
@@ -250,8 +326,10 @@ module _ {C : Type 0} (coming : C → ℕ → Option ℕ) (root : Root C) (stopp
           least = ap (λ (k : Known Item (Root C)). k.least) t.after ∙ ap (λ (l : List Item). length l) (sym seen);
           whole = λ e. subst (λ (l : List Item). length end < length l) (sym seen) (next.whole e);
           stops = each_snoc (StopTold stopped) replies reply s.stops next.stop;
-          clean = subst (λ (k : Known Item (Root C)). IsClean k.own ⊎ Contains (replies ++ reply ∷ []) (Err DiskFault))
-              (sym t.after) (clean_more replies reply old.own (length t.before) t.added s.clean next.clean);
+          even = (let a = length-append replies (reply ∷ []) in let b = length-append asks (ask ∷ []) in
+              omega (arith, s.even, a, b));
+          clean = subst (λ (k : Known Item (Root C)). IsClean k.own ⊎ CutOff (asks ++ ask ∷ []) (replies ++ reply ∷ []))
+              (sym t.after) (clean_more asks replies ask reply old.own (length t.before) t.added s.even s.clean next.clean);
         }
 
     seen_before : (ask : Asked) (reply : Result Reply StoreFault) (old new : Known Item (Root C)) →
@@ -274,6 +352,7 @@ module _ {C : Type 0} (coming : C → ℕ → Option ℕ) (root : Root C) (stopp
       least = least;
       whole = λ e. absurd (let x = e in cc);
       stops = tt;
+      even = refl;
       clean = inl (subst (λ (o : List (ℕ × Item)). IsClean o) (sym bare) tt);
     }
     so_far old new asks' replies' low home least bare whole (asked asks replies mid _ ask reply run this) =

@@ -24,7 +24,7 @@ use Rattle.sender.specs.declared.answers.DrainFault.{DrainFault}
 use Rattle.sender.specs.declared.answers.DrainFault.TheVariants as drain
 use Rattle.sender.specs.Agreeing.{Adds, AreNotes, AreNotesOrTorn, HasAt, InSession}
 use Rattle.sender.specs.Agreeing.{KeepsAgreement}
-use Rattle.sender.specs.Draining.{Drained, EndsWith, Scene, Turns, none, more}
+use Rattle.sender.specs.Draining.{CountsOf, Drained, EndsWith, Scene, Turns, none, more}
 use Rattle.sender.specs.Lines.{IsCall}
 use Rattle.sender.specs.Sending.{Sending}
 use Rattle.sender.specs.Turning.{Desk, Kind, Turned}
@@ -32,9 +32,10 @@ use Rattle.sender.proofs.Adding.{adds_none, adds_then, has_front}
 use Rattle.sender.proofs.Causes.{turn_later}
 use Rattle.sender.proofs.Growing.{Growth, all_contained, gains_each}
 use Rattle.sender.proofs.Lists.{all_both, all_change}
-use Rattle.verifactu.specs.Beside.{EndsStopped, FailsEightTimes, SendsOn, sending_end}
+use Rattle.verifactu.specs.Beside.{EndsStopped, SendsOn, sending_end}
 use Rattle.verifactu.specs.Draining.{IsDiskAnswer, IsFaultless}
 use Rattle.verifactu.proofs.Contrary.{shows_nothing}
+use Rattle.verifactu.proofs.GivingUp.{gives_up_behind}
 use Rattle.verifactu.proofs.Stops.{ends_stopped, get_seam}
 
 growth_of : (P : Item → Type 0) (a b : Sight) → Adds P a b → Growth a b
@@ -72,7 +73,9 @@ sends_none kind a k said = record {
   contrary = λ tells past r evidence is. absurd cc;
   shown = λ tells past r none entries evidence s. absurd (none entries evidence s);
   later = omega arith;
+  counts = λ n r is. absurd cc;
   undelivered = λ n r is. absurd cc;
+  gives_up = λ tells n r is. absurd cc;
 }
 
 -- after turns that go on, more of them
@@ -119,11 +122,10 @@ sends_then kind a b c k l m said mid then answer x y = record {
   shown = λ tells past r none. y.shown tells past (x.kept tells past r) (shows_nothing past l.ledger.messages
       (x.shown tells past r none));
   later = let e = x.later in let f = y.later in omega (arith, e, f);
-  undelivered = λ n r is. (let u = y.undelivered n r is in (
-    u.0,
-    λ below. let w = u.1 below in let e = x.later in
-        omega (arith, w, e),
-  ));
+  counts = y.counts;
+  undelivered = λ n r is below. (let w = y.undelivered n r is below in let e = x.later in omega (arith, w, e));
+  gives_up = λ tells n r is. (let f = x.says tells in
+      gives_up_behind k.ledger.messages l.ledger.messages m.ledger.messages f.session f.is (y.gives_up tells n r is));
 }
   where
     notes : Adds AreNotes a b
@@ -181,12 +183,12 @@ never_end (Err (send.Store fault)) before after k new said h evidence is = absur
 never_end (Err send.NoMemory) before after k new said h evidence is = absurd cc
 
 -- the turns beside the tills give up on no link
-pub delivers_end : (answer : Result Turn SendFault) (old new : Desk) → FailsEightTimes old new (sending_end answer)
-delivers_end (Ok turn) old new n r is = absurd cc
-delivers_end (Err send.LinkFault) old new n r is = absurd cc
-delivers_end (Err (send.Contradiction e)) old new n r is = absurd cc
-delivers_end (Err (send.Store fault)) old new n r is = absurd cc
-delivers_end (Err send.NoMemory) old new n r is = absurd cc
+pub never_gives_up : (answer : Result Turn SendFault) (n r : ℕ) → IsErrOf (sending_end answer) (drain.Undelivered n r) → ⊥
+never_gives_up (Ok turn) n r is = absurd cc
+never_gives_up (Err send.LinkFault) n r is = absurd cc
+never_gives_up (Err (send.Contradiction e)) n r is = absurd cc
+never_gives_up (Err (send.Store fault)) n r is = absurd cc
+never_gives_up (Err send.NoMemory) n r is = absurd cc
 
 turns_later : (kind : Kind) (exact : Bool) (start : Scene) (answers : List (Result Turn SendFault)) (links : ℕ) (scene : Scene) →
     Turns kind exact start answers links scene → start.desk.faults ≤ scene.desk.faults
@@ -205,12 +207,12 @@ drained_later kind exact start then old new result d =
     d.turn.turned in
     omega (arith, a, b)
 
--- where a drain gave up, lines were missing
-pub drained_missing : (kind : Kind) (exact : Bool) (start then : Scene) (old new : List Told)
+-- where a drain gave up, it did so with the counts of its last sight
+pub drained_counts : (kind : Kind) (exact : Bool) (start then : Scene) (old new : List Told)
     (result : Result (Unit {0}) DrainFault) → Drained kind exact start then old new result → (n r : ℕ) →
-    IsErrOf result (drain.Undelivered n r) → n < r
-drained_missing kind exact start then old new result d n r is = elim d.ends [
-  | inl p ↦ (subst (λ (a : Result (Unit {0}) DrainFault). EndsWith d.links then.sight d.answer a) is p.1).2.some
+    IsErrOf result (drain.Undelivered n r) → CountsOf then.sight n r
+drained_counts kind exact start then old new result d n r is = elim d.ends [
+  | inl p ↦ (subst (λ (a : Result (Unit {0}) DrainFault). EndsWith d.links then.sight d.answer a) is p.1).2
   | inr p ↦ absurd (let e = sym p.0 ∙ is in cc)
 ]
 

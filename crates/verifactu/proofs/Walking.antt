@@ -61,7 +61,7 @@ pub record At (exact : Bool) (records : List Sealed) (base : ℕ) (scene : Scene
   pub high : AllByRecursion (λ (p : ℕ). p < length scene.sight.items) scene.sight.own
   pub long : base ≤ length scene.sight.items
 
-goes_lines : (answer : Result Turn SendFault) → GoesOn answer → (o : Option Told) → told_in answer ≡ o →
+pub goes_lines : (answer : Result Turn SendFault) → GoesOn answer → (o : Option Told) → told_in answer ≡ o →
     AllByRecursion GoesOnBehind (list_of o)
 goes_lines (Ok (Idle count)) on o e = absurd on
 goes_lines (Ok (WaitUntil at)) on o e = subst (λ (p : Option Told). AllByRecursion GoesOnBehind (list_of p)) e (tt, tt)

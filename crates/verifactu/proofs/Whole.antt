@@ -89,10 +89,6 @@ notes_not till (item.Entry (Rec own serial sealed)) h = absurd h
 notes_not till (item.Entry (Notes first lines)) h = refl
 notes_not till (item.Stop faults torn) h = refl
 
-notes_clean : (x : Item) → AreNotes x → is_stop x ≡ false
-notes_clean (item.Entry e) h = refl
-notes_clean (item.Stop faults torn) h = absurd h
-
 module _ {C : Type 0} (base log : List Item) (root : Root C) (tills : List (Known Item (Root C)))
     (seat then : Known Item (Root C)) where
   -- a shop that was closed, to which tills added records and its seat notes
@@ -146,11 +142,16 @@ module _ {C : Type 0} (base log : List Item) (root : Root C) (tills : List (Know
       (each_change (λ (z : ℕ × Item). AreNotesOrTorn z.1) (λ (z : ℕ × Item). is_of till z.1 ≡ false) (λ z n. notes_not till z.1 n)
       then.own (all_own AreNotesOrTorn h.adds h))
 
-  -- nor a stop, where it added notes alone
-  pub unstopped : Shared → Adds AreNotes (sight_by seat) (sight_by then) → AllByRecursion (λ (z : ℕ × Item). is_stop z.1 ≡ false)
-      then.own
-  unstopped h adds = each_change (λ (z : ℕ × Item). AreNotes z.1) (λ (z : ℕ × Item). is_stop z.1 ≡ false)
-      (λ z n. notes_clean z.1 n) then.own (all_own AreNotes adds h)
+  -- it owns notes and the stop over notes, and where it added notes alone no stop
+  pub all_noted : Shared → (Faultless : Type 0) → (Faultless → Adds AreNotes (sight_by seat) (sight_by then)) →
+      AllByRecursion (λ (z : ℕ × Item). AreNotesOrTorn z.1 × (Faultless → AreNotes z.1)) then.own
+  all_noted h Faultless notes = both then.own (all_own AreNotesOrTorn h.adds h) (λ f. all_own AreNotes (notes f) h)
+    where
+      both : (zs : List (ℕ × Item)) → AllByRecursion (λ (z : ℕ × Item). AreNotesOrTorn z.1) zs →
+          (Faultless → AllByRecursion (λ (z : ℕ × Item). AreNotes z.1) zs) →
+          AllByRecursion (λ (z : ℕ × Item). AreNotesOrTorn z.1 × (Faultless → AreNotes z.1)) zs
+      both [] any none = tt
+      both (z ∷ zs) any none = ((any.0, λ f. (none f).0), both zs any.1 (λ f. (none f).1))
 
   long : Shared → length base ≤ length then.seen
   long h = let e = ap length h.adds.items_is in let f = length-append seat.seen h.adds.items in let g = ap length h.fresh.seen in

@@ -1,6 +1,6 @@
 -- What a day's sender leaves of its shop and of its agency, and how a day ends.
 use Rattle.std.specs.Prelude.{◌≡◌, ◌⊎◌, ℕ, ◌+◌, ◌-◌, ◌^◌, ◌<◌, ◌≤◌, List, [], ◌∷◌, ◌++◌, length, Bool, true, false, IsTrue}
-use Rattle.std.specs.Prelude.{IsErrOf, Result, Ok, Err}
+use Rattle.std.specs.Prelude.{IsErrOf, Result, Ok, Err, count_by, not}
 use Rattle.std.specs.List.{list_any}
 use Rattle.ports.specs.Sinks.{Sinks, Wrote, FailedIn, WrotePart}
 use Rattle.chain_disk.specs.OnDisk.{OnDisk, LeavesNow, LeavesOnly}
@@ -12,15 +12,18 @@ use Rattle.shop_core.specs.declared.items.Item.{Item}
 use Rattle.shop_core.specs.declared.items.Item.TheVariants as item
 use Rattle.agency_rules.specs.declared.plans.Plan.{Plan}
 use Rattle.agency_port.specs.Messages.{batches_in}
+use Rattle.agency_port.specs.Practice.{is_reply_to}
 use Rattle.agency_port.specs.Sessions.{kept_reply}
+use Rattle.agency_port.specs.declared.answers.AgencyFault.TheVariants as agency
 use Rattle.agency_port.specs.declared.answers.Seen.{Seen}
 use Rattle.agency_port.specs.declared.messages.Message.{Message}
-use Rattle.agency_port.specs.declared.messages.Message.TheVariants.{Consulted}
+use Rattle.agency_port.specs.declared.messages.Message.TheVariants.{Consulted, Submitted}
 use Rattle.agency_port.specs.declared.turns.Evidence.{Evidence}
 use Rattle.once_world.specs.Agreement.{Agree, IsPrefix}
 use Rattle.once_world.specs.Outbox.{GainsOwnNotes, Sight, history_of}
 use Rattle.sender.specs.Agreeing.{Adds, AgreesIfTorn, AreNotes, AreNotesOrTorn, InSession, IsCareful, KeepsReply, KeepsSession}
 use Rattle.sender.specs.Dark.{AreRunsBy}
+use Rattle.sender.specs.Draining.{CountsOf}
 use Rattle.sender.specs.Evidence.{Shows}
 use Rattle.sender.specs.Lines.{SaysCalls}
 use Rattle.sender.specs.Sending.{Sending}
@@ -35,7 +38,8 @@ use Rattle.report.specs.declared.ended.Detail.{Detail}
 use Rattle.report.specs.declared.ended.Detail.TheVariants as detail
 use Rattle.till_calls.specs.Root.{Parts}
 use Rattle.verifactu.specs.Crashes.{StandsForEnd}
-use Rattle.verifactu.specs.Draining.{Beginning, IsDiskAnswer, IsFaultless, OpensSession, SaysNothingBlindly, noted_pairs, torn_in}
+use Rattle.verifactu.specs.Draining.{Beginning, IsDiskAnswer, IsFaultless, OpensSession, SaysNothingBlindly, fault_end, noted_pairs}
+use Rattle.verifactu.specs.Draining.{torn_in}
 use Rattle.verifactu.specs.Replies.{AllReplied, Replies, is_disk_fault, is_no_memory}
 
 -- the last item is a stop
@@ -53,11 +57,35 @@ sending_end (Err (send.Contradiction evidence)) = Err (drain.Contradiction evide
 sending_end (Err (send.Store fault)) = Err (drain.Store fault)
 sending_end (Err send.NoMemory) = Err drain.NoMemory
 
--- it is undelivered only where lines are missing and the agency failed eight times
+-- the drain gives up only where the agency failed eight times
 abbrev pub FailsEightTimes : Desk → Desk → Result (Unit {0}) DrainFault → Type 0
 FailsEightTimes old new answer = (noted_count records_count : ℕ) →
     IsErrOf answer (drain.Undelivered noted_count records_count) →
-    (noted_count < records_count) × (new.faults < 2 ^ 64 - 1 → old.faults + MAX_LINK_FAULTS ≤ new.faults)
+    new.faults < 2 ^ 64 - 1 → old.faults + MAX_LINK_FAULTS ≤ new.faults
+
+-- the agency's answer to a message is a fault of the link: none came, or a reply that doesn't name the batch
+abbrev pub is_link_fault : Message → Bool
+is_link_fault (Submitted batch (Ok reply)) = not (is_reply_to reply batch)
+is_link_fault (Submitted batch (Err agency.Failed)) = true
+is_link_fault (Consulted huellas (Err agency.Failed)) = true
+is_link_fault _ = false
+
+-- The drain behind the tills gave up: behind what was said before it, so many of its messages are faults of the link, the last
+-- one too.
+pub record GivesUp (old new : List Message) : Type 0 where
+  pub before : List Message
+  pub going : List Message
+  pub last : Message
+  pub is : new ≡ (old ++ before) ++ (going ++ last ∷ [])
+  pub faults : count_by is_link_fault (going ++ last ∷ []) ≡ MAX_LINK_FAULTS
+  pub fails : is_link_fault last ≡ true
+
+-- So many lines and records were counted, some record waited, and only records came since: the history has just these lines, and
+-- no fewer records.
+pub record CountsWithin (entries : List Entry) (noted_count records_count : ℕ) : Type 0 where
+  pub noted_is : noted_count ≡ length (noted entries)
+  pub within : records_count ≤ length (recs entries)
+  pub some : noted_count < records_count
 
 -- The last message of a session, which began behind these, is a consultation of the first waiting records, and what it was
 -- answered shows this contradiction beside the reply that is kept of the session's messages before it.
@@ -110,7 +138,13 @@ pub record SendsOn (kind : Kind) (before after : Sight) (old new : Desk) (sendin
   pub shown : IsTrue kind.tells → (past : List Message) → KeepsReply past old.ledger.messages sending.said →
       ShowsNothing past old.ledger.messages → AnswersWhatIsShown past new.ledger.messages answer
   pub later : old.faults ≤ new.faults
+  -- the drain gives up with the counts of the last sight, in which some record waits
+  pub counts : (noted_count records_count : ℕ) → IsErrOf answer (drain.Undelivered noted_count records_count) →
+      CountsOf after noted_count records_count
   pub undelivered : FailsEightTimes old new answer
+  -- what was said ends in the messages of the drain that gave up
+  pub gives_up : IsTrue kind.tells → (noted_count records_count : ℕ) →
+      IsErrOf answer (drain.Undelivered noted_count records_count) → GivesUp old.ledger.messages new.ledger.messages
 
 -- A day's sending: the history of its store at the start and at the end, with the entry behind it whose append failed; what the
 -- agency's kind tells, and its desk at the start and at the end; and how the sending ended.
@@ -157,7 +191,13 @@ pub record SendsBeside (d : DaySpan) : Type 0 where
       ShowsLast d.end d.old.ledger.messages d.new.ledger.messages evidence →
       IsErrOf d.answer (drain.Contradiction evidence) ⊎ (d.answer ≡ Err drain.NoMemory)
   pub later : d.old.faults ≤ d.new.faults
+  -- the drain gives up only where some record of the history at the end waits
+  pub counts : (noted_count records_count : ℕ) → IsErrOf d.answer (drain.Undelivered noted_count records_count) →
+      CountsWithin d.end noted_count records_count
   pub undelivered : FailsEightTimes d.old d.new d.answer
+  -- what was said ends in the messages of the drain that gave up
+  pub gives_up : IsTrue d.kind.tells → (noted_count records_count : ℕ) →
+      IsErrOf d.answer (drain.Undelivered noted_count records_count) → GivesUp d.old.ledger.messages d.new.ledger.messages
 
 -- no session was opened
 pub record IsUnbegun (kind : Kind) (old new : Desk) : Type 0 where
@@ -199,9 +239,14 @@ sender_lacks_memory (Err (drain.Store store.NoMemory)) = true
 sender_lacks_memory (Err drain.NoMemory) = true
 sender_lacks_memory _ = false
 
+-- the end of a day whose sender failed so: one that gave up tells the two counts of the history
+abbrev pub sender_end : ℕ → ℕ → DrainFault → Detail
+sender_end noted_count records_count (drain.Undelivered n r) = detail.Undelivered noted_count records_count
+sender_end noted_count records_count fault = fault_end fault
+
 -- How a day ends, by what its tills and its sender were told, by the two counts of its history, and by what the sink took of its
 -- text: want of memory before a fault of the disk, that before a contradiction and an undelivered drain, and these before a fault
--- of the sink. It is done only where all records have noted lines.
+-- of the sink. It is done only where all records have noted lines, and an undelivered drain tells the two counts.
 pub data DayRunEnds (replies : Replies) (answer : Result (Unit {0}) DrainFault) (noted_count records_count : ℕ) (text : List ℕ)
     (s : Sinks) : Detail → Type 0 where
   done : AllReplied replies → answer ≡ Ok tt → noted_count ≡ records_count → Wrote s text →
@@ -209,7 +254,7 @@ pub data DayRunEnds (replies : Replies) (answer : Result (Unit {0}) DrainFault) 
   write_fault : AllReplied replies → answer ≡ Ok tt → noted_count ≡ records_count → FailedIn s text →
       DayRunEnds replies answer noted_count records_count text s detail.WriteFault
   undelivered : (n r : ℕ) → AllReplied replies → answer ≡ Err (drain.Undelivered n r) → Wrote s text ⊎ FailedIn s text →
-      DayRunEnds replies answer noted_count records_count text s (detail.Undelivered n r)
+      DayRunEnds replies answer noted_count records_count text s (detail.Undelivered noted_count records_count)
   contradiction : (evidence : Evidence) → AllReplied replies → answer ≡ Err (drain.Contradiction evidence) →
       Wrote s text ⊎ FailedIn s text → DayRunEnds replies answer noted_count records_count text s (detail.Contradiction evidence)
   disk_fault : list_any is_no_memory replies ≡ false → sender_lacks_memory answer ≡ false →

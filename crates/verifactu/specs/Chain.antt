@@ -17,7 +17,7 @@ use Rattle.report.specs.declared.ended.Detail.{Detail}
 use Rattle.report.specs.declared.ended.Detail.TheVariants as detail
 use Rattle.verifactu.specs.Commands.{Answers, Stores}
 use Rattle.once_world.specs.Agreement.{IsPrefix}
-use Rattle.verifactu.specs.Crashes.{Kept, StandsSince}
+use Rattle.verifactu.specs.Crashes.{IsCutOff, Kept, StandsSince}
 use Rattle.verifactu.specs.Devices.{Devices, Untouched}
 use Rattle.verifactu.specs.Ending.{RunEnds}
 use Rattle.verifactu.specs.Opening.{NoRoom, NotOpened}
@@ -27,7 +27,8 @@ use Rattle.verifactu.specs.Replies.{Replies, StopsOnce}
 use Rattle.verifactu.specs.Scripts.{ScriptedEnds}
 
 -- The file was opened, and the commands were run from the history that it stood for to one that begins with it. The run is a
--- chain run, and its end a legal history. Each crash since opening began leaves a front of it.
+-- chain run, and its end a legal history. Each crash since opening began leaves a front of it, or of it and the one entry that
+-- was cut off.
 pub record Played {D : Type 0} (issuer : List ℕ) (asks : List Asked) (coming : ℕ → Option ℕ) (Leaves : Replies → Type 0)
     (k : Disks D) : Type 0 where
   pub start : List Entry
@@ -41,7 +42,8 @@ pub record Played {D : Type 0} (issuer : List ℕ) (asks : List Asked) (coming :
   pub rising : (till : ℕ) → SerialsRise end till
   pub stops : StopsOnce (k.faults k.disk) (k.faults k.disk_after) replies
   pub kept : IsTrue k.tells →
-      Kept (StandsSince issuer start end) issuer end replies (synced (k.told k.disk)) (k.told k.disk_after)
+      Kept (StandsSince issuer start end) (IsCutOff issuer (IsComing coming) asks end replies) issuer end replies
+      (synced (k.told k.disk)) (k.told k.disk_after)
   pub clock : Leaves replies
 
 -- nothing was done for want of memory; the file couldn't be opened; or the commands were run, and this is how the run ended

@@ -1,10 +1,15 @@
 -- What a crash leaves of a run.
-use Rattle.std.specs.Prelude.{◌≡◌, ◌⊎◌, ◌≤◌, ℕ, List, [], ◌++◌, length}
+use Rattle.std.specs.Prelude.{◌≡◌, ◌⊎◌, ◌≤◌, ℕ, List, [], ◌∷◌, ◌++◌, length, slice_get, Some, Err}
+use Rattle.std.specs.List.{AllByRecursion}
 use Rattle.chain_disk.specs.OnDisk.{OnDisk, IsSyncFailed, LeavesOnly, LeavesNow, synced}
 use Rattle.journal.specs.File.{IsNotBegun, IsNotBegunOrEmpty}
+use Rattle.journal.specs.declared.faults.StoreFault.TheVariants.{DiskFault}
 use Rattle.record_codec.specs.declared.entries.Entry.{Entry}
 use Rattle.once_world.specs.Agreement.{IsPrefix}
 use Rattle.shop_core.specs.Files.{StandsFor}
+use Rattle.shop_core.specs.Plans.{answer}
+use Rattle.shop_core.specs.Requests.{Asked}
+use Rattle.shop_core.specs.declared.answers.Planned.TheVariants.{Made}
 use Rattle.verifactu.specs.Replies.{Replies, AllGoOn}
 
 -- The file stands for a legal history that begins with the one at the start, and is a front of the one at the end, or of
@@ -23,13 +28,31 @@ StandsSince issuer start end torn file = (IsNotBegun file × (start ≡ [])) ⊎
 abbrev pub StandsForEnd : List ℕ → List Entry → List Entry → List ℕ → Type 0
 StandsForEnd issuer end torn file = StandsFor issuer end file ⊎ StandsFor issuer (end ++ torn) file
 
+-- An entry whose append failed: what the answer made, at the history before it and at the clock's reading, for the ask that
+-- was told of the fault.
+pub record IsCutOff (issuer : List ℕ) (IsReading : Replies → ℕ → Type 0) (asks : List Asked) (history : List Entry)
+    (replies : Replies) (entry : Entry) : Type 0 where
+  pub before : Replies
+  pub behind : Replies
+  pub told : replies ≡ before ++ Err DiskFault ∷ behind
+  pub ask : Asked
+  pub asked : slice_get asks (length before) ≡ Some ask
+  pub seconds : ℕ
+  pub reading : IsReading before seconds
+  pub made : answer issuer history ask seconds ≡ Made entry
+
+-- no entry was cut off
+abbrev pub NoneCutOff : Entry → Type 0
+NoneCutOff entry = ⊥
+
 -- Since some moment each crash leaves a file with P; now it leaves the history at the end, or that with the torn entry, and so
--- reads the disk. An entry is torn only where the disk failed while it was added.
-pub record Kept (P : List Entry → List ℕ → Type 0) (issuer : List ℕ) (end : List Entry) (replies : Replies)
-    (since now : OnDisk) : Type 0 where
+-- reads the disk. An entry is torn only where the disk failed while it was added, and is then as IsTorn says.
+pub record Kept (P : List Entry → List ℕ → Type 0) (IsTorn : Entry → Type 0) (issuer : List ℕ) (end : List Entry)
+    (replies : Replies) (since now : OnDisk) : Type 0 where
   pub torn : List Entry
   pub at_most_one : length torn ≤ 1
   pub by_a_fault : AllGoOn replies → torn ≡ []
+  pub made : AllByRecursion IsTorn torn
   pub each_moment : LeavesOnly since now (P torn)
   pub every_crash : LeavesNow now (StandsForEnd issuer end torn)
   pub reads : StandsForEnd issuer end torn now.content

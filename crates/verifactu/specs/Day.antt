@@ -31,16 +31,17 @@ use Rattle.till_calls.specs.Root.{Parts, root_of}
 use Rattle.verifactu.specs.Beside.{DayRunEnds, DaySession, DaySpan, IsUnbegun, KeptDay, SendsBeside, ShowsLast, StaysAgreed}
 use Rattle.verifactu.specs.Beside.{day_span}
 use Rattle.once_world.specs.Agreement.{IsPrefix}
-use Rattle.verifactu.specs.Crashes.{Kept, StandsSince}
+use Rattle.verifactu.specs.Crashes.{Kept, NoneCutOff, StandsSince}
 use Rattle.verifactu.specs.Devices.{Agencies, AllDevices, Clocks, LeftClock, LeftSleeper, NobodyCalled, Sleepers, Untouched}
 use Rattle.verifactu.specs.Drain.{AgreesAtStart, AllLeft, LeavesTime, NothingRose, desk_after, desk_before, kind_of}
-use Rattle.verifactu.specs.Draining.{AgreesInFile, Beginning, IsFaultless, OpensSession, torn_in}
+use Rattle.verifactu.specs.Draining.{AgreesInFile, Beginning, IsFaultless, OpensSession}
 use Rattle.verifactu.specs.Opening.{NoRoom, NotOpened}
 use Rattle.verifactu.specs.Printed.{answers}
 use Rattle.verifactu.specs.Readings.{readings_of}
 use Rattle.verifactu.specs.Replies.{AllGoOn}
 use Rattle.verifactu.specs.Scripts.{ScriptedEnds}
-use Rattle.verifactu.specs.Tills.{DayRun, StopsShop, TillServed, TillReplies, all_replies, asks_of, has_asks, own_of, tills_of}
+use Rattle.verifactu.specs.Tills.{DayRun, IsCutOffInDay, StopsShop, TillServed, TillReplies, all_replies, asks_of, has_asks}
+use Rattle.verifactu.specs.Tills.{own_of, tills_of}
 
 -- what is printed of a till: the answers to its asks in line order, and how much it saw
 abbrev pub till_lines : List Asked → TillReplies → List AnswerLine
@@ -57,7 +58,8 @@ pub record NotServed {D G : Type 0} (issuer : List ℕ) (plan : Plan) (left : Ty
   pub ends : end ≡ detail.NoMemory
   pub start : List Entry
   pub found : IsTrue k.tells → IsFound issuer start (k.told k.disk).content
-  pub kept : IsTrue k.tells → Kept (StandsSince issuer start start) issuer start [] (synced (k.told k.disk)) (k.told k.disk_after)
+  pub kept : IsTrue k.tells →
+      Kept (StandsSince issuer start start) NoneCutOff issuer start [] (synced (k.told k.disk)) (k.told k.disk_after)
   pub begun : IsUnbegun (kind_of a) (desk_before a) (desk_after a)
       ⊎ OpensSession (kind_of a) a.kind.begun plan start (desk_before a) (desk_after a)
   pub wrote : WroteNothing s
@@ -106,6 +108,8 @@ pub record Served {D G : Type 0} (issuer : List ℕ) (asks : List Asked) (plan :
   pub by_a_fault : AllGoOn (all_replies tills) → IsFaultless answer → torn ≡ []
   -- nor is one torn unless the disk's count of faults rose
   pub torn_risen : (torn ≡ []) ⊎ DiskRose k
+  -- and it is what the answer made of the ask at which a till was told so, or the sender's notes
+  pub made : AllByRecursion (IsCutOffInDay issuer coming end asks tills answer) torn
   pub kept : IsTrue k.tells →
       KeptDay (StandsSince issuer start end torn) issuer end torn (synced (k.told k.disk)) (k.told k.disk_after)
   pub session : DaySession a.kind.begun plan (span_of a start end torn answer)

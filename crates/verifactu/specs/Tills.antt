@@ -1,6 +1,6 @@
 -- What a shop's tills are told in a day, by the history at its end.
 use Rattle.std.specs.Prelude.{◌≡◌, ◌≢◌, ◌⊎◌, ◌≤◌, ℕ, ◌+◌, ◌==◌, Bool, true, false, List, [], ◌∷◌, ◌++◌, filter, drop, flat_map}
-use Rattle.std.specs.Prelude.{length, Contains, Option, None, Some, Result, Ok, Err}
+use Rattle.std.specs.Prelude.{length, slice_get, Contains, Option, None, Some, Result, Ok, Err}
 use Rattle.std.specs.List.{AllByRecursion, list_any, range_with_len}
 use Rattle.chain_disk.specs.OnDisk.{OnDisk}
 use Rattle.journal.specs.declared.faults.StoreFault.{StoreFault}
@@ -13,13 +13,14 @@ use Rattle.record_codec.specs.declared.entries.TheConstants.{LAST_TILL}
 use Rattle.shop_core.specs.Plans.{answer}
 use Rattle.shop_core.specs.Requests.{Asked}
 use Rattle.shop_core.specs.Replies.{IsTakenAt, Tells}
+use Rattle.shop_core.specs.declared.answers.Planned.TheVariants.{Made}
 use Rattle.shop_core.specs.declared.answers.Reply.{Reply}
 use Rattle.shop_core.specs.declared.answers.Reply.TheVariants.{Taken, Again, Refused}
 use Rattle.till_calls.specs.Root.{Parts, Root}
 use Rattle.till_calls.specs.Sound.{IsSound}
 use Rattle.sender.specs.declared.answers.DrainFault.{DrainFault}
 use Rattle.once_world.specs.Agreement.{IsPrefix}
-use Rattle.verifactu.specs.Draining.{IsDiskAnswer, IsFaultless}
+use Rattle.verifactu.specs.Draining.{AreNotesEntry, IsDiskAnswer, IsFaultless, torn_in}
 use Rattle.verifactu.specs.Replies.{Replies, AllGoOn}
 
 -- the asks of a till, in line order
@@ -122,6 +123,26 @@ abbrev pub StopsShop : ℕ → ℕ → Option ℕ → Replies → Result (Unit {
 StopsShop faults faults_after None replies answer = AllGoOn replies × (IsDiskAnswer answer → ⊥)
 StopsShop faults faults_after (Some count) replies answer = StoppedAt faults faults_after count replies answer
 
+-- An entry whose append failed for a till run of these asks, at this history: the till was told the fault at one of its asks, and
+-- the entry is what the answer made of that ask, at this history and at a coming reading of the clock.
+pub record IsCutOffBy (issuer : List ℕ) (coming : ℕ → Option ℕ) (history : List Entry) (asks : List Asked) (replies : Replies)
+    (entry : Entry) : Type 0 where
+  pub place : ℕ
+  pub told : slice_get replies place ≡ Some (Err DiskFault)
+  pub ask : Asked
+  pub asked : slice_get asks place ≡ Some ask
+  pub seconds : ℕ
+  pub reading : IsSomeReading coming seconds
+  pub made : answer issuer history ask seconds ≡ Made entry
+
+-- An entry whose append failed in a day with this history at its end: that of a till, or notes of the sender, whose answer is a
+-- fault of the store or want of memory.
+abbrev pub IsCutOffInDay : List ℕ → (ℕ → Option ℕ) → List Entry → List Asked → List TillReplies → Result (Unit {0}) DrainFault →
+    Entry → Type 0
+IsCutOffInDay issuer coming end asks tills answer entry =
+    ((t : TillReplies) × Contains tills t × IsCutOffBy issuer coming end (asks_of t.till asks) t.replies entry)
+    ⊎ (AreNotesEntry entry × (IsFaultless answer → ⊥))
+
 -- What a day of these tills and of a sender makes of a shop: how the shop was at its start, the parts of its store after its
 -- close,
 -- what each till was told, and how the sending ended. No other till has a record since the start.
@@ -134,3 +155,6 @@ pub record DayRun {D C : Type 0} (tells : Bool) (told : D → OnDisk) (faults : 
   pub others : (till : ℕ) → AllByRecursion (λ (t : TillReplies). t.till ≢ till) tills →
       own_of till (drop (length root.history) new.state.entries) ≡ []
   pub stops : StopsShop root.faults (faults new.disk) new.stopped (all_replies tills) answer
+  -- the entry that was cut off is a till's, or the sender's notes
+  pub made : AllByRecursion (IsCutOffInDay root.issuer (coming root.clock) new.state.entries asks tills answer)
+      (torn_in new.stopped new.torn)

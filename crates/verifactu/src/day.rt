@@ -320,5 +320,5 @@ fn print_day<K: Sink>(
         return Detail::NoMemory;
     };
     let written = write_texts(sink, told.answers.as_slice(), told.listing.as_slice());
-    end_of_day(tills, answer, state.noted() == state.records(), written)
+    end_of_day(tills, answer, state.noted(), state.records(), written)
 }

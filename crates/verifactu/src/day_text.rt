@@ -1,5 +1,5 @@
 // What is printed of a day, and how it ends.
-ghost use Rattle.std.specs.Prelude.{◌≡◌, ◌++◌, ◌∷◌, ℕ, List, map, flat_map, IfOk, OnOk, IsTrue};
+ghost use Rattle.std.specs.Prelude.{◌≡◌, ◌++◌, ◌∷◌, ℕ, List, map, flat_map, IfOk, OnOk};
 ghost use Rattle.std.specs.List.{list_any};
 ghost use Rattle.ports.specs.Sinks.{OutputIs, Sinks};
 ghost use Rattle.shop_core.specs.Requests.{Asked};
@@ -113,18 +113,29 @@ fn sender_lacks_memory(answer: &Result<(), DrainFault>) -> bool
     }
 }
 
+// The end of a day whose sender failed so. One that gave up tells these two counts.
+fn sender_end(fault: DrainFault, noted: u32, records: u32) -> Detail
+    ensures { result ≡ beside.sender_end noted records fault }
+{
+    match fault {
+        DrainFault::Undelivered { .. } => Detail::Undelivered { noted, records },
+        _ => fault_end(fault),
+    }
+}
+
 /// The end of a day with these answers of its tills and of its sender, whose text was written or not: want of memory before a
-/// fault of the disk, that before a contradiction and an undelivered drain, and these before a fault of the sink. A sender that
-/// is done has seen all lines noted; where they aren't after all, it is want of memory.
+/// fault of the disk, that before a contradiction and an undelivered drain, and these before a fault of the sink. An undelivered
+/// drain is told with the two counts of the history that the day left. A sender that is done has seen all lines noted; where they
+/// aren't after all, it is want of memory.
 pub fn end_of_day(
     days: &[TillDay],
     answer: &Result<(), DrainFault>,
-    all_noted: bool,
+    noted: u32,
+    records: u32,
     written: Result<(), Failed>,
 ) -> Detail
-    ensures { (text : List ℕ) (s : Sinks) (noted_count records_count : ℕ) → (IsTrue all_noted → noted_count ≡ records_count) →
-        OutputIs s text written →
-        DayRunEnds (all_replies (map told_in days.now)) answer.now noted_count records_count text s result }
+    ensures { (text : List ℕ) (s : Sinks) → OutputIs s text written →
+        DayRunEnds (all_replies (map told_in days.now)) answer.now noted records text s result }
 {
     if one_lacks_memory(days) {
         return Detail::NoMemory;
@@ -136,9 +147,9 @@ pub fn end_of_day(
         return Detail::DiskFault;
     }
     if let Err(fault) = answer {
-        return fault_end(*fault);
+        return sender_end(*fault, noted, records);
     }
-    if !all_noted {
+    if noted != records {
         return Detail::NoMemory;
     }
     match written {

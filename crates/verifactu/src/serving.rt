@@ -27,7 +27,7 @@ use std::sync::Wait;
 use std::thread::Threads;
 use till_calls::{
     Shop, StartRefused, Started, a_run_is_told_at_the_end, a_till_adds_for_no_other,
-    a_till_adds_what_is_taken,
+    a_till_adds_what_is_taken, a_till_owns_records_and_stops,
 };
 
 /// A day that is done.
@@ -85,6 +85,7 @@ fn serve_started<
     a_run_is_told_at_the_end::<C>();
     a_till_adds_what_is_taken::<C>();
     a_till_adds_for_no_other::<C>();
+    a_till_owns_records_and_stops::<C>();
     let Started {
         shop,
         mut tills,

@@ -446,6 +446,9 @@ impl<'a> Clock for WatchingClock<'a> {
     }
 }
 
+const THREE: &str =
+    "till 1 serial 1 taken 1 A-1 D88B42F8D11C4EA2112502EC992F055A7E94F796D67095359B946A4A5B03E616\ntill 1 serial 2 taken 2 A-2 4DB9BA37C07D44D4DAFC79742BD454AE86D5C6A354352780573CF06FACADE438\ntill 1 serial 3 taken 3 A-3 8D67231369C8F2A30232EE5EBB99BB2391568F2F51A85DF05CF8129E898F6C8A\n";
+
 #[test]
 fn each_record_is_synced_before_the_next_command(rt: HostRuntime) -> Result<(), Fail> {
     let alloc = rt.alloc();
@@ -462,9 +465,10 @@ fn each_record_is_synced_before_the_next_command(rt: HostRuntime) -> Result<(), 
             readings: 0,
             early: 0,
         };
-        let (ended, _, _, clock) = ends(&rt, words, script.as_bytes(), (0, 0), disk, clock)?;
+        let (ended, sink, _, clock) = ends(&rt, words, script.as_bytes(), (0, 0), disk, clock)?;
         assert_eq!(rt; ended, done(), "at {words}");
         assert_eq!(rt; (clock.readings, clock.early), (3, 0), "at {words}");
+        assert!(rt; sink.bytes().starts_with(THREE.as_bytes()), "at {words}");
     }
     Ok(())
 }

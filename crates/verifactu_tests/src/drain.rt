@@ -1,8 +1,8 @@
 // Drains of files. The expected Huellas are SHA-256, by another program, of the field texts of these records.
 use crate::runs::{CHAIN, ROW, disk_of, ends, ends_in};
 use agency_port::{
-    Agency, Evidence, PracticeAgency, Reply, ReplyLine, ReplyLines, Seen, SeenList, State3,
-    ToldAgency, ToldAnswer, ToldAnswers,
+    Agency, Evidence, Logged, Message, PracticeAgency, Reply, ReplyLine, ReplyLines, Seen,
+    SeenList, State3, ToldAgency, ToldAnswer, ToldAnswers,
 };
 use batches::Huellas;
 use chain_disk::MemDisk;
@@ -172,23 +172,35 @@ fn a_full_batch_goes_first(rt: HostRuntime) -> Result<(), Fail> {
     Ok(())
 }
 
+fn submitted_in(log: &[Logged]) -> usize {
+    log.iter()
+        .filter(|entry| matches!(entry.message, Message::Submitted { .. }))
+        .count()
+}
+
 #[test]
 fn two_records_over_a_bad_link(rt: HostRuntime) -> Result<(), Fail> {
     let rows = [
-        ("link 2 taken\n", "cleared\nlink\nnoted 2\n"),
-        ("link 2 stale\n", "cleared\nlink\nnoted 2\n"),
-        ("vet A-1 1 4100\nlink 2 stale\n", "cleared\nlink\nnoted 2\n"),
+        ("link 2 taken\n", 1, "cleared\nlink\nnoted 2\n"),
+        ("link 2 stale\n", 1, "cleared\nlink\nnoted 2\n"),
+        (
+            "vet A-1 1 4100\nlink 2 stale\n",
+            1,
+            "cleared\nlink\nnoted 2\n",
+        ),
         (
             "link 2 late 2\n",
+            2,
             "cleared\nlink\ncleared\nwait 1735800060\ndoubt 1\nnoted 2\n",
         ),
     ];
-    for (plan, lines) in rows {
+    for (plan, submitted, lines) in rows {
         let script = format!(in rt.alloc(); "clock 1735800000 0\n{plan}")?;
         let left = drained(&rt, &script, file_of(&rt, TWO)?)?;
         assert_eq!(rt; left.ended, done(), "at {plan}");
         let wanted = format!(in rt.alloc(); "{lines}chain 2 noted 2\n")?;
         assert_eq!(rt; left.text.as_slice(), wanted.as_bytes(), "at {plan}");
+        assert_eq!(rt; submitted_in(left.agency.log()), submitted, "at {plan}");
         assert_eq!(rt; left.agency.processed().len(), 2, "at {plan}");
     }
     Ok(())

@@ -1,7 +1,7 @@
 use Rattle.std.proofs.Common.{◌≡◌, ℕ, ◌∙◌, ◌+◌, ◌∷◌, ◌++◌, List, length, length-append, take, sym, refl, ap, subst, arith, []}
 use Rattle.std.proofs.Common.{Result}
 use Rattle.std.proofs.lemmas.List.{take_more, take_all}
-use Rattle.chain_store.specs.Store.{journal_of, state_of, clock_of}
+use Rattle.chain_store.specs.Store.{journal_of, state_of, clock_of, torn_of}
 use Rattle.journal.specs.Journal.{disk_of, end_of, stopped_of}
 use Rattle.journal.specs.declared.faults.StoreFault.{StoreFault}
 use Rattle.shop_core.specs.Requests.{Asked}
@@ -51,6 +51,7 @@ loop-ask-preserved g c =
       no_memory = λ is. let same = c.take.ensures.no_memory is in
           (ap (λ j. g.D.Disk.told (disk_of j)) same, ap (λ j. stopped_of j) same);
       fault = c.take.ensures.fault;
+      tears = λ is. (torn_of new, c.take.ensures.torn is);
       stops = c.take.ensures.stopped;
       untouched = λ is. ap (λ s. point_of g.D.Disk.told g.D.Disk.faults coming s) (c.take.ensures.untouched is);
       later = c.take.ensures.later;

@@ -1,6 +1,5 @@
 use Rattle.std.proofs.Common.{◌∙◌, sym, subst, Result}
 use Rattle.chain_lock.specs.Known.{Known}
-use Rattle.sender.specs.Turning.{Desk, Kind}
 use Rattle.sender.specs.declared.answers.DrainFault.{DrainFault}
 use Rattle.shop_core.specs.declared.items.Item.{Item}
 use Rattle.till_calls.specs.Mark.{sight_by}
@@ -10,8 +9,9 @@ use Rattle.till_calls.specs.Shop.{seat_knows}
 use Rattle.verifactu.specs.Devices.{agency_desk, agency_kind}
 use Rattle.verifactu.specs.Beside.{SendsOn}
 use Rattle.verifactu.proofs.Contrary.{drained_answers, drained_shows}
+use Rattle.verifactu.proofs.GivingUp.{drained_gives_up}
 use Rattle.verifactu.proofs.Stops.{drained_stopped, untorn_adds}
-use Rattle.verifactu.proofs.Turns.{drained_later, drained_missing, no_error, sends_then}
+use Rattle.verifactu.proofs.Turns.{drained_counts, drained_later, no_error, sends_then}
 use Rattle.verifactu.proofs.sending.drain_rest.Goals as goal
 
 pub returns-clause-sends : goal.returns-clause-sends
@@ -36,7 +36,9 @@ returns-clause-sends g c = λ before desk sending x.
       contrary = drained_shows _ _ _ _ _ _ _ e.drained;
       shown = drained_answers _ _ _ _ _ _ _ e.drained;
       later = drained_later _ _ _ _ _ _ _ e.drained;
-      undelivered = λ n r is. (drained_missing _ _ _ _ _ _ _ e.drained n r is, e.undelivered n r is);
+      counts = drained_counts _ _ _ _ _ _ _ e.drained;
+      undelivered = e.undelivered;
+      gives_up = drained_gives_up _ _ _ _ _ _ _ e.drained;
     } in
     let into : SendsOn kind (sight_by (seat_knows c.args.sent.seat)) (sight_by (seat_knows c.into_seat.result)) mid new
     c.args.sent.sender c.drain-answer.new.self answer =

@@ -1,10 +1,9 @@
 use Rattle.std.proofs.Common.{sym, subst, Result}
-use Rattle.sender.specs.Turning.{Desk, Kind}
 use Rattle.sender.specs.declared.answers.DrainFault.{DrainFault}
 use Rattle.verifactu.specs.Devices.{agency_desk, agency_kind}
 use Rattle.verifactu.specs.Beside.{SendsOn}
 use Rattle.verifactu.proofs.Contrary.{turn_answers, turn_shows}
-use Rattle.verifactu.proofs.Turns.{delivers_end, never_end, stopped_end, untorn_end}
+use Rattle.verifactu.proofs.Turns.{never_end, never_gives_up, stopped_end, untorn_end}
 use Rattle.verifactu.proofs.sending.one_turn.Goals as goal
 
 pub returns-clause-sends : goal.returns-clause-sends
@@ -31,5 +30,7 @@ returns-clause-sends g c =
       contrary = turn_shows kind old new before after c.args.sender.now c.turn-answer.new.self c.now-now.result answer e.turned;
       shown = turn_answers kind old new before after c.args.sender.now c.turn-answer.new.self c.now-now.result answer e.turned;
       later = e.later;
-      undelivered = delivers_end answer old new;
+      counts = λ n r is. absurd (never_gives_up answer n r is);
+      undelivered = λ n r is. absurd (never_gives_up answer n r is);
+      gives_up = λ tells n r is. absurd (never_gives_up answer n r is);
     })

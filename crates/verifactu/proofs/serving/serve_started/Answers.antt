@@ -57,7 +57,7 @@ returns-clause-day g c =
     let h = shared g.D.Disk.tells g.D.Disk.told g.D.Disk.faults g.C.Clock.coming c.args.asks.now p (shop_root shop)
     (first_items shop) c.args.days.items c.hand_in.new.days.items (tills_know c.args.started.tills)
     (tills_know c.hand_in.new.tills) seat then ran c.requires.begun.new
-    c.close.ensures.each c.close.ensures.begins c.close.ensures.since sends.adds in
+    c.a_till_owns_records_and_stops.ensures c.close.ensures.each c.close.ensures.begins c.close.ensures.since sends.adds in
     ended g.D.Disk.tells g.D.Disk.told g.D.Disk.faults g.C.Clock.coming c.args.asks.now p (shop_root shop) (first_items shop)
     c.args.days.items c.hand_in.new.days.items (tills_know c.args.started.tills) (tills_know c.hand_in.new.tills) seat then
     ran c.requires.begun.new
@@ -94,7 +94,7 @@ returns-clause-sends g c =
     let h = shared g.D.Disk.tells g.D.Disk.told g.D.Disk.faults g.C.Clock.coming c.args.asks.now p (shop_root shop)
     (first_items shop) c.args.days.items c.hand_in.new.days.items (tills_know c.args.started.tills)
     (tills_know c.hand_in.new.tills) seat then ran c.requires.begun.new
-    c.close.ensures.each c.close.ensures.begins c.close.ensures.since sends.adds in
+    c.a_till_owns_records_and_stops.ensures c.close.ensures.each c.close.ensures.begins c.close.ensures.since sends.adds in
     sends_beside g.D.Disk.tells g.D.Disk.told g.D.Disk.faults g.C.Clock.coming p (shop_root shop) (first_items shop)
     (tills_know c.hand_in.new.tills) seat then h c.close.ensures.sound c.requires.begun.base c.requires.begun.legal kind old new
     c.drain_rest-rest.result.sender c.drain_rest-rest.result.answer sends c.agreement_is_kept.ensures.records
