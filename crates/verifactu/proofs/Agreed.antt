@@ -21,7 +21,10 @@ use Rattle.once_world.specs.Outbox.{history_of, plain_sight}
 use Rattle.till_calls.specs.Mark.{sight_by}
 use Rattle.till_calls.specs.Root.{Root, stop_in, with_torn}
 use Rattle.sender.specs.Agreeing.{AreNotesOrTorn, AgreesIfTorn}
+use Rattle.agency_port.specs.declared.messages.Message.{Message}
+use Rattle.verifactu.specs.Beside.{TearsSaid}
 use Rattle.verifactu.specs.Draining.{AreNotesEntry, AddsNotesAlone, torn_in}
+use Rattle.verifactu.specs.Noting.{TornSaid}
 use Rattle.verifactu.proofs.Alone.{Closed, own_before, mine, all_seen, all_mine}
 
 pub entries_both : (xs ys : List Item) → entries_of (xs ++ ys) ≡ entries_of xs ++ entries_of ys
@@ -136,6 +139,31 @@ module _ {C : Type 0} (base log : List Item) (root : Root C) (tills : List (Know
           subst (λ (l : List Entry). Agree (l ++ t ∷ []) new.processed new.sent) (seen_all s)
           (if_torn items n t (all_seen base log root tills seat then closed ∙ e)
           (subst (λ (o : List ℕ). Contains o (length items)) (sym own) there))
+
+  -- what is torn is the seat's own, and what the last message says
+  pub torn_said : Stored → (messages : List Message) → TearsSaid (sight_by seat) (sight_by then) messages →
+      AllByRecursion (TornSaid es messages) (torn_in stopped torn)
+  torn_said s messages tears = by_case stopped torn s.log_is
+    where
+      by_case : (n : Option ℕ) (t : Option Entry) → log ≡ map item.Entry es ++ stop_in n t →
+          AllByRecursion (TornSaid es messages) (torn_in n t)
+      by_case None t e = tt
+      by_case (Some n) None e = tt
+      by_case (Some n) (Some t) e =
+          let items : List Item = map item.Entry es in
+          let last : List Item = item.Stop n t ∷ [] in
+          let low : length base ≤ length items =
+          (let a = ap length s.base_is in let b = ap length s.begins.1 in let c = length-append start s.begins.0 in
+          let d = length-map es item.Entry in let f = length-map start item.Entry in omega arith) in
+          let high : length items < length log = (let a = ap length e in let b = length-append items last in omega arith) in
+          let own : drop (length (sight_by seat).own) (sight_by then).own ≡ (sight_by then).own =
+          ap (λ (o : List ℕ). drop (length o) (sight_by then).own) (own_before base log root tills seat then closed) in
+          let there = mine base log root tills seat then closed (length items) low high in (
+            subst (λ (l : List Entry). TornSaid l messages t) (seen_all s)
+                (tears items n t (all_seen base log root tills seat then closed ∙ e)
+                (subst (λ (o : List ℕ). Contains o (length items)) (sym own) there)),
+            tt,
+          )
 
 -- a new seat sees the history at the start
 pub sight_new : {C : Type 0} (base : List Item) (root : Root C) (k : Known Item (Root C)) → IsNew base root k →

@@ -144,7 +144,7 @@ one_contrary said p huellas seen (Forgotten place line) (Forgotten other says) a
     ap (λ (z : ℕ × ReplyLine). Forgotten z.0 z.1) both
 
 -- two lists with the same last element and front
-same_ends : {A : Type 0} (xs ys : List A) (x y : A) → xs ++ x ∷ [] ≡ ys ++ y ∷ [] → (xs ≡ ys) × (x ≡ y)
+pub same_ends : {A : Type 0} (xs ys : List A) (x y : A) → xs ++ x ∷ [] ≡ ys ++ y ∷ [] → (xs ≡ ys) × (x ≡ y)
 same_ends [] [] x y e = (refl, let f : x ∷ [] ≡ y ∷ [] = e in cc)
 same_ends [] (b ∷ ys) x y e = absurd (let l = ap length e in let m = length-append ys (y ∷ []) in omega arith)
 same_ends (a ∷ xs) [] x y e = absurd (let l = ap length e in let m = length-append xs (x ∷ []) in omega arith)
@@ -346,7 +346,7 @@ module _ (kind : Kind) (exact : Bool) (tells : IsTrue kind.tells) (past : List M
       turn_keeps_reply kept_more past kind mid.desk then.desk mid.sight then.sight mid.sending then.sending turn.now answer
       turn.turned tells (turns_keep start before_answers before_links mid t k)
 
-  turns_show_nothing : (start : Scene) (answers : List (Result Turn SendFault)) (links : ℕ) (scene : Scene) →
+  pub turns_show_nothing : (start : Scene) (answers : List (Result Turn SendFault)) (links : ℕ) (scene : Scene) →
       Turns kind exact start answers links scene →
       KeepsReply past start.desk.ledger.messages start.sending.said → ShowsNothing past start.desk.ledger.messages →
       ShowsNothing past scene.desk.ledger.messages

@@ -30,8 +30,11 @@ use Rattle.sender.specs.declared.answers.DrainFault.TheVariants as drain
 use Rattle.verifactu.specs.Beside.{CountsWithin, DaySpan, SendsBeside, SendsOn, ShowsLast, StaysAgreed}
 use Rattle.verifactu.specs.Draining.{SaysNothingBlindly, torn_in}
 use Rattle.verifactu.proofs.Agreed.{agree_new, entries_back, sight_new, torn_is}
+use Rattle.verifactu.specs.Noting.{NotesSaid}
+use Rattle.verifactu.proofs.Clear.{nothing_before}
 use Rattle.verifactu.proofs.Contrary.{asked_of_more, none_yet, one_shown}
-use Rattle.verifactu.proofs.Whole.{Kept, Shared, agreed, agreed_torn, gains, still_waits}
+use Rattle.verifactu.proofs.Noted.{at_end_noted}
+use Rattle.verifactu.proofs.Whole.{Kept, Shared, agreed, agreed_torn, gains, more_records, still_waits, torn_said}
 
 module _ {D C : Type 0} (tells : Bool) (told : D → OnDisk) (faults : D → ℕ) (coming : C → ℕ → Option ℕ) (p : Parts D C)
     (root : Root C) (base : List Item) (tills : List (Known Item (Root C))) (seat then : Known Item (Root C))
@@ -132,6 +135,17 @@ module _ {D C : Type 0} (tells : Bool) (told : D → OnDisk) (faults : D → ℕ
       length-drop (length (noted p.state.entries)) (recs p.state.entries) in
       record { noted_is = c.noted_is ∙ sym lines; within = omega arith; some = c.some }
 
+  -- the lines that were noted by the end are those that the seat noted
+  all_said : IsTrue kind.tells → NotesSaid root.history p.state.entries old.ledger.messages new.ledger.messages answer
+  all_said says =
+      let seen = history_of (sight_by then) in
+      let more = more_records base (items_in p) root tills seat then h root.history p.state.entries p.stopped p.torn kept in
+      let lines : noted p.state.entries ≡ noted seen = (still_waits base (items_in p) root tills seat then h root.history
+      p.state.entries p.stopped p.torn kept).0 in
+      at_end_noted root.history seen p.state.entries old.ledger.messages new.ledger.messages answer more.0 more.1 lines
+      (subst (λ (es : List Entry). NotesSaid es seen old.ledger.messages new.ledger.messages answer) begun
+      (sends.lines says (gains base (items_in p) root tills seat then h)))
+
   pub sends_beside : RecordsKeepAgreement → BeginsInSession → BeginsCareful → SendsBeside span
   sends_beside records session careful = record {
     agreement = still records session;
@@ -139,6 +153,11 @@ module _ {D C : Type 0} (tells : Bool) (told : D → OnDisk) (faults : D → ℕ
     says = sends.says;
     contrary = only_shown;
     shown = each_shown;
+    none_before = λ says. sends.none_before says old.ledger.messages begins (none_yet old.ledger.messages)
+        (nothing_before old.ledger.messages);
+    lines = all_said;
+    torn_lines = λ says. torn_said base (items_in p) root tills seat then h root.history p.state.entries p.stopped p.torn kept
+        new.ledger.messages (sends.torn_lines says);
     later = sends.later;
     counts = counts_within;
     undelivered = sends.undelivered;

@@ -26,6 +26,10 @@ pub mod TillDays
 pub mod DayEnding
 pub mod DayTexts
 pub mod Contrary
+pub mod Noting
+pub mod Noted
+pub mod Clear
+pub mod Torn
 pub mod GivingUp
 pub mod Turns
 pub mod Theirs

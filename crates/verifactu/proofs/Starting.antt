@@ -17,6 +17,7 @@ use Rattle.sender.specs.Turning.{Desk}
 use Rattle.till_calls.specs.Root.{Parts, with_torn, root_of}
 use Rattle.till_calls.specs.Sound.{Leaves, IsSound}
 use Rattle.verifactu.specs.Draining.{AddsNotesAlone, AreNotesEntry, Sends, Span}
+use Rattle.verifactu.specs.Noting.{AreNoted, TornSaid}
 use Rattle.verifactu.specs.Steps.{EndsBy, at_start}
 
 pub none_torn : (history : List Entry) (stopped : Option ℕ) (torn : Option Entry) → stopped ≡ None →
@@ -83,6 +84,14 @@ nothing_sent d end untorn same silent lacking = record {
     ends = subst (λ (r : Result (Unit {0}) DrainFault). EndsBy (recs d.start) (at_start (length (noted d.start)) d.moment) 0
         (length (noted d.end)) [] r) (sym lacking) tt;
   };
+  lines = λ tells. record {
+    session = [];
+    is = ap (λ (k : Desk). k.ledger.messages) same ∙ sym (append-nil d.old.ledger.messages);
+    of_waiting = tt;
+    lines = subst (λ (r : Result (Unit {0}) DrainFault). AreNoted (noted d.start) (noted d.end) [] r) (sym lacking)
+        (inl (ap (λ (es : List Entry). noted es) end ∙ sym (append-nil (noted d.start))));
+  };
+  torn_lines = λ tells. subst (λ (es : List Entry). AllByRecursion (TornSaid d.end d.new.ledger.messages) es) (sym untorn) tt;
   agreement = λ keeps agree.
       let here : Agree d.start d.new.ledger.processed d.new.ledger.sent = subst (λ (k : Desk). Agree d.start k.ledger.processed
       k.ledger.sent) (sym same) agree in

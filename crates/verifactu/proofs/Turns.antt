@@ -10,6 +10,8 @@ use Rattle.record_fields.specs.declared.records.Sealed.{Sealed}
 use Rattle.record_fields.specs.declared.lines.Line.{Line}
 use Rattle.journal.specs.declared.faults.StoreFault.TheVariants as store
 use Rattle.record_codec.specs.declared.entries.Entry.{Entry}
+use Rattle.shop_core.specs.History.{recs}
+use Rattle.shop_core.specs.Items.{entries_of}
 use Rattle.shop_core.specs.declared.items.Item.{Item}
 use Rattle.shop_core.specs.declared.items.Item.TheVariants as item
 use Rattle.agency_port.specs.declared.messages.Message.{Message}
@@ -36,7 +38,9 @@ use Rattle.verifactu.specs.Beside.{EndsStopped, SendsOn, sending_end}
 use Rattle.verifactu.specs.Draining.{IsDiskAnswer, IsFaultless}
 use Rattle.verifactu.proofs.Contrary.{shows_nothing}
 use Rattle.verifactu.proofs.GivingUp.{gives_up_behind}
+use Rattle.verifactu.proofs.Noted.{grown_records, notes_none, notes_then}
 use Rattle.verifactu.proofs.Stops.{ends_stopped, get_seam}
+use Rattle.verifactu.proofs.Torn.{tears_none, tears_then}
 
 growth_of : (P : Item → Type 0) (a b : Sight) → Adds P a b → Growth a b
 growth_of P a b g = record {
@@ -72,6 +76,9 @@ sends_none kind a k said = record {
   kept = λ tells past r. r;
   contrary = λ tells past r evidence is. absurd cc;
   shown = λ tells past r none entries evidence s. absurd (none entries evidence s);
+  none_before = λ tells past r none before. before;
+  lines = λ tells gains. notes_none (history_of a) k.ledger.messages;
+  torn_lines = λ tells. tears_none a a k.ledger.messages refl;
   later = omega arith;
   counts = λ n r is. absurd cc;
   undelivered = λ n r is. absurd cc;
@@ -121,6 +128,14 @@ sends_then kind a b c k l m said mid then answer x y = record {
   contrary = λ tells past r. y.contrary tells past (x.kept tells past r);
   shown = λ tells past r none. y.shown tells past (x.kept tells past r) (shows_nothing past l.ledger.messages
       (x.shown tells past r none));
+  none_before = λ tells past r none before. y.none_before tells past (x.kept tells past r)
+      (shows_nothing past l.ledger.messages (x.shown tells past r none)) (x.none_before tells past r none before);
+  lines = λ tells gains.
+      let each = both gains in
+      notes_then (history_of a) (history_of b) (history_of c) k.ledger.messages l.ledger.messages m.ledger.messages answer
+      (recs (entries_of y.adds.items)) (grown_records b c y.adds.items y.adds.items_is) (x.lines tells each.0)
+      (y.lines tells each.1);
+  torn_lines = λ tells. tears_then a b c m.ledger.messages notes (growth_of AreNotesOrTorn b c y.adds) (y.torn_lines tells);
   later = let e = x.later in let f = y.later in omega (arith, e, f);
   counts = y.counts;
   undelivered = λ n r is below. (let w = y.undelivered n r is below in let e = x.later in omega (arith, w, e));

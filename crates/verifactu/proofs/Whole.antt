@@ -4,7 +4,6 @@ use Rattle.std.proofs.Common.{length-append, map, drop, Option, Some, None, slic
 use Rattle.std.proofs.Common.{sym, ◌∙◌, subst, arith, append-nil}
 use Rattle.std.specs.Prelude.{Contains, count_by, IsSome}
 use Rattle.std.specs.List.{AllByRecursion}
-use Rattle.std.proofs.Math.Seq.{drop-append_seam}
 use Rattle.std.proofs.lemmas.Bool.{cases_lt}
 use Rattle.std.proofs.lemmas.Bool.Decides.{nat_tests, eqb_tells}
 use Rattle.std.proofs.lemmas.List.{length-map}
@@ -16,21 +15,24 @@ use Rattle.record_codec.specs.declared.entries.Entry.TheVariants.{Rec, Notes}
 use Rattle.chain_lock.specs.Known.{Known, IsNew, Fits, owners, times_owned}
 use Rattle.chain_lock.specs.Lists.{StartsWith}
 use Rattle.record_fields.specs.declared.records.Sealed.{Sealed}
-use Rattle.shop_core.specs.History.{noted, recs, waiting}
+use Rattle.shop_core.specs.History.{is_record, noted, recs, waiting}
 use Rattle.shop_core.specs.Items.{entries_of}
 use Rattle.shop_core.specs.declared.items.Item.{Item}
 use Rattle.shop_core.specs.declared.items.Item.TheVariants as item
 use Rattle.agency_port.specs.Ledger.{Ledger}
 use Rattle.once_world.specs.Agreement.{Agree, IsPrefix}
 use Rattle.once_world.specs.Laws.{AreRecords, RecordsKeepAgreement}
-use Rattle.once_world.specs.Outbox.{AreOwnNotes, GainsOwnNotes}
+use Rattle.once_world.specs.Outbox.{GainsOwnNotes}
 use Rattle.till_calls.specs.Mark.{sight_by}
 use Rattle.till_calls.specs.Own.{OwnsNone, is_of}
 use Rattle.till_calls.specs.Root.{Root, stop_in, with_torn}
 use Rattle.sender.specs.Agreeing.{Adds, AgreesIfTorn, AreNotes, AreNotesOrTorn, HasAt}
 use Rattle.sender.proofs.Adding.{get_front}
 use Rattle.sender.proofs.Keeping.{noted_same}
-use Rattle.verifactu.specs.Beside.{EndsStopped}
+use Rattle.agency_port.specs.declared.messages.Message.{Message}
+use Rattle.verifactu.specs.Beside.{EndsStopped, IsTornSaid, TearsSaid}
+use Rattle.verifactu.specs.Draining.{torn_in}
+use Rattle.verifactu.specs.Noting.{TornSaid}
 use Rattle.verifactu.proofs.Agreed.{entries_both, entries_in}
 use Rattle.verifactu.proofs.Alone.{all_by_place, all_contained, all_each, all_split, counted_in, gains_by, get_behind}
 use Rattle.verifactu.proofs.Contrary.{drop_front, recs_both}
@@ -259,6 +261,13 @@ module _ {C : Type 0} (base log : List Item) (root : Root C) (tills : List (Know
         (sym (ap recs (seen_entries s) ∙ recs_both seen rest)) front in
         (same, subst (λ (n : List Line). IsPrefix (waiting seen) (drop (length n) (recs es))) (sym same) first)
 
+    -- the records of all are those of what it has seen, and more
+    pub more_records : Kept → (more : List Sealed) × (recs es ≡ recs (entries_of then.seen) ++ more)
+    more_records s = (
+      recs (entries_of (rest_of h)),
+      ap recs (seen_entries s) ∙ recs_both (entries_of then.seen) (entries_of (rest_of h)),
+    )
+
     pub agreed : Kept → RecordsKeepAgreement → (new : Ledger) → Agree (entries_of then.seen) new.processed new.sent →
         Agree es new.processed new.sent
     agreed s records new agree =
@@ -292,6 +301,36 @@ module _ {C : Type 0} (base log : List Item) (root : Root C) (tills : List (Know
                   subst (λ (l : List Entry). Agree (l ++ t ∷ []) new.processed new.sent) is
                   (if_torn items n t seen (subst (λ (o : List ℕ). Contains o (length items)) (sym gained) mine.1)))
             ]
+
+    -- what is torn is a till's record, or what the last message says
+    pub torn_said : Kept → (messages : List Message) → TearsSaid (sight_by seat) (sight_by then) messages →
+        AllByRecursion (IsTornSaid es messages) (torn_in stopped torn)
+    torn_said s messages tears = by_case stopped torn s.log_is
+      where
+        of_till : (n : ℕ) (t : Entry) → IsOfTill (item.Stop n t) → is_record t ≡ true
+        of_till n t is = (of_till_record n t is).0
+
+        by_case : (n : Option ℕ) (t : Option Entry) → log ≡ map item.Entry es ++ stop_in n t →
+            AllByRecursion (IsTornSaid es messages) (torn_in n t)
+        by_case None t e = tt
+        by_case (Some n) None e = tt
+        by_case (Some n) (Some t) e =
+            let items : List Item = map item.Entry es in
+            let low : length base ≤ length items =
+            (let a = ap length s.base_is in let b = ap length s.begins.1 in let c = length-append start s.begins.0 in
+            let d = length-map es item.Entry in let f = length-map start item.Entry in omega arith) in (
+              elim (last_one h items (item.Stop n t) e low) [
+                | inl theirs ↦ inl (of_till n t theirs)
+                | inr mine ↦
+                    (let seen : then.seen ≡ items ++ item.Stop n t ∷ [] = mine.0 ∙ e in
+                    let gained : drop (length (sight_by seat).own) (sight_by then).own ≡ (sight_by then).own =
+                    ap (λ (o : List ℕ). drop (length o) (sight_by then).own) (own_before h) in
+                    let is : entries_of then.seen ≡ es = ap entries_of seen ∙ entries_in es (Some n) (Some t) in
+                    inr (subst (λ (l : List Entry). TornSaid l messages t) is
+                    (tears items n t seen (subst (λ (o : List ℕ). Contains o (length items)) (sym gained) mine.1))))
+              ],
+              tt,
+            )
 
     -- where the seat has seen a stop at the end, the shop has stopped
     pub is_stopped : Kept → EndsStopped then.seen → IsSome stopped

@@ -1,13 +1,13 @@
 -- What a day's sender leaves of its shop and of its agency, and how a day ends.
 use Rattle.std.specs.Prelude.{◌≡◌, ◌⊎◌, ℕ, ◌+◌, ◌-◌, ◌^◌, ◌<◌, ◌≤◌, List, [], ◌∷◌, ◌++◌, length, Bool, true, false, IsTrue}
-use Rattle.std.specs.Prelude.{IsErrOf, Result, Ok, Err, count_by, not}
-use Rattle.std.specs.List.{list_any}
+use Rattle.std.specs.Prelude.{Contains, IsErrOf, Result, Ok, Err, count_by, drop, not}
+use Rattle.std.specs.List.{AllByRecursion, list_any}
 use Rattle.ports.specs.Sinks.{Sinks, Wrote, FailedIn, WrotePart}
 use Rattle.chain_disk.specs.OnDisk.{OnDisk, LeavesNow, LeavesOnly}
 use Rattle.journal.specs.declared.faults.StoreFault.TheVariants as store
 use Rattle.record_codec.specs.declared.entries.Entry.{Entry}
 use Rattle.batches.specs.Batches.{huellas_of}
-use Rattle.shop_core.specs.History.{recs, noted, waiting}
+use Rattle.shop_core.specs.History.{is_record, recs, noted, waiting}
 use Rattle.shop_core.specs.declared.items.Item.{Item}
 use Rattle.shop_core.specs.declared.items.Item.TheVariants as item
 use Rattle.agency_rules.specs.declared.plans.Plan.{Plan}
@@ -40,6 +40,7 @@ use Rattle.till_calls.specs.Root.{Parts}
 use Rattle.verifactu.specs.Crashes.{StandsForEnd}
 use Rattle.verifactu.specs.Draining.{Beginning, IsDiskAnswer, IsFaultless, OpensSession, SaysNothingBlindly, fault_end, noted_pairs}
 use Rattle.verifactu.specs.Draining.{torn_in}
+use Rattle.verifactu.specs.Noting.{NotesSaid, TornSaid}
 use Rattle.verifactu.specs.Replies.{AllReplied, Replies, is_disk_fault, is_no_memory}
 
 -- the last item is a stop
@@ -101,6 +102,12 @@ pub record ShowsLast (entries : List Entry) (past messages : List Message) (evid
 abbrev pub ShowsNothing : List Message → List Message → Type 0
 ShowsNothing past messages = (entries : List Entry) (evidence : Evidence) → ShowsLast entries past messages evidence → ⊥
 
+-- No message of a session, which began behind these, shows a contradiction but the last one: no front of the session ends in one
+-- that does.
+abbrev pub NoneBefore : List Message → List Message → Type 0
+NoneBefore past messages = (front : List Message) (m : Message) (back : List Message) →
+    messages ≡ (past ++ front) ++ m ∷ back → ShowsNothing past (past ++ front)
+
 abbrev pub IsContrary : Result (Unit {0}) DrainFault → Type 0
 IsContrary answer = (evidence : Evidence) × IsErrOf answer (drain.Contradiction evidence)
 
@@ -108,6 +115,16 @@ IsContrary answer = (evidence : Evidence) × IsErrOf answer (drain.Contradiction
 abbrev pub AnswersWhatIsShown : List Message → List Message → Result (Unit {0}) DrainFault → Type 0
 AnswersWhatIsShown past messages answer = (entries : List Entry) (evidence : Evidence) →
     ShowsLast entries past messages evidence → IsContrary answer ⊎ (answer ≡ Err drain.NoMemory)
+
+-- a stop that its own note recorded at the end is over the lines that the last message says
+abbrev pub TearsSaid : Sight → Sight → List Message → Type 0
+TearsSaid before after messages = (items : List Item) (faults : ℕ) (torn : Entry) →
+    after.items ≡ items ++ item.Stop faults torn ∷ [] → Contains (drop (length before.own) after.own) (length items) →
+    TornSaid (history_of after) messages torn
+
+-- what is torn is a till's record, or what the last message says
+abbrev pub IsTornSaid : List Entry → List Message → Entry → Type 0
+IsTornSaid after messages torn = (is_record torn ≡ true) ⊎ TornSaid after messages torn
 
 -- Turns of one sender with one agency, between two sights of a shop to which others add beside it. What they added is their own
 -- notes, or the stop over them. In a session in which the agency keeps its rules and agreed, and no other notes came, it still
@@ -137,6 +154,13 @@ pub record SendsOn (kind : Kind) (before after : Sight) (old new : Desk) (sendin
       ShowsLast (history_of after) past new.ledger.messages evidence
   pub shown : IsTrue kind.tells → (past : List Message) → KeepsReply past old.ledger.messages sending.said →
       ShowsNothing past old.ledger.messages → AnswersWhatIsShown past new.ledger.messages answer
+  -- and none before it does
+  pub none_before : IsTrue kind.tells → (past : List Message) → KeepsReply past old.ledger.messages sending.said →
+      ShowsNothing past old.ledger.messages → NoneBefore past old.ledger.messages → NoneBefore past new.ledger.messages
+  -- what is noted are the lines that the messages say, where the shop gained no other notes
+  pub lines : IsTrue kind.tells → GainsOwnNotes before after →
+      NotesSaid (history_of before) (history_of after) old.ledger.messages new.ledger.messages answer
+  pub torn_lines : IsTrue kind.tells → TearsSaid before after new.ledger.messages
   pub later : old.faults ≤ new.faults
   -- the drain gives up with the counts of the last sight, in which some record waits
   pub counts : (noted_count records_count : ℕ) → IsErrOf answer (drain.Undelivered noted_count records_count) →
@@ -190,6 +214,11 @@ pub record SendsBeside (d : DaySpan) : Type 0 where
   pub shown : IsTrue d.kind.tells → (evidence : Evidence) →
       ShowsLast d.end d.old.ledger.messages d.new.ledger.messages evidence →
       IsErrOf d.answer (drain.Contradiction evidence) ⊎ (d.answer ≡ Err drain.NoMemory)
+  -- no message before the last one shows one
+  pub none_before : IsTrue d.kind.tells → NoneBefore d.old.ledger.messages d.new.ledger.messages
+  -- the lines that were noted are those that the messages say, each message of the first records that waited
+  pub lines : IsTrue d.kind.tells → NotesSaid d.start d.end d.old.ledger.messages d.new.ledger.messages d.answer
+  pub torn_lines : IsTrue d.kind.tells → AllByRecursion (IsTornSaid d.end d.new.ledger.messages) d.torn
   pub later : d.old.faults ≤ d.new.faults
   -- the drain gives up only where some record of the history at the end waits
   pub counts : (noted_count records_count : ℕ) → IsErrOf d.answer (drain.Undelivered noted_count records_count) →

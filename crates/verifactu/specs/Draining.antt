@@ -33,6 +33,7 @@ use Rattle.report.specs.Turns.{turns_text}
 use Rattle.report.specs.declared.ended.Detail.{Detail}
 use Rattle.report.specs.declared.ended.Detail.TheVariants as detail
 use Rattle.verifactu.specs.Crashes.{StandsBetween, StandsForEnd}
+use Rattle.verifactu.specs.Noting.{NotesSaid, TornSaid}
 use Rattle.verifactu.specs.Steps.{Steps}
 
 -- an entry that notes lines
@@ -129,6 +130,9 @@ pub record Sends (d : Span) : Type 0 where
   -- what it said and noted, turn by turn, and the lines that stand for it
   pub steps : Steps d.kind.tells d.exact (recs d.start) (length (noted d.start)) (length (noted d.end)) d.moment d.old d.new
       d.turns d.answer
+  -- the lines that were noted are those that its messages say, each message of the first records that waited
+  pub lines : IsTrue d.kind.tells → NotesSaid d.start d.end d.old.ledger.messages d.new.ledger.messages d.answer
+  pub torn_lines : IsTrue d.kind.tells → AllByRecursion (TornSaid d.end d.new.ledger.messages) d.torn
   -- where shop and agency agreed they still do
   pub agreement : IsTrue d.kind.keeps_rules → Agree d.start d.old.ledger.processed d.old.ledger.sent → StillAgrees d
   -- no record is handed over again unless a consultation since has answered that it wasn't seen

@@ -13,6 +13,7 @@ pub mod Chain
 pub mod Generated
 pub mod Generate
 pub mod Steps
+pub mod Noting
 pub mod Draining
 pub mod Outcomes
 pub mod Started

@@ -13,7 +13,7 @@ ghost use Rattle.verifactu.specs.Started.{IsStarted};
 use agency_port::{Agency, Turns};
 use chain_disk::Disk;
 use chain_store::Store;
-use once_world::agreement_is_kept;
+use once_world::{agreement_is_kept, what_came_beside_is_records};
 use ports::{Clock, Sleeper};
 use sender::{DrainFault, Sender, a_session_begins};
 use std::alloc::Global;
@@ -43,6 +43,7 @@ fn drain_started<D: Disk, C: Clock, G: Agency, Z: Sleeper, R: Wait>(
         (agency_desk G.Agency agency.new) Z.tells (Z.moment sleeper.old) (outcome_of result)) }
 {
     agreement_is_kept();
+    what_came_beside_is_records();
     a_session_begins();
     let Started { shop, tills, seat } = started;
     let mut turns = Turns::new(alloc);

@@ -11,7 +11,7 @@ ghost use Rattle.verifactu.specs.Beside.{SendsOn, sending_end};
 
 use agency_port::{Agency, Turns};
 use chain_disk::Disk;
-use once_world::Outbox;
+use once_world::{Outbox, what_came_beside_is_records};
 use ports::{Clock, Gate, Sleeper};
 use sender::{DrainFault, SendFault, Sender, Turn};
 use std::alloc::Global;
@@ -92,6 +92,7 @@ fn one_turn<R: Wait, T: Gate, O: Outbox, G: Agency, Z: Sleeper>(
     ensures sends { SendsOn (agency_kind G.Agency) (O.sight outbox.old) (O.sight outbox.new)
         (agency_desk G.Agency agency.old) (agency_desk G.Agency agency.new) sender.old sender.new result }
 {
+    what_came_beside_is_records();
     let now = sleeper.now();
     let answer = sender.turn(rt, alloc, outbox, agency, now);
     pause(rt, gate, sleeper, stop, &answer);
@@ -179,6 +180,7 @@ pub(crate) fn drain_rest<D: Disk, C: Clock, G: Agency + Drop, Z: Sleeper + Drop,
     ensures delivered { OnOk result.answer (length (noted (history_of (sight_by (seat_knows result.seat))))
         ≡ length (recs (history_of (sight_by (seat_knows result.seat))))) }
 {
+    what_came_beside_is_records();
     if sent.answer.is_err() {
         return sent;
     }

@@ -18,12 +18,15 @@ use Rattle.till_calls.specs.Seat.{box_knows}
 use Rattle.till_calls.specs.Shop.{first_items, seat_knows, shop_root, tills_know}
 use Rattle.verifactu.specs.Devices.{agency_desk, agency_kind}
 use Rattle.verifactu.specs.Draining.{Span, StillAgrees, spanning, torn_in}
+use Rattle.verifactu.specs.Noting.{NotesSaid}
 use Rattle.verifactu.specs.Steps.{Steps}
 use Rattle.verifactu.proofs.Alone.{Closed, closed_from, gains, mine, all_seen, still_held}
 use Rattle.verifactu.proofs.Agreed.{Stored, agree_new, agreed, agreed_torn, entries_back, notes_alone, same_records, seen_all}
-use Rattle.verifactu.proofs.Agreed.{sight_new, torn_is, torn_one}
+use Rattle.verifactu.proofs.Agreed.{sight_new, torn_is, torn_one, torn_said}
 use Rattle.verifactu.proofs.Stops.{drained_stopped, is_stopped, is_untorn, untorn_adds}
+use Rattle.verifactu.proofs.Noted.{drained_notes}
 use Rattle.verifactu.proofs.Told.{drained_steps}
+use Rattle.verifactu.proofs.Torn.{drained_tears}
 use Rattle.verifactu.proofs.draining.drain_started.Given.{Over}
 use Rattle.verifactu.proofs.draining.drain_started.Goals as goal
 
@@ -154,6 +157,17 @@ steps g c =
     (length (noted (history_of before))) (length (noted es)) (span g c).moment (span g c).old (span g c).new (span g c).turns
     (span g c).answer) (seen g c) s)
 
+lines : (g : Over) (c : goal.Joined-sender g) → IsTrue g.G.Agency.tells → NotesSaid (span g c).start (span g c).end
+    (span g c).old.ledger.messages (span g c).new.ledger.messages (span g c).answer
+lines g c tells =
+    let s = drained_notes c.what_came_beside_is_records.ensures.quiet c.what_came_beside_is_records.ensures.own (span g c).kind
+    (span g c).exact tells (first_scene g c fresh) (last_scene g c) c.new-turns.result c.drain-answer.new.turns
+    c.drain-answer.result (drained g c) (own g c) in
+    subst (λ (es : List Entry). NotesSaid es (span g c).end (span g c).old.ledger.messages (span g c).new.ledger.messages
+    (span g c).answer) (begun_at g c)
+    (subst (λ (es : List Entry). NotesSaid (history_of (sight_by (box_knows c.seat_box-outbox.result))) es
+    (span g c).old.ledger.messages (span g c).new.ledger.messages (span g c).answer) (seen g c) s)
+
 pub returns-clause-stopped : goal.returns-clause-stopped
 returns-clause-stopped g c = λ disk. is_stopped _ _ _ _ _ _ (closed g c) _ _ _ _ (stored g c) (drained_stopped _ _ _ _ _ _ _
     (drained g c) disk)
@@ -170,6 +184,9 @@ returns-clause-sends g c =
       all_noted = subst (λ (es : List Entry). OnOk c.drain-answer.result (length (noted es) ≡ length (recs es))) (seen g c)
           c.drain-answer.ensures.delivered;
       steps = steps g c;
+      lines = lines g c;
+      torn_lines = λ tells. torn_said _ _ _ _ _ _ (closed g c) _ _ _ _ (stored g c) (span g c).new.ledger.messages
+          (drained_tears _ _ _ _ _ _ _ (drained g c) tells);
       agreement = agreement g c;
       careful = λ tells runs.
           let sight = sight_by (box_knows c.seat_box-outbox.result) in

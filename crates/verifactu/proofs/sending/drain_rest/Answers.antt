@@ -8,9 +8,12 @@ use Rattle.till_calls.specs.Seat.{box_knows}
 use Rattle.till_calls.specs.Shop.{seat_knows}
 use Rattle.verifactu.specs.Devices.{agency_desk, agency_kind}
 use Rattle.verifactu.specs.Beside.{SendsOn}
+use Rattle.verifactu.proofs.Clear.{drained_before}
 use Rattle.verifactu.proofs.Contrary.{drained_answers, drained_shows}
 use Rattle.verifactu.proofs.GivingUp.{drained_gives_up}
+use Rattle.verifactu.proofs.Noted.{drained_notes}
 use Rattle.verifactu.proofs.Stops.{drained_stopped, untorn_adds}
+use Rattle.verifactu.proofs.Torn.{drained_tears}
 use Rattle.verifactu.proofs.Turns.{drained_counts, drained_later, no_error, sends_then}
 use Rattle.verifactu.proofs.sending.drain_rest.Goals as goal
 
@@ -35,6 +38,10 @@ returns-clause-sends g c = λ before desk sending x.
       kept = e.kept;
       contrary = drained_shows _ _ _ _ _ _ _ e.drained;
       shown = drained_answers _ _ _ _ _ _ _ e.drained;
+      none_before = drained_before _ _ _ _ _ _ _ e.drained;
+      lines = λ tells. drained_notes c.what_came_beside_is_records.ensures.quiet c.what_came_beside_is_records.ensures.own kind _
+          tells _ _ _ _ _ e.drained;
+      torn_lines = drained_tears _ _ _ _ _ _ _ e.drained;
       later = drained_later _ _ _ _ _ _ _ e.drained;
       counts = drained_counts _ _ _ _ _ _ _ e.drained;
       undelivered = e.undelivered;

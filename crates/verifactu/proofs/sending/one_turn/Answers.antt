@@ -2,7 +2,10 @@ use Rattle.std.proofs.Common.{sym, subst, Result}
 use Rattle.sender.specs.declared.answers.DrainFault.{DrainFault}
 use Rattle.verifactu.specs.Devices.{agency_desk, agency_kind}
 use Rattle.verifactu.specs.Beside.{SendsOn}
+use Rattle.verifactu.proofs.Clear.{turn_before}
 use Rattle.verifactu.proofs.Contrary.{turn_answers, turn_shows}
+use Rattle.verifactu.proofs.Noting.{turn_notes}
+use Rattle.verifactu.proofs.Torn.{turn_tears}
 use Rattle.verifactu.proofs.Turns.{never_end, never_gives_up, stopped_end, untorn_end}
 use Rattle.verifactu.proofs.sending.one_turn.Goals as goal
 
@@ -29,6 +32,10 @@ returns-clause-sends g c =
       kept = e.kept;
       contrary = turn_shows kind old new before after c.args.sender.now c.turn-answer.new.self c.now-now.result answer e.turned;
       shown = turn_answers kind old new before after c.args.sender.now c.turn-answer.new.self c.now-now.result answer e.turned;
+      none_before = turn_before kind old new before after c.args.sender.now c.turn-answer.new.self c.now-now.result answer e.turned;
+      lines = turn_notes c.what_came_beside_is_records.ensures.quiet c.what_came_beside_is_records.ensures.own kind old new before
+          after c.args.sender.now c.turn-answer.new.self c.now-now.result answer e.turned;
+      torn_lines = turn_tears kind old new before after c.args.sender.now c.turn-answer.new.self c.now-now.result answer e.turned;
       later = e.later;
       counts = λ n r is. absurd (never_gives_up answer n r is);
       undelivered = λ n r is. absurd (never_gives_up answer n r is);
