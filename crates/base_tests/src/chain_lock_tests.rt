@@ -31,22 +31,24 @@ impl Recorded for Ledger {
     }
 }
 
-/// Adds an item where there is room, and notes its place.
+/// Adds an item where there is room. It tells the item's place.
 #[derive(Drop)]
 struct Add {
     item: u64,
-    place: Option<u64>,
 }
 
 impl Act<Ledger> for Add {
-    ghost relates = { λ before root list after items. after.item ≡ before.item };
+    type Told = Option<u64>;
 
-    fn act(&mut self, value: &mut Ledger) {
-        self.place = None;
-        if value.items.len() < value.items.capacity() {
-            self.place = Some(value.items.len() as u64);
-            value.items.push_reserved(self.item);
+    ghost relates = { λ before root list after items told. after.item ≡ before.item };
+
+    fn act(&mut self, value: &mut Ledger) -> Option<u64> {
+        if value.items.len() == value.items.capacity() {
+            return None;
         }
+        let place = value.items.len() as u64;
+        value.items.push_reserved(self.item);
+        Some(place)
     }
 }
 
@@ -78,10 +80,8 @@ fn add_all<R: Wait>(
     for k in 0..TURNS {
         let mut add = Add {
             item: start.wrapping_add(k),
-            place: None,
         };
-        lock.turn(rt, &mut pass, &mut add);
-        if let Some(place) = add.place {
+        if let Some(place) = lock.turn(rt, &mut pass, &mut add) {
             let _ = places.push(place);
         }
     }
@@ -206,12 +206,8 @@ fn a_pass_tells_another_of_how_many_items_it_knows(rt: HostRuntime) -> Result<()
     let (Some(mut from), Some(mut to)) = (passes.pull(), passes.pull()) else {
         return Err(Fail::from("no pass"));
     };
-    let mut add = Add {
-        item: 5,
-        place: None,
-    };
-    lock.turn(&rt, &mut from, &mut add);
+    let place = lock.turn(&rt, &mut from, &mut Add { item: 5 });
     lock.inform(&mut from, &mut to);
-    assert_eq!(rt; (add.place, lock.glance(&mut to)), (Some(0), 1));
+    assert_eq!(rt; (place, lock.glance(&mut to)), (Some(0), 1));
     Ok(())
 }

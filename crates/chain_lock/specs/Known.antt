@@ -1,5 +1,5 @@
 -- What a pass knows of the list that the value records, and what holds of it.
-use Rattle.std.specs.Prelude.{◌≡◌, ℕ, ◌≤◌, ◌==◌, List, [], ◌++◌, length, sum_by, count_by, Option, Some, All, slice_get}
+use Rattle.std.specs.Prelude.{◌≡◌, ℕ, ◌≤◌, ◌<◌, ◌==◌, List, [], ◌++◌, length, sum_by, count_by, Option, Some, All, slice_get}
 use Rattle.std.specs.List.{enumerate_from}
 use Rattle.chain_lock.specs.Lists.{StartsWith}
 
@@ -31,6 +31,10 @@ module _ {I R : Type 0} where
   -- how often passes own it
   abbrev pub owners : ℕ → List (Known I R) → ℕ
   owners n ks = sum_by (times_owned n) ks
+
+  -- all that a pass owns stands before this place
+  abbrev pub OwnsBelow : ℕ → Known I R → Type 0
+  OwnsBelow n k = All (λ x. x.0 < n) k.own
 
   -- a pass knows of as many items as it has seen, or of more
   abbrev pub KnowsOfSeen : Known I R → Type 0

@@ -2,3 +2,4 @@ pub mod Lists
 pub mod Known
 pub mod Rule
 pub mod Words
+pub mod Laws

@@ -20,12 +20,15 @@ pub trait Recorded {
 
 /// What a turn does to the value. It keeps the root, and records one item or none.
 pub trait Act<V: Recorded> {
-    /// What one call does: of the act before it, the root, the list before, the act after it and the list after.
-    /// Whoever takes the turn knows this of the call, so an act whose calls are to be counted changes a field of its own.
-    ghost relates: { Self → V.Root → List V.Item → Self → List V.Item → Type 0 };
+    /// What one call tells whoever takes the turn.
+    type Told;
 
-    fn act(&mut self, value: &mut V)
+    /// What one call does: of the act before it, the root, the list before, the act after it, the list after and what it tells.
+    /// Whoever takes the turn knows this of the call, so an act whose calls are to be counted changes a field of its own.
+    ghost relates: { Self → V.Root → List V.Item → Self → List V.Item → Self.Told → Type 0 };
+
+    fn act(&mut self, value: &mut V) -> Self::Told
         ensures root { V.root value.new ≡ V.root value.old }
         ensures items { MayAdd (V.items value.old) (V.items value.new) }
-        ensures relates { relates self.old (V.root value.old) (V.items value.old) self.new (V.items value.new) };
+        ensures relates { relates self.old (V.root value.old) (V.items value.old) self.new (V.items value.new) result };
 }

@@ -5,6 +5,7 @@
 
 mod act;
 mod close;
+mod laws;
 mod lock;
 mod open;
 mod pass;
@@ -12,5 +13,6 @@ mod plays;
 mod view;
 
 pub use act::{Act, Recorded};
+pub use laws::who_sees_all_that_is_owned_sees_all;
 pub use lock::ChainLock;
 pub use pass::{Pass, Passes, Refused};

@@ -204,30 +204,38 @@ impl<V: Recorded> ChainLock<V> {
     }
 
     // A turn, at the pass's seat.
-    fn turn_at<A: Act<V>, R: Wait>(&self, rt: &R, seat: &mut RestingPlace<V>, act: &mut A)
+    fn turn_at<A: Act<V>, R: Wait>(
+        &self,
+        rt: &R,
+        seat: &mut RestingPlace<V>,
+        act: &mut A,
+    ) -> A::Told
         requires { seat.old.place.table_id ≡ self.now.board.shared.table_id }
         ensures table { seat.new.place.table_id ≡ seat.old.place.table_id }
-        ensures turn { Turns (λ home before after. A.relates act.old home before act.new after) (known_of seat.old.place.me.0)
-            (known_of seat.new.place.me.0) }
+        ensures turn { Turns (λ home before after. A.relates act.old home before act.new after result)
+            (known_of seat.old.place.me.0) (known_of seat.new.place.me.0) }
     {
         let mut value = self.take(rt, &mut seat.place);
         let before = value.recorded();
-        act.act(&mut value);
+        let told = act.act(&mut value);
         self.count_added(&mut seat.place, &value, before);
         self.put_value(&mut seat.place, value);
         self.free(&mut seat.place);
+        told
     }
 
-    /// Takes a turn: waits until no other pass has it, and calls the act once on the value. The turn itself takes no memory.
+    /// Takes a turn: waits until no other pass has it, calls the act once on the value, and gives what the act tells. The turn
+    /// itself takes no memory.
     /// It may wait forever, as where an act never ends, and no order among those who wait is promised.
-    pub fn turn<A: Act<V>, R: Wait>(&self, rt: &R, pass: &mut Pass<V>, act: &mut A)
+    pub fn turn<A: Act<V>, R: Wait>(&self, rt: &R, pass: &mut Pass<V>, act: &mut A) -> A::Told
         requires { pass_lock pass.old ≡ lock_id self.now }
         ensures lock { pass_lock pass.new ≡ pass_lock pass.old }
-        ensures turn { Turns (λ home before after. A.relates act.old home before act.new after)
+        ensures turn { Turns (λ home before after. A.relates act.old home before act.new after result)
             (known pass.old) (known pass.new) }
         ensures seen { KnowsOfSeen (known pass.new) }
     {
-        self.turn_at(rt, &mut pass.seat, act);
+        let told = self.turn_at(rt, &mut pass.seat, act);
         self.wake();
+        told
     }
 }

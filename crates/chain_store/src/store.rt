@@ -17,7 +17,7 @@ use ports::{Clock, NoMemory};
 use record_codec::{Entry, an_encoding_is_a_body, encode, fields_are_valid};
 use record_fields::{Line, Lines, SealedList};
 use shop_core::{
-    Ask, Planned, Reply, State, Waiting, a_legal_history_goes_on, plan, taken,
+    Ask, Asking, Planned, Reply, State, Waiting, a_legal_history_goes_on, plan_asking, taken,
     what_continues_fits_its_bytes, what_is_made_is_a_record,
 };
 use std::alloc::Global;
@@ -100,13 +100,38 @@ impl<D: Disk, C: Clock> Store<D, C> {
         ensures untouched { IsSome (stopped_of self.old.journal) → self.new ≡ self.old }
         ensures later { IsLater D.faults self.old self.new }
     {
+        self.take_asking(alloc, &ask.borrowed())
+    }
+
+    /// The same for an ask whose request stays with who asks.
+    pub fn take_asking(&mut self, alloc: Global, ask: &Asking) -> Result<Reply, StoreFault>
+        requires { Ready D.tells D.told self.old }
+        ensures ready { Ready D.tells D.told self.new }
+        ensures takes { stopped_of self.old.journal ≡ None →
+            Takes (this_call D.tells D.told C.coming self.old self.new) ask.now result }
+
+        // After Ok every crash leaves the whole history.
+        ensures acknowledged { OnOk result (Acknowledged D.tells D.told self.new) }
+        ensures going_on { OnOk result (GoesOn self.old self.new) }
+        ensures nothing_taken { IfOk result (λ reply. IfNothingTaken reply (self.new.journal ≡ self.old.journal)) }
+        ensures no_memory { IsErrOf result StoreFault.NoMemory → self.new.journal ≡ self.old.journal }
+
+        // A fault of the disk stops the journal for good. From then on nothing is asked of the disk or the clock.
+        ensures fault { IsErrOf result StoreFault.DiskFault → IsStoppedByFault D.faults self.old self.new }
+        ensures torn { IsErrOf result StoreFault.DiskFault →
+            Tears (this_call D.tells D.told C.coming self.old self.new) ask.now (torn_of self.new) }
+        ensures stopped { (faults : ℕ) →
+            IsErrOf result (StoreFault.Stopped faults) ↔ (stopped_of self.old.journal ≡ Some faults) }
+        ensures untouched { IsSome (stopped_of self.old.journal) → self.new ≡ self.old }
+        ensures later { IsLater D.faults self.old self.new }
+    {
         if let Some(faults) = self.journal.stopped() {
             return Err(StoreFault::Stopped { faults });
         }
         let seconds = self.clock.now();
         what_is_made_is_a_record();
         self.state.is_legal();
-        match plan(alloc, &self.state, ask, seconds) {
+        match plan_asking(alloc, &self.state, ask, seconds) {
             Err(_) => Err(StoreFault::NoMemory),
             Ok(Planned::Again(receipt)) => Ok(Reply::Again(receipt)),
             Ok(Planned::Refused(why)) => Ok(Reply::Refused(why)),

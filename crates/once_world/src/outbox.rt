@@ -21,10 +21,14 @@ pub trait Outbox {
     /// The issuer, the items seen so far, and which of them its own notes added.
     ghost sight: { Self → Sight };
 
+    /// The shop has at least so many items.
+    ghost least: { Self → ℕ };
+
     /// The counts, and at most so many of the first records that have no noted line.
     fn waiting<R: Wait>(&mut self, rt: &R, alloc: Global, max: u16) -> Result<Waiting, NoMemory>
         ensures fixed { fixed self.new ≡ fixed self.old }
         ensures grows { Grows (sight self.old) (sight self.new) }
+        ensures covers { least self.old ≤ length (sight self.new).items }
         ensures own { (sight self.new).own ≡ (sight self.old).own }
         ensures within { OwnWithin (sight self.new) }
         ensures shows { IfOk result (ShowsWaiting (sight self.new) max) };

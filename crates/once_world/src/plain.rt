@@ -102,6 +102,8 @@ impl Outbox for PlainOutbox {
 
     ghost sight = { λ o. plain_sight o.state.issuer o.state.entries o.own.items };
 
+    ghost least = { λ o. length o.state.entries };
+
     fn waiting<R: Wait>(&mut self, _rt: &R, alloc: Global, max: u16) -> Result<Waiting, NoMemory> {
         self.state.is_legal();
         let list = self.state.waiting_records(alloc, max)?;

@@ -24,3 +24,4 @@ pub mod Rises
 pub mod Adding
 pub mod Saying
 pub mod Replying
+pub mod Covering

@@ -114,6 +114,7 @@ impl Sender {
             (scene_of (desk_of G.ledger G.faults agency.new) (O.sight outbox.new) self.new (Z.moment sleeper.new))
             turns.old turns.new links.old links.new result }
         ensures fixed { O.fixed outbox.new ≡ O.fixed outbox.old }
+        ensures covers { O.least outbox.old ≤ length (O.sight outbox.new).items }
     {
         let now = sleeper.now();
         let made = self.counted_turn(rt, alloc, outbox, agency, now);
@@ -183,6 +184,9 @@ impl Sender {
         ensures delivered { OnOk result
             (length (noted (history_of (O.sight outbox.new))) ≡ length (recs (history_of (O.sight outbox.new)))) }
 
+        // The last look shows as many items as the outbox knew of at first.
+        ensures covers { OnOk result (O.least outbox.old ≤ length (O.sight outbox.new).items) }
+
         // Where no record comes in between, the turns are bounded by the batches that waited and by the link faults.
         ensures bound { InOneSession G.keeps_rules (O.sight outbox.old) (O.sight outbox.new) (G.ledger agency.old) self.old.said
             (length (recs (history_of (O.sight outbox.new))) ≤ length (recs (history_of (O.sight outbox.old))) →
@@ -210,6 +214,7 @@ impl Sender {
             (scene_of (desk_of G.ledger G.faults agency.new) (O.sight outbox.new) self.new (Z.moment sleeper.new))
             turns.old turns.new result }
         ensures fixed { O.fixed outbox.new ≡ O.fixed outbox.old }
+        ensures covers { OnOk result (O.least outbox.old ≤ length (O.sight outbox.new).items) }
     {
         let mut links = 0;
         for _ in rt.forever() {

@@ -241,6 +241,7 @@ impl Sender {
             (desk_of G.ledger G.faults agency.old) (desk_of G.ledger G.faults agency.new)
             (O.sight outbox.old) (O.sight outbox.new) self.old self.new now result.answer }
         ensures fixed { O.fixed outbox.new ≡ O.fixed outbox.old }
+        ensures covers { O.least outbox.old ≤ length (O.sight outbox.new).items }
         ensures counts { IsErrOf result.answer SendFault.LinkFault → CountsOf (O.sight outbox.new) result.noted result.records }
     {
         match outbox.waiting(rt, alloc, BATCH) {

@@ -8,12 +8,12 @@ ghost use Rattle.shop_core.specs.Refusals as spec;
 ghost use Rattle.shop_core.specs.Standing as standing;
 ghost use Rattle.shop_core.specs.declared.answers.Refusal.TheVariants as refusal;
 
-use crate::{Ask, MAX_RECORDS, Refusal, Request, State};
+use crate::{Asking, MAX_RECORDS, Refusal, Request, State};
 use record_fields::{Draft, check_draft};
 use series::{InvoiceId, NumSerie};
 use stamps::{CLOCK_FROM, CLOCK_TO};
 
-fn passed(state: &State, ask: &Ask) -> Option<Refusal>
+fn passed(state: &State, ask: &Asking) -> Option<Refusal>
     ensures { result ≡ spec.passed state.now.entries ask.now.till ask.now.serial }
 {
     let last = state.last_serial(ask.till);
@@ -142,22 +142,22 @@ fn out_of_range(seconds: u64) -> Option<Refusal>
 }
 
 /// The first refusal that needs no record.
-pub(crate) fn early_refusal(state: &State, ask: &Ask, seconds: u64) -> Option<Refusal>
+pub(crate) fn early_refusal(state: &State, ask: &Asking, seconds: u64) -> Option<Refusal>
     ensures { result ≡ spec.early_refusal state.now.entries ask.now seconds }
 {
     if let Some(why) = passed(state, ask) {
         return Some(why);
     }
-    if let Some(why) = bad_draft(&ask.request) {
+    if let Some(why) = bad_draft(ask.request) {
         return Some(why);
     }
-    if let Some(why) = unknown(state, &ask.request) {
+    if let Some(why) = unknown(state, ask.request) {
         return Some(why);
     }
-    if let Some(why) = cancelled(state, &ask.request) {
+    if let Some(why) = cancelled(state, ask.request) {
         return Some(why);
     }
-    if let Some(why) = bad_ref(state, &ask.request) {
+    if let Some(why) = bad_ref(state, ask.request) {
         return Some(why);
     }
     if let Some(why) = full(state) {

@@ -1,9 +1,9 @@
 -- What a till's run adds to the list, told of the list at the end.
-use Rattle.std.proofs.Common.{◌≡◌, ◌⊎◌, inl, inr, ℕ, zero, suc, ◌<◌, ◌≤◌, true, false, List, [], ◌∷◌, length, drop, All, Option}
+use Rattle.std.proofs.Common.{◌≡◌, ◌⊎◌, inl, inr, ℕ, zero, suc, ◌+◌, ◌<◌, ◌≤◌, true, false, List, [], ◌∷◌, length, drop, All, Option}
 use Rattle.std.proofs.Common.{Result, refl, ap, sym, subst, arith}
 use Rattle.std.specs.Prelude.{◌≢◌}
 use Rattle.std.proofs.lemmas.List.{length-append}
-use Rattle.chain_lock.specs.Known.{Known, IsNew, Fits, owners}
+use Rattle.chain_lock.specs.Known.{Known, IsNew, Fits, OwnsBelow, owners}
 use Rattle.chain_lock.specs.Lists.{EachOf, StartsWith}
 use Rattle.journal.specs.declared.faults.StoreFault.{StoreFault}
 use Rattle.shop_core.specs.Requests.{Asked}
@@ -12,7 +12,8 @@ use Rattle.shop_core.specs.declared.items.Item.{Item}
 use Rattle.till_calls.specs.Own.{is_by, is_of, records_of, AreTaken, OwnsNone, OwnsOnly}
 use Rattle.till_calls.specs.Root.{Root}
 use Rattle.till_calls.specs.Client.{TillRun}
-use Rattle.till_calls.proofs.Places.{its_own, all_each}
+use Rattle.till_calls.specs.Client.TillRun.{begun, asked}
+use Rattle.till_calls.proofs.Places.{Rises, its_own, all_each}
 use Rattle.till_calls.proofs.Serving.{IsServed, serves_run, served_new, rises_more}
 
 each_all : {X : Type 0} (P : X → Type 0) (xs : List X) → EachOf P xs → All P xs
@@ -23,6 +24,18 @@ each_all P (x ∷ xs) h (suc i) d l = each_all P xs h.1 i d (omega (arith, l))
 each_weaker : {X : Type 0} (P Q : X → Type 0) (xs : List X) → ((x : X) → P x → Q x) → EachOf P xs → EachOf Q xs
 each_weaker P Q [] f h = tt
 each_weaker P Q (x ∷ xs) f h = (f x h.0, each_weaker P Q xs f h.1)
+
+below_high : {I : Type 0} (low high : ℕ) (own : List (ℕ × I)) → Rises low high own → EachOf (λ (x : ℕ × I). x.0 < high) own
+below_high low high [] r = tt
+below_high low high (x ∷ xs) r = (r.1, below_high (x.0 + 1) high xs r.2)
+
+-- a run leaves a till that knows of as many items as it has seen
+knows_seen : {C : Type 0} (coming : C → ℕ → Option ℕ) (old new : Known Item (Root C)) (asks : List Asked)
+    (replies : List (Result Reply StoreFault)) → length old.seen ≤ old.least → TillRun coming old asks replies new →
+    length new.seen ≤ new.least
+knows_seen coming old new asks replies first begun = first
+knows_seen {C} coming old new asks' replies' first (asked asks replies mid _ ask reply run this) =
+    subst (λ (k : Known Item (Root C)). length k.seen ≤ k.least) (sym this.after) (omega arith)
 
 module _ {C : Type 0} (coming : C → ℕ → Option ℕ) (till : ℕ) (root : Root C) (items : List Item) (old new : Known Item (Root C))
     (asks : List Asked) (replies : List (Result Reply StoreFault))
@@ -37,6 +50,14 @@ module _ {C : Type 0} (coming : C → ℕ → Option ℕ) (till : ℕ) (root : R
 
     pub owns_only : OwnsOnly till new
     owns_only = each_all (λ (x : ℕ × Item). is_by till x.1 ≡ true) new.own served.only
+
+    pub owns_within : OwnsBelow new.least new
+    owns_within =
+        let first : length old.seen ≤ old.least = (let e = ap (λ (l : List Item). length l) fresh.seen in let f = fresh.least in
+        omega (arith, e, f)) in
+        let all = knows_seen coming old new asks replies first run in
+        each_all (λ (x : ℕ × Item). x.0 < new.least) new.own (below_high (length items) new.least new.own
+        (rises_more (length items) (length new.seen) new.least new.own all served.rises))
 
     either_way : (k : Known Item (Root C)) → (k ≡ new) ⊎ OwnsNone till k → (k ≡ new) ⊎
         EachOf (λ (x : ℕ × Item). is_of till x.1 ≡ false) k.own

@@ -202,38 +202,6 @@ module _ {D C : Type 0} (tells : Bool) (told : D → OnDisk) (faults : D → ℕ
         record { history = p.state.entries; torn = here.torn; items_are = items_stopped p count here.torn stopped here.torn_is },
       ))
 
-  -- an ask for whose copy there is no memory, of a shop that goes on, and of one that has stopped
-  pub declines : (p : Parts D C) (ask : Asked) → IsSound tells told faults coming root p → p.stopped ≡ None →
-      TillTurn coming ask (Err NoMemory) root (items_in p) (items_in p)
-  declines p ask s going = record {
-    list = list_of p s;
-    does = (
-      refl,
-      record {
-        history = p.state.entries;
-        entries = items_going p going;
-      },
-    );
-  }
-
-  pub declines_stopped : (p : Parts D C) (ask : Asked) (count : ℕ) → IsSound tells told faults coming root p →
-      p.stopped ≡ Some count →
-      TillTurn coming ask (Err (Stopped count)) root (items_in p) (items_in p)
-  declines_stopped p ask count s stopped =
-      let here : HasStopped faults root p count = s.stop count stopped in
-      record {
-        list = list_of p s;
-        does = (
-          refl,
-          record {
-            history = p.state.entries;
-            torn = here.torn;
-            items_are = items_stopped p count here.torn stopped
-                here.torn_is;
-          },
-        );
-      }
-
   pub took : (p q : Parts D C) (ask : Asked) (r : Result Reply StoreFault) → IsSound tells told faults coming root p →
       Took p q ask r → Outcome p ask r q
   took p q ask r s t = by_stop p.stopped refl

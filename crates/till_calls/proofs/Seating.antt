@@ -1,8 +1,8 @@
 -- A note of the seat, as its outbox tells it.
-use Rattle.std.proofs.Common.{◌≡◌, ◌↔◌, ◌<◌, ◌≤◌, ◌+◌, ℕ, zero, suc, List, [], ◌∷◌, ◌++◌, length, map, All, Result, Ok, Err, refl}
-use Rattle.std.proofs.Common.{ap, sym, ◌∙◌, subst, arith, slice_index_or}
+use Rattle.std.proofs.Common.{◌≡◌, ◌↔◌, ◌<◌, ◌≤◌, ◌+◌, ℕ, zero, suc, List, [], ◌∷◌, ◌++◌, length, map, All, Result, Ok, Err}
+use Rattle.std.proofs.Common.{ap, sym, ◌∙◌, subst, arith}
 use Rattle.std.specs.List.{enumerate_from}
-use Rattle.std.proofs.lemmas.List.{append-nil, map-append, append_cancel_left, length-append, length-map}
+use Rattle.std.proofs.lemmas.List.{append-nil, map-append, append_cancel_left, length-append}
 use Rattle.std.proofs.lemmas.List.Elements.{All-append}
 use Rattle.chain_lock.specs.Known.{IsNew, Known, Turns}
 use Rattle.chain_lock.specs.Lists.{EachOf}
@@ -167,6 +167,13 @@ module _ {C : Type 0} (relates : Root C → List Item → List Item → Type 0) 
   places n (x ∷ []) le zero d lt = omega arith
   places n (x ∷ []) le (suc k) d lt = absurd (omega (arith, lt))
   places n (x ∷ y ∷ more) le k d lt = absurd (omega (arith, le))
+
+  -- a turn shows at least as many items as the seat knew of
+  pub covered : Turns relates old new → old.least ≤ length (sight_by new).items
+  covered t =
+      let e = length-append t.before t.added in let a = t.at_least in
+      let long : old.least ≤ length (t.before ++ t.added) = omega (arith, e, a) in
+      subst (λ (k : Known Item (Root C)). old.least ≤ length (sight_by k).items) (sym t.after) long
 
   pub within_still : Turns relates old new → OwnWithin (sight_by old) → OwnWithin (sight_by new)
   within_still t h =

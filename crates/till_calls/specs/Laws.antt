@@ -1,6 +1,6 @@
 -- Laws of runs.
-use Rattle.std.specs.Prelude.{◌≡◌, ◌≢◌, ◌⊎◌, ◌≤◌, ◌<◌, ℕ, Bool, false, List, length, drop, All, Option, Result}
-use Rattle.chain_lock.specs.Known.{Known, IsNew, Fits, owners}
+use Rattle.std.specs.Prelude.{◌≡◌, ◌≢◌, ◌⊎◌, ◌≤◌, ◌<◌, ℕ, Bool, List, length, drop, All, Option, Result}
+use Rattle.chain_lock.specs.Known.{Known, IsNew, Fits, OwnsBelow, owners}
 use Rattle.chain_lock.specs.Lists.{StartsWith}
 use Rattle.journal.specs.declared.faults.StoreFault.{StoreFault}
 use Rattle.shop_core.specs.Requests.{Asked}
@@ -37,3 +37,9 @@ abbrev pub OwnsRecordsAndStops : {C : Type 0} → (C → ℕ → Option ℕ) →
 OwnsRecordsAndStops {C} coming = (till : ℕ) (root : Root C) (items : List Item) (old new : Known Item (Root C))
     (asks : List Asked) (replies : List (Result Reply StoreFault)) → IsNew items root old →
     TillRun coming old asks replies new → All (λ (a : Asked). a.till ≡ till) asks → OwnsOnly till new
+
+-- and it stands within as many items as the till knows of
+abbrev pub OwnsWithinKnown : {C : Type 0} → (C → ℕ → Option ℕ) → Type 0
+OwnsWithinKnown {C} coming = (till : ℕ) (root : Root C) (items : List Item) (old new : Known Item (Root C))
+    (asks : List Asked) (replies : List (Result Reply StoreFault)) → IsNew items root old →
+    TillRun coming old asks replies new → All (λ (a : Asked). a.till ≡ till) asks → OwnsBelow new.least new

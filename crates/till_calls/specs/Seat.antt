@@ -1,4 +1,5 @@
 -- The seat as an outbox.
+use Rattle.std.specs.Prelude.{ℕ}
 use Rattle.chain_disk.specs.declared.disk.Disk as disk
 use Rattle.chain_lock.specs.Known.{Known}
 use Rattle.once_world.specs.Outbox.{Sight}
@@ -19,3 +20,7 @@ module _ {D C : Type 0} {g : disk.Ghosts D} {h : clock.Ghosts C} where
 
   abbrev pub mark_of : SeatBox D C g h → Mark C
   mark_of box = mark_by (seat_shop box.seat) (seat_knows box.seat)
+
+  -- how many items its seat knows of
+  abbrev pub least_of : SeatBox D C g h → ℕ
+  least_of box = (seat_knows box.seat).least

@@ -1,10 +1,9 @@
 // The value under a shop's lock.
-ghost use Rattle.std.specs.Prelude.{◌≡◌, length, None, Err};
+ghost use Rattle.std.specs.Prelude.{◌≡◌, length, None};
 ghost use Rattle.std.specs.Int.{IsInRange};
 ghost use Rattle.chain_store.specs.Store.{Ready, journal_of};
 ghost use Rattle.journal.specs.Journal.{stopped_of};
 ghost use Rattle.record_fields.specs.declared.lines.TheConstants.{BATCH};
-ghost use Rattle.shop_core.specs.Requests.{Asked};
 ghost use Rattle.till_calls.specs.Root.{items_in, parts_of, root_of};
 ghost use Rattle.till_calls.specs.Sound.{IsSound};
 ghost use Rattle.till_calls.specs.Turns.{LookTurn, SeatTurn, TillTurn};
@@ -16,7 +15,7 @@ use chain_store::Store;
 use journal::StoreFault;
 use ports::{Clock, NoMemory};
 use record_fields::Line;
-use shop_core::{Ask, Item, Reply, Waiting};
+use shop_core::{Asking, Item, Reply, Waiting};
 use std::alloc::Global;
 use std::marker::Model;
 use std::snapshot::Snapshot;
@@ -52,24 +51,13 @@ impl<D: Disk, C: Clock> Kept<D, C> {
     }
 
     // One ask of a till.
-    pub(crate) fn take(&mut self, alloc: Global, ask: &Ask) -> Result<Reply, StoreFault>
+    pub(crate) fn take(&mut self, alloc: Global, ask: &Asking) -> Result<Reply, StoreFault>
         ensures root { self.new.root ≡ self.old.root }
         ensures turn { TillTurn C.coming ask.now result self.old.root (items_in self.old.parts) (items_in self.new.parts) }
     {
-        let reply = self.store.take(alloc, ask);
+        let reply = self.store.take_asking(alloc, ask);
         self.store.state().is_legal();
         reply
-    }
-
-    // One ask of a till, for whose copy there is no memory.
-    pub(crate) fn decline(&self) -> StoreFault
-        ensures { (ask : Asked) → TillTurn C.coming ask (Err result) self.now.root (items_in self.now.parts)
-            (items_in self.now.parts) }
-    {
-        if let Some(faults) = self.store.stopped() {
-            return StoreFault::Stopped { faults };
-        }
-        StoreFault::NoMemory
     }
 
     // One note of the sender. Nothing is added where fewer records wait than there are lines.

@@ -1,5 +1,5 @@
 // What holds of runs alone.
-ghost use Rattle.till_calls.specs.Laws.{AddsForNoOther, AddsWhatIsTaken, OwnsRecordsAndStops, ToldAtTheEnd};
+ghost use Rattle.till_calls.specs.Laws.{AddsForNoOther, AddsWhatIsTaken, OwnsRecordsAndStops, OwnsWithinKnown, ToldAtTheEnd};
 
 use ports::Clock;
 
@@ -22,4 +22,9 @@ pub fn a_till_adds_for_no_other<C: Clock>()
 /// All that a till's run leaves it is a record of its own, or a stop over one.
 pub fn a_till_owns_records_and_stops<C: Clock>()
     ensures { OwnsRecordsAndStops C.coming }
+{}
+
+/// All that a till's run leaves it stands within as many items as it knows of.
+pub fn a_till_owns_within_what_it_knows<C: Clock>()
+    ensures { OwnsWithinKnown C.coming }
 {}

@@ -20,7 +20,7 @@ pub use client::serve;
 pub use kept::Kept;
 pub use laws::{
     a_run_is_told_at_the_end, a_till_adds_for_no_other, a_till_adds_what_is_taken,
-    a_till_owns_records_and_stops,
+    a_till_owns_records_and_stops, a_till_owns_within_what_it_knows,
 };
 pub use root::ShopRoot;
 pub use seat::{SeatBox, SeatMark};

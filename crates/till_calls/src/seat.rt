@@ -71,30 +71,21 @@ impl<D: Disk, C: Clock> Shop<D, C> {
 impl<'a, D: Disk, C: Clock> Outbox for SeatBox<'a, D, C> {
     type Fixed = SeatMark<D, C>;
 
-    ghost use Rattle.till_calls.specs.Seat.{mark_of, sight_of};
+    ghost use Rattle.till_calls.specs.Seat.{least_of, mark_of, sight_of};
 
     ghost fixed = { mark_of };
 
     ghost sight = { sight_of };
 
+    ghost least = { least_of };
+
     fn waiting<R: Wait>(&mut self, rt: &R, alloc: Global, max: u16) -> Result<Waiting, NoMemory> {
-        let mut looking = Looking {
-            alloc,
-            max,
-            shown: Err(NoMemory),
-        };
-        self.seat.turn(rt, self.shop, &mut looking);
-        let Looking { shown, .. } = looking;
-        shown
+        let mut looking = Looking { alloc, max };
+        self.seat.turn(rt, self.shop, &mut looking)
     }
 
     fn note<R: Wait>(&mut self, rt: &R, alloc: Global, lines: &[Line]) -> Result<(), StoreFault> {
-        let mut noting = Noting {
-            alloc,
-            lines,
-            told: Err(StoreFault::NoMemory),
-        };
-        self.seat.turn(rt, self.shop, &mut noting);
-        noting.told
+        let mut noting = Noting { alloc, lines };
+        self.seat.turn(rt, self.shop, &mut noting)
     }
 }

@@ -1,6 +1,6 @@
 // A shop: its start, its tills' asks, and its end.
 ghost use Rattle.std.specs.Prelude.{◌≡◌, ◌≤◌, ◌<◌, ◌+◌, ◌++◌, ◌∷◌, [], ℕ, length, All, IfOk, IfErr, IfSome, None};
-ghost use Rattle.std.specs.Prelude.{vec_capacity};
+ghost use Rattle.std.specs.Prelude.{max, vec_capacity};
 ghost use Rattle.std.specs.Int.{IsInRange};
 ghost use Rattle.chain_lock.specs.Known.{Fits, IsNew, holders, owners};
 ghost use Rattle.chain_lock.specs.Lists.{StartsWith};
@@ -12,13 +12,13 @@ ghost use Rattle.till_calls.specs.Sound.{IsSound};
 
 use crate::kept::Kept;
 use crate::tills::{SenderSeat, Till, TillNumber, Tills};
-use crate::turns::{Declining, Taking};
+use crate::turns::Taking;
 use chain_disk::Disk;
 use chain_lock::{ChainLock, Refused};
 use chain_store::Store;
 use journal::StoreFault;
 use ports::Clock;
-use shop_core::{Ask, Reply, Request};
+use shop_core::{Asking, Reply, Request};
 use std::alloc::Global;
 use std::sync::Wait;
 
@@ -63,21 +63,11 @@ impl<D: Disk, C: Clock> Shop<D, C> {
         ensures asks { Asks C.coming (record { till = till_number till.old; serial = serial; request = request.now }) result
             (till_knows till.old) (till_knows till.new) }
     {
-        let Ok(copy) = request.copied(alloc) else {
-            let mut declining = Declining {
-                told: StoreFault::NoMemory,
-            };
-            self.lock.turn(rt, &mut till.pass, &mut declining);
-            return Err(declining.told);
-        };
-        let ask = Ask::new(till.number(), serial, copy);
         let mut taking = Taking {
             alloc,
-            ask,
-            reply: Err(StoreFault::NoMemory),
+            ask: Asking::new(till.number(), serial, request),
         };
-        self.lock.turn(rt, &mut till.pass, &mut taking);
-        taking.reply
+        self.lock.turn(rt, &mut till.pass, &mut taking)
     }
 
     /// How many items there are, without waiting: the entries, and one more where the shop has stopped. The till then knows of
@@ -89,6 +79,18 @@ impl<D: Disk, C: Clock> Shop<D, C> {
         ensures raised { till_knows till.new ≡ record (till_knows till.old) { least = result } }
     {
         self.lock.glance(&mut till.pass)
+    }
+
+    /// A till tells the seat of how many items it knows. The seat's next look then shows as many, or more. It waits for nobody.
+    pub fn tell_seat(&self, till: &mut Till<D, C>, seat: &mut SenderSeat<D, C>)
+        requires own { (till_shop till.old ≡ shop_id self.now) × (seat_shop seat.old ≡ shop_id self.now) }
+        ensures till { (till_shop till.new ≡ till_shop till.old) × (till_number till.new ≡ till_number till.old) }
+        ensures knows { till_knows till.new ≡ till_knows till.old }
+        ensures shop { seat_shop seat.new ≡ seat_shop seat.old }
+        ensures raised { seat_knows seat.new
+            ≡ record (seat_knows seat.old) { least = max (seat_knows seat.old).least (till_knows till.old).least } }
+    {
+        self.lock.inform(&mut till.pass, &mut seat.pass);
     }
 
     /// Ends the shop, once all its tills and its seat are back, and gives the store. It takes no memory.

@@ -115,12 +115,12 @@ impl<D: Disk, C: Clock> SenderSeat<D, C> {
         rt: &R,
         shop: &Shop<D, C>,
         act: &mut A,
-    )
+    ) -> A::Told
         requires { seat_shop self.old ≡ shop_id shop.now }
         ensures shop { seat_shop self.new ≡ seat_shop self.old }
-        ensures turn { Turns (λ home before after. A.relates act.old home before act.new after) (seat_knows self.old)
+        ensures turn { Turns (λ home before after. A.relates act.old home before act.new after result) (seat_knows self.old)
             (seat_knows self.new) }
     {
-        shop.lock.turn(rt, &mut self.pass, act);
+        shop.lock.turn(rt, &mut self.pass, act)
     }
 }

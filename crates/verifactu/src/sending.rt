@@ -1,5 +1,5 @@
 // The sender of a day: its turns beside the tills, and its drain behind them.
-ghost use Rattle.std.specs.Prelude.{◌≡◌, length, OnOk};
+ghost use Rattle.std.specs.Prelude.{◌≡◌, ◌≤◌, length, OnOk};
 ghost use Rattle.once_world.specs.Outbox.{Sight, history_of};
 ghost use Rattle.shop_core.specs.History.{noted, recs};
 ghost use Rattle.sender.specs.Sending.{Sending, fresh};
@@ -177,6 +177,7 @@ pub(crate) fn drain_rest<D: Disk, C: Clock, G: Agency + Drop, Z: Sleeper + Drop,
         sent.sender sent.answer →
         SendsOn (agency_kind G.Agency) before (sight_by (seat_knows result.seat)) old (agency_desk G.Agency result.agency)
         sending result.sender result.answer }
+    ensures covers { OnOk result.answer ((seat_knows sent.seat).least ≤ length (seat_knows result.seat).seen) }
     ensures delivered { OnOk result.answer (length (noted (history_of (sight_by (seat_knows result.seat))))
         ≡ length (recs (history_of (sight_by (seat_knows result.seat))))) }
 {

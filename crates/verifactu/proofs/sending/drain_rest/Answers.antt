@@ -1,4 +1,5 @@
-use Rattle.std.proofs.Common.{◌∙◌, sym, subst, Result}
+use Rattle.std.proofs.Common.{◌≤◌, ◌∙◌, length, sym, subst, Result}
+use Rattle.std.specs.Prelude.{OnOk}
 use Rattle.chain_lock.specs.Known.{Known}
 use Rattle.sender.specs.declared.answers.DrainFault.{DrainFault}
 use Rattle.shop_core.specs.declared.items.Item.{Item}
@@ -57,3 +58,10 @@ returns-clause-sends g c = λ before desk sending x.
     sending c.args.sent.sender r) (no_error c.args.sent.answer (sym c.is_err.ensures.value ∙ c.if-is_err.false)) x in
     sends_then kind before (sight_by (seat_knows c.args.sent.seat)) (sight_by (seat_knows c.into_seat.result)) desk mid new
     sending c.args.sent.sender c.drain-answer.new.self answer first into
+
+pub returns-clause-covers : goal.returns-clause-covers
+returns-clause-covers g c =
+    subst (λ (k : Known Item (Root g.row.C.Denot)). OnOk c.drain-answer.result (k.least ≤ length
+    (seat_knows c.into_seat.result).seen)) c.seat_box-outbox.ensures.knows
+    (subst (λ (k : Known Item (Root g.row.C.Denot)). OnOk c.drain-answer.result ((box_knows c.seat_box-outbox.result).least ≤
+    length k.seen)) (sym c.into_seat.ensures.knows) c.drain-answer.ensures.covers)

@@ -1,16 +1,18 @@
-use Rattle.std.proofs.Common.{refl, ◌∙◌}
+use Rattle.std.proofs.Common.{inl, inr, refl, ◌∙◌}
 use Rattle.std.proofs.lemmas.Result.{err_from_is_err_and}
+use Rattle.sender.proofs.Covering.{covers_on}
 use Rattle.sender.proofs.Drains.{start_going, goes_on, is_over, stops}
 use Rattle.sender.proofs.sending.Sender.drain_on.Goals as goal
 
 pub loop-init : goal.loop-init
-loop-init g c = record { next = tt; finite = tt; fixed = refl; going = start_going _ _ _ _ }
+loop-init g c = record { next = tt; finite = tt; fixed = refl; covers = inl refl; going = start_going _ _ _ _ }
 
 pub loop-preserved : goal.loop-preserved
 loop-preserved g c = record {
   next = tt;
   finite = tt;
   fixed = c.drain_turn.ensures.fixed ∙ c.loop.invariant.fixed;
+  covers = inr (covers_on _ _ _ _ _ _ _ c.loop.invariant.covers c.drain_turn.ensures.covers c.drain_turn.ensures.made.turn);
   going = goes_on _ _ _ _ _ _ _ _ _ _ c.drain_turn.result c.in_ok-drain_turn.field-0 c.loop.invariant.going
       c.drain_turn.ensures.made c.in_ok-drain_turn.was c.if-branch.false;
 }
@@ -24,3 +26,7 @@ returns-in_err-drain_turn-clause-drained g c =
     let p = err_from_is_err_and c.from_residual.result c.from_residual.ensures.1 in
     rw (p.1, p.2) (stops _ _ _ _ _ _ _ _ _ _ c.drain_turn.result c.in_err-drain_turn.field-0.0 c.loop.invariant.going
     c.drain_turn.ensures.made c.in_err-drain_turn.was)
+
+pub returns-then-branch-clause-covers : goal.returns-then-branch-clause-covers
+returns-then-branch-clause-covers g c = covers_on _ _ _ _ _ _ _ c.loop.invariant.covers c.drain_turn.ensures.covers
+    c.drain_turn.ensures.made.turn

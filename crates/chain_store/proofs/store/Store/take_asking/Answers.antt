@@ -7,7 +7,7 @@ use Rattle.shop_core.specs.Plans.{answer}
 use Rattle.shop_core.specs.declared.answers.Reply.TheVariants as reply
 use Rattle.chain_store.proofs.Stores.{on_disk, untouched}
 use Rattle.chain_store.proofs.Taking.{made, not_made, told_again, told_refused}
-use Rattle.chain_store.proofs.store.Store.take.Goals as goal
+use Rattle.chain_store.proofs.store.Store.take_asking.Goals as goal
 
 pub returns-in-Err-clause-takes : goal.returns-in-Err-clause-takes
 returns-in-Err-clause-takes g c going_on =
