@@ -92,8 +92,8 @@ fn serve_started<
         seat,
     } = started;
     hand_out(&mut tills, &mut days, &mut jobs);
-    let (jobs, sent) = beside(rt, alloc, gate, &shop, asks, jobs, seat, agency, sleeper);
-    hand_in(&mut tills, jobs, &mut days);
+    let (jobs, mut sent) = beside(rt, alloc, gate, &shop, asks, jobs, seat, agency, sleeper);
+    hand_in(&shop, &mut tills, jobs, &mut days, &mut sent.seat);
     let rest = drain_rest(rt, alloc, &shop, sent);
     let Sent {
         seat,

@@ -3,6 +3,7 @@ ghost use Rattle.std.specs.Prelude.{◌≡◌, ◌≤◌, ◌<◌, ◌+◌, ◌+
 ghost use Rattle.std.specs.Prelude.{IfOk, IfSome, vec_len, vec_capacity, slice_index_or};
 ghost use Rattle.shop_core.specs.Requests.{Asked};
 ghost use Rattle.till_calls.specs.Client.{TillRun};
+ghost use Rattle.till_calls.specs.Shop.{seat_knows, seat_shop};
 ghost use Rattle.till_calls.specs.Shop.{made_tills, numbers, shop_id, till_knows, till_number, till_shop, tills_know, tills_shop};
 ghost use Rattle.verifactu.specs.Tills.{asks_of};
 ghost use Rattle.verifactu.specs.Works.{HasRoom, Works, day_of, job_knows};
@@ -14,7 +15,7 @@ use shop_core::{Ask, Reply};
 use std::alloc::Global;
 use std::sync::Wait;
 use std::thread::{Threads, for_each_mut};
-use till_calls::{Shop, Till, Tills};
+use till_calls::{SenderSeat, Shop, Till, Tills};
 
 /// What a till is told in a day.
 #[derive(Drop)]
@@ -187,22 +188,33 @@ pub(crate) fn hand_out<D: Disk, C: Clock>(
     }
 }
 
-/// Takes the tills back, the last job first.
+/// Takes the tills back, the last job first. Each tells the seat of how many items it knows.
 pub(crate) fn hand_in<D: Disk, C: Clock>(
+    shop: &Shop<D, C>,
     tills: &mut Tills<D, C>,
     mut jobs: Vec<Job<D, C>>,
     days: &mut Vec<TillDay>,
+    seat: &mut SenderSeat<D, C>,
 )
     requires own { All (λ j. till_shop j.till ≡ tills_shop tills.old) jobs.items }
+    requires shop { (tills_shop tills.old ≡ shop_id shop.now) × (seat_shop seat.old ≡ shop_id shop.now) }
     requires out { (days.old.items ≡ []) × (numbers tills.old ≡ []) × (tills_know tills.old ≡ []) }
     requires room { (vec_len jobs ≤ vec_capacity days.old) × (vec_len jobs ≤ made_tills tills.old) }
     ensures days { days.new.items ≡ reverse (map day_of jobs.items) }
     ensures knows { tills_know tills.new ≡ reverse (map job_knows jobs.items) }
     ensures same { (tills_shop tills.new ≡ tills_shop tills.old) × (made_tills tills.new ≡ made_tills tills.old) }
+    ensures seat { (seat_shop seat.new ≡ seat_shop seat.old)
+        × (seat_knows seat.new ≡ record (seat_knows seat.old) { least = (seat_knows seat.new).least }) }
+    ensures told { All (λ k. k.least ≤ (seat_knows seat.new).least) (tills_know tills.new) }
 {
     while let Some(job) = jobs.pop() {
-        let Job { till, answers, saw } = job;
+        let Job {
+            mut till,
+            answers,
+            saw,
+        } = job;
         let number = till.number();
+        shop.tell_seat(&mut till, seat);
         tills.hand_back(till);
         days.push_reserved(TillDay {
             till: number,

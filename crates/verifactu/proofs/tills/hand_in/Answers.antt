@@ -1,12 +1,23 @@
-use Rattle.std.proofs.Common.{◌≡◌, ◌++◌, ◌∷◌, [], ◌+◌, List, ℕ, length, ap, sym, ◌∙◌, refl, rules, append_assoc}
+use Rattle.std.proofs.Common.{◌≡◌, ◌≤◌, ◌++◌, ◌∷◌, [], ◌+◌, List, ℕ, All, length, max, ap, sym, ◌∙◌, rules, append_assoc, arith, subst}
+use Rattle.chain_lock.specs.Known.{Known}
+use Rattle.shop_core.specs.declared.items.Item.{Item}
+use Rattle.till_calls.specs.Root.{Root}
 use Rattle.std.proofs.lemmas.List.{length_push}
 use Rattle.std.proofs.lemmas.List.Elements.{All-weaker}
-use Rattle.till_calls.specs.Shop.{numbers, till_knows, till_number, till_shop, tills_know, tills_shop}
+use Rattle.till_calls.specs.Shop.{numbers, seat_knows, till_knows, till_number, till_shop, tills_know, tills_shop}
 use Rattle.verifactu.specs.Works.{day_of, job_knows}
 use Rattle.verifactu.specs.declared.tills.Job.{Job}
 use Rattle.verifactu.specs.declared.tills.TillDay.{TillDay}
+use Rattle.verifactu.proofs.Each.{all_of_each, each_of_all, each_snoc, each_weaker}
 use Rattle.verifactu.proofs.Jobs.{all_front, take_back}
 use Rattle.verifactu.proofs.tills.hand_in.Goals as goal
+
+told_more : {R : Type 0} (old new : ℕ) (ks : List (Known Item R)) (k : Known Item R) → old ≤ new → k.least ≤ new →
+    All (λ (j : Known Item R). j.least ≤ old) ks → All (λ (j : Known Item R). j.least ≤ new) (ks ++ k ∷ [])
+told_more {R} old new ks k more least h =
+    all_of_each (λ (j : Known Item R). j.least ≤ new) (ks ++ k ∷ []) (each_snoc (λ (j : Known Item R). j.least ≤ new) ks k
+    (each_weaker (λ (j : Known Item R). j.least ≤ old) (λ (j : Known Item R). j.least ≤ new) ks (λ j e. omega (arith, more, e))
+    (each_of_all (λ (j : Known Item R). j.least ≤ old) ks h)) least)
 
 pub loop-job-preserved : goal.loop-job-preserved
 loop-job-preserved g c =
@@ -20,8 +31,14 @@ loop-job-preserved g c =
     out in
     let days = take_back day_of out job c.loop-job.days.items c.push_reserved.new.self.items day v.back.2
     c.push_reserved.ensures.items (ap (λ (n : ℕ). record day { till = n }) c.number-number.ensures.number) in
-    let knows = take_back job_knows out job (tills_know c.loop-job.tills) (tills_know c.hand_back.new.self) (till_knows job.till)
-    v.back.3 c.hand_back.ensures.knows refl in
+    let knows = take_back job_knows out job (tills_know c.loop-job.tills) (tills_know c.hand_back.new.self)
+    (till_knows c.tell_seat.new.till) v.back.3 c.hand_back.ensures.knows c.tell_seat.ensures.knows in
+    let raised = c.tell_seat.ensures.raised in
+    let first = seat_knows c.args.seat.now in
+    let old = seat_knows c.loop-job.seat in
+    let new = seat_knows c.tell_seat.new.seat in
+    let most = max old.least (till_knows job.till).least in
+    let is : new.least ≡ most = ap (λ (k : Known Item (Root g.row.C.Denot)). k.least) raised in
     record {
       shop = c.hand_back.ensures.shop.0 ∙ v.shop;
       made = c.hand_back.ensures.shop.1 ∙ v.made;
@@ -29,8 +46,18 @@ loop-job-preserved g c =
       space = search rules;
       count = (let e : length (numbers c.hand_back.new.self) ≡ length (numbers c.loop-job.tills) + 1 =
           ap (λ (l : List ℕ). length l) c.hand_back.ensures.numbers ∙ length_push (numbers c.loop-job.tills)
-          (till_number job.till) in
+          (till_number c.tell_seat.new.till) in
           let m = v.count in let k = c.hand_back.ensures.shop.1 in search rules);
+      seat = (
+        c.tell_seat.ensures.shop ∙ v.seat.0,
+        raised ∙ ap (λ (k : Known Item (Root g.row.C.Denot)). record k { least = most }) v.seat.1 ∙
+            ap (λ (n : ℕ). record first { least = n }) (sym is),
+      );
+      told = subst (λ (ks : List (Known Item (Root g.row.C.Denot))). All (λ k. k.least ≤ new.least) ks)
+          (sym c.hand_back.ensures.knows) (told_more old.least new.least (tills_know c.loop-job.tills)
+          (till_knows c.tell_seat.new.till) (omega (arith, is))
+          (let e = ap (λ (k : Known Item (Root g.row.C.Denot)). k.least) c.tell_seat.ensures.knows in omega (arith, is, e))
+          v.told);
       own = All-weaker (λ (j : Job g.row.D.Denot g.row.C.Denot). till_shop j.till ≡ tills_shop c.loop-job.tills)
           (λ (j : Job g.row.D.Denot g.row.C.Denot). till_shop j.till ≡ tills_shop c.hand_back.new.self)
           (λ j e. e ∙ sym c.hand_back.ensures.shop.0) c.pop.new.self.items

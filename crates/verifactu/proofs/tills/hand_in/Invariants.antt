@@ -1,6 +1,6 @@
 use Rattle.std.proofs.Common.{◌≡◌, ◌≤◌, ◌+◌, ◌++◌, map, vec_capacity, All, length, List}
 use Rattle.std.specs.Prelude.{reverse, vec_len}
-use Rattle.till_calls.specs.Shop.{made_tills, numbers, till_shop, tills_know, tills_shop}
+use Rattle.till_calls.specs.Shop.{made_tills, numbers, seat_knows, seat_shop, till_shop, tills_know, tills_shop}
 use Rattle.verifactu.specs.Works.{day_of, job_knows}
 use Rattle.verifactu.specs.declared.tills.Job.{Job}
 use Rattle.verifactu.proofs.tills.hand_in.Given as goal
@@ -13,6 +13,9 @@ invariant-loop-job g l = record {
       (l.days.items ≡ reverse (map day_of out)) × (tills_know l.tills ≡ reverse (map job_knows out));
   space : vec_len l.days + vec_len l.jobs ≤ vec_capacity l.days;
   count : length (numbers l.tills) + vec_len l.jobs ≤ made_tills l.tills;
+  seat : (seat_shop l.seat ≡ seat_shop l.fn.seat) ×
+      (seat_knows l.seat ≡ record (seat_knows l.fn.seat) { least = (seat_knows l.seat).least });
+  told : All (λ k. k.least ≤ (seat_knows l.seat).least) (tills_know l.tills);
   own : All (λ j. till_shop j.till ≡ tills_shop l.tills) l.jobs.items;
 }
 
