@@ -1,6 +1,6 @@
 -- What the end of a drained shop says of its store.
-use Rattle.std.proofs.Common.{◌≡◌, ◌∙◌, ◌⊎◌, inl, inr, refl, sym, ap, subst, arith, append-nil, append_assoc, ℕ, ◌+◌, ◌-◌, ◌^◌}
-use Rattle.std.proofs.Common.{◌<◌, ◌≤◌, List, [], ◌++◌, map, length, Bool, IsTrue, Option, Some, None, Result, Ok, Err, OnOk}
+use Rattle.std.proofs.Common.{◌≡◌, ◌∙◌, ◌⊎◌, inl, inr, refl, sym, ap, subst, arith, ℕ, ◌+◌, ◌-◌, ◌^◌}
+use Rattle.std.proofs.Common.{◌<◌, ◌≤◌, List, [], map, length, Bool, IsTrue, Option, Some, None, Result, Ok, Err, OnOk}
 use Rattle.std.specs.Prelude.{IsSome, count_by}
 use Rattle.std.proofs.lemmas.List.{map-append}
 use Rattle.std.proofs.lemmas.List.Sums.{sum_by-append}

@@ -1,7 +1,6 @@
 -- Words that are no command.
 use Rattle.std.proofs.Common.{◌≡◌, ℕ, suc, ◌<◌, ◌≤◌, List, [], ◌∷◌, length, get_or, map, refl, sym, ◌∙◌, ap, subst, arith, None}
-use Rattle.std.proofs.Common.{true, false, codes, bytes_eq, ◌==◌}
-use Rattle.std.proofs.lemmas.Bool.Decides.{nat_tests}
+use Rattle.std.proofs.Common.{true, codes, bytes_eq}
 use Rattle.std.proofs.lemmas.Slice.Eq.{bytes_eq-Decides}
 use Rattle.parties.specs.Nif.{IsNif}
 use Rattle.verifactu.specs.Words.{IsAskedFor, AsksFor, IsChain, IsDay, IsDrain, IsWithin}

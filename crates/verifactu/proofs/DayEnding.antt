@@ -1,27 +1,26 @@
 -- How a day ends, and what its clause says of the whole call.
 use Rattle.std.proofs.Common.{◌≡◌, ◌⊎◌, inl, inr, ℕ, ◌+◌, ◌-◌, ◌^◌, ◌<◌, ◌≤◌, List, [], ◌∷◌, length, map, sym, ◌∙◌, ap}
 use Rattle.std.proofs.Common.{subst, refl, arith, Bool, true, false, IsTrue, Option, Some, None, Result, Ok, Err}
-use Rattle.std.specs.Prelude.{◌≢◌, Contains, IsErrOf}
+use Rattle.std.specs.Prelude.{◌≢◌, IsErrOf}
 use Rattle.std.specs.List.{AllByRecursion, list_any, range_with_len}
 use Rattle.std.proofs.lemmas.List.{append-nil}
-use Rattle.std.proofs.lemmas.List.Elements.{All-contains, filter_passes}
+use Rattle.std.proofs.lemmas.List.Elements.{filter_passes}
 use Rattle.chain_disk.specs.OnDisk.{IsImage, LeavesNow, LeavesOnly, synced}
 use Rattle.chain_disk.specs.Runs.{follows, weaker}
-use Rattle.chain_disk.specs.Disks.{DiskRose, Disks, this_disk}
+use Rattle.chain_disk.specs.Disks.{DiskRose, this_disk}
 use Rattle.huella.specs.Linked.{Linked}
 use Rattle.journal.specs.declared.faults.StoreFault.TheVariants.{DiskFault, Stopped, NoMemory}
 use Rattle.ports.specs.Causes.{Rose}
 use Rattle.ports.specs.Readings.{IsTold}
-use Rattle.ports.specs.Sinks.{Sinks}
+use Rattle.ports.specs.Sinks.{Sinks, WroteNothing}
 use Rattle.record_codec.specs.declared.entries.Entry.{Entry}
 use Rattle.record_codec.specs.declared.entries.TheConstants.{LAST_TILL}
 use Rattle.recovery.specs.Opening.{IsFound}
 use Rattle.report.specs.declared.ended.Detail.{Detail}
 use Rattle.report.specs.declared.ended.Detail.TheVariants as detail
-use Rattle.agency_rules.specs.declared.plans.Plan.{Plan}
 use Rattle.agency_port.specs.declared.turns.Evidence.{Evidence}
 use Rattle.once_world.specs.Agreement.{Agree, IsPrefix}
-use Rattle.sender.specs.Turning.{Desk}
+use Rattle.sender.specs.Turning.{Desk, Kind}
 use Rattle.sender.specs.declared.answers.DrainFault.{DrainFault}
 use Rattle.sender.specs.declared.answers.DrainFault.TheVariants as drain
 use Rattle.sender.specs.declared.draining.TheConstants.{MAX_LINK_FAULTS}
@@ -31,51 +30,31 @@ use Rattle.shop_core.specs.Requests.{Asked}
 use Rattle.shop_core.specs.Files.{StandsFor}
 use Rattle.shop_core.specs.History.{recs, noted}
 use Rattle.shop_core.specs.Legal.{Legal}
-use Rattle.till_calls.specs.Root.{Parts}
+use Rattle.shop_core.specs.Rising.{SerialsRise}
+use Rattle.till_calls.specs.Root.{Parts, root_of}
 use Rattle.till_calls.specs.Sound.{IsLater}
-use Rattle.verifactu.specs.Beside.{DayRunEnds, DaySession, DaySpan, IsUnbegun, KeptDay, ShowsLast, StaysAgreed}
+use Rattle.verifactu.specs.Beside.{DayRunEnds, IsUnbegun, SendsBeside, ShowsLast, StaysAgreed}
 use Rattle.verifactu.specs.Beside.DayRunEnds.{done, write_fault, undelivered, contradiction, disk_fault, no_memory}
-use Rattle.verifactu.specs.Crashes.{Kept, NoneCutOff, StandsBetween, StandsForEnd, StandsSince}
-use Rattle.verifactu.specs.Day.{DayEnds, DayServed, LeftTime, NotServed, Served, ShopLeft, ShopRan, StoreDayEnds}
-use Rattle.verifactu.specs.Day.{StoreKind, TillsEnd, day_text, span_of}
-use Rattle.verifactu.specs.Devices.{Agencies, AllDevices, Clocks, LeftSleeper, Sleepers, this_clock}
-use Rattle.verifactu.specs.Drain.{AgreesAtStart, AllLeft, LeavesTime, NothingRose, desk_after, desk_before, kind_of}
-use Rattle.verifactu.specs.Draining.{AgreesInFile, IsDiskAnswer, IsFaultless, OpensSession, noted_pairs, torn_in}
+use Rattle.verifactu.specs.Crashes.{Kept, StandsBetween, StandsForEnd, StandsSince}
+use Rattle.verifactu.specs.Day.{DayEnds, DayServed, EachCrash, EachTill, FileDay, HistoryGoesOn, ItsAgency}
+use Rattle.verifactu.specs.Day.{Outcome, day_of, day_text}
+use Rattle.verifactu.specs.Days.{Day, Stop, TillReplies, all_replies, shop_day, stop_of, torn_of}
+use Rattle.verifactu.specs.Devices.{Agencies, AllDevices, Around, Clocks, LeftClock, LeftSleeper, Sleepers, StoreKind, around}
+use Rattle.verifactu.specs.Devices.{this_clock}
+use Rattle.verifactu.specs.Drain.{AgreesAtStart, AllLeft, NothingRose}
+use Rattle.verifactu.specs.Draining.{AgreesInFile, IsDiskAnswer, OpensSession, noted_pairs, torn_in}
 use Rattle.verifactu.specs.Readings.{readings_of}
 use Rattle.verifactu.specs.Scripts.{IsGoodScript}
 use Rattle.verifactu.specs.Scripts.ScriptedEnds.{ran}
-use Rattle.verifactu.specs.Replies.{AllGoOn, IsGoingOn, Replies, is_disk_fault}
-use Rattle.verifactu.specs.Tills.{IsCutOffInDay, StopsShop, ServedRun, TillServed, TillReplies, all_replies, has_asks, tills_of}
+use Rattle.verifactu.specs.Replies.{AllGoOn, Replies, is_disk_fault}
+use Rattle.verifactu.specs.Tills.{DayRun, RecordedBy, StopIs, ServedRun, TillServed, has_asks, tills_of}
+use Rattle.verifactu.specs.Tills.RecordedBy.{sender, till as by_till}
 use Rattle.verifactu.specs.Tills.ServedRun.{unasked, answered, torn as tears, stopped as told_stop, without_memory}
-use Rattle.verifactu.proofs.Agreed.{torn_one}
 use Rattle.verifactu.proofs.Closing.{between, either}
-use Rattle.verifactu.proofs.Each.{all_of_each, each_of_all, each_unmap, each_weaker}
+use Rattle.verifactu.proofs.Each.{each_of_all, each_unmap, each_weaker}
 use Rattle.verifactu.proofs.Finishing.{since_found}
-use Rattle.verifactu.proofs.RunEnding.{no_room_by, not_opened_by, rose_opening}
-
--- where each reply goes on, none is a fault of the disk
-no_fault : (replies : Replies) → AllGoOn replies → Contains replies (Err DiskFault) → ⊥
-no_fault replies all has = All-contains IsGoingOn replies (Err DiskFault) (all_of_each IsGoingOn replies all) has
-
-none_torn : (faults faults_after : ℕ) (replies : Replies) (answer : Result (Unit {0}) DrainFault) (stopped : Option ℕ)
-    (torn : Option Entry) → StopsShop faults faults_after stopped replies answer → AllGoOn replies → IsFaultless answer →
-    torn_in stopped torn ≡ []
-none_torn faults faults_after replies answer None torn stops all faultless = refl
-none_torn faults faults_after replies answer (Some count) torn stops all faultless = elim stops.first [
-  | inl told ↦ absurd (no_fault replies all told)
-  | inr not ↦ absurd (not faultless)
-]
-
--- the counts of faults since an earlier count
-stops_since : (first before after : ℕ) (stopped : Option ℕ) (replies : Replies) (answer : Result (Unit {0}) DrainFault) →
-    first ≤ before → StopsShop before after stopped replies answer → StopsShop first after stopped replies answer
-stops_since first before after None replies answer later stops = stops
-stops_since first before after (Some count) replies answer later stops = record {
-  first = stops.first;
-  later = stops.later;
-  risen = λ below. let risen = stops.risen below in omega (arith, later, risen);
-  within = stops.within;
-}
+use Rattle.verifactu.proofs.Joined.{torn_same}
+use Rattle.verifactu.proofs.RunEnding.{not_opened_by, rose_opening}
 
 some_fault : (replies : Replies) → AllGoOn replies → list_any is_disk_fault replies ≡ true → ⊥
 some_fault [] all some = absurd (let x = some in cc)
@@ -84,22 +63,25 @@ some_fault (Err NoMemory ∷ replies) all some = some_fault replies all.1 some
 some_fault (Err DiskFault ∷ replies) all some = absurd all.0
 some_fault (Err (Stopped count) ∷ replies) all some = absurd all.0
 
--- where a till or the sender was told of a fault of the disk, its count rose
-rose_day : (faults after : ℕ) (stopped : Option ℕ) (replies : Replies) (answer : Result (Unit {0}) DrainFault) →
-    StopsShop faults after stopped replies answer → (list_any is_disk_fault replies ≡ true) ⊎ IsDiskAnswer answer →
-    Rose faults after
-rose_day faults after None replies answer stops (inl some) = absurd (some_fault replies stops.0 some)
-rose_day faults after None replies answer stops (inr disk) = absurd (stops.1 disk)
-rose_day faults after (Some count) replies answer stops some = λ below. let within = stops.within in
-    let risen = stops.risen (omega (arith, below, within)) in omega (arith, within, risen)
+module _ (d : Day) where
+  -- the counts of faults since an earlier count
+  stop_since : (first before after : ℕ) (stop : Option Stop) → first ≤ before → StopIs d before after stop →
+      StopIs d first after stop
+  stop_since first before after None later is = is
+  stop_since first before after (Some stop) later is = record {
+    by = is.by;
+    told = is.told;
+    risen = λ below. let risen = is.risen below in omega (arith, later, risen);
+    within = is.within;
+  }
 
--- an entry is torn only where it rose
-torn_day : (faults after : ℕ) (stopped : Option ℕ) (torn : Option Entry) (replies : Replies)
-    (answer : Result (Unit {0}) DrainFault) → StopsShop faults after stopped replies answer → (torn_in stopped torn ≡ []) ⊎
-    Rose faults after
-torn_day faults after None torn replies answer stops = inl refl
-torn_day faults after (Some count) torn replies answer stops = inr (λ below. let within = stops.within in
-    let risen = stops.risen (omega (arith, below, within)) in omega (arith, within, risen))
+  -- where a till or the sender was told of a fault of the disk, its count rose
+  rose_day : (faults after : ℕ) (stop : Option Stop) → StopIs d faults after stop →
+      (list_any is_disk_fault (all_replies d.tills) ≡ true) ⊎ IsDiskAnswer d.answer → Rose faults after
+  rose_day faults after None is (inl some) = absurd (some_fault (all_replies d.tills) is.0 some)
+  rose_day faults after None is (inr disk) = absurd (is.1 disk)
+  rose_day faults after (Some stop) is some = λ below. let within = is.within in
+      let risen = is.risen (omega (arith, below, within)) in omega (arith, within, risen)
 
 -- a till that asks for nothing is none of the tills that ask
 pub none_of : (asks : List Asked) (tills : List TillReplies) (till : ℕ) →
@@ -115,7 +97,32 @@ none_of asks tills till are none =
     (λ t has e. let both : true ≡ false = sym has ∙ ap (λ (n : ℕ). has_asks asks n) e ∙ none in absurd (let b = both in cc))
     each
 
-module _ {D C Z G : Type 0} (h : StoreKind D C) (issuer : List ℕ) (asks : List Asked) (plan : Plan) (disk disk_after : D)
+-- there was no room for the day of an opened store, which is as it was
+pub record ShopLeft {D C : Type 0} (left : Type 0) (old : Parts D C) (disk_after : D) (clock_after : C) (s : Sinks)
+    (end : Detail) : Type 0 where
+  pub ends : end ≡ detail.NoMemory
+  pub wrote : WroteNothing s
+  pub disk : disk_after ≡ old.disk
+  pub clock : clock_after ≡ old.clock
+  pub rest : left
+
+-- the tills of an opened store asked beside a sender, and this is what the day made of it, and how it ended
+pub record ShopRan {D C : Type 0} (h : StoreKind D C) (asks : List Asked) (kind : Kind) (opened after : Desk) (old : Parts D C)
+    (disk_after : D) (clock_after : C) (s : Sinks) (end : Detail) : Type 0 where
+  pub new : Parts D C
+  pub tills : List TillReplies
+  pub answer : Result (Unit {0}) DrainFault
+  pub disk : disk_after ≡ new.disk
+  pub clock : clock_after ≡ new.clock
+  pub tills_are : map (λ (t : TillReplies). t.till) tills ≡ tills_of asks
+  pub run : DayRun h (root_of h.told h.faults old) new
+      (shop_day h.coming asks (root_of h.told h.faults old) new tills kind opened after answer)
+  pub linked : Linked old.state.issuer (recs new.state.entries)
+  pub rising : (till : ℕ) → SerialsRise new.state.entries till
+  pub ends : DayRunEnds (all_replies tills) answer (length (noted new.state.entries)) (length (recs new.state.entries))
+      (day_text asks tills new.state.entries) s end
+
+module _ {D C Z G : Type 0} (h : StoreKind D C) (issuer : List ℕ) (script : Script) (disk disk_after : D)
     (clock clock_after : C) (z : Sleepers Z) (a : Agencies G) (opened : Parts D C) (s : Sinks) (end : Detail)
     (own : opened.state.issuer ≡ issuer) (same_clock : opened.clock ≡ clock) (found : IsTrue h.tells →
     IsFound issuer opened.state.entries (h.told disk).content)
@@ -123,32 +130,32 @@ module _ {D C Z G : Type 0} (h : StoreKind D C) (issuer : List ℕ) (asks : List
     (every_crash : IsTrue h.tells → LeavesNow (h.told opened.disk) (StandsFor issuer opened.state.entries))
     (later : h.faults disk ≤ h.faults opened.disk) (reads : (d : D) → IsTrue h.tells → IsImage (h.told d).now (h.told d).content)
     (rules_tell : IsTrue a.kind.keeps_rules → IsTrue a.kind.tells) where
-  abbrev disks : Disks D
-  disks = this_disk h.tells h.told h.faults disk disk_after
-
-  abbrev clocks : Clocks C
-  clocks = this_clock h.coming clock clock_after
+  abbrev call : Around D C Z G
+  call = record {
+    sink = s;
+    disk = this_disk h.tells h.told h.faults disk disk_after;
+    clock = this_clock h.coming clock clock_after;
+    sleeper = z;
+    agency = a;
+  }
 
   abbrev first : List Entry
   first = opened.state.entries
 
-  -- there was no room for the day of the file that was opened
-  left_opened : ShopLeft (LeftSleeper z) opened disk_after clock_after s end → IsUnbegun (kind_of a) (desk_before a)
-      (desk_after a) ⊎ OpensSession (kind_of a) a.kind.begun plan first (desk_before a) (desk_after a) →
-      NotServed issuer plan (LeftTime clocks z) s disks a end
-  left_opened l begun = record {
+  abbrev Ended : Type 0
+  Ended = FileDay issuer script None call end
+
+  -- there was no memory for the day of a file that was opened
+  pub day_left : ShopLeft (LeftSleeper z) opened disk_after clock_after s end → IsUnbegun a.kind a.before a.after
+      ⊎ OpensSession a.kind a.begun script.plan first a.before a.after → Ended
+  day_left l begun = inr (inr (inl (record {
     ends = l.ends;
     start = first;
     found = found;
     kept = λ says.
         let begins : IsPrefix first first = record { rest = []; is = sym (append-nil first) } in
-        subst (λ (d : D). Kept (StandsSince issuer first first) NoneCutOff issuer first [] (synced (h.told disk)) (h.told d))
-        (sym l.disk)
+        subst (λ (d : D). Kept (StandsSince issuer first first []) issuer first [] (synced (h.told disk)) (h.told d)) (sym l.disk)
         (record {
-          torn = [];
-          at_most_one = omega arith;
-          by_a_fault = λ all. refl;
-          made = tt;
           each_moment = weaker (synced (h.told disk)) (h.told opened.disk) (IsFound issuer first) (StandsSince issuer first first
               []) (any_moment says) (λ c here. since_found issuer first first [] c begins here);
           every_crash = λ c left. inl (every_crash says c left);
@@ -156,125 +163,134 @@ module _ {D C Z G : Type 0} (h : StoreKind D C) (issuer : List ℕ) (asks : List
         });
     begun = begun;
     wrote = l.wrote;
-    rest = (l.clock ∙ same_clock, l.rest);
-  }
+    clock = l.clock ∙ same_clock;
+    sleeper = l.rest;
+  })))
 
-  module _ (desk : Desk) (opens : OpensSession (kind_of a) a.kind.begun plan first (desk_before a) desk)
-      (r : ShopRan h asks (kind_of a) desk (desk_after a) opened disk_after clock_after s end) where
-    abbrev torn : List Entry
-    torn = torn_in r.new.stopped r.new.torn
+  module _ (desk : Desk) (opens : OpensSession a.kind a.begun script.plan first a.before desk)
+      (r : ShopRan h script.asks a.kind desk a.after opened disk_after clock_after s end) where
+    abbrev outcome : Outcome
+    outcome = record {
+      start = first;
+      end = r.new.state.entries;
+      stop = stop_of r.new.stopped r.new.torn;
+      tills = r.tills;
+      opened = desk;
+      answer = r.answer;
+    }
 
-    abbrev span : DaySpan
-    span = span_of a first r.new.state.entries torn r.answer
+    abbrev day : Day
+    day = day_of issuer script None call outcome
+
+    -- the day of this issuer and from this clock on
+    abbrev at : List ℕ → C → Day
+    at n c = record day { issuer = n; coming = h.coming c }
+
+    -- what holds of the shop's day holds of the call's
+    here : (P : Day → Type 0) → P (at opened.state.issuer opened.clock) → P day
+    here P shop = subst (λ (c : C). P (at issuer c)) same_clock (subst (λ (n : List ℕ). P (at n opened.clock)) own shop)
 
     begins : IsPrefix first r.new.state.entries
     begins = record { rest = r.run.sound.begins.0; is = r.run.sound.begins.1 }
 
-    stops : StopsShop (h.faults disk) (h.faults disk_after) r.new.stopped (all_replies r.tills) r.answer
-    stops = stops_since (h.faults disk) (h.faults opened.disk) (h.faults disk_after) r.new.stopped (all_replies r.tills) r.answer
-        later
-        (subst (λ (d : D). StopsShop (h.faults opened.disk) (h.faults d) r.new.stopped (all_replies r.tills) r.answer)
-        (sym r.disk) r.run.stops)
+    stop : StopIs day (h.faults disk) (h.faults disk_after) day.stop
+    stop = stop_since day (h.faults disk) (h.faults opened.disk) (h.faults disk_after) day.stop later
+        (subst (λ (d : D). StopIs day (h.faults opened.disk) (h.faults d) day.stop) (sym r.disk)
+        (here (λ (d : Day). StopIs d (h.faults opened.disk) (h.faults r.new.disk) d.stop) r.run.stop))
 
-    files : IsTrue h.tells → LeavesNow (h.told r.new.disk) (StandsForEnd opened.state.issuer r.new.state.entries torn)
-    files says = λ c left. either h.tells h.told h.faults h.coming opened r.new r.run.sound c ((r.run.sound.crashes says).whole c
-        left)
+    files : IsTrue h.tells → LeavesNow (h.told r.new.disk) (StandsForEnd issuer r.new.state.entries (torn_of day.stop))
+    files says = λ c left.
+        subst (λ (n : List ℕ). StandsForEnd n r.new.state.entries (torn_of day.stop) c) own
+        (subst (λ (es : List Entry). StandsForEnd opened.state.issuer r.new.state.entries es c) (torn_same r.new.stopped r.new.torn)
+        (either h.tells h.told h.faults h.coming opened r.new r.run.sound c ((r.run.sound.crashes says).whole c left)))
 
-    kept : IsTrue h.tells → KeptDay (StandsSince issuer first r.new.state.entries torn) issuer r.new.state.entries torn
-        (synced (h.told disk)) (h.told disk_after)
-    kept says =
-        subst (λ (d : D). KeptDay (StandsSince issuer first r.new.state.entries torn) issuer r.new.state.entries torn
-        (synced (h.told disk)) (h.told d)) (sym r.disk)
-        (subst (λ (n : List ℕ). KeptDay (StandsSince n first r.new.state.entries torn) n r.new.state.entries torn
-        (synced (h.told disk)) (h.told r.new.disk)) own (record {
-          each_moment = follows (synced (h.told disk)) (h.told opened.disk) (h.told r.new.disk)
-              (IsFound opened.state.issuer first) (StandsBetween opened.state.issuer first r.new.state.entries torn)
-              (StandsSince opened.state.issuer first r.new.state.entries torn)
-              (subst (λ (n : List ℕ). LeavesOnly (synced (h.told disk)) (h.told opened.disk) (IsFound n first)) (sym own)
-              (any_moment says))
-              (weaker (h.told opened.disk) (h.told r.new.disk) _ (StandsBetween opened.state.issuer first r.new.state.entries
-              torn) (r.run.sound.crashes says).since (between h.tells h.told h.faults h.coming opened r.new r.run.sound))
-              (λ c here. since_found opened.state.issuer first r.new.state.entries torn c begins here) (λ c here. inr here);
-          every_crash = files says;
-          reads = files says (h.told r.new.disk).content (inl (refl, reads r.new.disk says));
-        }))
+    moments : IsTrue h.tells → LeavesOnly (synced (h.told disk)) (h.told r.new.disk)
+        (StandsSince issuer first r.new.state.entries (torn_of day.stop))
+    moments says =
+        subst (λ (n : List ℕ). LeavesOnly (synced (h.told disk)) (h.told r.new.disk) (StandsSince n first r.new.state.entries
+        (torn_of day.stop))) own
+        (subst (λ (es : List Entry). LeavesOnly (synced (h.told disk)) (h.told r.new.disk) (StandsSince opened.state.issuer first
+        r.new.state.entries es)) (torn_same r.new.stopped r.new.torn) since)
+      where
+        since : LeavesOnly (synced (h.told disk)) (h.told r.new.disk) (StandsSince opened.state.issuer first r.new.state.entries
+            (torn_in r.new.stopped r.new.torn))
+        since = follows (synced (h.told disk)) (h.told opened.disk) (h.told r.new.disk)
+            (IsFound opened.state.issuer first) (StandsBetween opened.state.issuer first r.new.state.entries
+            (torn_in r.new.stopped r.new.torn))
+            (StandsSince opened.state.issuer first r.new.state.entries (torn_in r.new.stopped r.new.torn))
+            (subst (λ (n : List ℕ). LeavesOnly (synced (h.told disk)) (h.told opened.disk) (IsFound n first)) (sym own)
+            (any_moment says))
+            (weaker (h.told opened.disk) (h.told r.new.disk) _ (StandsBetween opened.state.issuer first r.new.state.entries
+            (torn_in r.new.stopped r.new.torn)) (r.run.sound.crashes says).since
+            (between h.tells h.told h.faults h.coming opened r.new r.run.sound))
+            (λ c here. since_found opened.state.issuer first r.new.state.entries (torn_in r.new.stopped r.new.torn) c begins here)
+            (λ c here. inr here)
 
-    session : DaySession a.kind.begun plan span
-    session = record {
-      opened = desk;
-      opens = opens;
-      sends = r.sends;
-      agreement = λ keeps agree.
-          let sent = (opens.lists (rules_tell keeps)).sent in
-          let there : Agree first desk.ledger.processed desk.ledger.sent =
-          subst (λ (ps : List _). Agree first ps desk.ledger.sent) (sym (opens.rules keeps))
-          (subst (λ (ss : List _). Agree first (a.kind.begun (desk_before a).ledger.processed (noted_pairs first)) ss)
-          (sym sent) agree) in
-          let still = r.sends.agreement keeps there in
-          record { whole = still.whole; torn = still.torn; no_contradiction = still.no_contradiction };
+    crashes : EachCrash day call.disk
+    crashes = record {
+      found = found;
+      stop = stop;
+      kept = λ says.
+          subst (λ (d : D). Kept (StandsSince issuer first r.new.state.entries (torn_of day.stop)) issuer r.new.state.entries
+          (torn_of day.stop) (synced (h.told disk)) (h.told d)) (sym r.disk) (record {
+            each_moment = moments says;
+            every_crash = files says;
+            reads = files says (h.told r.new.disk).content (inl (refl, reads r.new.disk says));
+          });
     }
 
-    images : IsTrue h.tells → StaysAgreed span → LeavesNow (h.told disk_after) (AgreesInFile issuer (desk_after a))
-    images says agrees =
-        subst (λ (d : D). LeavesNow (h.told d) (AgreesInFile issuer (desk_after a))) (sym r.disk)
-        (subst (λ (n : List ℕ). LeavesNow (h.told r.new.disk) (AgreesInFile n (desk_after a))) own
-        (λ c left. in_file c (files says c left)))
-      where
-        in_file : (c : List ℕ) → StandsForEnd opened.state.issuer r.new.state.entries torn c → AgreesInFile opened.state.issuer
-            (desk_after a) c
-        in_file c (inl x) = (_, x, agrees.whole)
-        in_file c (inr x) = (_, x, agrees.torn)
+    tills : EachTill day
+    tills = record {
+      are = r.tills_are;
+      served = here (λ (d : Day). AllByRecursion (TillServed d) r.tills) r.run.served;
+      others = λ till none. r.run.others till (none_of script.asks r.tills till r.tills_are none);
+    }
 
-    served : Served issuer asks plan (h.coming clock) (IsLater h.coming clock clock_after) disks a
-    served = record {
-      start = first;
-      tills = r.tills;
-      end = r.new.state.entries;
-      stopped = r.new.stopped;
-      torn = torn;
-      answer = r.answer;
-      found = found;
-      tills_are = r.tills_are;
-      served = subst (λ (c : C). AllByRecursion (TillServed issuer (h.coming c) first r.new.state.entries r.new.stopped asks)
-          r.tills) same_clock
-          (subst (λ (n : List ℕ). AllByRecursion (TillServed n (h.coming opened.clock) first r.new.state.entries r.new.stopped
-          asks) r.tills) own r.run.served);
-      others = λ till none. r.run.others till (none_of asks r.tills till r.tills_are none);
+    history : HistoryGoesOn day
+    history = record {
       begins = begins;
       legal = subst (λ (n : List ℕ). Legal n r.new.state.entries) own r.run.sound.legal;
       linked = subst (λ (n : List ℕ). Linked n (recs r.new.state.entries)) own r.linked;
       rising = r.rising;
-      stops = stops;
-      at_most_one = torn_one r.new.stopped r.new.torn;
-      by_a_fault = λ all faultless. none_torn (h.faults disk) (h.faults disk_after) (all_replies r.tills) r.answer r.new.stopped
-          r.new.torn stops all faultless;
-      made = subst (λ (c : C). AllByRecursion (IsCutOffInDay issuer (h.coming c) r.new.state.entries asks r.tills r.answer) torn)
-          same_clock
-          (subst (λ (n : List ℕ). AllByRecursion (IsCutOffInDay n (h.coming opened.clock) r.new.state.entries asks r.tills
-          r.answer) torn) own r.run.made);
-      torn_risen = torn_day (h.faults disk) (h.faults disk_after) r.new.stopped r.new.torn (all_replies r.tills) r.answer stops;
-      kept = kept;
-      session = session;
-      images = images;
-      rest = subst (λ (c : C). IsLater h.coming clock c) (sym r.clock) (subst (λ (c : C). IsLater h.coming c r.new.clock)
-          same_clock r.run.sound.clock);
     }
 
+    sends : SendsBeside day
+    sends = here (λ (d : Day). SendsBeside d) r.run.sends
+
+    agency : ItsAgency day script.plan a call.disk
+    agency = record {
+      opens = opens;
+      sends = sends;
+      agreement = λ keeps agree.
+          let sent = (opens.lists (rules_tell keeps)).sent in
+          sends.agreement keeps
+          (subst (λ (ps : List _). Agree first ps desk.ledger.sent) (sym (opens.rules keeps))
+          (subst (λ (ss : List _). Agree first (a.begun a.before.ledger.processed (noted_pairs first)) ss)
+          (sym sent) agree));
+      images = λ says agrees.
+          subst (λ (d : D). LeavesNow (h.told d) (AgreesInFile issuer a.after)) (sym r.disk)
+          (λ c left. in_file c agrees (files says c left));
+    }
+      where
+        in_file : (c : List ℕ) → StaysAgreed day → StandsForEnd issuer r.new.state.entries (torn_of day.stop) c →
+            AgreesInFile issuer a.after c
+        in_file c agrees (inl x) = (_, x, agrees.whole)
+        in_file c agrees (inr x) = (_, x, agrees.torn)
+
     abbrev Failing : ℕ → ℕ → Type 0
-    Failing n m = (n < m) × (a.kind.faults a.agency_after < 2 ^ 64 - 1 → a.kind.faults a.agency + MAX_LINK_FAULTS ≤ a.kind.faults
-        a.agency_after)
+    Failing n m = (n < m) × (day.after.faults < 2 ^ 64 - 1 → a.before.faults + MAX_LINK_FAULTS ≤ day.after.faults)
 
     eight_failed : (n m : ℕ) → r.answer ≡ Err (drain.Undelivered n m) → Failing (length (noted r.new.state.entries))
         (length (recs r.new.state.entries))
-    eight_failed n m e = let counts = r.sends.counts n m e in (
+    eight_failed n m e = let counts = sends.counts n m e in (
       omega (arith, counts.noted_is, counts.within, counts.some),
-      λ below. let more = r.sends.undelivered n m e below in let same = opens.faults in
+      λ below. let more = sends.undelivered n m e below in let same = opens.faults in
           omega (arith, more, same),
     )
 
     abbrev Ends : Detail → Type 0
     Ends how = DayRunEnds (all_replies r.tills) r.answer (length (noted r.new.state.entries)) (length (recs r.new.state.entries))
-        (day_text asks r.tills r.new.state.entries) s how
+        (day_text script.asks r.tills r.new.state.entries) s how
 
     failed : (how : Detail) → Ends how → (n m : ℕ) → how ≡ detail.Undelivered n m → Failing n m
     failed how (undelivered x y all e w) n m is =
@@ -284,7 +300,7 @@ module _ {D C Z G : Type 0} (h : StoreKind D C) (issuer : List ℕ) (asks : List
         subst (λ (i : ℕ). Failing i m) one (subst (λ (j : ℕ). Failing lines j) two (eight_failed x y e))
     failed how _ n m is = absurd cc
 
-    completed : (how : Detail) → Ends how → NothingRose s disks a → IsTrue a.kind.keeps_rules → AgreesAtStart a first →
+    completed : (how : Detail) → Ends how → NothingRose s call.disk a → IsTrue a.kind.keeps_rules → AgreesAtStart a first →
         (how ≡ detail.Done) ⊎ (how ≡ detail.NoMemory)
     completed how (done all e same w) none keeps agree = inl refl
     completed how (no_memory w) none keeps agree = inr refl
@@ -292,25 +308,24 @@ module _ {D C Z G : Type 0} (h : StoreKind D C) (issuer : List ℕ) (asks : List
     completed how (undelivered n m all e w) none keeps agree =
         let u = eight_failed n m e in
         absurd (none.agency (λ below. let more = u.1 below in omega (arith, more)))
-    completed how (contradiction evidence all e w) none keeps agree = absurd ((session.agreement keeps agree).no_contradiction
+    completed how (contradiction evidence all e w) none keeps agree = absurd ((agency.agreement keeps agree).no_contradiction
         evidence e)
-    completed how (disk_fault memory sender some w) none keeps agree =
-        absurd (none.disk (rose_day (h.faults disk) (h.faults disk_after) r.new.stopped (all_replies r.tills) r.answer stops
-        some))
+    completed how (disk_fault memory kept some w) none keeps agree =
+        absurd (none.disk (rose_day day (h.faults disk) (h.faults disk_after) day.stop stop some))
 
     abbrev Shown : Evidence → Type 0
-    Shown evidence = ShowsLast r.new.state.entries desk.ledger.messages (desk_after a).ledger.messages evidence
+    Shown evidence = ShowsLast r.new.state.entries desk.ledger.messages a.after.ledger.messages evidence
 
     only_shown : (how : Detail) → Ends how → IsTrue a.kind.tells → (evidence : Evidence) → how ≡ detail.Contradiction evidence →
         Shown evidence
     only_shown how (contradiction found all e w) says evidence is =
         let same : found ≡ evidence = cc in
-        r.sends.contrary says evidence (e ∙ ap (λ (x : Evidence). Err (drain.Contradiction x)) same)
+        sends.contrary says evidence (e ∙ ap (λ (x : Evidence). Err (drain.Contradiction x)) same)
     only_shown how _ says evidence is = absurd cc
 
     each_shown : (how : Detail) → Ends how → IsTrue a.kind.tells → (evidence : Evidence) → Shown evidence →
         (how ≡ detail.Contradiction evidence) ⊎ (how ≡ detail.NoMemory) ⊎ (how ≡ detail.DiskFault)
-    each_shown how ends says evidence shows = by_answer how ends (r.sends.shown says evidence shows)
+    each_shown how ends says evidence shows = by_answer how ends (sends.shown says evidence shows)
       where
         by_answer : (how : Detail) → Ends how → IsErrOf r.answer (drain.Contradiction evidence) ⊎ (r.answer ≡ Err drain.NoMemory)
             → (how ≡ detail.Contradiction evidence) ⊎ (how ≡ detail.NoMemory) ⊎ (how ≡ detail.DiskFault)
@@ -323,35 +338,27 @@ module _ {D C Z G : Type 0} (h : StoreKind D C) (issuer : List ℕ) (asks : List
         by_answer how (contradiction found all e w) (inl is) = let f = sym e ∙ is in let same : found ≡ evidence = cc in
             inl (ap (λ (x : Evidence). detail.Contradiction x) same)
         by_answer how (contradiction found all e w) (inr none) = absurd (let f = sym e ∙ none in cc)
-        by_answer how (disk_fault memory sender some w) shown = inr (inr refl)
+        by_answer how (disk_fault memory kept some w) shown = inr (inr refl)
         by_answer how (no_memory w) shown = inr (inl refl)
 
-    day_served : DayServed issuer asks plan (h.coming clock) (IsLater h.coming clock clock_after) s disks a end
-    unfolding served session
-    day_served = record {
-      day = served;
-      ends = r.ends;
-      undelivered = failed end r.ends;
-      contrary = only_shown end r.ends;
-      shown = each_shown end r.ends;
-      complete = completed end r.ends;
-    }
-
-  -- the day of an opened store is one of its file, from its opening on
-  pub store_day : StoreDayEnds (LeftSleeper z) h a.kind.begun plan asks (kind_of a) (desk_before a) (desk_after a) opened
-      disk_after clock_after s end →
-      TillsEnd issuer asks plan (h.coming clock) (AllLeft clocks z a) (LeftTime clocks z) (IsLater h.coming clock clock_after) s
-      disks a end
-  store_day (inl l) = inr (inr (inl (left_opened l.0 (inl l.1))))
-  store_day (inr d) = by_served d.served
-    where
-      by_served : (ShopLeft (LeftSleeper z) opened disk_after clock_after s end × (desk_after a ≡ d.opened)) ⊎
-          ShopRan h asks (kind_of a) d.opened (desk_after a) opened disk_after clock_after s end →
-          TillsEnd issuer asks plan (h.coming clock) (AllLeft clocks z a) (LeftTime clocks z) (IsLater h.coming clock clock_after)
-          s disks a end
-      by_served (inl l) = inr (inr (inl (left_opened l.0 (inr (subst (λ (k : Desk). OpensSession (kind_of a) a.kind.begun plan
-          first (desk_before a) k) (sym l.1) d.opens)))))
-      by_served (inr r) = inr (inr (inr (day_served d.opened d.opens r)))
+    -- the day of an opened store is one of its file, from its opening on
+    pub day_done : Ended
+    day_done = inr (inr (inr (record {
+      outcome = outcome;
+      history = history;
+      tills = tills;
+      crashes = crashes;
+      agency = agency;
+      ends = record {
+        cause = r.ends;
+        undelivered = failed end r.ends;
+        contrary = only_shown end r.ends;
+        shown = each_shown end r.ends;
+        complete = completed end r.ends;
+      };
+      time = subst (λ (c : C). IsLater h.coming clock c) (sym r.clock) (subst (λ (c : C). IsLater h.coming c r.new.clock)
+          same_clock r.run.sound.clock);
+    })))
 
 -- a till run by readings of one kind is one by readings of another kind that gives the same
 till_run_by : (issuer : List ℕ) (start end : List Entry) (old new : ℕ → Option ℕ) → ((k : ℕ) → old k ≡ new k) →
@@ -369,122 +376,148 @@ till_run_by issuer start end old new same (told_stop asks replies seen mark ask 
 till_run_by issuer start end old new same (without_memory asks replies seen ask before) = without_memory asks replies seen ask
     (till_run_by issuer start end old new same before)
 
-till_by : (issuer : List ℕ) (start end : List Entry) (count : Option ℕ) (asks : List Asked) (old new : ℕ → Option ℕ) →
-    ((k : ℕ) → old k ≡ new k) → (t : TillReplies) → TillServed issuer old start end count asks t → TillServed issuer new start end
-    count asks t
-till_by issuer start end count asks old new same t h = record {
-  last = h.last;
-  told = h.told;
-  run = till_run_by issuer start end old new same h.run;
-  own = h.own;
-  at_least = h.at_least;
-  at_most = h.at_most;
-}
+-- A day by readings of one kind is one by readings of another kind that gives the same.
+module _ (d : Day) (new : ℕ → Option ℕ) (same : (k : ℕ) → d.coming k ≡ new k) where
+  abbrev other : Day
+  other = record d { coming = new }
 
-cut_off_by : (issuer : List ℕ) (end : List Entry) (asks : List Asked) (tills : List TillReplies)
-    (answer : Result (Unit {0}) DrainFault) (old new : ℕ → Option ℕ) → ((k : ℕ) → old k ≡ new k) → (e : Entry) →
-    IsCutOffInDay issuer old end asks tills answer e → IsCutOffInDay issuer new end asks tills answer e
-cut_off_by issuer end asks tills answer old new same e (inl by) =
-    let c = by.2 in
-    inl (
-      by.0,
-      by.1,
+  till_by : (t : TillReplies) → TillServed d t → TillServed other t
+  till_by t h = record {
+    last = h.last;
+    told = h.told;
+    run = till_run_by d.issuer d.start d.end d.coming new same h.run;
+    own = h.own;
+    at_least = h.at_least;
+    at_most = h.at_most;
+  }
+
+  recorded_by : (e : Entry) → RecordedBy d e → RecordedBy other e
+  recorded_by e (by_till t among c) = by_till t among (record {
+    place = c.place;
+    told = c.told;
+    ask = c.ask;
+    asked = c.asked;
+    seconds = c.seconds;
+    reading = (c.reading.0, subst (λ (o : Option ℕ). IsTold o c.seconds) (same c.reading.0) c.reading.1);
+    made = c.made;
+  })
+  recorded_by e (sender notes failed) = sender notes failed
+
+  stop_by : (faults after : ℕ) (stop : Option Stop) → StopIs d faults after stop → StopIs other faults after stop
+  stop_by faults after None is = is
+  stop_by faults after (Some stop) is = record {
+    by = recorded_by stop.torn is.by;
+    told = is.told;
+    risen = is.risen;
+    within = is.within;
+  }
+
+  agreed_by : StaysAgreed d → StaysAgreed other
+  agreed_by a = record { whole = a.whole; torn = a.torn; no_contradiction = a.no_contradiction }
+
+  agreed_back : StaysAgreed other → StaysAgreed d
+  agreed_back a = record { whole = a.whole; torn = a.torn; no_contradiction = a.no_contradiction }
+
+  sends_by : SendsBeside d → SendsBeside other
+  sends_by h = record {
+    agreement = λ keeps agree. agreed_by (h.agreement keeps agree);
+    careful = h.careful;
+    says = h.says;
+    contrary = h.contrary;
+    shown = h.shown;
+    none_before = h.none_before;
+    lines = h.lines;
+    torn_lines = h.torn_lines;
+    later = h.later;
+    counts = h.counts;
+    undelivered = h.undelivered;
+    gives_up = h.gives_up;
+  }
+
+-- the same end, said of a call whose clock line replaced clock and sleeper by these
+module _ {D C Z O P G : Type 0} (issuer : List ℕ) (script : Script) (line : ℕ × ℕ) (c : Around D C Z G) (by : Clocks O)
+    (with : Sleepers P)
+    (same : (k : ℕ) → by.coming by.clock k ≡ readings_of (Some line) (c.clock.coming c.clock.clock) k) (clock : LeftClock c.clock)
+    (sleeper : LeftSleeper c.sleeper) (end : Detail) where
+  abbrev own : Around D O P G
+  own = record { sink = c.sink; disk = c.disk; clock = by; sleeper = with; agency = c.agency }
+
+  all_left : AllLeft by with c.agency → AllLeft c.clock c.sleeper c.agency
+  all_left left = record { clock = clock; sleeper = sleeper; agency = left.agency }
+
+  served_by : DayServed issuer script None own end → DayServed issuer script (Some line) c end
+  served_by h =
+      let d : Day = day_of issuer script None own h.outcome in
+      let new : ℕ → Option ℕ = readings_of (Some line) (c.clock.coming c.clock.clock) in
       record {
-        place = c.place;
-        told = c.told;
-        ask = c.ask;
-        asked = c.asked;
-        seconds = c.seconds;
-        reading = (c.reading.0, subst (λ (o : Option ℕ). IsTold o c.seconds) (same c.reading.0) c.reading.1);
-        made = c.made;
-      },
-    )
-cut_off_by issuer end asks tills answer old new same e (inr notes) = inr notes
+        outcome = h.outcome;
+        history = record {
+          begins = h.history.begins;
+          legal = h.history.legal;
+          linked = h.history.linked;
+          rising = h.history.rising;
+        };
+        tills = record {
+          are = h.tills.are;
+          served = each_weaker (TillServed d) (TillServed (record d { coming = new })) h.outcome.tills (till_by d new same)
+              h.tills.served;
+          others = h.tills.others;
+        };
+        crashes = record {
+          found = h.crashes.found;
+          stop = stop_by d new same (c.disk.faults c.disk.disk) (c.disk.faults c.disk.disk_after) h.outcome.stop h.crashes.stop;
+          kept = h.crashes.kept;
+        };
+        agency = record {
+          opens = h.agency.opens;
+          sends = sends_by d new same h.agency.sends;
+          agreement = λ keeps agree. agreed_by d new same (h.agency.agreement keeps agree);
+          images = λ says agrees. h.agency.images says (agreed_back d new same agrees);
+        };
+        ends = record {
+          cause = h.ends.cause;
+          undelivered = h.ends.undelivered;
+          contrary = h.ends.contrary;
+          shown = h.ends.shown;
+          complete = h.ends.complete;
+        };
+        time = (clock, sleeper);
+      }
 
--- the same end, said of other readings, of another clock and of another sleeper
-pub tills_by : {D G : Type 0} (issuer : List ℕ) (asks : List Asked) (plan : Plan) (old new : ℕ → Option ℕ)
-    (untouched unread unserved unasked' left leaves : Type 0) (s : Sinks) (k : Disks D) (a : Agencies G) (end : Detail) →
-    ((i : ℕ) → old i ≡ new i) → (untouched → unread) → (unserved → unasked') → (left → leaves) →
-    TillsEnd issuer asks plan old untouched unserved left s k a end → TillsEnd issuer asks plan new unread unasked' leaves s k a
-    end
-tills_by issuer asks plan old new untouched unread unserved unasked' left leaves s k a end same u v l (inl h) =
-    inl (no_room_by u h)
-tills_by issuer asks plan old new untouched unread unserved unasked' left leaves s k a end same u v l (inr (inl h)) =
-    inr (inl (not_opened_by u h))
-tills_by issuer asks plan old new untouched unread unserved unasked' left leaves s k a end same u v l (inr (inr (inl h))) =
-    inr (inr (inl (record {
-      ends = h.ends;
-      start = h.start;
-      found = h.found;
-      kept = h.kept;
-      begun = h.begun;
-      wrote = h.wrote;
-      rest = v h.rest;
-    })))
-tills_by issuer asks plan old new untouched unread unserved unasked' left leaves s k a end same u v l (inr (inr (inr h))) =
-    let p = h.day in
-    inr (inr (inr (record {
-      day = record {
-        start = p.start;
-        tills = p.tills;
-        end = p.end;
-        stopped = p.stopped;
-        torn = p.torn;
-        answer = p.answer;
-        found = p.found;
-        tills_are = p.tills_are;
-        served = each_weaker (TillServed issuer old p.start p.end p.stopped asks) (TillServed issuer new p.start p.end p.stopped
-            asks) p.tills (till_by issuer p.start p.end p.stopped asks old new same) p.served;
-        others = p.others;
-        begins = p.begins;
-        legal = p.legal;
-        linked = p.linked;
-        rising = p.rising;
-        stops = p.stops;
-        at_most_one = p.at_most_one;
-        by_a_fault = p.by_a_fault;
-        torn_risen = p.torn_risen;
-        made = each_weaker (IsCutOffInDay issuer old p.end asks p.tills p.answer)
-            (IsCutOffInDay issuer new p.end asks p.tills p.answer) p.torn
-            (cut_off_by issuer p.end asks p.tills p.answer old new same) p.made;
-        kept = p.kept;
-        session = p.session;
-        images = p.images;
-        rest = l p.rest;
-      };
-      ends = h.ends;
-      undelivered = h.undelivered;
-      contrary = h.contrary;
-      shown = h.shown;
-      complete = h.complete;
-    })))
+  pub by_line : FileDay issuer script None own end → FileDay issuer script (Some line) c end
+  by_line (inl h) = inl (
+    h.0,
+    record { wrote = h.1.wrote; disk = h.1.disk; clock = clock; sleeper = sleeper; agency = h.1.agency },
+  )
+  by_line (inr (inl h)) = inr (inl (not_opened_by all_left h))
+  by_line (inr (inr (inl h))) = inr (inr (inl (record {
+    ends = h.ends;
+    start = h.start;
+    found = h.found;
+    kept = h.kept;
+    begun = h.begun;
+    wrote = h.wrote;
+    clock = clock;
+    sleeper = sleeper;
+  })))
+  by_line (inr (inr (inr h))) = inr (inr (inr (served_by h)))
 
-module _ {D G : Type 0} (issuer : List ℕ) (asks : List Asked) (plan : Plan) (coming : ℕ → Option ℕ) (s : Sinks) (k : Disks D)
-    (a : Agencies G) where
-  rose_served : (left : Type 0) (end : Detail) (p : Served issuer asks plan coming left k a) → DayRunEnds (all_replies p.tills)
-      p.answer (length (noted p.end)) (length (recs p.end)) (day_text asks p.tills p.end) s end → end ≡ detail.DiskFault →
-      DiskRose k
-  rose_served left end p (disk_fault memory sender some w) is = rose_day (k.faults k.disk) (k.faults k.disk_after) p.stopped
-      (all_replies p.tills) p.answer p.stops some
-  rose_served left end p _ is = absurd cc
+module _ {D C Z G : Type 0} (issuer : List ℕ) (script : Script) (line : Option (ℕ × ℕ)) (c : Around D C Z G) where
+  rose_served : (d : Day) → StopIs d (c.disk.faults c.disk.disk) (c.disk.faults c.disk.disk_after) d.stop → (end : Detail) →
+      DayRunEnds (all_replies d.tills) d.answer (length (noted d.end)) (length (recs d.end)) (day_text d.asks d.tills d.end) c.sink
+      end → end ≡ detail.DiskFault → DiskRose c.disk
+  rose_served d stop end (disk_fault memory kept some w) is = rose_day d (c.disk.faults c.disk.disk)
+      (c.disk.faults c.disk.disk_after) d.stop stop some
+  rose_served d stop end _ is = absurd cc
 
-  rose_tills : (untouched unserved left : Type 0) (end : Detail) → TillsEnd issuer asks plan coming untouched unserved left s k a
-      end → end ≡ detail.DiskFault → DiskRose k
-  rose_tills untouched unserved left end (inl h) is = let none = sym h.ends ∙ is in absurd cc
-  rose_tills untouched unserved left end (inr (inl h)) is = rose_opening h.why k h.risen (sym h.ends ∙ is)
-  rose_tills untouched unserved left end (inr (inr (inl h))) is = let none = sym h.ends ∙ is in absurd cc
-  rose_tills untouched unserved left end (inr (inr (inr h))) is = rose_served left end h.day h.ends is
+  rose_file : (end : Detail) → FileDay issuer script line c end → end ≡ detail.DiskFault → DiskRose c.disk
+  rose_file end (inl h) is = let none = sym h.0 ∙ is in absurd cc
+  rose_file end (inr (inl h)) is = rose_opening h.why c.disk h.risen (sym h.ends ∙ is)
+  rose_file end (inr (inr (inl h))) is = let none = sym h.ends ∙ is in absurd cc
+  rose_file end (inr (inr (inr h))) is = rose_served (day_of issuer script line c h.outcome) h.crashes.stop end h.ends.cause is
 
--- the end of a day that read its script is that of its tills
+-- the end of a day that read its script is that of its file
 pub day_ran : {D C Z G : Type 0} (issuer : List ℕ) (d : AllDevices D C Z G) (script : Script) (end : Detail) →
-    IsGoodScript Full d.devices.source script →
-    TillsEnd issuer script.asks script.plan (readings_of script.clock (d.devices.clock.coming d.devices.clock.clock))
-    (AllLeft d.devices.clock d.sleeper d.agency) (LeftTime d.devices.clock d.sleeper) (LeavesTime script.clock d.devices.clock
-    d.sleeper) d.devices.sink d.devices.disk d.agency end →
-    DayEnds issuer d end
-day_ran issuer d script end good h = ran script end good (record {
-  ends = h;
-  risen = rose_tills issuer script.asks script.plan (readings_of script.clock (d.devices.clock.coming d.devices.clock.clock))
-      d.devices.sink d.devices.disk d.agency (AllLeft d.devices.clock d.sleeper d.agency) (LeftTime d.devices.clock d.sleeper)
-      (LeavesTime script.clock d.devices.clock d.sleeper) end h;
-})
+    IsGoodScript Full d.devices.source script → FileDay issuer script script.clock (around d) end → DayEnds issuer d end
+day_ran issuer d script end good h =
+    ran script end good (record { ends = h; risen = rose_file issuer script script.clock (around d) end h })

@@ -1,10 +1,9 @@
 -- A day of tills, from their rows to the history at its end.
-use Rattle.std.proofs.Common.{◌≡◌, ◌⊎◌, inl, inr, ℕ, zero, suc, ◌<◌, ◌≤◌, Bool, true, false, List, [], ◌∷◌, ◌++◌, length, drop}
+use Rattle.std.proofs.Common.{◌≡◌, inl, inr, ℕ, zero, suc, ◌<◌, ◌≤◌, Bool, true, false, List, [], ◌∷◌, ◌++◌, length, drop}
 use Rattle.std.proofs.Common.{map, All, Option, Some, None, Result, Ok, Err, slice_get, refl, ap, sym, ◌∙◌, subst, arith}
 use Rattle.std.specs.Prelude.{◌≢◌, AllPairs, Contains, IsSome}
 use Rattle.std.specs.List.{AllByRecursion, flat_map}
 use Rattle.std.proofs.lemmas.List.{append-nil, get_or-map, length-append, length-map}
-use Rattle.std.proofs.lemmas.List.Elements.{Contains-append_left, Contains-append_right}
 use Rattle.std.proofs.lemmas.List.Folds.{flat_map-map}
 use Rattle.std.proofs.lemmas.List.Sums.{sum_by_push}
 use Rattle.std.proofs.lemmas.Option.{get_or_from_slice_get, slice_get_within}
@@ -25,13 +24,17 @@ use Rattle.till_calls.specs.Laws.{AddsForNoOther, AddsWhatIsTaken, OwnsRecordsAn
 use Rattle.till_calls.specs.Own.{OwnsNone, is_of, records_of, AreTaken as TakenItems}
 use Rattle.till_calls.specs.Mark.{sight_by}
 use Rattle.till_calls.specs.Root.{Root, Parts, items_in, stop_in}
-use Rattle.till_calls.specs.Sound.{HasStopped, IsSound}
+use Rattle.till_calls.specs.Sound.{IsSound}
 use Rattle.sender.specs.Agreeing.{Adds, AreNotes, AreNotesOrTorn}
 use Rattle.sender.specs.declared.answers.DrainFault.{DrainFault}
-use Rattle.verifactu.specs.Draining.{IsDiskAnswer, IsFaultless, torn_in}
+use Rattle.sender.specs.Turning.{Desk, Kind}
+use Rattle.verifactu.specs.Beside.{SendsBeside}
+use Rattle.verifactu.specs.Days.{Day, TillReplies, all_replies, shop_day, stop_of}
+use Rattle.verifactu.specs.Draining.{IsDiskAnswer, IsFaultless}
 use Rattle.verifactu.specs.Replies.{IsGoingOn, Replies}
-use Rattle.verifactu.specs.Tills.{AreTaken, DayRun, IsCutOffBy, IsCutOffInDay, StopsShop, TellsStop, TillServed, TillReplies}
-use Rattle.verifactu.specs.Tills.{all_replies, asks_of, is_from, own_of, stops_in}
+use Rattle.verifactu.specs.Tills.{AreTaken, DayRun, IsCutOffBy, RecordedBy, StopIs, TellsStop, TillServed, asks_of, is_from}
+use Rattle.verifactu.specs.Tills.{own_of, stops_in}
+use Rattle.verifactu.specs.Tills.RecordedBy.{sender, till as by_till}
 use Rattle.verifactu.specs.Works.{Ran, Row, Worked, told_in}
 use Rattle.verifactu.specs.declared.tills.TillDay.{TillDay}
 use Rattle.verifactu.proofs.Each.{each_both, each_front, each_map, each_of_all, each_piece, each_unmap, each_weaker}
@@ -114,23 +117,14 @@ in_map {A} f xs x c = (
   get_or-map f xs c.0 x (f x) c.1 ∙ ap f c.2,
 )
 
-in_piece : {A B : Type 0} (f : A → List B) (xs : List A) (x : A) (y : B) → Contains xs x → Contains (f x) y →
-    Contains (flat_map f xs) y
-in_piece f [] x y c has = absurd (let l = c.1 in omega (arith, l))
-in_piece {A} {B} f (z ∷ zs) x y (zero, l, is) has =
-    Contains-append_left (f z) (flat_map f zs) y (subst (λ (v : A). Contains (f v) y) (sym is) has)
-in_piece f (z ∷ zs) x y (suc k, l, is) has =
-    Contains-append_right (f z) (flat_map f zs) y (in_piece f zs x y (k, omega (arith, l), is) has)
-
 no_some : (o : Option ℕ) → o ≡ None → IsSome o → ⊥
 no_some None e some = absurd (let x = some in cc)
 no_some (Some n) e some = absurd (let x = e in cc)
 
-stop_size : {D C : Type 0} (faults : D → ℕ) (root : Root C) (p : Parts D C) → ((count : ℕ) → p.stopped ≡ Some count →
-    HasStopped faults root p count) → (s : Option ℕ) → p.stopped ≡ s → length (stop_in p.stopped p.torn) ≡ stops_in s
-stop_size faults root p stop None e = ap (λ (o : Option ℕ). length (stop_in o p.torn)) e
-stop_size faults root p stop (Some count) e = let h = stop count e in ap (λ (o : Option ℕ). length (stop_in o p.torn)) e ∙
-    ap (λ (o : Option Entry). length (stop_in (Some count) o)) h.torn_is
+stop_size : (stopped : Option ℕ) (torn : Option Entry) → length (stop_in stopped torn) ≡ stops_in (stop_of stopped torn)
+stop_size (Some count) (Some torn) = refl
+stop_size (Some count) None = refl
+stop_size None torn = refl
 
 same_tills : {C : Type 0} (coming : C → ℕ → Option ℕ) (asks : List Asked) (rows : List (Row C)) →
     AllByRecursion (λ (r : Row C). Worked coming asks r) rows → map (λ (r : Row C). r.done.till) rows ≡ map
@@ -181,11 +175,12 @@ module _ {D C : Type 0} (tells : Bool) (tell : D → OnDisk) (faults : D → ℕ
   served : (base : List Item) → length base ≡ length root.history → Sound → (r : Row C) → RowTold coming asks base root p.stopped
       p.torn p.state.entries for_no_other what_is_taken r →
       TakenItems r.done.answers.items (records_of r.done.till (drop (length base) (items_in p))) →
-      TillServed root.issuer (coming root.clock) root.history p.state.entries p.stopped asks (told_in r.done)
-  served base size sound r t own_items =
+      (tills : List TillReplies) (kind : Kind) (opened after : Desk) (answer : Result (Unit {0}) DrainFault) →
+      TillServed (shop_day coming asks root p tills kind opened after answer) (told_in r.done)
+  served base size sound r t own_items tills kind opened after answer =
       let total = length-append (map item.Entry p.state.entries) (stop_in p.stopped p.torn) in
       let entries = length-map p.state.entries (λ (x : Entry). item.Entry x) in
-      let stops = stop_size faults root p sound.stop p.stopped refl in
+      let stops = stop_size p.stopped p.torn in
       record {
         last = t.told.seen;
         told = t.told.told;
@@ -196,30 +191,12 @@ module _ {D C : Type 0} (tells : Bool) (tell : D → OnDisk) (faults : D → ℕ
         at_most = (let s = t.saw in omega (arith, s, total, entries, stops));
       }
 
-  stops_by : Sound → (replies : Replies) (answer : Result (Unit {0}) DrainFault) → AllByRecursion (StopTold p.stopped) replies →
-      (IsDiskAnswer answer → IsSome p.stopped) → (s : Option ℕ) → p.stopped ≡ s →
-      (IsSome s → Contains replies (Err DiskFault) ⊎ (IsFaultless answer → ⊥)) →
-      StopsShop root.faults (faults p.disk) s replies answer
-  stops_by sound replies answer each disk None e first_told = (
-    each_weaker (StopTold None) IsGoingOn replies going_on (subst (λ (o : Option ℕ). AllByRecursion (StopTold o) replies) e
-        each),
-    λ is. no_some p.stopped e (disk is),
-  )
-  stops_by sound replies answer each disk (Some count) e first_told =
-      let h = sound.stop count e in
-      record {
-        first = first_told refl;
-        later = each_weaker (StopTold (Some count)) (TellsStop count) replies (tells_stop count)
-            (subst (λ (o : Option ℕ). AllByRecursion (StopTold o) replies) e each);
-        risen = h.rose;
-        within = h.within;
-      }
-
   -- the day of all rows
   module _ (base : List Item) (size : length base ≡ length root.history) (rows : List (Row C)) (seat : Known Item (Root C))
       (distinct : AreDistinct (map (λ (r : Row C). r.done.till) rows))
       (news : AllByRecursion (λ (r : Row C). IsNew base root r.from) rows)
-      (first : Known Item (Root C)) (first_new : IsNew base root first) (answer : Result (Unit {0}) DrainFault)
+      (first : Known Item (Root C)) (first_new : IsNew base root first) (kind : Kind) (opened after : Desk)
+      (answer : Result (Unit {0}) DrainFault)
       (bare : (till : ℕ) → OwnsNone till seat)
       (noted : AllByRecursion (λ (z : ℕ × Item). AreNotesOrTorn z.1 × (IsFaultless answer → AreNotes z.1)) seat.own)
       (disk : IsDiskAnswer answer → IsSome p.stopped) (worked : AllByRecursion (Worked coming asks) rows)
@@ -234,16 +211,18 @@ module _ {D C : Type 0} (tells : Bool) (tell : D → OnDisk) (faults : D → ℕ
     all_told = told coming asks base root p.stopped p.torn p.state.entries for_no_other what_is_taken size rows seat distinct news
         bare worked fits starts since
 
-    all_served : AllByRecursion (λ (r : Row C). TillServed root.issuer (coming root.clock) root.history p.state.entries p.stopped
-        asks (told_in r.done)) rows
-    all_served = each_both RTold (λ (r : Row C). TakenItems r.done.answers.items
-        (records_of r.done.till (drop (length base) (items_in p)))) (λ (r : Row C). TillServed root.issuer (coming root.clock)
-        root.history p.state.entries p.stopped asks (told_in r.done)) rows
-        (served base size sound) all_told (rows_own coming asks base root p.stopped p.torn p.state.entries for_no_other
-        what_is_taken size rows seat distinct news bare worked fits starts since)
-
     abbrev tills : List TillReplies
     tills = map told_in (map (λ (r : Row C). r.done) rows)
+
+    abbrev day : Day
+    day = shop_day coming asks root p tills kind opened after answer
+
+    all_served : AllByRecursion (λ (r : Row C). TillServed day (told_in r.done)) rows
+    all_served = each_both RTold (λ (r : Row C). TakenItems r.done.answers.items
+        (records_of r.done.till (drop (length base) (items_in p)))) (λ (r : Row C). TillServed day (told_in r.done)) rows
+        (λ r t own_items. served base size sound r t own_items tills kind opened after answer) all_told
+        (rows_own coming asks base root p.stopped p.torn p.state.entries for_no_other
+        what_is_taken size rows seat distinct news bare worked fits starts since)
 
     replies_are : all_replies tills ≡ flat_map (λ (r : Row C). r.done.answers.items) rows
     replies_are = flat_map-map (λ (t : TillReplies). t.replies) told_in (map (λ (r : Row C). r.done) rows) ∙
@@ -254,11 +233,8 @@ module _ {D C : Type 0} (tells : Bool) (tell : D → OnDisk) (faults : D → ℕ
         (each_weaker RTold (λ (r : Row C). AllByRecursion (StopTold p.stopped) r.done.answers.items) rows (λ r t. t.told.stops)
         all_told)
 
-    abbrev Cut : Entry → Type 0
-    Cut entry = IsCutOffInDay root.issuer (coming root.clock) p.state.entries asks tills answer entry
-
     -- the entry of the stop is what a till's ask made, or the seat's notes
-    cut_at : (count : ℕ) (e : Entry) → p.stopped ≡ Some count → p.torn ≡ Some e → Cut e
+    cut_at : (count : ℕ) (e : Entry) → p.stopped ≡ Some count → p.torn ≡ Some e → RecordedBy day e
     cut_at count e is torn_is =
         let last : items_in p ≡ map item.Entry p.state.entries ++ item.Stop count e ∷ [] =
         ap (λ (o : Option ℕ). map item.Entry p.state.entries ++ stop_in o p.torn) is ∙
@@ -275,50 +251,46 @@ module _ {D C : Type 0} (tells : Bool) (tell : D → OnDisk) (faults : D → ℕ
           | inl one ↦
               (let same : Some one.cut.entry ≡ Some e = sym one.cut.is ∙ torn_is in
               let entry_is : one.cut.entry ≡ e = (let s = same in cc) in
-              inl (
-                told_in one.row.done,
-                in_map told_in (map (λ (r : Row C). r.done) rows) one.row.done
-                    (in_map (λ (r : Row C). r.done) rows one.row one.among),
-                subst (λ (x : Entry). IsCutOffBy root.issuer (coming root.clock) p.state.entries
-                    (asks_of one.row.done.till asks) one.row.done.answers.items x) entry_is one.cut.by,
-              ))
-          | inr mine ↦ inr mine
+              by_till (told_in one.row.done)
+              (in_map told_in (map (λ (r : Row C). r.done) rows) one.row.done
+              (in_map (λ (r : Row C). r.done) rows one.row one.among))
+              (subst (λ (x : Entry). IsCutOffBy root.issuer (coming root.clock) p.state.entries
+              (asks_of one.row.done.till asks) one.row.done.answers.items x) entry_is one.cut.by))
+          | inr mine ↦ sender mine.0 mine.1
         ]
 
-    cut_in : (s : Option ℕ) (t : Option Entry) → p.stopped ≡ s → p.torn ≡ t → AllByRecursion Cut (torn_in s t)
-    cut_in None t is torn_is = tt
-    cut_in (Some count) None is torn_is = tt
-    cut_in (Some count) (Some e) is torn_is = (cut_at count e is torn_is, tt)
+    each_told : (s : Option ℕ) → p.stopped ≡ s → AllByRecursion (StopTold s) (all_replies tills)
+    each_told s is = subst (λ (o : Option ℕ). AllByRecursion (StopTold o) (all_replies tills)) is
+        (subst (λ (rs : Replies). AllByRecursion (StopTold p.stopped) rs) (sym replies_are) stops_told)
 
-    -- a till was told of the fault, or the sender may have been
-    first_told : (e : Entry) → Cut e → Contains (all_replies tills) (Err DiskFault) ⊎ (IsFaultless answer → ⊥)
-    first_told e (inl by) = inl (in_piece (λ (t : TillReplies). t.replies) tills by.0 (Err DiskFault) by.1
-        (got by.0.replies by.2.place (Err DiskFault) by.2.told))
-    first_told e (inr mine) = inr mine.1
+    stop_at : (s : Option ℕ) (t : Option Entry) → p.stopped ≡ s → p.torn ≡ t → StopIs day root.faults (faults p.disk) (stop_of s t)
+    stop_at None t is torn_is = (
+      each_weaker (StopTold None) IsGoingOn (all_replies tills) going_on (each_told None is),
+      λ failed. no_some p.stopped is (disk failed),
+    )
+    stop_at (Some count) None is torn_is = let none = sym torn_is ∙ (sound.stop count is).torn_is in absurd cc
+    stop_at (Some count) (Some e) is torn_is =
+        let h = sound.stop count is in
+        record {
+          by = cut_at count e is torn_is;
+          told = each_weaker (StopTold (Some count)) (TellsStop count) (all_replies tills) (tells_stop count)
+              (each_told (Some count) is);
+          risen = h.rose;
+          within = h.within;
+        }
 
-    first_told_at : (s : Option ℕ) → p.stopped ≡ s → IsSome s → Contains (all_replies tills) (Err DiskFault) ⊎
-        (IsFaultless answer → ⊥)
-    first_told_at None is some = absurd (let x = some in cc)
-    first_told_at (Some count) is some =
-        let stop = sound.stop count is in
-        first_told stop.torn (cut_at count stop.torn is stop.torn_is)
-
-    pub whole : DayRun tells tell faults coming asks root p tills answer
-    whole = record {
+    pub whole : SendsBeside day → DayRun (record { tells = tells; told = tell; faults = faults; coming = coming }) root p day
+    whole sends = record {
       sound = sound;
-      served = each_map told_in (TillServed root.issuer (coming root.clock) root.history p.state.entries p.stopped asks)
-          (map (λ (r : Row C). r.done) rows)
-          (each_map (λ (r : Row C). r.done) (λ (d : TillDay). TillServed root.issuer (coming root.clock) root.history
-          p.state.entries p.stopped asks (told_in d)) rows all_served);
+      served = each_map told_in (TillServed day) (map (λ (r : Row C). r.done) rows)
+          (each_map (λ (r : Row C). r.done) (λ (d : TillDay). TillServed day (told_in d)) rows all_served);
       others = λ till other. no_entries (own_of till (drop (length root.history) p.state.entries))
           (sym (since_start base size sound till) ∙ none_else coming asks base root p.stopped p.torn p.state.entries for_no_other
           what_is_taken size rows seat distinct news bare worked fits starts since first first_new till
           (each_unmap (λ (r : Row C). r.done) (λ (d : TillDay). d.till ≢ till) rows
           (each_unmap told_in (λ (t : TillReplies). t.till ≢ till) (map (λ (r : Row C). r.done) rows) other)));
-      stops = stops_by sound (all_replies tills) answer
-          (subst (λ (rs : Replies). AllByRecursion (StopTold p.stopped) rs) (sym replies_are) stops_told) disk p.stopped refl
-          (first_told_at p.stopped refl);
-      made = cut_in p.stopped p.torn refl refl;
+      stop = stop_at p.stopped p.torn refl refl;
+      sends = sends;
     }
 
 -- each number is held again
@@ -373,12 +345,14 @@ module _ {D C : Type 0} (tells : Bool) (tell : D → OnDisk) (faults : D → ℕ
   }
 
   -- the day of the tills that ran and of the sender beside them, once their shop is closed
-  pub ended : (answer : Result (Unit {0}) DrainFault) → AddsForNoOther coming → AddsWhatIsTaken coming →
+  pub ended : (kind : Kind) (opened after : Desk) (answer : Result (Unit {0}) DrainFault) → AddsForNoOther coming → AddsWhatIsTaken coming →
       length base ≡ length root.history → AllPairs (λ (a b : TillDay). a.till ≢ b.till) days → Shared base (items_in p) root new
       seat then →
       (IsFaultless answer → Adds AreNotes (sight_by seat) (sight_by then)) → (IsDiskAnswer answer → IsSome p.stopped) →
-      IsSound tells tell faults coming root p → DayRun tells tell faults coming asks root p (map told_in done) answer
-  ended answer for_no_other what_is_taken size distinct h notes disk sound =
+      IsSound tells tell faults coming root p → SendsBeside (shop_day coming asks root p (map told_in done) kind opened after answer) →
+      DayRun (record { tells = tells; told = tell; faults = faults; coming = coming }) root p
+      (shop_day coming asks root p (map told_in done) kind opened after answer)
+  ended kind opened after answer for_no_other what_is_taken size distinct h notes disk sound sends =
       let distinct' : AreDistinct (map (λ (r : Row C). r.done.till) ran.rows) =
       subst (λ (l : List ℕ). AreDistinct l) (sym (same_tills coming asks ran.rows ran.worked))
       (subst (λ (l : List TillDay). AreDistinct (map (λ (d : TillDay). d.till) l)) ran.days_are
@@ -390,8 +364,10 @@ module _ {D C : Type 0} (tells : Bool) (tell : D → OnDisk) (faults : D → ℕ
       1 =
       subst (λ (l : List (Known Item (Root C))). (n : ℕ) → length base ≤ n → n < length (items_in p) → owners n (l ++ then ∷ []) ≡
       1) ran.new_are h.since in
-      subst (λ (l : List TillDay). DayRun tells tell faults coming asks root p (map told_in l) answer) (sym ran.done_are)
-      (whole tells tell faults coming asks root p for_no_other what_is_taken base size ran.rows then distinct' news.0 seat news.1
+      let Told : List TillDay → Day = λ l. shop_day coming asks root p (map told_in l) kind opened after answer in
+      subst (λ (l : List TillDay). DayRun (record { tells = tells; told = tell; faults = faults; coming = coming }) root p (Told l))
+      (sym ran.done_are)
+      (whole tells tell faults coming asks root p for_no_other what_is_taken base size ran.rows then distinct' news.0 seat news.1 kind opened after
       answer (bare base (items_in p) root new seat then h) (all_noted base (items_in p) root new seat then h
       (IsFaultless answer) notes)
-      disk ran.worked fits' h.starts since' sound)
+      disk ran.worked fits' h.starts since' sound (subst (λ (l : List TillDay). SendsBeside (Told l)) ran.done_are sends))

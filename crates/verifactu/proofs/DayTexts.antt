@@ -16,7 +16,7 @@ use Rattle.verifactu.specs.Beside.DayRunEnds.{undelivered, contradiction, disk_f
 use Rattle.verifactu.specs.Draining.{IsDiskAnswer}
 use Rattle.verifactu.specs.Printed.{answers}
 use Rattle.verifactu.specs.Replies.{AllReplied, is_no_memory}
-use Rattle.verifactu.specs.Tills.{TillReplies, all_replies}
+use Rattle.verifactu.specs.Days.{TillReplies, all_replies}
 use Rattle.verifactu.specs.Works.{told_in}
 use Rattle.verifactu.specs.declared.tills.TillDay.{TillDay}
 use Rattle.verifactu.proofs.Finished.{either_part}

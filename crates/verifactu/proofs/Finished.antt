@@ -12,8 +12,6 @@ use Rattle.till_calls.specs.Sound.{IsLater}
 use Rattle.sender.specs.declared.answers.DrainFault.{DrainFault}
 use Rattle.sender.specs.declared.answers.DrainFault.TheVariants as drain
 use Rattle.sender.specs.declared.draining.TheConstants.{MAX_LINK_FAULTS}
-use Rattle.chain_store.specs.declared.causes.OpenCause.{OpenCause}
-use Rattle.chain_store.specs.declared.causes.OpenCause.TheVariants as cause
 use Rattle.recovery.specs.Opening.{IsFound}
 use Rattle.script.specs.declared.scripts.Script.{Script}
 use Rattle.report.specs.declared.ended.Detail.{Detail}
@@ -21,11 +19,11 @@ use Rattle.report.specs.declared.ended.Detail.TheVariants as detail
 use Rattle.verifactu.specs.Crashes.{StandsSince}
 use Rattle.verifactu.specs.Devices.{Agencies, Clocks, LeftClock, LeftSleeper, Sleepers}
 use Rattle.verifactu.specs.Drain.{AgreesAtStart, AllLeft, FileDrainEnds, FileDrained, LeavesTime, NothingRose, ScriptDrainEnds}
-use Rattle.verifactu.specs.Drain.{desk_after, desk_before, file_span, first_moment, kind_of, tells_moment}
+use Rattle.verifactu.specs.Drain.{file_span, first_moment, tells_moment}
 use Rattle.verifactu.specs.Draining.{DiskSpan, DrainRunEnds, Outcome, Span, StoreDrainEnds, StoreDrains, drain_text, fault_end}
 use Rattle.verifactu.specs.Draining.{spanning}
 use Rattle.verifactu.specs.Draining.DrainRunEnds.{done, write_fault, undelivered, contradiction, disk_fault, no_memory}
-use Rattle.verifactu.specs.Opening.{NotOpened, opening_end}
+use Rattle.verifactu.specs.Opening.{NotOpened}
 use Rattle.verifactu.proofs.Bytewise.{part_of_output}
 use Rattle.verifactu.proofs.RunEnding.{not_opened_by, rose_opening, written_either}
 use Rattle.verifactu.proofs.Closing.{never_contrary, since_opening, undelivered_by}
@@ -39,19 +37,18 @@ not_later coming start now same = record {
 
 module _ {D G : Type 0} (issuer : List ℕ) (plan : Plan) (exact : Bool) (moment : ℕ) (s : Sinks) (k : Disks D) (a : Agencies G)
     (start : List Entry) (o : Outcome)
-    (h : StoreDrains (StandsSince issuer) a.kind.begun plan issuer (file_span k) (spanning start (kind_of a) (desk_before a)
-    (desk_after a) exact moment o)) where
+    (h : StoreDrains (StandsSince issuer) a.begun plan issuer (file_span k) (spanning start a.kind a.before
+    a.after exact moment o)) where
   abbrev Failing : ℕ → ℕ → Type 0
-  Failing n r = (n < r) × (a.kind.faults a.agency_after < 2 ^ 64 - 1 → a.kind.faults a.agency + MAX_LINK_FAULTS ≤ a.kind.faults
-      a.agency_after)
+  Failing n r = (n < r) × (a.after.faults < 2 ^ 64 - 1 → a.before.faults + MAX_LINK_FAULTS ≤ a.after.faults)
 
   eight_failed : (end : Detail) → DrainRunEnds o.answer (drain_text o) s end → (n r : ℕ) → end ≡ detail.Undelivered n r →
       Failing n r
   eight_failed end (undelivered m q e w) n r is =
       let first : m ≡ n = cc in
       let second : q ≡ r = cc in
-      let u : Failing m q = undelivered_by (StandsSince issuer) a.kind.begun plan issuer (file_span k)
-      (spanning start (kind_of a) (desk_before a) (desk_after a) exact moment o) h m q e in
+      let u : Failing m q = undelivered_by (StandsSince issuer) a.begun plan issuer (file_span k)
+      (spanning start a.kind a.before a.after exact moment o) h m q e in
       subst (λ (x : ℕ). Failing x r) first (subst (λ (y : ℕ). Failing m y) second u)
   eight_failed end _ n r is = absurd cc
 
@@ -61,12 +58,12 @@ module _ {D G : Type 0} (issuer : List ℕ) (plan : Plan) (exact : Bool) (moment
   completed end (no_memory w) none keeps agree = inr refl
   completed end (write_fault e w) none keeps agree = absurd (none.sink w.risen)
   completed end (undelivered n r e w) none keeps agree =
-      let u = undelivered_by (StandsSince issuer) a.kind.begun plan issuer (file_span k)
-      (spanning start (kind_of a) (desk_before a) (desk_after a) exact moment o) h n r e in
+      let u = undelivered_by (StandsSince issuer) a.begun plan issuer (file_span k)
+      (spanning start a.kind a.before a.after exact moment o) h n r e in
       absurd (none.agency (λ below. let more = u.1 below in omega (arith, more)))
   completed end (contradiction evidence e w) none keeps agree =
-      absurd (never_contrary (StandsSince issuer) a.kind.begun plan issuer (file_span k)
-      (spanning start (kind_of a) (desk_before a) (desk_after a) exact moment o) h keeps agree evidence e)
+      absurd (never_contrary (StandsSince issuer) a.begun plan issuer (file_span k)
+      (spanning start a.kind a.before a.after exact moment o) h keeps agree evidence e)
   completed end (disk_fault e w) none keeps agree = absurd (none.disk (h.risen e))
 
   pub file_drained : (end : Detail) → (IsTrue k.tells → IsFound issuer start (k.told k.disk).content) →
@@ -104,13 +101,13 @@ pub opened_drained : {D G : Type 0} (issuer own : List ℕ) (plan : Plan) (exact
     (a : Agencies G) (start : List Entry) (since : OnDisk) (between : ℕ) (end : Detail) → own ≡ issuer →
     (IsTrue k.tells → IsFound issuer start (k.told k.disk).content) → (IsTrue k.tells → LeavesOnly (synced (k.told k.disk)) since
     (IsFound issuer start)) → k.faults k.disk ≤ between →
-    StoreDrainEnds a.kind.begun plan own start (record {
+    StoreDrainEnds a.begun plan own start (record {
       tells = k.tells;
       since = since;
       now = k.told k.disk_after;
       faults = between;
       faults_after = k.faults k.disk_after;
-    }) (kind_of a) (desk_before a) (desk_after a) exact moment s end →
+    }) a.kind a.before a.after exact moment s end →
     FileDrained issuer plan exact moment s k a end
 opened_drained issuer own plan exact moment s k a start since between end same found any later h =
     let at : DiskSpan = record {
@@ -120,10 +117,10 @@ opened_drained issuer own plan exact moment s k a start since between end same f
       faults = between;
       faults_after = k.faults k.disk_after;
     } in
-    let e = subst (λ (n : List ℕ). StoreDrainEnds a.kind.begun plan n start at (kind_of a) (desk_before a) (desk_after a) exact
+    let e = subst (λ (n : List ℕ). StoreDrainEnds a.begun plan n start at a.kind a.before a.after exact
     moment s end) same h in
-    let d : Span = spanning start (kind_of a) (desk_before a) (desk_after a) exact moment e.0 in
-    file_drained issuer plan exact moment s k a start e.0 (since_opening a.kind.begun plan issuer at d (synced (k.told k.disk))
+    let d : Span = spanning start a.kind a.before a.after exact moment e.0 in
+    file_drained issuer plan exact moment s k a start e.0 (since_opening a.begun plan issuer at d (synced (k.told k.disk))
     (k.faults k.disk) e.1 any later) end found e.2
 
 module _ {D C Z G : Type 0} (issuer : List ℕ) (script : Script) (s : Sinks) (k : Disks D) (t : Clocks C) (z : Sleepers Z)

@@ -18,7 +18,7 @@ use Rattle.shop_core.specs.Replies.{ChainRun}
 use Rattle.shop_core.specs.Replies.ChainRun.{begun}
 use Rattle.shop_core.specs.declared.answers.Reply.{Reply}
 use Rattle.once_world.specs.Agreement.{IsPrefix}
-use Rattle.verifactu.specs.Crashes.{IsCutOff, Kept, StandsBetween, StandsForEnd, StandsSince}
+use Rattle.verifactu.specs.Crashes.{IsCutOff, KeptByRun, StandsBetween, StandsForEnd, StandsSince}
 use Rattle.verifactu.specs.Readings.{IsComing}
 use Rattle.verifactu.specs.Replies.{AllGoOn, IsGoingOn, StopsByFault, StopsOnce}
 use Rattle.verifactu.proofs.Progress.{Origin, Point, Progress, SoFar}
@@ -79,7 +79,7 @@ stops o asks replies p h = stops_by p.stopped o asks replies p h.progress
 
 -- what this run leaves up to this point
 abbrev KeptSoFar : Origin → List Asked → List (Result Reply StoreFault) → Point → Type 0
-KeptSoFar o asks replies p = Kept (StandsBetween o.issuer o.start p.history.entries)
+KeptSoFar o asks replies p = KeptByRun (StandsBetween o.issuer o.start p.history.entries)
     (IsCutOff o.issuer (IsComing o.coming) asks p.history.entries replies) o.issuer p.history.entries replies o.since p.now
 
 kept_by : (stopped : Option ℕ) (o : Origin) (asks : List Asked) (replies : List (Result Reply StoreFault)) (p : Point) (gate : ℕ)
@@ -95,9 +95,11 @@ kept_by None o asks replies p gate own g legal holds image tells =
       at_most_one = omega arith;
       by_a_fault = λ all. refl;
       made = tt;
-      each_moment = g.only tells;
-      every_crash = leaves_now p.now (StandsForEnd o.issuer p.history.entries []) h.file.nothing_pending (inl here);
-      reads = inl here;
+      kept = record {
+        each_moment = g.only tells;
+        every_crash = leaves_now p.now (StandsForEnd o.issuer p.history.entries []) h.file.nothing_pending (inl here);
+        reads = inl here;
+      };
     }
 kept_by (Some count) o asks replies p gate own g legal holds image tells =
     let left = g.left tells in
@@ -106,9 +108,11 @@ kept_by (Some count) o asks replies p gate own g legal holds image tells =
       at_most_one = left.at_most_one;
       by_a_fault = λ all. absurd (stopped_once o.at_faults count replies g.stops all);
       made = left.made;
-      each_moment = left.only;
-      every_crash = left.here;
-      reads = left.here p.now.content (inl (refl, image));
+      kept = record {
+        each_moment = left.only;
+        every_crash = left.here;
+        reads = left.here p.now.content (inl (refl, image));
+      };
     }
 
 pub kept : (o : Origin) (asks : List Asked) (replies : List (Result Reply StoreFault)) (p : Point) (gate : ℕ) →
@@ -134,16 +138,18 @@ since_found issuer start end torn c begins (inr stands) = inr (record {
 -- what a run leaves, said since its file was opened
 pub kept_since : (IsTorn : Entry → Type 0) (issuer : List ℕ) (start end : List Entry) (replies : List (Result Reply StoreFault))
     (first opened now : OnDisk) → IsPrefix start end → LeavesOnly first opened (IsFound issuer start) →
-    Kept (StandsBetween issuer start end) IsTorn issuer end replies opened now →
-    Kept (StandsSince issuer start end) IsTorn issuer end replies first now
+    KeptByRun (StandsBetween issuer start end) IsTorn issuer end replies opened now →
+    KeptByRun (StandsSince issuer start end) IsTorn issuer end replies first now
 kept_since IsTorn issuer start end replies first opened now begins found h = record {
   torn = h.torn;
   at_most_one = h.at_most_one;
   by_a_fault = h.by_a_fault;
   made = h.made;
-  each_moment = follows first opened now (IsFound issuer start) (StandsBetween issuer start end h.torn)
-      (StandsSince issuer start end h.torn) found h.each_moment
-      (λ c here. since_found issuer start end h.torn c begins here) (λ c here. inr here);
-  every_crash = h.every_crash;
-  reads = h.reads;
+  kept = record {
+    each_moment = follows first opened now (IsFound issuer start) (StandsBetween issuer start end h.torn)
+        (StandsSince issuer start end h.torn) found h.kept.each_moment
+        (λ c here. since_found issuer start end h.torn c begins here) (λ c here. inr here);
+    every_crash = h.kept.every_crash;
+    reads = h.kept.reads;
+  };
 }

@@ -1,7 +1,8 @@
 -- What a sender beside tills leaves, once its shop is closed.
 use Rattle.std.proofs.Common.{◌≡◌, ◌∙◌, ◌⊎◌, inl, inr, ℕ, ◌+◌, ◌-◌, List, [], length, map, sym, ap, subst, refl, append-nil, Bool}
 use Rattle.std.proofs.Common.{IsTrue, Option, Result, Err, length-append, length-drop, arith}
-use Rattle.std.specs.Prelude.{IsErrOf}
+use Rattle.std.specs.Prelude.{◌++◌, None, Some, IsErrOf}
+use Rattle.std.specs.List.{AllByRecursion}
 use Rattle.record_fields.specs.declared.lines.Line.{Line}
 use Rattle.record_fields.specs.declared.records.Sealed.{Sealed}
 use Rattle.chain_disk.specs.OnDisk.{OnDisk}
@@ -27,7 +28,9 @@ use Rattle.sender.specs.Sending.{Sending, fresh}
 use Rattle.sender.specs.Turning.{Desk, Kind}
 use Rattle.sender.specs.declared.answers.DrainFault.{DrainFault}
 use Rattle.sender.specs.declared.answers.DrainFault.TheVariants as drain
-use Rattle.verifactu.specs.Beside.{CountsWithin, DaySpan, SendsBeside, SendsOn, ShowsLast, StaysAgreed}
+use Rattle.shop_core.specs.Requests.{Asked}
+use Rattle.verifactu.specs.Beside.{CountsWithin, IsTornSaid, SendsBeside, SendsOn, ShowsLast, StaysAgreed}
+use Rattle.verifactu.specs.Days.{Day, TillReplies, shop_day, stop_of, torn_of}
 use Rattle.verifactu.specs.Draining.{SaysNothingBlindly, torn_in}
 use Rattle.verifactu.proofs.Agreed.{agree_new, entries_back, sight_new, torn_is}
 use Rattle.verifactu.specs.Noting.{NotesSaid}
@@ -36,23 +39,24 @@ use Rattle.verifactu.proofs.Contrary.{asked_of_more, none_yet, one_shown}
 use Rattle.verifactu.proofs.Noted.{at_end_noted}
 use Rattle.verifactu.proofs.Whole.{Kept, Shared, agreed, agreed_torn, gains, more_records, still_waits, torn_said}
 
+-- the entry of a store's stop
+pub torn_same : (stopped : Option ℕ) (torn : Option Entry) → torn_in stopped torn ≡ torn_of (stop_of stopped torn)
+torn_same (Some count) (Some torn) = refl
+torn_same (Some count) None = refl
+torn_same None torn = refl
+
 module _ {D C : Type 0} (tells : Bool) (told : D → OnDisk) (faults : D → ℕ) (coming : C → ℕ → Option ℕ) (p : Parts D C)
     (root : Root C) (base : List Item) (tills : List (Known Item (Root C))) (seat then : Known Item (Root C))
     (h : Shared base (items_in p) root tills seat then)
     (sound : IsSound tells told faults coming root p) (is : base ≡ map item.Entry root.history)
-    (legal : Legal root.issuer root.history) (kind : Kind) (old new : Desk) (sending : Sending)
-    (answer : Result (Unit {0}) DrainFault)
+    (legal : Legal root.issuer root.history) (asks : List Asked) (told_all : List TillReplies) (kind : Kind) (old new : Desk)
+    (sending : Sending) (answer : Result (Unit {0}) DrainFault)
     (sends : SendsOn kind (sight_by seat) (sight_by then) old new fresh sending answer) where
-  abbrev span : DaySpan
-  span = record {
-    start = root.history;
-    end = p.state.entries;
-    torn = torn_in p.stopped p.torn;
-    kind = kind;
-    old = old;
-    new = new;
-    answer = answer;
-  }
+  abbrev day : Day
+  day = shop_day coming asks root p told_all kind old new answer
+
+  same_torn : torn_in p.stopped p.torn ≡ torn_of day.stop
+  same_torn = torn_same p.stopped p.torn
 
   kept : Kept base (items_in p) root tills seat then h root.history p.state.entries p.stopped p.torn
   kept = record { base_is = is; log_is = refl; begins = sound.begins }
@@ -61,7 +65,7 @@ module _ {D C : Type 0} (tells : Bool) (told : D → OnDisk) (faults : D → ℕ
   begun = ap history_of (sight_new base root seat h.fresh is) ∙ entries_back root.history
 
   still : RecordsKeepAgreement → BeginsInSession → IsTrue kind.keeps_rules → Agree root.history old.ledger.processed
-      old.ledger.sent → StaysAgreed span
+      old.ledger.sent → StaysAgreed day
   still records session keeps agree =
       let own = gains base (items_in p) root tills seat then h in
       let in_it : InSession (sight_by seat) old.ledger fresh.said = session (sight_by seat) old.ledger
@@ -72,7 +76,7 @@ module _ {D C : Type 0} (tells : Bool) (told : D → OnDisk) (faults : D → ℕ
         whole = agreed base (items_in p) root tills seat then h root.history p.state.entries p.stopped p.torn kept records
             new.ledger k.session.agree;
         torn = subst (λ (es : List Entry). Agree es new.ledger.processed new.ledger.sent) (torn_is p.state.entries p.stopped
-            p.torn)
+            p.torn ∙ ap (λ (es : List Entry). p.state.entries ++ es) same_torn)
             (agreed_torn base (items_in p) root tills seat then h root.history p.state.entries p.stopped p.torn kept records
             new.ledger k.session.agree t);
         no_contradiction = sends.no_contradiction keeps in_it own;
@@ -146,7 +150,7 @@ module _ {D C : Type 0} (tells : Bool) (told : D → OnDisk) (faults : D → ℕ
       (subst (λ (es : List Entry). NotesSaid es seen old.ledger.messages new.ledger.messages answer) begun
       (sends.lines says (gains base (items_in p) root tills seat then h)))
 
-  pub sends_beside : RecordsKeepAgreement → BeginsInSession → BeginsCareful → SendsBeside span
+  pub sends_beside : RecordsKeepAgreement → BeginsInSession → BeginsCareful → SendsBeside day
   sends_beside records session careful = record {
     agreement = still records session;
     careful = nothing_blindly careful;
@@ -156,8 +160,9 @@ module _ {D C : Type 0} (tells : Bool) (told : D → OnDisk) (faults : D → ℕ
     none_before = λ says. sends.none_before says old.ledger.messages begins (none_yet old.ledger.messages)
         (nothing_before old.ledger.messages);
     lines = all_said;
-    torn_lines = λ says. torn_said base (items_in p) root tills seat then h root.history p.state.entries p.stopped p.torn kept
-        new.ledger.messages (sends.torn_lines says);
+    torn_lines = λ says. subst (λ (es : List Entry). AllByRecursion (IsTornSaid p.state.entries new.ledger.messages) es) same_torn
+        (torn_said base (items_in p) root tills seat then h root.history p.state.entries p.stopped p.torn kept
+        new.ledger.messages (sends.torn_lines says));
     later = sends.later;
     counts = counts_within;
     undelivered = sends.undelivered;

@@ -24,7 +24,7 @@ use Rattle.shop_core.specs.Legal.{Legal}
 use Rattle.shop_core.specs.Replies.{ChainRun}
 use Rattle.shop_core.specs.Replies.ChainRun.{begun, replied}
 use Rattle.shop_core.specs.declared.answers.Reply.{Reply}
-use Rattle.verifactu.specs.Crashes.{IsCutOff, Kept, KeepsFile, StandsBetween}
+use Rattle.verifactu.specs.Crashes.{IsCutOff, KeepsFile, KeptByRun, StandsBetween}
 use Rattle.verifactu.specs.Printed.{printed}
 use Rattle.verifactu.specs.Readings.{IsComing, IsAsked, LeavesClock, readings, readings_of}
 use Rattle.verifactu.specs.Replies.{AllGoOn, AllReplied, StopsOnce, is_disk_fault, is_no_memory}
@@ -37,7 +37,7 @@ use Rattle.verifactu.specs.Scripts.ScriptedEnds.{ran, bad_line, read_fault, too_
 use Rattle.verifactu.specs.Commands.{Answers, Stores}
 use Rattle.verifactu.specs.Devices.{Clocks, Devices, LeftClock}
 use Rattle.verifactu.specs.Ending.{RunEnds}
-use Rattle.verifactu.specs.Ending.RunEnds.{done, write_fault, disk_fault, no_memory}
+use Rattle.verifactu.specs.Ending.RunEnds.{disk_fault}
 use Rattle.verifactu.specs.declared.scripts.NoScript.{NoScript}
 use Rattle.verifactu.specs.declared.scripts.NoScript.TheVariants as no_script
 use Rattle.script.specs.declared.forms.Form.{Form}
@@ -157,10 +157,10 @@ pub store_ran : {D C : Type 0} (issuer : List ℕ) (asks : List Asked) (replies 
     (λ rs. IsAsked s.clock (readings rs)) sink k end
 store_ran issuer asks replies s sink k end own tells faults_after now later found any h ends =
     let Torn : List ℕ → Entry → Type 0 = λ n. IsCutOff n (IsComing (s.clock.coming s.clock.clock)) asks s.end replies in
-    let kept_here : IsTrue k.tells → Kept (StandsBetween issuer s.start s.end) (Torn issuer) issuer s.end replies s.since
+    let kept_here : IsTrue k.tells → KeptByRun (StandsBetween issuer s.start s.end) (Torn issuer) issuer s.end replies s.since
     (k.told k.disk_after) = λ says.
-    subst (λ (t : OnDisk). Kept (StandsBetween issuer s.start s.end) (Torn issuer) issuer s.end replies s.since t) now
-    (subst (λ (n : List ℕ). Kept (StandsBetween n s.start s.end) (Torn n) n s.end replies s.since s.now) own
+    subst (λ (t : OnDisk). KeptByRun (StandsBetween issuer s.start s.end) (Torn issuer) issuer s.end replies s.since t) now
+    (subst (λ (n : List ℕ). KeptByRun (StandsBetween n s.start s.end) (Torn n) n s.end replies s.since s.now) own
     (h.kept (subst (λ (b : Bool). IsTrue b) (sym tells) says))) in
     inr (inr (
       record {
@@ -210,15 +210,13 @@ cut_off_by issuer R Q asks history replies each entry h = record {
 -- what a run keeps, said of its torn entry in other words
 kept_with : {P : List Entry → List ℕ → Type 0} {issuer : List ℕ} {end : List Entry} {replies : List (Result Reply StoreFault)}
     {since now : OnDisk} (IsTorn IsAlso : Entry → Type 0) → ((entry : Entry) → IsTorn entry → IsAlso entry) →
-    Kept P IsTorn issuer end replies since now → Kept P IsAlso issuer end replies since now
+    KeptByRun P IsTorn issuer end replies since now → KeptByRun P IsAlso issuer end replies since now
 kept_with IsTorn IsAlso each h = record {
   torn = h.torn;
   at_most_one = h.at_most_one;
   by_a_fault = h.by_a_fault;
   made = each_weaker IsTorn IsAlso h.torn each h.made;
-  each_moment = h.each_moment;
-  every_crash = h.every_crash;
-  reads = h.reads;
+  kept = h.kept;
 }
 
 -- the same end, said of other readings and of another clock

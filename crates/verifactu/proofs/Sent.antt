@@ -1,6 +1,7 @@
--- What goes to another thread and comes back: jobs, and a day's sender.
+-- What goes to another thread and comes back: jobs, a day's sender, and what both hand on.
 use denote.RattleType.{RattleType}
-use denote.Param.Send.{IsSend, IsSync, sendable, struct_send}
+use denote.Ref.{NamedLft}
+use denote.Param.Send.{IsSend, IsSync, sendable, shr_sync, struct_send, struct_sync}
 use denote.Struct.Struct.{Struct}
 use denote.Struct.Declared.{shape}
 use Rattle.std.proofs.Crossing.{crosses}
@@ -12,6 +13,7 @@ use Rattle.std.specs.contracts.impls.GlobalAllocator.TheImpl.{ghosts}
 use Rattle.std.specs.contracts.sync.atomic.AtomicBool as Flag
 use Rattle.till_calls.proofs.Sent.{till_field_send, seat_field_send}
 use Rattle.shop_core.specs.contracts.requests.Ask as ask
+use Rattle.verifactu.specs.contracts.means.Means as means
 use Rattle.verifactu.specs.contracts.tills.Job as job
 use Rattle.verifactu.specs.contracts.sending.Sent as sent
 
@@ -32,6 +34,15 @@ job_send D C g h d c =
 pub jobs_send : (D C : RattleType) (g : disk.Ghosts D.Denot) (h : clock.Ghosts C.Denot) → IsSend D → IsSend C →
     IsSend (Vec.the_row (job.the_row D C g h) Heap.the_row ghosts)
 jobs_send D C g h d c = let j = job_send D C g h d c in search (sendable, crosses, j) depth 100 fits 20000
+
+pub means_send : (a : NamedLft) (R T : RattleType) → IsSync R → IsSync T → IsSend (means.the_row a R T)
+means_send a R T r t = search (sendable, crosses, r, t) depth 100 fits 20000
+
+pub means_sync : (a : NamedLft) (R T : RattleType) → IsSync R → IsSync T → IsSync (means.the_row a R T)
+means_sync a R T r t =
+    let fields : IsSync (Struct (shape (means.the_type a R T))) =
+    struct_sync (shape (means.the_type a R T)) (shr_sync _ _ _ r, (search (sendable, crosses), (shr_sync _ _ _ t, tt))) in
+    search (sendable, crosses, fields)
 
 pub flag_sync : IsSync Flag.the_row
 flag_sync = search (sendable, crosses) depth 100 fits 20000

@@ -3,14 +3,12 @@ use Rattle.std.specs.Prelude.{◌≡◌, ◌⊎◌, ℕ, ◌+◌, ◌-◌, ◌^�
 use Rattle.std.specs.Prelude.{Contains, IsErrOf, Result, Ok, Err, count_by, drop, not}
 use Rattle.std.specs.List.{AllByRecursion, list_any}
 use Rattle.ports.specs.Sinks.{Sinks, Wrote, FailedIn, WrotePart}
-use Rattle.chain_disk.specs.OnDisk.{OnDisk, LeavesNow, LeavesOnly}
 use Rattle.journal.specs.declared.faults.StoreFault.TheVariants as store
 use Rattle.record_codec.specs.declared.entries.Entry.{Entry}
 use Rattle.batches.specs.Batches.{huellas_of}
 use Rattle.shop_core.specs.History.{is_record, recs, noted, waiting}
 use Rattle.shop_core.specs.declared.items.Item.{Item}
 use Rattle.shop_core.specs.declared.items.Item.TheVariants as item
-use Rattle.agency_rules.specs.declared.plans.Plan.{Plan}
 use Rattle.agency_port.specs.Messages.{batches_in}
 use Rattle.agency_port.specs.Practice.{is_reply_to}
 use Rattle.agency_port.specs.Sessions.{kept_reply}
@@ -36,10 +34,8 @@ use Rattle.sender.specs.declared.answers.DrainFault.TheVariants as drain
 use Rattle.sender.specs.declared.draining.TheConstants.{MAX_LINK_FAULTS}
 use Rattle.report.specs.declared.ended.Detail.{Detail}
 use Rattle.report.specs.declared.ended.Detail.TheVariants as detail
-use Rattle.till_calls.specs.Root.{Parts}
-use Rattle.verifactu.specs.Crashes.{StandsForEnd}
-use Rattle.verifactu.specs.Draining.{Beginning, IsDiskAnswer, IsFaultless, OpensSession, SaysNothingBlindly, fault_end, noted_pairs}
-use Rattle.verifactu.specs.Draining.{torn_in}
+use Rattle.verifactu.specs.Days.{Day, torn_of}
+use Rattle.verifactu.specs.Draining.{IsDiskAnswer, IsFaultless, SaysNothingBlindly, fault_end}
 use Rattle.verifactu.specs.Noting.{NotesSaid, TornSaid}
 use Rattle.verifactu.specs.Replies.{AllReplied, Replies, is_disk_fault, is_no_memory}
 
@@ -170,97 +166,45 @@ pub record SendsOn (kind : Kind) (before after : Sight) (old new : Desk) (sendin
   pub gives_up : IsTrue kind.tells → (noted_count records_count : ℕ) →
       IsErrOf answer (drain.Undelivered noted_count records_count) → GivesUp old.ledger.messages new.ledger.messages
 
--- A day's sending: the history of its store at the start and at the end, with the entry behind it whose append failed; what the
--- agency's kind tells, and its desk at the start and at the end; and how the sending ended.
-pub record DaySpan : Type 0 where
-  pub start : List Entry
-  pub end : List Entry
-  pub torn : List Entry
-  pub kind : Kind
-  pub old : Desk
-  pub new : Desk
-  pub answer : Result (Unit {0}) DrainFault
-
--- the sending that began with this history and left these parts of a store
-abbrev pub day_span : {D C : Type 0} → List Entry → Kind → Desk → Desk → Parts D C → Result (Unit {0}) DrainFault → DaySpan
-day_span start kind old new parts answer = record {
-  start = start;
-  end = parts.state.entries;
-  torn = torn_in parts.stopped parts.torn;
-  kind = kind;
-  old = old;
-  new = new;
-  answer = answer;
-}
-
 -- with an agency that keeps its rules: it agrees with the history, and with what may be torn, and contradicts itself never
-pub record StaysAgreed (d : DaySpan) : Type 0 where
-  pub whole : Agree d.end d.new.ledger.processed d.new.ledger.sent
-  pub torn : Agree (d.end ++ d.torn) d.new.ledger.processed d.new.ledger.sent
+pub record StaysAgreed (d : Day) : Type 0 where
+  pub whole : Agree d.end d.after.ledger.processed d.after.ledger.sent
+  pub torn : Agree (d.end ++ torn_of d.stop) d.after.ledger.processed d.after.ledger.sent
   pub no_contradiction : (evidence : Evidence) → IsErrOf d.answer (drain.Contradiction evidence) → ⊥
 
 -- what a new sender does beside tills and behind them, over an agency whose session is open
-pub record SendsBeside (d : DaySpan) : Type 0 where
+pub record SendsBeside (d : Day) : Type 0 where
   -- where shop and agency agreed they still do
-  pub agreement : IsTrue d.kind.keeps_rules → Agree d.start d.old.ledger.processed d.old.ledger.sent → StaysAgreed d
+  pub agreement : IsTrue d.kind.keeps_rules → Agree d.start d.opened.ledger.processed d.opened.ledger.sent → StaysAgreed d
   -- no record is handed over again unless a consultation since has answered that it wasn't seen
   pub careful : IsTrue d.kind.tells →
-      AreRunsBy (recs d.start) (length (noted d.start) + 1000) (batches_in d.old.ledger.messages) →
-      SaysNothingBlindly d.old.ledger.messages d.new.ledger.messages
-  pub says : IsTrue d.kind.tells → SaysCalls d.old.ledger.messages d.new.ledger.messages
+      AreRunsBy (recs d.start) (length (noted d.start) + 1000) (batches_in d.opened.ledger.messages) →
+      SaysNothingBlindly d.opened.ledger.messages d.after.ledger.messages
+  pub says : IsTrue d.kind.tells → SaysCalls d.opened.ledger.messages d.after.ledger.messages
   -- a contradiction is answered exactly where the last message is a consultation that shows it, but for want of memory
   pub contrary : IsTrue d.kind.tells → (evidence : Evidence) → IsErrOf d.answer (drain.Contradiction evidence) →
-      ShowsLast d.end d.old.ledger.messages d.new.ledger.messages evidence
+      ShowsLast d.end d.opened.ledger.messages d.after.ledger.messages evidence
   pub shown : IsTrue d.kind.tells → (evidence : Evidence) →
-      ShowsLast d.end d.old.ledger.messages d.new.ledger.messages evidence →
+      ShowsLast d.end d.opened.ledger.messages d.after.ledger.messages evidence →
       IsErrOf d.answer (drain.Contradiction evidence) ⊎ (d.answer ≡ Err drain.NoMemory)
   -- no message before the last one shows one
-  pub none_before : IsTrue d.kind.tells → NoneBefore d.old.ledger.messages d.new.ledger.messages
+  pub none_before : IsTrue d.kind.tells → NoneBefore d.opened.ledger.messages d.after.ledger.messages
   -- the lines that were noted are those that the messages say, each message of the first records that waited
-  pub lines : IsTrue d.kind.tells → NotesSaid d.start d.end d.old.ledger.messages d.new.ledger.messages d.answer
-  pub torn_lines : IsTrue d.kind.tells → AllByRecursion (IsTornSaid d.end d.new.ledger.messages) d.torn
-  pub later : d.old.faults ≤ d.new.faults
+  pub lines : IsTrue d.kind.tells → NotesSaid d.start d.end d.opened.ledger.messages d.after.ledger.messages d.answer
+  pub torn_lines : IsTrue d.kind.tells → AllByRecursion (IsTornSaid d.end d.after.ledger.messages) (torn_of d.stop)
+  pub later : d.opened.faults ≤ d.after.faults
   -- the drain gives up only where some record of the history at the end waits
   pub counts : (noted_count records_count : ℕ) → IsErrOf d.answer (drain.Undelivered noted_count records_count) →
       CountsWithin d.end noted_count records_count
-  pub undelivered : FailsEightTimes d.old d.new d.answer
+  pub undelivered : FailsEightTimes d.opened d.after d.answer
   -- what was said ends in the messages of the drain that gave up
   pub gives_up : IsTrue d.kind.tells → (noted_count records_count : ℕ) →
-      IsErrOf d.answer (drain.Undelivered noted_count records_count) → GivesUp d.old.ledger.messages d.new.ledger.messages
+      IsErrOf d.answer (drain.Undelivered noted_count records_count) → GivesUp d.opened.ledger.messages d.after.ledger.messages
 
 -- no session was opened
 pub record IsUnbegun (kind : Kind) (old new : Desk) : Type 0 where
   pub lists : IsTrue kind.tells → new.ledger ≡ old.ledger
   pub faults : new.faults ≡ old.faults
-
--- the sending from this desk of the agency on
-abbrev pub day_from : Desk → DaySpan → DaySpan
-day_from desk d = record {
-  start = d.start;
-  end = d.end;
-  torn = d.torn;
-  kind = d.kind;
-  old = desk;
-  new = d.new;
-  answer = d.answer;
-}
-
--- One session was opened, with the plan and the pairs noted in the history at the start, and in it one new sender sent. Where
--- shop
--- and agency agreed once it was open, they still do.
-pub record DaySession (begun : Beginning) (plan : Plan) (d : DaySpan) : Type 0 where
-  pub opened : Desk
-  pub opens : OpensSession d.kind begun plan d.start d.old opened
-  pub sends : SendsBeside (day_from opened d)
-  pub agreement : IsTrue d.kind.keeps_rules →
-      Agree d.start (begun d.old.ledger.processed (noted_pairs d.start)) d.old.ledger.sent → StaysAgreed d
-
--- Since some moment each crash leaves a file with P; now it leaves the history at the end, or that with the torn entry, and so
--- reads the disk.
-pub record KeptDay (P : List ℕ → Type 0) (issuer : List ℕ) (end torn : List Entry) (since now : OnDisk) : Type 0 where
-  pub each_moment : LeavesOnly since now P
-  pub every_crash : LeavesNow now (StandsForEnd issuer end torn)
-  pub reads : StandsForEnd issuer end torn now.content
 
 -- the sender found no memory
 abbrev pub sender_lacks_memory : Result (Unit {0}) DrainFault → Bool

@@ -17,7 +17,7 @@ use Rattle.report.specs.declared.ended.Detail.{Detail}
 use Rattle.report.specs.declared.ended.Detail.TheVariants as detail
 use Rattle.verifactu.specs.Commands.{Answers, Stores}
 use Rattle.once_world.specs.Agreement.{IsPrefix}
-use Rattle.verifactu.specs.Crashes.{IsCutOff, Kept, StandsSince}
+use Rattle.verifactu.specs.Crashes.{IsCutOff, KeptByRun, StandsSince}
 use Rattle.verifactu.specs.Devices.{Devices, Untouched}
 use Rattle.verifactu.specs.Ending.{RunEnds}
 use Rattle.verifactu.specs.Opening.{NoRoom, NotOpened}
@@ -42,7 +42,7 @@ pub record Played {D : Type 0} (issuer : List ℕ) (asks : List Asked) (coming :
   pub rising : (till : ℕ) → SerialsRise end till
   pub stops : StopsOnce (k.faults k.disk) (k.faults k.disk_after) replies
   pub kept : IsTrue k.tells →
-      Kept (StandsSince issuer start end) (IsCutOff issuer (IsComing coming) asks end replies) issuer end replies
+      KeptByRun (StandsSince issuer start end) (IsCutOff issuer (IsComing coming) asks end replies) issuer end replies
       (synced (k.told k.disk)) (k.told k.disk_after)
   pub clock : Leaves replies
 

@@ -13,7 +13,7 @@ use Rattle.shop_core.specs.Replies.{ChainRun}
 use Rattle.chain_store.specs.Store.{state_of, journal_of, clock_of}
 use Rattle.chain_store.specs.declared.store.Store.{Store}
 use Rattle.once_world.specs.Agreement.{IsPrefix}
-use Rattle.verifactu.specs.Crashes.{IsCutOff, Kept, StandsBetween}
+use Rattle.verifactu.specs.Crashes.{IsCutOff, KeptByRun, StandsBetween}
 use Rattle.verifactu.specs.Devices.{Clocks, this_clock}
 use Rattle.verifactu.specs.Readings.{IsComing, IsAsked, readings}
 use Rattle.verifactu.specs.Replies.{Replies, StopsOnce}
@@ -54,6 +54,6 @@ pub record Answers {C : Type 0} (asks : List Asked) (replies : Replies) (s : Sto
   pub rising : (till : ℕ) → SerialsRise s.end till
   pub stops : StopsOnce s.faults s.faults_after replies
   pub kept : IsTrue s.tells →
-      Kept (StandsBetween s.issuer s.start s.end)
+      KeptByRun (StandsBetween s.issuer s.start s.end)
       (IsCutOff s.issuer (IsComing (s.clock.coming s.clock.clock)) asks s.end replies) s.issuer s.end replies s.since s.now
   pub asked : IsAsked s.clock (readings replies)

@@ -41,21 +41,21 @@ pub record IsCutOff (issuer : List ℕ) (IsReading : Replies → ℕ → Type 0)
   pub reading : IsReading before seconds
   pub made : answer issuer history ask seconds ≡ Made entry
 
--- no entry was cut off
-abbrev pub NoneCutOff : Entry → Type 0
-NoneCutOff entry = ⊥
-
 -- Since some moment each crash leaves a file with P; now it leaves the history at the end, or that with the torn entry, and so
--- reads the disk. An entry is torn only where the disk failed while it was added, and is then as IsTorn says.
-pub record Kept (P : List Entry → List ℕ → Type 0) (IsTorn : Entry → Type 0) (issuer : List ℕ) (end : List Entry)
+-- reads the disk.
+pub record Kept (P : List ℕ → Type 0) (issuer : List ℕ) (end torn : List Entry) (since now : OnDisk) : Type 0 where
+  pub each_moment : LeavesOnly since now P
+  pub every_crash : LeavesNow now (StandsForEnd issuer end torn)
+  pub reads : StandsForEnd issuer end torn now.content
+
+-- what a run keeps: an entry is torn only where the disk failed while it was added, and is then as IsTorn says
+pub record KeptByRun (P : List Entry → List ℕ → Type 0) (IsTorn : Entry → Type 0) (issuer : List ℕ) (end : List Entry)
     (replies : Replies) (since now : OnDisk) : Type 0 where
   pub torn : List Entry
   pub at_most_one : length torn ≤ 1
   pub by_a_fault : AllGoOn replies → torn ≡ []
   pub made : AllByRecursion IsTorn torn
-  pub each_moment : LeavesOnly since now (P torn)
-  pub every_crash : LeavesNow now (StandsForEnd issuer end torn)
-  pub reads : StandsForEnd issuer end torn now.content
+  pub kept : Kept (P torn) issuer end torn since now
 
 -- What an opening that failed keeps of the file. The sync at the start failed; or since it each crash leaves the bytes that
 -- stood there, or, where they were no begun file, one that isn't begun or is begun and empty.

@@ -5,10 +5,10 @@ use Rattle.ports.specs.Sources.{Sources}
 use Rattle.ports.specs.declared.Clock as clock
 use Rattle.ports.specs.declared.sleeper.Sleeper as sleeper
 use Rattle.chain_disk.specs.Disks.{Disks, LeftDisk, OnlyRead, this_disk}
+use Rattle.chain_disk.specs.OnDisk.{OnDisk}
 use Rattle.chain_disk.specs.declared.disk.Disk as disk
 use Rattle.record_fields.specs.declared.records.Sealed.{Sealed}
 use Rattle.record_fields.specs.declared.lines.Line.{Line}
-use Rattle.agency_port.specs.Ledger.{Ledger}
 use Rattle.agency_port.specs.declared.agency.Agency as agency
 use Rattle.sender.specs.Turning.{Desk, Kind}
 use Rattle.verifactu.specs.declared.outside.Outside.{Outside}
@@ -26,6 +26,17 @@ this_clock coming old new = record { coming = coming; clock = old; clock_after =
 abbrev pub LeftClock : {C : Type 0} → Clocks C → Type 0
 LeftClock t = t.clock_after ≡ t.clock
 
+-- what contracts say of the store's devices: whether its disk tells, what it tells, its count of faults, and the clock's coming
+-- answers
+pub record StoreKind (D C : Type 0) : Type 0 where
+  pub tells : Bool
+  pub told : D → OnDisk
+  pub faults : D → ℕ
+  pub coming : C → ℕ → Option ℕ
+
+abbrev pub store_kind : {D C : Type 0} → disk.Ghosts D → clock.Ghosts C → StoreKind D C
+store_kind d c = record { tells = d.tells; told = d.told; faults = d.faults; coming = c.coming }
+
 -- a sleeper and the moment that its kind gives it
 pub record Sleepers (Z : Type 0) : Type 0 where
   pub tells : Bool
@@ -36,19 +47,14 @@ pub record Sleepers (Z : Type 0) : Type 0 where
 abbrev pub LeftSleeper : {Z : Type 0} → Sleepers Z → Type 0
 LeftSleeper s = s.sleeper_after ≡ s.sleeper
 
--- what a kind of agency tells of its own
-pub record AgencyKind (G : Type 0) : Type 0 where
-  pub tells : Bool
-  pub keeps_rules : Bool
-  pub ledger : G → Ledger
-  pub faults : G → ℕ
-  pub begun : List (Sealed × Line) → List (Sealed × Line) → List (Sealed × Line)
-
--- an agency and what its kind tells of it
+-- an agency: what its kind tells, how that begins a session by what it had and by the noted pairs, and its desk before and after
 pub record Agencies (G : Type 0) : Type 0 where
-  pub kind : AgencyKind G
+  pub kind : Kind
+  pub begun : List (Sealed × Line) → List (Sealed × Line) → List (Sealed × Line)
   pub agency : G
   pub agency_after : G
+  pub before : Desk
+  pub after : Desk
 
 -- what contracts say of a kind of agency, and of an agency of it
 abbrev pub agency_kind : {G : Type 0} → agency.Ghosts G → Kind
@@ -100,6 +106,31 @@ pub record AllDevices (D C Z G : Type 0) : Type 0 where
   pub sleeper : Sleepers Z
   pub agency : Agencies G
 
+-- what a command is given besides its source
+pub record Around (D C Z G : Type 0) : Type 0 where
+  pub sink : Sinks
+  pub disk : Disks D
+  pub clock : Clocks C
+  pub sleeper : Sleepers Z
+  pub agency : Agencies G
+
+-- nothing was printed, and nothing else was touched
+pub record LeftAll {D C Z G : Type 0} (c : Around D C Z G) : Type 0 where
+  pub wrote : WroteNothing c.sink
+  pub disk : LeftDisk c.disk
+  pub clock : LeftClock c.clock
+  pub sleeper : LeftSleeper c.sleeper
+  pub agency : LeftAgency c.agency
+
+abbrev pub around : {D C Z G : Type 0} → AllDevices D C Z G → Around D C Z G
+around a = record {
+  sink = a.devices.sink;
+  disk = a.devices.disk;
+  clock = a.devices.clock;
+  sleeper = a.sleeper;
+  agency = a.agency;
+}
+
 -- the parts of an outside in a call, before it and after it, by what their kinds tell
 module _ {D C Z G : Type 0} where
   abbrev pub disk_in : disk.Ghosts D → Outside D C Z G → Outside D C Z G → Disks D
@@ -118,18 +149,26 @@ module _ {D C Z G : Type 0} where
 
   abbrev pub agency_in : agency.Ghosts G → Outside D C Z G → Outside D C Z G → Agencies G
   agency_in kind old new = record {
-    kind = record {
-      tells = kind.tells;
-      keeps_rules = kind.keeps_rules;
-      ledger = kind.ledger;
-      faults = kind.faults;
-      begun = kind.begun;
-    };
+    kind = agency_kind kind;
+    begun = kind.begun;
     agency = old.agency;
     agency_after = new.agency;
+    before = agency_desk kind old.agency;
+    after = agency_desk kind new.agency;
   }
 
-  -- all of them, with the source and the sink
+  -- all of them, with the sink
+  abbrev pub around_in : Sinks → disk.Ghosts D → clock.Ghosts C → sleeper.Ghosts Z → agency.Ghosts G → Outside D C Z G →
+      Outside D C Z G → Around D C Z G
+  around_in sink d c z g old new = record {
+    sink = sink;
+    disk = disk_in d old new;
+    clock = clock_in c old new;
+    sleeper = sleeper_in z old new;
+    agency = agency_in g old new;
+  }
+
+  -- and with the source
   abbrev pub this_call : Sources → Sinks → disk.Ghosts D → clock.Ghosts C → sleeper.Ghosts Z → agency.Ghosts G → Outside D C Z G →
       Outside D C Z G → AllDevices D C Z G
   this_call source sink d c z g old new = record {

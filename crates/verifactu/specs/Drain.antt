@@ -9,29 +9,16 @@ use Rattle.agency_rules.specs.declared.plans.Plan.{Plan}
 use Rattle.once_world.specs.Agreement.{Agree}
 use Rattle.till_calls.specs.Sound.{IsLater}
 use Rattle.sender.specs.declared.draining.TheConstants.{MAX_LINK_FAULTS}
-use Rattle.sender.specs.Turning.{Desk, Kind}
 use Rattle.script.specs.declared.forms.Form.TheVariants.{NoCommands}
 use Rattle.script.specs.declared.scripts.Script.{Script}
 use Rattle.recovery.specs.Opening.{IsFound}
 use Rattle.report.specs.declared.ended.Detail.{Detail}
 use Rattle.report.specs.declared.ended.Detail.TheVariants as detail
 use Rattle.verifactu.specs.Crashes.{StandsSince}
-use Rattle.verifactu.specs.Devices.{Agencies, AllDevices, Clocks, LeftAgency, LeftClock, LeftSleeper, NobodyCalled, Sleepers}
-use Rattle.verifactu.specs.Devices.{Untouched}
+use Rattle.verifactu.specs.Devices.{Agencies, AllDevices, Clocks, LeftAgency, LeftAll, LeftClock, LeftSleeper, Sleepers, around}
 use Rattle.verifactu.specs.Draining.{DiskSpan, DrainRunEnds, Outcome, StoreDrains, drain_text, noted_pairs, spanning}
 use Rattle.verifactu.specs.Opening.{NotOpened}
 use Rattle.verifactu.specs.Scripts.{ScriptedEnds}
-
--- what the agency's kind tells
-abbrev pub kind_of : {G : Type 0} → Agencies G → Kind
-kind_of a = record { tells = a.kind.tells; keeps_rules = a.kind.keeps_rules }
-
--- the agency's desk before the call and after it
-abbrev pub desk_before : {G : Type 0} → Agencies G → Desk
-desk_before a = record { ledger = a.kind.ledger a.agency; faults = a.kind.faults a.agency }
-
-abbrev pub desk_after : {G : Type 0} → Agencies G → Desk
-desk_after a = record { ledger = a.kind.ledger a.agency_after; faults = a.kind.faults a.agency_after }
 
 -- the file from the sync at its opening on
 abbrev pub file_span : {D : Type 0} → Disks D → DiskSpan
@@ -46,13 +33,13 @@ file_span k = record {
 -- with the records noted in the file as what it has processed, where its kind begins so, the agency agrees with it
 abbrev pub AgreesAtStart : {G : Type 0} → Agencies G → List Entry → Type 0
 AgreesAtStart a start =
-    Agree start (a.kind.begun (a.kind.ledger a.agency).processed (noted_pairs start)) (a.kind.ledger a.agency).sent
+    Agree start (a.begun a.before.ledger.processed (noted_pairs start)) a.before.ledger.sent
 
 -- no device failed in the call
 pub record NothingRose {D G : Type 0} (s : Sinks) (k : Disks D) (a : Agencies G) : Type 0 where
   pub sink : Rose s.faults s.faults_after → ⊥
   pub disk : DiskRose k → ⊥
-  pub agency : Rose (a.kind.faults a.agency) (a.kind.faults a.agency_after) → ⊥
+  pub agency : Rose a.before.faults a.after.faults → ⊥
 
 -- The file was opened and drained, from the history that it stood for.
 pub record FileDrained {D G : Type 0} (issuer : List ℕ) (plan : Plan) (exact : Bool) (moment : ℕ) (s : Sinks) (k : Disks D)
@@ -61,14 +48,14 @@ pub record FileDrained {D G : Type 0} (issuer : List ℕ) (plan : Plan) (exact :
   pub found : IsTrue k.tells → IsFound issuer start (k.told k.disk).content
   pub outcome : Outcome
   -- what was said, noted and kept
-  pub drains : StoreDrains (StandsSince issuer) a.kind.begun plan issuer (file_span k)
-      (spanning start (kind_of a) (desk_before a) (desk_after a) exact moment outcome)
+  pub drains : StoreDrains (StandsSince issuer) a.begun plan issuer (file_span k)
+      (spanning start a.kind a.before a.after exact moment outcome)
   -- the text, and the end by the answer and the sink
   pub ends : DrainRunEnds outcome.answer (drain_text outcome) s end
   -- it is undelivered only where lines are missing and the agency failed eight times
   pub undelivered : (noted_count records_count : ℕ) → end ≡ detail.Undelivered noted_count records_count →
-      (noted_count < records_count) × (a.kind.faults a.agency_after < 2 ^ 64 - 1 →
-      a.kind.faults a.agency + MAX_LINK_FAULTS ≤ a.kind.faults a.agency_after)
+      (noted_count < records_count) × (a.after.faults < 2 ^ 64 - 1 →
+      a.before.faults + MAX_LINK_FAULTS ≤ a.after.faults)
   -- where no device fails and the agency keeps its rules and agrees, it is done, or memory was wanting
   pub complete : NothingRose s k a → IsTrue a.kind.keeps_rules → AgreesAtStart a start →
       (end ≡ detail.Done) ⊎ (end ≡ detail.NoMemory)
@@ -111,6 +98,6 @@ pub record ScriptDrainEnds {D C Z G : Type 0} (issuer : List ℕ) (script : Scri
 
 -- what `drain` did, and how it ended
 abbrev pub DrainEnds : {D C Z G : Type 0} → List ℕ → AllDevices D C Z G → Detail → Type 0
-DrainEnds issuer a end = ScriptedEnds NoCommands a.devices.source (Untouched a.devices × NobodyCalled a)
+DrainEnds issuer a end = ScriptedEnds NoCommands a.devices.source (LeftAll (around a))
     (λ (script : Script) (how : Detail).
     ScriptDrainEnds issuer script a.devices.sink a.devices.disk a.devices.clock a.sleeper a.agency how) end

@@ -8,7 +8,7 @@ use Rattle.record_fields.specs.declared.records.Sealed.{Sealed}
 use Rattle.record_fields.specs.declared.lines.Line.{Line}
 use Rattle.huella.specs.Linked.{Linked}
 use Rattle.record_codec.specs.declared.entries.Entry.{Entry}
-use Rattle.chain_disk.specs.OnDisk.{OnDisk, LeavesNow, LeavesOnly}
+use Rattle.chain_disk.specs.OnDisk.{OnDisk, LeavesNow}
 use Rattle.chain_disk.specs.declared.disk.Disk.{Ghosts}
 use Rattle.journal.specs.declared.faults.StoreFault.{StoreFault}
 use Rattle.journal.specs.declared.faults.StoreFault.TheVariants as store
@@ -32,7 +32,7 @@ use Rattle.sender.specs.Turning.{Kind, Desk}
 use Rattle.report.specs.Turns.{turns_text}
 use Rattle.report.specs.declared.ended.Detail.{Detail}
 use Rattle.report.specs.declared.ended.Detail.TheVariants as detail
-use Rattle.verifactu.specs.Crashes.{StandsBetween, StandsForEnd}
+use Rattle.verifactu.specs.Crashes.{Kept, StandsBetween}
 use Rattle.verifactu.specs.Noting.{NotesSaid, TornSaid}
 use Rattle.verifactu.specs.Steps.{Steps}
 
@@ -183,13 +183,6 @@ pub record IsSession (begun : Beginning) (plan : Plan) (d : Span) : Type 0 where
   pub agreement : IsTrue d.kind.keeps_rules →
       Agree d.start (begun d.old.ledger.processed (noted_pairs d.start)) d.old.ledger.sent → StillAgrees d
 
--- Since some moment each crash leaves a file with P; now it leaves the history at the end, or that with the torn notes, and so
--- reads the disk.
-pub record KeptNotes (P : List ℕ → Type 0) (issuer : List ℕ) (d : Span) (since now : OnDisk) : Type 0 where
-  pub each_moment : LeavesOnly since now P
-  pub every_crash : LeavesNow now (StandsForEnd issuer d.end d.torn)
-  pub reads : StandsForEnd issuer d.end d.torn now.content
-
 -- the file stands for a history that agrees
 abbrev pub AgreesInFile : List ℕ → Desk → List ℕ → Type 0
 AgreesInFile issuer desk file = (entries : List Entry)
@@ -220,7 +213,7 @@ pub record StoreDrains (P : List Entry → List Entry → List Entry → List �
   pub notes : AddsNotesAlone d.start d.end
   pub legal : Legal issuer d.end
   pub linked : Linked issuer (recs d.end)
-  pub kept : IsTrue k.tells → KeptNotes (P d.start d.end d.torn) issuer d k.since k.now
+  pub kept : IsTrue k.tells → Kept (P d.start d.end d.torn) issuer d.end d.torn k.since k.now
   -- where the agency agrees it does with the history of each file that a crash now leaves
   pub images : IsTrue k.tells → StillAgrees d → LeavesNow k.now (AgreesInFile issuer d.new)
   -- the disk's count of faults rose where it failed

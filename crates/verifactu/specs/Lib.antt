@@ -18,6 +18,7 @@ pub mod Draining
 pub mod Outcomes
 pub mod Started
 pub mod Drain
+pub mod Days
 pub mod Beside
 pub mod Tills
 pub mod Works

@@ -1,9 +1,9 @@
 -- The readings of the clock that a run's commands are answered by.
-use Rattle.std.specs.Prelude.{◌≡◌, ℕ, count_by, Bool, true, false, Option, Some, None, Result, Ok, Err}
+use Rattle.std.specs.Prelude.{◌≡◌, ℕ, count_by, Bool, true, false, Option, Some, None, Result, Err}
 use Rattle.ports.specs.Counting.{counting}
 use Rattle.ports.specs.Readings.{IsTold, MovedBy}
 use Rattle.journal.specs.declared.faults.StoreFault.{StoreFault}
-use Rattle.journal.specs.declared.faults.StoreFault.TheVariants.{DiskFault, Stopped, NoMemory}
+use Rattle.journal.specs.declared.faults.StoreFault.TheVariants.{Stopped}
 use Rattle.shop_core.specs.declared.answers.Reply.{Reply}
 use Rattle.verifactu.specs.Devices.{Clocks, LeftClock}
 use Rattle.verifactu.specs.Replies.{Replies}

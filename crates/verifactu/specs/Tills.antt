@@ -1,8 +1,7 @@
--- What a shop's tills are told in a day, by the history at its end.
-use Rattle.std.specs.Prelude.{◌≡◌, ◌≢◌, ◌⊎◌, ◌≤◌, ℕ, ◌+◌, ◌==◌, Bool, true, false, List, [], ◌∷◌, ◌++◌, filter, drop, flat_map}
+-- What a day makes of a shop: what its tills are told, by the history at its end, and its stop.
+use Rattle.std.specs.Prelude.{◌≡◌, ◌≢◌, ◌≤◌, ℕ, ◌+◌, ◌==◌, Bool, true, false, List, [], ◌∷◌, ◌++◌, filter, drop}
 use Rattle.std.specs.Prelude.{length, slice_get, Contains, Option, None, Some, Result, Ok, Err}
 use Rattle.std.specs.List.{AllByRecursion, list_any, range_with_len}
-use Rattle.chain_disk.specs.OnDisk.{OnDisk}
 use Rattle.journal.specs.declared.faults.StoreFault.{StoreFault}
 use Rattle.journal.specs.declared.faults.StoreFault.TheVariants.{DiskFault, Stopped, NoMemory}
 use Rattle.ports.specs.Causes.{Rose}
@@ -18,9 +17,11 @@ use Rattle.shop_core.specs.declared.answers.Reply.{Reply}
 use Rattle.shop_core.specs.declared.answers.Reply.TheVariants.{Taken, Again, Refused}
 use Rattle.till_calls.specs.Root.{Parts, Root}
 use Rattle.till_calls.specs.Sound.{IsSound}
-use Rattle.sender.specs.declared.answers.DrainFault.{DrainFault}
 use Rattle.once_world.specs.Agreement.{IsPrefix}
-use Rattle.verifactu.specs.Draining.{AreNotesEntry, IsDiskAnswer, IsFaultless, torn_in}
+use Rattle.verifactu.specs.Beside.{SendsBeside}
+use Rattle.verifactu.specs.Days.{Day, Stop, TillReplies, all_replies}
+use Rattle.verifactu.specs.Devices.{StoreKind}
+use Rattle.verifactu.specs.Draining.{AreNotesEntry, IsDiskAnswer, IsFaultless}
 use Rattle.verifactu.specs.Replies.{Replies, AllGoOn}
 
 -- the asks of a till, in line order
@@ -34,12 +35,6 @@ has_asks asks till = list_any (λ (a : Asked). a.till == till) asks
 -- the tills that ask for anything, in order of number
 abbrev pub tills_of : List Asked → List ℕ
 tills_of asks = filter (has_asks asks) (range_with_len 1 LAST_TILL)
-
--- what a till was told, and how many items of the shop's list it saw at its end
-pub record TillReplies : Type 0 where
-  pub till : ℕ
-  pub replies : Replies
-  pub saw : ℕ
 
 -- a coming answer of the clock; where threads ask it isn't known which one
 abbrev pub IsSomeReading : (ℕ → Option ℕ) → ℕ → Type 0
@@ -86,42 +81,24 @@ AreTaken (Ok (Refused why) ∷ replies) entries = AreTaken replies entries
 AreTaken (Err fault ∷ replies) entries = AreTaken replies entries
 
 -- how many stops there are behind the entries of a shop's list
-abbrev pub stops_in : Option ℕ → ℕ
+abbrev pub stops_in : Option Stop → ℕ
 stops_in None = 0
-stops_in (Some count) = 1
+stops_in (Some stop) = 1
 
--- One till's part of a day from this history to that one: the run of its own asks, its records since the start, and how much it
--- saw at its end: no less than at its last answer, and no more than the history at the end, and the stop behind it.
-pub record TillServed (issuer : List ℕ) (coming : ℕ → Option ℕ) (start end : List Entry) (stopped : Option ℕ)
-    (asks : List Asked) (t : TillReplies) : Type 0 where
+-- One till's part of a day: the run of its own asks, its records since the start, and how much it saw at its end: no less than at
+-- its last answer, and no more than the history at the end, and the stop behind it.
+pub record TillServed (d : Day) (t : TillReplies) : Type 0 where
   pub last : ℕ
   pub told : Bool
-  pub run : ServedRun issuer coming start end (asks_of t.till asks) t.replies last told
-  pub own : AreTaken t.replies (own_of t.till (drop (length start) end))
+  pub run : ServedRun d.issuer d.coming d.start d.end (asks_of t.till d.asks) t.replies last told
+  pub own : AreTaken t.replies (own_of t.till (drop (length d.start) d.end))
   pub at_least : last ≤ t.saw
-  pub at_most : t.saw ≤ length end + stops_in stopped
-
--- all that the tills were told
-abbrev pub all_replies : List TillReplies → Replies
-all_replies tills = flat_map (λ (t : TillReplies). t.replies) tills
+  pub at_most : t.saw ≤ length d.end + stops_in d.stop
 
 -- a stop is told by this count
 abbrev pub TellsStop : ℕ → Result Reply StoreFault → Type 0
 TellsStop count (Err (Stopped faults)) = faults ≡ count
 TellsStop _ _ = Unit {0}
-
--- The disk failed, its count of faults having risen to this one. A till was told so, or the sender was, which may have found no
--- memory to tell it. The stop is told by this count.
-pub record StoppedAt (faults faults_after count : ℕ) (replies : Replies) (answer : Result (Unit {0}) DrainFault) : Type 0 where
-  pub first : Contains replies (Err DiskFault) ⊎ (IsFaultless answer → ⊥)
-  pub later : AllByRecursion (TellsStop count) replies
-  pub risen : Rose faults count
-  pub within : count ≤ faults_after
-
--- whether the shop stopped, and at which count; the other counts of faults are those before the day and after it
-abbrev pub StopsShop : ℕ → ℕ → Option ℕ → Replies → Result (Unit {0}) DrainFault → Type 0
-StopsShop faults faults_after None replies answer = AllGoOn replies × (IsDiskAnswer answer → ⊥)
-StopsShop faults faults_after (Some count) replies answer = StoppedAt faults faults_after count replies answer
 
 -- An entry whose append failed for a till run of these asks, at this history: the till was told the fault at one of its asks, and
 -- the entry is what the answer made of that ask, at this history and at a coming reading of the clock.
@@ -135,26 +112,31 @@ pub record IsCutOffBy (issuer : List ℕ) (coming : ℕ → Option ℕ) (history
   pub reading : IsSomeReading coming seconds
   pub made : answer issuer history ask seconds ≡ Made entry
 
--- An entry whose append failed in a day with this history at its end: that of a till, or notes of the sender, whose answer is a
+-- Who recorded a day's stop over an entry: a till at its answer to one of its asks; or the sender by its notes, whose answer is a
 -- fault of the store or want of memory.
-abbrev pub IsCutOffInDay : List ℕ → (ℕ → Option ℕ) → List Entry → List Asked → List TillReplies → Result (Unit {0}) DrainFault →
-    Entry → Type 0
-IsCutOffInDay issuer coming end asks tills answer entry =
-    ((t : TillReplies) × Contains tills t × IsCutOffBy issuer coming end (asks_of t.till asks) t.replies entry)
-    ⊎ (AreNotesEntry entry × (IsFaultless answer → ⊥))
+pub data RecordedBy (d : Day) (torn : Entry) : Type 0 where
+  till : (t : TillReplies) → Contains d.tills t → IsCutOffBy d.issuer d.coming d.end (asks_of t.till d.asks) t.replies torn →
+      RecordedBy d torn
+  sender : AreNotesEntry torn → (IsFaultless d.answer → ⊥) → RecordedBy d torn
 
--- What a day of these tills and of a sender makes of a shop: how the shop was at its start, the parts of its store after its
--- close,
--- what each till was told, and how the sending ended. No other till has a record since the start.
-pub record DayRun {D C : Type 0} (tells : Bool) (told : D → OnDisk) (faults : D → ℕ) (coming : C → ℕ → Option ℕ)
-    (asks : List Asked) (root : Root C) (new : Parts D C) (tills : List TillReplies) (answer : Result (Unit {0}) DrainFault) :
-    Type 0 where
-  pub sound : IsSound tells told faults coming root new
-  pub served : AllByRecursion
-      (TillServed root.issuer (coming root.clock) root.history new.state.entries new.stopped asks) tills
-  pub others : (till : ℕ) → AllByRecursion (λ (t : TillReplies). t.till ≢ till) tills →
-      own_of till (drop (length root.history) new.state.entries) ≡ []
-  pub stops : StopsShop root.faults (faults new.disk) new.stopped (all_replies tills) answer
-  -- the entry that was cut off is a till's, or the sender's notes
-  pub made : AllByRecursion (IsCutOffInDay root.issuer (coming root.clock) new.state.entries asks tills answer)
-      (torn_in new.stopped new.torn)
+-- The shop has stopped, the disk's count of faults having risen to the stop's. It is told by this count.
+pub record IsStop (d : Day) (faults faults_after : ℕ) (stop : Stop) : Type 0 where
+  pub by : RecordedBy d stop.torn
+  pub told : AllByRecursion (TellsStop stop.count) (all_replies d.tills)
+  pub risen : Rose faults stop.count
+  pub within : stop.count ≤ faults_after
+
+-- Nobody was told that the disk failed, or the shop has stopped; the disk's counts of faults are those before the day and after.
+abbrev pub StopIs : Day → ℕ → ℕ → Option Stop → Type 0
+StopIs d faults faults_after None = AllGoOn (all_replies d.tills) × (IsDiskAnswer d.answer → ⊥)
+StopIs d faults faults_after (Some stop) = IsStop d faults faults_after stop
+
+-- What a day makes of a shop, which was this at its start, with the parts of its store after its close. No other till has a
+-- record since the start.
+pub record DayRun {D C : Type 0} (h : StoreKind D C) (root : Root C) (new : Parts D C) (d : Day) : Type 0 where
+  pub sound : IsSound h.tells h.told h.faults h.coming root new
+  pub served : AllByRecursion (TillServed d) d.tills
+  pub others : (till : ℕ) → AllByRecursion (λ (t : TillReplies). t.till ≢ till) d.tills →
+      own_of till (drop (length d.start) d.end) ≡ []
+  pub stop : StopIs d root.faults (h.faults new.disk) d.stop
+  pub sends : SendsBeside d

@@ -8,7 +8,8 @@ use Rattle.till_calls.specs.Root.{Root}
 use Rattle.till_calls.specs.Client.{TillRun}
 use Rattle.till_calls.specs.Shop.{till_knows, till_number}
 use Rattle.verifactu.specs.Replies.{Replies}
-use Rattle.verifactu.specs.Tills.{TillReplies, asks_of}
+use Rattle.verifactu.specs.Days.{TillReplies}
+use Rattle.verifactu.specs.Tills.{asks_of}
 use Rattle.verifactu.specs.declared.tills.Job.{Job}
 use Rattle.verifactu.specs.declared.tills.TillDay.{TillDay}
 

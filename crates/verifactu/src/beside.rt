@@ -7,39 +7,17 @@ ghost use Rattle.verifactu.specs.Devices.{agency_desk, agency_kind};
 ghost use Rattle.verifactu.specs.Beside.{SendsOn};
 ghost use Rattle.verifactu.specs.Works.{HasRoom, Ran, day_of, job_knows};
 
+use crate::means::Means;
 use crate::sending::{Sent, send_part};
 use crate::tills::{Job, work_all};
 use agency_port::Agency;
 use chain_disk::Disk;
 use ports::{Clock, Gate, Sleeper};
 use shop_core::Ask;
-use std::alloc::Global;
 use std::sync::Wait;
-use std::sync::atomic::{AtomicBool, Ordering};
+use std::sync::atomic::AtomicBool;
 use std::thread::{Threads, join};
 use till_calls::{SenderSeat, Shop};
-
-// Runs the tills, and once they have ended tells the sender to stop.
-fn till_part<D: Disk + Send, C: Clock + Send, T: Gate + Sync, R: Threads + Wait + Sync>(
-    rt: &R,
-    alloc: Global,
-    gate: &T,
-    shop: &Shop<D, C>,
-    asks: &[Ask],
-    mut jobs: Vec<Job<D, C>>,
-    stop: &AtomicBool,
-) -> Vec<Job<D, C>>
-    requires own { All (λ j. till_shop j.till ≡ shop_id shop.now) jobs.items }
-    requires room { All (λ j. HasRoom asks.now (day_of j)) jobs.items }
-    ensures ran { Ran C.coming asks.now (reverse (map day_of jobs.items)) (reverse (map job_knows jobs.items))
-        (reverse (map day_of result.items)) (reverse (map job_knows result.items)) }
-    ensures own { All (λ j. till_shop j.till ≡ shop_id shop.now) result.items }
-    ensures len { vec_len result ≡ vec_len jobs }
-{
-    work_all(rt, alloc, gate, shop, asks, &mut jobs);
-    stop.store(true, Ordering::SeqCst);
-    jobs
-}
 
 /// Runs the tills and a sender beside each other. Where no thread can be made the sender runs after the tills, and ends at once.
 pub(crate) fn beside<
@@ -50,9 +28,7 @@ pub(crate) fn beside<
     T: Gate + Sync,
     R: Threads + Wait + Sync,
 >(
-    rt: &R,
-    alloc: Global,
-    gate: &T,
+    means: Means<'_, R, T>,
     shop: &Shop<D, C>,
     asks: &[Ask],
     jobs: Vec<Job<D, C>>,
@@ -74,20 +50,20 @@ pub(crate) fn beside<
     let stop = AtomicBool::new(false);
     let told = &stop;
     let (sent, jobs) = join(
-        rt,
+        means.rt,
         move || -> Sent<D, C, G, Z>
             requires { seat_shop seat ≡ shop_id shop.now }
             ensures { (mark_by (seat_shop result.seat) (seat_knows result.seat) ≡ mark_by (seat_shop seat) (seat_knows seat))
                 × SendsOn (agency_kind G.Agency) (sight_by (seat_knows seat)) (sight_by (seat_knows result.seat))
                 (agency_desk G.Agency agency) (agency_desk G.Agency result.agency) fresh result.sender result.answer }
-        { send_part(rt, alloc, gate, shop, seat, agency, sleeper, told) },
+        { send_part(means, shop, seat, agency, sleeper, told) },
         move || -> Vec<Job<D, C>>
             requires { All (λ j. till_shop j.till ≡ shop_id shop.now) jobs.items
                 × All (λ j. HasRoom asks.now (day_of j)) jobs.items }
             ensures { Ran C.coming asks.entry.now (reverse (map day_of jobs.items)) (reverse (map job_knows jobs.items))
                 (reverse (map day_of result.items)) (reverse (map job_knows result.items))
                 × All (λ j. till_shop j.till ≡ shop_id shop.entry.now) result.items × (vec_len result ≡ vec_len jobs) }
-        { till_part(rt, alloc, gate, shop, asks, jobs, told) },
+        { work_all(means, shop, asks, jobs, told) },
     );
     (jobs, sent)
 }

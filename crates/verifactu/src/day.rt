@@ -1,43 +1,43 @@
 // The command `day`: reads a script, opens the file, begins the agency's session, runs the script's tills beside each other on
 // the history that the file holds with a sender beside them, drains, and prints what each till was told and the chain.
-ghost use Rattle.std.specs.Prelude.{◌≡◌, IsTrue, None, map, All, length};
-ghost use Rattle.ports.specs.Sinks.{this_sink};
+ghost use Rattle.std.specs.Prelude.{◌≡◌, ◌++◌, ◌∷◌, ℕ, List, map, flat_map, length, IfOk, OnOk, None};
+ghost use Rattle.std.specs.List.{list_any};
+ghost use Rattle.ports.specs.Sinks.{OutputIs, Sinks, this_sink};
 ghost use Rattle.ports.specs.Sources.{this_source};
-ghost use Rattle.chain_disk.specs.OnDisk.{IsImage};
-ghost use Rattle.journal.specs.Journal.{stopped_of};
-ghost use Rattle.chain_store.specs.Store.{Ready, journal_of};
 ghost use Rattle.report.specs.Ended.{status_of};
-ghost use Rattle.report.specs.declared.ended.Detail.TheVariants as detail;
 ghost use Rattle.shop_core.specs.History.{recs, noted};
-ghost use Rattle.till_calls.specs.Root.{parts_of};
-ghost use Rattle.till_calls.specs.Sound.{IsLater};
+ghost use Rattle.shop_core.specs.Requests.{Asked};
+ghost use Rattle.verifactu.specs.Beside as beside;
 ghost use Rattle.verifactu.specs.Beside.{DayRunEnds};
-ghost use Rattle.verifactu.specs.Day.{DayEnds, LeftTime, StoreDayEnds, StoreServed, TillsEnd, day_text, store_kind};
-ghost use Rattle.verifactu.specs.Devices.{agency_desk, agency_in, agency_kind, clock_in, disk_in, sleeper_in, this_call};
-ghost use Rattle.verifactu.specs.Drain.{AllLeft, LeavesTime};
-ghost use Rattle.verifactu.specs.Readings.{readings_of};
-ghost use Rattle.verifactu.specs.Tills.{all_replies, tills_of};
-ghost use Rattle.verifactu.specs.Works.{HasRoom, told_in};
+ghost use Rattle.verifactu.specs.Day as spec;
+ghost use Rattle.verifactu.specs.Day.{DayEnds, FileDay, day_text};
+ghost use Rattle.verifactu.specs.Devices.{around_in, this_call};
+ghost use Rattle.verifactu.specs.Printed.{answers};
+ghost use Rattle.verifactu.specs.Replies as reply;
+ghost use Rattle.verifactu.specs.Days.{all_replies};
+ghost use Rattle.verifactu.specs.Tills.{asks_of};
+ghost use Rattle.verifactu.specs.Works.{told_in};
 
-use crate::day_text::{end_of_day, told_of_day};
-use crate::opening::opening_end;
+use crate::drain::fault_end;
+use crate::ending::{lacks_disk, lacks_memory};
+use crate::laws::{what_a_disk_reads_is_an_image, who_keeps_the_rules_tells};
+use crate::means::Means;
+use crate::opening::{begin, close, open, opening_end};
 use crate::outside::Outside;
+use crate::printed::RunText;
 use crate::scripts::read_source;
-use crate::serving::{NotServed, Served, serve};
-use crate::session::begin;
-use crate::till_days::till_days;
-use crate::tills::TillDay;
+use crate::serving::{Served, serve};
+use crate::tills::{TillDay, room_for};
 use agency_port::Agency;
 use chain_disk::Disk;
-use chain_store::Store;
 use file_commands::{ended_as, write_texts};
+use journal::StoreFault;
 use parties::Nif;
-use ports::{Clock, Gate, Sink, Sleeper, Source};
-use recovery::open_store;
-use report::{Detail, Ended};
+use ports::{Clock, Failed, Gate, NoMemory, Sink, Sleeper, Source};
+use report::{AnswerLine, Answers, Detail, Ended, answers_text, listing_text};
 use script::{Form, Script};
 use sender::DrainFault;
-use shop_core::{Ask, State, legal_is_chained};
+use shop_core::{Ask, Reply, State, legal_is_chained};
 use std::alloc::Global;
 use std::sync::Wait;
 use std::thread::Threads;
@@ -73,7 +73,8 @@ where
     match read_source(alloc, source, Form::Full) {
         Err(fault) => (ended_as(fault.detail()), outside),
         Ok(script) => {
-            let (detail, outside) = day_script(rt, alloc, issuer, &script, sink, outside, gate);
+            let means = Means { rt, alloc, gate };
+            let (detail, outside) = day_script(means, issuer, &script, sink, outside);
             (ended_as(detail), outside)
         }
     }
@@ -81,13 +82,11 @@ where
 
 // A clock line replaces clock and sleeper.
 fn day_script<K, D, C, Z, G, T, R>(
-    rt: &R,
-    alloc: Global,
+    means: Means<'_, R, T>,
     issuer: &Nif,
     script: &Script,
     sink: &mut K,
     outside: Outside<D, C, Z, G>,
-    gate: &T,
 ) -> (Detail, Outside<D, C, Z, G>)
 where
     K: Sink,
@@ -97,30 +96,24 @@ where
     G: Agency + Send + Drop,
     T: Gate + Sync,
     R: Threads + Wait + Sync,
-    ensures { let t = clock_in C.Clock outside result.1 in
-        let z = sleeper_in Z.Sleeper outside result.1 in
-        let a = agency_in G.Agency outside result.1 in
-        TillsEnd issuer.now script.now.asks script.now.plan (readings_of script.now.clock (C.coming outside.clock))
-        (AllLeft t z a) (LeftTime t z) (LeavesTime script.now.clock t z) (this_sink K.taken K.faults sink.old sink.new)
-        (disk_in D.Disk outside result.1) a result.0 }
+    ensures { FileDay issuer.now script.now script.now.clock (around_in (this_sink K.taken K.faults sink.old sink.new) D.Disk
+        C.Clock Z.Sleeper G.Agency outside result.1) result.0 }
 {
     let Some((start, step)) = script.clock else {
-        return day_file(rt, alloc, issuer, script, sink, outside, gate);
+        return day_file(means, issuer, script, sink, outside);
     };
     let (own, clock, sleeper) = outside.with_own_time(start, step);
-    let (detail, own) = day_file(rt, alloc, issuer, script, sink, own, gate);
+    let (detail, own) = day_file(means, issuer, script, sink, own);
     (detail, own.with_time(clock, sleeper))
 }
 
-// Opens the file and runs the day on it. The room for the tills' answers is made first.
+// Opens the file and runs the day on it. The room for the tills is made first.
 fn day_file<K, D, C, Z, G, T, R>(
-    rt: &R,
-    alloc: Global,
+    means: Means<'_, R, T>,
     issuer: &Nif,
     script: &Script,
     sink: &mut K,
     outside: Outside<D, C, Z, G>,
-    gate: &T,
 ) -> (Detail, Outside<D, C, Z, G>)
 where
     K: Sink,
@@ -130,176 +123,37 @@ where
     G: Agency + Send + Drop,
     T: Gate + Sync,
     R: Threads + Wait + Sync,
-    ensures { let t = clock_in C.Clock outside result.1 in
-        let z = sleeper_in Z.Sleeper outside result.1 in
-        let a = agency_in G.Agency outside result.1 in
-        TillsEnd issuer.now script.now.asks script.now.plan (C.coming outside.clock) (AllLeft t z a) (LeftTime t z)
-        (IsLater C.coming outside.clock result.1.clock) (this_sink K.taken K.faults sink.old sink.new)
-        (disk_in D.Disk outside result.1) a result.0 }
+    ensures { FileDay issuer.now script.now None (around_in (this_sink K.taken K.faults sink.old sink.new) D.Disk C.Clock Z.Sleeper
+        G.Agency outside result.1) result.0 }
 {
-    let Ok(tills) = till_days(alloc, script.asks.as_slice()) else {
+    let asks = script.asks.as_slice();
+    let Ok(room) = room_for(means.alloc, asks) else {
         return (Detail::NoMemory, outside);
     };
     what_a_disk_reads_is_an_image::<D>();
     who_keeps_the_rules_tells::<G>();
-    let Outside {
-        disk,
-        clock,
-        sleeper,
-        agency,
-    } = outside;
-    match open_store(alloc, disk, clock, issuer) {
-        Err(fault) => (
-            opening_end(&fault.cause),
-            Outside {
-                disk: fault.disk,
-                clock: fault.clock,
-                sleeper,
-                agency,
-            },
-        ),
-        Ok(store) => day_opened(rt, alloc, script, tills, sink, store, agency, sleeper, gate),
-    }
-}
-
-// An agency that keeps its rules tells its lists.
-fn who_keeps_the_rules_tells<G: Agency>()
-    ensures { IsTrue G.keeps_rules → IsTrue G.tells }
-{}
-
-// A disk as it reads is one of its images of now.
-fn what_a_disk_reads_is_an_image<D: Disk>()
-    ensures { (disk : _) → IsTrue D.tells → IsImage (D.told disk).now (D.told disk).content }
-{}
-
-// Opens the session on an opened file, and runs the day.
-fn day_opened<K, D, C, Z, G, T, R>(
-    rt: &R,
-    alloc: Global,
-    script: &Script,
-    tills: Vec<TillDay>,
-    sink: &mut K,
-    store: Store<D, C>,
-    mut agency: G,
-    sleeper: Z,
-    gate: &T,
-) -> (Detail, Outside<D, C, Z, G>)
-where
-    K: Sink,
-    D: Disk + Send + Drop,
-    C: Clock + Send + Drop,
-    Z: Sleeper + Send + Drop,
-    G: Agency + Send + Drop,
-    T: Gate + Sync,
-    R: Threads + Wait + Sync,
-    requires ready { Ready D.tells D.told store }
-    requires going_on { stopped_of (journal_of store) ≡ None }
-    requires tills { map (λ d. d.till) tills.items ≡ tills_of script.now.asks }
-    requires room { All (HasRoom script.now.asks) tills.items }
-    ensures { StoreDayEnds (result.1.sleeper ≡ sleeper)
-        (store_kind D.Disk C.Clock) G.begun script.now.plan script.now.asks (agency_kind G.Agency)
-        (agency_desk G.Agency agency) (agency_desk G.Agency result.1.agency)
-        (parts_of store) result.1.disk result.1.clock (this_sink K.taken K.faults sink.old sink.new) result.0 }
-{
-    match begin(alloc, &script.plan, store.state(), &mut agency) {
-        Err(_) => without_day(NotServed {
-            store,
-            agency,
-            sleeper,
-        }),
-        Ok(()) => serve_opened(
-            rt,
-            alloc,
-            script.asks.as_slice(),
-            tills,
-            sink,
-            store,
-            agency,
-            sleeper,
-            gate,
-        ),
-    }
-}
-
-// There was no memory for the day.
-fn without_day<D: Disk, C: Clock, Z: Sleeper + Drop, G: Agency + Drop>(
-    not_served: NotServed<D, C, G, Z>,
-) -> (Detail, Outside<D, C, Z, G>)
-    ensures end { result.0 ≡ detail.NoMemory }
-    ensures disk { result.1.disk ≡ (parts_of not_served.store).disk }
-    ensures clock { result.1.clock ≡ (parts_of not_served.store).clock }
-    ensures rest { (result.1.sleeper ≡ not_served.sleeper) × (result.1.agency ≡ not_served.agency) }
-{
-    let NotServed {
-        store,
-        agency,
-        sleeper,
-    } = not_served;
-    let (_, disk, clock) = store.into_parts();
-    (
-        Detail::NoMemory,
-        Outside {
-            disk,
-            clock,
-            sleeper,
-            agency,
+    legal_is_chained();
+    match open(means.alloc, issuer, outside) {
+        Err(unopened) => (opening_end(&unopened.why), unopened.outside),
+        Ok(opened) => match begin(means.alloc, &script.plan, &room.numbers, opened) {
+            Err(opened) => (Detail::NoMemory, close(opened)),
+            Ok(begun) => {
+                let Served {
+                    opened,
+                    tills,
+                    answer,
+                } = serve(means, asks, room, begun);
+                let detail = print_day(
+                    means.alloc,
+                    asks,
+                    &tills,
+                    &answer,
+                    opened.store.state(),
+                    sink,
+                );
+                (detail, close(opened))
+            }
         },
-    )
-}
-
-// Runs tills and sender on an opened file, prints, and gives all parts back.
-fn serve_opened<K, D, C, Z, G, T, R>(
-    rt: &R,
-    alloc: Global,
-    asks: &[Ask],
-    tills: Vec<TillDay>,
-    sink: &mut K,
-    store: Store<D, C>,
-    agency: G,
-    sleeper: Z,
-    gate: &T,
-) -> (Detail, Outside<D, C, Z, G>)
-where
-    K: Sink,
-    D: Disk + Send + Drop,
-    C: Clock + Send + Drop,
-    Z: Sleeper + Send + Drop,
-    G: Agency + Send + Drop,
-    T: Gate + Sync,
-    R: Threads + Wait + Sync,
-    requires ready { Ready D.tells D.told store }
-    requires going_on { stopped_of (journal_of store) ≡ None }
-    requires tills { map (λ d. d.till) tills.items ≡ tills_of asks.now }
-    requires room { All (HasRoom asks.now) tills.items }
-    ensures { StoreServed (result.1.sleeper ≡ sleeper)
-        (store_kind D.Disk C.Clock) asks.now (agency_kind G.Agency) (agency_desk G.Agency agency)
-        (agency_desk G.Agency result.1.agency)
-        (parts_of store) result.1.disk result.1.clock (this_sink K.taken K.faults sink.old sink.new) result.0 }
-{
-    match serve(rt, alloc, store, asks, tills, agency, sleeper, gate) {
-        Err(not_served) => without_day(not_served),
-        Ok(
-            Served {
-                store,
-                tills,
-                agency,
-                sleeper,
-                answer,
-            },
-        ) => {
-            legal_is_chained();
-            let detail = print_day(alloc, asks, &tills, &answer, store.state(), sink);
-            let (_, disk, clock) = store.into_parts();
-            (
-                detail,
-                Outside {
-                    disk,
-                    clock,
-                    sleeper,
-                    agency,
-                },
-            )
-        }
     }
 }
 
@@ -321,4 +175,140 @@ fn print_day<K: Sink>(
     };
     let written = write_texts(sink, told.answers.as_slice(), told.listing.as_slice());
     end_of_day(tills, answer, state.noted(), state.records(), written)
+}
+
+// Adds the answer to this ask, where it is one of the till, and gives the replies behind it.
+fn put_own<'a>(
+    till: u8,
+    ask: &Ask,
+    told: &'a [Result<Reply, StoreFault>],
+    lines: &mut Vec<AnswerLine>,
+) -> Result<&'a [Result<Reply, StoreFault>], NoMemory>
+    ensures { IfOk result (λ rest. (more : List Asked) →
+        lines.new.items ++ answers (asks_of till more) rest.now
+        ≡ lines.old.items ++ answers (asks_of till (ask.now ∷ more)) told.now) }
+{
+    if ask.till != till {
+        return Ok(told);
+    }
+    let [reply, rest @ ..] = told else {
+        return Ok(told);
+    };
+    lines.push(AnswerLine::Answered {
+        till,
+        serial: ask.serial,
+        reply: *reply,
+    })?;
+    Ok(rest)
+}
+
+// Adds the lines of a till.
+fn put_till(asks: &[Ask], day: &TillDay, lines: &mut Vec<AnswerLine>) -> Result<(), NoMemory>
+    ensures { OnOk result (lines.new.items ≡ lines.old.items ++ spec.till_lines asks.now (told_in day.now)) }
+{
+    let mut asked = asks;
+    let mut told = day.answers.as_slice();
+    while let [ask, more @ ..] = asked {
+        told = put_own(day.till, ask, told, lines)?;
+        asked = more;
+    }
+    lines.push(AnswerLine::Saw {
+        till: day.till,
+        count: day.saw,
+    })?;
+    Ok(())
+}
+
+// The lines of all tills, in order.
+fn day_lines(alloc: Global, asks: &[Ask], days: &[TillDay]) -> Result<Answers, NoMemory>
+    ensures { IfOk result (λ lines. lines ≡ flat_map (spec.till_lines asks.now) (map told_in days.now)) }
+{
+    let mut lines = Vec::new(alloc);
+    for day in days {
+        put_till(asks, day, &mut lines)?;
+    }
+    Ok(Answers::of(lines))
+}
+
+// The text of a day that left this history.
+fn told_of_day(
+    alloc: Global,
+    asks: &[Ask],
+    days: &[TillDay],
+    state: &State,
+) -> Result<RunText, NoMemory>
+    ensures { IfOk result (λ told.
+        told.answers ++ told.listing ≡ spec.day_text asks.now (map told_in days.now) state.now.entries) }
+{
+    let lines = day_lines(alloc, asks, days)?;
+    let answers = answers_text(alloc, &lines)?;
+    let listing = listing_text(alloc, state)?;
+    Ok(RunText { answers, listing })
+}
+
+fn one_lacks_memory(days: &[TillDay]) -> bool
+    ensures { result ≡ list_any (λ d. list_any reply.is_no_memory d.answers.items) days.now }
+{
+    days.iter().any(|day| lacks_memory(&day.answers))
+}
+
+fn one_lacks_disk(days: &[TillDay]) -> bool
+    ensures { result ≡ list_any (λ d. list_any reply.is_disk_fault d.answers.items) days.now }
+{
+    days.iter().any(|day| lacks_disk(&day.answers))
+}
+
+// Whether the sender found no memory.
+fn sender_lacks_memory(answer: &Result<(), DrainFault>) -> bool
+    ensures { result ≡ beside.sender_lacks_memory answer.now }
+{
+    match answer {
+        Err(DrainFault::NoMemory | DrainFault::Store(StoreFault::NoMemory)) => true,
+        _ => false,
+    }
+}
+
+// The end of a day whose sender failed so. One that gave up tells these two counts.
+fn sender_end(fault: DrainFault, noted: u32, records: u32) -> Detail
+    ensures { result ≡ beside.sender_end noted records fault }
+{
+    match fault {
+        DrainFault::Undelivered { .. } => Detail::Undelivered { noted, records },
+        _ => fault_end(fault),
+    }
+}
+
+// The end of a day with these answers of its tills and of its sender, whose text was written or not: want of memory before a
+// fault of the disk, that before a contradiction and an undelivered drain, and these before a fault of the sink. An undelivered
+// drain is told with the two counts of the history that the day left. A sender that is done has seen all lines noted; where they
+// aren't after all, it is want of memory.
+fn end_of_day(
+    days: &[TillDay],
+    answer: &Result<(), DrainFault>,
+    noted: u32,
+    records: u32,
+    written: Result<(), Failed>,
+) -> Detail
+    ensures { (text : List ℕ) (s : Sinks) → OutputIs s text written →
+        DayRunEnds (all_replies (map told_in days.now)) answer.now noted records text s result }
+{
+    if one_lacks_memory(days) {
+        return Detail::NoMemory;
+    }
+    if sender_lacks_memory(answer) {
+        return Detail::NoMemory;
+    }
+    if one_lacks_disk(days) {
+        return Detail::DiskFault;
+    }
+    if let Err(fault) = answer {
+        return sender_end(*fault, noted, records);
+    }
+    if noted != records {
+        return Detail::NoMemory;
+    }
+    match written {
+        Ok(()) => Detail::Done,
+        Err(_) => Detail::WriteFault,
+    }
 }

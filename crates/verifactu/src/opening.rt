@@ -1,13 +1,96 @@
-// The end of a command whose file wasn't opened.
-ghost use Rattle.std.specs.Prelude.{◌≡◌};
-ghost use Rattle.verifactu.specs.Opening as spec;
+// From the outside to an opened file, on to a shop that has begun over it, and back.
+ghost use Rattle.std.specs.Prelude.{◌≡◌, ◌≤◌, ◌⊎◌, IsTrue, All, IfOk, IfErr, OnOk, OnErr, None, length};
+ghost use Rattle.std.specs.Int.{IsInRange};
+ghost use Rattle.chain_store.specs.Store.{Ready, journal_of};
+ghost use Rattle.journal.specs.Journal.{stopped_of};
+ghost use Rattle.record_codec.specs.declared.entries.TheConstants.{LAST_TILL};
+ghost use Rattle.till_calls.specs.Root.{parts_of};
+ghost use Rattle.verifactu.specs.Beside.{IsUnbegun};
+ghost use Rattle.verifactu.specs.Devices.{agency_desk, agency_kind, disk_in, store_kind};
+ghost use Rattle.verifactu.specs.Draining as spec;
+ghost use Rattle.verifactu.specs.Draining.{OpensSession};
+ghost use Rattle.verifactu.specs.Opening as opening;
+ghost use Rattle.verifactu.specs.Opening.{IsOpened, IsUnopened};
+ghost use Rattle.verifactu.specs.Started.{IsBegun};
 
-use chain_store::OpenCause;
+use crate::outside::Outside;
+use agency_port::Agency;
+use agency_rules::Plan;
+use chain_disk::Disk;
+use chain_store::{OpenCause, Store};
+use parties::Nif;
+use ports::{Clock, NoMemory};
+use record_fields::{Line, Sealed};
+use recovery::open_store;
 use report::Detail;
+use shop_core::{State, a_history_notes_its_records};
+use std::alloc::Global;
+use till_calls::{Shop, StartRefused, Started};
 
-/// The end of a call whose file couldn't be opened for this cause.
+/// An outside whose file was opened: a store stands for disk and clock.
+#[derive(Drop)]
+pub struct Opened<D: Disk, C: Clock, Z, G> {
+    pub store: Store<D, C>,
+    pub sleeper: Z,
+    pub agency: G,
+}
+
+/// Why a file wasn't opened, and the outside again.
+#[derive(Drop)]
+pub struct Unopened<D, C, Z, G> {
+    pub why: OpenCause,
+    pub outside: Outside<D, C, Z, G>,
+}
+
+/// An opened file over which a shop has begun, with an agency whose session is open.
+#[derive(Drop)]
+pub struct Begun<D: Disk, C: Clock, Z, G> {
+    pub started: Started<D, C>,
+    pub sleeper: Z,
+    pub agency: G,
+}
+
+/// Opens the file of an outside for this issuer.
+pub fn open<D: Disk, C: Clock, Z, G>(
+    alloc: Global,
+    issuer: &Nif,
+    outside: Outside<D, C, Z, G>,
+) -> Result<Opened<D, C, Z, G>, Unopened<D, C, Z, G>>
+    ensures ready { IfOk result (λ o. Ready D.tells D.told o.store) }
+    ensures going_on { IfOk result (λ o. stopped_of (journal_of o.store) ≡ None) }
+    ensures opened { IfOk result (λ o. IsOpened issuer.now (store_kind D.Disk C.Clock) outside.disk outside.clock (parts_of o.store)) }
+    ensures kept { IfOk result (λ o. (o.sleeper ≡ outside.sleeper) × (o.agency ≡ outside.agency)) }
+    ensures unopened { IfErr result (λ u. IsUnopened issuer.now u.why (disk_in D.Disk outside u.outside)) }
+    ensures left { IfErr result (λ u. (u.outside.clock ≡ outside.clock) × (u.outside.sleeper ≡ outside.sleeper)
+        × (u.outside.agency ≡ outside.agency)) }
+{
+    let Outside {
+        disk,
+        clock,
+        sleeper,
+        agency,
+    } = outside;
+    match open_store(alloc, disk, clock, issuer) {
+        Ok(store) => Ok(Opened {
+            store,
+            sleeper,
+            agency,
+        }),
+        Err(fault) => Err(Unopened {
+            why: fault.cause,
+            outside: Outside {
+                disk: fault.disk,
+                clock: fault.clock,
+                sleeper,
+                agency,
+            },
+        }),
+    }
+}
+
+/// The end of a command whose file couldn't be opened for this cause.
 pub fn opening_end(cause: &OpenCause) -> Detail
-    ensures { result ≡ spec.opening_end cause.now }
+    ensures { result ≡ opening.opening_end cause.now }
 {
     match cause {
         OpenCause::DiskFault => Detail::DiskFault,
@@ -15,4 +98,108 @@ pub fn opening_end(cause: &OpenCause) -> Detail
         OpenCause::OtherIssuer { held } => Detail::OtherIssuer { held: *held },
         OpenCause::NoMemory => Detail::NoMemory,
     }
+}
+
+/// Closes the file of an outside.
+pub fn close<D: Disk, C: Clock, Z, G>(opened: Opened<D, C, Z, G>) -> Outside<D, C, Z, G>
+    ensures disk { result.disk ≡ (parts_of opened.store).disk }
+    ensures clock { result.clock ≡ (parts_of opened.store).clock }
+    ensures rest { (result.sleeper ≡ opened.sleeper) × (result.agency ≡ opened.agency) }
+{
+    let Opened {
+        store,
+        sleeper,
+        agency,
+    } = opened;
+    let (_, disk, clock) = store.into_parts();
+    Outside {
+        disk,
+        clock,
+        sleeper,
+        agency,
+    }
+}
+
+/// Opens the agency's session with this plan and the pairs noted in the file, and begins a shop over it with a till for each of
+/// these numbers. Where memory is wanting the opened file comes back, with its session open or not.
+pub fn begin<D: Disk, C: Clock, Z, G: Agency>(
+    alloc: Global,
+    plan: &Plan,
+    tills: &[u8],
+    opened: Opened<D, C, Z, G>,
+) -> Result<Begun<D, C, Z, G>, Opened<D, C, Z, G>>
+    requires numbers { All (IsInRange 1 LAST_TILL) tills.now }
+    requires few { length tills.now ≤ LAST_TILL }
+    requires going_on { stopped_of (journal_of opened.store) ≡ None }
+    requires ready { Ready D.tells D.told opened.store }
+    ensures shop { IfOk result (λ b. IsBegun D.told D.faults (parts_of opened.store) tills.now b.started) }
+    ensures session { IfOk result (λ b. OpensSession (agency_kind G.Agency) G.begun plan.now
+        (parts_of opened.store).state.entries (agency_desk G.Agency opened.agency) (agency_desk G.Agency b.agency)) }
+    ensures sleeper { IfOk result (λ b. b.sleeper ≡ opened.sleeper) }
+    ensures refused { IfErr result (λ o. (parts_of o.store ≡ parts_of opened.store) × (o.sleeper ≡ opened.sleeper)
+        × (IsUnbegun (agency_kind G.Agency) (agency_desk G.Agency opened.agency) (agency_desk G.Agency o.agency)
+        ⊎ OpensSession (agency_kind G.Agency) G.begun plan.now (parts_of opened.store).state.entries
+        (agency_desk G.Agency opened.agency) (agency_desk G.Agency o.agency))) }
+{
+    let Opened {
+        store,
+        sleeper,
+        mut agency,
+    } = opened;
+    store.state().is_legal();
+    match begin_session(alloc, plan, store.state(), &mut agency) {
+        Err(_) => Err(Opened {
+            store,
+            sleeper,
+            agency,
+        }),
+        Ok(()) => match Shop::start(alloc, store, tills) {
+            Ok(started) => Ok(Begun {
+                started,
+                sleeper,
+                agency,
+            }),
+            Err(StartRefused { store }) => Err(Opened {
+                store,
+                sleeper,
+                agency,
+            }),
+        },
+    }
+}
+
+// The first records of a history, each with the line noted for it.
+fn noted_pairs(alloc: Global, state: &State) -> Result<Vec<(Sealed, Line)>, NoMemory>
+    ensures { IfOk result (λ pairs. pairs.items ≡ spec.noted_pairs state.now.entries) }
+{
+    let count = state.noted();
+    let mut pairs = Vec::new(alloc);
+    for n in 0..count {
+        let Some(sealed) = state.sealed(alloc, n + 1)? else {
+            return Ok(pairs);
+        };
+        let Some(line) = state.line(n + 1) else {
+            return Ok(pairs);
+        };
+        pairs.push((sealed, line))?;
+    }
+    Ok(pairs)
+}
+
+/// Opens the agency's session with this plan and the pairs noted in the history.
+pub fn begin_session<G: Agency>(
+    alloc: Global,
+    plan: &Plan,
+    state: &State,
+    agency: &mut G,
+) -> Result<(), NoMemory>
+    ensures ok { OnOk result (OpensSession (agency_kind G.Agency) G.begun plan.now state.now.entries
+        (agency_desk G.Agency agency.old) (agency_desk G.Agency agency.new)) }
+    ensures err { OnErr result ((IsTrue G.tells → G.ledger agency.new ≡ G.ledger agency.old)
+        × (G.faults agency.new ≡ G.faults agency.old)) }
+{
+    a_history_notes_its_records();
+    state.is_legal();
+    let pairs = noted_pairs(alloc, state)?;
+    agency.begin(alloc, plan, &pairs)
 }

@@ -9,12 +9,12 @@ ghost use Rattle.till_calls.specs.Shop.{seat_knows, seat_shop, shop_id};
 ghost use Rattle.verifactu.specs.Devices.{agency_desk, agency_kind};
 ghost use Rattle.verifactu.specs.Beside.{SendsOn, sending_end};
 
+use crate::means::Means;
 use agency_port::{Agency, Turns};
 use chain_disk::Disk;
 use once_world::{Outbox, what_came_beside_is_records};
 use ports::{Clock, Gate, Sleeper};
 use sender::{DrainFault, SendFault, Sender, Turn};
-use std::alloc::Global;
 use std::sync::Wait;
 use std::sync::atomic::{AtomicBool, Ordering};
 use till_calls::{SenderSeat, Shop};
@@ -51,16 +51,15 @@ fn sleep<R: Wait, Z: Sleeper>(rt: &R, sleeper: &mut Z, at: u64, stop: &AtomicBoo
 // What comes behind a turn: the gate hears of noted lines, and the sender rests where there is nothing to do yet, and behind a
 // fault of the link.
 fn pause<R: Wait, T: Gate, Z: Sleeper>(
-    rt: &R,
-    gate: &T,
+    means: Means<'_, R, T>,
     sleeper: &mut Z,
     stop: &AtomicBool,
     answer: &Result<Turn, SendFault>,
 ) {
     match answer {
-        Ok(Turn::Noted { n }) => gate.noted(rt, *n),
-        Ok(Turn::WaitUntil(at)) => sleep(rt, sleeper, *at, stop),
-        Ok(Turn::Idle { .. }) | Err(SendFault::LinkFault) => sleeper.rest(rt),
+        Ok(Turn::Noted { n }) => means.gate.noted(means.rt, *n),
+        Ok(Turn::WaitUntil(at)) => sleep(means.rt, sleeper, *at, stop),
+        Ok(Turn::Idle { .. }) | Err(SendFault::LinkFault) => sleeper.rest(means.rt),
         _ => {}
     }
 }
@@ -79,9 +78,7 @@ fn going_on(answer: Result<Turn, SendFault>) -> Result<(), DrainFault>
 
 // One turn, and what comes behind it.
 fn one_turn<R: Wait, T: Gate, O: Outbox, G: Agency, Z: Sleeper>(
-    rt: &R,
-    alloc: Global,
-    gate: &T,
+    means: Means<'_, R, T>,
     outbox: &mut O,
     sender: &mut Sender,
     agency: &mut G,
@@ -94,16 +91,14 @@ fn one_turn<R: Wait, T: Gate, O: Outbox, G: Agency, Z: Sleeper>(
 {
     what_came_beside_is_records();
     let now = sleeper.now();
-    let answer = sender.turn(rt, alloc, outbox, agency, now);
-    pause(rt, gate, sleeper, stop, &answer);
+    let answer = sender.turn(means.rt, means.alloc, outbox, agency, now);
+    pause(means, sleeper, stop, &answer);
     going_on(answer)
 }
 
 /// Makes turns until it is told to stop, or until one ends with a fault that isn't the link's.
 pub fn send_until<R: Wait, T: Gate, O: Outbox, G: Agency, Z: Sleeper>(
-    rt: &R,
-    alloc: Global,
-    gate: &T,
+    means: Means<'_, R, T>,
     outbox: &mut O,
     sender: &mut Sender,
     agency: &mut G,
@@ -114,11 +109,11 @@ pub fn send_until<R: Wait, T: Gate, O: Outbox, G: Agency, Z: Sleeper>(
     ensures sends { SendsOn (agency_kind G.Agency) (O.sight outbox.old) (O.sight outbox.new)
         (agency_desk G.Agency agency.old) (agency_desk G.Agency agency.new) sender.old sender.new result }
 {
-    for _ in rt.forever() {
+    for _ in means.rt.forever() {
         if stop.load(Ordering::SeqCst) {
             return Ok(());
         }
-        if let Err(fault) = one_turn(rt, alloc, gate, outbox, sender, agency, sleeper, stop) {
+        if let Err(fault) = one_turn(means, outbox, sender, agency, sleeper, stop) {
             return Err(fault);
         }
     }
@@ -127,9 +122,7 @@ pub fn send_until<R: Wait, T: Gate, O: Outbox, G: Agency, Z: Sleeper>(
 
 /// Sends from this seat by a new sender until it is told to stop.
 pub(crate) fn send_part<D: Disk, C: Clock, G: Agency + Drop, Z: Sleeper + Drop, T: Gate, R: Wait>(
-    rt: &R,
-    alloc: Global,
-    gate: &T,
+    means: Means<'_, R, T>,
     shop: &Shop<D, C>,
     seat: SenderSeat<D, C>,
     mut agency: G,
@@ -144,9 +137,7 @@ pub(crate) fn send_part<D: Disk, C: Clock, G: Agency + Drop, Z: Sleeper + Drop, 
     let mut outbox = shop.seat_box(seat);
     let mut sender = Sender::new();
     let answer = send_until(
-        rt,
-        alloc,
-        gate,
+        means,
         &mut outbox,
         &mut sender,
         &mut agency,
@@ -163,9 +154,8 @@ pub(crate) fn send_part<D: Disk, C: Clock, G: Agency + Drop, Z: Sleeper + Drop, 
 }
 
 /// Drains with the same sender, unless a fault ended its turns.
-pub(crate) fn drain_rest<D: Disk, C: Clock, G: Agency + Drop, Z: Sleeper + Drop, R: Wait>(
-    rt: &R,
-    alloc: Global,
+pub(crate) fn drain_rest<D: Disk, C: Clock, G: Agency + Drop, Z: Sleeper + Drop, T, R: Wait>(
+    means: Means<'_, R, T>,
     shop: &Shop<D, C>,
     sent: Sent<D, C, G, Z>,
 ) -> Sent<D, C, G, Z>
@@ -192,11 +182,11 @@ pub(crate) fn drain_rest<D: Disk, C: Clock, G: Agency + Drop, Z: Sleeper + Drop,
         mut sleeper,
         answer: _,
     } = sent;
-    let mut turns = Turns::new(alloc);
+    let mut turns = Turns::new(means.alloc);
     let mut outbox = shop.seat_box(seat);
     let answer = sender.drain(
-        rt,
-        alloc,
+        means.rt,
+        means.alloc,
         &mut outbox,
         &mut agency,
         &mut sleeper,

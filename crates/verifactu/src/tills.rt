@@ -1,19 +1,23 @@
-// The tills of a day, each in a thread of its own.
-ghost use Rattle.std.specs.Prelude.{◌≡◌, ◌≤◌, ◌<◌, ◌+◌, ◌++◌, ◌∷◌, [], ℕ, List, length, map, reverse, All};
-ghost use Rattle.std.specs.Prelude.{IfOk, IfSome, vec_len, vec_capacity, slice_index_or};
+// The tills of a day: their room, and the work that each does in a thread of its own.
+ghost use Rattle.std.specs.Prelude.{◌≡◌, ◌≤◌, ◌<◌, ◌+◌, ◌++◌, ◌∷◌, [], ℕ, List, length, map, filter, reverse, All};
+ghost use Rattle.std.specs.Prelude.{IfOk, OnOk, vec_len, vec_capacity};
 ghost use Rattle.shop_core.specs.Requests.{Asked};
 ghost use Rattle.till_calls.specs.Client.{TillRun};
 ghost use Rattle.till_calls.specs.Shop.{seat_knows, seat_shop};
 ghost use Rattle.till_calls.specs.Shop.{made_tills, numbers, shop_id, till_knows, till_number, till_shop, tills_know, tills_shop};
-ghost use Rattle.verifactu.specs.Tills.{asks_of};
-ghost use Rattle.verifactu.specs.Works.{HasRoom, Works, day_of, job_knows};
+ghost use Rattle.verifactu.specs.Tills as spec;
+ghost use Rattle.verifactu.specs.Tills.{asks_of, tills_of};
+ghost use Rattle.verifactu.specs.Works.{HasRoom, Ran, Works, day_of, job_knows};
 
+use crate::means::Means;
 use chain_disk::Disk;
 use journal::StoreFault;
 use ports::{Clock, Gate, NoMemory};
+use record_codec::LAST_TILL;
 use shop_core::{Ask, Reply};
 use std::alloc::Global;
 use std::sync::Wait;
+use std::sync::atomic::{AtomicBool, Ordering};
 use std::thread::{Threads, for_each_mut};
 use till_calls::{SenderSeat, Shop, Till, Tills};
 
@@ -52,11 +56,87 @@ pub(crate) struct Job<D: Disk, C: Clock> {
     pub(crate) saw: u64,
 }
 
+/// The room of a day's tills: a day for each, their numbers, and a place for each that is at work.
+#[derive(Drop)]
+pub(crate) struct TillRoom<D: Disk, C: Clock> {
+    pub(crate) days: Vec<TillDay>,
+    pub(crate) numbers: Vec<u8>,
+    pub(crate) jobs: Vec<Job<D, C>>,
+}
+
+fn has_asks(asks: &[Ask], till: u8) -> bool
+    ensures { result ≡ spec.has_asks asks.now till }
+{
+    asks.iter().any(|ask| ask.till == till)
+}
+
+fn count_asks(asks: &[Ask], till: u8) -> usize
+    ensures { result ≡ length (asks_of till asks.now) }
+{
+    asks.iter().filter(|ask| ask.till == till).count()
+}
+
+// Adds this till, where it asks for anything.
+fn add_till(alloc: Global, asks: &[Ask], till: u8, days: &mut Vec<TillDay>) -> Result<(), NoMemory>
+    requires { All (HasRoom asks.now) days.old.items }
+    ensures till { OnOk result (map (λ d. d.till) days.new.items
+        ≡ map (λ d. d.till) days.old.items ++ filter (spec.has_asks asks.now) (till ∷ [])) }
+    ensures room { OnOk result (All (HasRoom asks.now) days.new.items) }
+{
+    if !has_asks(asks, till) {
+        return Ok(());
+    }
+    let day = TillDay::new(alloc, till, count_asks(asks, till))?;
+    days.push(day)?;
+    Ok(())
+}
+
+// A day for each till of these asks, in order of number.
+fn till_days(alloc: Global, asks: &[Ask]) -> Result<Vec<TillDay>, NoMemory>
+    ensures tills { IfOk result (λ days. map (λ d. d.till) days.items ≡ tills_of asks.now) }
+    ensures room { IfOk result (λ days. All (HasRoom asks.now) days.items) }
+{
+    let mut days = Vec::new(alloc);
+    for before in 0..LAST_TILL {
+        add_till(alloc, asks, before + 1, &mut days)?;
+    }
+    Ok(days)
+}
+
+// The tills' numbers, in order.
+fn numbers_of(alloc: Global, days: &[TillDay]) -> Result<Vec<u8>, NoMemory>
+    ensures { IfOk result (λ list. list.items ≡ map (λ d. d.till) days.now) }
+{
+    let mut list = Vec::with_capacity(alloc, days.len())?;
+    for day in days {
+        list.push_reserved(day.till);
+    }
+    Ok(list)
+}
+
+/// The room for the tills that ask for anything: all that is taken for them before their shop begins.
+pub(crate) fn room_for<D: Disk, C: Clock>(
+    alloc: Global,
+    asks: &[Ask],
+) -> Result<TillRoom<D, C>, NoMemory>
+    ensures tills { IfOk result (λ r. map (λ d. d.till) r.days.items ≡ tills_of asks.now) }
+    ensures numbers { IfOk result (λ r. r.numbers.items ≡ tills_of asks.now) }
+    ensures room { IfOk result (λ r. All (HasRoom asks.now) r.days.items) }
+    ensures jobs { IfOk result (λ r. (r.jobs.items ≡ []) × (vec_len r.days ≤ vec_capacity r.jobs)) }
+{
+    let days = till_days(alloc, asks)?;
+    let numbers = numbers_of(alloc, &days)?;
+    let jobs = Vec::with_capacity(alloc, days.len())?;
+    Ok(TillRoom {
+        days,
+        numbers,
+        jobs,
+    })
+}
+
 // Asks for one more, where it is the till's own, and keeps the answer.
 fn ask_own<D: Disk, C: Clock, T: Gate, R: Wait>(
-    rt: &R,
-    alloc: Global,
-    gate: &T,
+    means: Means<'_, R, T>,
     shop: &Shop<D, C>,
     till: &mut Till<D, C>,
     ask: &Ask,
@@ -73,39 +153,16 @@ fn ask_own<D: Disk, C: Clock, T: Gate, R: Wait>(
 {
     let number = till.number();
     if ask.till == number {
-        gate.before(rt, number, ask.serial);
-        let answer = shop.ask(rt, alloc, till, ask.serial, &ask.request);
+        means.gate.before(means.rt, number, ask.serial);
+        let answer = shop.ask(means.rt, means.alloc, till, ask.serial, &ask.request);
         answers.push_reserved(answer);
-        gate.after(rt, number, ask.serial);
+        means.gate.after(means.rt, number, ask.serial);
     }
 }
 
-// Asks for all that is the till's own, in order.
-fn ask_all<D: Disk, C: Clock, T: Gate, R: Wait>(
-    rt: &R,
-    alloc: Global,
-    gate: &T,
-    shop: &Shop<D, C>,
-    till: &mut Till<D, C>,
-    asks: &[Ask],
-    answers: &mut Vec<Result<Reply, StoreFault>>,
-)
-    requires own { till_shop till.old ≡ shop_id shop.now }
-    requires room { (length (asks_of (till_number till.old) asks.now) ≤ vec_capacity answers.old) × (answers.old.items ≡ []) }
-    ensures same { (till_shop till.new ≡ till_shop till.old) × (till_number till.new ≡ till_number till.old) }
-    ensures run { TillRun C.coming (till_knows till.old) (asks_of (till_number till.old) asks.now) answers.new.items
-        (till_knows till.new) }
-{
-    for ask in asks {
-        ask_own(rt, alloc, gate, shop, till, ask, answers);
-    }
-}
-
-// Does one till's work.
+// Does one till's work: asks for all that is its own, in order, and looks at the count.
 fn work<D: Disk, C: Clock, T: Gate, R: Wait>(
-    rt: &R,
-    alloc: Global,
-    gate: &T,
+    means: Means<'_, R, T>,
     shop: &Shop<D, C>,
     asks: &[Ask],
     job: &mut Job<D, C>,
@@ -116,48 +173,36 @@ fn work<D: Disk, C: Clock, T: Gate, R: Wait>(
     ensures works { Works C.coming (till_knows job.old.till) (asks_of (till_number job.old.till) asks.now) job.new.answers.items
         job.new.saw (till_knows job.new.till) }
 {
-    ask_all(rt, alloc, gate, shop, &mut job.till, asks, &mut job.answers);
+    for ask in asks {
+        ask_own(means, shop, &mut job.till, ask, &mut job.answers);
+    }
     job.saw = shop.count_now(&mut job.till);
 }
 
-/// Runs the tills beside each other.
+/// Runs the tills beside each other, each in a thread of its own, and once they have ended tells their sender to stop.
 pub(crate) fn work_all<D: Disk + Send, C: Clock + Send, T: Gate + Sync, R: Threads + Wait + Sync>(
-    rt: &R,
-    alloc: Global,
-    gate: &T,
+    means: Means<'_, R, T>,
     shop: &Shop<D, C>,
     asks: &[Ask],
-    jobs: &mut [Job<D, C>],
-)
-    requires own { All (λ j. till_shop j.till ≡ shop_id shop.now) jobs.old }
-    requires room { All (λ j. HasRoom asks.now (day_of j)) jobs.old }
-    ensures same { (i : ℕ) (d : _) → i < length jobs.old →
-        let a = slice_index_or jobs.old i d in let b = slice_index_or jobs.new i d in
-        (till_shop b.till ≡ till_shop a.till) × (till_number b.till ≡ till_number a.till) }
-    ensures works { (i : ℕ) (d : _) → i < length jobs.old →
-        let a = slice_index_or jobs.old i d in let b = slice_index_or jobs.new i d in
-        Works C.coming (till_knows a.till) (asks_of (till_number a.till) asks.now) b.answers.items b.saw (till_knows b.till) }
+    mut jobs: Vec<Job<D, C>>,
+    stop: &AtomicBool,
+) -> Vec<Job<D, C>>
+    requires own { All (λ j. till_shop j.till ≡ shop_id shop.now) jobs.items }
+    requires room { All (λ j. HasRoom asks.now (day_of j)) jobs.items }
+    ensures ran { Ran C.coming asks.now (reverse (map day_of jobs.items)) (reverse (map job_knows jobs.items))
+        (reverse (map day_of result.items)) (reverse (map job_knows result.items)) }
+    ensures own { All (λ j. till_shop j.till ≡ shop_id shop.now) result.items }
+    ensures len { vec_len result ≡ vec_len jobs }
 {
     let threads = jobs.len().max(1);
     for_each_mut(
-        rt,
-        jobs,
+        means.rt,
+        &mut jobs,
         threads,
-        &move |_, job| work(rt, alloc, gate, shop, asks, job),
+        &move |_, job| work(means, shop, asks, job),
     );
-}
-
-/// The tills' numbers, in order.
-pub(crate) fn numbers_of(alloc: Global, days: &[TillDay]) -> Option<Vec<u8>>
-    ensures { IfSome result (λ list. list.items ≡ map (λ d. d.till) days.now) }
-{
-    let Ok(mut list) = Vec::with_capacity(alloc, days.len()) else {
-        return None;
-    };
-    for day in days {
-        list.push_reserved(day.till);
-    }
-    Some(list)
+    stop.store(true, Ordering::SeqCst);
+    jobs
 }
 
 /// Gives each till its work, the last till first.

@@ -1,9 +1,8 @@
-use mir.Syntax.{of_param}
+use mir.Syntax.{erased, of_param}
 use denote.Exit.{no}
 use denote.Param.Send.{Quiet-if}
-use Rattle.std.proofs.Crossing.{send as heap_send}
 use Rattle.till_calls.proofs.Sent.{seat_send, shop_sync}
-use Rattle.verifactu.proofs.Sent.{flag_sync, sent_send}
+use Rattle.verifactu.proofs.Sent.{flag_sync, means_send, sent_send}
 use Rattle.verifactu.proofs.beside.beside.Goals as goal
 
 pub join-sent-requires-send-A : goal.join-sent-requires-send-A
@@ -15,36 +14,25 @@ join-sent-requires-send-A g c κs within =
 pub join-sent-requires-send-F : goal.join-sent-requires-send-F
 join-sent-requires-send-F g c κs within =
     let b = c.type_bounds in
+    let m = means_send (record { mir = erased; lft = κs.1.1.1.1.1.1.0 }) _ _ b.sync-R b.sync-T in
     let seat = seat_send _ _ g.D.Disk g.C.Clock b.send-D b.send-C in
     let s = shop_sync _ _ g.D.Disk g.D.Disk-dict g.C.Clock g.C.Clock-dict b.send-D b.send-C in
-    let r = b.sync-R in
-    let t = b.sync-T in
     record {
       owned = λ x vs vss. (
         tt,
         (
-          (tt, r.shared x.0.now x.0.ref_ptr.0 x.0.ref_ptr.1 _),
+          m.owned x.0 vss.0,
           (
-            heap_send.owned x.1 vss.1.0,
+            (tt, s.shared x.1.now x.1.ref_ptr.0 x.1.ref_ptr.1 _),
             (
-              (tt, t.shared x.2.now x.2.ref_ptr.0 x.2.ref_ptr.1 _),
+              seat.owned x.2 vss.1.1.0,
               (
-                (tt, s.shared x.3.now x.3.ref_ptr.0 x.3.ref_ptr.1 _),
-                (
-                  seat.owned x.4 vss.1.1.1.1.0,
-                  (
-                    b.send-G.owned x.5 vss.1.1.1.1.1.0,
-                    (
-                      b.send-Z.owned x.6 vss.1.1.1.1.1.1.0,
-                      ((tt, flag_sync.shared x.7.now x.7.ref_ptr.0 x.7.ref_ptr.1 _), tt),
-                    ),
-                  ),
-                ),
+                b.send-G.owned x.3 vss.1.1.1.0,
+                (b.send-Z.owned x.4 vss.1.1.1.1.0, ((tt, flag_sync.shared x.5.now x.5.ref_ptr.0 x.5.ref_ptr.1 _), tt)),
               ),
             ),
           ),
         ),
       );
-      leaving = λ k. Quiet-if (k (of_param 1)) _ _ (λ x w. (tt, (tt, (tt, (tt, ((((tt, tt), tt), tt), (tt, (tt, tt)))))))) (λ x w.
-          tt);
+      leaving = λ k. Quiet-if (k (of_param 1)) _ _ (λ x w. (tt, (tt, ((((tt, tt), tt), tt), (tt, (tt, tt)))))) (λ x w. tt);
     }

@@ -4,7 +4,7 @@ use Rattle.ports.specs.Sources.{this_source}
 use Rattle.report.specs.declared.ended.Detail.{Detail}
 use Rattle.script.specs.declared.forms.Form.TheVariants.{Full}
 use Rattle.verifactu.specs.Day.{DayEnds, DayRan}
-use Rattle.verifactu.specs.Devices.{NobodyCalled, Untouched, this_call}
+use Rattle.verifactu.specs.Devices.{LeftAll, around, this_call}
 use Rattle.verifactu.proofs.DayEnding.{day_ran}
 use Rattle.verifactu.proofs.RunEnding.{unread}
 use Rattle.verifactu.proofs.day.day_cmd.Goals as goal
@@ -27,5 +27,5 @@ returns-in-Err-clause-ends g c =
     (this_sink g.K.Sink.taken g.K.Sink.faults c.args.sink.now c.args.sink.now) g.D.Disk g.C.Clock g.Z.Sleeper g.G.Agency out
     out in
     subst (λ (d : Detail). DayEnds issuer all d) (sym (c.ended_as.ensures.detail ∙ c.detail.ensures))
-    (unread Full all.devices.source (Untouched all.devices × NobodyCalled all) (DayRan issuer all) c.in-Err.fault
-    c.in-Err.ensures (record { wrote = search rules; disk = refl; clock = refl }, record { sleeper = refl; agency = refl }))
+    (unread Full all.devices.source (LeftAll (around all)) (DayRan issuer all) c.in-Err.fault
+    c.in-Err.ensures (record { wrote = search rules; disk = refl; clock = refl; sleeper = refl; agency = refl }))

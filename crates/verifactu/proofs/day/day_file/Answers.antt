@@ -1,48 +1,143 @@
-use Rattle.std.proofs.Common.{◌≡◌, inl, inr, map, refl, subst, All, List}
+use Rattle.std.proofs.Common.{◌≡◌, ◌∙◌, ◌≤◌, ◌<◌, ◌+◌, ◌⊎◌, ℕ, List, inl, inr, sym, ap, subst, map, length, refl, arith, All}
+use Rattle.std.specs.Prelude.{◌≢◌}
+use Rattle.std.specs.Int.{IsInRange}
+use Rattle.std.specs.List.{range_with_len}
+use Rattle.std.proofs.lemmas.List.Elements.{All-weaker}
+use Rattle.std.proofs.lemmas.List.FromFn.{length-range_with_len}
 use Rattle.file_commands.proofs.Bytewise.{took_nothing}
 use Rattle.ports.specs.Sinks.{this_sink}
+use Rattle.shop_core.specs.History.{History, noted, recs}
 use Rattle.shop_core.specs.Requests.{Asked}
-use Rattle.till_calls.specs.Root.{parts_of}
-use Rattle.verifactu.specs.Day.{store_kind}
-use Rattle.verifactu.specs.Devices.{agency_in, sleeper_in}
-use Rattle.verifactu.specs.Tills.{tills_of}
-use Rattle.verifactu.specs.Works.{HasRoom}
+use Rattle.till_calls.specs.Root.{Parts, Root, parts_of, root_of}
+use Rattle.verifactu.specs.Beside.{DayRunEnds, IsUnbegun}
+use Rattle.verifactu.specs.Days.{all_replies, shop_day}
+use Rattle.verifactu.specs.Day.{day_text}
+use Rattle.verifactu.specs.Devices.{agency_desk, agency_in, agency_kind, sleeper_in, store_kind}
+use Rattle.verifactu.specs.Draining.{OpensSession}
+use Rattle.verifactu.specs.Tills.{DayRun, has_asks, tills_of}
+use Rattle.verifactu.specs.Works.{told_in}
 use Rattle.verifactu.specs.declared.tills.TillDay.{TillDay}
-use Rattle.verifactu.proofs.DayEnding.{store_day}
+use Rattle.verifactu.proofs.DayEnding.{day_done, day_left}
+use Rattle.verifactu.proofs.DayTexts.{same_numbers}
 use Rattle.verifactu.proofs.RunEnding.{not_opened}
+use Rattle.verifactu.proofs.TillDays.{distinct, filter_at_most, pairs_of, within}
 use Rattle.verifactu.proofs.day.day_file.Goals as goal
 
-pub day_opened-requires-clause-tills : goal.day_opened-requires-clause-tills
-day_opened-requires-clause-tills g c κs within = subst (λ (xs : List Asked). map (λ (d : TillDay). d.till) c.in-Ok.tills.items ≡
-    tills_of xs) c.as_slice.ensures c.in-Ok.ensures.tills
-
-pub day_opened-requires-clause-room : goal.day_opened-requires-clause-room
-day_opened-requires-clause-room g c κs within = subst (λ (xs : List Asked). All (HasRoom xs) c.in-Ok.tills.items)
-    c.as_slice.ensures c.in-Ok.ensures.room
-
 pub returns-in_default : goal.returns-in_default
-returns-in_default g c = inl (record {
-  ends = refl;
-  wrote = took_nothing (g.K.Sink.taken c.args.sink.now);
-  disk = refl;
-  rest = record { clock = refl; sleeper = refl; agency = refl };
-})
+returns-in_default g c = inl (
+  refl,
+  record {
+    wrote = took_nothing (g.K.Sink.taken c.args.sink.now);
+    disk = refl;
+    clock = refl;
+    sleeper = refl;
+    agency = refl;
+  },
+)
+
+pub begin-requires-clause-numbers : goal.begin-requires-clause-numbers
+begin-requires-clause-numbers g c =
+    let asks = c.as_slice-asks.result.now in
+    subst (λ (l : List ℕ). All (IsInRange 1 64) l) (sym (c.deref.ensures.value ∙ c.in-Ok.ensures.numbers))
+    (All-weaker (λ (x : ℕ). (1 ≤ x) × (x < 1 + 64)) (IsInRange 1 64) (λ x h. (h.0, omega (arith, h.1))) (tills_of asks)
+    (within (has_asks asks) 1 64))
+
+pub begin-requires-clause-few : goal.begin-requires-clause-few
+begin-requires-clause-few g c =
+    let asks = c.as_slice-asks.result.now in
+    let a = ap (λ (l : List ℕ). length l) (c.deref.ensures.value ∙ c.in-Ok.ensures.numbers) in
+    let e = filter_at_most (has_asks asks) (range_with_len 1 64) in
+    let f = length-range_with_len 1 64 in
+    omega (arith, a, e, f)
+
+pub serve-opened-requires-clause-distinct : goal.serve-opened-requires-clause-distinct
+serve-opened-requires-clause-distinct g c κs inside =
+    pairs_of (λ (d : TillDay). d.till) (λ (a b : ℕ). a ≢ b) c.in-Ok.room.days.items
+    (tills_of c.as_slice-asks.result.now) c.in-Ok.ensures.tills (distinct (has_asks c.as_slice-asks.result.now) 1 64)
 
 pub returns-in-Err : goal.returns-in-Err
 returns-in-Err g c =
-    let fault = c.in-Err.fault in
+    let u = c.in-Err.unopened in
     let h = c.in-Err.ensures in
-    inr (inl (not_opened fault.cause c.opening_end.ensures h.disk_fault h.left
-    (took_nothing (g.K.Sink.taken c.args.sink.now)) (record { clock = h.clock_err; sleeper = refl; agency = refl })))
+    inr (inl (not_opened u.why c.opening_end.ensures h.unopened.risen h.unopened.left_by
+    (took_nothing (g.K.Sink.taken c.args.sink.now)) (record { clock = h.left.0; sleeper = h.left.1; agency = h.left.2 })))
 
-pub returns-in-Ok-open_store : goal.returns-in-Ok-open_store
-returns-in-Ok-open_store g c =
-    let opened = c.in-Ok-open_store.ensures in
+pub returns-in-Err-begin : goal.returns-in-Err-begin
+returns-in-Err-begin g c =
     let out = c.args.outside in
-    let then = c.day_opened.result.1 in
-    store_day (store_kind g.D.Disk g.C.Clock)
-    c.args.issuer.now c.args.script.now.asks c.args.script.now.plan out.disk then.disk out.clock then.clock
-    (sleeper_in g.Z.Sleeper out then) (agency_in g.G.Agency out then) (parts_of c.in-Ok-open_store.store)
-    (this_sink g.K.Sink.taken g.K.Sink.faults c.args.sink.now c.day_opened.new.sink) c.day_opened.result.0
-    opened.issuer opened.clock opened.found opened.any_moment opened.every_crash opened.later
-    c.what_a_disk_reads_is_an_image.ensures c.who_keeps_the_rules_tells.ensures c.day_opened.ensures
+    let o = c.in-Ok-open.opened in
+    let k = c.in-Ok-open.ensures in
+    let h = k.opened in
+    let left = c.in-Err-begin.ensures.refused in
+    let then = c.close.result in
+    let kind = agency_kind g.G.Agency in
+    let Begins : g.row.G.Denot → g.row.G.Denot → Type 0 = λ x y. IsUnbegun kind (agency_desk g.G.Agency x) (agency_desk g.G.Agency y)
+    ⊎ OpensSession kind g.G.Agency.begun c.args.script.now.plan (parts_of o.store).state.entries (agency_desk g.G.Agency x)
+    (agency_desk g.G.Agency y) in
+    day_left (store_kind g.D.Disk g.C.Clock) c.args.issuer.now c.args.script.now out.disk then.disk
+    out.clock then.clock (sleeper_in g.Z.Sleeper out then) (agency_in g.G.Agency out then) (parts_of o.store)
+    (this_sink g.K.Sink.taken g.K.Sink.faults c.args.sink.now c.args.sink.now) _ h.issuer_is h.clock_is h.found h.any_moment
+    h.every_crash h.later c.what_a_disk_reads_is_an_image.ensures c.who_keeps_the_rules_tells.ensures
+    (record {
+      ends = refl;
+      wrote = took_nothing (g.K.Sink.taken c.args.sink.now);
+      disk = c.close.ensures.disk ∙ ap (λ (p : Parts g.row.D.Denot g.row.C.Denot). p.disk) left.0;
+      clock = c.close.ensures.clock ∙ ap (λ (p : Parts g.row.D.Denot g.row.C.Denot). p.clock) left.0;
+      rest = c.close.ensures.rest.0 ∙ left.1 ∙ k.kept.0;
+    })
+    (subst (λ (x : g.row.G.Denot). Begins x then.agency) k.kept.1
+    (subst (λ (y : g.row.G.Denot). Begins o.agency y) (sym c.close.ensures.rest.1) left.2))
+
+pub returns-in-Ok-begin : goal.returns-in-Ok-begin
+returns-in-Ok-begin g c =
+    let out = c.args.outside in
+    let script = c.args.script.now in
+    let asks = c.as_slice-asks.result.now in
+    let o = c.in-Ok-open.opened in
+    let k = c.in-Ok-open.ensures in
+    let h = k.opened in
+    let b = c.in-Ok-begin.begun in
+    let begun = c.in-Ok-begin.ensures in
+    let p0 = parts_of o.store in
+    let issuer = p0.state.issuer in
+    let served = c.serve-opened.result in
+    let days = served.tills.items in
+    let tills = map told_in days in
+    let new = parts_of served.opened.store in
+    let then = c.close-in-Ok-begin.result in
+    let kind = agency_kind g.G.Agency in
+    let sink = this_sink g.K.Sink.taken g.K.Sink.faults c.args.sink.now c.print_day-detail.new.sink in
+    let end = c.print_day-detail.result in
+    let Ran : List Asked → Root g.row.C.Denot → g.row.G.Denot → Type 0 = λ q r y. DayRun (store_kind g.D.Disk g.C.Clock) r new
+    (shop_day g.C.Clock.coming q r new tills kind (agency_desk g.G.Agency b.agency) (agency_desk g.G.Agency y) served.answer) in
+    let same : asks ≡ script.asks = c.as_slice-asks.ensures in
+    let run : Ran script.asks (root_of g.D.Disk.told g.D.Disk.faults p0) then.agency =
+    subst (λ (q : List Asked). Ran q (root_of g.D.Disk.told g.D.Disk.faults p0) then.agency) same
+    (subst (λ (y : g.row.G.Denot). Ran asks (root_of g.D.Disk.told g.D.Disk.faults p0) y) (sym c.close-in-Ok-begin.ensures.rest.1)
+    (subst (λ (r : Root g.row.C.Denot). Ran asks r served.opened.agency) begun.shop.root c.serve-opened.ensures.day)) in
+    let opens = subst (λ (x : g.row.G.Denot). OpensSession kind g.G.Agency.begun script.plan p0.state.entries
+    (agency_desk g.G.Agency x) (agency_desk g.G.Agency b.agency)) k.kept.1 begun.session in
+    let ends : DayRunEnds (all_replies tills) served.answer (length (noted new.state.entries)) (length (recs new.state.entries))
+    (day_text asks tills new.state.entries) sink end =
+    subst (λ (h : History). DayRunEnds (all_replies tills) served.answer (length (noted h.entries)) (length (recs h.entries))
+    (day_text asks tills h.entries) sink end) c.state.ensures
+    (subst (λ (l : List TillDay). DayRunEnds (all_replies (map told_in l)) served.answer
+    (length (noted c.state.result.now.entries)) (length (recs c.state.result.now.entries)) (day_text asks (map told_in l)
+    c.state.result.now.entries) sink end) c.deref-in-Ok-begin.ensures.value c.print_day-detail.ensures) in
+    day_done (store_kind g.D.Disk g.C.Clock) c.args.issuer.now script out.disk then.disk out.clock then.clock
+    (sleeper_in g.Z.Sleeper out then) (agency_in g.G.Agency out then) p0 sink end h.issuer_is h.clock_is h.found h.any_moment
+    h.every_crash h.later c.what_a_disk_reads_is_an_image.ensures c.who_keeps_the_rules_tells.ensures
+    (agency_desk g.G.Agency b.agency) opens
+    (record {
+      new = new;
+      tills = tills;
+      answer = served.answer;
+      disk = c.close-in-Ok-begin.ensures.disk;
+      clock = c.close-in-Ok-begin.ensures.clock;
+      tills_are = same_numbers days ∙ c.serve-opened.ensures.same ∙ c.in-Ok.ensures.tills ∙ ap tills_of same;
+      run = run;
+      linked = c.legal_is_chained.ensures.linked issuer new.state.entries run.sound.legal;
+      rising = λ till. c.legal_is_chained.ensures.rising issuer new.state.entries till run.sound.legal;
+      ends = subst (λ (q : List Asked). DayRunEnds (all_replies tills) served.answer (length (noted new.state.entries))
+          (length (recs new.state.entries)) (day_text q tills new.state.entries) sink end) same ends;
+    })

@@ -5,7 +5,7 @@ use Rattle.shop_core.specs.History.{recs}
 use Rattle.verifactu.specs.Beside.{DayRunEnds}
 use Rattle.verifactu.specs.Beside.DayRunEnds.{no_memory}
 use Rattle.verifactu.specs.Day.{day_text}
-use Rattle.verifactu.specs.Tills.{all_replies}
+use Rattle.verifactu.specs.Days.{all_replies}
 use Rattle.verifactu.specs.Works.{told_in}
 use Rattle.verifactu.proofs.day.print_day.Goals as goal
 

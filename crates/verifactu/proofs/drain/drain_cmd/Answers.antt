@@ -4,7 +4,7 @@ use Rattle.ports.specs.Sources.{this_source}
 use Rattle.report.specs.declared.ended.Detail.{Detail}
 use Rattle.script.specs.declared.forms.Form.TheVariants.{NoCommands}
 use Rattle.script.specs.declared.scripts.Script.{Script}
-use Rattle.verifactu.specs.Devices.{NobodyCalled, Untouched, this_call}
+use Rattle.verifactu.specs.Devices.{LeftAll, around, this_call}
 use Rattle.verifactu.specs.Drain.{DrainEnds, ScriptDrainEnds}
 use Rattle.verifactu.specs.Scripts.ScriptedEnds.{ran}
 use Rattle.verifactu.proofs.RunEnding.{unread}
@@ -27,6 +27,6 @@ returns-in-Err-clause-ends g c =
     (this_sink g.K.Sink.taken g.K.Sink.faults c.args.sink.now c.args.sink.now) g.D.Disk g.C.Clock g.Z.Sleeper g.G.Agency out
     out in
     subst (λ (d : Detail). DrainEnds issuer all d) (sym (c.ended_as.ensures.detail ∙ c.detail.ensures))
-    (unread NoCommands all.devices.source (Untouched all.devices × NobodyCalled all) (λ (script : Script) (how : Detail).
+    (unread NoCommands all.devices.source (LeftAll (around all)) (λ (script : Script) (how : Detail).
     ScriptDrainEnds issuer script all.devices.sink all.devices.disk all.devices.clock all.sleeper all.agency how) c.in-Err.fault
-    c.in-Err.ensures (record { wrote = search rules; disk = refl; clock = refl }, record { sleeper = refl; agency = refl }))
+    c.in-Err.ensures (record { wrote = search rules; disk = refl; clock = refl; sleeper = refl; agency = refl }))

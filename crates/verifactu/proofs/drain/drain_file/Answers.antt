@@ -1,42 +1,59 @@
-use Rattle.std.proofs.Common.{inl, inr, refl, subst}
+use Rattle.std.proofs.Common.{inl, inr, sym, subst}
 use Rattle.chain_store.specs.Store.{journal_of, state_of}
 use Rattle.journal.specs.Journal.{disk_of}
 use Rattle.file_commands.proofs.Bytewise.{took_nothing}
 use Rattle.ports.specs.Sinks.{this_sink}
+use Rattle.till_calls.specs.Root.{parts_of}
 use Rattle.till_calls.specs.Sound.{IsLater}
-use Rattle.verifactu.specs.Devices.{agency_in, disk_in}
-use Rattle.verifactu.specs.declared.outside.Outside.{Outside}
+use Rattle.verifactu.specs.Crashes.{StandsBetween}
+use Rattle.verifactu.specs.Devices.{agency_desk, agency_in, agency_kind, disk_in}
+use Rattle.verifactu.specs.Draining.{StoreDrains, disk_span, spanning}
+use Rattle.verifactu.specs.Outcomes.{outcome_of}
 use Rattle.verifactu.proofs.Finished.{not_later, opened_drained}
 use Rattle.verifactu.proofs.RunEnding.{not_opened}
 use Rattle.verifactu.proofs.drain.drain_file.Goals as goal
 
 pub returns-in-Err : goal.returns-in-Err
 returns-in-Err g c =
-    let fault = c.in-Err.fault in
+    let u = c.in-Err.unopened in
     let h = c.in-Err.ensures in
     record {
-      ends = inl (not_opened fault.cause c.opening_end.ensures h.disk_fault h.left
-          (took_nothing (g.K.Sink.taken c.args.sink.now)) (record { clock = h.clock_err; sleeper = refl; agency = refl }));
-      clock = not_later g.C.Clock.coming c.args.outside.clock fault.clock h.clock_err;
+      ends = inl (not_opened u.why c.opening_end.ensures h.unopened.risen h.unopened.left_by
+          (took_nothing (g.K.Sink.taken c.args.sink.now)) (record {
+            clock = h.left.0;
+            sleeper = h.left.1;
+            agency = h.left.2;
+          }));
+      clock = not_later g.C.Clock.coming c.args.outside.clock u.outside.clock h.left.0;
     }
 
 pub returns-in-Ok : goal.returns-in-Ok
 returns-in-Ok g c =
     let out = c.args.outside in
-    let store = c.in-Ok.store in
-    let opened = c.in-Ok.ensures in
-    let run = c.drain_opened-detail in
-    let then : Outside g.row.D.Denot g.row.C.Denot g.row.Z.Denot g.row.G.Denot = record {
-      disk = run.result.1;
-      clock = run.result.2;
-      sleeper = run.new.sleeper;
-      agency = run.new.agency;
-    } in
+    let o = c.in-Ok.opened in
+    let k = c.in-Ok.ensures in
+    let h = k.opened in
+    let end = c.drain_opened-end.result in
+    let then = c.close.result in
+    let store = o.store in
+    let issuer = (state_of store).issuer in
+    let Drains : g.row.D.Denot → g.row.G.Denot → g.row.G.Denot → g.row.Z.Denot → Type 0 = λ d x y z.
+    StoreDrains (StandsBetween issuer) g.G.Agency.begun c.args.plan.now issuer (disk_span g.D.Disk (disk_of (journal_of store)) d)
+    (spanning (state_of store).entries (agency_kind g.G.Agency) (agency_desk g.G.Agency x) (agency_desk g.G.Agency y)
+    g.Z.Sleeper.tells (g.Z.Sleeper.moment z) (outcome_of end)) in
+    let drains = subst (λ (d : g.row.D.Denot). Drains d out.agency then.agency out.sleeper) (sym c.close.ensures.disk)
+    (subst (λ (y : g.row.G.Denot). Drains (disk_of (journal_of end.opened.store)) out.agency y out.sleeper)
+    (sym c.close.ensures.rest.1)
+    (subst (λ (x : g.row.G.Denot). Drains (disk_of (journal_of end.opened.store)) x end.opened.agency out.sleeper) k.kept.1
+    (subst (λ (z : g.row.Z.Denot). Drains (disk_of (journal_of end.opened.store)) o.agency end.opened.agency z) k.kept.0
+    c.drain_opened-end.ensures.drains))) in
     record {
-      ends = inr (opened_drained c.args.issuer.now (state_of store).issuer c.args.plan.now g.Z.Sleeper.tells
-          (g.Z.Sleeper.moment out.sleeper) (this_sink g.K.Sink.taken g.K.Sink.faults c.args.sink.now run.new.sink)
-          (disk_in g.D.Disk out then) (agency_in g.G.Agency out then) (state_of store).entries
-          (g.D.Disk.told (disk_of (journal_of store))) (g.D.Disk.faults (disk_of (journal_of store))) run.result.0
-          opened.issuer opened.found opened.any_moment opened.later run.ensures.ends);
-      clock = subst (λ x. IsLater g.C.Clock.coming x run.result.2) opened.clock run.ensures.clock;
+      ends = inr (opened_drained c.args.issuer.now issuer c.args.plan.now g.Z.Sleeper.tells (g.Z.Sleeper.moment out.sleeper)
+          (this_sink g.K.Sink.taken g.K.Sink.faults c.args.sink.now c.print_turns-detail.new.sink) (disk_in g.D.Disk out then)
+          (agency_in g.G.Agency out then) (state_of store).entries (g.D.Disk.told (disk_of (journal_of store)))
+          (g.D.Disk.faults (disk_of (journal_of store))) c.print_turns-detail.result h.issuer_is h.found h.any_moment h.later
+          (outcome_of end, drains, c.print_turns-detail.ensures));
+      clock = subst (λ (x : g.row.C.Denot). IsLater g.C.Clock.coming x then.clock) h.clock_is
+          (subst (λ (y : g.row.C.Denot). IsLater g.C.Clock.coming (parts_of store).clock y) (sym c.close.ensures.clock)
+          c.drain_opened-end.ensures.clock);
     }

@@ -1,7 +1,6 @@
 use Rattle.std.proofs.Common.{sym, subst}
 use Rattle.chain_lock.specs.Known.{Known}
 use Rattle.sender.specs.Sending.{Sending}
-use Rattle.sender.specs.Turning.{Desk, Kind}
 use Rattle.shop_core.specs.declared.items.Item.{Item}
 use Rattle.till_calls.specs.Mark.{sight_by}
 use Rattle.till_calls.specs.Root.{Root}

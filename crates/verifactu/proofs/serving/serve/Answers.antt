@@ -1,44 +1,100 @@
-use Rattle.std.proofs.Common.{List, ℕ, map, ap, rules, sym, ◌∙◌, subst, All}
-use Rattle.std.specs.Int.{IsInRange}
-use Rattle.std.proofs.lemmas.List.Elements.{All-map}
-use Rattle.shop_core.specs.History.{History}
-use Rattle.shop_core.specs.Legal.{Legal}
-use Rattle.till_calls.specs.Root.{Root, parts_of}
-use Rattle.verifactu.specs.Beside.{SendsBeside, day_span}
+use Rattle.std.proofs.Common.{◌≡◌, ◌≤◌, ◌∙◌, List, [], length, map, refl, rules, sym, ap, subst, arith, vec_capacity}
+use Rattle.std.proofs.lemmas.List.{length-map, length-reverse}
+use Rattle.record_codec.specs.declared.entries.Entry.{Entry}
+use Rattle.shop_core.specs.declared.items.Item.{Item}
+use Rattle.shop_core.specs.declared.items.Item.TheVariants as item
+use Rattle.atomic_table.specs.Seated.{TableId}
+use Rattle.chain_lock.specs.Known.{Known}
+use Rattle.once_world.specs.Outbox.{Sight}
+use Rattle.sender.specs.Sending.{fresh}
+use Rattle.till_calls.specs.Mark.{Mark, mark_by, sight_by}
+use Rattle.till_calls.specs.Root.{Root, items_in, parts_of}
+use Rattle.till_calls.specs.Shop.{first_items, seat_knows, seat_shop, shop_root, tills_know}
+use Rattle.verifactu.specs.Beside.{SendsOn}
 use Rattle.verifactu.specs.Devices.{agency_desk, agency_kind}
-use Rattle.verifactu.specs.Tills.{DayRun}
-use Rattle.verifactu.specs.Works.{told_in}
+use Rattle.verifactu.specs.Tills.{asks_of}
+use Rattle.verifactu.specs.Works.{day_of, told_in}
 use Rattle.verifactu.specs.declared.tills.TillDay.{TillDay}
+use Rattle.verifactu.proofs.DayRuns.{ended, held_again, same_days, shared}
+use Rattle.verifactu.proofs.Jobs.{all_turned, ran_as}
+use Rattle.verifactu.proofs.Joined.{sends_beside}
+use Rattle.verifactu.proofs.Whole.{is_stopped}
 use Rattle.verifactu.proofs.serving.serve.Goals as goal
 
-pub start-requires-clause-numbers : goal.start-requires-clause-numbers
-start-requires-clause-numbers g c =
-    subst (λ (l : List ℕ). All (IsInRange 1 64) l) (sym (c.deref-2.ensures.value ∙ c.in-Some.ensures ∙
-    ap (λ (l : List TillDay). map (λ (d : TillDay). d.till) l) c.deref.ensures.value))
-    (All-map (IsInRange 1 64) (λ (d : TillDay). d.till) c.args.tills.items c.requires.numbers)
+pub beside-jobs-requires-clause-room : goal.beside-jobs-requires-clause-room
+beside-jobs-requires-clause-room g c κs within =
+    all_turned day_of (λ (d : TillDay). (length (asks_of d.till c.args.asks.now) ≤ vec_capacity d.answers) ×
+    (d.answers.items ≡ [])) c.hand_out.new.jobs.items c.args.room.days.items c.hand_out.ensures.days c.requires.room
 
-pub returns-in-Ok-start-clause-day : goal.returns-in-Ok-start-clause-day
-returns-in-Ok-start-clause-day g c =
-    subst (λ (r : Root g.row.C.Denot). DayRun g.D.Disk.tells g.D.Disk.told g.D.Disk.faults g.C.Clock.coming c.args.asks.now r
-    (parts_of c.serve_started.result.store) (map told_in c.serve_started.result.tills.items) c.serve_started.result.answer)
-    c.in-Ok-start.ensures.root.0 c.serve_started.ensures.day
+pub hand_in-requires-clause-room : goal.hand_in-requires-clause-room
+hand_in-requires-clause-room g c =
+    let e = c.beside-jobs.ensures.len in
+    let f : length c.hand_out.new.jobs.items ≡ length c.args.room.days.items =
+    sym (length-map c.hand_out.new.jobs.items day_of) ∙ sym (length-reverse (map day_of c.hand_out.new.jobs.items)) ∙
+    ap (λ (l : List TillDay). length l) c.hand_out.ensures.days in
+    let r = c.hand_out.ensures.room in
+    let m = c.requires.made in
+    let s = c.hand_out.ensures.same.1 in
+    search rules
 
-pub returns-in-Ok-start-clause-sends : goal.returns-in-Ok-start-clause-sends
-returns-in-Ok-start-clause-sends g c =
-    let served = c.serve_started.result in
-    subst (λ (r : Root g.row.C.Denot). SendsBeside (day_span r.history (agency_kind g.G.Agency)
-    (agency_desk g.G.Agency c.args.agency) (agency_desk g.G.Agency served.agency) (parts_of served.store) served.answer))
-    c.in-Ok-start.ensures.root.0 c.serve_started.ensures.sends
+pub close-requires-clause-whole : goal.close-requires-clause-whole
+close-requires-clause-whole g c = λ n l.
+    let ran = ran_as g.C.Clock.coming c.args.asks.now _ _ _ _ _ _ _ _ c.hand_out.ensures.days c.hand_out.ensures.knows
+    (sym c.hand_in.ensures.days) (sym c.hand_in.ensures.knows) c.beside-jobs.ensures.ran in
+    let old = c.beside-jobs.result.1.seat in
+    let new = c.hand_in.new.seat in
+    let shown : mark_by (seat_shop new) (seat_knows new) ≡ mark_by (seat_shop old) (seat_knows old) =
+    ap (λ (k : Known Item (Root g.row.C.Denot)). mark_by (seat_shop new) k) c.hand_in.ensures.seat.1
+    ∙ ap (λ (s : TableId). mark_by s (seat_knows old)) c.hand_in.ensures.seat.0 in
+    let marks = c.drain_rest-rest.ensures.mark ∙ shown ∙ c.beside-jobs.ensures.mark in
+    let again = held_again g.C.Clock.coming c.args.asks.now c.args.room.days.items c.hand_in.new.days.items
+    (tills_know c.args.begun.started.tills) (tills_know c.hand_in.new.tills) (seat_knows c.args.begun.started.seat)
+    (seat_knows c.drain_rest-rest.result.seat) ran
+    (ap (λ (m : Mark g.row.C.Denot). m.numbers) marks) n in
+    let once = c.requires.begun.whole n l in
+    omega (arith, again, once)
 
-pub serve_started-requires-clause-begun : goal.serve_started-requires-clause-begun
-serve_started-requires-clause-begun g c κs within =
-    let h = c.in-Ok-start.ensures in
-    let legal : Legal c.args.store.state.issuer c.args.store.state.entries =
-    subst (λ (h : History). Legal h.issuer h.entries) c.state.ensures c.is_legal.ensures in
-    record {
-      own = h.own;
-      new = h.new;
-      whole = h.whole;
-      legal = subst (λ (r : Root g.row.C.Denot). Legal r.issuer r.history) (sym h.root.0) legal;
-      base = search rules;
-    }
+pub returns-clause-day : goal.returns-clause-day
+returns-clause-day g c =
+    let ran = ran_as g.C.Clock.coming c.args.asks.now _ _ _ _ _ _ _ _ c.hand_out.ensures.days c.hand_out.ensures.knows
+    (sym c.hand_in.ensures.days) (sym c.hand_in.ensures.knows) c.beside-jobs.ensures.ran in
+    let p = parts_of c.close.result in
+    let shop = c.args.begun.started.shop in
+    let seat = seat_knows c.args.begun.started.seat in
+    let then = seat_knows c.drain_rest-rest.result.seat in
+    let kind = agency_kind g.G.Agency in
+    let opened = agency_desk g.G.Agency c.args.begun.agency in
+    let after = agency_desk g.G.Agency c.drain_rest-rest.result.agency in
+    let answer = c.drain_rest-rest.result.answer in
+    let told = map told_in c.hand_in.new.days.items in
+    let sends = c.drain_rest-rest.ensures.sends _ _ _ (subst (λ (s : Sight). SendsOn kind (sight_by seat) s opened
+    (agency_desk g.G.Agency c.beside-jobs.result.1.agency) fresh c.beside-jobs.result.1.sender c.beside-jobs.result.1.answer)
+    (sym (ap (λ (k : Known Item (Root g.row.C.Denot)). sight_by k) c.hand_in.ensures.seat.1)) c.beside-jobs.ensures.sends) in
+    let h = shared g.D.Disk.tells g.D.Disk.told g.D.Disk.faults g.C.Clock.coming c.args.asks.now p (shop_root shop)
+    (first_items shop) c.args.room.days.items c.hand_in.new.days.items (tills_know c.args.begun.started.tills)
+    (tills_know c.hand_in.new.tills) seat then ran c.requires.begun.new
+    c.a_till_owns_records_and_stops.ensures c.close.ensures.each c.close.ensures.begins c.close.ensures.since sends.adds in
+    ended g.D.Disk.tells g.D.Disk.told g.D.Disk.faults g.C.Clock.coming c.args.asks.now p (shop_root shop) (first_items shop)
+    c.args.room.days.items c.hand_in.new.days.items (tills_know c.args.begun.started.tills) (tills_know c.hand_in.new.tills) seat then
+    ran c.requires.begun.new kind opened after answer
+    c.a_till_adds_for_no_other.ensures c.a_till_adds_what_is_taken.ensures
+    (ap (λ (l : List Item). length l) c.requires.begun.base ∙ length-map (shop_root shop).history (λ (e : Entry). item.Entry e))
+    c.requires.distinct h sends.notes
+    (λ disk. is_stopped (first_items shop) (items_in p) (shop_root shop) (tills_know c.hand_in.new.tills) seat then h
+    (shop_root shop).history p.state.entries p.stopped p.torn (record {
+      base_is = c.requires.begun.base;
+      log_is = refl;
+      begins = c.close.ensures.sound.begins;
+    }) (sends.stopped disk))
+    c.close.ensures.sound
+    (sends_beside g.D.Disk.tells g.D.Disk.told g.D.Disk.faults g.C.Clock.coming p (shop_root shop) (first_items shop)
+    (tills_know c.hand_in.new.tills) seat then h c.close.ensures.sound c.requires.begun.base c.requires.begun.legal c.args.asks.now
+    told kind opened after c.drain_rest-rest.result.sender answer sends c.agreement_is_kept.ensures.records
+    c.a_session_begins.ensures.session c.a_session_begins.ensures.careful)
+
+pub returns-clause-same : goal.returns-clause-same
+returns-clause-same g c =
+    let ran = ran_as g.C.Clock.coming c.args.asks.now _ _ _ _ _ _ _ _ c.hand_out.ensures.days c.hand_out.ensures.knows
+    (sym c.hand_in.ensures.days) (sym c.hand_in.ensures.knows) c.beside-jobs.ensures.ran in
+    same_days g.C.Clock.coming c.args.asks.now c.args.room.days.items c.hand_in.new.days.items (tills_know c.args.begun.started.tills)
+    (tills_know c.hand_in.new.tills) ran
