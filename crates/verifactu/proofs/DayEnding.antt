@@ -422,6 +422,7 @@ module _ (d : Day) (new : ℕ → Option ℕ) (same : (k : ℕ) → d.coming k �
   sends_by h = record {
     agreement = λ keeps agree. agreed_by (h.agreement keeps agree);
     careful = h.careful;
+    runs = h.runs;
     says = h.says;
     contrary = h.contrary;
     shown = h.shown;

@@ -21,9 +21,8 @@ use Rattle.once_world.specs.Outbox.{Sight, history_of}
 use Rattle.till_calls.specs.Mark.{sight_by}
 use Rattle.till_calls.specs.Root.{Parts, Root, items_in}
 use Rattle.till_calls.specs.Sound.{IsSound}
-use Rattle.sender.specs.Agreeing.{BeginsCareful, BeginsInSession, InSession, KeepsReply}
+use Rattle.sender.specs.Agreeing.{BeginsCareful, BeginsInSession, InSession, IsCareful, KeepsReply}
 use Rattle.sender.specs.Evidence.{Shows}
-use Rattle.sender.specs.Dark.{AreRunsBy}
 use Rattle.sender.specs.Sending.{Sending, fresh}
 use Rattle.sender.specs.Turning.{Desk, Kind}
 use Rattle.sender.specs.declared.answers.DrainFault.{DrainFault}
@@ -31,9 +30,10 @@ use Rattle.sender.specs.declared.answers.DrainFault.TheVariants as drain
 use Rattle.shop_core.specs.Requests.{Asked}
 use Rattle.verifactu.specs.Beside.{CountsWithin, IsTornSaid, SendsBeside, SendsOn, ShowsLast, StaysAgreed}
 use Rattle.verifactu.specs.Days.{Day, TillReplies, shop_day, stop_of, torn_of}
-use Rattle.verifactu.specs.Draining.{SaysNothingBlindly, torn_in}
+use Rattle.verifactu.specs.Draining.{AreOfChain, SaysNothingBlindly, torn_in}
 use Rattle.verifactu.proofs.Agreed.{agree_new, entries_back, sight_new, torn_is}
 use Rattle.verifactu.specs.Noting.{NotesSaid}
+use Rattle.verifactu.proofs.Batches.{runs_more}
 use Rattle.verifactu.proofs.Clear.{nothing_before}
 use Rattle.verifactu.proofs.Contrary.{asked_of_more, none_yet, one_shown}
 use Rattle.verifactu.proofs.Noted.{at_end_noted}
@@ -82,17 +82,34 @@ module _ {D C : Type 0} (tells : Bool) (told : D → OnDisk) (faults : D → ℕ
         no_contradiction = sends.no_contradiction keeps in_it own;
       }
 
-  nothing_blindly : BeginsCareful → IsTrue kind.tells → AreRunsBy (recs root.history) (length (noted root.history) + 1000)
-      (batches_in old.ledger.messages) → SaysNothingBlindly old.ledger.messages new.ledger.messages
-  nothing_blindly careful says runs =
+  careful_then : BeginsCareful → IsTrue kind.tells → AreOfChain root.history old.ledger.messages →
+      IsCareful old.ledger.messages (sight_by then) new.ledger.messages sending
+  careful_then careful says runs =
       let there = subst (λ (n : List ℕ). Legal n (history_of (sight_by seat)))
       (sym (ap (λ (s : Sight). s.issuer) (sight_new base root seat h.fresh is)))
       (subst (λ (es : List Entry). Legal root.issuer es) (sym begun) legal) in
       let start = careful old.ledger.messages (sight_by seat) there
-      (subst (λ (es : List Entry). AreRunsBy (recs es) (length (noted es) + 1000) (batches_in old.ledger.messages))
-      (sym begun) runs) in
-      let ends = sends.careful says old.ledger.messages start in
+      (subst (λ (es : List Entry). AreOfChain es old.ledger.messages) (sym begun) runs) in
+      sends.careful says old.ledger.messages start
+
+  nothing_blindly : BeginsCareful → IsTrue kind.tells → AreOfChain root.history old.ledger.messages →
+      SaysNothingBlindly old.ledger.messages new.ledger.messages
+  nothing_blindly careful says runs =
+      let ends = careful_then careful says runs in
       record { session = ends.session; is = ends.is; never = ends.never }
+
+  -- the batches are runs of what the seat saw, and so of the whole
+  still_runs : BeginsCareful → IsTrue kind.tells → AreOfChain root.history old.ledger.messages →
+      AreOfChain p.state.entries new.ledger.messages
+  still_runs careful says runs =
+      let ends = careful_then careful says runs in
+      let seen = history_of (sight_by then) in
+      let more = more_records base (items_in p) root tills seat then h root.history p.state.entries p.stopped p.torn kept in
+      let lines : noted p.state.entries ≡ noted seen = (still_waits base (items_in p) root tills seat then h root.history
+      p.state.entries p.stopped p.torn kept).0 in
+      let count = ap (λ (ls : List Line). length ls) lines in
+      runs_more (recs p.state.entries) (recs seen) more.0 (length (noted seen) + 1000) (length (noted p.state.entries) + 1000)
+      (batches_in new.ledger.messages) more.1 (omega (arith, count)) ends.runs
 
   begins : KeepsReply old.ledger.messages old.ledger.messages fresh.said
   begins = record { session = []; is = sym (append-nil old.ledger.messages); kept = refl }
@@ -154,6 +171,7 @@ module _ {D C : Type 0} (tells : Bool) (told : D → OnDisk) (faults : D → ℕ
   sends_beside records session careful = record {
     agreement = still records session;
     careful = nothing_blindly careful;
+    runs = still_runs careful;
     says = sends.says;
     contrary = only_shown;
     shown = each_shown;

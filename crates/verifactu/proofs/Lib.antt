@@ -35,3 +35,9 @@ pub mod Turns
 pub mod Theirs
 pub mod Whole
 pub mod Joined
+pub mod Accepted
+pub mod Gaining
+pub mod Sessions
+pub mod Promised
+pub mod Promising
+pub mod Batches

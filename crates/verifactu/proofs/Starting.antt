@@ -16,7 +16,7 @@ use Rattle.sender.specs.declared.answers.DrainFault.TheVariants as drain
 use Rattle.sender.specs.Turning.{Desk}
 use Rattle.till_calls.specs.Root.{Parts, with_torn, root_of}
 use Rattle.till_calls.specs.Sound.{Leaves, IsSound}
-use Rattle.verifactu.specs.Draining.{AddsNotesAlone, AreNotesEntry, Sends, Span}
+use Rattle.verifactu.specs.Draining.{AreOfChain, AddsNotesAlone, AreNotesEntry, Sends, Span}
 use Rattle.verifactu.specs.Noting.{AreNoted, TornSaid}
 use Rattle.verifactu.specs.Steps.{EndsBy, at_start}
 
@@ -104,6 +104,8 @@ nothing_sent d end untorn same silent lacking = record {
         no_contradiction = λ evidence is. let e = sym lacking ∙ is in absurd cc;
         bound = λ batches few. record { added = []; is = silent; within = omega arith };
       };
+  runs = λ tells runs. subst (λ (es : List Entry). AreOfChain es d.new.ledger.messages) (sym end)
+      (subst (λ (k : Desk). AreOfChain d.start k.ledger.messages) (sym same) runs);
   careful = λ tells runs. record {
     session = [];
     is = ap (λ (k : Desk). k.ledger.messages) same ∙

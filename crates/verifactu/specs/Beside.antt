@@ -35,7 +35,7 @@ use Rattle.sender.specs.declared.draining.TheConstants.{MAX_LINK_FAULTS}
 use Rattle.report.specs.declared.ended.Detail.{Detail}
 use Rattle.report.specs.declared.ended.Detail.TheVariants as detail
 use Rattle.verifactu.specs.Days.{Day, torn_of}
-use Rattle.verifactu.specs.Draining.{IsDiskAnswer, IsFaultless, SaysNothingBlindly, fault_end}
+use Rattle.verifactu.specs.Draining.{AreOfChain, IsDiskAnswer, IsFaultless, SaysNothingBlindly, fault_end}
 use Rattle.verifactu.specs.Noting.{NotesSaid, TornSaid}
 use Rattle.verifactu.specs.Replies.{AllReplied, Replies, is_disk_fault, is_no_memory}
 
@@ -180,6 +180,8 @@ pub record SendsBeside (d : Day) : Type 0 where
   pub careful : IsTrue d.kind.tells →
       AreRunsBy (recs d.start) (length (noted d.start) + 1000) (batches_in d.opened.ledger.messages) →
       SaysNothingBlindly d.opened.ledger.messages d.after.ledger.messages
+  -- where all batches were such runs of the chain they are at the end
+  pub runs : IsTrue d.kind.tells → AreOfChain d.start d.opened.ledger.messages → AreOfChain d.end d.after.ledger.messages
   pub says : IsTrue d.kind.tells → SaysCalls d.opened.ledger.messages d.after.ledger.messages
   -- a contradiction is answered exactly where the last message is a consultation that shows it, but for want of memory
   pub contrary : IsTrue d.kind.tells → (evidence : Evidence) → IsErrOf d.answer (drain.Contradiction evidence) →

@@ -119,6 +119,10 @@ pub record SaysNothingBlindly (old new : List Message) : Type 0 where
   pub is : new ≡ old ++ session
   pub never : NoneInTheDark old session
 
+-- the batches that these messages hand over are runs of the chain that end at most 1000 past the noted lines
+abbrev pub AreOfChain : List Entry → List Message → Type 0
+AreOfChain entries messages = AreRunsBy (recs entries) (length (noted entries) + 1000) (batches_in messages)
+
 -- What a new sender does by its turns, over an agency whose session is open.
 pub record Sends (d : Span) : Type 0 where
   pub notes : AddsNotesAlone d.start d.end
@@ -139,6 +143,8 @@ pub record Sends (d : Span) : Type 0 where
   pub careful : IsTrue d.kind.tells →
       AreRunsBy (recs d.start) (length (noted d.start) + 1000) (batches_in d.old.ledger.messages) →
       SaysNothingBlindly d.old.ledger.messages d.new.ledger.messages
+  -- where all batches were such runs of the chain they are at the end
+  pub runs : IsTrue d.kind.tells → AreOfChain d.start d.old.ledger.messages → AreOfChain d.end d.new.ledger.messages
 
 -- how an agency's kind begins: what it has processed once a session is open, by what it had and by the noted pairs
 abbrev pub Beginning : Type 0

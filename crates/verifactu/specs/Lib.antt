@@ -23,4 +23,5 @@ pub mod Beside
 pub mod Tills
 pub mod Works
 pub mod Day
+pub mod Promise
 pub mod Running

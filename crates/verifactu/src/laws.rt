@@ -1,9 +1,11 @@
-// What all disks and all agencies of a kind have.
+// What all disks and all agencies of a kind have, and what the promise of a run comes to.
 ghost use Rattle.std.specs.Prelude.{IsTrue};
 ghost use Rattle.chain_disk.specs.OnDisk.{IsImage};
+ghost use Rattle.verifactu.specs.Promise.{DamagedIsNotOwn, ForeignIsNotOwn, IsFoundAgain, StaysOfChain};
 
 use agency_port::Agency;
 use chain_disk::Disk;
+use shop_core::a_file_has_one_meaning;
 
 /// An agency that keeps its rules tells its lists.
 pub(crate) fn who_keeps_the_rules_tells<G: Agency>()
@@ -13,4 +15,25 @@ pub(crate) fn who_keeps_the_rules_tells<G: Agency>()
 /// A disk as it reads is one of its images of now.
 pub(crate) fn what_a_disk_reads_is_an_image<D: Disk>()
     ensures { (disk : _) → IsTrue D.tells → IsImage (D.told disk).now (D.told disk).content }
+{}
+
+/// A damaged file may be written for nobody, and one of another issuer not for this one: by `others` of the promise both are as
+/// they were after every run.
+pub fn a_strange_file_is_not_own()
+    ensures damaged { DamagedIsNotOwn }
+    ensures foreign { ForeignIsNotOwn }
+{
+    a_file_has_one_meaning();
+}
+
+/// The history that a run finds begins with the one that the run before ended with, whether a crash came between them or not.
+pub fn what_a_run_left_is_found_again()
+    ensures { IsFoundAgain }
+{
+    a_file_has_one_meaning();
+}
+
+/// What was handed over as runs of a chain is so of each that it begins: of the one that the next run finds.
+pub fn what_was_handed_over_stays_of_the_chain()
+    ensures { StaysOfChain }
 {}

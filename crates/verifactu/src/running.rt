@@ -6,6 +6,7 @@ ghost use Rattle.verifactu.specs.Devices.{this_call};
 ghost use Rattle.report.specs.Ended.{status_of};
 ghost use Rattle.report.specs.declared.ended.Detail.TheVariants as detail;
 ghost use Rattle.file_commands.specs.Output.{PrintEnds};
+ghost use Rattle.verifactu.specs.Promise.{Promise};
 ghost use Rattle.verifactu.specs.Running.{CommandEnds, EndsAs};
 ghost use Rattle.verifactu.specs.Words.{IsWithin};
 
@@ -14,6 +15,7 @@ use crate::day::day_cmd;
 use crate::drain::drain_cmd;
 use crate::generate::generate_cmd;
 use crate::help::{help_text, version_text};
+use crate::laws::who_keeps_the_rules_tells;
 use crate::outside::Outside;
 use crate::words::{Command, command_of};
 use agency_port::Agency;
@@ -21,6 +23,7 @@ use chain_disk::Disk;
 use file_commands::{audit_cmd, check_cmd, ended_as, link_cmd, print};
 use ports::{Clock, Gate, Sink, Sleeper, Source};
 use report::{Detail, Ended};
+use shop_core::{a_file_has_one_meaning, legal_is_chained};
 use std::alloc::Global;
 use std::sync::Wait;
 use std::thread::Threads;
@@ -29,7 +32,8 @@ use std::thread::Threads;
 /// invoice: both read the disk alone. `check FILE WORKERS` is `check_cmd`, which reads the source beside it. `chain FILE NIF` is
 /// `chain_cmd` for this issuer, `day FILE NIF` `day_cmd`, and `drain FILE NIF` `drain_cmd`; `generate N` is `generate_cmd`, whose
 /// disk is its own; `--help` and `--version` print their texts. FILE itself is the caller's: it names the disk. All parts of the
-/// outside come back.
+/// outside come back. How each command ends is in `ends`; what every run keeps of the file, of its tills and of the agency, in
+/// `promise`.
 pub fn run<S, K, D, C, Z, G, T, R>(
     rt: &R,
     alloc: Global,
@@ -48,9 +52,14 @@ where
     G: Agency + Send + Drop,
     T: Gate + Sync,
     R: Threads + Wait + Sync,
-    ensures { EndsAs (map string_bytes words.now) (this_call (this_source S.left S.faults source.old source.new)
+    ensures ends { EndsAs (map string_bytes words.now) (this_call (this_source S.left S.faults source.old source.new)
         (this_sink K.taken K.faults sink.old sink.new) D.Disk C.Clock Z.Sleeper G.Agency outside result.1) result.0 }
+    ensures promise { Promise (map string_bytes words.now) (this_call (this_source S.left S.faults source.old source.new)
+        (this_sink K.taken K.faults sink.old sink.new) D.Disk C.Clock Z.Sleeper G.Agency outside result.1) }
 {
+    a_file_has_one_meaning();
+    legal_is_chained();
+    who_keeps_the_rules_tells::<G>();
     match command_of(words) {
         None => (ended_as(Detail::Usage), outside),
         Some(command) => obey(rt, alloc, command, source, sink, outside, gate),

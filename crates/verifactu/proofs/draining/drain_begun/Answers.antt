@@ -17,7 +17,7 @@ use Rattle.till_calls.specs.Root.{items_in, parts_of}
 use Rattle.till_calls.specs.Seat.{box_knows}
 use Rattle.till_calls.specs.Shop.{first_items, seat_knows, shop_root, tills_know}
 use Rattle.verifactu.specs.Devices.{agency_desk, agency_kind}
-use Rattle.verifactu.specs.Draining.{Span, StillAgrees, spanning, torn_in}
+use Rattle.verifactu.specs.Draining.{AreOfChain, Span, StillAgrees, spanning, torn_in}
 use Rattle.verifactu.specs.Noting.{NotesSaid}
 use Rattle.verifactu.specs.Steps.{Steps}
 use Rattle.verifactu.proofs.Alone.{Closed, closed_from, gains, mine, all_seen, still_held}
@@ -200,4 +200,16 @@ returns-clause-sends g c =
           let ends = c.drain-answer.ensures.careful tells said (subst (λ (s : Sending). IsCareful said sight said s)
           (sym c.new-sender.ensures) start) in
           record { session = ends.session; is = ends.is; never = ends.never };
+      runs = λ tells runs.
+          let sight = sight_by (box_knows c.seat_box-outbox.result) in
+          let said = (g.G.Agency.ledger c.args.begun.agency).messages in
+          let legal = subst (λ (n : List ℕ). Legal n (history_of sight)) (sym (ap (λ (s : Sight). s.issuer) (new_sight g c)))
+          (subst (λ (es : List Entry). Legal (shop_root c.args.begun.started.shop).issuer es) (sym (begun_at g c)) c.requires.legal)
+          in
+          let there = subst (λ (es : List Entry). AreRunsBy (recs es) (length (noted es) + 1000) (batches_in said))
+          (sym (begun_at g c)) runs in
+          let start = c.a_session_begins.ensures.careful said sight legal there in
+          let ends = c.drain-answer.ensures.careful tells said (subst (λ (s : Sending). IsCareful said sight said s)
+          (sym c.new-sender.ensures) start) in
+          subst (λ (es : List Entry). AreOfChain es (span g c).new.ledger.messages) (seen g c) ends.runs;
     }

@@ -1,0 +1,211 @@
+-- The promise of each command, from the way it ended.
+use Rattle.std.proofs.Common.{◌≡◌, ◌⊎◌, inl, inr, ◌≤◌, ℕ, List, [], length, refl, ap, subst, arith}
+use Rattle.std.proofs.Common.{Bool, IsTrue, Option, Some, None}
+use Rattle.agency_rules.specs.declared.plans.Plan.{Plan}
+use Rattle.chain_disk.specs.Disks.{LeftDisk}
+use Rattle.once_world.specs.Agreement.{IsPrefix}
+use Rattle.record_codec.specs.declared.entries.Entry.{Entry}
+use Rattle.report.specs.declared.ended.Detail.{Detail}
+use Rattle.script.specs.declared.forms.Form.TheVariants.{Full}
+use Rattle.script.specs.declared.scripts.Script.{Script}
+use Rattle.sender.specs.Turning.{Desk}
+use Rattle.shop_core.specs.FileLaws.{NotBegunIsNeither, OneHistory}
+use Rattle.verifactu.specs.Chain.{ChainEnds, ScriptEnds}
+use Rattle.verifactu.specs.Day.{DayEnds, FileDay, day_of}
+use Rattle.verifactu.specs.Days.{torn_of}
+use Rattle.verifactu.specs.Devices.{AllDevices, LeftAgency, NobodyCalled, around}
+use Rattle.verifactu.specs.Drain.{AllLeft, DrainEnds, FileDrained, first_moment, tells_moment}
+use Rattle.verifactu.specs.Draining.{IsSession, IsUnopened, spanning}
+use Rattle.verifactu.specs.Opening.{NotOpened}
+use Rattle.verifactu.specs.Promise.{AgencyKept, BatchesKept, FileKept, Grows, Promise, TillsGain, writes_for}
+use Rattle.verifactu.specs.Replies.{Replies}
+use Rattle.verifactu.specs.Readings.{IsComing, LeavesClock, readings_of}
+use Rattle.verifactu.specs.Running.{CommandEnds}
+use Rattle.verifactu.specs.Scripts.{IsGoodScript}
+use Rattle.verifactu.specs.Scripts.ScriptedEnds.{ran, bad_line, read_fault, too_big, no_memory}
+use Rattle.verifactu.specs.Words.{AsksFor, IsAskedFor}
+use Rattle.verifactu.specs.declared.words.Command.{Command}
+use Rattle.verifactu.specs.declared.words.Command.TheVariants.{Chain, Day, Drain, Audit, Link, Check, Generate, Help, Version}
+use Rattle.verifactu.proofs.Sessions.{batches_not_served, batches_of_day, batches_of_drain, batches_silent, left_agency}
+use Rattle.verifactu.proofs.Sessions.{not_served, of_day, of_drain}
+use Rattle.verifactu.proofs.Gaining.{gains_day, gains_notes, gains_nothing, gains_run, notes_nothing}
+use Rattle.verifactu.proofs.Promised.{AreLinked, Grown, Left, by_kept, goes_on, left_disk, legal_found, not_opened, others_of}
+use Rattle.verifactu.proofs.Promised.{own_of as own_grown, one_torn, sound_of, stands_still, torn_risen, whole}
+use Rattle.verifactu.proofs.Promised.Left.{grown}
+
+-- an agency that wasn't called has the desk that it had
+module _ {D C Z G : Type 0} (chained : AreLinked) (a : AllDevices D C Z G)
+    (desks : LeftAgency a.agency → a.agency.after ≡ a.agency.before) where
+  -- what is said beside the file: of each till, and of the agency
+  abbrev Rest : List Entry → List Entry → List Entry → Type 0
+  Rest start end torn =
+      TillsGain a.devices.source start end × AgencyKept start end torn a.agency × BatchesKept start end a.agency
+
+  abbrev LeftBy : List ℕ → Type 0
+  LeftBy issuer = Left issuer a.devices.disk Rest
+
+  nothing : LeftAgency a.agency → (start : List Entry) → Rest start start []
+  nothing left start = (
+    gains_nothing a.devices.source start,
+    left_agency a.agency (desks left) start start [] refl,
+    batches_silent a.agency start start (whole start) (λ tells. ap (λ (desk : Desk). desk.ledger) (desks left)),
+  )
+
+  module _ (says : IsTrue a.devices.disk.tells) (issuer : List ℕ) where
+    -- neither the disk nor the agency was called
+    uncalled : LeftDisk a.devices.disk → LeftAgency a.agency → LeftBy issuer
+    uncalled disk agency = left_disk chained issuer a.devices.disk Rest disk (nothing agency)
+
+    chain_script : (script : Script) (coming : ℕ → Option ℕ) (Leaves : Replies → Type 0) (end : Detail) →
+        IsGoodScript Full a.devices.source script → NobodyCalled a →
+        ScriptEnds issuer script.asks coming Leaves a.devices.sink a.devices.disk end → LeftBy issuer
+    chain_script script coming Leaves end good nobody (inl h) =
+        uncalled h.disk nobody.agency
+    chain_script script coming Leaves end good nobody (inr (inl h)) =
+        not_opened chained issuer a.devices.disk Rest says h (nothing nobody.agency)
+    chain_script script coming Leaves end good nobody (inr (inr h)) =
+        let p = h.0 in
+        let kept = p.kept says in
+        grown p.start p.end kept.torn (p.found says)
+        (by_kept chained issuer a.devices.disk _ p.start p.end p.replies (p.found says) p.begins p.legal p.stops kept) (
+          gains_run a.devices.source issuer (IsComing coming) p.start script.asks p.replies p.end (inr (script, good, refl))
+              p.run,
+          left_agency a.agency (desks nobody.agency) p.start p.end kept.torn (notes_nothing issuer (IsComing coming) p.start p.run),
+          batches_silent a.agency p.start p.end p.begins
+              (λ tells. ap (λ (desk : Desk). desk.ledger) (desks nobody.agency)),
+        )
+
+    chain_left : (end : Detail) → ChainEnds issuer a.devices end → NobodyCalled a → LeftBy issuer
+    chain_left end (ran script how good h) nobody =
+        chain_script script (readings_of script.clock (a.devices.clock.coming a.devices.clock.clock))
+        (LeavesClock a.devices.clock script.clock) how good nobody h.ends
+    chain_left end (bad_line line fault bad left) nobody = uncalled left.disk nobody.agency
+    chain_left end (read_fault failed left) nobody = uncalled left.disk nobody.agency
+    chain_left end (too_big past left) nobody = uncalled left.disk nobody.agency
+    chain_left end (no_memory left) nobody = uncalled left.disk nobody.agency
+
+    day_file : (rules : IsTrue a.agency.kind.keeps_rules → IsTrue a.agency.kind.tells) (script : Script) (end : Detail) →
+        IsGoodScript Full a.devices.source script → FileDay issuer script script.clock (around a) end → LeftBy issuer
+    day_file rules script end good (inl h) =
+        uncalled h.1.disk h.1.agency
+    day_file rules script end good (inr (inl h)) =
+        not_opened chained issuer a.devices.disk Rest says h (nothing h.rest.agency)
+    day_file rules script end good (inr (inr (inl h))) =
+        let kept = h.kept says in
+        let legal = legal_found issuer h.start (a.devices.disk.told a.devices.disk.disk).content (h.found says) in
+        grown h.start h.start [] (h.found says)
+        (goes_on chained issuer a.devices.disk h.start h.start [] (h.found says) (whole h.start) legal (omega arith) (inl refl)
+        kept.each_moment kept.every_crash kept.reads) (
+          gains_nothing a.devices.source h.start,
+          not_served a.agency script.plan h.start rules h.begun,
+          batches_not_served a.agency script.plan h.start h.begun,
+        )
+    day_file rules script end good (inr (inr (inr h))) =
+        let o = h.outcome in
+        let d = day_of issuer script script.clock (around a) o in
+        let kept = h.crashes.kept says in
+        grown o.start o.end (torn_of o.stop) (h.crashes.found says)
+        (goes_on chained issuer a.devices.disk o.start o.end (torn_of o.stop) (h.crashes.found says) h.history.begins
+        h.history.legal (one_torn o.stop) (torn_risen d (a.devices.disk.faults a.devices.disk.disk)
+        (a.devices.disk.faults a.devices.disk.disk_after) o.stop h.crashes.stop) kept.each_moment kept.every_crash kept.reads) (
+          gains_day a.devices.source d (inr (script, good, refl)) h.history.begins h.tills,
+          of_day issuer script script.clock (around a) o h.agency,
+          batches_of_day issuer script script.clock (around a) o h.agency,
+        )
+
+    day_left : (rules : IsTrue a.agency.kind.keeps_rules → IsTrue a.agency.kind.tells) (end : Detail) → DayEnds issuer a end →
+        LeftBy issuer
+    day_left rules end (ran script how good h) = day_file rules script how good h.ends
+    day_left rules end (bad_line line fault bad left) = uncalled left.disk left.agency
+    day_left rules end (read_fault failed left) = uncalled left.disk left.agency
+    day_left rules end (too_big past left) = uncalled left.disk left.agency
+    day_left rules end (no_memory left) = uncalled left.disk left.agency
+
+    drained : (plan : Plan) (exact : Bool) (moment : ℕ) (end : Detail) →
+        FileDrained issuer plan exact moment a.devices.sink a.devices.disk a.agency end → LeftBy issuer
+    drained plan exact moment end h =
+        let d = h.drains in
+        let o = h.outcome in
+        let kept = d.kept says in
+        let begins : IsPrefix h.start o.end = record { rest = d.notes.more; is = d.notes.is } in
+        grown h.start o.end o.torn (h.found says)
+        (goes_on chained issuer a.devices.disk h.start o.end o.torn (h.found says) begins d.legal (one_at_most d.session)
+        d.torn_risen kept.each_moment kept.every_crash kept.reads) (
+          gains_notes a.devices.source h.start o.end d.notes,
+          of_drain a.agency plan h.start exact moment o d.session,
+          batches_of_drain a.agency plan h.start exact moment o begins d.session,
+        )
+      where
+        one_at_most : IsUnopened (spanning h.start a.agency.kind a.agency.before a.agency.after exact moment
+            h.outcome) ⊎ IsSession a.agency.begun plan (spanning h.start a.agency.kind a.agency.before a.agency.after
+            exact moment h.outcome) → length h.outcome.torn ≤ 1
+        one_at_most (inl none) = let e = ap (λ (es : List Entry). length es) none.torn in omega (arith, e)
+        one_at_most (inr in_it) = in_it.sends.at_most_one
+
+    drain_file : (plan : Plan) (exact : Bool) (moment : ℕ) (end : Detail) →
+        NotOpened issuer (AllLeft a.devices.clock a.sleeper a.agency) a.devices.sink a.devices.disk end
+        ⊎ FileDrained issuer plan exact moment a.devices.sink a.devices.disk a.agency end → LeftBy issuer
+    drain_file plan exact moment end (inl n) =
+        not_opened chained issuer a.devices.disk Rest says n (nothing n.rest.agency)
+    drain_file plan exact moment end (inr f) = drained plan exact moment end f
+
+    drain_left : (end : Detail) → DrainEnds issuer a end → LeftBy issuer
+    drain_left end (ran script how good h) =
+        drain_file script.plan (tells_moment script.clock a.sleeper) (first_moment script.clock a.sleeper) how h.ends
+    drain_left end (bad_line line fault bad left) = uncalled left.disk left.agency
+    drain_left end (read_fault failed left) = uncalled left.disk left.agency
+    drain_left end (too_big past left) = uncalled left.disk left.agency
+    drain_left end (no_memory left) = uncalled left.disk left.agency
+
+  grows : (issuer : List ℕ) (start : List Entry) → Grown issuer a.devices.disk Rest start → Grows issuer start a
+  grows issuer start g =
+      record { end = g.end; torn = g.torn; chain = g.chain; tills = g.rest.0; agency = g.rest.1; batches = g.rest.2 }
+
+  -- a run that only reads
+  by_reading : a.devices.disk.told a.devices.disk.disk_after ≡ a.devices.disk.told a.devices.disk.disk → NobodyCalled a →
+      FileKept None a
+  by_reading same nobody = record {
+    sound = λ says issuer start stands. grows issuer start (stands_still chained a.devices.disk Rest issuer start
+        (inl (inl same)) (nothing nobody.agency) stands);
+    fresh = λ says issuer writes none. absurd (let x = writes in cc);
+    others = λ says other. inl (inl same);
+    reads = λ none. (same, nobody);
+  }
+
+  -- a run that writes for an issuer
+  by_writing : OneHistory → NotBegunIsNeither → (issuer : List ℕ) → (IsTrue a.devices.disk.tells → LeftBy issuer) →
+      FileKept (Some issuer) a
+  by_writing one neither issuer left = record {
+    sound = λ says other start stands. grows other start (sound_of chained a.devices.disk Rest one neither issuer other start
+        (left says) stands);
+    fresh = λ says other named none.
+        let same : issuer ≡ other = (let x = named in cc) in
+        subst (λ (i : List ℕ). Grows i [] a) same
+        (grows issuer [] (own_grown chained issuer a.devices.disk one neither Rest (left says) [] (inl (none, refl))));
+    others = λ says other. others_of chained issuer a.devices.disk Rest (left says) other;
+    reads = λ none. absurd (let x = none in cc);
+  }
+
+  file_kept : OneHistory → NotBegunIsNeither → (IsTrue a.agency.kind.keeps_rules → IsTrue a.agency.kind.tells) →
+      (command : Command) (end : Detail) → CommandEnds command a end → FileKept (writes_for (Some command)) a
+  file_kept one neither rules (Chain issuer) end h = by_writing one neither issuer (λ says. chain_left says issuer end h.0 h.1)
+  file_kept one neither rules (Day issuer) end h = by_writing one neither issuer (λ says. day_left says issuer rules end h)
+  file_kept one neither rules (Drain issuer) end h = by_writing one neither issuer (λ says. drain_left says issuer end h)
+  file_kept one neither rules Audit end h = by_reading h.1.disk h.2
+  file_kept one neither rules (Link num host) end h = by_reading h.1.disk h.2
+  file_kept one neither rules (Check workers) end h = by_reading h.1.disk h.2
+  file_kept one neither rules (Generate n) end h = by_reading (ap a.devices.disk.told h.1.disk) h.2
+  file_kept one neither rules Help end h = by_reading (ap a.devices.disk.told h.1.disk) h.2
+  file_kept one neither rules Version end h = by_reading (ap a.devices.disk.told h.1.disk) h.2
+
+  pub promised : OneHistory → NotBegunIsNeither → (IsTrue a.agency.kind.keeps_rules → IsTrue a.agency.kind.tells) →
+      (words : List (List ℕ)) (command : Command) (end : Detail) → AsksFor words command → CommandEnds command a end →
+      Promise words a
+  promised one neither rules words command end asked h =
+      record { command = Some command; asked = asked; file = file_kept one neither rules command end h }
+
+  pub promised_nothing : (words : List (List ℕ)) → IsAskedFor words None →
+      a.devices.disk.told a.devices.disk.disk_after ≡ a.devices.disk.told a.devices.disk.disk → NobodyCalled a →
+      Promise words a
+  promised_nothing words asked same nobody =
+      record { command = None; asked = asked; file = by_reading same nobody }

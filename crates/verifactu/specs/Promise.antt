@@ -1,0 +1,178 @@
+-- What a run promises of a shop's file, of its tills and of what its agency was told, whatever it ran and however it ended.
+use Rattle.std.specs.Prelude.{◌≡◌, ◌⊎◌, ◌≤◌, ℕ, List, [], ◌∷◌, ◌++◌, drop, length, map, false, IsTrue}
+use Rattle.std.specs.Prelude.{Option, Some, None, Ok, Err}
+use Rattle.std.specs.List.{AllByRecursion}
+use Rattle.agency_port.specs.declared.messages.Message.{Message}
+use Rattle.chain_disk.specs.Disks.{DiskRose, Disks}
+use Rattle.chain_disk.specs.OnDisk.{IsLeft, IsSettled, IsSyncFailed, LeavesNow, LeavesOnly, OnDisk, moment, synced}
+use Rattle.huella.specs.Linked.{Linked}
+use Rattle.journal.specs.File.{IsNotBegun}
+use Rattle.once_world.specs.Agreement.{Agree, IsPrefix}
+use Rattle.ports.specs.Sources.{Sources}
+use Rattle.record_codec.specs.declared.entries.Entry.{Entry}
+use Rattle.record_codec.specs.declared.entries.Entry.TheVariants.{Rec}
+use Rattle.record_fields.specs.declared.records.Sealed.{Sealed}
+use Rattle.recovery.specs.Opening.{IsFound}
+use Rattle.script.specs.declared.forms.Form.TheVariants.{Full}
+use Rattle.script.specs.declared.scripts.Script.{Script}
+use Rattle.shop_core.specs.Files.{IsDamagedFile, StandsFor}
+use Rattle.shop_core.specs.History.{noted, receipt, recs}
+use Rattle.shop_core.specs.Legal.{Legal}
+use Rattle.shop_core.specs.Requests.{Asked}
+use Rattle.shop_core.specs.declared.answers.Reply.TheVariants.{Again, Refused, Taken}
+use Rattle.verifactu.specs.Crashes.{StandsSince}
+use Rattle.verifactu.specs.Devices.{Agencies, AllDevices, NobodyCalled}
+use Rattle.verifactu.specs.Drain.{AgreesAtStart}
+use Rattle.verifactu.specs.Draining.{AreOfChain, SaysNothingBlindly}
+use Rattle.verifactu.specs.Noting.{all_said}
+use Rattle.verifactu.specs.Replies.{Replies}
+use Rattle.verifactu.specs.Scripts.{IsGoodScript}
+use Rattle.verifactu.specs.Tills.{asks_of, has_asks, own_of, tills_of}
+use Rattle.verifactu.specs.Words.{IsAskedFor}
+use Rattle.verifactu.specs.declared.words.Command.{Command}
+use Rattle.verifactu.specs.declared.words.Command.TheVariants.{Chain, Day, Drain}
+
+-- the issuer whose file a command may write; the other commands write none
+abbrev pub writes_for : Option Command → Option (List ℕ)
+writes_for (Some (Chain issuer)) = Some issuer
+writes_for (Some (Day issuer)) = Some issuer
+writes_for (Some (Drain issuer)) = Some issuer
+writes_for _ = None
+
+-- a file that may be written for this issuer: it isn't begun, or it stands for a legal history of this issuer
+abbrev pub IsOwn : Option (List ℕ) → List ℕ → Type 0
+IsOwn None file = ⊥
+IsOwn (Some issuer) file = (entries : List Entry) × IsFound issuer entries file
+
+-- the disk was synced at most: nothing was written
+abbrev pub IsUnwritten : OnDisk → OnDisk → Type 0
+IsUnwritten old new = IsSyncFailed old new ⊎ (new ≡ synced old)
+
+-- the file stands for the history at the end, or for that with the torn entry; one that isn't begun stands for the empty one
+abbrev pub IsEither : List ℕ → List Entry → List Entry → List ℕ → Type 0
+IsEither issuer end torn file = IsFound issuer end file ⊎ IsFound issuer (end ++ torn) file
+
+-- What a crash may leave. Nothing was written, and what was pending at the start still is; or the disk was synced at the start,
+-- and since then each crash leaves a file with Since, and now one with Now.
+pub data Crashes (Since Now : List ℕ → Type 0) (old new : OnDisk) : Type 0 where
+  unwritten : IsSyncFailed old new → Crashes Since Now old new
+  since_sync : LeavesOnly (synced old) new Since → LeavesNow new Now → Crashes Since Now old new
+
+-- The chain. The history at the end is legal, so that each record names the Huella of the one before it, and begins with the
+-- one at the start. The file stands for it, or for it with the one entry whose writing was under way when the disk failed. Each
+-- crash in the run leaves a front of that, no shorter than the history at the start: at every moment, where nothing was pending
+-- at the start, and otherwise since the first sync. Once the disk was synced each crash from now on leaves the whole history.
+pub record ChainGoesOn {D : Type 0} (issuer : List ℕ) (start end torn : List Entry) (k : Disks D) : Type 0 where
+  pub begins : IsPrefix start end
+  pub legal : Legal issuer end
+  pub linked : Linked issuer (recs end)
+  pub at_most_one : length torn ≤ 1
+  pub by_a_fault : (torn ≡ []) ⊎ DiskRose k
+  pub file : IsEither issuer end torn (k.told k.disk_after).content
+  pub each_crash : IsSettled (k.told k.disk) → (m : ℕ) (c : List ℕ) → moment (k.told k.disk) ≤ m →
+      IsLeft (k.told k.disk_after) m c → StandsSince issuer start end torn c
+  pub crashes : Crashes (StandsSince issuer start end torn) (IsEither issuer end torn) (k.told k.disk) (k.told k.disk_after)
+
+-- These records are those of the commands that were answered as taken, each once and in this order: each has its command's till
+-- and serial, and the receipt that was told. Each command has one answer.
+abbrev pub AreAccepted : List Asked → Replies → List Entry → Type 0
+AreAccepted [] [] gained = gained ≡ []
+AreAccepted (ask ∷ asks) (Ok (Taken told) ∷ replies) gained = (sealed : Sealed) × (place : ℕ) × (rest : List Entry) ×
+    (gained ≡ Rec ask.till ask.serial sealed ∷ rest) × (told ≡ receipt place sealed) × AreAccepted asks replies rest
+AreAccepted (ask ∷ asks) (Ok (Again told) ∷ replies) gained = AreAccepted asks replies gained
+AreAccepted (ask ∷ asks) (Ok (Refused why) ∷ replies) gained = AreAccepted asks replies gained
+AreAccepted (ask ∷ asks) (Err fault ∷ replies) gained = AreAccepted asks replies gained
+AreAccepted _ _ gained = ⊥
+
+-- the commands that the tills asked: none, or those of the script that the source gave
+abbrev pub AreAskedIn : Sources → List Asked → Type 0
+AreAskedIn s asks = (asks ≡ []) ⊎ ((script : Script) × IsGoodScript Full s script × (asks ≡ script.asks))
+
+-- Each till. The records that the history gained are, till by till, those of its commands that were answered as taken, each
+-- once, in its order; no other till gained one.
+pub record TillsGain (s : Sources) (start end : List Entry) : Type 0 where
+  pub asks : List Asked
+  pub asked : AreAskedIn s asks
+  pub told : List (ℕ × Replies)
+  pub tills : map (λ (t : ℕ × Replies). t.0) told ≡ tills_of asks
+  pub own : AllByRecursion (λ (t : ℕ × Replies). AreAccepted (asks_of t.0 asks) t.1
+      (own_of t.0 (drop (length start) end))) told
+  pub others : (till : ℕ) → has_asks asks till ≡ false → own_of till (drop (length start) end) ≡ []
+
+-- the lines that were noted are those that the messages since say, in their order, or the first of them
+pub record NotesWhatIsSaid (start end : List Entry) (old new : List Message) : Type 0 where
+  pub since : List Message
+  pub is : new ≡ old ++ since
+  pub lines : IsPrefix (noted end) (noted start ++ all_said since)
+
+-- The agency in a session. No record was handed over again, unless a consultation since had answered that it wasn't seen. What
+-- was noted is what it said. One that keeps its rules and agreed at the start still agrees: it has processed the first records,
+-- in order, each once, and the noted lines are the first ones of its lines; so it is with the torn entry.
+pub record AgencyAgrees {G : Type 0} (start end torn : List Entry) (a : Agencies G) : Type 0 where
+  pub careful : IsTrue a.kind.tells → AreOfChain start a.before.ledger.messages →
+      SaysNothingBlindly a.before.ledger.messages a.after.ledger.messages
+  pub said : IsTrue a.kind.tells →
+      NotesWhatIsSaid start end a.before.ledger.messages a.after.ledger.messages
+  pub agrees : IsTrue a.kind.keeps_rules → AgreesAtStart a start →
+      Agree end a.after.ledger.processed a.after.ledger.sent
+      × Agree (end ++ torn) a.after.ledger.processed a.after.ledger.sent
+
+-- The agency: nothing was said to it and no line was noted, or one session was opened.
+pub data AgencyKept {G : Type 0} (start end torn : List Entry) (a : Agencies G) : Type 0 where
+  silent : (IsTrue a.kind.tells → a.after.ledger ≡ a.before.ledger) → noted end ≡ noted start →
+      AgencyKept start end torn a
+  in_session : AgencyAgrees start end torn a → AgencyKept start end torn a
+
+-- Where all that was ever handed over is of the chain, it is so at the end: what `careful` wants of the next run.
+abbrev pub BatchesKept : {G : Type 0} → List Entry → List Entry → Agencies G → Type 0
+BatchesKept start end a = IsTrue a.kind.tells → AreOfChain start a.before.ledger.messages →
+    AreOfChain end a.after.ledger.messages
+
+-- what a run made of the history that its file stood for: the history at the end, and the entry whose writing was under way
+pub record Grows {D C Z G : Type 0} (issuer : List ℕ) (start : List Entry) (a : AllDevices D C Z G) : Type 0 where
+  pub end : List Entry
+  pub torn : List Entry
+  pub chain : ChainGoesOn issuer start end torn a.devices.disk
+  pub tills : TillsGain a.devices.source start end
+  pub agency : AgencyKept start end torn a.agency
+  pub batches : BatchesKept start end a.agency
+
+-- A file and what goes with it, where its disk tells what it holds. Whoever's legal history it stood for, whatever ran has
+-- taken that history further, or left it. A file that isn't begun is an empty history of the issuer that the run may write for.
+-- Every other file is as it was, a damaged one too; so is one of another issuer, and each file where the run may write for
+-- nobody, which then calls no agency either.
+pub record FileKept {D C Z G : Type 0} (writes : Option (List ℕ)) (a : AllDevices D C Z G) : Type 0 where
+  pub sound : IsTrue a.devices.disk.tells → (issuer : List ℕ) (start : List Entry) →
+      StandsFor issuer start (a.devices.disk.told a.devices.disk.disk).content → Grows issuer start a
+  pub fresh : IsTrue a.devices.disk.tells → (issuer : List ℕ) → writes ≡ Some issuer →
+      IsNotBegun (a.devices.disk.told a.devices.disk.disk).content → Grows issuer [] a
+  pub others : IsTrue a.devices.disk.tells → (IsOwn writes (a.devices.disk.told a.devices.disk.disk).content → ⊥) →
+      IsUnwritten (a.devices.disk.told a.devices.disk.disk) (a.devices.disk.told a.devices.disk.disk_after)
+  pub reads : writes ≡ None →
+      (a.devices.disk.told a.devices.disk.disk_after ≡ a.devices.disk.told a.devices.disk.disk) × NobodyCalled a
+
+-- the promise of a run: the command that the words ask for, or none, and what is kept by it
+pub record Promise {D C Z G : Type 0} (words : List (List ℕ)) (a : AllDevices D C Z G) : Type 0 where
+  pub command : Option Command
+  pub asked : IsAskedFor words command
+  pub file : FileKept (writes_for command) a
+
+-- a damaged file may be written for nobody
+abbrev pub DamagedIsNotOwn : Type 0
+DamagedIsNotOwn = (writes : Option (List ℕ)) (file : List ℕ) (at : ℕ) → IsDamagedFile file at → IsOwn writes file → ⊥
+
+-- nor one of another issuer for this one
+abbrev pub ForeignIsNotOwn : Type 0
+ForeignIsNotOwn = (issuer held : List ℕ) (entries : List Entry) (file : List ℕ) → StandsFor held entries file →
+    (held ≡ issuer → ⊥) → IsOwn (Some issuer) file → ⊥
+
+-- What a run left is found again: the history that the next run finds begins with the one at the end, whether the torn entry
+-- lasted or not. Both the file and each file that a crash leaves from now on are such.
+abbrev pub IsFoundAgain : Type 0
+IsFoundAgain = (issuer : List ℕ) (end torn next : List Entry) (file : List ℕ) → IsEither issuer end torn file →
+    IsFound issuer next file → IsPrefix end next
+
+-- and what is of the chain at the end is of the history that is found
+abbrev pub StaysOfChain : Type 0
+StaysOfChain = (end next : List Entry) (messages : List Message) → IsPrefix end next → AreOfChain end messages →
+    AreOfChain next messages
