@@ -1,29 +1,33 @@
 -- A day of tills, from their rows to the history at its end.
 use Rattle.std.proofs.Common.{◌≡◌, inl, inr, ℕ, zero, suc, ◌<◌, ◌≤◌, Bool, true, false, List, [], ◌∷◌, ◌++◌, length, drop}
 use Rattle.std.proofs.Common.{map, All, Option, Some, None, Result, Ok, Err, slice_get, refl, ap, sym, ◌∙◌, subst, arith}
-use Rattle.std.specs.Prelude.{◌≢◌, AllPairs, Contains, IsSome}
+use Rattle.std.specs.Prelude.{◌≢◌, AllPairs, Contains, IsSome, OnOk}
 use Rattle.std.specs.List.{AllByRecursion, flat_map}
 use Rattle.std.proofs.lemmas.List.{append-nil, get_or-map, length-append, length-map}
+use Rattle.std.proofs.lemmas.List.Elements.{All-weaker}
 use Rattle.std.proofs.lemmas.List.Folds.{flat_map-map}
 use Rattle.std.proofs.lemmas.List.Sums.{sum_by_push}
 use Rattle.std.proofs.lemmas.Option.{get_or_from_slice_get, slice_get_within}
 use Rattle.chain_disk.specs.OnDisk.{OnDisk}
 use Rattle.chain_lock.specs.Known.{Known, IsNew, Fits, holders, owners, times_held}
+use Rattle.chain_lock.specs.Laws.{SeesAll}
 use Rattle.chain_lock.specs.Lists.{StartsWith}
 use Rattle.journal.specs.declared.faults.StoreFault.{StoreFault}
 use Rattle.journal.specs.declared.faults.StoreFault.TheVariants.{DiskFault, Stopped, NoMemory}
 use Rattle.record_codec.specs.declared.entries.Entry.{Entry}
 use Rattle.record_codec.specs.declared.entries.Entry.TheVariants.{Rec, Notes}
+use Rattle.shop_core.specs.History.{recs, noted as noted_in}
+use Rattle.shop_core.specs.Items.{entries_of}
 use Rattle.shop_core.specs.Requests.{Asked}
 use Rattle.shop_core.specs.Replies.{IsTakenAt}
 use Rattle.shop_core.specs.declared.answers.Reply.{Reply}
 use Rattle.shop_core.specs.declared.answers.Reply.TheVariants.{Taken, Again, Refused}
 use Rattle.shop_core.specs.declared.items.Item.{Item}
 use Rattle.shop_core.specs.declared.items.Item.TheVariants as item
-use Rattle.till_calls.specs.Laws.{AddsForNoOther, AddsWhatIsTaken, OwnsRecordsAndStops}
+use Rattle.till_calls.specs.Laws.{AddsForNoOther, AddsWhatIsTaken, OwnsRecordsAndStops, OwnsWithinKnown}
 use Rattle.till_calls.specs.Own.{OwnsNone, is_of, records_of, AreTaken as TakenItems}
 use Rattle.till_calls.specs.Mark.{sight_by}
-use Rattle.till_calls.specs.Root.{Root, Parts, items_in, stop_in}
+use Rattle.till_calls.specs.Root.{Root, Parts, items_in, root_of, stop_in}
 use Rattle.till_calls.specs.Sound.{IsSound}
 use Rattle.sender.specs.Agreeing.{Adds, AreNotes, AreNotesOrTorn}
 use Rattle.sender.specs.declared.answers.DrainFault.{DrainFault}
@@ -37,9 +41,11 @@ use Rattle.verifactu.specs.Tills.{own_of, stops_in}
 use Rattle.verifactu.specs.Tills.RecordedBy.{sender, till as by_till}
 use Rattle.verifactu.specs.Works.{Ran, Row, Worked, told_in}
 use Rattle.verifactu.specs.declared.tills.TillDay.{TillDay}
+use Rattle.verifactu.proofs.Closing.{both_ok}
 use Rattle.verifactu.proofs.Each.{each_both, each_front, each_map, each_of_all, each_piece, each_unmap, each_weaker}
 use Rattle.verifactu.proofs.Rows.{AreDistinct, after_all, distinct_of, none_else, own as rows_own, still_held, stop_whose, told}
 use Rattle.verifactu.proofs.Rows.{own_asks, Told as RowTold}
+use Rattle.verifactu.proofs.SeenAll.{seen_whole}
 use Rattle.verifactu.proofs.Theirs.{Theirs, run_of_till}
 use Rattle.verifactu.proofs.TillRuns.{StopTold, items}
 use Rattle.verifactu.proofs.Whole.{Shared, all_noted, bare}
@@ -203,7 +209,7 @@ module _ {D C : Type 0} (tells : Bool) (tell : D → OnDisk) (faults : D → ℕ
       (fits : AllByRecursion (Fits (items_in p)) (after_all coming asks rows ++ seat ∷ [])) (starts : StartsWith (items_in p)
       base)
       (since : (n : ℕ) → length base ≤ n → n < length (items_in p) → owners n (after_all coming asks rows ++ seat ∷ []) ≡ 1)
-      (sound : Sound) where
+      (sound : Sound) (counted : OnOk answer (length (noted_in p.state.entries) ≡ length (recs p.state.entries))) where
     abbrev RTold : Row C → Type 0
     RTold = RowTold coming asks base root p.stopped p.torn p.state.entries for_no_other what_is_taken
 
@@ -291,6 +297,7 @@ module _ {D C : Type 0} (tells : Bool) (tell : D → OnDisk) (faults : D → ℕ
           (each_unmap told_in (λ (t : TillReplies). t.till ≢ till) (map (λ (r : Row C). r.done) rows) other)));
       stop = stop_at p.stopped p.torn refl refl;
       sends = sends;
+      all_noted = counted;
     }
 
 -- each number is held again
@@ -344,15 +351,37 @@ module _ {D C : Type 0} (tells : Bool) (tell : D → OnDisk) (faults : D → ℕ
     adds = adds;
   }
 
+  -- Where the seat knew of as many items as each till, and its sender is done, each record has its line noted.
+  pub counts : (answer : Result (Unit {0}) DrainFault) → OwnsWithinKnown coming →
+      SeesAll (items_in {D = D} {C = C}) (root_of tell faults) →
+      Shared base (items_in p) root new seat then → (n : ℕ) → All (λ (k : Known Item (Root C)). k.least ≤ n) new →
+      OnOk answer (n ≤ length then.seen) →
+      OnOk answer (length (noted_in (entries_of then.seen)) ≡ length (recs (entries_of then.seen))) →
+      OnOk answer (length (noted_in p.state.entries) ≡ length (recs p.state.entries))
+  counts answer within sees h n told = both_ok answer (n ≤ length then.seen)
+      (length (noted_in (entries_of then.seen)) ≡ length (recs (entries_of then.seen)))
+      (length (noted_in p.state.entries) ≡ length (recs p.state.entries)) (λ covers delivered.
+      let rows : List (Known Item (Root C)) = after_all coming asks ran.rows in
+      let h' : Shared base (items_in p) root rows seat then =
+      subst (λ (l : List (Known Item (Root C))). Shared base (items_in p) root l seat then) ran.new_are h in
+      let told' : All (λ (k : Known Item (Root C)). k.least ≤ length then.seen) rows =
+      All-weaker (λ (k : Known Item (Root C)). k.least ≤ n) (λ (k : Known Item (Root C)). k.least ≤ length then.seen)
+      (λ k l. omega (arith, l, covers)) rows
+      (subst (λ (l : List (Known Item (Root C))). All (λ (k : Known Item (Root C)). k.least ≤ n) l) ran.new_are told) in
+      subst (λ (es : List Entry). length (noted_in es) ≡ length (recs es))
+      (seen_whole tell faults coming asks p root base within sees ran.rows news.0 ran.worked seat then h' told') delivered)
+
   -- the day of the tills that ran and of the sender beside them, once their shop is closed
   pub ended : (kind : Kind) (opened after : Desk) (answer : Result (Unit {0}) DrainFault) → AddsForNoOther coming → AddsWhatIsTaken coming →
       length base ≡ length root.history → AllPairs (λ (a b : TillDay). a.till ≢ b.till) days → Shared base (items_in p) root new
       seat then →
       (IsFaultless answer → Adds AreNotes (sight_by seat) (sight_by then)) → (IsDiskAnswer answer → IsSome p.stopped) →
-      IsSound tells tell faults coming root p → SendsBeside (shop_day coming asks root p (map told_in done) kind opened after answer) →
+      IsSound tells tell faults coming root p →
+      OnOk answer (length (noted_in p.state.entries) ≡ length (recs p.state.entries)) →
+      SendsBeside (shop_day coming asks root p (map told_in done) kind opened after answer) →
       DayRun (record { tells = tells; told = tell; faults = faults; coming = coming }) root p
       (shop_day coming asks root p (map told_in done) kind opened after answer)
-  ended kind opened after answer for_no_other what_is_taken size distinct h notes disk sound sends =
+  ended kind opened after answer for_no_other what_is_taken size distinct h notes disk sound counted sends =
       let distinct' : AreDistinct (map (λ (r : Row C). r.done.till) ran.rows) =
       subst (λ (l : List ℕ). AreDistinct l) (sym (same_tills coming asks ran.rows ran.worked))
       (subst (λ (l : List TillDay). AreDistinct (map (λ (d : TillDay). d.till) l)) ran.days_are
@@ -370,4 +399,4 @@ module _ {D C : Type 0} (tells : Bool) (tell : D → OnDisk) (faults : D → ℕ
       (whole tells tell faults coming asks root p for_no_other what_is_taken base size ran.rows then distinct' news.0 seat news.1 kind opened after
       answer (bare base (items_in p) root new seat then h) (all_noted base (items_in p) root new seat then h
       (IsFaultless answer) notes)
-      disk ran.worked fits' h.starts since' sound (subst (λ (l : List TillDay). SendsBeside (Told l)) ran.done_are sends))
+      disk ran.worked fits' h.starts since' sound counted (subst (λ (l : List TillDay). SendsBeside (Told l)) ran.done_are sends))

@@ -34,6 +34,7 @@ pub mod GivingUp
 pub mod Turns
 pub mod Theirs
 pub mod Whole
+pub mod SeenAll
 pub mod Joined
 pub mod Accepted
 pub mod Gaining

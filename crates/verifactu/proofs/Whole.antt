@@ -12,7 +12,7 @@ use Rattle.std.proofs.lemmas.Option.{slice_get_within}
 use Rattle.record_fields.specs.declared.lines.Line.{Line}
 use Rattle.record_codec.specs.declared.entries.Entry.{Entry}
 use Rattle.record_codec.specs.declared.entries.Entry.TheVariants.{Rec, Notes}
-use Rattle.chain_lock.specs.Known.{Known, IsNew, Fits, owners, times_owned}
+use Rattle.chain_lock.specs.Known.{Known, IsNew, Fits, OwnsBelow, owners, times_owned}
 use Rattle.chain_lock.specs.Lists.{StartsWith}
 use Rattle.record_fields.specs.declared.records.Sealed.{Sealed}
 use Rattle.shop_core.specs.History.{is_record, noted, recs, waiting}
@@ -105,7 +105,7 @@ module _ {C : Type 0} (base log : List Item) (root : Root C) (tills : List (Know
   own_before : Shared → (sight_by seat).own ≡ []
   own_before h = ap (λ (o : List (ℕ × Item)). map (λ (z : ℕ × Item). z.0) o) h.fresh.own
 
-  abbrev fit : Shared → AllByRecursion (λ (k : Known Item (Root C)). Fits log k) tills × Fits log then
+  abbrev pub fit : Shared → AllByRecursion (λ (k : Known Item (Root C)). Fits log k) tills × Fits log then
   fit h = all_split (Fits log) tills then (all_each (Fits log) (tills ++ then ∷ []) h.fits)
 
   each : Shared → (n : ℕ) → length base ≤ n → n < length log → HasAt IsOfTill log n ⊎ Contains (sight_by then).own n
@@ -133,6 +133,19 @@ module _ {C : Type 0} (base log : List Item) (root : Root C) (tills : List (Know
     pub all_own : Shared → AllByRecursion (λ (z : ℕ × Item). P z.1) then.own
     all_own h = own_by h then.own (λ n c. c) (all_each (λ (z : ℕ × Item). slice_get log z.0 ≡ Some z.1) then.own (fit h).1.own)
 
+  below_by : Shared → (own : List (ℕ × Item)) → ((z : ℕ) → Contains (map (λ (x : ℕ × Item). x.0) own) z →
+      Contains (sight_by then).own z) → AllByRecursion (λ (z : ℕ × Item). z.0 < length then.seen) own
+  below_by h [] within = tt
+  below_by h (z ∷ zs) within =
+      let there = mine_by AreNotesOrTorn h.adds h z.0 (within z.0 (0, omega arith, refl)) in (
+        slice_get_within then.seen z.0 there.0 there.1,
+        below_by h zs (λ n c. within n (suc c.0, (let l = c.1 in omega arith), c.2)),
+      )
+
+  -- it owns nothing behind what it has seen
+  pub owns_seen : Shared → OwnsBelow (length then.seen) then
+  owns_seen h = all_of_each (λ (z : ℕ × Item). z.0 < length then.seen) then.own (below_by h then.own (λ n c. c))
+
   each_change : (P Q : ℕ × Item → Type 0) → ((z : ℕ × Item) → P z → Q z) → (zs : List (ℕ × Item)) → AllByRecursion P zs →
       AllByRecursion Q zs
   each_change P Q f [] h = tt
@@ -155,7 +168,7 @@ module _ {C : Type 0} (base log : List Item) (root : Root C) (tills : List (Know
       both [] any none = tt
       both (z ∷ zs) any none = ((any.0, λ f. (none f).0), both zs any.1 (λ f. (none f).1))
 
-  long : Shared → length base ≤ length then.seen
+  pub long : Shared → length base ≤ length then.seen
   long h = let e = ap length h.adds.items_is in let f = length-append seat.seen h.adds.items in let g = ap length h.fresh.seen in
       omega arith
 

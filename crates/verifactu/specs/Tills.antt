@@ -1,6 +1,6 @@
 -- What a day makes of a shop: what its tills are told, by the history at its end, and its stop.
 use Rattle.std.specs.Prelude.{◌≡◌, ◌≢◌, ◌≤◌, ℕ, ◌+◌, ◌==◌, Bool, true, false, List, [], ◌∷◌, ◌++◌, filter, drop}
-use Rattle.std.specs.Prelude.{length, slice_get, Contains, Option, None, Some, Result, Ok, Err}
+use Rattle.std.specs.Prelude.{length, slice_get, Contains, OnOk, Option, None, Some, Result, Ok, Err}
 use Rattle.std.specs.List.{AllByRecursion, list_any, range_with_len}
 use Rattle.journal.specs.declared.faults.StoreFault.{StoreFault}
 use Rattle.journal.specs.declared.faults.StoreFault.TheVariants.{DiskFault, Stopped, NoMemory}
@@ -9,6 +9,7 @@ use Rattle.ports.specs.Readings.{IsTold}
 use Rattle.record_codec.specs.declared.entries.Entry.{Entry}
 use Rattle.record_codec.specs.declared.entries.Entry.TheVariants.{Rec, Notes}
 use Rattle.record_codec.specs.declared.entries.TheConstants.{LAST_TILL}
+use Rattle.shop_core.specs.History.{noted, recs}
 use Rattle.shop_core.specs.Plans.{answer}
 use Rattle.shop_core.specs.Requests.{Asked}
 use Rattle.shop_core.specs.Replies.{IsTakenAt, Tells}
@@ -132,7 +133,7 @@ StopIs d faults faults_after None = AllGoOn (all_replies d.tills) × (IsDiskAnsw
 StopIs d faults faults_after (Some stop) = IsStop d faults faults_after stop
 
 -- What a day makes of a shop, which was this at its start, with the parts of its store after its close. No other till has a
--- record since the start.
+-- record since the start. Where the sender is done each record has its line noted.
 pub record DayRun {D C : Type 0} (h : StoreKind D C) (root : Root C) (new : Parts D C) (d : Day) : Type 0 where
   pub sound : IsSound h.tells h.told h.faults h.coming root new
   pub served : AllByRecursion (TillServed d) d.tills
@@ -140,3 +141,4 @@ pub record DayRun {D C : Type 0} (h : StoreKind D C) (root : Root C) (new : Part
       own_of till (drop (length d.start) d.end) ≡ []
   pub stop : StopIs d root.faults (h.faults new.disk) d.stop
   pub sends : SendsBeside d
+  pub all_noted : OnOk d.answer (length (noted d.end) ≡ length (recs d.end))

@@ -166,6 +166,7 @@ fn print_day<K: Sink>(
     state: &State,
     sink: &mut K,
 ) -> Detail
+    requires counts { OnOk answer.now (length (noted state.now.entries) ≡ length (recs state.now.entries)) }
     ensures { DayRunEnds (all_replies (map told_in tills.now)) answer.now (length (noted state.now.entries))
         (length (recs state.now.entries)) (day_text asks.now (map told_in tills.now) state.now.entries)
         (this_sink K.taken K.faults sink.old sink.new) result }
@@ -280,8 +281,7 @@ fn sender_end(fault: DrainFault, noted: u32, records: u32) -> Detail
 
 // The end of a day with these answers of its tills and of its sender, whose text was written or not: want of memory before a
 // fault of the disk, that before a contradiction and an undelivered drain, and these before a fault of the sink. An undelivered
-// drain is told with the two counts of the history that the day left. A sender that is done has seen all lines noted; where they
-// aren't after all, it is want of memory.
+// drain is told with the two counts of the history that the day left.
 fn end_of_day(
     days: &[TillDay],
     answer: &Result<(), DrainFault>,
@@ -289,6 +289,7 @@ fn end_of_day(
     records: u32,
     written: Result<(), Failed>,
 ) -> Detail
+    requires counts { OnOk answer.now (noted ≡ records) }
     ensures { (text : List ℕ) (s : Sinks) → OutputIs s text written →
         DayRunEnds (all_replies (map told_in days.now)) answer.now noted records text s result }
 {
@@ -303,9 +304,6 @@ fn end_of_day(
     }
     if let Err(fault) = answer {
         return sender_end(*fault, noted, records);
-    }
-    if noted != records {
-        return Detail::NoMemory;
     }
     match written {
         Ok(()) => Detail::Done,

@@ -15,6 +15,7 @@ use crate::sending::{Sent, drain_rest};
 use crate::tills::{TillDay, TillRoom, hand_in, hand_out};
 use agency_port::Agency;
 use chain_disk::Disk;
+use chain_lock::who_sees_all_that_is_owned_sees_all;
 use once_world::agreement_is_kept;
 use ports::{Clock, Gate, Sleeper};
 use sender::{DrainFault, a_session_begins};
@@ -22,8 +23,8 @@ use shop_core::Ask;
 use std::sync::Wait;
 use std::thread::Threads;
 use till_calls::{
-    Started, a_run_is_told_at_the_end, a_till_adds_for_no_other, a_till_adds_what_is_taken,
-    a_till_owns_records_and_stops,
+    Kept, Started, a_run_is_told_at_the_end, a_till_adds_for_no_other, a_till_adds_what_is_taken,
+    a_till_owns_records_and_stops, a_till_owns_within_what_it_knows,
 };
 
 /// A day that is done: the file that it leaves, with all that it was given, and what its tills and its sender were told.
@@ -68,6 +69,8 @@ pub(crate) fn serve<
     a_till_adds_what_is_taken::<C>();
     a_till_adds_for_no_other::<C>();
     a_till_owns_records_and_stops::<C>();
+    a_till_owns_within_what_it_knows::<C>();
+    who_sees_all_that_is_owned_sees_all::<Kept<D, C>>();
     let TillRoom {
         mut days,
         numbers: _,

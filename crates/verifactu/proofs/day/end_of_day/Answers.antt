@@ -1,5 +1,6 @@
-use Rattle.std.proofs.Common.{◌∙◌, map, sym, inl, subst}
+use Rattle.std.proofs.Common.{◌≡◌, ◌∙◌, map, sym, inl, subst, OnOk, Result}
 use Rattle.report.specs.declared.ended.Detail.{Detail}
+use Rattle.sender.specs.declared.answers.DrainFault.{DrainFault}
 use Rattle.verifactu.specs.Beside.{DayRunEnds}
 use Rattle.verifactu.specs.Beside.DayRunEnds.{done, write_fault, disk_fault, no_memory}
 use Rattle.verifactu.specs.Replies.{is_disk_fault, is_no_memory}
@@ -35,9 +36,6 @@ returns-in-Err c =
     c.if-one_lacks_disk.false)) memory
     (sym c.sender_lacks_memory.ensures ∙ c.if-sender_lacks_memory.false) (written_either text s c.args.written h))
 
-pub returns-then-noted-records : goal.returns-then-noted-records
-returns-then-noted-records c = λ text s h. no_memory (part_of_output s text c.args.written h)
-
 pub returns-in-Ok : goal.returns-in-Ok
 returns-in-Ok c =
     let days = c.args.days.now in
@@ -45,7 +43,9 @@ returns-in-Ok c =
     (all_replied (all_replies (map told_in days)) (any_reply is_no_memory days ∙ sym c.one_lacks_memory.ensures ∙
     c.if-one_lacks_memory.false)
     (any_reply is_disk_fault days ∙ sym c.one_lacks_disk.ensures ∙ c.if-one_lacks_disk.false))
-    c.in_default.is c.if-noted-records.false (written_whole text s c.args.written _ c.in-Ok.is h)
+    c.in_default.is
+    (subst (λ (r : Result (Unit {0}) DrainFault). OnOk r (c.args.noted ≡ c.args.records)) c.in_default.is c.requires.counts)
+    (written_whole text s c.args.written _ c.in-Ok.is h)
 
 pub returns-in-Err-written : goal.returns-in-Err-written
 returns-in-Err-written c =
@@ -54,4 +54,6 @@ returns-in-Err-written c =
     (all_replied (all_replies (map told_in days)) (any_reply is_no_memory days ∙ sym c.one_lacks_memory.ensures ∙
     c.if-one_lacks_memory.false)
     (any_reply is_disk_fault days ∙ sym c.one_lacks_disk.ensures ∙ c.if-one_lacks_disk.false))
-    c.in_default.is c.if-noted-records.false (written_part text s c.args.written _ c.in-Err-written.is h)
+    c.in_default.is
+    (subst (λ (r : Result (Unit {0}) DrainFault). OnOk r (c.args.noted ≡ c.args.records)) c.in_default.is c.requires.counts)
+    (written_part text s c.args.written _ c.in-Err-written.is h)

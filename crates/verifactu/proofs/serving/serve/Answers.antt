@@ -15,7 +15,7 @@ use Rattle.verifactu.specs.Devices.{agency_desk, agency_kind}
 use Rattle.verifactu.specs.Tills.{asks_of}
 use Rattle.verifactu.specs.Works.{day_of, told_in}
 use Rattle.verifactu.specs.declared.tills.TillDay.{TillDay}
-use Rattle.verifactu.proofs.DayRuns.{ended, held_again, same_days, shared}
+use Rattle.verifactu.proofs.DayRuns.{counts, ended, held_again, same_days, shared}
 use Rattle.verifactu.proofs.Jobs.{all_turned, ran_as}
 use Rattle.verifactu.proofs.Joined.{sends_beside}
 use Rattle.verifactu.proofs.Whole.{is_stopped}
@@ -87,6 +87,11 @@ returns-clause-day g c =
       begins = c.close.ensures.sound.begins;
     }) (sends.stopped disk))
     c.close.ensures.sound
+    (counts g.D.Disk.tells g.D.Disk.told g.D.Disk.faults g.C.Clock.coming c.args.asks.now p (shop_root shop) (first_items shop)
+    c.args.room.days.items c.hand_in.new.days.items (tills_know c.args.begun.started.tills) (tills_know c.hand_in.new.tills) seat then
+    ran c.requires.begun.new answer c.a_till_owns_within_what_it_knows.ensures c.who_sees_all_that_is_owned_sees_all.ensures h
+    (seat_knows c.hand_in.new.seat).least c.hand_in.ensures.told c.drain_rest-rest.ensures.covers
+    c.drain_rest-rest.ensures.delivered)
     (sends_beside g.D.Disk.tells g.D.Disk.told g.D.Disk.faults g.C.Clock.coming p (shop_root shop) (first_items shop)
     (tills_know c.hand_in.new.tills) seat then h c.close.ensures.sound c.requires.begun.base c.requires.begun.legal c.args.asks.now
     told kind opened after c.drain_rest-rest.result.sender answer sends c.agreement_is_kept.ensures.records
