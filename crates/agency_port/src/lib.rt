@@ -7,11 +7,11 @@
 mod agency;
 mod answers;
 mod delivering;
+mod fates;
 mod laws;
 mod messages;
 mod practice;
 mod reply;
-mod rows;
 mod telling;
 mod told;
 mod turns;

@@ -5,7 +5,7 @@ ghost use Rattle.agency_port.specs.Ledger.{counted};
 ghost use Rattle.agency_port.specs.Practice.{IsRow, IsOpened, IsCutShort, cut, opened, submission_answer, submitted};
 ghost use Rattle.agency_port.specs.Practice.{consultation_answer, consulted};
 
-use crate::rows::{
+use crate::fates::{
     answer_to, comes_at, copied_reply, copied_seen, fate_before, faults_after, seen_by,
 };
 use crate::{Agency, AgencyFault, Logged, Message, Reply, SeenList};

@@ -2,7 +2,7 @@
 ghost use Rattle.std.specs.Prelude.{◌≡◌, IfOk};
 ghost use Rattle.agency_port.specs.Telling as told_as;
 
-use crate::rows::is_reply_to;
+use crate::fates::is_reply_to;
 use crate::{AgencyFault, Reply, SeenList, ToldAnswer};
 use batches::{Batch, Huellas};
 use ports::NoMemory;

@@ -4,7 +4,7 @@ ghost use Rattle.std.proofs.Common.{rules, arith};
 ghost use Rattle.agency_port.specs.Ledger.{counted};
 ghost use Rattle.agency_port.specs.Practice.{IsRow, IsOpened};
 
-use crate::rows::{copied_reply, copied_seen};
+use crate::fates::{copied_reply, copied_seen};
 use crate::telling::{faults_after, next_reply, next_seen};
 use crate::{Agency, AgencyFault, Message, Reply, SeenList};
 use agency_rules::Plan;

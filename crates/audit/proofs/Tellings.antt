@@ -1,10 +1,10 @@
 -- What a verdict tells of a file.
 use Rattle.std.proofs.Common.{inl, inr, refl, sym, subst, List, ℕ}
-use Rattle.shop_core.specs.Reading.{BrokenIsDamaged, IsRead}
-use Rattle.shop_core.specs.Reading.IsRead.{not_begun, stands}
-use Rattle.shop_core.specs.declared.audits.AuditEnd.{AuditEnd}
-use Rattle.shop_core.specs.declared.reading.FileRead.{FileRead}
-use Rattle.shop_core.specs.declared.reading.FileRead.TheVariants.{NotBegun, Sound, Broken}
+use Rattle.shop_core.specs.File.Reading.{BrokenIsDamaged, IsRead}
+use Rattle.shop_core.specs.File.Reading.IsRead.{not_begun, stands}
+use Rattle.shop_core.specs.declared.file.audits.AuditEnd.{AuditEnd}
+use Rattle.shop_core.specs.declared.file.reading.FileRead.{FileRead}
+use Rattle.shop_core.specs.declared.file.reading.FileRead.TheVariants.{NotBegun, Sound, Broken}
 use Rattle.audit.specs.Auditing.{verdict_of}
 use Rattle.audit.specs.Laws.{IsSoundOrDamaged, VerdictTells}
 

@@ -9,20 +9,20 @@ use Rattle.journal.specs.declared.reading.Header.TheVariants as header
 use Rattle.record_codec.specs.Validity.{IsEncoding}
 use Rattle.record_codec.specs.Writing.{entry_bytes}
 use Rattle.record_codec.specs.Laws.{EncodingsAreApart}
-use Rattle.record_codec.specs.declared.entries.Entry.{Entry}
-use Rattle.record_codec.specs.declared.entries.Entry.TheVariants as entry_of
+use Rattle.record_codec.specs.declared.entry.Entry.{Entry}
+use Rattle.record_codec.specs.declared.entry.Entry.TheVariants as entry_of
 use Rattle.shop_core.specs.Breaks.{IsBreak}
 use Rattle.shop_core.specs.Legal.{Continues}
-use Rattle.shop_core.specs.declared.audits.AuditEnd.{AuditEnd}
-use Rattle.shop_core.specs.declared.audits.AuditEnd.TheVariants.{Sound, Broken}
-use Rattle.shop_core.specs.declared.audits.What.TheVariants as what
+use Rattle.shop_core.specs.declared.file.audits.AuditEnd.{AuditEnd}
+use Rattle.shop_core.specs.declared.file.audits.AuditEnd.TheVariants.{Sound, Broken}
+use Rattle.shop_core.specs.declared.file.audits.What.TheVariants as what
 use Rattle.shop_core.specs.declared.breaks.Break.{Break}
 use Rattle.shop_core.specs.declared.breaks.Break.TheVariants.{Notes, Link, Seal, Rule}
-use Rattle.shop_core.specs.FileLaws.{StopsAt, OneStop, StopsAtItsGate}
-use Rattle.shop_core.specs.Files.{bodies_of}
-use Rattle.shop_core.specs.Reading.{IsRead, next_place, word_of}
-use Rattle.shop_core.specs.Reading.IsRead.{not_begun, stands, in_header, no_frame, no_entry, not_next}
-use Rattle.shop_core.specs.declared.reading.FileRead.{FileRead}
+use Rattle.shop_core.specs.File.Laws.{StopsAt, OneStop, StopsAtItsGate}
+use Rattle.shop_core.specs.File.Files.{bodies_of}
+use Rattle.shop_core.specs.File.Reading.{IsRead, next_place, word_of}
+use Rattle.shop_core.specs.File.Reading.IsRead.{not_begun, stands, in_header, no_frame, no_entry, not_next}
+use Rattle.shop_core.specs.declared.file.reading.FileRead.{FileRead}
 use Rattle.audit.specs.Auditing.{sound_end, verdict_of}
 use Rattle.audit.specs.Laws.{OneVerdict}
 

@@ -1,13 +1,13 @@
 -- The verdict on a file.
 use Rattle.std.specs.Prelude.{◌≡◌, ℕ, List, length, Option, None, option_map}
 use Rattle.record_fields.specs.declared.records.Sealed.{Sealed}
-use Rattle.record_codec.specs.declared.entries.Entry.{Entry}
+use Rattle.record_codec.specs.declared.entry.Entry.{Entry}
 use Rattle.shop_core.specs.History.{last_huella, recs, noted}
-use Rattle.shop_core.specs.Reading.{IsRead}
-use Rattle.shop_core.specs.declared.audits.AuditEnd.{AuditEnd}
-use Rattle.shop_core.specs.declared.audits.AuditEnd.TheVariants as end
-use Rattle.shop_core.specs.declared.reading.FileRead.{FileRead}
-use Rattle.shop_core.specs.declared.reading.FileRead.TheVariants.{NotBegun, Sound, Broken}
+use Rattle.shop_core.specs.File.Reading.{IsRead}
+use Rattle.shop_core.specs.declared.file.audits.AuditEnd.{AuditEnd}
+use Rattle.shop_core.specs.declared.file.audits.AuditEnd.TheVariants as end
+use Rattle.shop_core.specs.declared.file.reading.FileRead.{FileRead}
+use Rattle.shop_core.specs.declared.file.reading.FileRead.TheVariants.{NotBegun, Sound, Broken}
 
 -- how many records and noted lines a history has, and its last Huella
 abbrev pub sound_end : List Entry → AuditEnd

@@ -1,10 +1,10 @@
 -- Laws of verdicts.
 use Rattle.std.specs.Prelude.{◌≡◌, ◌⊎◌, ℕ, List}
 use Rattle.journal.specs.File.{IsNotBegun}
-use Rattle.record_codec.specs.declared.entries.Entry.{Entry}
-use Rattle.shop_core.specs.declared.audits.AuditEnd.{AuditEnd}
-use Rattle.shop_core.specs.declared.audits.AuditEnd.TheVariants.{Sound, Broken}
-use Rattle.shop_core.specs.Files.{StandsFor, IsDamagedFile}
+use Rattle.record_codec.specs.declared.entry.Entry.{Entry}
+use Rattle.shop_core.specs.declared.file.audits.AuditEnd.{AuditEnd}
+use Rattle.shop_core.specs.declared.file.audits.AuditEnd.TheVariants.{Sound, Broken}
+use Rattle.shop_core.specs.File.Files.{StandsFor, IsDamagedFile}
 use Rattle.audit.specs.Auditing.{IsVerdict, sound_end}
 
 -- a file has at most one verdict

@@ -1,9 +1,9 @@
 -- What is loaded of what is read.
 use Rattle.std.proofs.Common.{ℕ, List}
 use Rattle.shop_core.specs.History.{History}
-use Rattle.shop_core.specs.Reading.{IsRead}
-use Rattle.shop_core.specs.Reading.IsRead.{not_begun, stands}
-use Rattle.shop_core.specs.declared.reading.FileRead.TheVariants as read
+use Rattle.shop_core.specs.File.Reading.{IsRead}
+use Rattle.shop_core.specs.File.Reading.IsRead.{not_begun, stands}
+use Rattle.shop_core.specs.declared.file.reading.FileRead.TheVariants as read
 use Rattle.chain_store.specs.Loading.{IsLoaded}
 use Rattle.chain_store.specs.declared.loading.Loaded.TheVariants.{NotBegun, Begun}
 

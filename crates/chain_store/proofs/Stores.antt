@@ -8,13 +8,13 @@ use Rattle.frames.specs.Frames.{IsBody}
 use Rattle.journal.specs.File.{IsAt, IsFile, IsBeforeOrAfter}
 use Rattle.record_codec.specs.Writing.{entry_bytes}
 use Rattle.record_codec.specs.Validity.{IsEncoding, HasIssuer, AreFields}
-use Rattle.record_codec.specs.declared.entries.Entry.{Entry}
+use Rattle.record_codec.specs.declared.entry.Entry.{Entry}
 use Rattle.shop_core.specs.History.{History}
 use Rattle.shop_core.specs.Legal.{Continues, GoesOn, Legal}
 use Rattle.shop_core.specs.Ranges.{FitsItsBytes}
-use Rattle.shop_core.specs.Files.{furthest_gate}
+use Rattle.shop_core.specs.File.Files.{furthest_gate}
 use Rattle.chain_store.specs.Ready.{Holds, IsReady}
-use Rattle.shop_core.specs.Files.{StandsFor, StandsBeforeOrWith, AreEncoded, bodies_of}
+use Rattle.shop_core.specs.File.Files.{StandsFor, StandsBeforeOrWith, AreEncoded, bodies_of}
 
 encoded_more : (issuer : List ℕ) (entries : List Entry) (entry : Entry) → AreEncoded issuer entries →
     IsEncoding issuer entry (entry_bytes entry) →

@@ -5,19 +5,19 @@ use Rattle.chain_disk.specs.OnDisk.{OnDisk, LeavesOnly}
 use Rattle.chain_disk.specs.Runs.{weaker}
 use Rattle.journal.specs.declared.faults.StoreFault.{StoreFault}
 use Rattle.ports.specs.Readings.{IsTold, MovedBy}
-use Rattle.record_codec.specs.declared.entries.Entry.{Entry}
-use Rattle.shop_core.specs.Plans.{answer}
-use Rattle.shop_core.specs.Requests.{Asked}
+use Rattle.record_codec.specs.declared.entry.Entry.{Entry}
+use Rattle.shop_core.specs.Answer.Plans.{answer}
+use Rattle.shop_core.specs.Answer.Requests.{Asked}
 use Rattle.shop_core.specs.History.{History}
-use Rattle.shop_core.specs.Replies.{IsReply, IsTaken, Tells}
-use Rattle.shop_core.specs.declared.answers.Planned.{Planned}
-use Rattle.shop_core.specs.declared.answers.Planned.TheVariants.{Again, Refused, Made}
-use Rattle.shop_core.specs.declared.answers.Reply.{Reply}
-use Rattle.shop_core.specs.declared.answers.Reply.TheVariants as reply_of
-use Rattle.shop_core.specs.declared.answers.Refusal.{Refusal}
-use Rattle.shop_core.specs.declared.receipts.Receipt.{Receipt}
+use Rattle.shop_core.specs.Answer.Replies.{IsReply, IsTaken, Tells}
+use Rattle.shop_core.specs.declared.answer.Planned.{Planned}
+use Rattle.shop_core.specs.declared.answer.Planned.TheVariants.{Again, Refused, Made}
+use Rattle.shop_core.specs.declared.answer.Reply.{Reply}
+use Rattle.shop_core.specs.declared.answer.Reply.TheVariants as reply_of
+use Rattle.shop_core.specs.declared.answer.refusals.Refusal.{Refusal}
+use Rattle.shop_core.specs.declared.answer.receipts.Receipt.{Receipt}
 use Rattle.chain_store.specs.Ready.{Takes}
-use Rattle.shop_core.specs.Files.{StandsFor, StandsAround, StandsBeforeOrWith}
+use Rattle.shop_core.specs.File.Files.{StandsFor, StandsAround, StandsBeforeOrWith}
 
 stands_around : (issuer : List ℕ) (entries : List Entry) (planned : Planned) (file : List ℕ) → StandsFor issuer entries file →
     StandsAround issuer entries planned file

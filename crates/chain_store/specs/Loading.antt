@@ -1,7 +1,7 @@
 -- What a sound file is loaded as.
 use Rattle.std.specs.Prelude.{◌≡◌, ◌≤◌, ℕ, List}
 use Rattle.journal.specs.File.{IsNotBegun, closing_gate}
-use Rattle.shop_core.specs.Files.{StandsFor, bodies_of, furthest_gate}
+use Rattle.shop_core.specs.File.Files.{StandsFor, bodies_of, furthest_gate}
 use Rattle.chain_store.specs.declared.causes.LoadFault.{LoadFault}
 use Rattle.chain_store.specs.declared.causes.LoadFault.TheVariants.{DiskFault, Damaged, NoMemory}
 use Rattle.chain_store.specs.declared.causes.OpenCause.{OpenCause}

@@ -4,18 +4,18 @@ use Rattle.chain_disk.specs.OnDisk.{OnDisk, LeavesOnly}
 use Rattle.journal.specs.File.{IsAt}
 use Rattle.journal.specs.declared.faults.StoreFault.{StoreFault}
 use Rattle.ports.specs.Readings.{IsTold, MovedBy}
-use Rattle.record_codec.specs.declared.entries.Entry.{Entry}
-use Rattle.record_codec.specs.declared.entries.Entry.TheVariants.{Notes}
+use Rattle.record_codec.specs.declared.entry.Entry.{Entry}
+use Rattle.record_codec.specs.declared.entry.Entry.TheVariants.{Notes}
 use Rattle.record_fields.specs.declared.lines.Line.{Line}
-use Rattle.shop_core.specs.Plans.{answer}
-use Rattle.shop_core.specs.Requests.{Asked}
+use Rattle.shop_core.specs.Answer.Plans.{answer}
+use Rattle.shop_core.specs.Answer.Requests.{Asked}
 use Rattle.shop_core.specs.History.{History, noted}
-use Rattle.shop_core.specs.Replies.{IsReply}
-use Rattle.shop_core.specs.declared.answers.Reply.{Reply}
-use Rattle.shop_core.specs.declared.answers.Reply.TheVariants.{Taken, Again, Refused}
+use Rattle.shop_core.specs.Answer.Replies.{IsReply}
+use Rattle.shop_core.specs.declared.answer.Reply.{Reply}
+use Rattle.shop_core.specs.declared.answer.Reply.TheVariants.{Taken, Again, Refused}
 use Rattle.shop_core.specs.Legal.{Continues}
-use Rattle.shop_core.specs.declared.answers.Planned.TheVariants.{Made}
-use Rattle.shop_core.specs.Files.{AreEncoded, bodies_of, furthest_gate, StandsAround, StandsBeforeOrWith}
+use Rattle.shop_core.specs.declared.answer.Planned.TheVariants.{Made}
+use Rattle.shop_core.specs.File.Files.{AreEncoded, bodies_of, furthest_gate, StandsAround, StandsBeforeOrWith}
 
 -- the disk reads as this history's file, with nothing pending, and its closing gate is at this place
 pub record Holds (history : History) (gate : ℕ) (t : OnDisk) : Type 0 where

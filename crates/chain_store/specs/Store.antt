@@ -2,10 +2,10 @@
 use Rattle.std.specs.Prelude.{◌≡◌, ◌≤◌, ◌++◌, ◌∷◌, [], ℕ, Bool, IsTrue, Option, Some, None, option_map, Result, OnOk, OnErr}
 use Rattle.std.specs.Prelude.{IsErrOf}
 use Rattle.ports.specs.Causes.{Rose}
-use Rattle.record_codec.specs.declared.entries.Entry.{Entry}
+use Rattle.record_codec.specs.declared.entry.Entry.{Entry}
 use Rattle.chain_disk.specs.OnDisk.{OnDisk, LeavesNow, LeavesOnly}
 use Rattle.chain_disk.specs.declared.disk.Disk.{Ghosts}
-use Rattle.shop_core.specs.Files.{StandsBeforeOrWith, StandsFor}
+use Rattle.shop_core.specs.File.Files.{StandsBeforeOrWith, StandsFor}
 use Rattle.shop_core.specs.History.{History}
 use Rattle.journal.specs.declared.faults.StoreFault.{StoreFault}
 use Rattle.journal.specs.declared.journal.Journal.{Journal}

@@ -1,7 +1,7 @@
 // The history that a file stands for.
 ghost use Rattle.std.specs.Prelude.{◌≡◌, ◌≤◌, ℕ, IsTrue, IfOk, IsErrOf};
 ghost use Rattle.ports.specs.Causes.{Rose};
-ghost use Rattle.shop_core.specs.Files.{IsDamagedFile};
+ghost use Rattle.shop_core.specs.File.Files.{IsDamagedFile};
 ghost use Rattle.chain_store.specs.Loading.{HasNearGate, IsLoaded};
 
 use crate::LoadFault;

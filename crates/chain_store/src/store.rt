@@ -4,10 +4,10 @@ ghost use Rattle.std.specs.Prelude.{IsTrue, IfOk, OnOk, OnErr, IsErrOf, IsSome, 
 ghost use Rattle.ports.specs.Causes.{Rose};
 ghost use Rattle.chain_disk.specs.OnDisk.{LeavesOnly, LeavesNow};
 ghost use Rattle.shop_core.specs.History.{recs, noted, is_record};
-ghost use Rattle.shop_core.specs.Replies.{IsTaken};
+ghost use Rattle.shop_core.specs.Answer.Replies.{IsTaken};
 ghost use Rattle.std.specs.Int.{IsInRange};
 ghost use Rattle.shop_core.specs.Legal.{Continues};
-ghost use Rattle.shop_core.specs.Files.{StandsFor, StandsBeforeOrWith};
+ghost use Rattle.shop_core.specs.File.Files.{StandsFor, StandsBeforeOrWith};
 ghost use Rattle.chain_store.specs.Ready.{IfNothingTaken, IsReady, Takes, Tears, TearsLines, noted_next};
 ghost use Rattle.record_fields.specs.declared.lines.TheConstants.{BATCH};
 

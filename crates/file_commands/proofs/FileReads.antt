@@ -1,9 +1,9 @@
 -- What was read of a file is its history.
 use Rattle.std.proofs.Common.{inl, inr, List, ℕ, [], refl}
-use Rattle.shop_core.specs.Reading.{IsRead}
-use Rattle.shop_core.specs.Reading.IsRead.{not_begun, stands, in_header, no_frame, no_entry, not_next}
-use Rattle.shop_core.specs.declared.reading.FileRead.{FileRead}
-use Rattle.shop_core.specs.declared.reading.FileRead.TheVariants.{NotBegun, Sound, Broken}
+use Rattle.shop_core.specs.File.Reading.{IsRead}
+use Rattle.shop_core.specs.File.Reading.IsRead.{not_begun, stands, in_header, no_frame, no_entry, not_next}
+use Rattle.shop_core.specs.declared.file.reading.FileRead.{FileRead}
+use Rattle.shop_core.specs.declared.file.reading.FileRead.TheVariants.{NotBegun, Sound, Broken}
 use Rattle.link_check.specs.Checking.Chain.{not_begun as none_begun, begun}
 use Rattle.file_commands.specs.Checking.{IsChainOf}
 use Rattle.file_commands.specs.Linking.{IsHistoryOf}

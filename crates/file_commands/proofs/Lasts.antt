@@ -9,7 +9,7 @@ use Rattle.record_fields.specs.Records.{is_alta}
 use Rattle.record_fields.specs.declared.records.Anulacion.{Anulacion as AnyAnulacion}
 use Rattle.record_fields.specs.declared.records.Record.TheVariants.{Anulacion}
 use Rattle.record_fields.specs.declared.records.Sealed.{Sealed}
-use Rattle.record_codec.specs.declared.entries.Entry.{Entry}
+use Rattle.record_codec.specs.declared.entry.Entry.{Entry}
 use Rattle.shop_core.specs.History.{recs}
 use Rattle.shop_core.specs.Standing.{has_num, last_alta}
 use Rattle.file_commands.specs.Linking.{last_alta_of}

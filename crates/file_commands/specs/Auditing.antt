@@ -2,8 +2,8 @@
 use Rattle.std.specs.Prelude.{IsTrue}
 use Rattle.chain_disk.specs.Disks.{Disks, DiskRose}
 use Rattle.ports.specs.Sinks.{Sinks, WroteNothing}
-use Rattle.shop_core.specs.declared.audits.AuditEnd.{AuditEnd}
-use Rattle.shop_core.specs.declared.audits.AuditEnd.TheVariants.{Sound, Broken}
+use Rattle.shop_core.specs.declared.file.audits.AuditEnd.{AuditEnd}
+use Rattle.shop_core.specs.declared.file.audits.AuditEnd.TheVariants.{Sound, Broken}
 use Rattle.audit.specs.Auditing.{IsVerdict}
 use Rattle.report.specs.Verdicts.{verdict_text}
 use Rattle.report.specs.declared.ended.Detail.{Detail}

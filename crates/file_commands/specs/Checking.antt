@@ -4,7 +4,7 @@ use Rattle.chain_disk.specs.Disks.{Disks, DiskRose, LeftDisk}
 use Rattle.ports.specs.Sinks.{Sinks, WroteNothing}
 use Rattle.ports.specs.Sources.{Sources}
 use Rattle.journal.specs.File.{IsNotBegun}
-use Rattle.shop_core.specs.Files.{StandsFor, IsDamagedFile}
+use Rattle.shop_core.specs.File.Files.{StandsFor, IsDamagedFile}
 use Rattle.link_check.specs.Checking.{Chain, AreChecked}
 use Rattle.link_check.specs.Checking.Chain.{not_begun, begun}
 use Rattle.link_check.specs.Texts.{checks_text}

@@ -6,9 +6,9 @@ use Rattle.journal.specs.File.{IsNotBegun}
 use Rattle.record_fields.specs.declared.records.Alta.{Alta}
 use Rattle.record_fields.specs.declared.records.Record.{Record}
 use Rattle.record_fields.specs.declared.records.Record.TheVariants as body
-use Rattle.record_codec.specs.declared.entries.Entry.{Entry}
+use Rattle.record_codec.specs.declared.entry.Entry.{Entry}
 use Rattle.shop_core.specs.Standing.{last_alta}
-use Rattle.shop_core.specs.Files.{StandsFor, IsDamagedFile}
+use Rattle.shop_core.specs.File.Files.{StandsFor, IsDamagedFile}
 use Rattle.verify_link.specs.Parts.{link_text, parts_of}
 use Rattle.verify_link.specs.declared.parts.Host.{Host}
 use Rattle.report.specs.declared.ended.Detail.{Detail}

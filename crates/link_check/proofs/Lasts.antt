@@ -8,7 +8,7 @@ use Rattle.std.specs.Prelude.{not}
 use Rattle.record_fields.specs.Picks.{last_of}
 use Rattle.record_fields.specs.Records.{is_alta}
 use Rattle.record_fields.specs.declared.records.Sealed.{Sealed}
-use Rattle.record_codec.specs.declared.entries.Entry.{Entry}
+use Rattle.record_codec.specs.declared.entry.Entry.{Entry}
 use Rattle.shop_core.specs.History.{recs}
 use Rattle.shop_core.specs.Standing.{has_num, is_refused, last_accepted}
 use Rattle.link_check.specs.Checking.{last_accepted_alta}

@@ -7,7 +7,7 @@ use Rattle.std.proofs.lemmas.Bool.{cases_Bool}
 use Rattle.record_fields.specs.Picks.{first_of, when}
 use Rattle.record_fields.specs.Records.{is_alta}
 use Rattle.record_fields.specs.declared.records.Sealed.{Sealed}
-use Rattle.record_codec.specs.declared.entries.Entry.{Entry}
+use Rattle.record_codec.specs.declared.entry.Entry.{Entry}
 use Rattle.shop_core.specs.Standing.{is_known_on, last_accepted}
 use Rattle.verify_link.specs.declared.parts.LinkParts.{LinkParts}
 use Rattle.link_check.specs.Checking.{answer_to, compared, last_accepted_alta}

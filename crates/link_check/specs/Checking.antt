@@ -8,7 +8,7 @@ use Rattle.record_fields.specs.Records.{is_alta}
 use Rattle.record_fields.specs.declared.records.Record.{Record}
 use Rattle.record_fields.specs.declared.records.Record.TheVariants as record_of
 use Rattle.record_fields.specs.declared.records.Sealed.{Sealed}
-use Rattle.record_codec.specs.declared.entries.Entry.{Entry}
+use Rattle.record_codec.specs.declared.entry.Entry.{Entry}
 use Rattle.shop_core.specs.Standing.{last_where, has_num, is_refused, is_known_on, is_held, cancelled_at}
 use Rattle.verify_link.specs.Reading.{IsLinkReading}
 use Rattle.verify_link.specs.declared.parts.LinkParts.{LinkParts}

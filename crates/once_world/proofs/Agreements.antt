@@ -7,8 +7,8 @@ use Rattle.std.proofs.lemmas.Grind.{flat_map-append}
 use Rattle.std.specs.List.{AllByRecursion, Contains}
 use Rattle.record_fields.specs.declared.records.Sealed.{Sealed}
 use Rattle.record_fields.specs.declared.lines.Line.{Line}
-use Rattle.record_codec.specs.declared.entries.Entry.{Entry}
-use Rattle.record_codec.specs.declared.entries.Entry.TheVariants.{Rec, Notes}
+use Rattle.record_codec.specs.declared.entry.Entry.{Entry}
+use Rattle.record_codec.specs.declared.entry.Entry.TheVariants.{Rec, Notes}
 use Rattle.shop_core.specs.History.{Row, rows, row_in, lines_in, recs, noted, is_record, waiting}
 use Rattle.shop_core.specs.Legal.{AreNext}
 use Rattle.shop_core.specs.Sales.{SalesAreNew}

@@ -13,7 +13,7 @@ use Rattle.record_fields.specs.declared.records.Record.{Record}
 use Rattle.record_fields.specs.declared.records.Record.TheVariants as record_of
 use Rattle.record_fields.specs.declared.records.Sealed.{Sealed}
 use Rattle.record_fields.specs.declared.lines.Line.{Line}
-use Rattle.record_codec.specs.declared.entries.Entry.{Entry}
+use Rattle.record_codec.specs.declared.entry.Entry.{Entry}
 use Rattle.shop_core.specs.History.{recs}
 use Rattle.shop_core.specs.Legal.{Legal}
 use Rattle.shop_core.specs.Sales.{SalesAreNew}

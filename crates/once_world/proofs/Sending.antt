@@ -4,7 +4,7 @@ use Rattle.std.proofs.Common.{nat_le, leb-true, is_none}
 use Rattle.std.proofs.lemmas.List.{length-take, take_all}
 use Rattle.record_fields.specs.Links.{LinkedRun}
 use Rattle.record_fields.specs.declared.records.Sealed.{Sealed}
-use Rattle.record_codec.specs.declared.entries.Entry.{Entry}
+use Rattle.record_codec.specs.declared.entry.Entry.{Entry}
 use Rattle.shop_core.specs.History.{recs, noted, waiting}
 use Rattle.shop_core.specs.Legal.{Legal}
 use Rattle.shop_core.specs.Spans.{RunsAreLinked}

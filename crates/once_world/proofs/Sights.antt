@@ -4,8 +4,8 @@ use Rattle.std.proofs.Common.{arith, append-nil, length-append, slice_index_or}
 use Rattle.std.proofs.lemmas.List.{map-append, length-drop, length-map}
 use Rattle.std.proofs.lemmas.List.Elements.{All-append}
 use Rattle.record_fields.specs.declared.lines.Line.{Line}
-use Rattle.record_codec.specs.declared.entries.Entry.{Entry}
-use Rattle.record_codec.specs.declared.entries.Entry.TheVariants.{Notes}
+use Rattle.record_codec.specs.declared.entry.Entry.{Entry}
+use Rattle.record_codec.specs.declared.entry.Entry.TheVariants.{Notes}
 use Rattle.shop_core.specs.History.{recs, noted, waiting}
 use Rattle.shop_core.specs.Items.{entries_of}
 use Rattle.shop_core.specs.declared.items.Item.{Item}

@@ -4,15 +4,15 @@ use Rattle.std.proofs.Common.{◌&&◌, length, slice_get}
 use Rattle.std.specs.List.{AllByRecursion}
 use Rattle.record_fields.specs.declared.lines.Line.{Line}
 use Rattle.record_fields.specs.declared.records.Sealed.{Sealed}
-use Rattle.record_codec.specs.declared.entries.Entry.{Entry}
-use Rattle.record_codec.specs.declared.entries.Entry.TheVariants.{Notes}
-use Rattle.shop_core.specs.Plans.{answer, MakesRecords}
-use Rattle.shop_core.specs.Requests.{Asked, IsAsked}
+use Rattle.record_codec.specs.declared.entry.Entry.{Entry}
+use Rattle.record_codec.specs.declared.entry.Entry.TheVariants.{Notes}
+use Rattle.shop_core.specs.Answer.Plans.{answer, MakesRecords}
+use Rattle.shop_core.specs.Answer.Requests.{Asked, IsAsked}
 use Rattle.shop_core.specs.History.{noted}
 use Rattle.shop_core.specs.Legal.{Legal, GoesOn, MadeContinues}
 use Rattle.shop_core.specs.Sales.{SalesAreNew}
-use Rattle.shop_core.specs.declared.answers.Planned.{Planned}
-use Rattle.shop_core.specs.declared.answers.Planned.TheVariants.{Again, Refused, Made}
+use Rattle.shop_core.specs.declared.answer.Planned.{Planned}
+use Rattle.shop_core.specs.declared.answer.Planned.TheVariants.{Again, Refused, Made}
 use Rattle.agency_rules.specs.declared.plans.Plan.{Plan}
 use Rattle.once_world.specs.Laws.{IsEvent, IsSound, EveryWorldIsSound}
 use Rattle.once_world.specs.World.{empty, appended, torn, may_send, after_send, after_delivery, after_look, after_note, torn_note}

@@ -6,13 +6,13 @@ use Rattle.std.proofs.lemmas.Option.{slice_get_within, get_or_from_slice_get}
 use Rattle.std.specs.List.{Contains}
 use Rattle.record_fields.specs.declared.records.Sealed.{Sealed}
 use Rattle.record_fields.specs.declared.lines.Line.{Line}
-use Rattle.record_codec.specs.declared.entries.Entry.{Entry}
-use Rattle.shop_core.specs.Plans.{answer, MakesRecords}
-use Rattle.shop_core.specs.Requests.{Asked}
+use Rattle.record_codec.specs.declared.entry.Entry.{Entry}
+use Rattle.shop_core.specs.Answer.Plans.{answer, MakesRecords}
+use Rattle.shop_core.specs.Answer.Requests.{Asked}
 use Rattle.shop_core.specs.History.{recs, noted, is_record, waiting}
 use Rattle.shop_core.specs.Legal.{AreNext}
-use Rattle.shop_core.specs.declared.answers.Planned.{Planned}
-use Rattle.shop_core.specs.declared.answers.Planned.TheVariants.{Again, Refused, Made}
+use Rattle.shop_core.specs.declared.answer.Planned.{Planned}
+use Rattle.shop_core.specs.declared.answer.Planned.TheVariants.{Again, Refused, Made}
 use Rattle.agency_rules.specs.Pairs.{delivered}
 use Rattle.agency_rules.specs.declared.plans.Plan.{Plan}
 use Rattle.once_world.specs.Agreement.{IsPrefix, Agree, IsLearnt, HasNoRefusedSale, is_sale_refused, lines_of}

@@ -8,7 +8,7 @@ use Rattle.record_fields.specs.declared.lines.Line.TheVariants.{Correcto, ConErr
 use Rattle.record_fields.specs.declared.lines.Cause.{Cause}
 use Rattle.record_fields.specs.declared.lines.Cause.TheVariants.{Vet, Held, NotHeld, Gone}
 use Rattle.record_fields.specs.declared.lines.TheConstants.{BATCH}
-use Rattle.record_codec.specs.declared.entries.Entry.{Entry}
+use Rattle.record_codec.specs.declared.entry.Entry.{Entry}
 use Rattle.shop_core.specs.History.{recs, noted}
 
 -- ys begins with xs

@@ -5,12 +5,12 @@ use Rattle.std.specs.Prelude.{slice_get, is_none, if◌then◌else◌}
 use Rattle.record_fields.specs.declared.records.Sealed.{Sealed}
 use Rattle.record_fields.specs.declared.lines.Line.{Line}
 use Rattle.record_fields.specs.declared.lines.TheConstants.{BATCH}
-use Rattle.record_codec.specs.declared.entries.Entry.{Entry}
-use Rattle.record_codec.specs.declared.entries.Entry.TheVariants.{Notes}
-use Rattle.shop_core.specs.Plans.{answer}
+use Rattle.record_codec.specs.declared.entry.Entry.{Entry}
+use Rattle.record_codec.specs.declared.entry.Entry.TheVariants.{Notes}
+use Rattle.shop_core.specs.Answer.Plans.{answer}
 use Rattle.shop_core.specs.History.{noted, waiting}
-use Rattle.shop_core.specs.declared.answers.Planned.{Planned}
-use Rattle.shop_core.specs.declared.answers.Planned.TheVariants.{Again, Refused, Made}
+use Rattle.shop_core.specs.declared.answer.Planned.{Planned}
+use Rattle.shop_core.specs.declared.answer.Planned.TheVariants.{Again, Refused, Made}
 use Rattle.agency_rules.specs.Pairs.{delivered}
 use Rattle.agency_rules.specs.declared.plans.Plan.{Plan}
 use Rattle.once_world.specs.Looks.{answers_for, lines_in_front}

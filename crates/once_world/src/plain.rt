@@ -1,6 +1,6 @@
 // A shop in memory alone, as its sender sees it.
 ghost use Rattle.std.specs.Prelude.{◌≡◌, ◌++◌, ◌∷◌, [], length, IfOk, OnOk, OnErr, ℕ, ◌<◌, All};
-ghost use Rattle.record_codec.specs.declared.entries.Entry.TheVariants.{Notes};
+ghost use Rattle.record_codec.specs.declared.entry.Entry.TheVariants.{Notes};
 ghost use Rattle.shop_core.specs.History.{noted};
 ghost use Rattle.shop_core.specs.Legal.{AreNext, Continues};
 ghost use Rattle.once_world.specs.Outbox.{plain_sight};

@@ -1,9 +1,9 @@
 // The world of a shop and its agency, event by event.
 ghost use Rattle.std.specs.Prelude.{◌≡◌, ◌++◌, ◌∷◌, [], IfOk, OnOk, IfSome, length, None, slice_get, take, true, if◌then◌else◌};
-ghost use Rattle.record_codec.specs.declared.entries.Entry.{Entry as AnyEntry};
+ghost use Rattle.record_codec.specs.declared.entry.Entry.{Entry as AnyEntry};
 ghost use Rattle.shop_core.specs.History as history;
 ghost use Rattle.shop_core.specs.Legal.{Legal, Continues, AreNext};
-ghost use Rattle.shop_core.specs.declared.answers.Planned.TheVariants.{Made as made};
+ghost use Rattle.shop_core.specs.declared.answer.Planned.TheVariants.{Made as made};
 ghost use Rattle.once_world.specs.Agreement.{Agree, IsLearnt, AreOnce, HasNoRefusedSale};
 ghost use Rattle.once_world.specs.World as spec;
 

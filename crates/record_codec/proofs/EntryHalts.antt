@@ -33,9 +33,9 @@ use Rattle.record_fields.specs.declared.records.Link.TheVariants.{First, After}
 use Rattle.record_fields.specs.declared.records.Previo.{Previo}
 use Rattle.record_fields.specs.declared.records.Record.{Record}
 use Rattle.record_fields.specs.declared.records.Record.TheVariants as record_of
-use Rattle.record_codec.specs.declared.entries.TheConstants.{LAST_TILL}
-use Rattle.record_codec.specs.declared.entries.Entry.{Entry}
-use Rattle.record_codec.specs.declared.entries.Entry.TheVariants.{Rec, Notes}
+use Rattle.record_codec.specs.declared.entry.TheConstants.{LAST_TILL}
+use Rattle.record_codec.specs.declared.entry.Entry.{Entry}
+use Rattle.record_codec.specs.declared.entry.Entry.TheVariants.{Rec, Notes}
 use Rattle.record_codec.specs.declared.faults.BadEntry.TheVariants as bad
 use Rattle.record_codec.specs.Writing.{text_bytes, id_bytes, customer_bytes, refs_bytes, tax_line_bytes, draft_bytes, link_bytes}
 use Rattle.record_codec.specs.Writing.{line_bytes}

@@ -16,7 +16,7 @@ use Rattle.record_fields.specs.declared.records.Link.{Link}
 use Rattle.record_fields.specs.declared.records.Link.TheVariants.{First, After}
 use Rattle.record_fields.specs.declared.records.Record.{Record}
 use Rattle.record_fields.specs.declared.records.Record.TheVariants as record_of
-use Rattle.record_codec.specs.declared.entries.Entry.TheVariants.{Rec, Notes}
+use Rattle.record_codec.specs.declared.entry.Entry.TheVariants.{Rec, Notes}
 use Rattle.record_codec.specs.Writing.{text_bytes, id_bytes, party_bytes, customer_bytes, refs_bytes, tax_line_bytes}
 use Rattle.record_codec.specs.Writing.{breakdown_bytes, draft_bytes, link_bytes, moment_bytes, alta_bytes, anulacion_bytes}
 use Rattle.record_codec.specs.Writing.{line_bytes, record_bytes, entry_bytes}

@@ -4,9 +4,9 @@ use Rattle.recovery.specs.Opening.{IsFound}
 use Rattle.chain_disk.specs.OnDisk.{OnDisk, IsSettled, LeavesNow, LeavesOnly}
 use Rattle.chain_disk.specs.Runs.{leaves_now, started_settled, weaker}
 use Rattle.journal.specs.File.{IsAtSome, IsFile, IsNotBegunOrEmpty, closing_gate}
-use Rattle.record_codec.specs.declared.entries.Entry.{Entry}
+use Rattle.record_codec.specs.declared.entry.Entry.{Entry}
 use Rattle.shop_core.specs.Legal.{Legal}
-use Rattle.shop_core.specs.Files.{StandsFor, bodies_of}
+use Rattle.shop_core.specs.File.Files.{StandsFor, bodies_of}
 
 -- a file that was begun stands for the empty history
 pub begun : (issuer : List ℕ) (t : OnDisk) → Legal issuer [] → LeavesNow t (IsFile issuer []) → LeavesNow t (StandsFor issuer [])

@@ -2,7 +2,7 @@
 use Rattle.std.proofs.Common.{◌≡◌, ℕ, ◌≤◌, List, [], sym, subst, arith, Bool, IsTrue, Option, None}
 use Rattle.chain_disk.specs.OnDisk.{OnDisk, IsSettled}
 use Rattle.journal.specs.File.{IsAt, closing_gate}
-use Rattle.shop_core.specs.Files.{StandsFor, bodies_of, furthest_gate}
+use Rattle.shop_core.specs.File.Files.{StandsFor, bodies_of, furthest_gate}
 use Rattle.shop_core.specs.History.{History}
 use Rattle.chain_store.specs.Ready.{IsReady}
 

@@ -2,8 +2,8 @@
 use Rattle.std.specs.Prelude.{◌≡◌, ◌≢◌, ◌⊎◌, ℕ, List, []}
 use Rattle.chain_disk.specs.OnDisk.{OnDisk, IsSyncFailed, LeavesOnly, synced}
 use Rattle.journal.specs.File.{IsNotBegun, IsNotBegunOrEmpty}
-use Rattle.record_codec.specs.declared.entries.Entry.{Entry}
-use Rattle.shop_core.specs.Files.{IsDamagedFile, StandsFor}
+use Rattle.record_codec.specs.declared.entry.Entry.{Entry}
+use Rattle.shop_core.specs.File.Files.{IsDamagedFile, StandsFor}
 use Rattle.chain_store.specs.declared.causes.OpenCause.{OpenCause}
 use Rattle.chain_store.specs.declared.causes.OpenCause.TheVariants.{DiskFault, Damaged, OtherIssuer, NoMemory}
 

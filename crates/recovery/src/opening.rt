@@ -4,7 +4,7 @@ ghost use Rattle.ports.specs.Causes.{Rose};
 ghost use Rattle.chain_disk.specs.OnDisk.{IsSettled, LeavesNow, LeavesOnly, synced};
 ghost use Rattle.journal.specs.File.{IsNotBegun};
 ghost use Rattle.journal.specs.Journal.{disk_of, stopped_of};
-ghost use Rattle.shop_core.specs.Files.{StandsFor, furthest_gate};
+ghost use Rattle.shop_core.specs.File.Files.{StandsFor, furthest_gate};
 ghost use Rattle.chain_store.specs.Loading.{IsLoaded};
 ghost use Rattle.chain_store.specs.Store.{Ready, clock_of, journal_of, state_of, torn_of};
 ghost use Rattle.chain_store.specs.declared.causes.OpenCause.TheVariants as cause;

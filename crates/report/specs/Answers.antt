@@ -8,12 +8,12 @@ use Rattle.record_fields.specs.declared.checks.DraftFault.TheVariants.{CustomerM
 use Rattle.record_fields.specs.declared.checks.DraftFault.TheVariants.{RectUnwanted, RefsMissing, RefsUnwanted, TooManyRefs}
 use Rattle.record_fields.specs.declared.checks.DraftFault.TheVariants.{OverSimplified}
 use Rattle.huella.specs.Texts.{huella_text}
-use Rattle.shop_core.specs.declared.receipts.Receipt.{Receipt}
-use Rattle.shop_core.specs.declared.answers.Refusal.{Refusal}
-use Rattle.shop_core.specs.declared.answers.Refusal.TheVariants.{Passed, BadDraft, Unknown, Cancelled, RefNotSimplified}
-use Rattle.shop_core.specs.declared.answers.Refusal.TheVariants.{ChainFull, ClockRange, HuellaTwice}
-use Rattle.shop_core.specs.declared.answers.Reply.{Reply}
-use Rattle.shop_core.specs.declared.answers.Reply.TheVariants.{Taken, Again, Refused}
+use Rattle.shop_core.specs.declared.answer.receipts.Receipt.{Receipt}
+use Rattle.shop_core.specs.declared.answer.refusals.Refusal.{Refusal}
+use Rattle.shop_core.specs.declared.answer.refusals.Refusal.TheVariants.{Passed, BadDraft, Unknown, Cancelled, RefNotSimplified}
+use Rattle.shop_core.specs.declared.answer.refusals.Refusal.TheVariants.{ChainFull, ClockRange, HuellaTwice}
+use Rattle.shop_core.specs.declared.answer.Reply.{Reply}
+use Rattle.shop_core.specs.declared.answer.Reply.TheVariants.{Taken, Again, Refused}
 use Rattle.report.specs.declared.answers.AnswerLine.{AnswerLine}
 use Rattle.report.specs.declared.answers.AnswerLine.TheVariants.{Answered, Saw}
 

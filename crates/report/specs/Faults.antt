@@ -4,7 +4,7 @@ use Rattle.agency_port.specs.declared.turns.Evidence.{Evidence}
 use Rattle.agency_port.specs.declared.turns.Evidence.TheVariants.{Hole, Forgotten}
 use Rattle.shop_core.specs.declared.words.Word.{Word}
 use Rattle.shop_core.specs.declared.words.Word.TheVariants as word
-use Rattle.shop_core.specs.declared.audits.What.{What}
+use Rattle.shop_core.specs.declared.file.audits.What.{What}
 use Rattle.report.specs.Verdicts.{what_text}
 use Rattle.report.specs.declared.ended.Detail.{Detail}
 use Rattle.report.specs.declared.ended.Detail.TheVariants as detail

@@ -18,7 +18,7 @@ use Rattle.record_fields.specs.declared.records.Record.{Record}
 use Rattle.record_fields.specs.declared.records.Record.TheVariants as record_of
 use Rattle.record_fields.specs.declared.records.Sealed.{Sealed}
 use Rattle.huella.specs.Texts.{huella_text}
-use Rattle.record_codec.specs.declared.entries.Entry.{Entry}
+use Rattle.record_codec.specs.declared.entry.Entry.{Entry}
 use Rattle.shop_core.specs.History.{recs, noted, line_at}
 use Rattle.report.specs.Pieces.{chain_line}
 

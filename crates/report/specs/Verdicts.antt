@@ -1,10 +1,10 @@
 -- The verdict on a file. The texts are this project's own; a Huella is written as in the field text.
 use Rattle.std.specs.Prelude.{ℕ, List, ◌++◌, codes, decimal, Option, Some, None}
 use Rattle.huella.specs.Texts.{huella_text}
-use Rattle.shop_core.specs.declared.audits.AuditEnd.{AuditEnd}
-use Rattle.shop_core.specs.declared.audits.AuditEnd.TheVariants.{Sound, Broken}
-use Rattle.shop_core.specs.declared.audits.What.{What}
-use Rattle.shop_core.specs.declared.audits.What.TheVariants.{Header, Frame, Body, Notes, Link, Seal, Rule}
+use Rattle.shop_core.specs.declared.file.audits.AuditEnd.{AuditEnd}
+use Rattle.shop_core.specs.declared.file.audits.AuditEnd.TheVariants.{Sound, Broken}
+use Rattle.shop_core.specs.declared.file.audits.What.{What}
+use Rattle.shop_core.specs.declared.file.audits.What.TheVariants.{Header, Frame, Body, Notes, Link, Seal, Rule}
 
 abbrev pub what_text : What → List ℕ
 what_text Header = codes "header"

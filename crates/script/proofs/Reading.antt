@@ -26,8 +26,8 @@ use Rattle.agency_rules.specs.declared.plans.PlannedFate.{PlannedFate}
 use Rattle.agency_rules.specs.declared.plans.PlannedVerdict.{PlannedVerdict}
 use Rattle.parties.specs.declared.name.Party.{Party}
 use Rattle.record_fields.specs.Picks.{first_of, when}
-use Rattle.shop_core.specs.Requests.{Asked}
-use Rattle.shop_core.specs.declared.requests.Request.{Request}
+use Rattle.shop_core.specs.Answer.Requests.{Asked}
+use Rattle.shop_core.specs.declared.answer.requests.Request.{Request}
 use Rattle.shop_core.specs.declared.words.Word.{Word}
 use Rattle.shop_core.specs.declared.words.Word.TheVariants as word
 use Rattle.script.specs.Cuts.{parts_of}

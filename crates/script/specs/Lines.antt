@@ -17,9 +17,9 @@ use Rattle.parties.specs.declared.name.Party.{Party}
 use Rattle.record_fields.specs.Picks.{first_of, when}
 use Rattle.record_fields.specs.declared.drafts.Draft.{Draft}
 use Rattle.series.specs.Numbers.{is_series, is_num_serie}
-use Rattle.shop_core.specs.Requests.{Asked}
-use Rattle.shop_core.specs.declared.requests.Request.{Request}
-use Rattle.shop_core.specs.declared.requests.Request.TheVariants.{Sale, Fix, Cancel}
+use Rattle.shop_core.specs.Answer.Requests.{Asked}
+use Rattle.shop_core.specs.declared.answer.requests.Request.{Request}
+use Rattle.shop_core.specs.declared.answer.requests.Request.TheVariants.{Sale, Fix, Cancel}
 use Rattle.shop_core.specs.declared.words.Word.{Word}
 use Rattle.shop_core.specs.declared.words.Word.TheVariants as word
 use Rattle.script.specs.Cuts.{parts_of}

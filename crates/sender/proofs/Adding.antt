@@ -6,8 +6,8 @@ use Rattle.std.proofs.Math.Seq.{drop-append_seam}
 use Rattle.std.specs.Prelude.{Contains}
 use Rattle.record_fields.specs.declared.lines.Line.{Line}
 use Rattle.record_fields.specs.declared.records.Sealed.{Sealed}
-use Rattle.record_codec.specs.declared.entries.Entry.{Entry}
-use Rattle.record_codec.specs.declared.entries.Entry.TheVariants.{Rec, Notes as notes_of}
+use Rattle.record_codec.specs.declared.entry.Entry.{Entry}
+use Rattle.record_codec.specs.declared.entry.Entry.TheVariants.{Rec, Notes as notes_of}
 use Rattle.journal.specs.declared.faults.StoreFault.TheVariants as store
 use Rattle.shop_core.specs.declared.items.Item.{Item}
 use Rattle.shop_core.specs.declared.items.Item.TheVariants as recorded

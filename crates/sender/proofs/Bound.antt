@@ -10,7 +10,7 @@ use Rattle.agency_port.specs.declared.turns.Told.{Told}
 use Rattle.sender.specs.declared.answers.DrainFault.{DrainFault}
 use Rattle.record_fields.specs.declared.records.Sealed.{Sealed}
 use Rattle.record_fields.specs.declared.lines.Line.{Line}
-use Rattle.record_codec.specs.declared.entries.Entry.{Entry}
+use Rattle.record_codec.specs.declared.entry.Entry.{Entry}
 use Rattle.shop_core.specs.History.{recs, noted, waiting}
 use Rattle.shop_core.specs.declared.waiting.Waiting.{Waiting}
 use Rattle.pacing.specs.Pace.{due_at}

@@ -1,8 +1,8 @@
 -- What a drain keeps.
 use Rattle.std.proofs.Common.{◌≡◌, inl, inr, List, [], ◌∷◌, ◌++◌, sym, subst, length, Bool, Result, Err, IsTrue}
 use Rattle.std.specs.Prelude.{IsErrOf}
-use Rattle.record_codec.specs.declared.entries.Entry.{Entry}
-use Rattle.record_codec.specs.declared.entries.Entry.TheVariants.{Notes as notes_of}
+use Rattle.record_codec.specs.declared.entry.Entry.{Entry}
+use Rattle.record_codec.specs.declared.entry.Entry.TheVariants.{Notes as notes_of}
 use Rattle.journal.specs.declared.faults.StoreFault.TheVariants as store
 use Rattle.shop_core.specs.History.{noted}
 use Rattle.agency_port.specs.Ledger.{Ledger}

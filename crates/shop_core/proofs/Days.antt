@@ -11,16 +11,16 @@ use Rattle.record_fields.specs.declared.records.Alta.{Alta}
 use Rattle.record_fields.specs.declared.records.Record.{Record}
 use Rattle.record_fields.specs.declared.records.Record.TheVariants as record_of
 use Rattle.record_fields.specs.declared.records.Sealed.{Sealed}
-use Rattle.record_codec.specs.declared.entries.Entry.{Entry}
-use Rattle.record_codec.specs.declared.entries.Entry.TheVariants.{Rec, Notes}
+use Rattle.record_codec.specs.declared.entry.Entry.{Entry}
+use Rattle.record_codec.specs.declared.entry.Entry.TheVariants.{Rec, Notes}
 use Rattle.shop_core.specs.Found.{read_off}
 use Rattle.shop_core.specs.History.{recs}
 use Rattle.shop_core.specs.Standing.{has_num, last_alta, day_of, is_known_on}
 use Rattle.shop_core.specs.Legal.{Legal, Continues, ask_of, request_of}
-use Rattle.shop_core.specs.Making.{made_sealed}
+use Rattle.shop_core.specs.Answer.Making.{made_sealed}
 use Rattle.shop_core.specs.Sales.{SalesAreNew}
-use Rattle.shop_core.specs.declared.requests.Request.{Request}
-use Rattle.shop_core.specs.declared.requests.Request.TheVariants.{Fix}
+use Rattle.shop_core.specs.declared.answer.requests.Request.{Request}
+use Rattle.shop_core.specs.declared.answer.requests.Request.TheVariants.{Fix}
 use Rattle.shop_core.specs.declared.standing.Found.{Found}
 use Rattle.shop_core.proofs.Lasts.{last_passing, last_skips, recs_then, recs_still}
 use Rattle.shop_core.proofs.Legality.{is_made, legal_front}

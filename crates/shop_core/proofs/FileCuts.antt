@@ -12,11 +12,11 @@ use Rattle.journal.specs.Header.{HasMark, HasVersion, IsBegun, IsHeaderDamaged}
 use Rattle.journal.specs.Header.IsHeaderDamaged.{cut_in_mark, cut_in_issuer}
 use Rattle.journal.specs.Laws.{WalkEnds}
 use Rattle.record_codec.specs.Writing.{entry_bytes}
-use Rattle.record_codec.specs.declared.entries.Entry.{Entry}
-use Rattle.shop_core.specs.FileLaws.{CutIsDamaged, IsCutAt, SoundBegins, SoundGoesOn}
-use Rattle.shop_core.specs.FileLaws.IsCutAt.{in_frame, in_header as in_the_header}
-use Rattle.shop_core.specs.Files.{AreEncoded, IsDamagedFile, IsSoundUpTo, bodies_of}
-use Rattle.shop_core.specs.Files.IsDamagedFile.{in_header, no_frame}
+use Rattle.record_codec.specs.declared.entry.Entry.{Entry}
+use Rattle.shop_core.specs.File.Laws.{CutIsDamaged, IsCutAt, SoundBegins, SoundGoesOn}
+use Rattle.shop_core.specs.File.Laws.IsCutAt.{in_frame, in_header as in_the_header}
+use Rattle.shop_core.specs.File.Files.{AreEncoded, IsDamagedFile, IsSoundUpTo, bodies_of}
+use Rattle.shop_core.specs.File.Files.IsDamagedFile.{in_header, no_frame}
 use Rattle.shop_core.specs.Legal.{Legal}
 
 -- what the header says stands in each front that holds it

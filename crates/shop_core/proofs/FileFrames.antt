@@ -6,10 +6,10 @@ use Rattle.journal.specs.Laws.{WalkBegins, WalkGoesOn, WalkEnds}
 use Rattle.journal.specs.Walk.{AreFrames}
 use Rattle.record_codec.specs.Writing.{entry_bytes}
 use Rattle.record_codec.specs.Validity.{IsEncoding}
-use Rattle.record_codec.specs.declared.entries.Entry.{Entry}
+use Rattle.record_codec.specs.declared.entry.Entry.{Entry}
 use Rattle.shop_core.specs.Legal.{Legal, GoesOn}
-use Rattle.shop_core.specs.FileLaws.{SoundBegins, SoundGoesOn, SoundEnds}
-use Rattle.shop_core.specs.Files.{IsSoundUpTo, AreEncoded, bodies_of}
+use Rattle.shop_core.specs.File.Laws.{SoundBegins, SoundGoesOn, SoundEnds}
+use Rattle.shop_core.specs.File.Files.{IsSoundUpTo, AreEncoded, bodies_of}
 
 pub encoded_more : (issuer : List ℕ) (entries : List Entry) (entry : Entry) → AreEncoded issuer entries →
     IsEncoding issuer entry (entry_bytes entry) → AreEncoded issuer (entries ++ entry ∷ [])

@@ -8,11 +8,11 @@ use Rattle.journal.specs.Laws.{OneHeader}
 use Rattle.journal.specs.declared.reading.Header.TheVariants.{NotBegun, Begun, Damaged}
 use Rattle.record_codec.specs.Validity.{IsEncoding}
 use Rattle.record_codec.specs.Laws.{EncodingsAreApart}
-use Rattle.record_codec.specs.declared.entries.Entry.{Entry}
+use Rattle.record_codec.specs.declared.entry.Entry.{Entry}
 use Rattle.shop_core.specs.Legal.{Continues}
-use Rattle.shop_core.specs.FileLaws.{StopsAt, OneStop, StopsAtItsGate, OneHistory, OneDamage, SoundOrDamaged, NotBegunIsNeither}
-use Rattle.shop_core.specs.Files.{IsDamagedFile, bodies_of}
-use Rattle.shop_core.specs.Files.IsDamagedFile.{in_header, no_frame, no_entry, not_next}
+use Rattle.shop_core.specs.File.Laws.{StopsAt, OneStop, StopsAtItsGate, OneHistory, OneDamage, SoundOrDamaged, NotBegunIsNeither}
+use Rattle.shop_core.specs.File.Files.{IsDamagedFile, bodies_of}
+use Rattle.shop_core.specs.File.Files.IsDamagedFile.{in_header, no_frame, no_entry, not_next}
 use Rattle.shop_core.proofs.FileStops.{not_both, same_entry}
 
 -- a damage behind the header: the file stops there, and its gate isn't closed

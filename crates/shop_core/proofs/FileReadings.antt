@@ -5,10 +5,10 @@ use Rattle.journal.specs.Step.{IsStep, IsNext}
 use Rattle.journal.specs.declared.reading.Step.{Step}
 use Rattle.journal.specs.declared.reading.Step.TheVariants.{Counted, Damaged}
 use Rattle.record_codec.specs.declared.faults.BadEntry.{BadEntry}
-use Rattle.shop_core.specs.Files.IsDamagedFile.{in_header as damaged_header, no_frame as damaged_frame, no_entry as damaged_body}
-use Rattle.shop_core.specs.Files.IsDamagedFile.{not_next as damaged_entry}
-use Rattle.shop_core.specs.Reading.{BrokenIsDamaged}
-use Rattle.shop_core.specs.Reading.IsRead.{in_header, no_frame, no_entry, not_next}
+use Rattle.shop_core.specs.File.Files.IsDamagedFile.{in_header as damaged_header, no_frame as damaged_frame, no_entry as damaged_body}
+use Rattle.shop_core.specs.File.Files.IsDamagedFile.{not_next as damaged_entry}
+use Rattle.shop_core.specs.File.Reading.{BrokenIsDamaged}
+use Rattle.shop_core.specs.File.Reading.IsRead.{in_header, no_frame, no_entry, not_next}
 
 pub counted_step : (bytes body : List ℕ) (step : Step) (next : ℕ) → step ≡ Counted next → IsStep bytes step body →
     IsCounted bytes body

@@ -7,9 +7,9 @@ use Rattle.journal.specs.Walk.{GoOn}
 use Rattle.record_codec.specs.Writing.{entry_bytes}
 use Rattle.record_codec.specs.Validity.{IsEncoding}
 use Rattle.record_codec.specs.Laws.{EncodingsAreApart}
-use Rattle.record_codec.specs.declared.entries.Entry.{Entry}
-use Rattle.shop_core.specs.FileLaws.{StopsAt, OneStop, StopsAtItsGate}
-use Rattle.shop_core.specs.Files.{IsSoundUpTo, AreEncoded, bodies_of}
+use Rattle.record_codec.specs.declared.entry.Entry.{Entry}
+use Rattle.shop_core.specs.File.Laws.{StopsAt, OneStop, StopsAtItsGate}
+use Rattle.shop_core.specs.File.Files.{IsSoundUpTo, AreEncoded, bodies_of}
 
 -- a counted frame's gate is 1
 pub not_both : (bytes body : List ℕ) → IsClosed bytes → IsCounted bytes body → ⊥

@@ -8,12 +8,12 @@ use Rattle.std.specs.Result.{OnOk, OnErr}
 use Rattle.std.specs.declared.alloc.Global.{Global}
 use Rattle.std.proofs.lemmas.Bool.{and_from, and_parts, cases_Bool, eq-eqb, eqb-true}
 use Rattle.std.proofs.lemmas.Slice.Eq.{bytes_eq-Decides}
-use Rattle.shop_core.specs.ByNumber.{changed, has, list_of, listed_at, nothing, other_at, standing_at}
-use Rattle.shop_core.specs.Spots.{spot_of}
-use Rattle.shop_core.specs.declared.by_number.ByNumber.{ByNumber}
-use Rattle.shop_core.specs.declared.by_number.Change.{Change}
-use Rattle.shop_core.specs.declared.by_number.Standing.{Standing}
-use Rattle.shop_core.specs.declared.spots.Spot.{Spot}
+use Rattle.shop_core.specs.Tables.ByNumber.{changed, has, list_of, listed_at, nothing, other_at, standing_at}
+use Rattle.shop_core.specs.Tables.Spots.{spot_of}
+use Rattle.shop_core.specs.declared.tables.by_number.ByNumber.{ByNumber}
+use Rattle.shop_core.specs.declared.tables.by_number.Change.{Change}
+use Rattle.shop_core.specs.declared.tables.by_number.Standing.{Standing}
+use Rattle.shop_core.specs.declared.tables.spots.Spot.{Spot}
 use Rattle.shop_core.proofs.Entering.{bytes_are}
 use Rattle.shop_core.proofs.Spotted.{one_number}
 

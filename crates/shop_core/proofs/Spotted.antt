@@ -14,9 +14,9 @@ use Rattle.amounts.specs.Text.{whole_text}
 use Rattle.amounts.specs.declared.whole.TheConstants.{WHOLE_LIMIT}
 use Rattle.record_fields.specs.Picks.{when}
 use Rattle.series.specs.Numbers.{is_series, number_text, series_of}
-use Rattle.shop_core.specs.Spots.{count_of, is_number_of, spot_of}
-use Rattle.shop_core.specs.declared.spots.Spot.{Spot}
-use Rattle.shop_core.specs.declared.spots.TheConstants.{MAX_OF_SERIES}
+use Rattle.shop_core.specs.Tables.Spots.{count_of, is_number_of, spot_of}
+use Rattle.shop_core.specs.declared.tables.spots.Spot.{Spot}
+use Rattle.shop_core.specs.declared.tables.spots.TheConstants.{MAX_OF_SERIES}
 
 -- where the last dash stands
 record DashAt (number : List ℕ) (n : ℕ) : Type 0 where

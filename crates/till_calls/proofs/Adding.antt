@@ -6,8 +6,8 @@ use Rattle.std.proofs.lemmas.List.{length-append}
 use Rattle.chain_lock.specs.Known.{Known, IsNew, Fits, OwnsBelow, owners}
 use Rattle.chain_lock.specs.Lists.{EachOf, StartsWith}
 use Rattle.journal.specs.declared.faults.StoreFault.{StoreFault}
-use Rattle.shop_core.specs.Requests.{Asked}
-use Rattle.shop_core.specs.declared.answers.Reply.{Reply}
+use Rattle.shop_core.specs.Answer.Requests.{Asked}
+use Rattle.shop_core.specs.declared.answer.Reply.{Reply}
 use Rattle.shop_core.specs.declared.items.Item.{Item}
 use Rattle.till_calls.specs.Own.{is_by, is_of, records_of, AreTaken, OwnsNone, OwnsOnly}
 use Rattle.till_calls.specs.Root.{Root}

@@ -6,15 +6,15 @@ use Rattle.chain_disk.specs.OnDisk.{OnDisk, LeavesOnly, LeavesNow, moment}
 use Rattle.chain_disk.specs.Runs.{follows, weaker, started_settled, leaves_now}
 use Rattle.chain_lock.specs.Lists.{StartsWith}
 use Rattle.chain_store.specs.Ready.{IsReady, Holds}
-use Rattle.shop_core.specs.Files.{StandsFor, StandsAround, StandsBeforeOrWith}
+use Rattle.shop_core.specs.File.Files.{StandsFor, StandsAround, StandsBeforeOrWith}
 use Rattle.ports.specs.Causes.{Rose}
 use Rattle.ports.specs.Readings.{MovedBy}
-use Rattle.record_codec.specs.declared.entries.Entry.{Entry}
+use Rattle.record_codec.specs.declared.entry.Entry.{Entry}
 use Rattle.shop_core.specs.Legal.{Legal, Continues}
-use Rattle.shop_core.specs.Replies.{Tells}
-use Rattle.shop_core.specs.declared.answers.Planned.{Planned}
-use Rattle.shop_core.specs.declared.answers.Planned.TheVariants.{Again, Refused, Made}
-use Rattle.shop_core.specs.declared.answers.Reply.{Reply}
+use Rattle.shop_core.specs.Answer.Replies.{Tells}
+use Rattle.shop_core.specs.declared.answer.Planned.{Planned}
+use Rattle.shop_core.specs.declared.answer.Planned.TheVariants.{Again, Refused, Made}
+use Rattle.shop_core.specs.declared.answer.Reply.{Reply}
 use Rattle.till_calls.specs.Root.{Root, Parts, with_torn, root_of}
 use Rattle.till_calls.specs.Sound.{StandsBetween, Leaves, IsLater, IsSound}
 

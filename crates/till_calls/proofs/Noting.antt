@@ -6,12 +6,12 @@ use Rattle.std.proofs.lemmas.List.{map-append}
 use Rattle.chain_disk.specs.OnDisk.{OnDisk, LeavesNow, LeavesOnly}
 use Rattle.chain_lock.specs.Lists.{MayAdd}
 use Rattle.chain_store.specs.Ready.{IsReady, TearsLines}
-use Rattle.shop_core.specs.Files.{StandsFor, StandsBeforeOrWith}
+use Rattle.shop_core.specs.File.Files.{StandsFor, StandsBeforeOrWith}
 use Rattle.journal.specs.declared.faults.StoreFault.{StoreFault}
 use Rattle.journal.specs.declared.faults.StoreFault.TheVariants.{DiskFault, Stopped, NoMemory}
 use Rattle.ports.specs.Causes.{Rose}
-use Rattle.record_codec.specs.declared.entries.Entry.{Entry}
-use Rattle.record_codec.specs.declared.entries.Entry.TheVariants.{Notes}
+use Rattle.record_codec.specs.declared.entry.Entry.{Entry}
+use Rattle.record_codec.specs.declared.entry.Entry.TheVariants.{Notes}
 use Rattle.record_fields.specs.declared.lines.Line.{Line}
 use Rattle.shop_core.specs.History.{noted}
 use Rattle.shop_core.specs.declared.items.Item.{Item}

@@ -9,7 +9,7 @@ use Rattle.chain_lock.specs.Lists.{EachOf}
 use Rattle.journal.specs.declared.faults.StoreFault.{StoreFault}
 use Rattle.journal.specs.declared.faults.StoreFault.TheVariants.{DiskFault, Stopped, NoMemory}
 use Rattle.once_world.specs.Outbox.{AddsOwn, HasNoStop, HasStopped, NotedBy, OwnWithin, notes_behind}
-use Rattle.record_codec.specs.declared.entries.Entry.{Entry}
+use Rattle.record_codec.specs.declared.entry.Entry.{Entry}
 use Rattle.record_fields.specs.declared.lines.Line.{Line}
 use Rattle.shop_core.specs.History.{noted, recs}
 use Rattle.shop_core.specs.Items.{entries_of}

@@ -10,22 +10,22 @@ use Rattle.chain_lock.specs.Known.{Known, IsNew}
 use Rattle.chain_lock.specs.Lists.{EachOf, StartsWith}
 use Rattle.journal.specs.declared.faults.StoreFault.{StoreFault}
 use Rattle.journal.specs.declared.faults.StoreFault.TheVariants.{DiskFault, Stopped, NoMemory}
-use Rattle.record_codec.specs.declared.entries.Entry.{Entry}
-use Rattle.record_codec.specs.declared.entries.Entry.TheVariants.{Rec, Notes}
-use Rattle.shop_core.specs.Plans.{answer, kept}
-use Rattle.shop_core.specs.Refusals.{refusal}
-use Rattle.shop_core.specs.Requests.{Asked}
+use Rattle.record_codec.specs.declared.entry.Entry.{Entry}
+use Rattle.record_codec.specs.declared.entry.Entry.TheVariants.{Rec, Notes}
+use Rattle.shop_core.specs.Answer.Plans.{answer, kept}
+use Rattle.shop_core.specs.Answer.Refusals.{refusal}
+use Rattle.shop_core.specs.Answer.Requests.{Asked}
 use Rattle.shop_core.specs.History.{recs}
 use Rattle.shop_core.specs.declared.items.Item.{Item}
 use Rattle.shop_core.specs.declared.items.Item.TheVariants as item
-use Rattle.shop_core.specs.Making.{made_sealed}
-use Rattle.shop_core.specs.Replies.{IsTakenAt, Tells}
-use Rattle.shop_core.specs.declared.answers.Planned.{Planned}
-use Rattle.shop_core.specs.declared.answers.Planned.TheVariants as planned
-use Rattle.shop_core.specs.declared.answers.Refusal.{Refusal}
-use Rattle.shop_core.specs.declared.answers.Reply.{Reply}
-use Rattle.shop_core.specs.declared.answers.Reply.TheVariants.{Taken, Again, Refused}
-use Rattle.shop_core.specs.declared.receipts.Receipt.{Receipt}
+use Rattle.shop_core.specs.Answer.Making.{made_sealed}
+use Rattle.shop_core.specs.Answer.Replies.{IsTakenAt, Tells}
+use Rattle.shop_core.specs.declared.answer.Planned.{Planned}
+use Rattle.shop_core.specs.declared.answer.Planned.TheVariants as planned
+use Rattle.shop_core.specs.declared.answer.refusals.Refusal.{Refusal}
+use Rattle.shop_core.specs.declared.answer.Reply.{Reply}
+use Rattle.shop_core.specs.declared.answer.Reply.TheVariants.{Taken, Again, Refused}
+use Rattle.shop_core.specs.declared.answer.receipts.Receipt.{Receipt}
 use Rattle.till_calls.specs.Root.{Root}
 use Rattle.till_calls.specs.Own.{is_by, is_of, records_of, AreTaken}
 use Rattle.till_calls.specs.Client.{TillRun}

@@ -6,11 +6,11 @@ use Rattle.chain_lock.specs.Known.{Known}
 use Rattle.chain_lock.specs.Lists.{StartsWith}
 use Rattle.journal.specs.declared.faults.StoreFault.{StoreFault}
 use Rattle.journal.specs.declared.faults.StoreFault.TheVariants.{DiskFault, Stopped, NoMemory}
-use Rattle.record_codec.specs.declared.entries.Entry.{Entry}
-use Rattle.shop_core.specs.Requests.{Asked}
+use Rattle.record_codec.specs.declared.entry.Entry.{Entry}
+use Rattle.shop_core.specs.Answer.Requests.{Asked}
 use Rattle.shop_core.specs.declared.items.Item.{Item}
 use Rattle.shop_core.specs.declared.items.Item.TheVariants as item
-use Rattle.shop_core.specs.declared.answers.Reply.{Reply}
+use Rattle.shop_core.specs.declared.answer.Reply.{Reply}
 use Rattle.till_calls.specs.Root.{Root}
 use Rattle.till_calls.specs.Client.{TillRun, TillTold}
 use Rattle.till_calls.specs.Client.TillRun.{begun, asked}

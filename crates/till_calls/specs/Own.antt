@@ -2,13 +2,13 @@
 use Rattle.std.specs.Prelude.{◌≡◌, ℕ, ◌==◌, Bool, true, false, List, [], ◌∷◌, filter, All, Result, Ok, Err}
 use Rattle.chain_lock.specs.Known.{Known}
 use Rattle.journal.specs.declared.faults.StoreFault.{StoreFault}
-use Rattle.record_codec.specs.declared.entries.Entry.{Entry}
-use Rattle.record_codec.specs.declared.entries.Entry.TheVariants.{Rec, Notes}
+use Rattle.record_codec.specs.declared.entry.Entry.{Entry}
+use Rattle.record_codec.specs.declared.entry.Entry.TheVariants.{Rec, Notes}
 use Rattle.shop_core.specs.declared.items.Item.{Item}
 use Rattle.shop_core.specs.declared.items.Item.TheVariants as item
-use Rattle.shop_core.specs.Replies.{IsTakenAt}
-use Rattle.shop_core.specs.declared.answers.Reply.{Reply}
-use Rattle.shop_core.specs.declared.answers.Reply.TheVariants.{Taken, Again, Refused}
+use Rattle.shop_core.specs.Answer.Replies.{IsTakenAt}
+use Rattle.shop_core.specs.declared.answer.Reply.{Reply}
+use Rattle.shop_core.specs.declared.answer.Reply.TheVariants.{Taken, Again, Refused}
 
 -- the item is a record of this till
 abbrev pub is_of : ℕ → Item → Bool

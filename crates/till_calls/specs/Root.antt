@@ -5,7 +5,7 @@ use Rattle.chain_disk.specs.declared.disk.Disk.{Ghosts}
 use Rattle.chain_store.specs.Store.{clock_of, journal_of, state_of, torn_of}
 use Rattle.chain_store.specs.declared.store.Store.{Store}
 use Rattle.journal.specs.Journal.{disk_of, end_of, stopped_of}
-use Rattle.record_codec.specs.declared.entries.Entry.{Entry}
+use Rattle.record_codec.specs.declared.entry.Entry.{Entry}
 use Rattle.shop_core.specs.History.{History}
 use Rattle.shop_core.specs.declared.items.Item.{Item}
 use Rattle.shop_core.specs.declared.items.Item.TheVariants as item

@@ -6,9 +6,9 @@ use Rattle.atomic_table.specs.Seated.{TableId}
 use Rattle.chain_lock.specs.Known.{Known, Turns}
 use Rattle.chain_lock.specs.Words.{all_known, known, lock_id, opening, pass_count, pass_lock, passes_lock}
 use Rattle.journal.specs.declared.faults.StoreFault.{StoreFault}
-use Rattle.shop_core.specs.Requests.{Asked}
+use Rattle.shop_core.specs.Answer.Requests.{Asked}
 use Rattle.shop_core.specs.declared.items.Item.{Item}
-use Rattle.shop_core.specs.declared.answers.Reply.{Reply}
+use Rattle.shop_core.specs.declared.answer.Reply.{Reply}
 use Rattle.till_calls.specs.Root.{Root, items_in}
 use Rattle.till_calls.specs.Turns.{TillTurn}
 use Rattle.till_calls.specs.declared.shop.Shop.{Shop}

@@ -3,10 +3,10 @@ use Rattle.std.specs.Prelude.{◌≡◌, ◌⊎◌, ◌≤◌, ℕ, List, Bool, 
 use Rattle.chain_disk.specs.OnDisk.{OnDisk, LeavesOnly, LeavesNow}
 use Rattle.chain_lock.specs.Lists.{StartsWith}
 use Rattle.chain_store.specs.Ready.{IsReady}
-use Rattle.shop_core.specs.Files.{StandsFor}
+use Rattle.shop_core.specs.File.Files.{StandsFor}
 use Rattle.ports.specs.Causes.{Rose}
 use Rattle.ports.specs.Readings.{MovedBy}
-use Rattle.record_codec.specs.declared.entries.Entry.{Entry}
+use Rattle.record_codec.specs.declared.entry.Entry.{Entry}
 use Rattle.shop_core.specs.Legal.{Legal, Continues}
 use Rattle.till_calls.specs.Root.{Root, Parts, with_torn}
 

@@ -6,7 +6,7 @@ ghost use Rattle.chain_lock.specs.Known.{Fits, IsNew, holders, owners};
 ghost use Rattle.chain_lock.specs.Lists.{StartsWith};
 ghost use Rattle.chain_store.specs.Store.{Ready, journal_of};
 ghost use Rattle.journal.specs.Journal.{stopped_of};
-ghost use Rattle.record_codec.specs.declared.entries.TheConstants.{LAST_TILL};
+ghost use Rattle.record_codec.specs.declared.entry.TheConstants.{LAST_TILL};
 ghost use Rattle.till_calls.specs.Root.{items_in, parts_of, root_of};
 ghost use Rattle.till_calls.specs.Sound.{IsSound};
 

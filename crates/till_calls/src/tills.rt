@@ -3,7 +3,7 @@ ghost use Rattle.std.specs.Prelude.{◌≡◌, ◌≤◌, ◌<◌, ◌↔◌, �
 ghost use Rattle.std.specs.Int.{IsInRange};
 ghost use Rattle.chain_lock.specs.Words.{all_known, known, room_of};
 ghost use Rattle.once_world.specs.Outbox.{OwnWithin};
-ghost use Rattle.record_codec.specs.declared.entries.TheConstants.{LAST_TILL};
+ghost use Rattle.record_codec.specs.declared.entry.TheConstants.{LAST_TILL};
 ghost use Rattle.till_calls.specs.Mark.{sight_by};
 
 use crate::kept::Kept;
@@ -23,7 +23,7 @@ pub(crate) struct TillNumber {
 impl Model for TillNumber {
     ghost use Rattle.std.specs.Prelude.{ℕ};
     ghost use Rattle.std.specs.Int.{IsInRange};
-    ghost use Rattle.record_codec.specs.declared.entries.TheConstants.{LAST_TILL};
+    ghost use Rattle.record_codec.specs.declared.entry.TheConstants.{LAST_TILL};
 
     ghost Value = { ℕ };
 

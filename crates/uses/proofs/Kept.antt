@@ -12,22 +12,22 @@ use Rattle.std.proofs.lemmas.Option.{slice_get-map}
 use Rattle.chain_disk.specs.OnDisk.{OnDisk}
 use Rattle.chain_store.specs.Ready.{StoreCall, Takes}
 use Rattle.journal.specs.declared.faults.StoreFault.{StoreFault}
-use Rattle.record_codec.specs.declared.entries.Entry.{Entry}
-use Rattle.record_codec.specs.declared.entries.Entry.TheVariants.{Rec}
+use Rattle.record_codec.specs.declared.entry.Entry.{Entry}
+use Rattle.record_codec.specs.declared.entry.Entry.TheVariants.{Rec}
 use Rattle.record_fields.specs.declared.records.Sealed.{Sealed}
 use Rattle.recovery.specs.Opening.{IsFound}
-use Rattle.shop_core.specs.Plans.{answer, kept, kept_row}
-use Rattle.shop_core.specs.Requests.{Asked}
+use Rattle.shop_core.specs.Answer.Plans.{answer, kept, kept_row}
+use Rattle.shop_core.specs.Answer.Requests.{Asked}
 use Rattle.shop_core.specs.History.{History, Row, receipt as receipt_at, recs, row_in, rows, sealed_at}
-use Rattle.shop_core.specs.Making.{made_sealed}
-use Rattle.shop_core.specs.Refusals.{refusal}
-use Rattle.shop_core.specs.Replies.{IsReply, Tells}
-use Rattle.shop_core.specs.declared.answers.Planned.{Planned}
-use Rattle.shop_core.specs.declared.answers.Planned.TheVariants as planned
-use Rattle.shop_core.specs.declared.answers.Refusal.{Refusal}
-use Rattle.shop_core.specs.declared.answers.Reply.{Reply}
-use Rattle.shop_core.specs.declared.answers.Reply.TheVariants.{Again, Taken}
-use Rattle.shop_core.specs.declared.receipts.Receipt.{Receipt}
+use Rattle.shop_core.specs.Answer.Making.{made_sealed}
+use Rattle.shop_core.specs.Answer.Refusals.{refusal}
+use Rattle.shop_core.specs.Answer.Replies.{IsReply, Tells}
+use Rattle.shop_core.specs.declared.answer.Planned.{Planned}
+use Rattle.shop_core.specs.declared.answer.Planned.TheVariants as planned
+use Rattle.shop_core.specs.declared.answer.refusals.Refusal.{Refusal}
+use Rattle.shop_core.specs.declared.answer.Reply.{Reply}
+use Rattle.shop_core.specs.declared.answer.Reply.TheVariants.{Again, Taken}
+use Rattle.shop_core.specs.declared.answer.receipts.Receipt.{Receipt}
 use Rattle.uses.specs.Taking.{Answers, IsTicketAt, IsTicketOf, Shows}
 use Rattle.uses.specs.declared.taking.Ticket.{Ticket}
 

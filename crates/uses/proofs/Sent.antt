@@ -11,8 +11,8 @@ use Rattle.std.specs.contracts.impls.GlobalAllocator.TheImpl.{ghosts}
 use Rattle.chain_disk.specs.declared.disk.Disk as disk
 use Rattle.journal.specs.contracts.faults.StoreFault as fault
 use Rattle.ports.specs.declared.Clock as clock
-use Rattle.shop_core.specs.contracts.answers.Reply as reply
-use Rattle.shop_core.specs.contracts.requests.Request as request
+use Rattle.shop_core.specs.contracts.answer.Reply as reply
+use Rattle.shop_core.specs.contracts.answer.requests.Request as request
 use Rattle.till_calls.proofs.Sent.{till_field_send}
 use Rattle.uses.specs.contracts.threads.Served as served
 

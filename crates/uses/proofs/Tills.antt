@@ -9,12 +9,12 @@ use Rattle.std.proofs.lemmas.List.Sums.{sum_by_push}
 use Rattle.chain_lock.specs.Known.{Fits, IsNew, Known, holders, owners, times_held}
 use Rattle.chain_lock.specs.Lists.{StartsWith}
 use Rattle.journal.specs.declared.faults.StoreFault.{StoreFault}
-use Rattle.record_codec.specs.declared.entries.Entry.{Entry}
-use Rattle.shop_core.specs.Requests.{Asked}
-use Rattle.shop_core.specs.declared.answers.Reply.{Reply}
+use Rattle.record_codec.specs.declared.entry.Entry.{Entry}
+use Rattle.shop_core.specs.Answer.Requests.{Asked}
+use Rattle.shop_core.specs.declared.answer.Reply.{Reply}
 use Rattle.shop_core.specs.declared.items.Item.{Item}
 use Rattle.shop_core.specs.declared.items.Item.TheVariants as item
-use Rattle.shop_core.specs.declared.requests.Request.{Request}
+use Rattle.shop_core.specs.declared.answer.requests.Request.{Request}
 use Rattle.till_calls.specs.Laws.{AddsForNoOther, AddsWhatIsTaken, ToldAtTheEnd}
 use Rattle.till_calls.specs.Own.{AreTaken, OwnsNone, is_of, records_of}
 use Rattle.till_calls.specs.Root.{Parts, Root, items_in, stop_in}

@@ -1,8 +1,8 @@
 -- Where a file is damaged.
 use Rattle.std.specs.Prelude.{◌⊎◌, ℕ, List, Option, Some, None}
 use Rattle.journal.specs.File.{IsNotBegun}
-use Rattle.record_codec.specs.declared.entries.Entry.{Entry}
-use Rattle.shop_core.specs.Files.{IsDamagedFile, StandsFor}
+use Rattle.record_codec.specs.declared.entry.Entry.{Entry}
+use Rattle.shop_core.specs.File.Files.{IsDamagedFile, StandsFor}
 
 -- at this byte; or nowhere, and then it isn't begun or stands for a chain
 abbrev pub IsDamage : List ℕ → Option ℕ → Type 0

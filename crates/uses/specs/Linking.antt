@@ -1,11 +1,11 @@
 -- The link of an invoice of a chain.
 use Rattle.std.specs.Prelude.{◌≡◌, ◌⊎◌, ℕ, List, Option, Some, None}
 use Rattle.journal.specs.File.{IsNotBegun}
-use Rattle.record_codec.specs.declared.entries.Entry.{Entry}
+use Rattle.record_codec.specs.declared.entry.Entry.{Entry}
 use Rattle.record_fields.specs.declared.records.Record.{Record}
 use Rattle.record_fields.specs.declared.records.Record.TheVariants.{Alta, Anulacion}
 use Rattle.record_fields.specs.declared.records.Sealed.{Sealed}
-use Rattle.shop_core.specs.Files.{StandsFor}
+use Rattle.shop_core.specs.File.Files.{StandsFor}
 use Rattle.shop_core.specs.Standing.{last_alta}
 use Rattle.verify_link.specs.Parts.{link_text, parts_of}
 use Rattle.verify_link.specs.declared.parts.Host.{Host}

@@ -2,16 +2,16 @@
 use Rattle.std.specs.Prelude.{◌≡◌, ◌++◌, ℕ, List, Bool, IsTrue, Option, Some}
 use Rattle.huella.specs.Texts.{huella_text}
 use Rattle.ports.specs.Readings.{IsTold}
-use Rattle.record_codec.specs.declared.entries.Entry.{Entry}
+use Rattle.record_codec.specs.declared.entry.Entry.{Entry}
 use Rattle.record_fields.specs.declared.records.Alta.{Alta}
 use Rattle.record_fields.specs.declared.records.Record.TheVariants as body
 use Rattle.record_fields.specs.declared.records.Sealed.{Sealed}
 use Rattle.recovery.specs.Opening.{IsFound}
-use Rattle.shop_core.specs.Plans.{answer, kept_row}
-use Rattle.shop_core.specs.Requests.{Asked}
+use Rattle.shop_core.specs.Answer.Plans.{answer, kept_row}
+use Rattle.shop_core.specs.Answer.Requests.{Asked}
 use Rattle.shop_core.specs.History.{Row, sealed_at}
-use Rattle.shop_core.specs.Replies.{Tells}
-use Rattle.shop_core.specs.declared.answers.Reply.{Reply}
+use Rattle.shop_core.specs.Answer.Replies.{Tells}
+use Rattle.shop_core.specs.declared.answer.Reply.{Reply}
 use Rattle.uses.specs.declared.taking.Ticket.{Ticket}
 use Rattle.verify_link.specs.Parts.{link_text, parts_of}
 use Rattle.verify_link.specs.declared.parts.Host.TheVariants.{Real}

@@ -1,9 +1,9 @@
 -- What a till of a shop is told of its requests, and what it adds.
 use Rattle.std.specs.Prelude.{ℕ, Bool, List, drop, length, Option, Result}
 use Rattle.journal.specs.declared.faults.StoreFault.{StoreFault}
-use Rattle.shop_core.specs.declared.answers.Reply.{Reply}
+use Rattle.shop_core.specs.declared.answer.Reply.{Reply}
 use Rattle.shop_core.specs.declared.items.Item.{Item}
-use Rattle.shop_core.specs.declared.requests.Request.{Request}
+use Rattle.shop_core.specs.declared.answer.requests.Request.{Request}
 use Rattle.till_calls.specs.Own.{AreTaken, records_of}
 use Rattle.till_calls.specs.Root.{Root}
 use Rattle.till_calls.specs.Client.{TillTold, asks_of}

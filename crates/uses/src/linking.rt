@@ -1,7 +1,7 @@
 // The link of an invoice, from the file.
 ghost use Rattle.std.specs.Prelude.{◌≡◌, ℕ, IfOk, IsErrOf, IsTrue};
 ghost use Rattle.ports.specs.Causes.{Rose};
-ghost use Rattle.shop_core.specs.Files.{IsDamagedFile};
+ghost use Rattle.shop_core.specs.File.Files.{IsDamagedFile};
 ghost use Rattle.uses.specs.Linking.{IsLinkIn, link_in};
 
 use chain_disk::Disk;

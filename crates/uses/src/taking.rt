@@ -4,8 +4,8 @@ ghost use Rattle.std.specs.Int.{IsInRange};
 ghost use Rattle.chain_disk.specs.OnDisk.{LeavesNow};
 ghost use Rattle.chain_store.specs.Store.{Ready, journal_of, state_of};
 ghost use Rattle.journal.specs.Journal.{disk_of};
-ghost use Rattle.record_codec.specs.declared.entries.TheConstants.{LAST_TILL};
-ghost use Rattle.shop_core.specs.Files.{StandsFor};
+ghost use Rattle.record_codec.specs.declared.entry.TheConstants.{LAST_TILL};
+ghost use Rattle.shop_core.specs.File.Files.{StandsFor};
 ghost use Rattle.uses.specs.Taking.{Answers, IsTicketAt, IsTicketOf};
 
 use amounts::Cents;

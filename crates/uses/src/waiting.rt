@@ -7,7 +7,7 @@ ghost use Rattle.chain_store.specs.Store.{Ready, journal_of, state_of};
 ghost use Rattle.journal.specs.Journal.{disk_of, stopped_of};
 ghost use Rattle.ports.specs.Causes.{Rose};
 ghost use Rattle.record_fields.specs.declared.lines.TheConstants.{BATCH};
-ghost use Rattle.shop_core.specs.Files.{StandsFor};
+ghost use Rattle.shop_core.specs.File.Files.{StandsFor};
 ghost use Rattle.shop_core.specs.History.{waiting};
 
 use chain_disk::Disk;

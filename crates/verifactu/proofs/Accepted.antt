@@ -9,20 +9,20 @@ use Rattle.std.proofs.lemmas.List.Elements.{filter-append}
 use Rattle.journal.specs.declared.faults.StoreFault.{StoreFault}
 use Rattle.journal.specs.declared.faults.StoreFault.TheVariants as fault
 use Rattle.once_world.specs.Agreement.{IsPrefix}
-use Rattle.record_codec.specs.declared.entries.Entry.{Entry}
-use Rattle.record_codec.specs.declared.entries.Entry.TheVariants.{Rec}
+use Rattle.record_codec.specs.declared.entry.Entry.{Entry}
+use Rattle.record_codec.specs.declared.entry.Entry.TheVariants.{Rec}
 use Rattle.record_fields.specs.declared.records.Sealed.{Sealed}
 use Rattle.shop_core.specs.History.{recs}
-use Rattle.shop_core.specs.Making.{made_sealed}
-use Rattle.shop_core.specs.Plans.{answer, kept}
-use Rattle.shop_core.specs.Refusals.{refusal}
-use Rattle.shop_core.specs.Replies.{IsReply, IsTaken, Tells}
-use Rattle.shop_core.specs.Requests.{Asked}
-use Rattle.shop_core.specs.declared.answers.Planned.TheVariants.{Again, Refused, Made}
-use Rattle.shop_core.specs.declared.answers.Refusal.{Refusal}
-use Rattle.shop_core.specs.declared.answers.Reply.{Reply}
-use Rattle.shop_core.specs.declared.answers.Reply.TheVariants as reply
-use Rattle.shop_core.specs.declared.receipts.Receipt.{Receipt}
+use Rattle.shop_core.specs.Answer.Making.{made_sealed}
+use Rattle.shop_core.specs.Answer.Plans.{answer, kept}
+use Rattle.shop_core.specs.Answer.Refusals.{refusal}
+use Rattle.shop_core.specs.Answer.Replies.{IsReply, IsTaken, Tells}
+use Rattle.shop_core.specs.Answer.Requests.{Asked}
+use Rattle.shop_core.specs.declared.answer.Planned.TheVariants.{Again, Refused, Made}
+use Rattle.shop_core.specs.declared.answer.refusals.Refusal.{Refusal}
+use Rattle.shop_core.specs.declared.answer.Reply.{Reply}
+use Rattle.shop_core.specs.declared.answer.Reply.TheVariants as reply
+use Rattle.shop_core.specs.declared.answer.receipts.Receipt.{Receipt}
 use Rattle.verifactu.specs.Promise.{AreAccepted}
 use Rattle.verifactu.specs.Replies.{Replies}
 use Rattle.verifactu.specs.Tills.{AreTaken, ServedRun, is_from, own_of}

@@ -7,8 +7,8 @@ use Rattle.std.proofs.lemmas.List.{append_cancel_left, map-append, length-map}
 use Rattle.std.proofs.lemmas.List.Elements.{filter_map-append}
 use Rattle.record_fields.specs.declared.records.Sealed.{Sealed}
 use Rattle.record_fields.specs.declared.lines.Line.{Line}
-use Rattle.record_codec.specs.declared.entries.Entry.{Entry}
-use Rattle.record_codec.specs.declared.entries.Entry.TheVariants.{Rec, Notes}
+use Rattle.record_codec.specs.declared.entry.Entry.{Entry}
+use Rattle.record_codec.specs.declared.entry.Entry.TheVariants.{Rec, Notes}
 use Rattle.chain_lock.specs.Known.{Known, IsNew}
 use Rattle.chain_lock.specs.Lists.{StartsWith}
 use Rattle.shop_core.specs.History.{recs, rows, Row, row_in}

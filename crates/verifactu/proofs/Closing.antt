@@ -10,8 +10,8 @@ use Rattle.chain_disk.specs.OnDisk.{OnDisk, IsImage, LeavesOnly}
 use Rattle.record_fields.specs.declared.records.Sealed.{Sealed}
 use Rattle.record_fields.specs.declared.lines.Line.{Line}
 use Rattle.huella.specs.Linked.{Linked}
-use Rattle.record_codec.specs.declared.entries.Entry.{Entry}
-use Rattle.shop_core.specs.Files.{StandsFor}
+use Rattle.record_codec.specs.declared.entry.Entry.{Entry}
+use Rattle.shop_core.specs.File.Files.{StandsFor}
 use Rattle.shop_core.specs.History.{recs, noted}
 use Rattle.shop_core.specs.Legal.{Legal}
 use Rattle.agency_rules.specs.declared.plans.Plan.{Plan}

@@ -7,7 +7,7 @@ use Rattle.std.proofs.lemmas.List.{append_cancel_left, map-append, take-append-d
 use Rattle.std.proofs.lemmas.List.Elements.{filter_map-append}
 use Rattle.record_fields.specs.declared.records.Sealed.{Sealed}
 use Rattle.record_fields.specs.declared.lines.Line.{Line}
-use Rattle.record_codec.specs.declared.entries.Entry.{Entry}
+use Rattle.record_codec.specs.declared.entry.Entry.{Entry}
 use Rattle.shop_core.specs.History.{Row, noted, recs, row_in, rows, waiting}
 use Rattle.shop_core.specs.declared.waiting.Waiting.{Waiting}
 use Rattle.batches.specs.Batches.{huellas_of}

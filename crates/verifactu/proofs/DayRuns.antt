@@ -14,14 +14,14 @@ use Rattle.chain_lock.specs.Laws.{SeesAll}
 use Rattle.chain_lock.specs.Lists.{StartsWith}
 use Rattle.journal.specs.declared.faults.StoreFault.{StoreFault}
 use Rattle.journal.specs.declared.faults.StoreFault.TheVariants.{DiskFault, Stopped, NoMemory}
-use Rattle.record_codec.specs.declared.entries.Entry.{Entry}
-use Rattle.record_codec.specs.declared.entries.Entry.TheVariants.{Rec, Notes}
+use Rattle.record_codec.specs.declared.entry.Entry.{Entry}
+use Rattle.record_codec.specs.declared.entry.Entry.TheVariants.{Rec, Notes}
 use Rattle.shop_core.specs.History.{recs, noted as noted_in}
 use Rattle.shop_core.specs.Items.{entries_of}
-use Rattle.shop_core.specs.Requests.{Asked}
-use Rattle.shop_core.specs.Replies.{IsTakenAt}
-use Rattle.shop_core.specs.declared.answers.Reply.{Reply}
-use Rattle.shop_core.specs.declared.answers.Reply.TheVariants.{Taken, Again, Refused}
+use Rattle.shop_core.specs.Answer.Requests.{Asked}
+use Rattle.shop_core.specs.Answer.Replies.{IsTakenAt}
+use Rattle.shop_core.specs.declared.answer.Reply.{Reply}
+use Rattle.shop_core.specs.declared.answer.Reply.TheVariants.{Taken, Again, Refused}
 use Rattle.shop_core.specs.declared.items.Item.{Item}
 use Rattle.shop_core.specs.declared.items.Item.TheVariants as item
 use Rattle.till_calls.specs.Laws.{AddsForNoOther, AddsWhatIsTaken, OwnsRecordsAndStops, OwnsWithinKnown}

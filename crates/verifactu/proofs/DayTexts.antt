@@ -9,8 +9,8 @@ use Rattle.journal.specs.declared.faults.StoreFault.{StoreFault}
 use Rattle.journal.specs.declared.faults.StoreFault.TheVariants as store
 use Rattle.sender.specs.declared.answers.DrainFault.{DrainFault}
 use Rattle.sender.specs.declared.answers.DrainFault.TheVariants as drain
-use Rattle.shop_core.specs.Requests.{Asked}
-use Rattle.shop_core.specs.declared.answers.Reply.{Reply}
+use Rattle.shop_core.specs.Answer.Requests.{Asked}
+use Rattle.shop_core.specs.declared.answer.Reply.{Reply}
 use Rattle.verifactu.specs.Beside.{DayRunEnds, sender_end, sender_lacks_memory}
 use Rattle.verifactu.specs.Beside.DayRunEnds.{undelivered, contradiction, disk_fault, no_memory}
 use Rattle.verifactu.specs.Draining.{IsDiskAnswer}

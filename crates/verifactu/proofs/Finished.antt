@@ -6,7 +6,7 @@ use Rattle.ports.specs.declared.faults.Failed.{Failed}
 use Rattle.journal.specs.declared.faults.StoreFault.TheVariants as store
 use Rattle.chain_disk.specs.Disks.{DiskRose, Disks}
 use Rattle.chain_disk.specs.OnDisk.{OnDisk, LeavesOnly, synced}
-use Rattle.record_codec.specs.declared.entries.Entry.{Entry}
+use Rattle.record_codec.specs.declared.entry.Entry.{Entry}
 use Rattle.agency_rules.specs.declared.plans.Plan.{Plan}
 use Rattle.till_calls.specs.Sound.{IsLater}
 use Rattle.sender.specs.declared.answers.DrainFault.{DrainFault}

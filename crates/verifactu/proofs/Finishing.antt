@@ -6,17 +6,17 @@ use Rattle.std.proofs.lemmas.List.{append-nil}
 use Rattle.chain_disk.specs.OnDisk.{OnDisk, IsImage, LeavesOnly}
 use Rattle.chain_disk.specs.Runs.{leaves_now, started_settled, follows}
 use Rattle.chain_store.specs.Ready.{Holds}
-use Rattle.shop_core.specs.Files.{StandsFor}
+use Rattle.shop_core.specs.File.Files.{StandsFor}
 use Rattle.journal.specs.declared.faults.StoreFault.{StoreFault}
 use Rattle.journal.specs.declared.faults.StoreFault.TheVariants.{DiskFault}
-use Rattle.record_codec.specs.declared.entries.Entry.{Entry}
+use Rattle.record_codec.specs.declared.entry.Entry.{Entry}
 use Rattle.recovery.specs.Opening.{IsFound}
-use Rattle.shop_core.specs.Requests.{Asked}
+use Rattle.shop_core.specs.Answer.Requests.{Asked}
 use Rattle.shop_core.specs.History.{History}
 use Rattle.shop_core.specs.Legal.{Legal}
-use Rattle.shop_core.specs.Replies.{ChainRun}
-use Rattle.shop_core.specs.Replies.ChainRun.{begun}
-use Rattle.shop_core.specs.declared.answers.Reply.{Reply}
+use Rattle.shop_core.specs.Answer.Replies.{ChainRun}
+use Rattle.shop_core.specs.Answer.Replies.ChainRun.{begun}
+use Rattle.shop_core.specs.declared.answer.Reply.{Reply}
 use Rattle.once_world.specs.Agreement.{IsPrefix}
 use Rattle.verifactu.specs.Crashes.{IsCutOff, KeptByRun, StandsBetween, StandsForEnd, StandsSince}
 use Rattle.verifactu.specs.Readings.{IsComing}

@@ -9,22 +9,22 @@ use Rattle.std.proofs.lemmas.List.Elements.{filter-append}
 use Rattle.journal.specs.declared.faults.StoreFault.{StoreFault}
 use Rattle.once_world.specs.Agreement.{IsPrefix}
 use Rattle.ports.specs.Sources.{Sources}
-use Rattle.record_codec.specs.declared.entries.Entry.{Entry}
-use Rattle.record_codec.specs.declared.entries.Entry.TheVariants.{Rec, Notes}
-use Rattle.record_codec.specs.declared.entries.TheConstants.{LAST_TILL}
+use Rattle.record_codec.specs.declared.entry.Entry.{Entry}
+use Rattle.record_codec.specs.declared.entry.Entry.TheVariants.{Rec, Notes}
+use Rattle.record_codec.specs.declared.entry.TheConstants.{LAST_TILL}
 use Rattle.record_fields.specs.declared.lines.Line.{Line}
 use Rattle.record_fields.specs.declared.records.Sealed.{Sealed}
 use Rattle.shop_core.specs.History.{lines_in, noted}
-use Rattle.shop_core.specs.Making.{made_sealed}
-use Rattle.shop_core.specs.Plans.{kept}
-use Rattle.shop_core.specs.Refusals.{refusal}
-use Rattle.shop_core.specs.Replies.{ChainRun, IsReply, Tells}
-use Rattle.shop_core.specs.Replies.ChainRun.{begun, replied}
-use Rattle.shop_core.specs.Requests.{Asked}
-use Rattle.shop_core.specs.declared.answers.Planned.TheVariants.{Again, Refused, Made}
-use Rattle.shop_core.specs.declared.answers.Refusal.{Refusal}
-use Rattle.shop_core.specs.declared.answers.Reply.{Reply}
-use Rattle.shop_core.specs.declared.receipts.Receipt.{Receipt}
+use Rattle.shop_core.specs.Answer.Making.{made_sealed}
+use Rattle.shop_core.specs.Answer.Plans.{kept}
+use Rattle.shop_core.specs.Answer.Refusals.{refusal}
+use Rattle.shop_core.specs.Answer.Replies.{ChainRun, IsReply, Tells}
+use Rattle.shop_core.specs.Answer.Replies.ChainRun.{begun, replied}
+use Rattle.shop_core.specs.Answer.Requests.{Asked}
+use Rattle.shop_core.specs.declared.answer.Planned.TheVariants.{Again, Refused, Made}
+use Rattle.shop_core.specs.declared.answer.refusals.Refusal.{Refusal}
+use Rattle.shop_core.specs.declared.answer.Reply.{Reply}
+use Rattle.shop_core.specs.declared.answer.receipts.Receipt.{Receipt}
 use Rattle.verifactu.specs.Day.{EachTill}
 use Rattle.verifactu.specs.Days.{Day, TillReplies}
 use Rattle.verifactu.specs.Draining.{AddsNotesAlone, AreNotesEntry}

@@ -7,9 +7,9 @@ use Rattle.parties.specs.NifReading.{IsNifReading}
 use Rattle.parties.specs.declared.nif.NifFault.{NifFault}
 use Rattle.parties.specs.declared.nif.NifFault.TheVariants.{Length, Shape, Control}
 use Rattle.ports.specs.Counting.{counting}
-use Rattle.record_codec.specs.declared.entries.Entry.{Entry}
-use Rattle.shop_core.specs.Requests.{Asked}
-use Rattle.shop_core.specs.Replies.{ChainRun}
+use Rattle.record_codec.specs.declared.entry.Entry.{Entry}
+use Rattle.shop_core.specs.Answer.Requests.{Asked}
+use Rattle.shop_core.specs.Answer.Replies.{ChainRun}
 use Rattle.verifactu.specs.Generate.{Generated, issuer}
 use Rattle.verifactu.specs.Generated.{AreCommands, command}
 use Rattle.verifactu.specs.Readings.{IsComing}

@@ -7,7 +7,7 @@ use Rattle.record_fields.specs.declared.lines.Line.{Line}
 use Rattle.record_fields.specs.declared.records.Sealed.{Sealed}
 use Rattle.chain_disk.specs.OnDisk.{OnDisk}
 use Rattle.chain_lock.specs.Known.{Known}
-use Rattle.record_codec.specs.declared.entries.Entry.{Entry}
+use Rattle.record_codec.specs.declared.entry.Entry.{Entry}
 use Rattle.shop_core.specs.History.{recs, noted, waiting}
 use Rattle.shop_core.specs.Legal.{Legal}
 use Rattle.shop_core.specs.declared.items.Item.{Item}
@@ -27,7 +27,7 @@ use Rattle.sender.specs.Sending.{Sending, fresh}
 use Rattle.sender.specs.Turning.{Desk, Kind}
 use Rattle.sender.specs.declared.answers.DrainFault.{DrainFault}
 use Rattle.sender.specs.declared.answers.DrainFault.TheVariants as drain
-use Rattle.shop_core.specs.Requests.{Asked}
+use Rattle.shop_core.specs.Answer.Requests.{Asked}
 use Rattle.verifactu.specs.Beside.{CountsWithin, IsTornSaid, SendsBeside, SendsOn, ShowsLast, StaysAgreed}
 use Rattle.verifactu.specs.Days.{Day, TillReplies, shop_day, stop_of, torn_of}
 use Rattle.verifactu.specs.Draining.{AreOfChain, SaysNothingBlindly, torn_in}

@@ -4,7 +4,7 @@ use Rattle.std.proofs.Common.{subst, arith, append_assoc, append-nil, Bool, IsTr
 use Rattle.std.proofs.lemmas.Grind.{flat_map-append}
 use Rattle.record_fields.specs.declared.records.Sealed.{Sealed}
 use Rattle.record_fields.specs.declared.lines.Line.{Line}
-use Rattle.record_codec.specs.declared.entries.Entry.{Entry}
+use Rattle.record_codec.specs.declared.entry.Entry.{Entry}
 use Rattle.shop_core.specs.History.{recs, noted}
 use Rattle.shop_core.specs.Items.{entries_of}
 use Rattle.agency_port.specs.declared.messages.Message.{Message}

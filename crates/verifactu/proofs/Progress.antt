@@ -11,11 +11,11 @@ use Rattle.journal.specs.declared.faults.StoreFault.{StoreFault}
 use Rattle.journal.specs.declared.faults.StoreFault.TheVariants.{DiskFault, Stopped, NoMemory}
 use Rattle.ports.specs.Causes.{Rose}
 use Rattle.ports.specs.Readings.{MovedBy}
-use Rattle.record_codec.specs.declared.entries.Entry.{Entry}
-use Rattle.shop_core.specs.Requests.{Asked}
+use Rattle.record_codec.specs.declared.entry.Entry.{Entry}
+use Rattle.shop_core.specs.Answer.Requests.{Asked}
 use Rattle.shop_core.specs.History.{History}
-use Rattle.shop_core.specs.Replies.{ChainRun}
-use Rattle.shop_core.specs.declared.answers.Reply.{Reply}
+use Rattle.shop_core.specs.Answer.Replies.{ChainRun}
+use Rattle.shop_core.specs.declared.answer.Reply.{Reply}
 use Rattle.once_world.specs.Agreement.{IsPrefix}
 use Rattle.verifactu.specs.Crashes.{IsCutOff, StandsBetween, StandsForEnd}
 use Rattle.verifactu.specs.Readings.{IsComing, readings}

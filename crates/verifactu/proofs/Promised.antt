@@ -12,12 +12,12 @@ use Rattle.journal.specs.File.{IsNotBegunOrEmpty}
 use Rattle.once_world.specs.Agreement.{IsPrefix}
 use Rattle.ports.specs.Causes.{Rose}
 use Rattle.ports.specs.Sinks.{Sinks}
-use Rattle.record_codec.specs.declared.entries.Entry.{Entry}
+use Rattle.record_codec.specs.declared.entry.Entry.{Entry}
 use Rattle.recovery.specs.Opening.{IsBegunInPart, IsFound, IsLeftUnopened}
 use Rattle.recovery.specs.Opening.IsDiskLost.{not_synced, not_read, in_part}
 use Rattle.report.specs.declared.ended.Detail.{Detail}
-use Rattle.shop_core.specs.FileLaws.{NotBegunIsNeither, OneHistory, SoundOrDamaged}
-use Rattle.shop_core.specs.Files.{StandsFor}
+use Rattle.shop_core.specs.File.Laws.{NotBegunIsNeither, OneHistory, SoundOrDamaged}
+use Rattle.shop_core.specs.File.Files.{StandsFor}
 use Rattle.shop_core.specs.History.{recs}
 use Rattle.shop_core.specs.Legal.{Legal}
 use Rattle.verifactu.specs.Crashes.{KeptByRun, StandsForEnd, StandsSince}

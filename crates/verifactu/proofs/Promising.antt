@@ -4,12 +4,12 @@ use Rattle.std.proofs.Common.{Bool, IsTrue, Option, Some, None}
 use Rattle.agency_rules.specs.declared.plans.Plan.{Plan}
 use Rattle.chain_disk.specs.Disks.{LeftDisk}
 use Rattle.once_world.specs.Agreement.{IsPrefix}
-use Rattle.record_codec.specs.declared.entries.Entry.{Entry}
+use Rattle.record_codec.specs.declared.entry.Entry.{Entry}
 use Rattle.report.specs.declared.ended.Detail.{Detail}
 use Rattle.script.specs.declared.forms.Form.TheVariants.{Full}
 use Rattle.script.specs.declared.scripts.Script.{Script}
 use Rattle.sender.specs.Turning.{Desk}
-use Rattle.shop_core.specs.FileLaws.{NotBegunIsNeither, OneHistory}
+use Rattle.shop_core.specs.File.Laws.{NotBegunIsNeither, OneHistory}
 use Rattle.verifactu.specs.Chain.{ChainEnds, ScriptEnds}
 use Rattle.verifactu.specs.Day.{DayEnds, FileDay, day_of}
 use Rattle.verifactu.specs.Days.{torn_of}

@@ -9,8 +9,8 @@ use Rattle.std.proofs.lemmas.List.{length-append}
 use Rattle.std.proofs.lemmas.List.Sums.{sum_by-cons, sum_by_push}
 use Rattle.chain_lock.specs.Known.{Known, IsNew, Fits, holders, owners, times_held, times_owned}
 use Rattle.chain_lock.specs.Lists.{StartsWith}
-use Rattle.record_codec.specs.declared.entries.Entry.{Entry}
-use Rattle.shop_core.specs.Requests.{Asked}
+use Rattle.record_codec.specs.declared.entry.Entry.{Entry}
+use Rattle.shop_core.specs.Answer.Requests.{Asked}
 use Rattle.shop_core.specs.declared.items.Item.{Item}
 use Rattle.till_calls.specs.Laws.{AddsForNoOther, AddsWhatIsTaken}
 use Rattle.till_calls.specs.Own.{AreTaken, OwnsNone, records_of}

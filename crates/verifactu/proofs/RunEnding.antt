@@ -12,18 +12,18 @@ use Rattle.journal.specs.declared.faults.StoreFault.TheVariants.{DiskFault, Stop
 use Rattle.ports.specs.Causes.{Rose}
 use Rattle.ports.specs.Readings.{IsTold}
 use Rattle.ports.specs.declared.faults.Failed.{Failed}
-use Rattle.record_codec.specs.declared.entries.Entry.{Entry}
+use Rattle.record_codec.specs.declared.entry.Entry.{Entry}
 use Rattle.recovery.specs.Opening.{IsDiskLost, IsFound, IsLeftUnopened}
 use Rattle.recovery.specs.Opening.IsDiskLost.{not_synced, not_read, in_part}
 use Rattle.report.specs.declared.ended.Detail.{Detail}
 use Rattle.report.specs.declared.ended.Detail.TheVariants as detail
-use Rattle.shop_core.specs.Requests.{Asked}
+use Rattle.shop_core.specs.Answer.Requests.{Asked}
 use Rattle.huella.specs.Linked.{Linked}
 use Rattle.shop_core.specs.History.{recs}
 use Rattle.shop_core.specs.Legal.{Legal}
-use Rattle.shop_core.specs.Replies.{ChainRun}
-use Rattle.shop_core.specs.Replies.ChainRun.{begun, replied}
-use Rattle.shop_core.specs.declared.answers.Reply.{Reply}
+use Rattle.shop_core.specs.Answer.Replies.{ChainRun}
+use Rattle.shop_core.specs.Answer.Replies.ChainRun.{begun, replied}
+use Rattle.shop_core.specs.declared.answer.Reply.{Reply}
 use Rattle.verifactu.specs.Crashes.{IsCutOff, KeepsFile, KeptByRun, StandsBetween}
 use Rattle.verifactu.specs.Printed.{printed}
 use Rattle.verifactu.specs.Readings.{IsComing, IsAsked, LeavesClock, readings, readings_of}

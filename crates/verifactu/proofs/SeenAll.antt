@@ -6,7 +6,7 @@ use Rattle.chain_disk.specs.OnDisk.{OnDisk}
 use Rattle.chain_lock.specs.Known.{IsNew, Known, OwnsBelow}
 use Rattle.chain_lock.specs.Laws.{SeesAll}
 use Rattle.shop_core.specs.Items.{entries_of}
-use Rattle.shop_core.specs.Requests.{Asked}
+use Rattle.shop_core.specs.Answer.Requests.{Asked}
 use Rattle.shop_core.specs.declared.items.Item.{Item}
 use Rattle.till_calls.specs.Laws.{OwnsWithinKnown}
 use Rattle.till_calls.specs.Root.{Parts, Root, items_in, root_of}

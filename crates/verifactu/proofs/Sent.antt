@@ -12,7 +12,7 @@ use Rattle.std.specs.contracts.alloc.Global as Heap
 use Rattle.std.specs.contracts.impls.GlobalAllocator.TheImpl.{ghosts}
 use Rattle.std.specs.contracts.sync.atomic.AtomicBool as Flag
 use Rattle.till_calls.proofs.Sent.{till_field_send, seat_field_send}
-use Rattle.shop_core.specs.contracts.requests.Ask as ask
+use Rattle.shop_core.specs.contracts.answer.requests.Ask as ask
 use Rattle.verifactu.specs.contracts.means.Means as means
 use Rattle.verifactu.specs.contracts.tills.Job as job
 use Rattle.verifactu.specs.contracts.sending.Sent as sent

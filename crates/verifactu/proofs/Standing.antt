@@ -9,8 +9,8 @@ use Rattle.std.proofs.lemmas.List.Elements.{Contains-append_cases, filter_map-ap
 use Rattle.record_fields.specs.Picks.{when}
 use Rattle.record_fields.specs.declared.records.Sealed.{Sealed}
 use Rattle.record_fields.specs.declared.lines.Line.{Line}
-use Rattle.record_codec.specs.declared.entries.Entry.{Entry}
-use Rattle.record_codec.specs.declared.entries.Entry.TheVariants.{Notes as notes_of}
+use Rattle.record_codec.specs.declared.entry.Entry.{Entry}
+use Rattle.record_codec.specs.declared.entry.Entry.TheVariants.{Notes as notes_of}
 use Rattle.batches.specs.Batches.{huellas_of}
 use Rattle.pacing.specs.Pace.{is_due, due_at}
 use Rattle.pacing.specs.declared.pace.Pace.{Pace}

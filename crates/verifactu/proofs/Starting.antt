@@ -6,8 +6,8 @@ use Rattle.chain_disk.specs.OnDisk.{OnDisk}
 use Rattle.chain_disk.specs.Runs.{weaker, started_settled, leaves_now}
 use Rattle.chain_lock.specs.Lists.{StartsWith}
 use Rattle.chain_store.specs.Ready.{IsReady, Holds}
-use Rattle.record_codec.specs.declared.entries.Entry.{Entry}
-use Rattle.shop_core.specs.Files.{StandsFor}
+use Rattle.record_codec.specs.declared.entry.Entry.{Entry}
+use Rattle.shop_core.specs.File.Files.{StandsFor}
 use Rattle.shop_core.specs.Legal.{Legal}
 use Rattle.shop_core.specs.History.{recs, noted}
 use Rattle.once_world.specs.Agreement.{Agree}

@@ -10,19 +10,19 @@ use Rattle.std.proofs.lemmas.List.Sums.{sum_by-append}
 use Rattle.chain_disk.specs.OnDisk.{OnDisk, LeavesOnly, LeavesNow, moment}
 use Rattle.chain_disk.specs.Runs.{follows, weaker}
 use Rattle.chain_store.specs.Ready.{Takes, Tears}
-use Rattle.shop_core.specs.Files.{StandsFor, StandsAround, StandsBeforeOrWith}
+use Rattle.shop_core.specs.File.Files.{StandsFor, StandsAround, StandsBeforeOrWith}
 use Rattle.journal.specs.declared.faults.StoreFault.{StoreFault}
 use Rattle.journal.specs.declared.faults.StoreFault.TheVariants.{DiskFault, Stopped, NoMemory}
 use Rattle.ports.specs.Causes.{Rose}
 use Rattle.ports.specs.Readings.{IsTold, MovedBy}
-use Rattle.record_codec.specs.declared.entries.Entry.{Entry}
-use Rattle.shop_core.specs.Plans.{answer}
-use Rattle.shop_core.specs.Requests.{Asked}
-use Rattle.shop_core.specs.Replies.{ChainRun, IsReply, Tells}
-use Rattle.shop_core.specs.Replies.ChainRun.{begun, replied}
-use Rattle.shop_core.specs.declared.answers.Planned.{Planned}
-use Rattle.shop_core.specs.declared.answers.Planned.TheVariants.{Again, Refused, Made}
-use Rattle.shop_core.specs.declared.answers.Reply.{Reply}
+use Rattle.record_codec.specs.declared.entry.Entry.{Entry}
+use Rattle.shop_core.specs.Answer.Plans.{answer}
+use Rattle.shop_core.specs.Answer.Requests.{Asked}
+use Rattle.shop_core.specs.Answer.Replies.{ChainRun, IsReply, Tells}
+use Rattle.shop_core.specs.Answer.Replies.ChainRun.{begun, replied}
+use Rattle.shop_core.specs.declared.answer.Planned.{Planned}
+use Rattle.shop_core.specs.declared.answer.Planned.TheVariants.{Again, Refused, Made}
+use Rattle.shop_core.specs.declared.answer.Reply.{Reply}
 use Rattle.once_world.specs.Agreement.{IsPrefix}
 use Rattle.verifactu.specs.Crashes.{IsCutOff, StandsBetween, StandsForEnd}
 use Rattle.verifactu.specs.Readings.{IsComing, has_read, readings}

@@ -3,9 +3,9 @@ use Rattle.std.proofs.Common.{◌≡◌, ℕ, List, All, Option, Result, true}
 use Rattle.std.specs.List.{AllByRecursion}
 use Rattle.chain_lock.specs.Known.{IsNew, Known}
 use Rattle.journal.specs.declared.faults.StoreFault.{StoreFault}
-use Rattle.record_codec.specs.declared.entries.Entry.TheVariants.{Rec, Notes}
-use Rattle.shop_core.specs.Requests.{Asked}
-use Rattle.shop_core.specs.declared.answers.Reply.{Reply}
+use Rattle.record_codec.specs.declared.entry.Entry.TheVariants.{Rec, Notes}
+use Rattle.shop_core.specs.Answer.Requests.{Asked}
+use Rattle.shop_core.specs.declared.answer.Reply.{Reply}
 use Rattle.shop_core.specs.declared.items.Item.{Item}
 use Rattle.shop_core.specs.declared.items.Item.TheVariants as item
 use Rattle.till_calls.specs.Client.{TillRun}

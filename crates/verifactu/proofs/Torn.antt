@@ -5,8 +5,8 @@ use Rattle.std.specs.Prelude.{Contains}
 use Rattle.std.proofs.Math.Seq.{drop-append_seam}
 use Rattle.std.proofs.lemmas.List.Elements.{Contains-append_cases}
 use Rattle.record_fields.specs.declared.lines.Line.{Line}
-use Rattle.record_codec.specs.declared.entries.Entry.{Entry}
-use Rattle.record_codec.specs.declared.entries.Entry.TheVariants.{Notes as notes_of}
+use Rattle.record_codec.specs.declared.entry.Entry.{Entry}
+use Rattle.record_codec.specs.declared.entry.Entry.TheVariants.{Notes as notes_of}
 use Rattle.journal.specs.declared.faults.StoreFault.TheVariants as store
 use Rattle.batches.specs.Batches.{huellas_of}
 use Rattle.shop_core.specs.History.{noted}

@@ -10,8 +10,8 @@ use Rattle.std.proofs.lemmas.List.{length-map}
 use Rattle.std.proofs.lemmas.List.Sums.{sum_by-cons, sum_by_push}
 use Rattle.std.proofs.lemmas.Option.{slice_get_within}
 use Rattle.record_fields.specs.declared.lines.Line.{Line}
-use Rattle.record_codec.specs.declared.entries.Entry.{Entry}
-use Rattle.record_codec.specs.declared.entries.Entry.TheVariants.{Rec, Notes}
+use Rattle.record_codec.specs.declared.entry.Entry.{Entry}
+use Rattle.record_codec.specs.declared.entry.Entry.TheVariants.{Rec, Notes}
 use Rattle.chain_lock.specs.Known.{Known, IsNew, Fits, OwnsBelow, owners, times_owned}
 use Rattle.chain_lock.specs.Lists.{StartsWith}
 use Rattle.record_fields.specs.declared.records.Sealed.{Sealed}

@@ -4,7 +4,7 @@ use Rattle.std.specs.Prelude.{Contains, IsErrOf, Result, Ok, Err, count_by, drop
 use Rattle.std.specs.List.{AllByRecursion, list_any}
 use Rattle.ports.specs.Sinks.{Sinks, Wrote, FailedIn, WrotePart}
 use Rattle.journal.specs.declared.faults.StoreFault.TheVariants as store
-use Rattle.record_codec.specs.declared.entries.Entry.{Entry}
+use Rattle.record_codec.specs.declared.entry.Entry.{Entry}
 use Rattle.batches.specs.Batches.{huellas_of}
 use Rattle.shop_core.specs.History.{is_record, recs, noted, waiting}
 use Rattle.shop_core.specs.declared.items.Item.{Item}

@@ -4,12 +4,12 @@ use Rattle.chain_disk.specs.OnDisk.{OnDisk}
 use Rattle.chain_disk.specs.declared.disk.Disk.{Ghosts}
 use Rattle.huella.specs.Linked.{Linked}
 use Rattle.journal.specs.Journal.{disk_of}
-use Rattle.record_codec.specs.declared.entries.Entry.{Entry}
-use Rattle.shop_core.specs.Requests.{Asked}
+use Rattle.record_codec.specs.declared.entry.Entry.{Entry}
+use Rattle.shop_core.specs.Answer.Requests.{Asked}
 use Rattle.shop_core.specs.History.{recs}
 use Rattle.shop_core.specs.Legal.{Legal}
 use Rattle.shop_core.specs.Rising.{SerialsRise}
-use Rattle.shop_core.specs.Replies.{ChainRun}
+use Rattle.shop_core.specs.Answer.Replies.{ChainRun}
 use Rattle.chain_store.specs.Store.{state_of, journal_of, clock_of}
 use Rattle.chain_store.specs.declared.store.Store.{Store}
 use Rattle.once_world.specs.Agreement.{IsPrefix}

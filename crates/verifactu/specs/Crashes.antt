@@ -4,12 +4,12 @@ use Rattle.std.specs.List.{AllByRecursion}
 use Rattle.chain_disk.specs.OnDisk.{OnDisk, IsSyncFailed, LeavesOnly, LeavesNow, synced}
 use Rattle.journal.specs.File.{IsNotBegun, IsNotBegunOrEmpty}
 use Rattle.journal.specs.declared.faults.StoreFault.TheVariants.{DiskFault}
-use Rattle.record_codec.specs.declared.entries.Entry.{Entry}
+use Rattle.record_codec.specs.declared.entry.Entry.{Entry}
 use Rattle.once_world.specs.Agreement.{IsPrefix}
-use Rattle.shop_core.specs.Files.{StandsFor}
-use Rattle.shop_core.specs.Plans.{answer}
-use Rattle.shop_core.specs.Requests.{Asked}
-use Rattle.shop_core.specs.declared.answers.Planned.TheVariants.{Made}
+use Rattle.shop_core.specs.File.Files.{StandsFor}
+use Rattle.shop_core.specs.Answer.Plans.{answer}
+use Rattle.shop_core.specs.Answer.Requests.{Asked}
+use Rattle.shop_core.specs.declared.answer.Planned.TheVariants.{Made}
 use Rattle.verifactu.specs.Replies.{Replies, AllGoOn}
 
 -- The file stands for a legal history that begins with the one at the start, and is a front of the one at the end, or of

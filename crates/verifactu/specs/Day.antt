@@ -6,8 +6,8 @@ use Rattle.ports.specs.Sinks.{WroteNothing}
 use Rattle.chain_disk.specs.OnDisk.{LeavesNow, synced}
 use Rattle.chain_disk.specs.Disks.{Disks, DiskRose}
 use Rattle.huella.specs.Linked.{Linked}
-use Rattle.record_codec.specs.declared.entries.Entry.{Entry}
-use Rattle.shop_core.specs.Requests.{Asked}
+use Rattle.record_codec.specs.declared.entry.Entry.{Entry}
+use Rattle.shop_core.specs.Answer.Requests.{Asked}
 use Rattle.shop_core.specs.History.{recs, noted}
 use Rattle.shop_core.specs.Legal.{Legal}
 use Rattle.shop_core.specs.Rising.{SerialsRise}

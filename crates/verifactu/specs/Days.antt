@@ -1,9 +1,9 @@
 -- The record of a day.
 use Rattle.std.specs.Prelude.{ℕ, List, [], ◌∷◌, flat_map, Option, Some, None, Result}
-use Rattle.record_codec.specs.declared.entries.Entry.{Entry}
+use Rattle.record_codec.specs.declared.entry.Entry.{Entry}
 use Rattle.sender.specs.Turning.{Desk, Kind}
 use Rattle.sender.specs.declared.answers.DrainFault.{DrainFault}
-use Rattle.shop_core.specs.Requests.{Asked}
+use Rattle.shop_core.specs.Answer.Requests.{Asked}
 use Rattle.till_calls.specs.Root.{Parts, Root}
 use Rattle.verifactu.specs.Replies.{Replies}
 

@@ -4,7 +4,7 @@ use Rattle.ports.specs.Causes.{Rose}
 use Rattle.ports.specs.Sinks.{Sinks}
 use Rattle.chain_disk.specs.OnDisk.{synced}
 use Rattle.chain_disk.specs.Disks.{Disks, DiskRose}
-use Rattle.record_codec.specs.declared.entries.Entry.{Entry}
+use Rattle.record_codec.specs.declared.entry.Entry.{Entry}
 use Rattle.agency_rules.specs.declared.plans.Plan.{Plan}
 use Rattle.once_world.specs.Agreement.{Agree}
 use Rattle.till_calls.specs.Sound.{IsLater}

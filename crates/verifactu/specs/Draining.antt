@@ -7,12 +7,12 @@ use Rattle.ports.specs.Sinks.{Sinks, Wrote, FailedIn, WrotePart}
 use Rattle.record_fields.specs.declared.records.Sealed.{Sealed}
 use Rattle.record_fields.specs.declared.lines.Line.{Line}
 use Rattle.huella.specs.Linked.{Linked}
-use Rattle.record_codec.specs.declared.entries.Entry.{Entry}
+use Rattle.record_codec.specs.declared.entry.Entry.{Entry}
 use Rattle.chain_disk.specs.OnDisk.{OnDisk, LeavesNow}
 use Rattle.chain_disk.specs.declared.disk.Disk.{Ghosts}
 use Rattle.journal.specs.declared.faults.StoreFault.{StoreFault}
 use Rattle.journal.specs.declared.faults.StoreFault.TheVariants as store
-use Rattle.shop_core.specs.Files.{StandsFor}
+use Rattle.shop_core.specs.File.Files.{StandsFor}
 use Rattle.shop_core.specs.History.{recs, noted, waiting}
 use Rattle.shop_core.specs.Legal.{Legal}
 use Rattle.shop_core.specs.declared.items.Item.TheVariants as item

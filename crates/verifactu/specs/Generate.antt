@@ -2,9 +2,9 @@
 use Rattle.std.specs.Prelude.{◌≡◌, ℕ, List, [], codes, Some}
 use Rattle.ports.specs.Counting.{counting}
 use Rattle.ports.specs.Sinks.{Sinks, WroteNothing}
-use Rattle.record_codec.specs.declared.entries.Entry.{Entry}
-use Rattle.shop_core.specs.Requests.{Asked}
-use Rattle.shop_core.specs.Replies.{ChainRun}
+use Rattle.record_codec.specs.declared.entry.Entry.{Entry}
+use Rattle.shop_core.specs.Answer.Requests.{Asked}
+use Rattle.shop_core.specs.Answer.Replies.{ChainRun}
 use Rattle.report.specs.Summary.{summary_text}
 use Rattle.report.specs.declared.ended.Detail.{Detail}
 use Rattle.report.specs.declared.ended.Detail.TheVariants as detail

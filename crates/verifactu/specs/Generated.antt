@@ -5,9 +5,9 @@ use Rattle.std.specs.Prelude.{slice_get, if◌then◌else◌}
 use Rattle.invoice_kinds.specs.declared.kind.Kind.TheVariants as kind
 use Rattle.record_fields.specs.declared.drafts.Draft.{Draft}
 use Rattle.series.specs.Numbers.{number_text}
-use Rattle.shop_core.specs.Requests.{Asked}
-use Rattle.shop_core.specs.declared.requests.Request.{Request}
-use Rattle.shop_core.specs.declared.requests.Request.TheVariants.{Sale, Cancel}
+use Rattle.shop_core.specs.Answer.Requests.{Asked}
+use Rattle.shop_core.specs.declared.answer.requests.Request.{Request}
+use Rattle.shop_core.specs.declared.answer.requests.Request.TheVariants.{Sale, Cancel}
 use Rattle.tax_lines.specs.declared.classes.LineKey.TheVariants as key
 use Rattle.tax_lines.specs.declared.lines.TaxLine.{TaxLine}
 

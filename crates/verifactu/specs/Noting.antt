@@ -5,8 +5,8 @@ use Rattle.std.specs.List.{list_any}
 use Rattle.record_fields.specs.declared.records.Sealed.{Sealed}
 use Rattle.record_fields.specs.declared.lines.Line.{Line}
 use Rattle.batches.specs.Batches.{huellas_of}
-use Rattle.record_codec.specs.declared.entries.Entry.{Entry}
-use Rattle.record_codec.specs.declared.entries.Entry.TheVariants.{Notes}
+use Rattle.record_codec.specs.declared.entry.Entry.{Entry}
+use Rattle.record_codec.specs.declared.entry.Entry.TheVariants.{Notes}
 use Rattle.shop_core.specs.History.{recs, noted}
 use Rattle.agency_port.specs.Practice.{is_reply_to}
 use Rattle.agency_port.specs.declared.answers.ReplyLine.{ReplyLine}

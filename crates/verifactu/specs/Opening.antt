@@ -9,7 +9,7 @@ use Rattle.report.specs.declared.ended.Detail.{Detail}
 use Rattle.report.specs.declared.ended.Detail.TheVariants as detail
 use Rattle.chain_disk.specs.OnDisk.{LeavesNow, LeavesOnly, synced}
 use Rattle.recovery.specs.Opening.{IsFound}
-use Rattle.shop_core.specs.Files.{StandsFor}
+use Rattle.shop_core.specs.File.Files.{StandsFor}
 use Rattle.till_calls.specs.Root.{Parts}
 use Rattle.verifactu.specs.Crashes.{KeepsFile}
 use Rattle.verifactu.specs.Devices.{StoreKind}

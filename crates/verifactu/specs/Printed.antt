@@ -1,9 +1,9 @@
 -- What a run prints: the texts of its answers, of its listing and of its chain line.
 use Rattle.std.specs.Prelude.{ℕ, List, ◌++◌, map, zip, Result}
 use Rattle.journal.specs.declared.faults.StoreFault.{StoreFault}
-use Rattle.record_codec.specs.declared.entries.Entry.{Entry}
-use Rattle.shop_core.specs.Requests.{Asked}
-use Rattle.shop_core.specs.declared.answers.Reply.{Reply}
+use Rattle.record_codec.specs.declared.entry.Entry.{Entry}
+use Rattle.shop_core.specs.Answer.Requests.{Asked}
+use Rattle.shop_core.specs.declared.answer.Reply.{Reply}
 use Rattle.report.specs.Answers.{answers_text}
 use Rattle.report.specs.Listing.{listing_text}
 use Rattle.report.specs.declared.answers.AnswerLine.{AnswerLine}

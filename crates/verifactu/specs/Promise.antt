@@ -9,17 +9,17 @@ use Rattle.huella.specs.Linked.{Linked}
 use Rattle.journal.specs.File.{IsNotBegun}
 use Rattle.once_world.specs.Agreement.{Agree, IsPrefix}
 use Rattle.ports.specs.Sources.{Sources}
-use Rattle.record_codec.specs.declared.entries.Entry.{Entry}
-use Rattle.record_codec.specs.declared.entries.Entry.TheVariants.{Rec}
+use Rattle.record_codec.specs.declared.entry.Entry.{Entry}
+use Rattle.record_codec.specs.declared.entry.Entry.TheVariants.{Rec}
 use Rattle.record_fields.specs.declared.records.Sealed.{Sealed}
 use Rattle.recovery.specs.Opening.{IsFound}
 use Rattle.script.specs.declared.forms.Form.TheVariants.{Full}
 use Rattle.script.specs.declared.scripts.Script.{Script}
-use Rattle.shop_core.specs.Files.{IsDamagedFile, StandsFor}
+use Rattle.shop_core.specs.File.Files.{IsDamagedFile, StandsFor}
 use Rattle.shop_core.specs.History.{noted, receipt, recs}
 use Rattle.shop_core.specs.Legal.{Legal}
-use Rattle.shop_core.specs.Requests.{Asked}
-use Rattle.shop_core.specs.declared.answers.Reply.TheVariants.{Again, Refused, Taken}
+use Rattle.shop_core.specs.Answer.Requests.{Asked}
+use Rattle.shop_core.specs.declared.answer.Reply.TheVariants.{Again, Refused, Taken}
 use Rattle.verifactu.specs.Crashes.{StandsSince}
 use Rattle.verifactu.specs.Devices.{Agencies, AllDevices, NobodyCalled}
 use Rattle.verifactu.specs.Drain.{AgreesAtStart}

@@ -4,7 +4,7 @@ use Rattle.ports.specs.Counting.{counting}
 use Rattle.ports.specs.Readings.{IsTold, MovedBy}
 use Rattle.journal.specs.declared.faults.StoreFault.{StoreFault}
 use Rattle.journal.specs.declared.faults.StoreFault.TheVariants.{Stopped}
-use Rattle.shop_core.specs.declared.answers.Reply.{Reply}
+use Rattle.shop_core.specs.declared.answer.Reply.{Reply}
 use Rattle.verifactu.specs.Devices.{Clocks, LeftClock}
 use Rattle.verifactu.specs.Replies.{Replies}
 

@@ -6,16 +6,16 @@ use Rattle.journal.specs.declared.faults.StoreFault.{StoreFault}
 use Rattle.journal.specs.declared.faults.StoreFault.TheVariants.{DiskFault, Stopped, NoMemory}
 use Rattle.ports.specs.Causes.{Rose}
 use Rattle.ports.specs.Readings.{IsTold}
-use Rattle.record_codec.specs.declared.entries.Entry.{Entry}
-use Rattle.record_codec.specs.declared.entries.Entry.TheVariants.{Rec, Notes}
-use Rattle.record_codec.specs.declared.entries.TheConstants.{LAST_TILL}
+use Rattle.record_codec.specs.declared.entry.Entry.{Entry}
+use Rattle.record_codec.specs.declared.entry.Entry.TheVariants.{Rec, Notes}
+use Rattle.record_codec.specs.declared.entry.TheConstants.{LAST_TILL}
 use Rattle.shop_core.specs.History.{noted, recs}
-use Rattle.shop_core.specs.Plans.{answer}
-use Rattle.shop_core.specs.Requests.{Asked}
-use Rattle.shop_core.specs.Replies.{IsTakenAt, Tells}
-use Rattle.shop_core.specs.declared.answers.Planned.TheVariants.{Made}
-use Rattle.shop_core.specs.declared.answers.Reply.{Reply}
-use Rattle.shop_core.specs.declared.answers.Reply.TheVariants.{Taken, Again, Refused}
+use Rattle.shop_core.specs.Answer.Plans.{answer}
+use Rattle.shop_core.specs.Answer.Requests.{Asked}
+use Rattle.shop_core.specs.Answer.Replies.{IsTakenAt, Tells}
+use Rattle.shop_core.specs.declared.answer.Planned.TheVariants.{Made}
+use Rattle.shop_core.specs.declared.answer.Reply.{Reply}
+use Rattle.shop_core.specs.declared.answer.Reply.TheVariants.{Taken, Again, Refused}
 use Rattle.till_calls.specs.Root.{Parts, Root}
 use Rattle.till_calls.specs.Sound.{IsSound}
 use Rattle.once_world.specs.Agreement.{IsPrefix}

@@ -2,7 +2,7 @@
 use Rattle.std.specs.Prelude.{◌≡◌, ◌≤◌, ℕ, List, [], length, map, vec_capacity, Option}
 use Rattle.std.specs.List.{AllByRecursion}
 use Rattle.chain_lock.specs.Known.{Known}
-use Rattle.shop_core.specs.Requests.{Asked}
+use Rattle.shop_core.specs.Answer.Requests.{Asked}
 use Rattle.shop_core.specs.declared.items.Item.{Item}
 use Rattle.till_calls.specs.Root.{Root}
 use Rattle.till_calls.specs.Client.{TillRun}

@@ -4,7 +4,7 @@ ghost use Rattle.ports.specs.Sinks.{this_sink};
 ghost use Rattle.ports.specs.Sources.{this_source};
 ghost use Rattle.chain_disk.specs.Disks.{this_disk};
 ghost use Rattle.journal.specs.Journal.{disk_of, stopped_of};
-ghost use Rattle.record_codec.specs.declared.entries.Entry.{Entry};
+ghost use Rattle.record_codec.specs.declared.entry.Entry.{Entry};
 ghost use Rattle.chain_store.specs.Store.{Ready, clock_of, journal_of, state_of};
 ghost use Rattle.report.specs.Ended.{status_of};
 ghost use Rattle.verifactu.specs.Chain.{ChainEnds, ScriptEnds, StoreEnds};

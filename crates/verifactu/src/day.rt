@@ -6,7 +6,7 @@ ghost use Rattle.ports.specs.Sinks.{OutputIs, Sinks, this_sink};
 ghost use Rattle.ports.specs.Sources.{this_source};
 ghost use Rattle.report.specs.Ended.{status_of};
 ghost use Rattle.shop_core.specs.History.{recs, noted};
-ghost use Rattle.shop_core.specs.Requests.{Asked};
+ghost use Rattle.shop_core.specs.Answer.Requests.{Asked};
 ghost use Rattle.verifactu.specs.Beside as beside;
 ghost use Rattle.verifactu.specs.Beside.{DayRunEnds};
 ghost use Rattle.verifactu.specs.Day as spec;

@@ -3,7 +3,7 @@ ghost use Rattle.std.specs.Prelude.{◌≡◌, ◌≤◌, ◌⊎◌, IsTrue, All
 ghost use Rattle.std.specs.Int.{IsInRange};
 ghost use Rattle.chain_store.specs.Store.{Ready, journal_of};
 ghost use Rattle.journal.specs.Journal.{stopped_of};
-ghost use Rattle.record_codec.specs.declared.entries.TheConstants.{LAST_TILL};
+ghost use Rattle.record_codec.specs.declared.entry.TheConstants.{LAST_TILL};
 ghost use Rattle.till_calls.specs.Root.{parts_of};
 ghost use Rattle.verifactu.specs.Beside.{IsUnbegun};
 ghost use Rattle.verifactu.specs.Devices.{agency_desk, agency_kind, disk_in, store_kind};

@@ -1,7 +1,7 @@
 // The tills of a day: their room, and the work that each does in a thread of its own.
 ghost use Rattle.std.specs.Prelude.{◌≡◌, ◌≤◌, ◌<◌, ◌+◌, ◌++◌, ◌∷◌, [], ℕ, List, length, map, filter, reverse, All};
 ghost use Rattle.std.specs.Prelude.{IfOk, OnOk, vec_len, vec_capacity};
-ghost use Rattle.shop_core.specs.Requests.{Asked};
+ghost use Rattle.shop_core.specs.Answer.Requests.{Asked};
 ghost use Rattle.till_calls.specs.Client.{TillRun};
 ghost use Rattle.till_calls.specs.Shop.{seat_knows, seat_shop};
 ghost use Rattle.till_calls.specs.Shop.{made_tills, numbers, shop_id, till_knows, till_number, till_shop, tills_know, tills_shop};

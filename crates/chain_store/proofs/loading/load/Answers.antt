@@ -1,7 +1,7 @@
 use Rattle.std.proofs.Common.{◌≡◌, ℕ, subst}
-use Rattle.shop_core.specs.Files.{IsDamagedFile}
-use Rattle.shop_core.specs.Reading.{IsRead}
-use Rattle.shop_core.specs.declared.reading.FileRead.{FileRead}
+use Rattle.shop_core.specs.File.Files.{IsDamagedFile}
+use Rattle.shop_core.specs.File.Reading.{IsRead}
+use Rattle.shop_core.specs.declared.file.reading.FileRead.{FileRead}
 use Rattle.chain_store.proofs.Loads.{loaded_none, loaded_sound}
 use Rattle.chain_store.proofs.loading.load.Goals as goal
 

@@ -1,7 +1,7 @@
 use Rattle.std.proofs.Common.{rules, subst}
 use Rattle.link_check.specs.Checking.Chain.{begun, not_begun}
-use Rattle.shop_core.specs.Reading.{IsRead}
-use Rattle.shop_core.specs.declared.reading.FileRead.{FileRead}
+use Rattle.shop_core.specs.File.Reading.{IsRead}
+use Rattle.shop_core.specs.declared.file.reading.FileRead.{FileRead}
 use Rattle.file_commands.specs.Checking.AnswersFrom.{read, damaged, disk_fault, no_memory}
 use Rattle.file_commands.proofs.Bytewise.{took_nothing}
 use Rattle.file_commands.proofs.FileReads.{Kept, kept}

@@ -1,6 +1,6 @@
 use Rattle.std.proofs.Common.{rules, [], subst, refl}
-use Rattle.shop_core.specs.Reading.{IsRead}
-use Rattle.shop_core.specs.declared.reading.FileRead.{FileRead}
+use Rattle.shop_core.specs.File.Reading.{IsRead}
+use Rattle.shop_core.specs.declared.file.reading.FileRead.{FileRead}
 use Rattle.file_commands.specs.Linking.LinkEnds.{read, damaged, disk_fault, no_memory}
 use Rattle.file_commands.specs.Linking.LinkedFrom.{unknown}
 use Rattle.file_commands.proofs.Bytewise.{took_nothing}

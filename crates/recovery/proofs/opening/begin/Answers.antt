@@ -1,10 +1,10 @@
 use Rattle.std.proofs.Common.{◌≡◌, List, [], sym, ◌∙◌, ap, subst}
 use Rattle.chain_disk.specs.OnDisk.{OnDisk, LeavesNow, LeavesOnly}
 use Rattle.journal.specs.Journal.{disk_of}
-use Rattle.record_codec.specs.declared.entries.Entry.{Entry}
+use Rattle.record_codec.specs.declared.entry.Entry.{Entry}
 use Rattle.shop_core.specs.History.{History}
 use Rattle.shop_core.specs.Legal.{Legal}
-use Rattle.shop_core.specs.Files.{StandsFor}
+use Rattle.shop_core.specs.File.Files.{StandsFor}
 use Rattle.recovery.specs.Opening.{IsFound}
 use Rattle.recovery.proofs.Opens.{begun, begins}
 use Rattle.chain_store.specs.Ready.{IsReady}

@@ -1,5 +1,5 @@
 use Rattle.std.proofs.Common.{◌≡◌, Result, rules, Ok, Err}
-use Rattle.shop_core.specs.declared.requests.Request.{Request}
+use Rattle.shop_core.specs.declared.answer.requests.Request.{Request}
 use Rattle.shop_core.specs.declared.words.Word.{Word}
 use Rattle.script.specs.Fields.{and_then}
 use Rattle.script.specs.SoFar.{party_of, known}

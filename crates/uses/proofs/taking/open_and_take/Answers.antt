@@ -2,7 +2,7 @@ use Rattle.std.proofs.Common.{subst, IsTrue}
 use Rattle.chain_disk.specs.OnDisk.{LeavesNow}
 use Rattle.chain_store.specs.Store.{state_of}
 use Rattle.journal.specs.Journal.{disk_of}
-use Rattle.shop_core.specs.Files.{StandsFor}
+use Rattle.shop_core.specs.File.Files.{StandsFor}
 use Rattle.shop_core.specs.History.{History}
 use Rattle.uses.specs.Taking.{IsTicketAt}
 use Rattle.uses.proofs.Kept.{answers, if_told, ticket_of_ask, told_stands}

@@ -4,7 +4,7 @@ use Rattle.journal.specs.declared.faults.StoreFault.{StoreFault}
 use Rattle.file_commands.proofs.Bytewise.{took_nothing}
 use Rattle.ports.specs.Sinks.{this_sink}
 use Rattle.shop_core.specs.History.{History}
-use Rattle.shop_core.specs.declared.answers.Reply.{Reply}
+use Rattle.shop_core.specs.declared.answer.Reply.{Reply}
 use Rattle.verifactu.specs.Ending.{RunEnds}
 use Rattle.verifactu.specs.Ending.RunEnds.{no_memory}
 use Rattle.verifactu.specs.Printed.{printed}

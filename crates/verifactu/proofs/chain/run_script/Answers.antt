@@ -2,7 +2,7 @@ use Rattle.std.proofs.Common.{ℕ, List, sym, subst, refl, Some, Option}
 use Rattle.chain_disk.specs.Disks.{this_disk}
 use Rattle.ports.specs.Counting.{counting}
 use Rattle.ports.specs.Sinks.{this_sink}
-use Rattle.shop_core.specs.Requests.{Asked}
+use Rattle.shop_core.specs.Answer.Requests.{Asked}
 use Rattle.verifactu.specs.Chain.{ScriptEnds}
 use Rattle.verifactu.specs.Devices.{this_clock}
 use Rattle.verifactu.specs.Readings.{IsAsked, LeavesClock, readings, readings_of}

@@ -4,10 +4,10 @@ use Rattle.std.proofs.lemmas.List.{take_more, take_all}
 use Rattle.chain_store.specs.Store.{journal_of, state_of, clock_of, torn_of}
 use Rattle.journal.specs.Journal.{disk_of, end_of, stopped_of}
 use Rattle.journal.specs.declared.faults.StoreFault.{StoreFault}
-use Rattle.shop_core.specs.Requests.{Asked}
+use Rattle.shop_core.specs.Answer.Requests.{Asked}
 use Rattle.shop_core.specs.History.{History}
 use Rattle.shop_core.specs.Legal.{Legal}
-use Rattle.shop_core.specs.declared.answers.Reply.{Reply}
+use Rattle.shop_core.specs.declared.answer.Reply.{Reply}
 use Rattle.verifactu.specs.Readings.{readings}
 use Rattle.verifactu.proofs.Progress.{SoFar, Step, origin_of, point_of}
 use Rattle.verifactu.proofs.Stepping.{step, untouched}

@@ -7,7 +7,7 @@ use Rattle.std.proofs.lemmas.List.FromFn.{length-range_with_len}
 use Rattle.file_commands.proofs.Bytewise.{took_nothing}
 use Rattle.ports.specs.Sinks.{this_sink}
 use Rattle.shop_core.specs.History.{History, noted, recs}
-use Rattle.shop_core.specs.Requests.{Asked}
+use Rattle.shop_core.specs.Answer.Requests.{Asked}
 use Rattle.till_calls.specs.Root.{Parts, Root, parts_of, root_of}
 use Rattle.verifactu.specs.Beside.{DayRunEnds, IsUnbegun}
 use Rattle.verifactu.specs.Days.{all_replies, shop_day}

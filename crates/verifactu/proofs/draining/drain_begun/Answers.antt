@@ -4,7 +4,7 @@ use Rattle.agency_port.specs.Messages.{batches_in}
 use Rattle.agency_port.specs.declared.turns.Told.{Told as TurnLine}
 use Rattle.once_world.specs.Agreement.{Agree}
 use Rattle.once_world.specs.Outbox.{Sight, history_of, plain_sight, GainsOwnNotes}
-use Rattle.record_codec.specs.declared.entries.Entry.{Entry}
+use Rattle.record_codec.specs.declared.entry.Entry.{Entry}
 use Rattle.sender.specs.Agreeing.{InSession, IsCareful}
 use Rattle.sender.specs.Dark.{AreRunsBy}
 use Rattle.sender.specs.Draining.{Drained, IsBounded, Scene}

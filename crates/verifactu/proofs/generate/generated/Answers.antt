@@ -1,7 +1,7 @@
 use Rattle.std.proofs.Common.{List, Some, subst, sym}
 use Rattle.chain_store.specs.Store.{clock_of, state_of}
 use Rattle.ports.specs.Counting.{counting}
-use Rattle.shop_core.specs.Requests.{Asked}
+use Rattle.shop_core.specs.Answer.Requests.{Asked}
 use Rattle.shop_core.specs.History.{History}
 use Rattle.verifactu.specs.Generate.{Generated}
 use Rattle.verifactu.specs.Generated.{AreCommands}

@@ -1,5 +1,5 @@
 use Rattle.std.proofs.Common.{◌+◌, List, subst, sym}
-use Rattle.shop_core.specs.Requests.{Asked}
+use Rattle.shop_core.specs.Answer.Requests.{Asked}
 use Rattle.verifactu.specs.Generated.{AreCommands}
 use Rattle.verifactu.proofs.Generating.{commands_more}
 use Rattle.verifactu.proofs.generated.commands.Goals as goal

@@ -1,8 +1,8 @@
 use Rattle.std.proofs.Common.{◌≡◌, ◌++◌, ◌∷◌, [], ◌==◌, ℕ, List, Result, true, sym, subst, arith}
 use Rattle.std.proofs.lemmas.Bool.Decides.{nat_tests}
 use Rattle.journal.specs.declared.faults.StoreFault.{StoreFault}
-use Rattle.shop_core.specs.Requests.{Asked}
-use Rattle.shop_core.specs.declared.answers.Reply.{Reply}
+use Rattle.shop_core.specs.Answer.Requests.{Asked}
+use Rattle.shop_core.specs.declared.answer.Reply.{Reply}
 use Rattle.till_calls.specs.Client.{TillRun}
 use Rattle.till_calls.specs.Client.TillRun.{asked}
 use Rattle.till_calls.specs.Shop.{Asks, till_knows, till_number}

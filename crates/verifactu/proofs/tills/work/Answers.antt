@@ -1,7 +1,7 @@
 use Rattle.std.proofs.Common.{◌==◌, ◌+◌, ◌≤◌, ◌∷◌, [], ℕ, List, Result, length, take, ap, sym, subst, refl, arith, vec_capacity}
 use Rattle.journal.specs.declared.faults.StoreFault.{StoreFault}
-use Rattle.shop_core.specs.Requests.{Asked}
-use Rattle.shop_core.specs.declared.answers.Reply.{Reply}
+use Rattle.shop_core.specs.Answer.Requests.{Asked}
+use Rattle.shop_core.specs.declared.answer.Reply.{Reply}
 use Rattle.till_calls.specs.Client.{TillRun}
 use Rattle.till_calls.specs.Client.TillRun.{begun}
 use Rattle.till_calls.specs.Shop.{till_knows, till_number}

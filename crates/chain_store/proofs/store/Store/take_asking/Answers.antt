@@ -3,8 +3,8 @@ use Rattle.std.proofs.Common.{refl, sym, ◌∙◌, subst, Ok, Err}
 use Rattle.journal.specs.Journal.{end_of}
 use Rattle.journal.specs.declared.faults.StoreFault.{StoreFault}
 use Rattle.ports.specs.Readings.{MovedBy}
-use Rattle.shop_core.specs.Plans.{answer}
-use Rattle.shop_core.specs.declared.answers.Reply.TheVariants as reply
+use Rattle.shop_core.specs.Answer.Plans.{answer}
+use Rattle.shop_core.specs.declared.answer.Reply.TheVariants as reply
 use Rattle.chain_store.proofs.Stores.{on_disk, untouched}
 use Rattle.chain_store.proofs.Taking.{made, not_made, told_again, told_refused}
 use Rattle.chain_store.proofs.store.Store.take_asking.Goals as goal

@@ -1,5 +1,5 @@
 use Rattle.std.proofs.Common.{◌∷◌, [], length}
-use Rattle.record_codec.specs.declared.entries.Entry.TheVariants.{Notes}
+use Rattle.record_codec.specs.declared.entry.Entry.TheVariants.{Notes}
 use Rattle.shop_core.specs.History.{noted}
 use Rattle.once_world.proofs.Sights.{grows_by, grows_same, adds_notes, next_plain, never_stopped}
 use Rattle.once_world.proofs.plain.PlainOutboxOutbox.note.Goals as goal

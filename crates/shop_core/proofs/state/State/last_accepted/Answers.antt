@@ -1,8 +1,8 @@
 use Rattle.std.proofs.Common.{◌≡◌, ◌∙◌, ap, sym, refl, ℕ, Option, Some, None, option_map, List}
 use Rattle.record_fields.specs.declared.records.Sealed.{Sealed}
-use Rattle.record_codec.specs.declared.entries.Entry.{Entry}
+use Rattle.record_codec.specs.declared.entry.Entry.{Entry}
 use Rattle.shop_core.specs.Found.{is_wanted}
-use Rattle.shop_core.specs.ByNumber.{place_in}
+use Rattle.shop_core.specs.Tables.ByNumber.{place_in}
 use Rattle.shop_core.specs.History.{recs, noted, sealed_at}
 use Rattle.shop_core.specs.Standing.{last_accepted}
 use Rattle.shop_core.specs.declared.standing.Wanted.TheVariants.{Accepted}

@@ -1,7 +1,7 @@
 use Rattle.std.proofs.Common.{◌≡◌, ◌∙◌, ap, subst, ℕ}
 use Rattle.chain_lock.specs.Known.{Turns}
 use Rattle.chain_lock.specs.Words.{known}
-use Rattle.shop_core.specs.Requests.{Asked}
+use Rattle.shop_core.specs.Answer.Requests.{Asked}
 use Rattle.till_calls.specs.Shop.{till_knows, till_number}
 use Rattle.till_calls.specs.Turns.{TillTurn}
 use Rattle.till_calls.proofs.shop.Shop.ask.Goals as goal

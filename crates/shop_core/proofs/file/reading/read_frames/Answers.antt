@@ -1,0 +1,27 @@
+use Rattle.std.proofs.Common.{◌≡◌, arith, drop, subst, sym}
+use Rattle.chain_disk.specs.OnDisk.{OnDisk}
+use Rattle.frames.specs.Frames.{IsClosed}
+use Rattle.shop_core.specs.History.{History}
+use Rattle.shop_core.specs.File.Reading.{Grows, IsRead, IsSeen}
+use Rattle.shop_core.specs.File.Reading.IsRead.{stands}
+use Rattle.shop_core.specs.declared.file.reading.AtGate.{AtGate}
+use Rattle.shop_core.specs.declared.file.reading.FileRead.TheVariants.{Sound}
+use Rattle.shop_core.proofs.file.reading.read_frames.Goals as goal
+
+pub unreachable-requires : goal.unreachable-requires
+unreachable-requires g c = omega (arith, c.loop-test.false, c.loop.invariant.count, c.entries-few.ensures.few)
+
+pub returns-in-Closed-clause-read : goal.returns-in-Closed-clause-read
+returns-in-Closed-clause-read g c tells =
+    let s = c.loop.state in
+    let new = c.read_frame.new.state in
+    let file = (g.D.Disk.told c.args.disk.now).content in
+    let now = g.D.Disk.told c.loop.disk in
+    let same : new ≡ s = subst (λ (seen : AtGate). Grows s new seen) c.in-Closed.is c.in_ok-next.ensures.grows in
+    let shut : IsClosed (drop c.loop.at now.content) =
+    subst (λ (seen : AtGate). IsSeen now.content c.loop.at s new seen) c.in-Closed.is (c.in_ok-next.ensures.seen tells) in
+    let sound = c.loop.invariant.sound tells in
+    let whole =
+    c.a_history_is_read_by_frames.ensures.ends s.issuer s.entries c.loop.at file sound
+    (subst (λ (t : OnDisk). IsClosed (drop c.loop.at t.content)) c.loop.invariant.same shut) in
+    subst (λ (h : History). IsRead file (Sound h c.loop.at)) (sym same) (stands s c.loop.at whole sound.frames.place)

@@ -1,0 +1,175 @@
+// Reads a file frame by frame, through one small buffer, to its closing gate or its first break.
+ghost use Rattle.std.specs.Prelude.{◌≡◌, ◌≤◌, ◌+◌, ◌++◌, ◌∷◌, [], List, ℕ, IsTrue, IfOk, IfSome, IfNone, IsErrOf, OnErr, Some};
+ghost use Rattle.ports.specs.Causes.{Rose};
+ghost use Rattle.journal.specs.Header.{IsBegun};
+ghost use Rattle.record_codec.specs.Writing.{entry_bytes};
+ghost use Rattle.shop_core.specs.Breaks.{IsBreak};
+ghost use Rattle.shop_core.specs.File.Files.{IsSoundUpTo, furthest_gate};
+ghost use Rattle.shop_core.specs.Legal.{Continues};
+ghost use Rattle.shop_core.specs.File.Reading.{BrokenIsDamaged, Grows, HasNearGate, IsRead, IsSeen, word_of};
+
+use crate::{Break, State, What, a_history_is_read_by_frames, next_fault};
+use chain_disk::Disk;
+use frames::FrameBuf;
+use journal::{Header, Step, read_header, scan};
+use parties::Nif;
+use ports::NoMemory;
+use record_codec::{BadEntry, Entry, decode};
+use std::alloc::Global;
+
+/// What a file holds.
+#[derive(Drop)]
+pub enum FileRead {
+    /// No header.
+    NotBegun,
+    /// A legal history, with its issuer. The closing gate is at the byte `end`.
+    Sound { state: State, end: u64 },
+    /// A break at the byte `at`. `place` is one more than the records before it.
+    Broken { place: u32, at: u64, what: What },
+}
+
+/// Why a file was not read to its end or its first break.
+#[derive(Clone, Copy, Debug, PartialEq, Eq)]
+pub enum ReadFault {
+    /// The disk's count of faults rose in this call.
+    DiskFault,
+    NoMemory,
+}
+
+/// Reads what a file stands for, up to its first break. It writes nothing.
+pub fn read_file<D: Disk>(alloc: Global, disk: &mut D) -> Result<FileRead, ReadFault>
+    ensures read { IfOk result (λ read. IsTrue D.tells → IsRead (D.told disk.old).content read) }
+    ensures near { IfOk result HasNearGate }
+    ensures fault { IsErrOf result ReadFault.DiskFault → Rose (D.faults disk.old) (D.faults disk.new) }
+    ensures same { D.told disk.new ≡ D.told disk.old }
+    ensures later { D.faults disk.old ≤ D.faults disk.new }
+{
+    let Ok(header) = read_header(disk) else {
+        return Err(ReadFault::DiskFault);
+    };
+    match &header {
+        Header::Damaged { at } => Ok(FileRead::Broken {
+            place: 1,
+            at: *at,
+            what: What::Header,
+        }),
+        Header::NotBegun => Ok(FileRead::NotBegun),
+        Header::Begun { issuer, .. } => read_frames(alloc, disk, issuer),
+    }
+}
+
+/// A file that is read as broken is damaged at that byte.
+pub fn a_broken_file_is_damaged()
+    ensures { BrokenIsDamaged }
+{}
+
+// Reads the frames behind a sound header of this issuer.
+fn read_frames<D: Disk>(alloc: Global, disk: &mut D, issuer: &Nif) -> Result<FileRead, ReadFault>
+    requires header { IsTrue D.tells → IsBegun issuer.now (D.told disk.old).content }
+    ensures read { IfOk result (λ read. IsTrue D.tells → IsRead (D.told disk.old).content read) }
+    ensures near { IfOk result HasNearGate }
+    ensures fault { IsErrOf result ReadFault.DiskFault → Rose (D.faults disk.old) (D.faults disk.new) }
+    ensures same { D.told disk.new ≡ D.told disk.old }
+    ensures later { D.faults disk.old ≤ D.faults disk.new }
+{
+    a_history_is_read_by_frames();
+    let mut state = State::empty(alloc, issuer);
+    let mut body = FrameBuf::new();
+    let mut at = 19;
+    for _ in 0..2_000_001u32 {
+        match read_frame(alloc, disk, &mut state, at, &mut body)? {
+            AtGate::Entry { next } => at = next,
+            AtGate::Closed => return Ok(FileRead::Sound { state, end: at }),
+            AtGate::Broken { what } => {
+                return Ok(FileRead::Broken {
+                    place: state.records() + 1,
+                    at,
+                    what,
+                });
+            }
+        }
+    }
+    let _few = state.entries();
+    unreachable!()
+}
+
+// What stands at a gate.
+#[derive(Clone, Copy)]
+enum AtGate {
+    /// An entry that continues the history. The next gate is at this byte.
+    Entry { next: u64 },
+    Closed,
+    Broken { what: What },
+}
+
+// Reads the frame at a gate into the state.
+fn read_frame<D: Disk>(
+    alloc: Global,
+    disk: &mut D,
+    state: &mut State,
+    at: u64,
+    body: &mut FrameBuf,
+) -> Result<AtGate, ReadFault>
+    requires place { at ≤ furthest_gate state.old.entries }
+    requires sound { IsTrue D.tells → IsSoundUpTo state.old.issuer state.old.entries at (D.told disk.old).content }
+    ensures issuer { state.new.issuer ≡ state.old.issuer }
+    ensures grows { IfOk result (Grows state.old state.new) }
+    ensures seen { IfOk result (λ seen. IsTrue D.tells → IsSeen (D.told disk.old).content at state.old state.new seen) }
+    ensures fault { IsErrOf result ReadFault.DiskFault → Rose (D.faults disk.old) (D.faults disk.new) }
+    ensures same { D.told disk.new ≡ D.told disk.old }
+    ensures later { D.faults disk.old ≤ D.faults disk.new }
+{
+    a_history_is_read_by_frames();
+    let _few = state.entries();
+    match scan(disk, at, body) {
+        Err(_) => Err(ReadFault::DiskFault),
+        Ok(Step::Damaged) => Ok(AtGate::Broken { what: What::Frame }),
+        Ok(Step::Closed) => Ok(AtGate::Closed),
+        Ok(Step::Counted { next }) => {
+            let entry = match decode(alloc, state.issuer(), body.as_slice()) {
+                Ok(entry) => entry,
+                Err(BadEntry::NoMemory) => return Err(ReadFault::NoMemory),
+                Err(BadEntry::At { .. }) => return Ok(AtGate::Broken { what: What::Body }),
+            };
+            match add_entry(alloc, state, entry, body.as_slice()) {
+                Ok(None) => Ok(AtGate::Entry { next }),
+                Ok(Some(why)) => Ok(AtGate::Broken { what: word_of(why) }),
+                Err(_) => Err(ReadFault::NoMemory),
+            }
+        }
+    }
+}
+
+fn word_of(why: Break) -> What
+    ensures { result ≡ word_of why }
+{
+    match why {
+        Break::Notes => What::Notes,
+        Break::Link => What::Link,
+        Break::Seal => What::Seal,
+        Break::Rule => What::Rule,
+    }
+}
+
+// Adds an entry that continues the history, whose encoding these bytes are, else says what is wrong with it.
+fn add_entry(
+    alloc: Global,
+    state: &mut State,
+    entry: Entry,
+    bytes: &[u8],
+) -> Result<Option<Break>, NoMemory>
+    requires { bytes.now ≡ entry_bytes entry }
+    ensures added { IfOk result (λ found. IfNone found (Continues state.old.issuer state.old.entries entry
+        × (state.new.issuer ≡ state.old.issuer) × (state.new.entries ≡ state.old.entries ++ entry ∷ []))) }
+    ensures broken { IfOk result (λ found. IfSome found (λ why. (state.new ≡ state.old)
+        × (Continues state.old.issuer state.old.entries entry → ⊥)
+        × IsBreak state.old.issuer state.old.entries entry (Some why))) }
+    ensures err { OnErr result (state.new ≡ state.old) }
+{
+    if let Some(why) = next_fault(alloc, state, &entry)? {
+        return Ok(Some(why));
+    }
+    state.reserve(&entry)?;
+    state.apply_encoded(entry, bytes);
+    Ok(None)
+}
