@@ -34,9 +34,6 @@ pub enum Refusal {
     HuellaTwice { place: u32 },
 }
 
-use series::{InvoiceId, NumSerie};
-use stamps::{CLOCK_FROM, CLOCK_TO};
-
 fn passed(state: &State, ask: &Asking) -> Option<Refusal>
     ensures { result ≡ spec.passed state.now.entries ask.now.till ask.now.serial }
 {
