@@ -1,12 +1,13 @@
 -- The plan of the practice agency.
 use Rattle.std.specs.Prelude.{ℕ, List, [], Option, option_map, find, ◌==◌}
+use Rattle.pacing.specs.declared.pace.TheConstants.{FIRST_WAIT}
 use Rattle.agency_rules.specs.declared.plans.Plan.{Plan}
 use Rattle.agency_rules.specs.declared.plans.PlannedFate.{PlannedFate}
 use Rattle.agency_rules.specs.declared.plans.Fate.{Fate}
 
--- Nothing is planned. The pause of 60 seconds is that which the agency's description of the submission service begins with.
+-- nothing is planned, and the pause is the one before a first reply
 abbrev pub plain : Plan
-plain = record { verdicts = []; wait = 60; fates = [] }
+plain = record { verdicts = []; wait = FIRST_WAIT; fates = [] }
 
 -- what befalls the call of this number, where something is planned
 abbrev pub fate_at : List PlannedFate → ℕ → Option Fate

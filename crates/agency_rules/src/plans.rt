@@ -3,6 +3,7 @@ ghost use Rattle.std.specs.Prelude.{◌≡◌, IfOk};
 ghost use Rattle.agency_rules.specs.Judging.{verdict_for};
 ghost use Rattle.agency_rules.specs.Plans.{fate_at};
 
+use pacing::FIRST_WAIT;
 use ports::NoMemory;
 use series::NumSerie;
 use std::alloc::Global;
@@ -167,7 +168,7 @@ impl Plan {
     {
         Plan {
             verdicts: Verdicts::of(Vec::new(alloc)),
-            wait: 60,
+            wait: FIRST_WAIT,
             fates: Fates::of(Vec::new(alloc)),
         }
     }

@@ -3,13 +3,13 @@ ghost use Rattle.std.specs.Prelude.{◌≡◌, ◌≢◌, ◌<◌, ◌==◌, [],
 ghost use Rattle.std.specs.Str.Lines.{strip_carriage_return};
 ghost use Rattle.file_commands.specs.Lines.{lines_of};
 
-use link_check::LinkLines;
+use link_check::ScannedLines;
 use ports::NoMemory;
 use record_fields::Bytes;
 use std::alloc::Global;
 
 /// The lines of these bytes, each in memory of its own.
-pub(crate) fn read_lines(alloc: Global, bytes: &[u8]) -> Result<LinkLines, NoMemory>
+pub(crate) fn read_lines(alloc: Global, bytes: &[u8]) -> Result<ScannedLines, NoMemory>
     ensures { IfOk result (λ lines. lines ≡ lines_of bytes.now) }
 {
     let mut lines = Vec::new(alloc);
@@ -19,7 +19,7 @@ pub(crate) fn read_lines(alloc: Global, bytes: &[u8]) -> Result<LinkLines, NoMem
         lines.push(Bytes::of(Vec::from_slice(alloc, line)?))?;
         rest = after;
     }
-    Ok(LinkLines::of(lines))
+    Ok(ScannedLines::of(lines))
 }
 
 // The first line, and what is left behind its LF.

@@ -7,7 +7,7 @@ use chain_disk::{Disk, MemDisk};
 use chain_store::Store;
 use file_commands::check_cmd;
 use invoice_kinds::Kind;
-use link_check::{LinkLines, check_all, check_link, check_unbegun, checks_text};
+use link_check::{ScannedLines, check_all, check_link, check_unbegun, checks_text};
 use parties::Nif;
 use ports::{Clock, CountingClock, MemSink, MemSource};
 use record_codec::Entry;
@@ -293,13 +293,13 @@ fn shop(alloc: Global) -> Result<State, Fail> {
 }
 
 // The lines of the rows.
-fn lines(alloc: Global) -> Result<LinkLines, Fail> {
+fn lines(alloc: Global) -> Result<ScannedLines, Fail> {
     let mut lines = Vec::new(alloc);
     for (front, middle, back, _) in ROWS {
         let line = format!(in alloc; "{front}{middle}{back}")?;
         lines.push(Bytes::of(line.into_bytes()))?;
     }
-    Ok(LinkLines::of(lines))
+    Ok(ScannedLines::of(lines))
 }
 
 // What is printed of them.
@@ -358,7 +358,7 @@ fn one_worker_and_sixteen_give_equal_lists(rt: HostRuntime) -> Result<(), Fail> 
 fn no_lines_have_no_answers(rt: HostRuntime) -> Result<(), Fail> {
     let alloc = rt.alloc();
     let state = shop(alloc)?;
-    let none = LinkLines::of(Vec::new(alloc));
+    let none = ScannedLines::of(Vec::new(alloc));
     assert_eq!(rt; check_all(&rt, alloc, &state, &none, 16)?.len(), 0);
     assert_eq!(rt; check_unbegun(alloc, &none)?.len(), 0);
     Ok(())

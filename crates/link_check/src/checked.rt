@@ -25,7 +25,7 @@ pub enum Checked {
 }
 
 /// Lines, each to be read as a link.
-pub type LinkLines = ListOf<Bytes>;
+pub type ScannedLines = ListOf<Bytes>;
 
 /// The answers of lines, in their order.
 pub type CheckedList = ListOf<Checked>;

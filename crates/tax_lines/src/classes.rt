@@ -95,7 +95,7 @@ impl LineKey {
         }
     }
 
-    /// Its word.
+    /// Its word in a script.
     pub fn text(self) -> &'static str
         ensures { result.now ≡ key_text self }
     {

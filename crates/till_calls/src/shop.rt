@@ -172,7 +172,7 @@ fn store_of<D: Disk, C: Clock>(refused: Refused<Kept<D, C>>) -> Store<D, C>
     value.into_store()
 }
 
-// The same numbers.
+// The numbers as a list of their type. None where memory is wanting.
 fn till_numbers(alloc: Global, tills: &[u8]) -> Option<Vec<TillNumber>>
     requires { All (IsInRange 1 LAST_TILL) tills.now }
     ensures items { IfSome result (λ list. list.items ≡ tills.now) }
