@@ -106,47 +106,6 @@ fn drained(
 }
 
 #[test]
-fn what_the_agency_says_stands_in_the_listing(rt: HostRuntime) -> Result<(), Fail> {
-    let sold = format!(in rt.alloc(); "{ROW}cancel 1 2 A-1\n")?;
-    let disk = file_of(&rt, &sold)?;
-    let left = drained(&rt, "vet A-1 1 4100\n", disk)?;
-    assert_eq!(rt; left.ended, done());
-    let (text, _) = chained(&rt, "clock 1735722000 0\ncancel 1 3 A-1\n", left.disk)?;
-    let wanted =
-        "till 1 serial 3 taken 3 A-1 8CF59B7A2657EE397ECE9AFA590D2BB02E20F144853869A3FEF3521947FD4E96\n1 alta A-1 01-01-2025 F2 21.00 121.00 N N D88B42F8D11C4EA2112502EC992F055A7E94F796D67095359B946A4A5B03E616 vet 4100\n2 anulacion A-1 01-01-2025 N N D7E3FEAC06726268788A641ADB7632F969468D128104FD4B798514F066ED78F1 not-held\n3 anulacion A-1 01-01-2025 S N 8CF59B7A2657EE397ECE9AFA590D2BB02E20F144853869A3FEF3521947FD4E96 pending\nchain 3 noted 2\n";
-    assert_eq!(rt; text.as_slice(), wanted.as_bytes());
-    Ok(())
-}
-
-#[test]
-fn a_refused_invoice_is_mended(rt: HostRuntime) -> Result<(), Fail> {
-    let left = drained(&rt, "vet A-1 1 4100\n", file_of(&rt, ROW)?)?;
-    let (text, _) = chained(
-        &rt,
-        "clock 1735722000 0\nfix 1 2 A-1 F2 21:20000\n",
-        left.disk,
-    )?;
-    let wanted =
-        "till 1 serial 2 taken 2 A-1 6BBE34255E45F0DA4A03A0BF763292A3D9538A67864756C8CF4E3C0631B6E185\n1 alta A-1 01-01-2025 F2 21.00 121.00 N N D88B42F8D11C4EA2112502EC992F055A7E94F796D67095359B946A4A5B03E616 vet 4100\n2 alta A-1 01-01-2025 F2 42.00 242.00 S X 6BBE34255E45F0DA4A03A0BF763292A3D9538A67864756C8CF4E3C0631B6E185 pending\nchain 2 noted 1\n";
-    assert_eq!(rt; text.as_slice(), wanted.as_bytes());
-    Ok(())
-}
-
-#[test]
-fn a_refused_mending_is_mended(rt: HostRuntime) -> Result<(), Fail> {
-    let left = drained(&rt, "", file_of(&rt, ROW)?)?;
-    let fix = "clock 1735722000 0\nfix 1 2 A-1 F2 21:20000\n";
-    let (_, disk) = chained(&rt, fix, left.disk)?;
-    let left = drained(&rt, "vet A-1 2 4101\n", disk)?;
-    let fix = "clock 1735722000 0\nfix 1 3 A-1 F2 21:20000\n";
-    let (text, _) = chained(&rt, fix, left.disk)?;
-    let wanted =
-        "till 1 serial 3 taken 3 A-1 1BA6090F6DBA3EF0409DCDBE92EF200E93DE819D273ACABF35D43B1AEDBE0760\n1 alta A-1 01-01-2025 F2 21.00 121.00 N N D88B42F8D11C4EA2112502EC992F055A7E94F796D67095359B946A4A5B03E616 correcto\n2 alta A-1 01-01-2025 F2 42.00 242.00 S N 6BBE34255E45F0DA4A03A0BF763292A3D9538A67864756C8CF4E3C0631B6E185 vet 4101\n3 alta A-1 01-01-2025 F2 42.00 242.00 S S 1BA6090F6DBA3EF0409DCDBE92EF200E93DE819D273ACABF35D43B1AEDBE0760 pending\nchain 3 noted 2\n";
-    assert_eq!(rt; text.as_slice(), wanted.as_bytes());
-    Ok(())
-}
-
-#[test]
 fn a_full_batch_goes_first(rt: HostRuntime) -> Result<(), Fail> {
     let alloc = rt.alloc();
     let mut script = String::new(alloc);
@@ -203,26 +162,6 @@ fn two_records_over_a_bad_link(rt: HostRuntime) -> Result<(), Fail> {
         assert_eq!(rt; submitted_in(left.agency.log()), submitted, "at {plan}");
         assert_eq!(rt; left.agency.processed().len(), 2, "at {plan}");
     }
-    Ok(())
-}
-
-#[test]
-fn eight_link_faults_end_a_drain(rt: HostRuntime) -> Result<(), Fail> {
-    let script =
-        "clock 1735800000 0\nlink 1 lost\nlink 2 lost\nlink 3 lost\nlink 4 lost\nlink 5 lost\nlink 6 lost\nlink 7 lost\nlink 8 lost\n";
-    let left = drained(&rt, script, file_of(&rt, TWO)?)?;
-    assert_eq!(rt; left.ended.status, 8);
-    assert_eq!(rt;
-        left.ended.detail,
-        Detail::Undelivered {
-            noted: 0,
-            records: 2
-        }
-    );
-    assert_eq!(rt;
-        left.text.as_slice(),
-        b"link\nlink\nlink\nlink\nlink\nlink\nlink\nlink\nchain 2 noted 0\n".as_slice()
-    );
     Ok(())
 }
 

@@ -11,6 +11,4 @@ mod disk;
 #[cfg(test)]
 mod drain;
 #[cfg(test)]
-mod generate;
-#[cfg(test)]
 mod runs;
