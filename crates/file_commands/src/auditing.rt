@@ -5,7 +5,6 @@ ghost use Rattle.ports.specs.Sinks.{this_sink};
 ghost use Rattle.report.specs.Ended.{status_of};
 ghost use Rattle.file_commands.specs.Auditing.{AuditEnds, verdict_end};
 
-use crate::ends::ended_as;
 use crate::output::print;
 use audit::{AuditFault, audit};
 use chain_disk::Disk;
@@ -24,7 +23,7 @@ pub fn audit_cmd<K: Sink, D: Disk>(alloc: Global, sink: &mut K, disk: D) -> (End
 {
     let mut disk = disk;
     let detail = audited(alloc, sink, &mut disk);
-    (ended_as(detail), disk)
+    (Ended::of(detail), disk)
 }
 
 // Looks at the file and prints the verdict.
@@ -39,13 +38,13 @@ fn audited<K: Sink, D: Disk>(alloc: Global, sink: &mut K, disk: &mut D) -> Detai
         Err(AuditFault::NoMemory) => return Detail::NoMemory,
     };
     match verdict_text(alloc, &verdict) {
-        Ok(text) => print(text.as_slice(), end_of(&verdict), sink),
+        Ok(text) => print(text.as_slice(), verdict_end(&verdict), sink),
         Err(_) => Detail::NoMemory,
     }
 }
 
 // The end that a printed verdict comes to.
-fn end_of(verdict: &AuditEnd) -> Detail
+fn verdict_end(verdict: &AuditEnd) -> Detail
     ensures { result ≡ verdict_end verdict.now }
 {
     match verdict {

@@ -10,7 +10,6 @@ ghost use Rattle.link_check.specs.declared.all.TheConstants.{MAX_WORKERS};
 ghost use Rattle.file_commands.specs.Checking.{AnswersFrom, AnswersPrinted, AreTold, CheckEnds};
 ghost use Rattle.file_commands.specs.Lines.{lines_of};
 
-use crate::ends::ended_as;
 use crate::input::{InputFault, read_input};
 use crate::lines::read_lines;
 use crate::output::print;
@@ -42,7 +41,7 @@ pub fn check_cmd<S: Source, K: Sink, D: Disk, R: Threads + Sync>(
 {
     let mut disk = disk;
     let detail = check_source(rt, alloc, workers, source, sink, &mut disk);
-    (ended_as(detail), disk)
+    (Ended::of(detail), disk)
 }
 
 // Reads the source, and holds its lines against the file.

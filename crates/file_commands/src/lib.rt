@@ -4,7 +4,6 @@
 
 mod auditing;
 mod checking;
-mod ends;
 mod input;
 mod lines;
 mod linking;
@@ -12,7 +11,6 @@ mod output;
 
 pub use auditing::audit_cmd;
 pub use checking::check_cmd;
-pub use ends::ended_as;
 pub use input::{InputFault, MAX_INPUT, read_input};
 pub use linking::link_cmd;
 pub use output::{print, write_texts};

@@ -5,7 +5,6 @@ ghost use Rattle.ports.specs.Sinks.{this_sink};
 ghost use Rattle.report.specs.Ended.{status_of};
 ghost use Rattle.file_commands.specs.Linking.{LinkEnds, LinkedFrom};
 
-use crate::ends::ended_as;
 use crate::output::print_line;
 use chain_disk::Disk;
 use ports::{NoMemory, Sink};
@@ -32,7 +31,7 @@ pub fn link_cmd<K: Sink, D: Disk>(
 {
     let mut disk = disk;
     let detail = linked(alloc, num, host, sink, &mut disk);
-    (ended_as(detail), disk)
+    (Ended::of(detail), disk)
 }
 
 // Reads the history and prints the link.

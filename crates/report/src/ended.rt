@@ -46,6 +46,17 @@ pub struct Ended {
     pub detail: Detail,
 }
 
+impl Ended {
+    /// An end with its status.
+    pub fn of(detail: Detail) -> Ended
+        ensures status { result.status ≡ status_of detail }
+        ensures detail { result.detail ≡ detail }
+    {
+        let status = status_of(&detail);
+        Ended { status, detail }
+    }
+}
+
 /// The status of an end.
 pub fn status_of(detail: &Detail) -> u8
     ensures { result ≡ status_of detail.now }

@@ -13,13 +13,13 @@ ghost use Rattle.verifactu.specs.Devices.{this_clock};
 ghost use Rattle.verifactu.specs.Readings.{IsAsked, LeavesClock, readings, readings_of};
 
 use crate::commands::run_commands;
-use crate::ending::end_of;
+use crate::ending::run_end;
 use crate::opening::opening_end;
 use crate::printed::told_of;
 use crate::scripts::read_source;
 use chain_disk::Disk;
 use chain_store::Store;
-use file_commands::{ended_as, write_texts};
+use file_commands::write_texts;
 use journal::StoreFault;
 use parties::Nif;
 use ports::{Clock, CountingClock, Sink, Source};
@@ -49,10 +49,10 @@ pub fn chain_cmd<S: Source, K: Sink, D: Disk, C: Clock>(
     }) result.0.detail }
 {
     match read_source(alloc, source, Form::Full) {
-        Err(fault) => (ended_as(fault.detail()), disk, clock),
+        Err(fault) => (Ended::of(fault.detail()), disk, clock),
         Ok(script) => {
             let (detail, disk, clock) = run_script(alloc, issuer, &script, sink, disk, clock);
-            (ended_as(detail), disk, clock)
+            (Ended::of(detail), disk, clock)
         }
     }
 }
@@ -168,5 +168,5 @@ fn play<K: Sink, D: Disk, C: Clock>(
         return Detail::NoMemory;
     };
     let written = write_texts(sink, told.answers.as_slice(), told.listing.as_slice());
-    end_of(&replies, written)
+    run_end(&replies, written)
 }

@@ -30,7 +30,7 @@ use crate::serving::{Served, serve};
 use crate::tills::{TillDay, room_for};
 use agency_port::Agency;
 use chain_disk::Disk;
-use file_commands::{ended_as, write_texts};
+use file_commands::write_texts;
 use journal::StoreFault;
 use parties::Nif;
 use ports::{Clock, Failed, Gate, NoMemory, Sink, Sleeper, Source};
@@ -71,11 +71,11 @@ where
         (this_sink K.taken K.faults sink.old sink.new) D.Disk C.Clock Z.Sleeper G.Agency outside result.1) result.0.detail }
 {
     match read_source(alloc, source, Form::Full) {
-        Err(fault) => (ended_as(fault.detail()), outside),
+        Err(fault) => (Ended::of(fault.detail()), outside),
         Ok(script) => {
             let means = Means { rt, alloc, gate };
             let (detail, outside) = day_script(means, issuer, &script, sink, outside);
-            (ended_as(detail), outside)
+            (Ended::of(detail), outside)
         }
     }
 }
@@ -175,7 +175,7 @@ fn print_day<K: Sink>(
         return Detail::NoMemory;
     };
     let written = write_texts(sink, told.answers.as_slice(), told.listing.as_slice());
-    end_of_day(tills, answer, state.noted(), state.records(), written)
+    day_end(tills, answer, state.noted(), state.records(), written)
 }
 
 // Adds the answer to this ask, where it is one of the till, and gives the replies behind it.
@@ -282,7 +282,7 @@ fn sender_end(fault: DrainFault, noted: u32, records: u32) -> Detail
 // The end of a day with these answers of its tills and of its sender, whose text was written or not: want of memory before a
 // fault of the disk, that before a contradiction and an undelivered drain, and these before a fault of the sink. An undelivered
 // drain is told with the two counts of the history that the day left.
-fn end_of_day(
+fn day_end(
     days: &[TillDay],
     answer: &Result<(), DrainFault>,
     noted: u32,

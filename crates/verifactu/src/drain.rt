@@ -17,7 +17,7 @@ use crate::scripts::read_source;
 use agency_port::Agency;
 use agency_rules::Plan;
 use chain_disk::Disk;
-use file_commands::{ended_as, write_texts};
+use file_commands::write_texts;
 use journal::StoreFault;
 use parties::Nif;
 use ports::{Clock, Failed, Sink, Sleeper, Source};
@@ -162,10 +162,10 @@ where
         (this_sink K.taken K.faults sink.old sink.new) D.Disk C.Clock Z.Sleeper G.Agency outside result.1) result.0.detail }
 {
     match read_source(alloc, source, Form::NoCommands) {
-        Err(fault) => (ended_as(fault.detail()), outside),
+        Err(fault) => (Ended::of(fault.detail()), outside),
         Ok(script) => {
             let (detail, outside) = drain_script(rt, alloc, issuer, &script, sink, outside);
-            (ended_as(detail), outside)
+            (Ended::of(detail), outside)
         }
     }
 }

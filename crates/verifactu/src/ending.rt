@@ -42,7 +42,7 @@ pub fn lacks_disk(replies: &[Result<Reply, StoreFault>]) -> bool
 
 /// The end of a run with these replies, whose text was written or not: want of memory before a fault of the disk, and that
 /// before one of the sink.
-pub fn end_of(replies: &[Result<Reply, StoreFault>], written: Result<(), Failed>) -> Detail
+pub fn run_end(replies: &[Result<Reply, StoreFault>], written: Result<(), Failed>) -> Detail
     ensures { (text : List ℕ) (s : Sinks) → OutputIs s text written → RunEnds replies.now text s result }
 {
     if lacks_memory(replies) {

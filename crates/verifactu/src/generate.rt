@@ -16,7 +16,7 @@ use crate::commands::run_commands;
 use crate::generated::{MOST, commands};
 use chain_disk::MemDisk;
 use chain_store::Store;
-use file_commands::{ended_as, print};
+use file_commands::print;
 use journal::{StoreFault, a_file_not_begun_is_no_chain};
 use parties::Nif;
 use ports::{Clock, CountingClock, NoMemory, Sink};
@@ -106,5 +106,5 @@ pub fn generate_cmd<K: Sink>(alloc: Global, n: u32, sink: &mut K) -> Ended
     ensures status { result.status ≡ status_of result.detail }
     ensures ends { GenerateEnds n (this_sink K.taken K.faults sink.old sink.new) result.detail }
 {
-    ended_as(generate(alloc, n, sink))
+    Ended::of(generate(alloc, n, sink))
 }

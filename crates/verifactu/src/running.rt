@@ -20,7 +20,7 @@ use crate::outside::Outside;
 use crate::words::{Command, command_of};
 use agency_port::Agency;
 use chain_disk::Disk;
-use file_commands::{audit_cmd, check_cmd, ended_as, link_cmd, print};
+use file_commands::{audit_cmd, check_cmd, link_cmd, print};
 use ports::{Clock, Gate, Sink, Sleeper, Source};
 use report::{Detail, Ended};
 use shop_core::{a_file_has_one_meaning, legal_is_chained};
@@ -61,7 +61,7 @@ where
     legal_is_chained();
     who_keeps_the_rules_tells::<G>();
     match command_of(words) {
-        None => (ended_as(Detail::Usage), outside),
+        None => (Ended::of(Detail::Usage), outside),
         Some(command) => obey(rt, alloc, command, source, sink, outside, gate),
     }
 }
@@ -132,5 +132,5 @@ fn print_text<K: Sink>(text: &[u8], sink: &mut K) -> Ended
     ensures status { result.status ≡ status_of result.detail }
     ensures ends { PrintEnds text.now detail.Done (this_sink K.taken K.faults sink.old sink.new) result.detail }
 {
-    ended_as(print(text, Detail::Done, sink))
+    Ended::of(print(text, Detail::Done, sink))
 }

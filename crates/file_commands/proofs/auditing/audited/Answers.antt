@@ -21,7 +21,7 @@ returns-in-Ok-verdict_text-clause-ends g c =
     let same : c.as_slice.result.now ≡ verdict_text verdict = c.as_slice.ensures ∙ c.in-Ok-verdict_text.ensures in
     reached verdict c.print.result c.in-Ok.ensures.verdict
     (subst (λ (t : List ℕ). PrintEnds t (verdict_end verdict) s c.print.result) same
-    (subst (λ (d : Detail). PrintEnds c.as_slice.result.now d s c.print.result) c.end_of.ensures c.print.ensures))
+    (subst (λ (d : Detail). PrintEnds c.as_slice.result.now d s c.print.result) c.verdict_end.ensures c.print.ensures))
 
 pub returns-in-Err-clause-ends : goal.returns-in-Err-clause-ends
 returns-in-Err-clause-ends g c = no_memory (took_nothing (g.K.Sink.taken c.args.sink.now))

@@ -19,7 +19,7 @@ returns-in-Ok-clause-ends g c =
       disk = this_disk g.D.Disk.tells g.D.Disk.told g.D.Disk.faults c.args.disk run.result.1;
       clock = this_clock g.C.Clock.coming c.args.clock run.result.2;
     } in
-    subst (λ (d : Detail). ChainEnds issuer devices d) (sym c.ended_as-in-Ok.ensures.detail)
+    subst (λ (d : Detail). ChainEnds issuer devices d) (sym c.of-in-Ok.ensures.detail)
     (chain_ran issuer devices c.in-Ok.script run.result.0 c.in-Ok.ensures run.ensures)
 
 pub returns-in-Err-clause-ends : goal.returns-in-Err-clause-ends
@@ -31,6 +31,6 @@ returns-in-Err-clause-ends g c =
       disk = this_disk g.D.Disk.tells g.D.Disk.told g.D.Disk.faults c.args.disk c.args.disk;
       clock = this_clock g.C.Clock.coming c.args.clock c.args.clock;
     } in
-    subst (λ (d : Detail). ChainEnds issuer devices d) (sym (c.ended_as.ensures.detail ∙ c.detail.ensures))
+    subst (λ (d : Detail). ChainEnds issuer devices d) (sym (c.of.ensures.detail ∙ c.detail.ensures))
     (unread Full devices.source (Untouched devices) (ChainRan issuer devices) c.in-Err.fault c.in-Err.ensures
     (record { wrote = search rules; disk = refl; clock = refl }))

@@ -29,9 +29,9 @@ returns-clause-end g c =
     c.deref.ensures.value
     ∙ ap (λ (h : History). printed asks replies h.entries) c.state.ensures in
     let written = rw (c.as_slice.ensures, c.as_slice-2.ensures) at c.write_texts-written.ensures in
-    let ends : RunEnds c.deref-2.result.now text sink c.end_of.result = c.end_of.ensures text sink written in (
+    let ends : RunEnds c.deref-2.result.now text sink c.run_end.result = c.run_end.ensures text sink written in (
       replies,
       c.run_commands.ensures.answers,
-      subst (λ (t : List ℕ). RunEnds replies t sink c.end_of.result) tells
-          (subst (λ (rs : List (Result Reply StoreFault)). RunEnds rs text sink c.end_of.result) c.deref-2.ensures.value ends),
+      subst (λ (t : List ℕ). RunEnds replies t sink c.run_end.result) tells
+          (subst (λ (rs : List (Result Reply StoreFault)). RunEnds rs text sink c.run_end.result) c.deref-2.ensures.value ends),
     )

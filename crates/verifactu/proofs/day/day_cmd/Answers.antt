@@ -16,7 +16,7 @@ returns-in-Ok-clause-ends g c =
     let all = this_call (this_source g.S.Source.left g.S.Source.faults c.args.source.now c.read_source.new.source)
     (this_sink g.K.Sink.taken g.K.Sink.faults c.args.sink.now run.new.sink) g.D.Disk g.C.Clock g.Z.Sleeper g.G.Agency
     c.args.outside run.result.1 in
-    subst (λ (d : Detail). DayEnds issuer all d) (sym c.ended_as-in-Ok.ensures.detail)
+    subst (λ (d : Detail). DayEnds issuer all d) (sym c.of-in-Ok.ensures.detail)
     (day_ran issuer all c.in-Ok.script run.result.0 c.in-Ok.ensures run.ensures)
 
 pub returns-in-Err-clause-ends : goal.returns-in-Err-clause-ends
@@ -26,6 +26,6 @@ returns-in-Err-clause-ends g c =
     let all = this_call (this_source g.S.Source.left g.S.Source.faults c.args.source.now c.read_source.new.source)
     (this_sink g.K.Sink.taken g.K.Sink.faults c.args.sink.now c.args.sink.now) g.D.Disk g.C.Clock g.Z.Sleeper g.G.Agency out
     out in
-    subst (λ (d : Detail). DayEnds issuer all d) (sym (c.ended_as.ensures.detail ∙ c.detail.ensures))
+    subst (λ (d : Detail). DayEnds issuer all d) (sym (c.of.ensures.detail ∙ c.detail.ensures))
     (unread Full all.devices.source (LeftAll (around all)) (DayRan issuer all) c.in-Err.fault
     c.in-Err.ensures (record { wrote = search rules; disk = refl; clock = refl; sleeper = refl; agency = refl }))

@@ -20,10 +20,10 @@ returns g c =
     let es = c.args.state.now.entries in
     let replies = all_replies (map told_in c.args.tills.now) in
     let answer = c.args.answer.now in
-    let end = c.end_of_day.result in
+    let end = c.day_end.result in
     subst (λ (n : ℕ). DayRunEnds replies answer n (length (recs es)) (day_text c.args.asks.now (map told_in c.args.tills.now) es)
     sink end) c.noted.ensures.count
     (subst (λ (r : ℕ). DayRunEnds replies answer c.noted.result r (day_text c.args.asks.now (map told_in c.args.tills.now) es)
     sink end) c.records.ensures.count
     (subst (λ (t : List ℕ). DayRunEnds replies answer c.noted.result c.records.result t sink end) c.in-Ok.ensures
-    (c.end_of_day.ensures text sink written)))
+    (c.day_end.ensures text sink written)))

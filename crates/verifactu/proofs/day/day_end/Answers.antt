@@ -9,7 +9,7 @@ use Rattle.verifactu.specs.Works.{told_in}
 use Rattle.verifactu.proofs.Bytewise.{part_of_output}
 use Rattle.verifactu.proofs.DayTexts.{any_reply, sender_ends}
 use Rattle.verifactu.proofs.RunEnding.{all_replied, written_either, written_whole, written_part}
-use Rattle.verifactu.proofs.day.end_of_day.Goals as goal
+use Rattle.verifactu.proofs.day.day_end.Goals as goal
 
 pub returns-then-one_lacks_memory : goal.returns-then-one_lacks_memory
 returns-then-one_lacks_memory c = λ text s h. no_memory (part_of_output s text c.args.written h)

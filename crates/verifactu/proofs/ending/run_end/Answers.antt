@@ -2,7 +2,7 @@ use Rattle.std.proofs.Common.{◌∙◌, sym}
 use Rattle.verifactu.specs.Ending.RunEnds.{done, write_fault, disk_fault, no_memory}
 use Rattle.verifactu.proofs.Bytewise.{part_of_output}
 use Rattle.verifactu.proofs.RunEnding.{all_replied, written_either, written_whole, written_part}
-use Rattle.verifactu.proofs.ending.end_of.Goals as goal
+use Rattle.verifactu.proofs.ending.run_end.Goals as goal
 
 pub returns-then-lacks_memory : goal.returns-then-lacks_memory
 returns-then-lacks_memory c = λ text s h. no_memory (part_of_output s text c.args.written h)
