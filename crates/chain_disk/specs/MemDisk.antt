@@ -1,8 +1,8 @@
 -- What contracts see of a disk in memory.
-use Rattle.std.specs.Prelude.{◌≡◌, ◌≤◌, ℕ, List, [], take, Contains, Result, MatchResult}
+use Rattle.std.specs.Prelude.{◌≡◌, ◌⊎◌, ◌<◌, ◌≤◌, ◌-◌, ℕ, List, [], take, vec_capacity, vec_len, Contains, Result, MatchResult}
 use Rattle.ports.specs.Memory.{counted_up}
 use Rattle.ports.specs.Reasons.{count_of}
-use Rattle.chain_disk.specs.OnDisk.{OnDisk, IsLeft, moment}
+use Rattle.chain_disk.specs.OnDisk.{OnDisk, IsLeft, moment, ranged}
 use Rattle.chain_disk.specs.Memory.{told_by, fresh}
 use Rattle.chain_disk.specs.Fill.{IsFilled}
 use Rattle.chain_disk.specs.declared.image.Fill.{Fill}
@@ -27,6 +27,19 @@ calls_of disk = disk.calls
 -- the coming call is one of those that fail
 abbrev pub FailsNext : MemDisk → Type 0
 FailsNext disk = Contains (failing_of disk) (counted_up (calls_of disk))
+
+-- for how many records there is room without growth
+abbrev pub room_of : MemDisk → ℕ
+room_of disk = vec_capacity disk.events - vec_len disk.events
+
+-- a write that failed, as it is recorded: this range may hold any bytes after a crash, and a read gives what it gave
+abbrev pub torn : ℕ → ℕ → OnDisk → OnDisk
+torn at n t = ranged at n t.content t
+
+-- a failure that is listed is recorded so where there is room, and else is so or not at all
+pub record IsRecorded (old new : MemDisk) (recorded : OnDisk) : Type 0 where
+  pub with_room : 0 < room_of old → told_of new ≡ recorded
+  pub or_not : (told_of new ≡ told_of old) ⊎ (told_of new ≡ recorded)
 
 -- how often it has failed
 abbrev pub faults_of : MemDisk → ℕ

@@ -2,7 +2,7 @@
 ghost use Rattle.std.specs.Prelude.{◌≡◌, ◌<◌, ◌≤◌, ◌+◌, [], ◌∷◌, ◌++◌, true, MatchOption, vec_len, vec_capacity, IsTrue, IsErr};
 ghost use Rattle.std.specs.Prelude.{Contains, ◌↔◌, length, IfOk, OnOk, OnErr};
 ghost use Rattle.ports.specs.Causes.{HasCause};
-ghost use Rattle.chain_disk.specs.OnDisk.{pasted, IsRead, synced, written, IsSyncFailed, IsWriteFailed};
+ghost use Rattle.chain_disk.specs.OnDisk.{pasted, IsRead, later, synced, written, IsSyncFailed, IsWriteFailed};
 ghost use Rattle.chain_disk.specs.Memory.{told_by, content_of, fresh};
 ghost use Rattle.ports.specs.Memory.{counted_up};
 ghost use Rattle.chain_disk.specs.MemoryReads.{memory_reads};
@@ -88,10 +88,22 @@ fn bytes_of<'a>(first: &'a [u8], current: &'a Option<Vec<u8>>) -> &'a [u8]
     }
 }
 
-// Records an event, or finds no room.
+// Records an event, or finds no room for it and for that of a failure behind it.
 fn note(events: &mut Vec<Event>, event: Event) -> Result<(), AllocError>
     ensures ok { OnOk result (events.new.items ≡ events.old.items ++ event ∷ []) }
+    ensures room { OnOk result (vec_len events.new < vec_capacity events.new) }
     ensures err { OnErr result (events.new.items ≡ events.old.items) }
+{
+    events.reserve(2)?;
+    events.push(event)?;
+    Ok(())
+}
+
+// Records a failure, or finds no room for it.
+fn note_failure(events: &mut Vec<Event>, event: Event) -> Result<(), AllocError>
+    ensures ok { OnOk result (events.new.items ≡ events.old.items ++ event ∷ []) }
+    ensures err { OnErr result (events.new.items ≡ events.old.items) }
+    ensures full { OnErr result (vec_capacity events.old ≤ vec_len events.old) }
 {
     events.push(event)?;
     Ok(())
@@ -114,6 +126,7 @@ fn note_write(
     ensures content_err { OnErr result
         (content_of first.now current.new ≡ content_of first.now current.old) }
     ensures event_err { OnErr result (events.new.items ≡ events.old.items) }
+    ensures room { OnOk result (vec_len events.new < vec_capacity events.new) }
 {
     let copy = bytes.to_vec(alloc)?;
     if current.is_none() {
@@ -155,7 +168,7 @@ fn fill(content: &[u8], at: u64, buf: &mut [u8]) -> usize
 }
 
 impl Disk for MemDisk {
-    ghost use Rattle.chain_disk.specs.MemDisk.{told_of, faults_of, FailsNext, IsOneCall};
+    ghost use Rattle.chain_disk.specs.MemDisk.{told_of, faults_of, room_of, torn, FailsNext, IsOneCall, IsRecorded};
 
     ghost tells = { true };
 
@@ -172,6 +185,7 @@ impl Disk for MemDisk {
         ensures length { IfOk result (λ n. IsTrue true → n ≡ length (told_of self.old).content) }
         ensures cause { HasCause (faults_of self.old) (faults_of self.new) result }
         ensures exactly { IsErr result ↔ FailsNext self.old }
+        ensures room { room_of self.new ≡ room_of self.old }
         ensures call { IsOneCall self.old self.new result }
     {
         if next_fails(&mut self.calls, &self.failing) {
@@ -187,6 +201,7 @@ impl Disk for MemDisk {
             IsRead (told_of self.old).content at n buf.old buf.new) }
         ensures cause { HasCause (faults_of self.old) (faults_of self.new) result }
         ensures exactly { IsErr result ↔ FailsNext self.old }
+        ensures room { room_of self.new ≡ room_of self.old }
         ensures call { IsOneCall self.old self.new result }
     {
         if next_fails(&mut self.calls, &self.failing) {
@@ -203,6 +218,10 @@ impl Disk for MemDisk {
             IsWriteFailed at (length bytes.now) (told_of self.old) (told_of self.new)) }
         ensures cause { HasCause (faults_of self.old) (faults_of self.new) result }
         ensures listed { FailsNext self.old → IsErr result }
+        ensures recorded { FailsNext self.old →
+            IsRecorded self.old self.new (torn at (length bytes.now) (told_of self.old)) }
+        // The failure of the next call finds room.
+        ensures room { OnOk result (0 < room_of self.new) }
         // Want of memory changes nothing but the counts.
         ensures no_room { (FailsNext self.old → ⊥) →
             OnErr result (told_of self.new ≡ told_of self.old) }
@@ -210,7 +229,7 @@ impl Disk for MemDisk {
     {
         if next_fails(&mut self.calls, &self.failing) {
             let count = bytes.len() as u64;
-            let _ = note(&mut self.events, Event::Tore { at, count });
+            let _ = note_failure(&mut self.events, Event::Tore { at, count });
             return Err(self.faults.raise(LISTED));
         }
         match note_write(
@@ -231,13 +250,17 @@ impl Disk for MemDisk {
         ensures err { OnErr result (IsTrue true → IsSyncFailed (told_of self.old) (told_of self.new)) }
         ensures cause { HasCause (faults_of self.old) (faults_of self.new) result }
         ensures listed { FailsNext self.old → IsErr result }
+        ensures recorded { FailsNext self.old →
+            IsRecorded self.old self.new (later (told_of self.old)) }
+        // The failure of the next call finds room.
+        ensures room { OnOk result (0 < room_of self.new) }
         // Want of memory changes nothing but the counts.
         ensures no_room { (FailsNext self.old → ⊥) →
             OnErr result (told_of self.new ≡ told_of self.old) }
         ensures call { IsOneCall self.old self.new result }
     {
         if next_fails(&mut self.calls, &self.failing) {
-            let _ = note(&mut self.events, Event::Unsynced);
+            let _ = note_failure(&mut self.events, Event::Unsynced);
             return Err(self.faults.raise(LISTED));
         }
         match note(&mut self.events, Event::Synced) {

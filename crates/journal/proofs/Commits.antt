@@ -1,10 +1,11 @@
 -- The four calls of a commit, one after the other.
-use Rattle.std.proofs.Common.{◌≡◌, ◌<◌, ◌≤◌, ◌+◌, ℕ, List, [], ◌∷◌, length, get_or, refl, sym, ◌∙◌, ap, subst, arith}
-use Rattle.chain_disk.specs.OnDisk.{OnDisk, IsImage, IsSettled, written, synced, pasted, settled, wider}
+use Rattle.std.proofs.Common.{◌≡◌, ◌<◌, ◌≤◌, ◌+◌, ℕ, List, [], ◌∷◌, ◌++◌, length, take, drop, refl, sym, ◌∙◌, ap, subst, arith}
+use Rattle.std.proofs.Common.{length-append, length-drop}
+use Rattle.std.proofs.lemmas.List.{length-take}
+use Rattle.chain_disk.specs.OnDisk.{OnDisk, IsImage, IsSettled, moment, written, synced, pasted, settled, wider}
 use Rattle.chain_disk.specs.Runs.{Reached, started, on_write, on_sync}
 use Rattle.journal.specs.Commit.{IsCommitImage, IsCommitted}
-use Rattle.journal.proofs.Images.{start_image, behind_image, staged_image, gate_image, opened_image, opened_is, staged_is}
-use Rattle.journal.proofs.Images.{length-gated}
+use Rattle.journal.proofs.Images.{start_image, behind_image, staged_image, gate_image, opened_image, opened_is}
 
 module _ (t : OnDisk) (gate : ℕ) (bytes : List ℕ) (within : gate < length t.content) (quiet : IsSettled t) where
   abbrev pub Image : List ℕ → Type 0
@@ -47,17 +48,33 @@ module _ (t : OnDisk) (gate : ℕ) (bytes : List ℕ) (within : gate < length t.
         ap (λ (l : List ℕ). settled l) (sym r.content_is);
   }
 
--- the gate's place is there after the first write
-pub gate_there : (t u v : OnDisk) (gate : ℕ) (bytes : List ℕ) → gate < length t.content → u ≡ written (gate + 1) bytes t →
-    v ≡ synced u → gate ≤ length v.content
-gate_there t u v gate bytes within ok ok1 =
-    let content : v.content ≡ pasted (gate + 1) bytes t.content = ap (λ (w : OnDisk). w.content) ok1 ∙ ap (λ (w : OnDisk).
-    w.content)
-    ok in
+module _ (t u v w x : OnDisk) (at gate : ℕ) (bytes : List ℕ) (ok : u ≡ written at bytes t) (ok1 : v ≡ synced u)
+    (ok2 : w ≡ written gate (1 ∷ []) v) (ok3 : x ≡ synced w) where
+  -- each of the four calls takes a moment
+  pub four_moments : moment x ≡ moment t + 4
+  four_moments = omega (
+    arith,
+    ap (λ (d : OnDisk). moment d) ok,
+    ap (λ (d : OnDisk). moment d) ok1,
+    ap (λ (d : OnDisk). moment d) ok2,
+    ap (λ (d : OnDisk). moment d) ok3,
+  )
+
+  pub both_written : x.content ≡ pasted gate (1 ∷ []) (pasted at bytes t.content)
+  both_written = ap (λ (d : OnDisk). d.content) ok3 ∙ ap (λ (d : OnDisk). d.content) ok2 ∙
+      ap (λ (d : OnDisk). pasted gate (1 ∷ []) d.content) (ok1 ∙ ap (λ (d : OnDisk). synced d) ok)
+
+-- a write and a sync leave no less than there was
+pub not_shorter : (t u v : OnDisk) (at : ℕ) (bytes : List ℕ) → u ≡ written at bytes t → v ≡ synced u →
+    length t.content ≤ length v.content
+not_shorter t u v at bytes ok ok1 =
+    let content : v.content ≡ pasted at bytes t.content = ap (λ (w : OnDisk). w.content) ok1 ∙ ap (λ (w : OnDisk). w.content) ok
+    in
     omega (
       arith,
       ap length content,
-      ap length (staged_is t.content bytes gate within),
-      length-gated t.content bytes gate within
-          (get_or t.content gate 0),
+      length-append (take at t.content ++ bytes) (drop (at + length bytes) t.content),
+      length-append (take at t.content) bytes,
+      length-take at t.content,
+      length-drop (at + length bytes) t.content,
     )

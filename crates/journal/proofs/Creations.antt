@@ -3,11 +3,12 @@ use Rattle.std.proofs.Common.{◌≡◌, ◌<◌, ◌≤◌, ◌+◌, inl, inr, 
 use Rattle.std.proofs.Common.{arith, length-append}
 use Rattle.std.proofs.lemmas.List.{append-nil, drop_all}
 use Rattle.std.proofs.lemmas.Bool.{cases_eq}
-use Rattle.chain_disk.specs.OnDisk.{OnDisk, LeavesOnly, IsImage, IsSettled, settled, pasted, written, synced, wider}
+use Rattle.chain_disk.specs.OnDisk.{OnDisk, LeavesOnly, IsImage, moment, IsSettled, settled, pasted, written, synced, wider}
 use Rattle.chain_disk.specs.Runs.{Reached, started, on_write, on_sync, follows, settled_image, range_image}
 use Rattle.parties.specs.Nif.{IsNif}
 use Rattle.journal.specs.Commit.{gated, IsCommitImage, IsCommitted, IsShut}
 use Rattle.journal.specs.File.{header, IsFile, IsNotBegun, IsNotBegunOrEmpty, IsAt}
+use Rattle.journal.specs.Written.{empty_file, CreationTakes}
 
 short_not_begun : (c : List ℕ) → length c ≤ 1 → IsNotBegun c
 short_not_begun [] short = tt
@@ -77,12 +78,12 @@ module _ (issuer bytes : List ℕ) (nif : IsNif issuer) (same : bytes ≡ header
   gated_is t x shut = ap (λ (l : List ℕ). x ∷ l) (ap (λ (l : List ℕ). bytes ++ l) (drop_all (0 + 1 + length bytes) t.content
       (omega (arith, ap length shut.content, shut.short, long))) ∙ append-nil bytes ∙ same)
 
-  empty_file : IsFile issuer [] (1 ∷ (header issuer ++ 0 ∷ []))
-  empty_file = record { gate = 0; rest = []; nif = nif; sizes = tt; shut = λ is. omega (arith, is); parts = refl }
+  is_empty : IsFile issuer [] (1 ∷ (header issuer ++ 0 ∷ []))
+  is_empty = record { gate = 0; rest = []; nif = nif; sizes = tt; shut = λ is. omega (arith, is); parts = refl }
 
   any_first : (x : ℕ) → IsNotBegunOrEmpty issuer (x ∷ (header issuer ++ 0 ∷ []))
   any_first x = elim (cases_eq x 1) [
-    | inl is ↦ inr (subst (λ (y : ℕ). IsFile issuer [] (y ∷ (header issuer ++ 0 ∷ []))) (sym is) empty_file)
+    | inl is ↦ inr (subst (λ (y : ℕ). IsFile issuer [] (y ∷ (header issuer ++ 0 ∷ []))) (sym is) is_empty)
     | inr other ↦ inl (inr (other, omega (arith, ap length same, long)))
   ]
 
@@ -101,15 +102,32 @@ module _ (issuer bytes : List ℕ) (nif : IsNif issuer) (same : bytes ≡ header
 
   pub created : (t u : OnDisk) → IsShut t → IsCommitted t 0 bytes u → IsAt issuer [] 19 u
   created t u shut now = record {
-    file = subst (IsFile issuer []) (sym (now.content ∙ gated_is t 1 shut)) empty_file;
+    file = subst (IsFile issuer []) (sym (now.content ∙ gated_is t 1 shut)) is_empty;
     place = refl;
     nothing_pending = now.nothing_pending;
   }
+
+  pub empty_content : (t u : OnDisk) → IsShut t → IsCommitted t 0 bytes u → u.content ≡ empty_file issuer
+  empty_content t u shut now = now.content ∙ gated_is t 1 shut
 
   pub creating : (t u v : OnDisk) → LeavesOnly t u IsNotBegun → IsShut u → LeavesOnly u v (IsCommitImage u.content 0 bytes) →
       LeavesOnly t v (IsNotBegunOrEmpty issuer)
   creating t u v first shut second = follows t u v IsNotBegun _ (IsNotBegunOrEmpty issuer) first second (λ c not. inl not)
       (λ c left. image u c shut left)
 
-pub shut_within : (u : OnDisk) → IsShut u → 0 < length u.content
-shut_within u shut = omega (arith, ap length shut.content)
+-- what is there is closed first, or is closed already, and then committed behind
+pub creation_takes : (t u v : OnDisk) → (length t.content ≤ 1 → moment u ≡ moment t + 2) → (1 < length t.content → moment u ≡
+    moment t) → moment v ≡ moment u + 4 → CreationTakes t v
+creation_takes t u v writes leaves commits = record {
+  from_nothing = λ short. omega (arith, writes short, commits);
+  from_closed = λ long. omega (arith, leaves long, commits);
+}
+
+pub first_moments : (t u v w : OnDisk) (at : ℕ) (bytes : List ℕ) → u ≡ t → v ≡ written at bytes u → w ≡ synced v →
+    moment w ≡ moment t + 2
+first_moments t u v w at bytes is ok ok1 = omega (
+  arith,
+  ap (λ (d : OnDisk). moment d) is,
+  ap (λ (d : OnDisk). moment d) ok,
+  ap (λ (d : OnDisk). moment d) ok1,
+)

@@ -1,5 +1,6 @@
 pub mod Commit
 pub mod File
+pub mod Written
 pub mod Step
 pub mod Header
 pub mod Walk

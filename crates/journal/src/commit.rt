@@ -1,8 +1,8 @@
 // Bytes behind a gate, and then the gate.
-ghost use Rattle.std.specs.Prelude.{◌≡◌, ◌<◌, ◌^◌, length, OnOk, IsTrue};
+ghost use Rattle.std.specs.Prelude.{◌≡◌, ◌<◌, ◌+◌, ◌^◌, length, OnOk, IsTrue};
 ghost use Rattle.ports.specs.Causes.{HasCause};
-ghost use Rattle.chain_disk.specs.OnDisk.{LeavesOnly, IsSettled};
-ghost use Rattle.journal.specs.Commit.{IsCommitImage, IsCommitted};
+ghost use Rattle.chain_disk.specs.OnDisk.{LeavesOnly, IsSettled, moment};
+ghost use Rattle.journal.specs.Commit.{IsCommitImage, IsCommitted, gated};
 
 use chain_disk::Disk;
 use ports::Failed;
@@ -13,6 +13,9 @@ pub(crate) fn commit<D: Disk>(disk: &mut D, gate: u64, bytes: &[u8]) -> Result<(
     requires within { IsTrue D.tells → gate < length (D.told disk.old).content }
     ensures ok { OnOk result (IsTrue D.tells → IsSettled (D.told disk.old) →
         IsCommitted (D.told disk.old) gate bytes.now (D.told disk.new)) }
+    ensures content { OnOk result (IsTrue D.tells →
+        (D.told disk.new).content ≡ gated (D.told disk.old).content gate 1 bytes.now) }
+    ensures moments { OnOk result (IsTrue D.tells → moment (D.told disk.new) ≡ moment (D.told disk.old) + 4) }
     ensures any_moment { IsTrue D.tells → IsSettled (D.told disk.old) →
         LeavesOnly (D.told disk.old) (D.told disk.new)
         (IsCommitImage (D.told disk.old).content gate bytes.now) }

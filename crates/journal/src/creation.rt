@@ -1,11 +1,12 @@
 // The creation of a file.
-ghost use Rattle.std.specs.Prelude.{◌≡◌, ◌<◌, ◌^◌, ◌++◌, [], ◌∷◌, length, OnOk, IsTrue};
+ghost use Rattle.std.specs.Prelude.{◌≡◌, ◌<◌, ◌≤◌, ◌+◌, ◌^◌, ◌++◌, [], ◌∷◌, length, OnOk, IsTrue};
 ghost use Rattle.ports.specs.Causes.{HasCause};
-ghost use Rattle.chain_disk.specs.OnDisk.{LeavesOnly, IsSettled};
+ghost use Rattle.chain_disk.specs.OnDisk.{LeavesOnly, IsSettled, moment};
 ghost use Rattle.parties.specs.Nif.{IsNif};
 ghost use Rattle.journal.specs.Commit.{IsShut};
 ghost use Rattle.journal.specs.declared.TheConstants.{HEADER};
 ghost use Rattle.journal.specs.File.{header, IsNotBegun, IsNotBegunOrEmpty, IsAt};
+ghost use Rattle.journal.specs.Written.{empty_file, CreationTakes};
 
 use crate::HEADER;
 use crate::commit::commit;
@@ -28,6 +29,10 @@ fn header_bytes(issuer: &Nif) -> [u8; HEADER]
 fn shut_first<D: Disk>(disk: &mut D) -> Result<(), Failed>
     requires { IsTrue D.tells → IsNotBegun (D.told disk.old).content × IsSettled (D.told disk.old) }
     ensures ok { OnOk result (IsTrue D.tells → IsShut (D.told disk.new)) }
+    ensures writes { OnOk result (IsTrue D.tells → length (D.told disk.old).content ≤ 1 →
+        moment (D.told disk.new) ≡ moment (D.told disk.old) + 2) }
+    ensures leaves { OnOk result (IsTrue D.tells → 1 < length (D.told disk.old).content →
+        moment (D.told disk.new) ≡ moment (D.told disk.old)) }
     ensures any_moment { IsTrue D.tells → LeavesOnly (D.told disk.old) (D.told disk.new) IsNotBegun }
     ensures cause { HasCause (D.faults disk.old) (D.faults disk.new) result }
 {
@@ -42,6 +47,8 @@ fn shut_first<D: Disk>(disk: &mut D) -> Result<(), Failed>
 pub(crate) fn set_up<D: Disk>(disk: &mut D, issuer: &Nif) -> Result<(), Failed>
     requires { IsTrue D.tells → IsNotBegun (D.told disk.old).content × IsSettled (D.told disk.old) }
     ensures ok { OnOk result (IsTrue D.tells → IsAt issuer.now [] HEADER (D.told disk.new)) }
+    ensures content { OnOk result (IsTrue D.tells → (D.told disk.new).content ≡ empty_file issuer.now) }
+    ensures moments { OnOk result (IsTrue D.tells → CreationTakes (D.told disk.old) (D.told disk.new)) }
     ensures any_moment { IsTrue D.tells →
         LeavesOnly (D.told disk.old) (D.told disk.new) (IsNotBegunOrEmpty issuer.now) }
     ensures cause { HasCause (D.faults disk.old) (D.faults disk.new) result }

@@ -2,9 +2,10 @@
 ghost use Rattle.std.specs.Prelude.{◌≡◌, ◌<◌, ◌≤◌, ◌+◌, ◌^◌, ◌++◌, ◌∷◌, [], ◌↔◌, List, ℕ, length, IfOk, IfErr, OnOk, OnErr};
 ghost use Rattle.std.specs.Prelude.{IsErrOf, IsSome, IsTrue, None, Some};
 ghost use Rattle.ports.specs.Causes.{Rose};
-ghost use Rattle.chain_disk.specs.OnDisk.{LeavesOnly, LeavesNow, IsSettled};
+ghost use Rattle.chain_disk.specs.OnDisk.{LeavesOnly, LeavesNow, IsSettled, moment};
 ghost use Rattle.frames.specs.Frames.{IsBody, frame};
 ghost use Rattle.journal.specs.File.{IsAt, IsAtSome, IsFile, IsBeforeOrAfter, IsNotBegun, IsNotBegunOrEmpty};
+ghost use Rattle.journal.specs.Written.{with_frame, empty_file, CreationTakes};
 
 use crate::HEADER;
 use crate::commit::commit;
@@ -53,6 +54,10 @@ impl<D: Disk> Journal<D> {
             IsAt issuer.now [] (end_of journal) (D.told (disk_of journal))) }
         ensures every_crash { IfOk result (λ journal. IsTrue D.tells →
             LeavesNow (D.told (disk_of journal)) (IsFile issuer.now [])) }
+        ensures content { IfOk result (λ journal. IsTrue D.tells →
+            (D.told (disk_of journal)).content ≡ empty_file issuer.now) }
+        ensures moments { IfOk result (λ journal. IsTrue D.tells →
+            CreationTakes (D.told disk) (D.told (disk_of journal))) }
         ensures place { IfOk result (λ journal. end_of journal ≡ HEADER) }
         ensures going_on { IfOk result (λ journal. stopped_of journal ≡ None) }
 
@@ -127,6 +132,11 @@ impl<D: Disk> Journal<D> {
         ensures every_crash { OnOk result (IsTrue D.tells → (issuer : List ℕ) (bodies : List (List ℕ)) →
             IsAt issuer bodies (end_of self.old) (D.told (disk_of self.old)) →
             LeavesNow (D.told (disk_of self.new)) (IsFile issuer (bodies ++ body.now ∷ []))) }
+        ensures content { OnOk result (IsTrue D.tells → (D.told (disk_of self.new)).content
+            ≡ with_frame (D.told (disk_of self.old)).content (end_of self.old) body.now) }
+        // Two writes, with a sync after each.
+        ensures moments { OnOk result (IsTrue D.tells →
+            moment (D.told (disk_of self.new)) ≡ moment (D.told (disk_of self.old)) + 4) }
         ensures answer { IfOk result (λ at. at ≡ end_of self.new) }
         ensures place { OnOk result (end_of self.new ≡ end_of self.old + 5 + length body.now) }
         ensures going_on { OnOk result ((stopped_of self.old ≡ None) × (stopped_of self.new ≡ None)) }

@@ -1,4 +1,4 @@
-use Rattle.journal.proofs.Creations.{creating, created}
+use Rattle.journal.proofs.Creations.{creating, created, empty_content, creation_takes}
 use Rattle.journal.proofs.creation.set_up.Goals as goal
 
 pub returns-in_err-commit-clause-any_moment : goal.returns-in_err-commit-clause-any_moment
@@ -21,3 +21,15 @@ returns-clause-ok g c = λ tells.
     created c.args.issuer.now c.header_bytes-bytes.result c.header_bytes-bytes.ensures.nif c.header_bytes-bytes.ensures.bytes
     (g.D.Disk.told c.shut_first.new.disk) (g.D.Disk.told c.commit.new.disk) shut (c.in_ok-commit.ensures.ok tells
     shut.nothing_pending)
+
+pub returns-clause-content : goal.returns-clause-content
+returns-clause-content g c = λ tells.
+    let shut = c.in_ok-shut_first.ensures.ok tells in
+    empty_content c.args.issuer.now c.header_bytes-bytes.result c.header_bytes-bytes.ensures.nif
+    c.header_bytes-bytes.ensures.bytes (g.D.Disk.told c.shut_first.new.disk) (g.D.Disk.told c.commit.new.disk) shut
+    (c.in_ok-commit.ensures.ok tells shut.nothing_pending)
+
+pub returns-clause-moments : goal.returns-clause-moments
+returns-clause-moments g c = λ tells.
+    creation_takes (g.D.Disk.told c.args.disk.now) (g.D.Disk.told c.shut_first.new.disk) (g.D.Disk.told c.commit.new.disk)
+    (c.in_ok-shut_first.ensures.writes tells) (c.in_ok-shut_first.ensures.leaves tells) (c.in_ok-commit.ensures.moments tells)
