@@ -8,8 +8,8 @@ ghost use Rattle.journal.specs.declared.TheConstants.{HEADER};
 ghost use Rattle.journal.specs.File.{header, IsNotBegun, IsNotBegunOrEmpty, IsAt};
 ghost use Rattle.journal.specs.Written.{empty_file, CreationTakes};
 
-use crate::HEADER;
 use crate::commit::commit;
+use crate::{HEADER, VERSION};
 use chain_disk::Disk;
 use parties::Nif;
 use ports::Failed;
@@ -20,7 +20,7 @@ fn header_bytes(issuer: &Nif) -> [u8; HEADER]
     ensures nif { IsNif issuer.now }
 {
     let mut bytes = [0; HEADER];
-    bytes[..9].copy_from_slice(b"VFCHAIN1\x01");
+    bytes[..9].copy_from_slice(&[b'V', b'F', b'C', b'H', b'A', b'I', b'N', b'1', VERSION]);
     bytes[9..18].copy_from_slice(&issuer.bytes());
     bytes
 }

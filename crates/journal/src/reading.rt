@@ -6,7 +6,7 @@ ghost use Rattle.parties.specs.Nif.{IsNif};
 ghost use Rattle.journal.specs.Step.{IsStep, IsNext, KeepsBuffer};
 ghost use Rattle.journal.specs.Header.{IsHeader};
 
-use crate::HEADER;
+use crate::{HEADER, VERSION};
 use chain_disk::Disk;
 use frames::{Frame, FrameBuf, WINDOW, read_frame};
 use parties::Nif;
@@ -98,7 +98,7 @@ fn header_behind(file: &[u8]) -> Header
     if !is_mark(&file[1..9]) {
         return Header::Damaged { at: 1 };
     }
-    if file[9] != 1 {
+    if file[9] != VERSION {
         return Header::Damaged { at: 9 };
     }
     if file.len() < HEADER {
@@ -107,7 +107,10 @@ fn header_behind(file: &[u8]) -> Header
         };
     }
     match issuer_in(&file[10..HEADER]) {
-        Some(issuer) => Header::Begun { issuer, version: 1 },
+        Some(issuer) => Header::Begun {
+            issuer,
+            version: VERSION,
+        },
         None => Header::Damaged { at: 10 },
     }
 }

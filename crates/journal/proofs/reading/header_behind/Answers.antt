@@ -5,12 +5,12 @@ pub returns-then-not-is_mark : goal.returns-then-not-is_mark
 returns-then-not-is_mark c = no_mark c.requires.long c.requires.first (λ is. let m = c.is_mark.ensures in
     cc (m.1 is, c.if-not-is_mark.true))
 
-pub returns-then-file-ne1 : goal.returns-then-file-ne1
-returns-then-file-ne1 c = other_version (record {
+pub returns-then-file-ne-VERSION : goal.returns-then-file-ne-VERSION
+returns-then-file-ne-VERSION c = other_version (record {
   long = c.requires.long;
   first = c.requires.first;
   mark = c.is_mark.ensures.0 c.if-not-is_mark.false;
-}) c.if-file-ne1.true
+}) c.if-file-ne-VERSION.true
 
 pub returns-then-file-lt-HEADER : goal.returns-then-file-lt-HEADER
 returns-then-file-lt-HEADER c = cut_in_issuer (record {
@@ -19,7 +19,7 @@ returns-then-file-lt-HEADER c = cut_in_issuer (record {
     first = c.requires.first;
     mark = c.is_mark.ensures.0 c.if-not-is_mark.false;
   };
-  version = c.if-file-ne1.false;
+  version = c.if-file-ne-VERSION.false;
 }) c.if-file-lt-HEADER.true
 
 pub returns-in-None : goal.returns-in-None
@@ -29,6 +29,6 @@ returns-in-None c = no_nif (record {
     first = c.requires.first;
     mark = c.is_mark.ensures.0 c.if-not-is_mark.false;
   };
-  version = c.if-file-ne1.false;
+  version = c.if-file-ne-VERSION.false;
 }) c.if-file-lt-HEADER.false
     c.in-None.ensures.none
