@@ -21,6 +21,8 @@ const NO_ROOM: &str = "no memory";
 
 /// A disk in memory. It tells what it holds and what a crash at each moment since it was made may
 /// leave. Moment 0 is before its first write or sync, and each one that it records is one moment more.
+/// A listed failure of a write or sync is recorded too, for certain where the call before it was a write or sync
+/// that succeeded, else where memory lasts.
 #[derive(Drop)]
 pub struct MemDisk {
     alloc: Global,

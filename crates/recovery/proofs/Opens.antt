@@ -1,11 +1,13 @@
 -- A file that was opened.
-use Rattle.std.proofs.Common.{◌≡◌, ℕ, List, [], refl, inl, inr, Result, Ok, Err, IfOk}
+use Rattle.std.proofs.Common.{◌≡◌, ℕ, List, [], refl, sym, ◌∙◌, subst, inl, inr, Result, Ok, Err, IfOk}
 use Rattle.recovery.specs.Opening.{IsFound}
-use Rattle.chain_disk.specs.OnDisk.{OnDisk, IsSettled, LeavesNow, LeavesOnly}
+use Rattle.chain_disk.specs.OnDisk.{OnDisk, IsSettled, LeavesNow, LeavesOnly, synced}
 use Rattle.chain_disk.specs.Runs.{leaves_now, started_settled, weaker}
 use Rattle.journal.specs.File.{IsAtSome, IsFile, IsNotBegunOrEmpty, closing_gate}
 use Rattle.record_codec.specs.declared.entry.Entry.{Entry}
 use Rattle.shop_core.specs.Legal.{Legal}
+use Rattle.chain_store.specs.Loading.{IsLoaded}
+use Rattle.chain_store.specs.declared.loading.Loaded.{Loaded}
 use Rattle.shop_core.specs.File.Files.{StandsFor, bodies_of}
 
 -- a file that was begun stands for the empty history
@@ -41,6 +43,14 @@ begins issuer t u legal only = weaker t u (IsNotBegunOrEmpty issuer) (IsFound is
 pub holds_on : (issuer : List ℕ) (entries : List Entry) (t : OnDisk) → StandsFor issuer entries t.content → IsSettled t →
     LeavesOnly t t (IsFound issuer entries)
 holds_on issuer entries t stands quiet = started_settled t (IsFound issuer entries) quiet (inr stands)
+
+-- what was loaded behind a sync, which the loading left
+pub loaded_settled : (t u v : OnDisk) (loaded : Loaded) → u ≡ synced t → v ≡ u → IsLoaded u.content loaded →
+    IsLoaded v.content loaded × IsSettled v
+loaded_settled t u v loaded ok same is = (
+  subst (λ (w : OnDisk). IsLoaded w.content loaded) (sym same) is,
+  subst IsSettled (sym (same ∙ ok)) refl,
+)
 
 -- what follows from what holds of an answer holds of it
 pub if_ok : {A E : Type 0} (P Q : A → Type 0) (r : Result A E) → IfOk r P → ((x : A) → P x → Q x) → IfOk r Q

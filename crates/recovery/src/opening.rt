@@ -9,11 +9,11 @@ ghost use Rattle.chain_store.specs.Loading.{IsLoaded};
 ghost use Rattle.chain_store.specs.Store.{Ready, clock_of, journal_of, state_of, torn_of};
 ghost use Rattle.chain_store.specs.declared.causes.OpenCause.TheVariants as cause;
 ghost use Rattle.chain_store.specs.declared.loading.Loaded.TheVariants.{Begun};
-ghost use Rattle.recovery.specs.Opening.{IsBegunInPart, IsFound, IsLeftUnopened};
+ghost use Rattle.recovery.specs.Opening.{IsAtMostSynced, IsBegunInPart, IsCreation, IsFound, IsLeftUnopened, IsOnlySynced};
 
 use chain_disk::Disk;
 use chain_store::{Loaded, OpenCause, Store, load};
-use journal::{Journal, Lost};
+use journal::{Journal, Lost, a_file_not_begun_is_no_chain};
 use parties::Nif;
 use ports::Clock;
 use shop_core::State;
@@ -46,6 +46,13 @@ pub fn open_store<D: Disk, C: Clock>(
     // From its first sync on, a crash at any moment of the call leaves what was found.
     ensures any_moment { IfOk result (λ store. IsTrue D.tells →
         LeavesOnly (synced (D.told disk)) (D.told (disk_of (journal_of store))) (IsFound issuer.now (state_of store).entries)) }
+
+    // Nothing is written but a file's creation: of a file that is begun already the sync is all that is told.
+    ensures unwritten { IfOk result (λ store. IsTrue D.tells →
+        IsOnlySynced (D.told disk) (D.told (disk_of (journal_of store)))) }
+    ensures created { IfOk result (λ store. IsTrue D.tells → IsNotBegun (D.told disk).content →
+        IsCreation issuer.now (synced (D.told disk)) (D.told (disk_of (journal_of store)))) }
+    ensures unwritten_err { IfErr result (λ fault. IsTrue D.tells → IsAtMostSynced (D.told disk) (D.told fault.disk)) }
     ensures clock { IfOk result (λ store. clock_of store ≡ clock) }
     ensures later { IfOk result (λ store. D.faults disk ≤ D.faults (disk_of (journal_of store))) }
 
@@ -56,6 +63,7 @@ pub fn open_store<D: Disk, C: Clock>(
     ensures clock_err { IfErr result (λ fault. fault.clock ≡ clock) }
     ensures later_err { IfErr result (λ fault. D.faults disk ≤ D.faults fault.disk) }
 {
+    a_file_not_begun_is_no_chain();
     let mut disk = disk;
     let Ok(()) = disk.sync() else {
         return Err(OpenFault {
@@ -126,6 +134,8 @@ fn begin<D: Disk, C: Clock>(
         LeavesNow (D.told (disk_of (journal_of store))) (StandsFor issuer.now (state_of store).entries)) }
     ensures any_moment { IfOk result (λ store. IsTrue D.tells →
         LeavesOnly (D.told disk) (D.told (disk_of (journal_of store))) (IsFound issuer.now (state_of store).entries)) }
+    ensures created { IfOk result (λ store. IsTrue D.tells →
+        IsCreation issuer.now (D.told disk) (D.told (disk_of (journal_of store)))) }
     ensures in_part { IfErr result (λ fault. IsTrue D.tells → IsBegunInPart issuer.now (D.told disk) (D.told fault.disk)) }
     ensures lost { IfErr result (λ fault. (fault.cause ≡ cause.DiskFault) × Rose (D.faults disk) (D.faults fault.disk)
         × (fault.clock ≡ clock)) }

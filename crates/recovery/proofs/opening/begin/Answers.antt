@@ -5,7 +5,7 @@ use Rattle.record_codec.specs.declared.entry.Entry.{Entry}
 use Rattle.shop_core.specs.History.{History}
 use Rattle.shop_core.specs.Legal.{Legal}
 use Rattle.shop_core.specs.File.Files.{StandsFor}
-use Rattle.recovery.specs.Opening.{IsFound}
+use Rattle.recovery.specs.Opening.{IsCreation, IsFound}
 use Rattle.recovery.proofs.Opens.{begun, begins}
 use Rattle.chain_store.specs.Ready.{IsReady}
 use Rattle.journal.specs.Journal.{end_of, stopped_of}
@@ -35,6 +35,12 @@ returns-in-Ok-clause-any_moment g c tells =
     subst (λ (t : OnDisk). LeavesOnly old t (IsFound issuer c.of.result.state.entries)) (sym told)
     (subst (λ (es : List Entry). LeavesOnly old now (IsFound issuer es)) (sym none)
     (begins issuer old now legal (c.in-Ok.ensures.any_moment tells)))
+
+pub returns-in-Ok-clause-created : goal.returns-in-Ok-clause-created
+returns-in-Ok-clause-created g c tells =
+    subst (λ (t : OnDisk). IsCreation c.args.issuer.now (g.D.Disk.told c.args.disk) t)
+    (sym (ap (λ j. g.D.Disk.told (disk_of j)) c.of.ensures.parts.1))
+    (record { content = c.in-Ok.ensures.content tells; takes = c.in-Ok.ensures.moments tells })
 
 pub of-requires-clause-ready : goal.of-requires-clause-ready
 of-requires-clause-ready g c = ready_empty g.D.Disk.tells c.args.issuer.now c.empty-state.result _ _ _ c.empty-state.ensures
