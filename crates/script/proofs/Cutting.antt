@@ -9,7 +9,6 @@ use Rattle.std.proofs.lemmas.Bool.Decides.{nat_tests}
 use Rattle.std.proofs.lemmas.List.Sums.{fails_before_first, position_or_len_is}
 use Rattle.std.proofs.lemmas.List.Splits.{slice_split_first, slice_split_none}
 use Rattle.std.specs.Borrow.{Bor}
-use Rattle.std.specs.Char.{char_set_contains}
 use Rattle.std.specs.List.{list_any, slice_split, suffix_len, before_first, after_first}
 use Rattle.std.specs.Option.{option_map_or}
 use Rattle.std.specs.Str.{NoCharPasses}
@@ -82,9 +81,6 @@ at_first c bs r h small = first_cut (λ b. b == c) bs r (split_once_first c bs r
 
 -- at a blank
 
-same_blank : (c : ℕ) → char_set_contains (32 ∷ 9 ∷ []) c ≡ is_blank c
-same_blank c = grind (arith, nat_tests)
-
 blank_small : (c : ℕ) → is_blank c ≡ true → c < 128
 blank_small c h = grind (arith, nat_tests)
 
@@ -98,13 +94,13 @@ no_blank bs h k lt =
       | inr high ↦ high_is_none (get_or bs k 0) high
     ]
 
--- what a search for one of the characters SP and HT answers
-abbrev FindsBlank : List ℕ → Option (ℕ × ℕ) → Type 0
-FindsBlank bs r = (p : ℕ → Bool) → ((c : ℕ) → char_set_contains (32 ∷ 9 ∷ []) c ≡ p c) → FindsBy p bs r
+-- what a search answers by each test that its pattern keeps to
+abbrev FindsByEach : ((ℕ → Bool) → Type 0) → List ℕ → Option (ℕ × ℕ) → Type 0
+FindsByEach Keeps bs r = (p : ℕ → Bool) → Keeps p → FindsBy p bs r
 
-abbrev IsBlankCut : List ℕ → Option (Bor (List ℕ) × Bor (List ℕ)) → Type 0
-IsBlankCut bs r = MatchOption r (FindsBlank bs None) (λ (x : Bor (List ℕ) × Bor (List ℕ)). SplitsAroundMatch FindsBlank bs
-    x.0.now x.1.now)
+abbrev IsCutByEach : ((ℕ → Bool) → Type 0) → List ℕ → Option (Bor (List ℕ) × Bor (List ℕ)) → Type 0
+IsCutByEach Keeps bs r = MatchOption r (FindsByEach Keeps bs None) (λ (x : Bor (List ℕ) × Bor (List ℕ)).
+    SplitsAroundMatch (FindsByEach Keeps) bs x.0.now x.1.now)
 
 blank_first : (bs : List ℕ) (i : ℕ) → NoCharPasses is_blank (take i bs) → i < length bs → is_blank (get_or bs i 0) ≡ true
     → position_or_len is_blank bs ≡ i
@@ -113,15 +109,16 @@ blank_first bs i none lt here =
     (λ k below. subst (λ (b : ℕ). is_blank b ≡ false) (get_or-take i bs k 0 below)
     (no_blank (take i bs) none k (omega (arith, length-take i bs)))) (λ _. here)
 
-pub at_blank : (bs : List ℕ) (r : Option (Bor (List ℕ) × Bor (List ℕ))) → IsBlankCut bs r → Cuts (cut_where is_blank bs) r
-at_blank bs None h =
-    let none = h is_blank same_blank in
+pub at_blank : (Keeps : (ℕ → Bool) → Type 0) (bs : List ℕ) (r : Option (Bor (List ℕ) × Bor (List ℕ))) → IsCutByEach Keeps bs r →
+    Keeps is_blank → Cuts (cut_where is_blank bs) r
+at_blank Keeps bs None h blanks =
+    let none = h is_blank blanks in
     let nowhere = list_any_none is_blank bs (λ k d lt. subst (λ (b : ℕ). is_blank b ≡ false) (get_or_default bs k 0 d lt)
     (no_blank bs none k lt)) in
     rw nowhere refl
-at_blank bs (Some x) h =
+at_blank Keeps bs (Some x) h blanks =
     let i = h.0 in
-    let found = h.2 is_blank same_blank in
+    let found = h.2 is_blank blanks in
     let c = found.1.0 in
     let low : c < 128 = blank_small c found.1.1 in
     let one : h.1 ≡ i + 1 = omega (arith, found.1.2.ends, len_utf8_ascii c low) in
