@@ -1,6 +1,6 @@
 -- Numbers that are read, and those that are none.
 use Rattle.std.proofs.Common.{◌≡◌, ◌≢◌, ℕ, ◌≤◌, ◌<◌, List, refl, sym, subst, arith, inl, inr, min, Bool, true, false, ◌&&◌}
-use Rattle.std.proofs.Common.{nat_le, bytes_eq, if◌then◌else◌, Option, Some, None}
+use Rattle.std.proofs.Common.{nat_le, bytes_eq, Some, None}
 use Rattle.std.specs.Str.Parse.{digits_value}
 use Rattle.std.proofs.lemmas.Bool.{and_parts, cases_Bool, cases_order, leb-true}
 use Rattle.std.proofs.lemmas.Bool.Decides.{nat_tests}

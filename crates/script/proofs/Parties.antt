@@ -1,5 +1,5 @@
 -- Tax numbers, names and breakdowns, by the tests of the definitions.
-use Rattle.std.proofs.Common.{◌≡◌, ◌⊎◌, ℕ, ◌-◌, ◌<◌, List, [], ◌∷◌, length, get_or, refl, subst, arith, Some, is_some, Bool, true}
+use Rattle.std.proofs.Common.{◌≡◌, ◌⊎◌, ℕ, ◌-◌, ◌<◌, List, [], length, get_or, refl, arith, Some, None, is_some, Bool, true}
 use Rattle.std.proofs.Common.{false, not, ◌&&◌, ◌||◌, ◌==◌, nat_le, position, Ok, Err}
 use Rattle.std.specs.Int.{IsInRange, IsOutOfRange}
 use Rattle.std.proofs.lemmas.Bool.Decides.{nat_tests}
@@ -15,10 +15,8 @@ use Rattle.tax_lines.specs.Breakdown.{IsBreakdown, IsBreakdownOf, is_past}
 use Rattle.tax_lines.specs.declared.faults.LinesFault.{LinesFault}
 use Rattle.tax_lines.specs.declared.faults.LinesFault.TheVariants as lines_fault
 use Rattle.tax_lines.specs.declared.lines.TaxLine.{TaxLine}
-use Rattle.std.specs.List.{join_with_byte}
-use Rattle.std.specs.Option.{ok_or}
 use Rattle.shop_core.specs.declared.words.Word.TheVariants as word
-use Rattle.script.specs.Fields.{is_left, such}
+use Rattle.script.specs.Fields.{behind_third_blank}
 use Rattle.script.specs.Lines.{name_said}
 use Rattle.script.specs.Readings.{is_nif, is_name, is_breakdown}
 
@@ -89,21 +87,18 @@ unfolding is_breakdown
 past_line lines i e = and_last (nat_le 1 (length lines) && nat_le (length lines) 12) (not (is_some (position is_past lines)))
     (rw e refl)
 
-pub named_ok : (fields : List (List ℕ)) (text own : List ℕ) → text ≡ join_with_byte 32 fields → is_left fields ≡ true →
-    IsName text → own ≡ text
-    → name_said fields ≡ Ok own
-named_ok [] text own j left is e = absurd cc
-named_ok (field ∷ fields) text own j left is e =
-    let said : ok_or (such is_name text) word.Name ≡ Ok own = rw (name_yes text is, e) refl in
-    subst (λ (t : List ℕ). ok_or (such is_name t) word.Name ≡ Ok own) j said
+pub unnamed : (line : List ℕ) → None ≡ behind_third_blank line → name_said line ≡ Err word.Fields
+unfolding name_said
+unnamed line none = rw (← none) refl
 
-pub named_not : (fields : List (List ℕ)) (text : List ℕ) (fault : NameFault) → text ≡ join_with_byte 32 fields →
-    is_left fields ≡ true
-    → (fault ≡ name.NoMemory → ⊥) → IsNameReading text (Err fault) → name_said fields ≡ Err word.Name
-named_not [] text fault j left other h = absurd cc
-named_not (field ∷ fields) text fault j left other h =
-    let said : ok_or {T = List ℕ} (such is_name text) word.Name ≡ Err word.Name = rw (name_no text fault other h) refl in
-    subst (λ (t : List ℕ). ok_or {T = List ℕ} (such is_name t) word.Name ≡ Err word.Name) j said
+pub named_ok : (line text own : List ℕ) → Some text ≡ behind_third_blank line → IsName text → own ≡ text → name_said line ≡ Ok own
+unfolding name_said
+named_ok line text own there is e = rw (← there, name_yes text is, e) refl
+
+pub named_not : (line text : List ℕ) (fault : NameFault) → Some text ≡ behind_third_blank line
+    → (fault ≡ name.NoMemory → ⊥) → IsNameReading text (Err fault) → name_said line ≡ Err word.Name
+unfolding name_said
+named_not line text fault there other h = rw (← there, name_no text fault other h) refl
 
 pub lines_no : (lines : List TaxLine) (fault : LinesFault) → (fault ≡ lines_fault.NoMemory → ⊥) → IsBreakdownOf lines (Err fault)
     → is_breakdown lines ≡ false

@@ -1,6 +1,6 @@
 -- What the lines plan is in its ranges, and stands once.
-use Rattle.std.proofs.Common.{◌≡◌, ◌∙◌, ℕ, ◌+◌, ◌≤◌, List, [], ◌∷◌, ◌++◌, count_by, filter_map, refl, sym, ap, subst, arith, inl}
-use Rattle.std.proofs.Common.{inr, Option, Some, None, Bool, true, false, ◌&&◌, ◌==◌, bytes_eq, cond, find, option_map, unwrap_or}
+use Rattle.std.proofs.Common.{◌≡◌, ℕ, ◌+◌, ◌≤◌, List, [], ◌∷◌, ◌++◌, count_by, refl, sym, ap, subst, arith, inl}
+use Rattle.std.proofs.Common.{inr, Option, Some, None, Bool, true, false, ◌==◌, bytes_eq, cond, find, option_map, unwrap_or}
 use Rattle.std.proofs.Common.{Ok, append_assoc, IfSome}
 use Rattle.std.specs.List.{AllByRecursion}
 use Rattle.std.specs.Option.{option_or}
@@ -10,18 +10,17 @@ use Rattle.std.proofs.lemmas.List.Sums.{sum_by-append}
 use Rattle.std.proofs.lemmas.Slice.Eq.{bytes_eq-Decides}
 use Rattle.agency_rules.specs.Judging.{verdict_for}
 use Rattle.agency_rules.specs.Plans.{fate_at}
-use Rattle.agency_rules.specs.declared.plans.Plan.{Plan}
 use Rattle.agency_rules.specs.declared.plans.PlannedFate.{PlannedFate}
 use Rattle.agency_rules.specs.declared.plans.PlannedVerdict.{PlannedVerdict}
 use Rattle.pacing.specs.declared.pace.TheConstants.{FIRST_WAIT}
 use Rattle.script.specs.declared.limits.TheConstants.{MAX_WAIT}
-use Rattle.script.specs.Lines.{Above, above_of, line_said, verdict_in, wait_in, fate_in}
+use Rattle.script.specs.Lines.{Above, above_of, line_said}
 use Rattle.script.specs.Planned.{IsPlannedVerdict, IsPlannedCall, is_on, is_of, IsPlanned}
 use Rattle.script.specs.Script.{EachSays, plan_of}
 use Rattle.script.specs.declared.forms.Form.{Form}
 use Rattle.script.specs.declared.lines.Meaning.{Meaning}
 use Rattle.script.proofs.Gathering.{or_none}
-use Rattle.script.proofs.Reading.{Gives, line_gives, with_line, above_more}
+use Rattle.script.proofs.Reading.{line_gives, with_line, above_more}
 
 record Sound (verdicts : List PlannedVerdict) (wait : Option ℕ) (fates : List PlannedFate) : Type 0 where
   verdicts_fit : AllByRecursion IsPlannedVerdict verdicts

@@ -30,8 +30,7 @@ use Rattle.shop_core.specs.Answer.Requests.{Asked}
 use Rattle.shop_core.specs.declared.answer.requests.Request.{Request}
 use Rattle.shop_core.specs.declared.words.Word.{Word}
 use Rattle.shop_core.specs.declared.words.Word.TheVariants as word
-use Rattle.script.specs.Cuts.{parts_of}
-use Rattle.script.specs.Fields.{and_then, word_or, unless_any, first_field, field_at, past, is_left, such}
+use Rattle.script.specs.Fields.{fields_of, and_then, word_or, unless_any, first_field, field_at, past, is_left, such}
 use Rattle.script.specs.Numbers.{number_in}
 use Rattle.series.specs.Numbers.{is_num_serie}
 use Rattle.script.specs.Planned.{IsPlannedVerdict, IsPlannedFate, IsPlannedCall}
@@ -75,7 +74,7 @@ other_than a b h = grind (arith, nat_tests)
 
 pub read_on : (form : Form) (above : Above) (text : List ℕ) → (length text == 0) ≡ false → (get_or text 0 0 ≡ 35 → ⊥) →
     IsUtf8 text
-    → line_said form above text ≡ fields_said form above (parts_of 32 text)
+    → line_said form above text ≡ fields_said form above text (fields_of text)
 read_on form above text some hash utf8 = rw (some, other_than (get_or text 0 0) 35 hash, is_utf8-from_IsUtf8 text utf8) refl
 
 not_utf8 : (text : List ℕ) (b : Bool) → is_utf8 text ≡ b → (IsUtf8 text → ⊥) → is_utf8 text ≡ false
@@ -286,10 +285,10 @@ planned_gives form above P g verb fields =
     (link_shape P above (field_at 0 fields (number_in 1 MAX_CALL) word.Number) (fate_said (past 1 fields))
     (first_range 1 MAX_CALL fields word.Number) (fate_fits (past 1 fields)) g.link) tt)))
 
-form_gives : (form : Form) (above : Above) (P : Meaning → Type 0) → Gives form above P → (verb : List ℕ)
+form_gives : (form : Form) (above : Above) (P : Meaning → Type 0) → Gives form above P → (text verb : List ℕ)
     (fields : List (List ℕ)) →
-    IfOk (form_said form above verb fields) P
-form_gives form above P g verb fields =
+    IfOk (form_said form above text verb fields) P
+form_gives form above P g text verb fields =
     let cancelled = command_said form above command.Cancel fields in
     let fixed = command_said form above command.Fix fields in
     let sold = command_said form above command.Sale fields in
@@ -297,33 +296,34 @@ form_gives form above P g verb fields =
     let last = if bytes_eq verb (codes "cancel") then cancelled else planned in
     let third = if bytes_eq verb (codes "fix") then fixed else last in
     let second = if bytes_eq verb (codes "sale") then sold else third in
-    let first = if bytes_eq verb (codes "customer") then customer_said above fields else second in
+    let first = if bytes_eq verb (codes "customer") then customer_said above text fields else second in
     choice P (bytes_eq verb (codes "clock")) (clock_said above fields) first
     (clock_shape P above (field_at 0 fields (number_in 0 MAX_START) word.Number) (field_at 1 fields (number_in 0 MAX_STEP)
     word.Number)
     (first_of (when (is_left (past 2 fields)) word.Fields ∷ [])) g.clock)
-    (choice P (bytes_eq verb (codes "customer")) (customer_said above fields) second
+    (choice P (bytes_eq verb (codes "customer")) (customer_said above text fields) second
     (customer_shape P above (first_of (when (nat_le MAX_CUSTOMERS above.customers) word.TooMany ∷ []))
     (field_at 0 fields (such is_key) word.Customer)
-    (field_at 1 fields (such is_nif) word.Nif) (name_said (past 2 fields)) g.customer)
+    (field_at 1 fields (such is_nif) word.Nif) (name_said text) g.customer)
     (choice P (bytes_eq verb (codes "sale")) sold third (command_gives form above P g command.Sale fields)
     (choice P (bytes_eq verb (codes "fix")) fixed last (command_gives form above P g command.Fix fields)
     (choice P (bytes_eq verb (codes "cancel")) cancelled planned (command_gives form above P g command.Cancel fields)
     (planned_gives form above P g verb fields)))))
 
-fields_give : (form : Form) (above : Above) (P : Meaning → Type 0) → Gives form above P → (fields : List (List ℕ)) →
-    IfOk (fields_said form above fields) P
-fields_give form above P g [] = tt
-fields_give form above P g (verb ∷ fields) = form_gives form above P g verb fields
+fields_give : (form : Form) (above : Above) (P : Meaning → Type 0) → Gives form above P → (text : List ℕ)
+    (fields : List (List ℕ)) →
+    IfOk (fields_said form above text fields) P
+fields_give form above P g text [] = tt
+fields_give form above P g text (verb ∷ fields) = form_gives form above P g text verb fields
 
 pub line_gives : (form : Form) (above : Above) (P : Meaning → Type 0) → Gives form above P → (text : List ℕ) (meaning : Meaning) →
     line_said form above text ≡ Ok meaning → P meaning
 line_gives form above P g text meaning e =
-    let fields = fields_said form above (parts_of 32 text) in
+    let fields = fields_said form above text (fields_of text) in
     let utf8 = first_of (when (not (is_utf8 text)) word.Utf8 ∷ []) in
     subst (λ (r : Result Meaning Word). IfOk r P) e
     (choice P (is_skipped text) (Ok line.Skip) (word_or utf8 fields) g.skip
-    (worded_gives P utf8 fields (fields_give form above P g (parts_of 32 text))))
+    (worded_gives P utf8 fields (fields_give form above P g text (fields_of text))))
 
 pub said_is_new : (form : Form) (above : Above) (text : List ℕ) (meaning : Meaning) → line_said form above text ≡ Ok meaning →
     IsNew above meaning

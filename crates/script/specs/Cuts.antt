@@ -22,9 +22,13 @@ lines_of bytes = map strip_carriage_return (parts_of 10 bytes)
 abbrev pub has : ℕ → List ℕ → Bool
 has byte text = list_any (λ b. b == byte) text
 
+-- what stands before the first byte that passes a test and after it, where one passes
+abbrev pub cut_where : (ℕ → Bool) → List ℕ → Option (List ℕ × List ℕ)
+cut_where test text = when (list_any test text) (before_first test text, after_first test text)
+
 -- what stands before the first place of the byte and after it, where it stands in the text
 abbrev pub cut_at_first : ℕ → List ℕ → Option (List ℕ × List ℕ)
-cut_at_first byte text = when (has byte text) (before_first (λ b. b == byte) text, after_first (λ b. b == byte) text)
+cut_at_first byte text = cut_where (λ b. b == byte) text
 
 -- the same at its last place
 abbrev pub cut_at_last : ℕ → List ℕ → Option (List ℕ × List ℕ)

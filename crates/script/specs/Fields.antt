@@ -1,10 +1,32 @@
 -- The fields of a line from the left, each with its own word.
-use Rattle.std.specs.Prelude.{ℕ, zero, suc, List, [], ◌∷◌, drop, Bool, true, false, Option, Some, None, Result, Ok, Err}
+use Rattle.std.specs.Prelude.{ℕ, zero, suc, List, [], ◌∷◌, drop, Bool, true, false, ◌||◌, ◌==◌, Option, Some, None}
+use Rattle.std.specs.Prelude.{option_and_then, Result, Ok, Err}
 use Rattle.std.specs.Borrow.{Bor}
-use Rattle.std.specs.Option.{ok_or}
+use Rattle.std.specs.List.{slice_split, list_any, after_first}
+use Rattle.std.specs.Option.{ok_or, option_map_or}
 use Rattle.record_fields.specs.Picks.{first_of, when}
 use Rattle.shop_core.specs.declared.words.Word.{Word}
 use Rattle.shop_core.specs.declared.words.Word.TheVariants.{Fields}
+
+-- a blank is a space or a tab
+abbrev pub is_blank : ℕ → Bool
+is_blank byte = (byte == 32) || (byte == 9)
+
+-- the fields of a line are its parts between its blanks
+abbrev pub fields_of : List ℕ → List (List ℕ)
+fields_of line = slice_split is_blank line
+
+-- the fields of what is left of a line, where something is left
+abbrev pub fields_left : Option (Bor (List ℕ)) → List (List ℕ)
+fields_left left = option_map_or (λ (text : Bor (List ℕ)). fields_of text.now) left []
+
+-- what stands behind the first blank of a text, as it is written there, where it has a blank
+abbrev pub behind_blank : List ℕ → Option (List ℕ)
+behind_blank text = when (list_any is_blank text) (after_first is_blank text)
+
+-- what stands behind the third blank of a line, as it is written there, where it has three
+abbrev pub behind_third_blank : List ℕ → Option (List ℕ)
+behind_third_blank line = option_and_then behind_blank (option_and_then behind_blank (behind_blank line))
 
 -- the first, and then what its value leads to
 abbrev pub and_then : {A B : Type 0} → Result A Word → (A → Result B Word) → Result B Word

@@ -1,7 +1,6 @@
 -- What a line of a script says, after the lines before it. The grammar is this project's own.
 use Rattle.std.specs.Prelude.{ℕ, List, [], ◌∷◌, length, map, codes, bytes_eq, count_by, Bool, true, false, not, ◌||◌, ◌==◌}
 use Rattle.std.specs.Prelude.{nat_le, slice_index, if◌then◌else◌, is_some, filter_map, Option, Some, None, Result, Ok, Err}
-use Rattle.std.specs.List.{join_with_byte}
 use Rattle.std.specs.Option.{ok_or}
 use Rattle.std.specs.Str.{is_utf8}
 use Rattle.agency_rules.specs.Judging.{verdict_for}
@@ -22,8 +21,7 @@ use Rattle.shop_core.specs.declared.answer.requests.Request.{Request}
 use Rattle.shop_core.specs.declared.answer.requests.Request.TheVariants.{Sale, Fix, Cancel}
 use Rattle.shop_core.specs.declared.words.Word.{Word}
 use Rattle.shop_core.specs.declared.words.Word.TheVariants as word
-use Rattle.script.specs.Cuts.{parts_of}
-use Rattle.script.specs.Fields.{and_then, unless_any, such, past, field_at, ends_at}
+use Rattle.script.specs.Fields.{fields_of, behind_third_blank, and_then, unless_any, such, past, field_at, ends_at}
 use Rattle.script.specs.Options.{draft_said}
 use Rattle.script.specs.Numbers.{number_in}
 use Rattle.script.specs.Readings.{kind_of, fate_of, is_key, is_nif, is_name}
@@ -104,18 +102,18 @@ clock_said above fields =
     and_then (field_at 1 fields (number_in 0 MAX_STEP) word.Number) (λ (step : ℕ).
     ends_at 2 fields (unless_any (when (is_some above.clock) word.Twice ∷ []) (Ok (line.Clock start step)))))
 
--- the name of a party is the rest of its line
-abbrev pub name_said : List (List ℕ) → Result (List ℕ) Word
-name_said [] = Err word.Fields
-name_said (field ∷ fields) = ok_or (such is_name (join_with_byte 32 (field ∷ fields))) word.Name
+-- the name of a party is all that stands behind the third blank of its line
+unfoldable pub name_said : List ℕ → Result (List ℕ) Word
+name_said text =
+    and_then (ok_or (behind_third_blank text) word.Fields) (λ (name : List ℕ). ok_or (such is_name name) word.Name)
 
--- `customer KEY NIF NAME`
-abbrev pub customer_said : Above → List (List ℕ) → Result Meaning Word
-customer_said above fields =
+-- `customer KEY NIF NAME`, by the text of its line and the fields behind its first
+abbrev pub customer_said : Above → List ℕ → List (List ℕ) → Result Meaning Word
+customer_said above text fields =
     unless_any (when (nat_le MAX_CUSTOMERS above.customers) word.TooMany ∷ []) (
     and_then (field_at 0 fields (such is_key) word.Customer) (λ (key : List ℕ).
     and_then (field_at 1 fields (such is_nif) word.Nif) (λ (nif : List ℕ).
-    and_then (name_said (past 2 fields)) (λ (name : List ℕ).
+    and_then (name_said text) (λ (name : List ℕ).
     unless_any (when (is_some (above.party key)) word.Twice ∷ []) (Ok (line.Customer key (record { nif = nif; name = name })))))))
 
 -- `SERIES KIND OPTION.. LINE..`
@@ -201,29 +199,30 @@ planned_said above verb fields =
     else if bytes_eq verb (codes "link") then link_said above fields
     else Err word.Verb
 
--- the form that a first field begins
-abbrev pub form_said : Form → Above → List ℕ → List (List ℕ) → Result Meaning Word
-form_said form above verb fields =
+-- the form that a line's first field begins
+abbrev pub form_said : Form → Above → List ℕ → List ℕ → List (List ℕ) → Result Meaning Word
+form_said form above text verb fields =
     if bytes_eq verb (codes "clock") then clock_said above fields
-    else if bytes_eq verb (codes "customer") then customer_said above fields
+    else if bytes_eq verb (codes "customer") then customer_said above text fields
     else if bytes_eq verb (codes "sale") then command_said form above command.Sale fields
     else if bytes_eq verb (codes "fix") then command_said form above command.Fix fields
     else if bytes_eq verb (codes "cancel") then command_said form above command.Cancel fields
     else planned_said above verb fields
 
-abbrev pub fields_said : Form → Above → List (List ℕ) → Result Meaning Word
-fields_said form above [] = Err word.Verb
-fields_said form above (verb ∷ fields) = form_said form above verb fields
+-- what a line of this text and these fields says
+abbrev pub fields_said : Form → Above → List ℕ → List (List ℕ) → Result Meaning Word
+fields_said form above text [] = Err word.Verb
+fields_said form above text (verb ∷ fields) = form_said form above text verb fields
 
 -- an empty line and one that begins with # say nothing
 abbrev pub is_skipped : List ℕ → Bool
 is_skipped text = (length text == 0) || (slice_index text 0 == 35)
 
--- what a line says below these; its fields are cut at each blank
+-- what a line says below these
 abbrev pub line_said : Form → Above → List ℕ → Result Meaning Word
 line_said form above text =
     if is_skipped text then Ok line.Skip
-    else unless_any (when (not (is_utf8 text)) word.Utf8 ∷ []) (fields_said form above (parts_of 32 text))
+    else unless_any (when (not (is_utf8 text)) word.Utf8 ∷ []) (fields_said form above text (fields_of text))
 
 -- what a line says after the lines before it
 abbrev pub said : Form → List Meaning → List ℕ → Result Meaning Word

@@ -9,12 +9,12 @@ use std::marker::Model;
 
 /// The parts of bytes between the places of one byte. Contracts see the list of those that are still to come.
 #[derive(Drop)]
-pub struct Parts<'a> {
+pub struct Cuts<'a> {
     rest: Option<&'a [u8]>,
     cut: u8,
 }
 
-impl<'a> Model for Parts<'a> {
+impl<'a> Model for Cuts<'a> {
     ghost use Rattle.std.specs.Prelude.{ℕ, List};
     ghost use Rattle.script.specs.Cuts.{parts_left};
 
@@ -23,12 +23,12 @@ impl<'a> Model for Parts<'a> {
     ghost view = { λ p. parts_left p.cut p.rest };
 }
 
-impl<'a> Parts<'a> {
+impl<'a> Cuts<'a> {
     /// The parts between the bytes that are `cut`.
-    pub fn of(bytes: &'a [u8], cut: u8) -> Parts<'a>
+    pub fn of(bytes: &'a [u8], cut: u8) -> Cuts<'a>
         ensures { result ≡ parts_of cut bytes.now }
     {
-        Parts {
+        Cuts {
             rest: Some(bytes),
             cut,
         }

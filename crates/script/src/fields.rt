@@ -1,9 +1,9 @@
-// The fields of a line, one after another.
-ghost use Rattle.std.specs.Prelude.{◌≡◌, ◌==◌, [], ◌∷◌, drop, true, MatchOption, MatchResult};
-ghost use Rattle.std.specs.List.{join_with_byte};
+// The fields of a line, one after another. A blank is a space or a tab.
+ghost use Rattle.std.specs.Prelude.{◌≡◌, [], ◌∷◌, MatchOption, MatchResult, option_copied};
 ghost use Rattle.shop_core.specs.declared.words.Word.TheVariants as word;
-ghost use Rattle.script.specs.Cuts.{parts_of, parts_left, cut_at_first, cut_at_last};
-ghost use Rattle.script.specs.Fields.{is_left, unless_any};
+ghost use Rattle.script.specs.Cuts.{cut_where, cut_at_first, cut_at_last};
+ghost use Rattle.script.specs.Fields as spec;
+ghost use Rattle.script.specs.Fields.{is_blank, fields_of, fields_left, is_left, unless_any};
 ghost use Rattle.record_fields.specs.Picks.{when};
 
 use shop_core::Word;
@@ -17,16 +17,16 @@ pub struct Fields<'a> {
 
 impl<'a> Model for Fields<'a> {
     ghost use Rattle.std.specs.Prelude.{ℕ, List};
-    ghost use Rattle.script.specs.Cuts.{parts_left};
+    ghost use Rattle.script.specs.Fields.{fields_left};
 
     ghost Value = { List (List ℕ) };
 
-    ghost view = { λ f. parts_left 32 f.rest };
+    ghost view = { λ f. fields_left f.rest };
 }
 
 impl<'a> Fields<'a> {
     pub fn of(line: &'a str) -> Fields<'a>
-        ensures { result ≡ parts_of 32 line.now }
+        ensures { result ≡ fields_of line.now }
     {
         Fields { rest: Some(line) }
     }
@@ -43,14 +43,6 @@ impl<'a> Fields<'a> {
                 Some(field)
             }
         }
-    }
-
-    /// What is left of the line, blanks included, where something is.
-    pub fn rest(&mut self) -> Option<&'a str>
-        ensures { MatchOption result (self.old ≡ [])
-            (λ text. (text.now ≡ join_with_byte 32 self.old) × (is_left self.old ≡ true)) }
-    {
-        self.rest
     }
 
     /// The next field, which is `Fields` where it is missing.
@@ -74,21 +66,36 @@ impl<'a> Fields<'a> {
     }
 }
 
+// What stands before the first blank and after it.
 fn at_blank(text: &str) -> Option<(&str, &str)>
-    ensures { MatchOption result (cut_at_first 32 text.now ≡ None)
-        (λ cut. cut_at_first 32 text.now ≡ Some (cut.0.now, cut.1.now)) }
+    ensures { MatchOption result (cut_where is_blank text.now ≡ None)
+        (λ cut. cut_where is_blank text.now ≡ Some (cut.0.now, cut.1.now)) }
 {
-    text.split_once(' ')
+    text.split_once([' ', '\t'])
 }
 
 // The field before the first blank, and what is left behind it, where there is a blank.
 fn first_field(text: &str) -> (&str, Option<&str>)
-    ensures { parts_of 32 text.now ≡ result.0.now ∷ parts_left 32 result.1 }
+    ensures { fields_of text.now ≡ result.0.now ∷ fields_left result.1 }
 {
     match at_blank(text) {
         Some((field, rest)) => (field, Some(rest)),
         None => (text, None),
     }
+}
+
+fn behind_blank(text: &str) -> Option<&str>
+    ensures { option_copied result ≡ spec.behind_blank text.now }
+{
+    let (_, rest) = at_blank(text)?;
+    Some(rest)
+}
+
+/// What stands behind the third blank of a line, as it is written there, where it has three.
+pub fn behind_third_blank(line: &str) -> Option<&str>
+    ensures { option_copied result ≡ spec.behind_third_blank line.now }
+{
+    behind_blank(behind_blank(behind_blank(line)?)?)
 }
 
 /// What stands before the first place of `=` and after it.

@@ -67,12 +67,12 @@ impl VerdictLines {
 
 /// The fates of the lines so far. Contracts see their list.
 #[derive(Drop)]
-pub struct LinkLines {
+pub struct FateLines {
     list: Vec<PlannedFate>,
     calls: HashSet<u32>,
 }
 
-impl Model for LinkLines {
+impl Model for FateLines {
     ghost use Rattle.std.specs.Prelude.{List};
     ghost use Rattle.agency_rules.specs.declared.plans.PlannedFate.{PlannedFate};
     ghost use Rattle.script.specs.Tables.{AreCallsOf};
@@ -84,12 +84,12 @@ impl Model for LinkLines {
     ghost invariant = { λ f. AreCallsOf f.list.items f.calls };
 }
 
-impl LinkLines {
+impl FateLines {
     /// None.
-    pub fn nothing(alloc: Global) -> LinkLines
+    pub fn nothing(alloc: Global) -> FateLines
         ensures { result ≡ [] }
     {
-        LinkLines {
+        FateLines {
             list: Vec::new(alloc),
             calls: HashSet::new(alloc),
         }

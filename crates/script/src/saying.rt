@@ -1,11 +1,11 @@
 // What a line of a script says, below those that were read.
 ghost use Rattle.std.specs.Prelude.{◌≡◌, ◌+◌, Ok, Err};
-ghost use Rattle.script.specs.Cuts.{parts_of};
+ghost use Rattle.script.specs.Fields.{fields_of};
 ghost use Rattle.script.specs.SoFar.{IsSaid, known};
 ghost use Rattle.script.specs.Lines as spec;
 
 use crate::faults::{Fault, worded};
-use crate::fields::Fields;
+use crate::fields::{Fields, behind_third_blank};
 use crate::forms::Form;
 use crate::keys::Key;
 use crate::limits::{MAX_COMMANDS, MAX_CUSTOMERS, MAX_START, MAX_STEP};
@@ -32,11 +32,11 @@ fn clock(read: &SoFar, fields: &mut Fields) -> Result<Meaning, Word>
     Ok(Meaning::Clock { start, step })
 }
 
-// The name that the rest of a line is.
-fn name(alloc: Global, fields: &mut Fields) -> Result<Name, Fault>
-    ensures { IsSaid (spec.name_said fields.old) result }
+// The name of a party, behind the third blank of its line.
+fn name(alloc: Global, line: &str) -> Result<Name, Fault>
+    ensures { IsSaid (spec.name_said line.now) result }
 {
-    let Some(text) = fields.rest() else {
+    let Some(text) = behind_third_blank(line) else {
         return Err(Fault::Bad(Word::Fields));
     };
     match Name::read(alloc, text) {
@@ -49,15 +49,15 @@ fn name(alloc: Global, fields: &mut Fields) -> Result<Name, Fault>
 }
 
 // `customer KEY NIF NAME`
-fn customer(alloc: Global, read: &SoFar, fields: &mut Fields) -> Result<Meaning, Fault>
-    ensures { IsSaid (spec.customer_said (known read.now) fields.old) result }
+fn customer(alloc: Global, read: &SoFar, line: &str, fields: &mut Fields) -> Result<Meaning, Fault>
+    ensures { IsSaid (spec.customer_said (known read.now) line.now fields.old) result }
 {
     if read.customers.len() >= MAX_CUSTOMERS {
         return Err(Fault::Bad(Word::TooMany));
     }
     let key = key(fields)?;
     let nif = nif(fields)?;
-    let name = name(alloc, fields)?;
+    let name = name(alloc, line)?;
     if read.customers.get(key).is_some() {
         return Err(Fault::Bad(Word::Twice));
     }
@@ -92,21 +92,22 @@ fn command(
     }
 }
 
-// What the fields past the first say.
+// What a line says by its first field and those behind it.
 fn form_line(
     alloc: Global,
     form: Form,
     read: &SoFar,
+    line: &str,
     verb: &str,
     fields: &mut Fields,
 ) -> Result<Meaning, Fault>
-    ensures { IsSaid (spec.form_said form (known read.now) verb.now fields.old) result }
+    ensures { IsSaid (spec.form_said form (known read.now) line.now verb.now fields.old) result }
 {
     if is_word(verb, "clock") {
         return worded(clock(read, fields));
     }
     if is_word(verb, "customer") {
-        return customer(alloc, read, fields);
+        return customer(alloc, read, line, fields);
     }
     if is_word(verb, "sale") {
         return command(alloc, form, read, Command::Sale, fields);
@@ -120,12 +121,12 @@ fn form_line(
     worded(planned_line(read, verb, fields))
 }
 
-fn fields_line(alloc: Global, form: Form, read: &SoFar, text: &str) -> Result<Meaning, Fault>
-    ensures { IsSaid (spec.fields_said form (known read.now) (parts_of 32 text.now)) result }
+fn fields_line(alloc: Global, form: Form, read: &SoFar, line: &str) -> Result<Meaning, Fault>
+    ensures { IsSaid (spec.fields_said form (known read.now) line.now (fields_of line.now)) result }
 {
-    let mut fields = Fields::of(text);
+    let mut fields = Fields::of(line);
     match fields.next() {
-        Some(verb) => form_line(alloc, form, read, verb, &mut fields),
+        Some(verb) => form_line(alloc, form, read, line, verb, &mut fields),
         None => Err(Fault::Bad(Word::Verb)),
     }
 }

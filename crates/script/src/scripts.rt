@@ -8,11 +8,11 @@ ghost use Rattle.script.specs.declared.limits.TheConstants.{MAX_COMMANDS};
 ghost use Rattle.script.specs.declared.lines.Meaning.{Meaning as AnyMeaning};
 
 use crate::customers::Customers;
-use crate::cuts::{Parts, without_return};
+use crate::cuts::{Cuts, without_return};
 use crate::faults::Fault;
 use crate::forms::Form;
 use crate::lines::Meaning;
-use crate::planned::{LinkLines, VerdictLines};
+use crate::planned::{FateLines, VerdictLines};
 use crate::saying::line;
 use agency_rules::Plan;
 use pacing::FIRST_WAIT;
@@ -60,7 +60,7 @@ pub struct SoFar {
     pub asks: Vec<Ask>,
     pub verdicts: VerdictLines,
     pub wait: Option<u32>,
-    pub fates: LinkLines,
+    pub fates: FateLines,
 }
 
 impl SoFar {
@@ -73,7 +73,7 @@ impl SoFar {
             asks: Vec::new(alloc),
             verdicts: VerdictLines::nothing(alloc),
             wait: None,
-            fates: LinkLines::nothing(alloc),
+            fates: FateLines::nothing(alloc),
         }
     }
 
@@ -129,7 +129,7 @@ impl SoFar {
 
 /// The script of these bytes, or its first bad line: its number from 1, and the first thing that is wrong in it. It walks
 /// the bytes once, and keeps the customers and the asks alone. Line numbers are u32, so there are fewer bytes than that. The
-/// grammar is this project's own.
+/// grammar is this project's own: each single space or tab parts two fields of a line.
 pub fn read_script(alloc: Global, bytes: &[u8], form: Form) -> Result<Script, ScriptFault>
     requires { length bytes.now < 4_294_967_295 }
     ensures script { IsScript form bytes.now result }
@@ -137,7 +137,7 @@ pub fn read_script(alloc: Global, bytes: &[u8], form: Form) -> Result<Script, Sc
     ensures plan { IfOk result (λ script. IsPlanned script.plan) }
     ensures commands { form ≡ NoCommands → IfOk result (λ script. script.asks ≡ []) }
 {
-    let mut lines = Parts::of(bytes, b'\n');
+    let mut lines = Cuts::of(bytes, b'\n');
     let mut read = SoFar::nothing(alloc);
     let mut number = 0u32;
     while let Some(text) = lines.next() {

@@ -27,6 +27,8 @@ fn bad_lines_have_their_words(rt: HostRuntime) {
         (b" sale 1 1 A F2 21:100", 1, Word::Verb),
         (b"\n\r\n#\nSale 1 1 A F2 21:100", 4, Word::Verb),
         (b"\rclock 1 1", 1, Word::Verb),
+        (b"\tsale 1 1 A F2 21:100", 1, Word::Verb),
+        (b"clock 1 1\n\t", 2, Word::Verb),
         (b"clock", 1, Word::Fields),
         (b"clock 1", 1, Word::Fields),
         (b"clock 1 1 ", 1, Word::Fields),
@@ -38,8 +40,13 @@ fn bad_lines_have_their_words(rt: HostRuntime) {
         (b"cancel 1 1", 1, Word::Fields),
         (b"cancel 1 1 A-1 ", 1, Word::Fields),
         (b"cancel 1 1 A-1 A-2", 1, Word::Fields),
+        (b"clock 1 1\t", 1, Word::Fields),
+        (b"cancel\t1\t1\tA-1\t", 1, Word::Fields),
+        (b"customer\tk\t89890001K", 1, Word::Fields),
         (b"clock x", 1, Word::Number),
         (b"clock  1 1", 1, Word::Number),
+        (b"clock\t\t1 1", 1, Word::Number),
+        (b"sale 1\t 1 A F2 21:100", 1, Word::Number),
         (b"clock 1000000000001 1", 1, Word::Number),
         (b"clock 1 1000001", 1, Word::Number),
         (b"clock 01 1", 1, Word::Number),
@@ -68,14 +75,28 @@ fn bad_lines_have_their_words(rt: HostRuntime) {
         (b"sale 1 1 A ", 1, Word::Kind),
         (b"fix 1 1 A-1 f2 21:100", 1, Word::Kind),
         (b"fix 1 1 A 1 F2 21:100", 1, Word::Kind),
+        (b"fix 1 1 A\t1 F2 21:100", 1, Word::Kind),
         (b"customer k 89890001L Bar", 1, Word::Nif),
         (b"customer k  Bar", 1, Word::Nif),
+        (b"customer k\t 89890001K Bar", 1, Word::Nif),
         (b"customer k 89890001K ", 1, Word::Name),
         (b"customer k 89890001K Bar ", 1, Word::Name),
         (b"customer k 89890001K  Bar", 1, Word::Name),
         (b"customer k 89890001K B\tr", 1, Word::Name),
+        (b"customer k 89890001K\t", 1, Word::Name),
+        (b"customer k 89890001K Bar\t", 1, Word::Name),
+        (b"customer k 89890001K\t Bar", 1, Word::Name),
+        (b"customer k 89890001K \tBar", 1, Word::Name),
+        (
+            b"clock\t1\t1\ncustomer\tk\t89890001K\tBar\tSol",
+            2,
+            Word::Name,
+        ),
         (b"sale 1 1 A F2 ", 1, Word::Class),
         (b"sale 1 1 A F2 21:100 ", 1, Word::Class),
+        (b"sale 1 1 A F2\t", 1, Word::Class),
+        (b"sale\t1\t1\tA\tF2\t21:100\t", 1, Word::Class),
+        (b"sale 1 1 A F2 21:100\t 21:100", 1, Word::Class),
         (b"sale 1 1 A F2 21:100  21:100", 1, Word::Class),
         (b"sale 1 1 A F2 5:x", 1, Word::Class),
         (b"sale 1 1 A F2 21", 1, Word::Class),
@@ -173,6 +194,7 @@ fn bad_lines_of_a_plan_have_their_words(rt: HostRuntime) {
         (b"vet A-1 1 5\nwarn A-1 1 5 6", 2, Word::Fields),
         (b"wait", 1, Word::Fields),
         (b"wait 60 ", 1, Word::Fields),
+        (b"wait\t60\t", 1, Word::Fields),
         (b"wait 60 60", 1, Word::Fields),
         (b"wait ", 1, Word::Number),
         (b"wait 86401", 1, Word::Number),
@@ -185,6 +207,7 @@ fn bad_lines_of_a_plan_have_their_words(rt: HostRuntime) {
         (b"link 1000001 lost", 1, Word::Number),
         (b"link lost", 1, Word::Number),
         (b"link 1 ", 1, Word::Fate),
+        (b"link\t1\t", 1, Word::Fate),
         (b"link 1 Lost", 1, Word::Fate),
         (b"link 1 delay 5 6", 1, Word::Fate),
         (b"link 1 taken 5", 1, Word::Fields),
@@ -306,6 +329,36 @@ ref=A-1@01-01-2025 ref=A-1@01-01-2025 ref=A-1@01-01-2025 ref=A-1@01-01-2025 ref=
             Request::Cancel { num } => (0, 0, num.as_slice() != b"A-1".as_slice()),
         };
         assert!(rt; said == (refs, lines, to), "{serial}");
+    }
+    Ok(())
+}
+
+// The same script with spaces, with tabs and with both. The blanks in a name stay as they are written.
+#[test]
+fn a_tab_parts_fields_as_a_space_does(rt: HostRuntime) -> Result<(), Fail> {
+    for bytes in [
+        b"clock 5 6\ncustomer k 89890001K Bar  Sol, S.L.\nsale 3 4 A F1 to=k 21:100 10:50\nwait 7".as_slice(),
+        b"clock\t5\t6\ncustomer\tk\t89890001K\tBar  Sol, S.L.\nsale\t3\t4\tA\tF1\tto=k\t21:100\t10:50\nwait\t7",
+        b"clock 5\t6\ncustomer\tk 89890001K\tBar  Sol, S.L.\nsale 3\t4 A\tF1 to=k\t21:100 10:50\nwait\t7",
+    ] {
+        let script = match read_script(rt.alloc(), bytes, Form::Full) {
+            Ok(script) => script,
+            Err(_) => return Err(Fail::from("no script")),
+        };
+        assert!(rt; script.clock == Some((5, 6)) && script.plan.wait == 7);
+        let asks = script.asks.as_slice();
+        assert!(rt; asks.len() == 1);
+        let ask = &asks[0];
+        assert!(rt; ask.till == 3 && ask.serial == 4);
+        let Request::Sale { series, draft } = &ask.request else {
+            return Err(Fail::from("no sale"));
+        };
+        assert!(rt; series.as_slice() == b"A".as_slice());
+        assert!(rt; draft.lines.lines().len() == 2);
+        let Some(party) = &draft.customer else {
+            return Err(Fail::from("no customer"));
+        };
+        assert!(rt; party.name.as_slice() == b"Bar  Sol, S.L.".as_slice());
     }
     Ok(())
 }

@@ -1,5 +1,5 @@
 use Rattle.std.proofs.Common.{sym, ◌∙◌}
-use Rattle.script.proofs.Digits.{number_yes, number_no, number_none}
+use Rattle.script.proofs.Digits.{number_yes, number_no}
 use Rattle.script.proofs.numbers.number_in.Goals as goal
 
 pub returns-then-is_within-clause-value : goal.returns-then-is_within-clause-value

@@ -2,7 +2,7 @@ use Rattle.std.proofs.Common.{sym, subst, List}
 use Rattle.agency_rules.specs.declared.plans.PlannedFate.{PlannedFate}
 use Rattle.script.specs.Tables.{AreCallsOf}
 use Rattle.script.proofs.Tabling.{one_more_call}
-use Rattle.script.proofs.planned.LinkLines.add.Goals as goal
+use Rattle.script.proofs.planned.FateLines.add.Goals as goal
 
 pub invariant_of-self-2 : goal.invariant_of-self-2
 invariant_of-self-2 c =
