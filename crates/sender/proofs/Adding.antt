@@ -20,7 +20,7 @@ use Rattle.sender.specs.declared.answers.SendFault.{SendFault}
 use Rattle.sender.specs.declared.answers.SendFault.TheVariants.{Store}
 use Rattle.sender.specs.declared.answers.DrainFault.{DrainFault}
 use Rattle.sender.specs.Sending.{Sending}
-use Rattle.sender.specs.Turning.{Kind, Desk, Turned}
+use Rattle.sender.specs.Turning.{Kind, Desk, Turned, turn_call}
 use Rattle.sender.specs.Agreeing.{InOneSession, KeepsAgreement, Gains, HasAt, AreNotes, AreNotesOrTorn, Adds, AgreesIfTorn}
 use Rattle.sender.specs.Draining.{Scene, Turns, none, more, GoesOn, Drained}
 use Rattle.sender.proofs.Lists.{all_both, all_change}
@@ -143,14 +143,14 @@ added_notes look after result never (notes i lines a) = adds_one AreNotes look a
 added_notes look after result never (stops i lines a e) = absurd (never e)
 
 pub turn_adds : (kind : Kind) (desk desk_then : Desk) (before after : Sight) (old new : Sending) (now : ℕ)
-    (result : Result Turn SendFault) → Turned kind desk desk_then before after old new now result → Adds AreNotesOrTorn before
+    (result : Result Turn SendFault) → Turned (turn_call kind desk desk_then before after old new now result) → Adds AreNotesOrTorn before
     after
 turn_adds kind desk desk_then before after old new now result t =
     adds_then AreNotesOrTorn before t.look after (adds_quiet AreNotesOrTorn before t.look t.grows.issuer t.grows.items t.own)
     (added_adds t.look after result (ends_added old now t.shown t.look after t.deals.deed result new t.deals.ends))
 
 pub turn_notes : (kind : Kind) (desk desk_then : Desk) (before after : Sight) (old new : Sending) (now : ℕ)
-    (result : Result Turn SendFault) → Turned kind desk desk_then before after old new now result →
+    (result : Result Turn SendFault) → Turned (turn_call kind desk desk_then before after old new now result) →
     (result ≡ Err (Store store.DiskFault) → ⊥) → Adds AreNotes before after
 turn_notes kind desk desk_then before after old new now result t never =
     adds_then AreNotes before t.look after (adds_quiet AreNotes before t.look t.grows.issuer t.grows.items t.own)
@@ -189,7 +189,7 @@ added_torn look after result items faults torn is (notes i lines a) =
 added_torn look after result items faults torn is (stops i lines a e) = inr e
 
 pub turn_torn : (kind : Kind) (desk desk_then : Desk) (before after : Sight) (old new : Sending) (now : ℕ)
-    (result : Result Turn SendFault) → Turned kind desk desk_then before after old new now result →
+    (result : Result Turn SendFault) → Turned (turn_call kind desk desk_then before after old new now result) →
     KeepsAgreement before after desk.ledger desk_then.ledger new.said result → (items : List Item) (faults : ℕ) (torn : Entry) →
     after.items ≡ items ++ recorded.Stop faults torn ∷ [] → (after.own ≡ before.own → ⊥) →
     Agree (history_of after ++ torn ∷ []) desk_then.ledger.processed desk_then.ledger.sent
@@ -202,7 +202,7 @@ turn_torn kind desk desk_then before after old new now result t k items faults t
     ]
 
 pub turn_if_torn : (kind : Kind) (desk desk_then : Desk) (before after : Sight) (old new : Sending) (now : ℕ)
-    (result : Result Turn SendFault) → Turned kind desk desk_then before after old new now result →
+    (result : Result Turn SendFault) → Turned (turn_call kind desk desk_then before after old new now result) →
     KeepsAgreement before after desk.ledger desk_then.ledger new.said result → AgreesIfTorn before after desk_then.ledger
 turn_if_torn kind desk desk_then before after old new now result t k items faults torn is own =
     turn_torn kind desk desk_then before after old new now result t k items faults torn is

@@ -32,7 +32,7 @@ use Rattle.sender.specs.declared.answers.Turn.TheVariants.{Noted, Cleared, Doubt
 use Rattle.sender.specs.declared.answers.SendFault.{SendFault}
 use Rattle.sender.specs.declared.answers.SendFault.TheVariants.{Contradiction, Store, NoMemory}
 use Rattle.sender.specs.Sending.{Sending}
-use Rattle.sender.specs.Turning.{Deed, Nothing, Asked, Handed, Kind, Desk, Dealt, SeenEnds, ReplyEnds, Ends, Turned}
+use Rattle.sender.specs.Turning.{Deed, Nothing, Asked, Handed, Kind, Desk, Dealt, SeenEnds, ReplyEnds, Ends, Turned, turn_call}
 use Rattle.sender.specs.Dark.{AreLight, NoneInTheDark, IsRunBy, AreRunsBy}
 use Rattle.sender.specs.Agreeing.{IsCareful}
 use Rattle.sender.proofs.Lists.{all_take, all_drop_later}
@@ -377,7 +377,7 @@ deed_careful linked past kind desk desk_then before look after shown old new now
     ]
 
 pub turn_careful : AreLinked → (past : List Message) (kind : Kind) (desk desk_then : Desk) (before after : Sight)
-    (old new : Sending) (now : ℕ) (result : Result Turn SendFault) → Turned kind desk desk_then before after old new now result →
+    (old new : Sending) (now : ℕ) (result : Result Turn SendFault) → Turned (turn_call kind desk desk_then before after old new now result) →
     IsTrue kind.tells → IsCareful past before desk.ledger.messages old → IsCareful past after desk_then.ledger.messages new
 turn_careful linked past kind desk desk_then before after old new now result t tells care =
     deed_careful linked past kind desk desk_then before t.look after t.shown old new now result t.deals.deed tells t.grows t.shows

@@ -9,7 +9,7 @@ use Rattle.sender.specs.declared.answers.Turn.{Turn}
 use Rattle.sender.specs.declared.answers.SendFault.{SendFault}
 use Rattle.sender.specs.declared.answers.SendFault.TheVariants.{LinkFault}
 use Rattle.sender.specs.Sending.{Sending}
-use Rattle.sender.specs.Turning.{Deed, Nothing, Asked, Handed, Kind, Desk, Dealt, Ends, Turned}
+use Rattle.sender.specs.Turning.{Deed, Nothing, Asked, Handed, Kind, Desk, Dealt, Ends, Turned, turn_call}
 
 later : (kind : Kind) (desk desk_then : Desk) (shown : Waiting) (deed : Deed) → Dealt kind desk desk_then shown deed →
     desk.faults ≤ desk_then.faults
@@ -18,7 +18,7 @@ later kind desk desk_then shown (Asked answer) dealt = dealt.0.later
 later kind desk desk_then shown (Handed answer) dealt = dealt.0.later
 
 pub turn_later : (kind : Kind) (desk desk_then : Desk) (before after : Sight) (old new : Sending) (now : ℕ)
-    (result : Result Turn SendFault) → Turned kind desk desk_then before after old new now result → desk.faults ≤ desk_then.faults
+    (result : Result Turn SendFault) → Turned (turn_call kind desk desk_then before after old new now result) → desk.faults ≤ desk_then.faults
 turn_later kind desk desk_then before after old new now result t = later kind desk desk_then t.shown t.deals.deed t.deals.dealt
 
 link : (kind : Kind) (desk desk_then : Desk) (look after : Sight) (shown : Waiting) (old new : Sending) (now : ℕ) (deed : Deed) →
@@ -36,7 +36,7 @@ link kind desk desk_then look after shown old new now (Handed (Err agency.Failed
 link kind desk desk_then look after shown old new now (Handed (Err agency.NoMemory)) dealt ends = (let e = ends.3.0 in absurd cc)
 
 pub turn_link : (kind : Kind) (desk desk_then : Desk) (before after : Sight) (old new : Sending) (now : ℕ)
-    (result : Result Turn SendFault) → Turned kind desk desk_then before after old new now result → IsErrOf result LinkFault →
+    (result : Result Turn SendFault) → Turned (turn_call kind desk desk_then before after old new now result) → IsErrOf result LinkFault →
     Rose desk.faults desk_then.faults
 turn_link kind desk desk_then before after old new now result t is =
     link kind desk desk_then t.look after t.shown old new now t.deals.deed t.deals.dealt

@@ -27,7 +27,7 @@ use Rattle.sender.specs.declared.answers.SendFault.TheVariants.{LinkFault, Contr
 use Rattle.sender.specs.Evidence.{Shows, Learns}
 use Rattle.sender.specs.Sending.{Sending}
 use Rattle.sender.specs.Turning.{Asked, Handed, Kind, Desk, NotesEnd, SeenEnds, ReplyEnds, AskedEnds, HandedEnds, NoteEnds}
-use Rattle.sender.specs.Turning.{IsLook, Deals, Replies, IsStale, unanswered, first_place, count_waiting}
+use Rattle.sender.specs.Turning.{IsLook, Deals, Replies, IsStale, unanswered, first_place, count_waiting, turn_call}
 
 pub asked_deal : (kind : Kind) (desk desk_then : Desk) (look after : Sight) (shown : Waiting) (old new : Sending) (now : ℕ)
     (result : Result Turn SendFault) (huellas : List (List ℕ)) (got answer : Result (List Seen) AgencyFault) →
@@ -35,7 +35,7 @@ pub asked_deal : (kind : Kind) (desk desk_then : Desk) (look after : Sight) (sho
     got →
     (IsTrue kind.tells → Consults desk.ledger desk_then.ledger huellas got) →
     (IsTrue kind.keeps_rules → ConsultKeeps desk.ledger desk_then.ledger huellas got) →
-    AskedEnds old shown look after answer result new → Deals kind desk desk_then look after shown old new now result
+    AskedEnds old shown look after answer result new → Deals (turn_call kind desk desk_then look after old new now result) shown
 asked_deal kind desk desk_then look after shown old new now result huellas got answer is_look doubt hs is cause lists rules ends =
     record {
       deed = Asked answer;
@@ -164,7 +164,7 @@ pub handed_deal : (kind : Kind) (desk desk_then : Desk) (look after : Sight) (sh
     HasCause desk.faults desk_then.faults got → StaleShows desk.faults desk_then.faults batch got →
     (IsTrue kind.tells → Submits desk.ledger desk_then.ledger batch got) →
     (IsTrue kind.keeps_rules → SubmitKeeps desk.ledger desk_then.ledger batch got) →
-    HandedEnds old now shown look after answer result new → Deals kind desk desk_then look after shown old new now result
+    HandedEnds old now shown look after answer result new → Deals (turn_call kind desk desk_then look after old new now result) shown
 handed_deal kind desk desk_then look after shown old new now result batch got answer is_look doubt due bs is cause stale lists
     rules ends = record {
       deed = Handed answer;

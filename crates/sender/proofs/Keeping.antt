@@ -33,7 +33,7 @@ use Rattle.sender.specs.Answers.{of_agency}
 use Rattle.sender.specs.Evidence.{Shows}
 use Rattle.sender.specs.Sending.{Sending}
 use Rattle.sender.specs.Turning.{Deed, Nothing, Asked, Handed, Kind, Desk, Dealt, RestEnds, NotesEnd, SeenEnds, ReplyEnds, Ends}
-use Rattle.sender.specs.Turning.{Turned, first_place}
+use Rattle.sender.specs.Turning.{Turned, turn_call, first_place}
 use Rattle.sender.specs.Agreeing.{InOneSession, AreSeen, MayBeTorn, Gains, KeepsAgreement}
 use Rattle.sender.specs.Known.{Known}
 use Rattle.sender.proofs.Histories.{entries_both, grown, stays}
@@ -455,7 +455,7 @@ deed_keeps known kind desk desk_then before look after g shown old new now resul
 
 -- the whole turn
 pub turn_keeps : Known → (kind : Kind) (desk desk_then : Desk) (before after : Sight) (old new : Sending) (now : ℕ)
-    (result : Result Turn SendFault) → Turned kind desk desk_then before after old new now result →
+    (result : Result Turn SendFault) → Turned (turn_call kind desk desk_then before after old new now result) →
     (IsTrue kind.keeps_rules → IsTrue kind.tells) →
     InOneSession kind.keeps_rules before after desk.ledger old.said
     (KeepsAgreement before after desk.ledger desk_then.ledger new.said result)

@@ -19,7 +19,7 @@ use Rattle.sender.specs.declared.answers.Turn.{Turn}
 use Rattle.sender.specs.declared.answers.SendFault.{SendFault}
 use Rattle.sender.specs.declared.answers.DrainFault.{DrainFault}
 use Rattle.sender.specs.Sending.{Sending}
-use Rattle.sender.specs.Turning.{Deed, Nothing, Asked, Handed, Kind, Desk, Dealt, Ends, Turned}
+use Rattle.sender.specs.Turning.{Deed, Nothing, Asked, Handed, Kind, Desk, Dealt, Ends, Turned, turn_call}
 use Rattle.sender.specs.Agreeing.{KeepsReply}
 use Rattle.sender.specs.Draining.{Scene, Turns, none, more, Drained}
 
@@ -86,7 +86,7 @@ deed_keeps_reply law past kind desk desk_then look after shown old new now resul
 
 pub turn_keeps_reply : KeptByOneMore → (past : List Message) (kind : Kind) (desk desk_then : Desk) (before after : Sight)
     (old new : Sending) (now : ℕ) (result : Result Turn SendFault) →
-    Turned kind desk desk_then before after old new now result → IsTrue kind.tells → KeepsReply past desk.ledger.messages old.said
+    Turned (turn_call kind desk desk_then before after old new now result) → IsTrue kind.tells → KeepsReply past desk.ledger.messages old.said
     → KeepsReply past desk_then.ledger.messages new.said
 turn_keeps_reply law past kind desk desk_then before after old new now result t tells k =
     deed_keeps_reply law past kind desk desk_then t.look after t.shown old new now result t.deals.deed tells t.deals.dealt

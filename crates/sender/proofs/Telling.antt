@@ -17,7 +17,7 @@ use Rattle.sender.specs.declared.answers.Turn.TheVariants.{Idle, WaitUntil, Note
 use Rattle.sender.specs.declared.answers.SendFault.{SendFault}
 use Rattle.sender.specs.declared.answers.SendFault.TheVariants.{Contradiction, Store, NoMemory}
 use Rattle.sender.specs.Sending.{Sending}
-use Rattle.sender.specs.Turning.{Deed, Nothing, Asked, Handed, Kind, Desk, Dealt, RestEnds, SeenEnds, ReplyEnds, Ends, Turned}
+use Rattle.sender.specs.Turning.{Deed, Nothing, Asked, Handed, Kind, Desk, Dealt, RestEnds, SeenEnds, ReplyEnds, Ends, Turned, turn_call}
 use Rattle.sender.specs.Turning.{first_place}
 use Rattle.sender.specs.Draining.{told_in}
 use Rattle.sender.specs.Lines.{ReplyLineOf, SeenLineOf, IsQuiet, TellsOf}
@@ -164,7 +164,7 @@ deed_tells kind desk desk_then look after shown old new now result (Handed (Err 
     ]
 
 pub turn_tells : (kind : Kind) (desk desk_then : Desk) (before after : Sight) (old new : Sending) (now : ℕ)
-    (result : Result Turn SendFault) → Turned kind desk desk_then before after old new now result → IsTrue kind.tells →
+    (result : Result Turn SendFault) → Turned (turn_call kind desk desk_then before after old new now result) → IsTrue kind.tells →
     TellsOf desk.ledger.messages desk_then.ledger.messages result
 turn_tells kind desk desk_then before after old new now result t tells = deed_tells kind desk desk_then t.look after t.shown old
     new now result t.deals.deed tells t.deals.dealt t.deals.ends

@@ -15,7 +15,7 @@ use Rattle.sender.specs.declared.answers.DrainFault.TheVariants as drain
 use Rattle.sender.specs.declared.draining.Counted.{Counted}
 use Rattle.sender.specs.declared.draining.TheConstants.{MAX_LINK_FAULTS}
 use Rattle.sender.specs.Sending.{Sending}
-use Rattle.sender.specs.Turning.{Kind, Desk, Turned}
+use Rattle.sender.specs.Turning.{Kind, Desk, TurnCall, Turned, turn_call}
 
 -- what is told of a turn: nothing where no record waited
 abbrev pub told_in : Result Turn SendFault → Option Told
@@ -91,12 +91,17 @@ pub record Scene : Type 0 where
 abbrev pub scene_of : Desk → Sight → Sending → ℕ → Scene
 scene_of desk sight sending moment = record { desk = desk; sight = sight; sending = sending; moment = moment }
 
+-- the call of a turn between them
+abbrev pub turn_between : Kind → Scene → Scene → ℕ → Result Turn SendFault → TurnCall
+turn_between kind before after now answer =
+    turn_call kind before.desk after.desk before.sight after.sight before.sending after.sending now answer
+
 -- one turn at the sleeper's second
 pub record IsTurn (kind : Kind) (exact : Bool) (before after : Scene) (answer : Result Turn SendFault) : Type 0 where
   pub now : ℕ
   pub later : before.moment ≤ now
   pub told : IsTrue exact → now ≡ before.moment
-  pub turned : Turned kind before.desk after.desk before.sight after.sight before.sending after.sending now answer
+  pub turned : Turned (turn_between kind before after now answer)
   pub moment : after.moment ≡ moment_after before.moment answer
 
 -- turns that go on, one after another, with so many link faults among them

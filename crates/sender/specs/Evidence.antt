@@ -43,6 +43,9 @@ pub record IsHoleAt (first : ℕ) (answers : List Seen) (unseen seen : ℕ) : Ty
   pub unseen_at : unseen ≡ first + i
   pub seen_at : seen ≡ first + j
 
+abbrev pub hole : ℕ → ℕ → SendFault
+hole unseen seen = Contradiction (Hole unseen seen)
+
 -- What the answers show of these records, the first of which stands at this place: the lines in front, or a contradiction.
 abbrev pub Shows : Option Replied → ℕ → List (List ℕ) → List Seen → Result (List Line) Evidence → Type 0
 Shows said first huellas answers (Ok lines) = IsFront answers lines × (forgotten said first huellas answers ≡ None)

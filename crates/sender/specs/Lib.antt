@@ -6,4 +6,5 @@ pub mod Dark
 pub mod Agreeing
 pub mod Draining
 pub mod Lines
+pub mod TurnCalls
 pub mod Known

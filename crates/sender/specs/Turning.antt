@@ -5,6 +5,7 @@ use Rattle.record_fields.specs.declared.lines.Line.{Line}
 use Rattle.record_fields.specs.declared.lines.TheConstants.{BATCH}
 use Rattle.pacing.specs.Pace.{is_due, due_at}
 use Rattle.batches.specs.Batches.{huellas_of}
+use Rattle.agency_port.specs.declared.agency.Agency as agency
 use Rattle.agency_port.specs.Reply.{Replied}
 use Rattle.agency_port.specs.Ledger.{Ledger, HasCause, Names, StaleShows, Submits, Consults}
 use Rattle.agency_port.specs.Rules.{SubmitKeeps, ConsultKeeps}
@@ -170,19 +171,55 @@ NoteEnds look after lines result old new = Grows look after
     × (new ≡ record { doubt = false; pace = old.pace; said = old.said }))
     ⊎ ((fault : StoreFault) × (result ≡ Err (Store fault)) × NotedBy look after lines (Err fault) × (new ≡ old)))
 
--- a turn behind a look
-pub record Deals (kind : Kind) (desk desk_then : Desk) (look after : Sight) (shown : Waiting) (old new : Sending) (now : ℕ)
-    (result : Result Turn SendFault) : Type 0 where
+-- One call of a turn: what agencies of its type tell of themselves; agency, shop and sender, before the call and after it; its
+-- second, and its answer.
+pub record TurnCall : Type 0 where
+  pub kind : Kind
+  pub desk : Desk
+  pub desk_after : Desk
+  pub sight : Sight
+  pub sight_after : Sight
+  pub sending : Sending
+  pub sending_after : Sending
+  pub now : ℕ
+  pub answer : Result Turn SendFault
+
+abbrev pub turn_call : Kind → Desk → Desk → Sight → Sight → Sending → Sending → ℕ → Result Turn SendFault → TurnCall
+turn_call kind desk desk_after sight sight_after sending sending_after now answer = record {
+  kind = kind;
+  desk = desk;
+  desk_after = desk_after;
+  sight = sight;
+  sight_after = sight_after;
+  sending = sending;
+  sending_after = sending_after;
+  now = now;
+  answer = answer;
+}
+
+-- this call, by what contracts say of a kind of agency
+abbrev pub this_turn : {G : Type 0} → agency.Ghosts G → G → G → Sight → Sight → Sending → Sending → ℕ → Result Turn SendFault →
+    TurnCall
+this_turn kind agency agency_after sight sight_after sending sending_after now answer =
+    turn_call (kind_of kind.tells kind.keeps_rules) (desk_of kind.ledger kind.faults agency)
+    (desk_of kind.ledger kind.faults agency_after) sight sight_after sending sending_after now answer
+
+-- what is left of it behind its look
+abbrev pub behind : Sight → TurnCall → TurnCall
+behind look t =
+    turn_call t.kind t.desk t.desk_after look t.sight_after t.sending t.sending_after t.now t.answer
+
+-- a turn behind a look that showed this
+pub record Deals (t : TurnCall) (shown : Waiting) : Type 0 where
   pub deed : Deed
-  pub dealt : Dealt kind desk desk_then shown deed
-  pub ends : Ends old now shown look after deed result new
+  pub dealt : Dealt t.kind t.desk t.desk_after shown deed
+  pub ends : Ends t.sending t.now shown t.sight t.sight_after deed t.answer t.sending_after
 
 -- One turn: a look at the first BATCH waiting records, at most one call of the agency, and at most one note.
-pub record Turned (kind : Kind) (desk desk_then : Desk) (before after : Sight) (old new : Sending) (now : ℕ)
-    (result : Result Turn SendFault) : Type 0 where
+pub record Turned (t : TurnCall) : Type 0 where
   pub look : Sight
-  pub grows : Grows before look
-  pub own : look.own ≡ before.own
+  pub grows : Grows t.sight look
+  pub own : look.own ≡ t.sight.own
   pub shown : Waiting
   pub shows : ShowsWaiting look BATCH shown
-  pub deals : Deals kind desk desk_then look after shown old new now result
+  pub deals : Deals (behind look t) shown

@@ -1,9 +1,5 @@
 // The sender of one chain.
-ghost use Rattle.std.specs.Prelude.{◌≡◌, ◌≤◌, ◌<◌, ◌^◌, ℕ, List, IsTrue, IsErrOf, true, false, length};
-ghost use Rattle.ports.specs.Causes.{Rose};
-ghost use Rattle.agency_port.specs.declared.messages.Message.{Message as AnyMessage};
-ghost use Rattle.sender.specs.Agreeing.{InOneSession, KeepsReply, KeepsAgreement, IsCareful, Adds, AreNotes, AreNotesOrTorn};
-ghost use Rattle.sender.specs.Agreeing.{AgreesIfTorn};
+ghost use Rattle.std.specs.Prelude.{◌≡◌, ◌≤◌, ◌<◌, ◌^◌, ℕ, IsErrOf, true, false, length};
 ghost use Rattle.pacing.specs.Pace.{is_due};
 ghost use Rattle.shop_core.specs.History as history;
 ghost use Rattle.shop_core.specs.Legal.{Legal};
@@ -11,8 +7,8 @@ ghost use Rattle.once_world.specs.Outbox.{history_of, ShowsWaiting};
 ghost use Rattle.sender.specs.Sending.{fresh};
 ghost use Rattle.agency_port.specs.Ledger.{Names};
 ghost use Rattle.sender.specs.Draining.{CountsOf};
-ghost use Rattle.sender.specs.Lines.{TellsOf, SaysCalls};
-ghost use Rattle.sender.specs.Turning.{NoteEnds, IsLook, Deals, Replies, Turned, count_waiting, kind_of, desk_of};
+ghost use Rattle.sender.specs.TurnCalls.{StaysInAgreement, RepeatsNothingBlindly, LinkFaultHasCause, ServesAbove};
+ghost use Rattle.sender.specs.Turning.{NoteEnds, IsLook, Deals, Replies, Turned, count_waiting, this_turn};
 ghost use Rattle.record_fields.specs.declared.lines.TheConstants.{BATCH};
 
 use crate::draining::Counted;
@@ -103,9 +99,8 @@ impl Sender {
     ) -> Result<Turn, SendFault>
         requires look { IsLook (O.sight outbox.old) shown.now }
         requires doubt { self.old.doubt ≡ true }
-        ensures ends { (now : ℕ) → Deals (kind_of G.tells G.keeps_rules)
-            (desk_of G.ledger G.faults agency.old) (desk_of G.ledger G.faults agency.new)
-            (O.sight outbox.old) (O.sight outbox.new) shown.now self.old self.new now result }
+        ensures ends { (now : ℕ) → Deals (this_turn G.Agency agency.old agency.new (O.sight outbox.old) (O.sight outbox.new)
+            self.old self.new now result) shown.now }
         ensures fixed { O.fixed outbox.new ≡ O.fixed outbox.old }
     {
         let records = shown.list.as_slice();
@@ -142,9 +137,8 @@ impl Sender {
         requires look { IsLook (O.sight outbox.old) shown.now }
         requires doubt { self.old.doubt ≡ false }
         requires due { is_due self.old.pace now (count_waiting shown.now) ≡ true }
-        ensures ends { Deals (kind_of G.tells G.keeps_rules)
-            (desk_of G.ledger G.faults agency.old) (desk_of G.ledger G.faults agency.new)
-            (O.sight outbox.old) (O.sight outbox.new) shown.now self.old self.new now result }
+        ensures ends { Deals (this_turn G.Agency agency.old agency.new (O.sight outbox.old) (O.sight outbox.new)
+            self.old self.new now result) shown.now }
         ensures fixed { O.fixed outbox.new ≡ O.fixed outbox.old }
     {
         a_run_of_a_history_is_linked();
@@ -208,9 +202,8 @@ impl Sender {
     ) -> Result<Turn, SendFault>
         requires shows { ShowsWaiting (O.sight outbox.old) BATCH shown.now }
         requires legal { Legal (O.sight outbox.old).issuer (history_of (O.sight outbox.old)) }
-        ensures ends { Deals (kind_of G.tells G.keeps_rules)
-            (desk_of G.ledger G.faults agency.old) (desk_of G.ledger G.faults agency.new)
-            (O.sight outbox.old) (O.sight outbox.new) shown.now self.old self.new now result }
+        ensures ends { Deals (this_turn G.Agency agency.old agency.new (O.sight outbox.old) (O.sight outbox.new)
+            self.old self.new now result) shown.now }
         ensures fixed { O.fixed outbox.new ≡ O.fixed outbox.old }
     {
         a_history_notes_its_records();
@@ -237,9 +230,8 @@ impl Sender {
         agency: &mut G,
         now: u64,
     ) -> Counted
-        ensures turned { Turned (kind_of G.tells G.keeps_rules)
-            (desk_of G.ledger G.faults agency.old) (desk_of G.ledger G.faults agency.new)
-            (O.sight outbox.old) (O.sight outbox.new) self.old self.new now result.answer }
+        ensures turned { Turned (this_turn G.Agency agency.old agency.new (O.sight outbox.old) (O.sight outbox.new)
+            self.old self.new now result.answer) }
         ensures fixed { O.fixed outbox.new ≡ O.fixed outbox.old }
         ensures covers { O.least outbox.old ≤ length (O.sight outbox.new).items }
         ensures counts { IsErrOf result.answer SendFault.LinkFault → CountsOf (O.sight outbox.new) result.noted result.records }
@@ -269,40 +261,20 @@ impl Sender {
         now: u64,
     ) -> Result<Turn, SendFault>
         // What was looked at, said and noted, and what is answered for it.
-        ensures turned { Turned (kind_of G.tells G.keeps_rules)
-            (desk_of G.ledger G.faults agency.old) (desk_of G.ledger G.faults agency.new)
-            (O.sight outbox.old) (O.sight outbox.new) self.old self.new now result }
-
-        // With an agency that keeps its rules, in whose session the earlier turns were, agreement stays, what is noted are the
-        // agency's next lines, and it contradicts itself never.
-        ensures agreement { InOneSession G.keeps_rules (O.sight outbox.old) (O.sight outbox.new) (G.ledger agency.old)
-            self.old.said
-            (KeepsAgreement (O.sight outbox.old) (O.sight outbox.new) (G.ledger agency.old) (G.ledger agency.new)
-            self.new.said result) }
-
+        ensures turned { Turned (this_turn G.Agency agency.old agency.new (O.sight outbox.old) (O.sight outbox.new)
+            self.old self.new now result) }
+        // With an agency that keeps its rules, in whose session the earlier turns were, agreement stays.
+        ensures agreement { StaysInAgreement (this_turn G.Agency agency.old agency.new (O.sight outbox.old)
+            (O.sight outbox.new) self.old self.new now result) }
         // No record is handed over again unless a consultation since has answered that it didn't come.
-        ensures careful { IsTrue G.tells → (past : List AnyMessage) →
-            IsCareful past (O.sight outbox.old) (G.ledger agency.old).messages self.old →
-            IsCareful past (O.sight outbox.new) (G.ledger agency.new).messages self.new }
-        // It keeps the last reply of its session that named its batch, until a consultation answers.
-        ensures kept { IsTrue G.tells → (past : List AnyMessage) →
-            KeepsReply past (G.ledger agency.old).messages self.old.said →
-            KeepsReply past (G.ledger agency.new).messages self.new.said }
-        // What is told of it is the line of its one message to the agency.
-        ensures told { IsTrue G.tells → TellsOf (G.ledger agency.old).messages (G.ledger agency.new).messages result }
-        ensures says { IsTrue G.tells → SaysCalls (G.ledger agency.old).messages (G.ledger agency.new).messages }
-        // What its own notes added are notes, or the stop over them; and notes alone where the disk didn't fail amid them.
-        ensures adds { Adds AreNotesOrTorn (O.sight outbox.old) (O.sight outbox.new) }
-        ensures notes { (IsErrOf result (SendFault.Store StoreFault.DiskFault) → ⊥) →
-            Adds AreNotes (O.sight outbox.old) (O.sight outbox.new) }
-        // Where the disk failed amid its notes, the shop agrees with them too.
-        ensures torn { InOneSession G.keeps_rules (O.sight outbox.old) (O.sight outbox.new) (G.ledger agency.old) self.old.said
-            (AgreesIfTorn (O.sight outbox.old) (O.sight outbox.new) (G.ledger agency.new)) }
-        ensures fixed { O.fixed outbox.new ≡ O.fixed outbox.old }
-
+        ensures no_blind_repeat { RepeatsNothingBlindly (this_turn G.Agency agency.old agency.new (O.sight outbox.old)
+            (O.sight outbox.new) self.old self.new now result) }
         // A link fault comes only where the agency's count of faults rose.
-        ensures later { G.faults agency.old ≤ G.faults agency.new }
-        ensures link { IsErrOf result SendFault.LinkFault → Rose (G.faults agency.old) (G.faults agency.new) }
+        ensures link_fault { LinkFaultHasCause (this_turn G.Agency agency.old agency.new (O.sight outbox.old)
+            (O.sight outbox.new) self.old self.new now result) }
+        // What is told of it, and what its own notes added.
+        ensures above { ServesAbove (this_turn G.Agency agency.old agency.new (O.sight outbox.old) (O.sight outbox.new)
+            self.old self.new now result) (O.fixed outbox.old) (O.fixed outbox.new) }
     {
         legal_is_chained();
         what_is_known();

@@ -8,38 +8,33 @@ use Rattle.sender.proofs.Saying.{turn_says as says_of}
 use Rattle.sender.proofs.sending.Sender.turn.Goals as goal
 
 pub returns-clause-agreement : goal.returns-clause-agreement
-returns-clause-agreement g c =
-    turn_keeps c.what_is_known.ensures _ _ _ _ _ _ _ _ _ c.counted_turn.ensures.turned g.met.G.Agency.keeps_and_tells
+returns-clause-agreement g c = record {
+  keeps = turn_keeps c.what_is_known.ensures _ _ _ _ _ _ _ _ _ c.counted_turn.ensures.turned g.met.G.Agency.keeps_and_tells;
+  torn = λ keeps session gains.
+      turn_if_torn _ _ _ _ _ _ _ _ _ c.counted_turn.ensures.turned
+      (turn_keeps c.what_is_known.ensures _ _ _ _ _ _ _ _ _ c.counted_turn.ensures.turned g.met.G.Agency.keeps_and_tells keeps
+      session gains);
+}
 
-pub returns-clause-careful : goal.returns-clause-careful
-returns-clause-careful g c = λ tells past.
-    turn_careful c.legal_is_chained.ensures.linked past _ _ _ _ _ _ _ _ _ c.counted_turn.ensures.turned tells
+pub returns-clause-no_blind_repeat : goal.returns-clause-no_blind_repeat
+returns-clause-no_blind_repeat g c = record {
+  careful = λ tells past.
+      turn_careful c.legal_is_chained.ensures.linked past _ _ _ _ _ _ _ _ _ c.counted_turn.ensures.turned tells;
+  kept = λ tells past.
+      turn_keeps_reply c.the_last_named_reply_is_kept.ensures.more past _ _ _ _ _ _ _ _ _ c.counted_turn.ensures.turned tells;
+}
 
-pub returns-clause-kept : goal.returns-clause-kept
-returns-clause-kept g c = λ tells past.
-    turn_keeps_reply c.the_last_named_reply_is_kept.ensures.more past _ _ _ _ _ _ _ _ _ c.counted_turn.ensures.turned tells
+pub returns-clause-link_fault : goal.returns-clause-link_fault
+returns-clause-link_fault g c = record {
+  later = turn_later _ _ _ _ _ _ _ _ _ c.counted_turn.ensures.turned;
+  rose = turn_link _ _ _ _ _ _ _ _ _ c.counted_turn.ensures.turned;
+}
 
-pub returns-clause-later : goal.returns-clause-later
-returns-clause-later g c = turn_later _ _ _ _ _ _ _ _ _ c.counted_turn.ensures.turned
-
-pub returns-clause-link : goal.returns-clause-link
-returns-clause-link g c = turn_link _ _ _ _ _ _ _ _ _ c.counted_turn.ensures.turned
-
-pub returns-clause-told : goal.returns-clause-told
-returns-clause-told g c = turn_tells _ _ _ _ _ _ _ _ _ c.counted_turn.ensures.turned
-
-pub returns-clause-adds : goal.returns-clause-adds
-returns-clause-adds g c = turn_adds _ _ _ _ _ _ _ _ _ c.counted_turn.ensures.turned
-
-pub returns-clause-notes : goal.returns-clause-notes
-returns-clause-notes g c = turn_notes _ _ _ _ _ _ _ _ _ c.counted_turn.ensures.turned
-
-pub returns-clause-torn : goal.returns-clause-torn
-returns-clause-torn g c = λ keeps session gains.
-    turn_if_torn _ _ _ _ _ _ _ _ _ c.counted_turn.ensures.turned
-    (turn_keeps c.what_is_known.ensures _ _ _ _ _ _ _ _ _ c.counted_turn.ensures.turned g.met.G.Agency.keeps_and_tells keeps
-    session gains)
-
-pub returns-clause-says : goal.returns-clause-says
-returns-clause-says g c = λ tells.
-    says_of _ _ _ (turn_tells _ _ _ _ _ _ _ _ _ c.counted_turn.ensures.turned tells)
+pub returns-clause-above : goal.returns-clause-above
+returns-clause-above g c = record {
+  told = turn_tells _ _ _ _ _ _ _ _ _ c.counted_turn.ensures.turned;
+  says = λ tells. says_of _ _ _ (turn_tells _ _ _ _ _ _ _ _ _ c.counted_turn.ensures.turned tells);
+  adds = turn_adds _ _ _ _ _ _ _ _ _ c.counted_turn.ensures.turned;
+  notes = turn_notes _ _ _ _ _ _ _ _ _ c.counted_turn.ensures.turned;
+  fixed = c.counted_turn.ensures.fixed;
+}
