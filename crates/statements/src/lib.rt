@@ -1,0 +1,15 @@
+//! Statements of a period: for each month, how many lines of the invoices that are held have each key, and the sums of their
+//! amounts. A `Ledger` holds a shop's history and keeps the rows of every month beside it, entry by entry.
+#![tactic(auto)]
+
+mod laws;
+mod ledger;
+mod months;
+mod plans;
+mod postings;
+mod rows;
+
+pub use laws::a_statement_is_one;
+pub use ledger::Ledger;
+pub use months::Month;
+pub use rows::{Row, Rows};
