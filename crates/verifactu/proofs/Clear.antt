@@ -11,7 +11,7 @@ use Rattle.sender.specs.Agreeing.{KeepsReply}
 use Rattle.sender.specs.Draining.{Drained, Scene, Turns, none as no_turn, more as one_turn}
 use Rattle.sender.specs.Lines.{TellsOf}
 use Rattle.sender.specs.Sending.{Sending}
-use Rattle.sender.specs.Turning.{Desk, Kind, Turned}
+use Rattle.sender.specs.Turning.{Desk, Kind, Turned, turn_call}
 use Rattle.sender.proofs.Telling.{turn_tells}
 use Rattle.verifactu.specs.Beside.{NoneBefore, ShowsNothing}
 use Rattle.verifactu.proofs.Contrary.{same_ends, turns_show_nothing}
@@ -53,7 +53,7 @@ tells_before past old new answer (inl quiet) clear before = subst (λ (ms : List
 tells_before past old new answer (inr spoke) clear before = one_more past old new spoke.message spoke.said clear before
 
 pub turn_before : (kind : Kind) (desk desk_then : Desk) (before after : Sight) (old new : Sending) (now : ℕ)
-    (answer : Result Turn SendFault) → Turned kind desk desk_then before after old new now answer → IsTrue kind.tells →
+    (answer : Result Turn SendFault) → Turned (turn_call kind desk desk_then before after old new now answer) → IsTrue kind.tells →
     (past : List Message) → KeepsReply past desk.ledger.messages old.said → ShowsNothing past desk.ledger.messages →
     NoneBefore past desk.ledger.messages → NoneBefore past desk_then.ledger.messages
 turn_before kind desk desk_then before after old new now answer t tells past k clear none = tells_before past desk.ledger.messages

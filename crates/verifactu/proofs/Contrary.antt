@@ -36,7 +36,7 @@ use Rattle.sender.specs.Agreeing.{KeepsReply}
 use Rattle.sender.specs.Draining.{Drained, EndsWith, GoesOn, Scene, Turns, none as no_turn, more as one_turn}
 use Rattle.sender.specs.Evidence.{Shows, forgotten, forgotten_in, said_at, said_in}
 use Rattle.sender.specs.Sending.{Sending}
-use Rattle.sender.specs.Turning.{Asked, Dealt, Deed, Desk, Ends, Handed, Kind, Nothing, SeenEnds, Turned}
+use Rattle.sender.specs.Turning.{Asked, Dealt, Deed, Desk, Ends, Handed, Kind, Nothing, SeenEnds, Turned, turn_call}
 use Rattle.sender.proofs.Replying.{turn_keeps_reply}
 use Rattle.verifactu.specs.Beside.{AnswersWhatIsShown, IsContrary, ShowsLast, ShowsNothing, sending_end}
 
@@ -228,7 +228,7 @@ deed_shows kind desk desk_then look after shown old new now (Handed (Err agency.
 
 turn_of : (kind : Kind) (desk desk_then : Desk) (before after : Sight) (old new : Sending) (now : ℕ) (answer : Result Turn
     SendFault) (evidence : Evidence) → answer ≡ Err (send.Contradiction evidence) →
-    Turned kind desk desk_then before after old new now answer →
+    Turned (turn_call kind desk desk_then before after old new now answer) →
     IsTrue kind.tells → (past : List Message) → KeepsReply past desk.ledger.messages old.said →
     ShowsLast (history_of after) past desk_then.ledger.messages evidence
 turn_of kind desk desk_then before after old new now answer evidence is t tells past k =
@@ -245,7 +245,7 @@ contrary_answer (Err (send.Store fault)) evidence is = absurd cc
 contrary_answer (Err send.NoMemory) evidence is = absurd cc
 
 pub turn_shows : (kind : Kind) (desk desk_then : Desk) (before after : Sight) (old new : Sending) (now : ℕ) (answer : Result
-    Turn SendFault) → Turned kind desk desk_then before after old new now answer → IsTrue kind.tells →
+    Turn SendFault) → Turned (turn_call kind desk desk_then before after old new now answer) → IsTrue kind.tells →
     (past : List Message) → KeepsReply past desk.ledger.messages old.said → (evidence : Evidence) →
     IsErrOf (sending_end answer) (drain.Contradiction evidence) →
     ShowsLast (history_of after) past desk_then.ledger.messages evidence
@@ -313,7 +313,7 @@ deed_answers kind desk desk_then look after shown old new now (Handed (Err agenc
 
 -- where the last message shows a contradiction a turn answers it, or found no memory
 pub turn_answers : (kind : Kind) (desk desk_then : Desk) (before after : Sight) (old new : Sending) (now : ℕ) (answer : Result
-    Turn SendFault) → Turned kind desk desk_then before after old new now answer → IsTrue kind.tells →
+    Turn SendFault) → Turned (turn_call kind desk desk_then before after old new now answer) → IsTrue kind.tells →
     (past : List Message) → KeepsReply past desk.ledger.messages old.said → ShowsNothing past desk.ledger.messages →
     AnswersWhatIsShown past desk_then.ledger.messages (sending_end answer)
 turn_answers kind desk desk_then before after old new now answer t tells past k none =

@@ -42,7 +42,7 @@ use Rattle.sender.specs.declared.answers.DrainFault.{DrainFault}
 use Rattle.sender.specs.declared.answers.DrainFault.TheVariants as drain
 use Rattle.sender.specs.Sending.{Sending}
 use Rattle.sender.specs.Turning.{Deed, Nothing, Asked, Handed, Kind, Desk, Dealt, RestEnds, NotesEnd, SeenEnds, ReplyEnds, Ends}
-use Rattle.sender.specs.Turning.{Turned}
+use Rattle.sender.specs.Turning.{Turned, turn_call}
 use Rattle.sender.proofs.Histories.{grown, stays}
 use Rattle.sender.proofs.Keeping.{noted_same}
 use Rattle.verifactu.specs.Beside.{sending_end}
@@ -412,7 +412,7 @@ module _ (quiet : CameQuietly) (beside : CameBesideOwn) (before look after : Sig
 
 -- what a turn notes, where the shop gained no notes but its own
 pub turn_notes : CameQuietly → CameBesideOwn → (kind : Kind) (desk desk_then : Desk) (before after : Sight) (old new : Sending) (now : ℕ)
-    (result : Result Turn SendFault) → Turned kind desk desk_then before after old new now result → IsTrue kind.tells →
+    (result : Result Turn SendFault) → Turned (turn_call kind desk desk_then before after old new now result) → IsTrue kind.tells →
     GainsOwnNotes before after →
     NotesSaid (history_of before) (history_of after) desk.ledger.messages desk_then.ledger.messages (sending_end result)
 turn_notes quiet beside kind desk desk_then before after old new now result t tells gains =

@@ -47,7 +47,7 @@ use Rattle.sender.proofs.Ending.{as_many}
 use Rattle.sender.proofs.Growing.{Growth}
 use Rattle.verifactu.specs.Steps.{Step, Waits, Says, LacksMemory, Standing, line_in, message_in, after_steps, after_message}
 use Rattle.verifactu.specs.Steps.{handing, with_reply, next_batch, count_waiting, AreAllNew, IsStep, AreSteps, IsSubmissionLine}
-use Rattle.verifactu.specs.Steps.{noted_in, IsSeenLine, IsReplyLine, fault_line, ShowsHere, EndsContrary}
+use Rattle.verifactu.specs.Steps.{noted_in, doubt_behind, IsSeenLine, IsReplyLine, fault_line, ShowsHere, EndsContrary}
 use Rattle.verifactu.proofs.Agreed.{entries_both}
 use Rattle.verifactu.proofs.Alone.{all_contained}
 
@@ -156,6 +156,7 @@ pub record Did (tells exact : Bool) (records : List Sealed) (st : Standing) (sai
   pub messages : IsTrue tells → said_then ≡ said ++ filter_map message_in steps
   pub records_are : recs (history_of after) ≡ records
   pub noted_is : length (noted (history_of after)) ≡ (after_steps st steps).noted
+  pub doubt : GoesOn answer → new.doubt ≡ (after_steps st steps).doubt
   pub pace : GoesOn answer → IsTrue exact → new.pace ≡ (after_steps st steps).pace
   pub kept : GoesOn answer → new.said ≡ (after_steps st steps).said
   pub moment : moment_after st.moment answer ≡ (after_steps st steps).moment
@@ -167,6 +168,7 @@ pub record Stands (exact : Bool) (records : List Sealed) (st : Standing) (look :
   pub records_are : recs (history_of look) ≡ records
   pub noted_is : length (noted (history_of look)) ≡ st.noted
   pub shows : ShowsWaiting look 1000 shown
+  pub doubt : old.doubt ≡ st.doubt
   pub pace : IsTrue exact → old.pace ≡ st.pace
   pub kept : old.said ≡ st.said
   pub now_is : IsTrue exact → now ≡ st.moment
@@ -190,6 +192,9 @@ module _ (tells exact : Bool) (records : List Sealed) (st : Standing) (said said
   abbrev Done : Result Turn SendFault → Type 0
   Done answer = Did tells exact records st said said_then after new answer
 
+  doubt_here : (b : Bool) → old.doubt ≡ b → st.doubt ≡ b
+  doubt_here b is = sym h.doubt ∙ is
+
   some_wait : shown.noted < shown.records → st.noted < length records
   some_wait l = omega (arith, l, shown_noted, shown_records)
 
@@ -210,6 +215,7 @@ module _ (tells exact : Bool) (records : List Sealed) (st : Standing) (said said
     messages = λ t. quietly t ∙ sym (append-nil said);
     records_are = ap (λ (s : Sight). recs (history_of s)) there ∙ h.records_are;
     noted_is = ap (λ (s : Sight). length (noted (history_of s))) there ∙ h.noted_is;
+    doubt = λ on. absurd on;
     pace = λ on. absurd on;
     kept = λ on. absurd on;
     moment = refl;
@@ -227,6 +233,7 @@ module _ (tells exact : Bool) (records : List Sealed) (st : Standing) (said said
     messages = λ t. silent t ∙ sym (append-nil said);
     records_are = ap (λ (s : Sight). recs (history_of s)) there ∙ h.records_are;
     noted_is = ap (λ (s : Sight). length (noted (history_of s))) there ∙ h.noted_is;
+    doubt = λ on. absurd on;
     pace = λ on. absurd on;
     kept = λ on. absurd on;
     moment = refl;
@@ -235,11 +242,12 @@ module _ (tells exact : Bool) (records : List Sealed) (st : Standing) (said said
   rested (Ok (WaitUntil at)) ends same there silent = record {
     steps = Waits at ∷ [];
     one = omega arith;
-    are = ((some_wait ends.0, λ e. (is_due_here false ends.2 e, ends.3 ∙ ap due_at (h.pace e))), tt);
+    are = ((doubt_here false ends.1, some_wait ends.0, λ e. (is_due_here false ends.2 e, ends.3 ∙ ap due_at (h.pace e))), tt);
     lines = refl;
     messages = λ t. silent t ∙ sym (append-nil said);
     records_are = ap (λ (s : Sight). recs (history_of s)) there ∙ h.records_are;
     noted_is = ap (λ (s : Sight). length (noted (history_of s))) there ∙ h.noted_is;
+    doubt = λ on. ap (λ (s : Sending). s.doubt) same ∙ h.doubt;
     pace = λ on e. ap (λ (s : Sending). s.pace) same ∙ h.pace e;
     kept = λ on. ap (λ (s : Sending). s.said) same ∙ h.kept;
     moment = refl;
@@ -261,6 +269,10 @@ module _ (tells exact : Bool) (records : List Sealed) (st : Standing) (said said
   reply_moment None = refl
   reply_moment (Some reply) = refl
 
+  reply_doubt : (o : Option Replied) → (with_reply (handing st) o).doubt ≡ true
+  reply_doubt None = refl
+  reply_doubt (Some reply) = refl
+
   message_noted : (m : Message) → (after_message st m).noted ≡ st.noted
   message_noted (Begun plan pairs) = refl
   message_noted (Submitted batch answer) = reply_noted (named_reply batch answer)
@@ -278,10 +290,11 @@ module _ (tells exact : Bool) (records : List Sealed) (st : Standing) (said said
       moment_after st.moment answer ≡ st.moment → IsStep exact records st (Says m line) →
       (IsTrue tells → said_then ≡ said ++ m ∷ []) →
       recs (history_of after) ≡ records → length (noted (history_of after)) ≡ st.noted + noted_in line →
+      (GoesOn answer → new.doubt ≡ doubt_behind (after_message st m).doubt line) →
       (GoesOn answer → IsTrue exact → new.pace ≡ (after_message st m).pace) →
       (GoesOn answer → new.said ≡ (after_message st m).said) →
       ((evidence : Evidence) → answer ≡ Err (Contradiction evidence) → EndsContrary st (Says m line ∷ []) evidence) → Done answer
-  spoke answer m line is still step messages are count pace kept contrary = record {
+  spoke answer m line is still step messages are count doubt pace kept contrary = record {
     steps = Says m line ∷ [];
     one = omega arith;
     are = (step, tt);
@@ -289,6 +302,7 @@ module _ (tells exact : Bool) (records : List Sealed) (st : Standing) (said said
     messages = messages;
     records_are = are;
     noted_is = count ∙ ap (λ (n : ℕ). n + noted_in line) (sym (message_noted m));
+    doubt = doubt;
     pace = pace;
     kept = kept;
     moment = still ∙ sym (message_moment m);
@@ -298,24 +312,28 @@ module _ (tells exact : Bool) (records : List Sealed) (st : Standing) (said said
   -- and nothing was noted
   spoke_quietly : (answer : Result Turn SendFault) (m : Message) (line : Told) → told_in answer ≡ Some line →
       moment_after st.moment answer ≡ st.moment → noted_in line ≡ 0 → IsStep exact records st (Says m line) →
-      (IsTrue tells → said_then ≡ said ++ m ∷ []) → history_of after ≡ history_of look → (GoesOn answer → IsTrue exact →
-      new.pace ≡ (after_message st m).pace) → (GoesOn answer → new.said ≡ (after_message st m).said) →
+      (IsTrue tells → said_then ≡ said ++ m ∷ []) → history_of after ≡ history_of look →
+      (GoesOn answer → new.doubt ≡ doubt_behind (after_message st m).doubt line) →
+      (GoesOn answer → IsTrue exact → new.pace ≡ (after_message st m).pace) →
+      (GoesOn answer → new.said ≡ (after_message st m).said) →
       ((evidence : Evidence) → answer ≡ Err (Contradiction evidence) → EndsContrary st (Says m line ∷ []) evidence) → Done answer
-  spoke_quietly answer m line is still zero step messages there pace kept contrary =
+  spoke_quietly answer m line is still zero step messages there doubt pace kept contrary =
       let count : length (noted (history_of after)) ≡ st.noted = ap (λ (es : List Entry). length (noted es)) there ∙ h.noted_is in
-      spoke answer m line is still step messages (ap recs there ∙ h.records_are) (omega (arith, count, zero)) pace kept contrary
+      spoke answer m line is still step messages (ap recs there ∙ h.records_are) (omega (arith, count, zero)) doubt pace kept
+      contrary
 
   -- and these lines were
   spoke_noting : (n : ℕ) (m : Message) (lines : List Line) → n ≡ length lines → IsStep exact records st (Says m (told.Noted n)) →
       (IsTrue tells → said_then ≡ said ++ m ∷ []) →
       history_of after ≡ history_of look ++ notes_of (length (noted (history_of look))) lines ∷ [] →
-      (IsTrue exact → new.pace ≡ (after_message st m).pace) → new.said ≡ (after_message st m).said → Done (Ok (Noted n))
-  spoke_noting n m lines many step messages there pace kept =
+      new.doubt ≡ false → (IsTrue exact → new.pace ≡ (after_message st m).pace) → new.said ≡ (after_message st m).said →
+      Done (Ok (Noted n))
+  spoke_noting n m lines many step messages there doubt pace kept =
       let count = ap (λ (es : List Entry). length (noted es)) there ∙ noted_count (history_of look)
       (length (noted (history_of look))) lines in
       spoke (Ok (Noted n)) m (told.Noted n) refl refl step messages (ap recs there ∙ noted_records (history_of look)
       (length (noted (history_of look))) lines ∙ h.records_are) (let base = h.noted_is in omega (arith, count, base, many))
-      (λ on. pace) (λ on. kept) (λ evidence e. absurd cc)
+      (λ on. doubt) (λ on. pace) (λ on. kept) (λ evidence e. absurd cc)
 
   module _ (quiet : Grows look after → after.own ≡ look.own → after.items ≡ look.items) (between : (thing : List Item → Item)
       (o : AddsOwn look after thing) → o.others ≡ []) where
@@ -358,14 +376,15 @@ module _ (tells exact : Bool) (records : List Sealed) (st : Standing) (said said
     seen_fault seen store.NoMemory lines s = tt
 
     -- a consultation was answered
-    seen_did : (seen : List Seen) (answer : Result Turn SendFault) →
+    seen_did : (seen : List Seen) (answer : Result Turn SendFault) → st.doubt ≡ true →
         (IsTrue tells → said_then ≡ said ++ Consulted (huellas_of shown.list) (Ok seen) ∷ []) → new.pace ≡ old.pace →
         new.said ≡ None →
         SeenEnds old.said shown seen look after answer new.doubt → Done answer
-    seen_did seen (Ok (Noted n)) messages pace kept ends =
+    seen_did seen (Ok (Noted n)) doubt messages pace kept ends =
         let lines = ends.0.lines in
         let many = ends.0.count_is in
         spoke_noting n (Consulted (huellas_of shown.list) (Ok seen)) lines many (
+          doubt,
           ap huellas_of shown_list,
           (
             lines,
@@ -375,42 +394,46 @@ module _ (tells exact : Bool) (records : List Sealed) (st : Standing) (said said
                 omega (arith, some, many)),
           ),
         ) messages
-        (noted_history look after lines ends.0.noted (between _ ends.0.noted)) (λ e. pace ∙ h.pace e) kept
-    seen_did seen (Ok Cleared) messages pace kept ends =
+        (noted_history look after lines ends.0.noted (between _ ends.0.noted)) ends.1 (λ e. pace ∙ h.pace e) kept
+    seen_did seen (Ok Cleared) doubt messages pace kept ends =
         spoke_quietly (Ok Cleared) (Consulted (huellas_of shown.list) (Ok seen)) told.Cleared refl refl refl
-        (ap huellas_of shown_list, shown_here seen (Ok []) ends.0) messages (ap history_of ends.1) (λ on e. pace ∙ h.pace e)
-        (λ on. kept) (λ evidence e. absurd cc)
-    seen_did seen (Err (Contradiction evidence)) messages pace kept ends =
+        (doubt, ap huellas_of shown_list, shown_here seen (Ok []) ends.0) messages (ap history_of ends.1) (λ on. ends.2)
+        (λ on e. pace ∙ h.pace e) (λ on. kept) (λ evidence e. absurd cc)
+    seen_did seen (Err (Contradiction evidence)) doubt messages pace kept ends =
         spoke_quietly (Err (Contradiction evidence)) (Consulted (huellas_of shown.list) (Ok seen)) told.Contradiction refl refl
-        refl (ap huellas_of shown_list, (evidence, shown_here seen (Err evidence) ends.0)) messages
-        (ap history_of ends.1) (λ on. absurd on) (λ on. absurd on) (λ shown_evidence e. contrary_by seen shown_evidence evidence e
+        refl (doubt, ap huellas_of shown_list, (evidence, shown_here seen (Err evidence) ends.0)) messages
+        (ap history_of ends.1) (λ on. absurd on) (λ on. absurd on) (λ on. absurd on) (λ shown_evidence e. contrary_by seen shown_evidence evidence e
         (shown_here seen (Err evidence) ends.0))
-    seen_did seen (Err (Store fault)) messages pace kept ends =
+    seen_did seen (Err (Store fault)) doubt messages pace kept ends =
         let lines = ends.0.1.lines in
         spoke_quietly (Err (Store fault)) (Consulted (huellas_of shown.list) (Ok seen)) (fault_line fault) (fault_told fault) refl
-        (fault_notes fault) (ap huellas_of shown_list, seen_fault seen fault lines (shown_here seen (Ok lines) ends.0.1.are))
+        (fault_notes fault) (doubt, ap huellas_of shown_list, seen_fault seen fault lines (shown_here seen (Ok lines) ends.0.1.are))
         messages
-        (fault_history lines fault ends.0.1.grows ends.0.1.noted) (λ on. absurd on) (λ on. absurd on) (λ evidence e. absurd cc)
-    seen_did seen (Err NoMemory) messages pace kept ends =
-        spoke_quietly (Err NoMemory) (Consulted (huellas_of shown.list) (Ok seen)) told.Memory refl refl refl
-        (ap huellas_of shown_list, tt) messages (ap history_of ends.0) (λ on. absurd on) (λ on. absurd on)
+        (fault_history lines fault ends.0.1.grows ends.0.1.noted) (λ on. absurd on) (λ on. absurd on) (λ on. absurd on)
         (λ evidence e. absurd cc)
-    seen_did seen _ messages pace kept ends = absurd ends
+    seen_did seen (Err NoMemory) doubt messages pace kept ends =
+        spoke_quietly (Err NoMemory) (Consulted (huellas_of shown.list) (Ok seen)) told.Memory refl refl refl
+        (doubt, ap huellas_of shown_list, tt) messages (ap history_of ends.0) (λ on. absurd on) (λ on. absurd on)
+        (λ on. absurd on) (λ evidence e. absurd cc)
+    seen_did seen _ doubt messages pace kept ends = absurd ends
 
-    -- a batch was handed over when one was due
-    handed : (answer : Result Replied _) (printed : Told) → is_due old.pace now (shown.records - shown.noted) ≡ true →
-        IsSubmissionLine st shown.list answer printed → IsStep exact records st (Says (Submitted shown.list answer) printed)
-    handed answer printed due is = (shown_list, is_due_here true due, is)
+    -- a batch was handed over, out of doubt and when one was due
+    abbrev MayHand : Type 0
+    MayHand = (st.doubt ≡ false) × (is_due old.pace now (shown.records - shown.noted) ≡ true)
+
+    handed : (answer : Result Replied _) (printed : Told) → MayHand → IsSubmissionLine st shown.list answer printed →
+        IsStep exact records st (Says (Submitted shown.list answer) printed)
+    handed answer printed may is = (may.0, shown_list, is_due_here true may.1, is)
 
     unanswered_pace : IsTrue exact → new.pace ≡ record { last = now; wait = old.pace.wait } → new.pace ≡ (handing st).pace
     unanswered_pace e is = is ∙ ap (λ (t : ℕ). record { last = t; wait = old.pace.wait }) (h.now_is e) ∙
         ap (λ (p : Pace). record { last = st.moment; wait = p.wait }) (h.pace e)
 
     -- a reply named it
-    reply_did : (reply : Replied) (answer : Result Turn SendFault) → is_due old.pace now (shown.records - shown.noted) ≡ true →
+    reply_did : (reply : Replied) (answer : Result Turn SendFault) → MayHand →
         (IsTrue tells → said_then ≡ said ++ Submitted shown.list (Ok reply) ∷ []) →
         Replies now shown look after reply answer new → Done answer
-    reply_did reply answer due messages r = by_answer answer r.ends
+    reply_did reply answer may messages r = by_answer answer r.ends
       where
         names : Names reply shown.list
         names = r.names
@@ -447,29 +470,31 @@ module _ (tells exact : Bool) (records : List Sealed) (st : Standing) (said said
         by_answer (Ok (Noted n)) ends =
             let lines = ends.0.lines in
             let many = ends.0.count_is in
-            spoke_noting n m lines many (handed (Ok reply) (told.Noted n) due (
+            spoke_noting n m lines many (handed (Ok reply) (told.Noted n) may (
               all_new lines ends.0.are,
               many ∙
                   as_many reply shown.list lines names r.matched ends.0.are,
             )) messages
-            (noted_history look after lines ends.0.noted (between _ ends.0.noted)) pace kept
+            (noted_history look after lines ends.0.noted (between _ ends.0.noted)) ends.1 pace kept
         by_answer (Ok (Doubt place)) ends =
             spoke_quietly (Ok (Doubt place)) m (told.Doubt place) refl refl refl
-            (handed (Ok reply) (told.Doubt place) due (record {
+            (handed (Ok reply) (told.Doubt place) may (record {
               names = names;
               index = ends.0.index;
               again = ends.0.again;
               place_is = ends.0.is ∙ ap (λ (n : ℕ). n + 1 + ends.0.index) shown_noted;
             })) messages
-            (ap history_of ends.1) (λ on. pace) (λ on. kept) (λ evidence e. absurd cc)
+            (ap history_of ends.1) (λ on. ends.2 ∙ sym (reply_doubt (named_reply shown.list (Ok reply)))) (λ on. pace)
+            (λ on. kept) (λ evidence e. absurd cc)
         by_answer (Err (Store fault)) ends =
             let lines = ends.0.1.lines in
             spoke_quietly (Err (Store fault)) m (fault_line fault) (fault_told fault) refl (fault_notes fault)
-            (handed (Ok reply) (fault_line fault) due (by_fault fault lines ends.0.1.are)) messages
-            (fault_history lines fault ends.0.1.grows ends.0.1.noted) (λ on. absurd on) (λ on. absurd on)
+            (handed (Ok reply) (fault_line fault) may (by_fault fault lines ends.0.1.are)) messages
+            (fault_history lines fault ends.0.1.grows ends.0.1.noted) (λ on. absurd on) (λ on. absurd on) (λ on. absurd on)
             (λ evidence e. absurd cc)
         by_answer (Err NoMemory) ends = spoke_quietly (Err NoMemory) m told.Memory refl refl refl (handed (Ok reply) told.Memory
-            due names) messages (ap history_of ends.0) (λ on. absurd on) (λ on. absurd on) (λ evidence e. absurd cc)
+            may names) messages (ap history_of ends.0) (λ on. absurd on) (λ on. absurd on) (λ on. absurd on)
+            (λ evidence e. absurd cc)
         by_answer _ ends = absurd ends
 
     -- one turn behind its look
@@ -489,45 +514,48 @@ module _ (tells exact : Bool) (records : List Sealed) (st : Standing) (said said
         same_after : (a : Result Turn SendFault) → answer ≡ a → Done a → Done answer
         same_after a e d = subst (λ (r : Result Turn SendFault). Done r) (sym e) d
 
-        handed_lacking : is_due old.pace now (shown.records - shown.noted) ≡ true → after ≡ look →
+        handed_lacking : MayHand → after ≡ look →
             (IsTrue kind.tells → Submits desk.ledger desk_then.ledger shown.list (Err agency.NoMemory)) → (b : Bool) →
             kind.tells ≡ b → Done (Err NoMemory)
-        handed_lacking due there submits false e = lacked there
+        handed_lacking may there submits false e = lacked there
             (silent (λ t. absurd (let f = subst (λ (c : Bool). IsTrue c) e t in cc)))
-        handed_lacking due there submits true e = elim (submits (let f : IsTrue true = refl in
+        handed_lacking may there submits true e = elim (submits (let f : IsTrue true = refl in
             subst (λ (c : Bool). IsTrue c) (sym e) f)) [
               | inl s ↦ lacked there (silent (λ t. s.messages))
               | inr s ↦ spoke_quietly (Err NoMemory) (Submitted shown.list (Err agency.NoMemory)) told.Memory refl refl refl
-                  (handed (Err agency.NoMemory) told.Memory due refl) (says _ (λ t. s.messages)) (ap history_of there)
-                  (λ on. absurd on) (λ on. absurd on) (λ evidence e. absurd cc)
+                  (handed (Err agency.NoMemory) told.Memory may refl) (says _ (λ t. s.messages)) (ap history_of there)
+                  (λ on. absurd on) (λ on. absurd on) (λ on. absurd on) (λ evidence e. absurd cc)
             ]
 
         by_deed : (d : Deed) → Dealt kind desk desk_then shown d → Ends old now shown look after d answer new → Done answer
         by_deed Nothing dealt ends = rested answer ends.0 ends.1 ends.2 (silent (λ t. ap (λ (k : Desk). k.ledger.messages) dealt))
-        by_deed (Asked (Ok seen)) dealt ends = seen_did seen answer (says _ (λ t. (dealt.1 t).messages)) ends.2.1 ends.2.2
-            ends.2.3
+        by_deed (Asked (Ok seen)) dealt ends = seen_did seen answer (doubt_here true ends.1)
+            (says _ (λ t. (dealt.1 t).messages)) ends.2.1 ends.2.2 ends.2.3
         by_deed (Asked (Err agency.Failed)) dealt ends = same_after (Err LinkFault) ends.2.0
             (spoke_quietly (Err LinkFault) (Consulted (huellas_of shown.list) (Err agency.Failed)) told.Link refl refl refl
-            (ap huellas_of shown_list, refl) (says _ (λ t. (dealt.1 t).messages)) (ap history_of ends.2.2)
+            (doubt_here true ends.1, ap huellas_of shown_list, refl) (says _ (λ t. (dealt.1 t).messages))
+            (ap history_of ends.2.2) (λ on. ap (λ (s : Sending). s.doubt) ends.2.1 ∙ h.doubt)
             (λ on e. ap (λ (s : Sending). s.pace) ends.2.1 ∙ h.pace e) (λ on. ap (λ (s : Sending). s.said) ends.2.1 ∙ h.kept)
             (λ evidence e. absurd cc))
         by_deed (Asked (Err agency.NoMemory)) dealt ends = same_after (Err NoMemory) ends.2.0
             (lacked ends.2.2 (silent (λ t. ap (λ (l : Ledger). l.messages) (dealt.1 t))))
         by_deed (Handed (Ok reply)) dealt ends = elim ends.3 [
-          | inl r ↦ reply_did reply answer ends.2 (says _ (λ t. (dealt.2 t).messages)) r
+          | inl r ↦ reply_did reply answer (doubt_here false ends.1, ends.2) (says _ (λ t. (dealt.2 t).messages)) r
           | inr r ↦ (let stale : after_message st (Submitted shown.list (Ok reply)) ≡ handing st =
               ap (λ (o : Option Replied). with_reply (handing st) o) (stale_is reply shown.list r.names_not) in
               same_after (Err LinkFault) r.result_is (spoke_quietly (Err LinkFault) (Submitted shown.list (Ok reply)) told.Link
-              refl refl refl (handed (Ok reply) told.Link ends.2 r.names_not) (says _ (λ t. (dealt.2 t).messages))
-              (ap history_of r.after_is)
+              refl refl refl (handed (Ok reply) told.Link (doubt_here false ends.1, ends.2) r.names_not)
+              (says _ (λ t. (dealt.2 t).messages)) (ap history_of r.after_is)
+              (λ on. ap (λ (s : Sending). s.doubt) r.new_is ∙ sym (ap (λ (s : Standing). s.doubt) stale))
               (λ on e. unanswered_pace e (ap (λ (s : Sending). s.pace) r.new_is) ∙ sym (ap (λ (s : Standing). s.pace) stale))
               (λ on. ap (λ (s : Sending). s.said) r.new_is ∙ h.kept ∙ sym (ap (λ (s : Standing). s.said) stale))
               (λ evidence e. absurd cc)))
         ]
         by_deed (Handed (Err agency.Failed)) dealt ends = same_after (Err LinkFault) ends.3.0
             (spoke_quietly (Err LinkFault) (Submitted shown.list (Err agency.Failed)) told.Link refl refl refl
-            (handed (Err agency.Failed) told.Link ends.2 refl) (says _ (λ t. (dealt.2 t).messages)) (ap history_of ends.3.2)
+            (handed (Err agency.Failed) told.Link (doubt_here false ends.1, ends.2) refl) (says _ (λ t. (dealt.2 t).messages))
+            (ap history_of ends.3.2) (λ on. ap (λ (s : Sending). s.doubt) ends.3.1)
             (λ on e. unanswered_pace e (ap (λ (s : Sending). s.pace) ends.3.1)) (λ on. ap (λ (s : Sending). s.said) ends.3.1 ∙
             h.kept) (λ evidence e. absurd cc))
-        by_deed (Handed (Err agency.NoMemory)) dealt ends = same_after (Err NoMemory) ends.3.0 (handed_lacking ends.2 ends.3.2
-            dealt.2 kind.tells refl)
+        by_deed (Handed (Err agency.NoMemory)) dealt ends = same_after (Err NoMemory) ends.3.0 (handed_lacking (doubt_here false ends.1, ends.2)
+            ends.3.2 dealt.2 kind.tells refl)

@@ -96,6 +96,7 @@ module _ (kind : Kind) (exact : Bool) (records : List Sealed) (desk : Desk) (sig
       at = record {
         records_are = records_are;
         noted_is = refl;
+        doubt = refl;
         pace = λ e. refl;
         kept = refl;
         moment = refl;

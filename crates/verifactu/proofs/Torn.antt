@@ -26,7 +26,7 @@ use Rattle.sender.specs.declared.answers.DrainFault.{DrainFault}
 use Rattle.sender.specs.Agreeing.{Adds, AreNotes, HasAt}
 use Rattle.sender.specs.Draining.{Drained, Scene}
 use Rattle.sender.specs.Sending.{Sending}
-use Rattle.sender.specs.Turning.{Deed, Nothing, Asked, Handed, Kind, Desk, Dealt, Ends, Turned}
+use Rattle.sender.specs.Turning.{Deed, Nothing, Asked, Handed, Kind, Desk, Dealt, Ends, Turned, turn_call}
 use Rattle.sender.proofs.Added.{Added, ends_added, quiet as added_none, notes as added_notes, stops as added_stop}
 use Rattle.sender.proofs.Adding.{has_front, turns_notes}
 use Rattle.sender.proofs.Growing.{Growth, all_contained}
@@ -119,7 +119,7 @@ by_added before look after old new result own f (added_stop issuer lines a e) = 
     stop_said look after old new (f e) items faults torn is
 
 pub turn_tears : (kind : Kind) (desk desk_then : Desk) (before after : Sight) (old new : Sending) (now : ℕ)
-    (result : Result Turn SendFault) → Turned kind desk desk_then before after old new now result → IsTrue kind.tells →
+    (result : Result Turn SendFault) → Turned (turn_call kind desk desk_then before after old new now result) → IsTrue kind.tells →
     TearsSaid before after desk_then.ledger.messages
 turn_tears kind desk desk_then before after old new now result t tells =
     by_added before t.look after desk.ledger.messages desk_then.ledger.messages result t.own

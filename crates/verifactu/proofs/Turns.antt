@@ -29,7 +29,7 @@ use Rattle.sender.specs.Agreeing.{KeepsAgreement}
 use Rattle.sender.specs.Draining.{CountsOf, Drained, EndsWith, Scene, Turns, none, more}
 use Rattle.sender.specs.Lines.{IsCall}
 use Rattle.sender.specs.Sending.{Sending}
-use Rattle.sender.specs.Turning.{Desk, Kind, Turned}
+use Rattle.sender.specs.Turning.{Desk, Kind, Turned, turn_call}
 use Rattle.sender.proofs.Adding.{adds_none, adds_then, has_front}
 use Rattle.sender.proofs.Causes.{turn_later}
 use Rattle.sender.proofs.Growing.{Growth, all_contained, gains_each}
@@ -175,7 +175,7 @@ untorn_end (Err send.NoMemory) f is = f
 
 -- a turn that answers a fault of the disk leaves a stop
 pub stopped_end : (kind : Kind) (desk desk_then : Desk) (before after : Sight) (old new : Sending) (now : ℕ)
-    (answer : Result Turn SendFault) → Turned kind desk desk_then before after old new now answer →
+    (answer : Result Turn SendFault) → Turned (turn_call kind desk desk_then before after old new now answer) →
     IsDiskAnswer (sending_end answer) → EndsStopped after.items
 stopped_end kind desk desk_then before after old new now (Ok turn) t disk = absurd disk
 stopped_end kind desk desk_then before after old new now (Err send.LinkFault) t disk = absurd disk

@@ -55,6 +55,7 @@ grown_high a b g high = subst (λ (o : List ℕ). AllByRecursion (λ (p : ℕ). 
 pub record At (exact : Bool) (records : List Sealed) (base : ℕ) (scene : Scene) (st : Standing) : Type 0 where
   pub records_are : recs (history_of scene.sight) ≡ records
   pub noted_is : length (noted (history_of scene.sight)) ≡ st.noted
+  pub doubt : scene.sending.doubt ≡ st.doubt
   pub pace : IsTrue exact → scene.sending.pace ≡ st.pace
   pub kept : scene.sending.said ≡ st.said
   pub moment : scene.moment ≡ st.moment
@@ -115,6 +116,7 @@ module _ (kind : Kind) (exact : Bool) (records : List Sealed) (final : Sight) (b
         records_are = ap (λ (l : List Item). recs (entries_of l)) same ∙ at.records_are;
         noted_is = ap (λ (l : List Item). length (noted (entries_of l))) same ∙ at.noted_is;
         shows = t.shows;
+        doubt = at.doubt;
         pace = at.pace;
         kept = at.kept;
         now_is = λ e. turn.told e ∙ at.moment;
@@ -135,6 +137,7 @@ module _ (kind : Kind) (exact : Bool) (records : List Sealed) (final : Sight) (b
       record {
         records_are = d.records_are;
         noted_is = d.noted_is;
+        doubt = d.doubt on;
         pace = d.pace on;
         kept = d.kept on;
         moment = turn.moment ∙ ap (λ (m : ℕ). moment_after m answer) at.moment ∙ d.moment;

@@ -47,38 +47,46 @@ message_in (Waits at) = None
 message_in (Says message printed) = Some message
 message_in LacksMemory = None
 
--- How far a drain has come: how many lines are noted; the second of the last submission, and the pause that the last reply
--- asked for which named its batch; that reply, until a consultation has answered; and the sleeper's moment.
+-- How far a drain has come: how many lines are noted; whether it is in doubt what came of its last batch; the second of the last
+-- submission, and the pause that the last reply asked for which named its batch; that reply, until a consultation has answered;
+-- and the sleeper's moment.
 pub record Standing : Type 0 where
   pub noted : ℕ
+  pub doubt : Bool
   pub pace : Pace
   pub said : Option Replied
   pub moment : ℕ
 
--- at the start no submission was made, and the pause is the first one
+-- at the start it is in doubt, no submission was made, and the pause is the first one
 abbrev pub at_start : ℕ → ℕ → Standing
-at_start noted moment = record { noted = noted; pace = fresh.pace; said = None; moment = moment }
+at_start noted moment = record { noted = noted; doubt = true; pace = fresh.pace; said = None; moment = moment }
 
 -- a reply that names its batch says the pause
 abbrev pub with_reply : Standing → Option Replied → Standing
 with_reply st None = st
 with_reply st (Some reply) = record {
   noted = st.noted;
+  doubt = st.doubt;
   pace = record { last = st.pace.last; wait = reply.wait };
   said = Some reply;
   moment = st.moment;
 }
 
--- a submission is made at the sleeper's moment
+-- a submission is made at the sleeper's moment, and from then on it is in doubt
 abbrev pub handing : Standing → Standing
-handing st =
-    record { noted = st.noted; pace = record { last = st.moment; wait = st.pace.wait }; said = st.said; moment = st.moment }
+handing st = record {
+  noted = st.noted;
+  doubt = true;
+  pace = record { last = st.moment; wait = st.pace.wait };
+  said = st.said;
+  moment = st.moment;
+}
 
 abbrev pub after_message : Standing → Message → Standing
 after_message st (Begun plan pairs) = st
 after_message st (Submitted batch answer) = with_reply (handing st) (named_reply batch answer)
 after_message st (Consulted huellas (Ok seen)) =
-    record { noted = st.noted; pace = st.pace; said = None; moment = st.moment }
+    record { noted = st.noted; doubt = st.doubt; pace = st.pace; said = None; moment = st.moment }
 after_message st (Consulted huellas (Err why)) = st
 
 -- the lines that a turn noted
@@ -86,12 +94,25 @@ abbrev pub noted_in : Told → ℕ
 noted_in (told.Noted n) = n
 noted_in _ = 0
 
-abbrev pub noting : ℕ → Standing → Standing
-noting n st = record { noted = st.noted + n; pace = st.pace; said = st.said; moment = st.moment }
+-- noted lines end the doubt, and so does the answer that the agency has seen none of the records
+abbrev pub doubt_behind : Bool → Told → Bool
+doubt_behind doubt (told.Noted n) = false
+doubt_behind doubt told.Cleared = false
+doubt_behind doubt _ = doubt
+
+abbrev pub after_line : Standing → Told → Standing
+after_line st printed = record {
+  noted = st.noted + noted_in printed;
+  doubt = doubt_behind st.doubt printed;
+  pace = st.pace;
+  said = st.said;
+  moment = st.moment;
+}
 
 abbrev pub after_step : Standing → Step → Standing
-after_step st (Waits at) = record { noted = st.noted; pace = st.pace; said = st.said; moment = max st.moment at }
-after_step st (Says message printed) = noting (noted_in printed) (after_message st message)
+after_step st (Waits at) =
+    record { noted = st.noted; doubt = st.doubt; pace = st.pace; said = st.said; moment = max st.moment at }
+after_step st (Says message printed) = after_line (after_message st message) printed
 after_step st LacksMemory = st
 
 abbrev pub after_steps : Standing → List Step → Standing
@@ -154,15 +175,16 @@ IsConsultationLine st huellas (Ok seen) printed = IsSeenLine st huellas seen pri
 IsConsultationLine st huellas (Err agency.Failed) printed = printed ≡ told.Link
 IsConsultationLine st huellas (Err agency.NoMemory) printed = printed ≡ told.Memory
 
--- One step at this standing. The first waiting records are asked for or handed over; and where the sleeper tells its moment,
--- a submission is made only where one is due, and a wait only where none is, until the second when it will be.
+-- One step at this standing. In doubt the first waiting records are asked for; only out of doubt are they handed over, or is
+-- there a wait. And where the sleeper tells its moment, a submission is made only where one is due, and a wait only where none
+-- is, until the second when it will be.
 abbrev pub IsStep : Bool → List Sealed → Standing → Step → Type 0
-IsStep exact records st (Waits at) = (st.noted < length records)
+IsStep exact records st (Waits at) = (st.doubt ≡ false) × (st.noted < length records)
     × (IsTrue exact → (is_due st.pace st.moment (count_waiting records st) ≡ false) × (at ≡ due_at st.pace))
-IsStep exact records st (Says (Submitted batch answer) printed) = (batch ≡ next_batch records st)
+IsStep exact records st (Says (Submitted batch answer) printed) = (st.doubt ≡ false) × (batch ≡ next_batch records st)
     × (IsTrue exact → is_due st.pace st.moment (count_waiting records st) ≡ true) × IsSubmissionLine st batch answer printed
-IsStep exact records st (Says (Consulted huellas answer) printed) = (huellas ≡ huellas_of (next_batch records st))
-    × IsConsultationLine st huellas answer printed
+IsStep exact records st (Says (Consulted huellas answer) printed) = (st.doubt ≡ true)
+    × (huellas ≡ huellas_of (next_batch records st)) × IsConsultationLine st huellas answer printed
 IsStep exact records st (Says (Begun plan pairs) printed) = ⊥
 IsStep exact records st LacksMemory = ⊤
 

@@ -9,6 +9,9 @@ use Rattle.verifactu.proofs.Torn.{turn_tears}
 use Rattle.verifactu.proofs.Turns.{never_end, never_gives_up, stopped_end, untorn_end}
 use Rattle.verifactu.proofs.sending.one_turn.Goals as goal
 
+pub returns-clause-fixed : goal.returns-clause-fixed
+returns-clause-fixed g c = c.turn-answer.ensures.above.fixed
+
 pub returns-clause-sends : goal.returns-clause-sends
 returns-clause-sends g c =
     let kind = agency_kind g.G.Agency in
@@ -20,23 +23,23 @@ returns-clause-sends g c =
     let e = c.turn-answer.ensures in
     subst (λ (r : Result (Unit {0}) DrainFault). SendsOn kind before after old new c.args.sender.now c.turn-answer.new.self r)
     (sym c.going_on.ensures) (record {
-      adds = e.adds;
-      notes = λ faultless. e.notes (untorn_end answer faultless);
+      adds = e.above.adds;
+      notes = λ faultless. e.above.notes (untorn_end answer faultless);
       stopped = stopped_end kind old new before after c.args.sender.now c.turn-answer.new.self c.now-now.result answer e.turned;
-      session = λ keeps in_it gains. let k = e.agreement keeps in_it gains in record { session = k.session; begins = k.begins };
+      session = λ keeps in_it gains. let k = e.agreement.keeps keeps in_it gains in record { session = k.session; begins = k.begins };
       no_contradiction = λ keeps in_it gains. never_end answer before after old new c.turn-answer.new.self
-          (e.agreement keeps in_it gains);
-      torn = e.torn;
-      careful = e.careful;
-      says = e.says;
-      kept = e.kept;
+          (e.agreement.keeps keeps in_it gains);
+      torn = e.agreement.torn;
+      careful = e.no_blind_repeat.careful;
+      says = e.above.says;
+      kept = e.no_blind_repeat.kept;
       contrary = turn_shows kind old new before after c.args.sender.now c.turn-answer.new.self c.now-now.result answer e.turned;
       shown = turn_answers kind old new before after c.args.sender.now c.turn-answer.new.self c.now-now.result answer e.turned;
       none_before = turn_before kind old new before after c.args.sender.now c.turn-answer.new.self c.now-now.result answer e.turned;
       lines = turn_notes c.what_came_beside_is_records.ensures.quiet c.what_came_beside_is_records.ensures.own kind old new before
           after c.args.sender.now c.turn-answer.new.self c.now-now.result answer e.turned;
       torn_lines = turn_tears kind old new before after c.args.sender.now c.turn-answer.new.self c.now-now.result answer e.turned;
-      later = e.later;
+      later = e.link_fault.later;
       counts = λ n r is. absurd (never_gives_up answer n r is);
       undelivered = λ n r is. absurd (never_gives_up answer n r is);
       gives_up = λ tells n r is. absurd (never_gives_up answer n r is);
