@@ -4,7 +4,7 @@ use Rattle.std.proofs.Common.{length-append, length-drop}
 use Rattle.std.proofs.lemmas.List.{length-take}
 use Rattle.chain_disk.specs.OnDisk.{OnDisk, IsImage, IsSettled, moment, written, synced, pasted, settled, wider}
 use Rattle.chain_disk.specs.Runs.{Reached, started, on_write, on_sync}
-use Rattle.journal.specs.Commit.{IsCommitImage, IsCommitted}
+use Rattle.journal.specs.Commit.{IsCommitImage, IsCommitted, gated}
 use Rattle.journal.proofs.Images.{start_image, behind_image, staged_image, gate_image, opened_image, opened_is}
 
 module _ (t : OnDisk) (gate : ℕ) (bytes : List ℕ) (within : gate < length t.content) (quiet : IsSettled t) where
@@ -48,21 +48,22 @@ module _ (t : OnDisk) (gate : ℕ) (bytes : List ℕ) (within : gate < length t.
         ap (λ (l : List ℕ). settled l) (sym r.content_is);
   }
 
-module _ (t u v w x : OnDisk) (at gate : ℕ) (bytes : List ℕ) (ok : u ≡ written at bytes t) (ok1 : v ≡ synced u)
-    (ok2 : w ≡ written gate (1 ∷ []) v) (ok3 : x ≡ synced w) where
-  -- each of the four calls takes a moment
-  pub four_moments : moment x ≡ moment t + 4
-  four_moments = omega (
-    arith,
-    ap (λ (d : OnDisk). moment d) ok,
-    ap (λ (d : OnDisk). moment d) ok1,
-    ap (λ (d : OnDisk). moment d) ok2,
-    ap (λ (d : OnDisk). moment d) ok3,
-  )
+-- each of the four calls takes a moment
+pub four_moments : (t u v w x : OnDisk) (at place : ℕ) (bytes others : List ℕ) → u ≡ written at bytes t → v ≡ synced u →
+    w ≡ written place others v → x ≡ synced w → moment x ≡ moment t + 4
+four_moments t u v w x at place bytes others ok ok1 ok2 ok3 = omega (
+  arith,
+  ap (λ (d : OnDisk). moment d) ok,
+  ap (λ (d : OnDisk). moment d) ok1,
+  ap (λ (d : OnDisk). moment d) ok2,
+  ap (λ (d : OnDisk). moment d) ok3,
+)
 
-  pub both_written : x.content ≡ pasted gate (1 ∷ []) (pasted at bytes t.content)
-  both_written = ap (λ (d : OnDisk). d.content) ok3 ∙ ap (λ (d : OnDisk). d.content) ok2 ∙
-      ap (λ (d : OnDisk). pasted gate (1 ∷ []) d.content) (ok1 ∙ ap (λ (d : OnDisk). synced d) ok)
+pub both_written : (t u v w x : OnDisk) (gate : ℕ) (bytes : List ℕ) → gate < length t.content → u ≡ written (gate + 1) bytes t →
+    v ≡ synced u → w ≡ written gate (1 ∷ []) v → x ≡ synced w → x.content ≡ gated t.content gate 1 bytes
+both_written t u v w x gate bytes within ok ok1 ok2 ok3 = ap (λ (d : OnDisk). d.content) ok3 ∙ ap (λ (d : OnDisk). d.content) ok2 ∙
+    ap (λ (d : OnDisk). pasted gate (1 ∷ []) d.content) (ok1 ∙ ap (λ (d : OnDisk). synced d) ok) ∙
+    opened_is t.content bytes gate within
 
 -- a write and a sync leave no less than there was
 pub not_shorter : (t u v : OnDisk) (at : ℕ) (bytes : List ℕ) → u ≡ written at bytes t → v ≡ synced u →

@@ -1,8 +1,13 @@
-use Rattle.std.proofs.Common.{length, ◌+◌, ◌∙◌, arith}
+use Rattle.std.proofs.Common.{length, ◌+◌, arith}
 use Rattle.chain_disk.specs.Runs.{on_write_failed, on_sync_failed}
-use Rattle.journal.proofs.Images.{behind_image, gate_image, opened_is}
+use Rattle.journal.proofs.Images.{behind_image, gate_image}
 use Rattle.journal.proofs.Commits.{at_start, after_write, after_sync, after_gate, after_all, committed, not_shorter, four_moments, both_written}
 use Rattle.journal.proofs.commit.commit.Goals as goal
+
+pub returns-clause-moments : goal.returns-clause-moments
+returns-clause-moments g c = λ tells. four_moments (g.D.Disk.told c.args.disk.now) _ _ _ _ _ _ _ _
+    (c.in_ok-write_at.ensures.ok tells) (c.in_ok-sync.ensures.ok tells) (c.in_ok-write_at-2.ensures.ok tells)
+    (c.in_ok-sync-2.ensures.ok tells)
 
 pub returns-in_err-write_at-clause-any_moment : goal.returns-in_err-write_at-clause-any_moment
 returns-in_err-write_at-clause-any_moment g c = λ tells quiet.
@@ -51,16 +56,9 @@ returns-clause-ok g c = λ tells quiet.
     (c.in_ok-sync-2.ensures.ok tells))
 
 pub returns-clause-content : goal.returns-clause-content
-returns-clause-content g c = λ tells.
-    let t = g.D.Disk.told c.args.disk.now in
-    both_written t _ _ _ _ (c.args.gate + 1) c.args.gate c.args.bytes.now (c.in_ok-write_at.ensures.ok tells)
-    (c.in_ok-sync.ensures.ok tells) (c.in_ok-write_at-2.ensures.ok tells) (c.in_ok-sync-2.ensures.ok tells) ∙
-    opened_is t.content c.args.bytes.now c.args.gate (c.requires.within tells)
-
-pub returns-clause-moments : goal.returns-clause-moments
-returns-clause-moments g c = λ tells. four_moments (g.D.Disk.told c.args.disk.now) _ _ _ _ _ _ _
-    (c.in_ok-write_at.ensures.ok tells) (c.in_ok-sync.ensures.ok tells) (c.in_ok-write_at-2.ensures.ok tells)
-    (c.in_ok-sync-2.ensures.ok tells)
+returns-clause-content g c = λ tells. both_written (g.D.Disk.told c.args.disk.now) _ _ _ _ c.args.gate c.args.bytes.now
+    (c.requires.within tells) (c.in_ok-write_at.ensures.ok tells) (c.in_ok-sync.ensures.ok tells)
+    (c.in_ok-write_at-2.ensures.ok tells) (c.in_ok-sync-2.ensures.ok tells)
 
 pub returns-clause-any_moment : goal.returns-clause-any_moment
 returns-clause-any_moment g c = λ tells quiet.

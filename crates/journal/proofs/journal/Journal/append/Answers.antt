@@ -3,6 +3,11 @@ use Rattle.journal.specs.Commit.{gated}
 use Rattle.journal.proofs.Files.{acknowledged, any_moment, ready_after, within}
 use Rattle.journal.proofs.journal.Journal.append.Goals as goal
 
+pub returns-in-Ok-clause-content : goal.returns-in-Ok-clause-content
+returns-in-Ok-clause-content g c = λ tells.
+    c.in-Ok.ensures.content tells ∙ ap (λ (l : List ℕ). gated (g.D.Disk.told c.args.self.now.disk).content c.args.self.now.end 1 l)
+    (c.as_slice.ensures.value ∙ c.frame_bytes.ensures)
+
 pub returns-in-Ok-clause-acknowledged : goal.returns-in-Ok-clause-acknowledged
 returns-in-Ok-clause-acknowledged g c = λ tells issuer bodies at.
     (acknowledged (g.D.Disk.told c.args.self.now.disk) (g.D.Disk.told c.commit.new.disk) issuer bodies c.args.body.now
@@ -20,11 +25,6 @@ returns-in-Ok-clause-any_moment g c = λ going tells issuer bodies at.
     any_moment (g.D.Disk.told c.args.self.now.disk) (g.D.Disk.told c.commit.new.disk) issuer bodies c.args.body.now
     c.as_slice.result.now c.args.self.now.end c.requires.size at (c.as_slice.ensures.value ∙ c.frame_bytes.ensures)
     (c.commit.ensures.any_moment tells at.nothing_pending)
-
-pub returns-in-Ok-clause-content : goal.returns-in-Ok-clause-content
-returns-in-Ok-clause-content g c = λ tells.
-    c.in-Ok.ensures.content tells ∙ ap (λ (l : List ℕ). gated (g.D.Disk.told c.args.self.now.disk).content c.args.self.now.end 1 l)
-    (c.as_slice.ensures.value ∙ c.frame_bytes.ensures)
 
 pub invariant_of-self : goal.invariant_of-self
 invariant_of-self g c = record {
