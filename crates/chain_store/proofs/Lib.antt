@@ -1,3 +1,7 @@
 mod Loads
 mod Stores
 mod Taking
+mod Each
+mod Stepping
+mod Finishing
+mod Taken

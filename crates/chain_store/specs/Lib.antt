@@ -1,3 +1,11 @@
 pub mod Loading
 pub mod Ready
 pub mod Store
+pub mod Clocks
+pub mod Replies
+pub mod Readings
+pub mod Crashes
+pub mod Runs
+pub mod Progress
+pub mod Took
+pub mod Taking

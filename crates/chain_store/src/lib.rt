@@ -4,8 +4,10 @@
 
 mod causes;
 mod loading;
+mod runs;
 mod store;
 
 pub use causes::{LoadFault, OpenCause};
 pub use loading::{Loaded, load};
+pub use runs::{a_run_begins, a_run_ends, run_commands, take_next};
 pub use store::Store;

@@ -8,7 +8,7 @@ ghost use Rattle.shop_core.specs.Answer.Replies.{IsTaken};
 ghost use Rattle.std.specs.Int.{IsInRange};
 ghost use Rattle.shop_core.specs.Legal.{Continues};
 ghost use Rattle.shop_core.specs.File.Files.{StandsFor, StandsBeforeOrWith};
-ghost use Rattle.chain_store.specs.Ready.{IfNothingTaken, IsReady, Takes, Tears, TearsLines, noted_next};
+ghost use Rattle.chain_store.specs.Ready.{IsReady, TearsLines, noted_next};
 ghost use Rattle.record_fields.specs.declared.lines.TheConstants.{BATCH};
 
 use chain_disk::Disk;
@@ -35,6 +35,7 @@ pub struct Store<D: Disk, C: Clock> {
 
 impl<D: Disk, C: Clock> Store<D, C> {
     ghost use Rattle.journal.specs.Journal.{disk_of, end_of, stopped_of};
+    ghost use Rattle.chain_store.specs.Took.{Took};
     ghost use Rattle.chain_store.specs.Store.{Acknowledged, Adds, GoesOn, IsLater, IsStoppedByFault, Ready, this_call, torn_of};
 
     /// The store of a journal that goes on and keeps this history.
@@ -81,24 +82,7 @@ impl<D: Disk, C: Clock> Store<D, C> {
     /// A journal that stopped answers so before the clock is read. Want of memory comes before the first call of the disk.
     pub fn take(&mut self, alloc: Global, ask: &Ask) -> Result<Reply, StoreFault>
         requires { Ready D.tells D.told self.old }
-        ensures ready { Ready D.tells D.told self.new }
-        ensures takes { stopped_of self.old.journal ≡ None →
-            Takes (this_call D.tells D.told C.coming self.old self.new) ask.now result }
-
-        // After Ok every crash leaves the whole history.
-        ensures acknowledged { OnOk result (Acknowledged D.tells D.told self.new) }
-        ensures going_on { OnOk result (GoesOn self.old self.new) }
-        ensures nothing_taken { IfOk result (λ reply. IfNothingTaken reply (self.new.journal ≡ self.old.journal)) }
-        ensures no_memory { IsErrOf result StoreFault.NoMemory → self.new.journal ≡ self.old.journal }
-
-        // A fault of the disk stops the journal for good. From then on nothing is asked of the disk or the clock.
-        ensures fault { IsErrOf result StoreFault.DiskFault → IsStoppedByFault D.faults self.old self.new }
-        ensures torn { IsErrOf result StoreFault.DiskFault →
-            Tears (this_call D.tells D.told C.coming self.old self.new) ask.now (torn_of self.new) }
-        ensures stopped { (faults : ℕ) →
-            IsErrOf result (StoreFault.Stopped faults) ↔ (stopped_of self.old.journal ≡ Some faults) }
-        ensures untouched { IsSome (stopped_of self.old.journal) → self.new ≡ self.old }
-        ensures later { IsLater D.faults self.old self.new }
+        ensures { Took D.Disk C.Clock self.old self.new ask.now result }
     {
         self.take_asking(alloc, &ask.borrowed())
     }
@@ -106,24 +90,7 @@ impl<D: Disk, C: Clock> Store<D, C> {
     /// The same for an ask whose request stays with who asks.
     pub fn take_asking(&mut self, alloc: Global, ask: &Asking) -> Result<Reply, StoreFault>
         requires { Ready D.tells D.told self.old }
-        ensures ready { Ready D.tells D.told self.new }
-        ensures takes { stopped_of self.old.journal ≡ None →
-            Takes (this_call D.tells D.told C.coming self.old self.new) ask.now result }
-
-        // After Ok every crash leaves the whole history.
-        ensures acknowledged { OnOk result (Acknowledged D.tells D.told self.new) }
-        ensures going_on { OnOk result (GoesOn self.old self.new) }
-        ensures nothing_taken { IfOk result (λ reply. IfNothingTaken reply (self.new.journal ≡ self.old.journal)) }
-        ensures no_memory { IsErrOf result StoreFault.NoMemory → self.new.journal ≡ self.old.journal }
-
-        // A fault of the disk stops the journal for good. From then on nothing is asked of the disk or the clock.
-        ensures fault { IsErrOf result StoreFault.DiskFault → IsStoppedByFault D.faults self.old self.new }
-        ensures torn { IsErrOf result StoreFault.DiskFault →
-            Tears (this_call D.tells D.told C.coming self.old self.new) ask.now (torn_of self.new) }
-        ensures stopped { (faults : ℕ) →
-            IsErrOf result (StoreFault.Stopped faults) ↔ (stopped_of self.old.journal ≡ Some faults) }
-        ensures untouched { IsSome (stopped_of self.old.journal) → self.new ≡ self.old }
-        ensures later { IsLater D.faults self.old self.new }
+        ensures { Took D.Disk C.Clock self.old self.new ask.now result }
     {
         if let Some(faults) = self.journal.stopped() {
             return Err(StoreFault::Stopped { faults });

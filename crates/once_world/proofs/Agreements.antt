@@ -16,7 +16,8 @@ use Rattle.shop_core.specs.Spans.{NotedWithinRecords}
 use Rattle.agency_rules.specs.declared.plans.PlannedVerdict.{PlannedVerdict}
 use Rattle.agency_rules.specs.Pairs.{delivered, delivered_all}
 use Rattle.agency_port.specs.Rules.{AreAmong}
-use Rattle.once_world.specs.Agreement.{IsPrefix, IsRun, Agree, AreNextLines, AreOnce, records_of, lines_of}
+use Rattle.shop_core.specs.Prefix.{IsPrefix}
+use Rattle.once_world.specs.Agreement.{IsRun, Agree, AreNextLines, AreOnce, records_of, lines_of}
 use Rattle.once_world.specs.Laws.{RecordsKeepAgreement, RecordsKeepNextLines, SendingKeepsAgreement, NotingKeepsAgreement}
 use Rattle.once_world.specs.Laws.{DeliveriesKeepAgreement, NotedPairsAgree, StandOnce, DeliveriesRefuseNoSale}
 use Rattle.once_world.proofs.Lists.{all_contained, all_both, all_change, prefix_more, prefix_length}

@@ -23,7 +23,8 @@ use Rattle.agency_rules.specs.declared.plans.Verdict.{Verdict}
 use Rattle.agency_rules.specs.declared.plans.Verdict.TheVariants as verdict_of
 use Rattle.agency_rules.specs.Judging.{of_id, past_of, verdict_for, judge, judgement}
 use Rattle.agency_rules.specs.Pairs.{line_of, after_record, delivered}
-use Rattle.once_world.specs.Agreement.{IsPrefix, records_of, contradicts, is_sale_refused, AddsNoRefusedSale}
+use Rattle.shop_core.specs.Prefix.{IsPrefix}
+use Rattle.once_world.specs.Agreement.{records_of, contradicts, is_sale_refused, AddsNoRefusedSale}
 use Rattle.once_world.proofs.Lists.{bytes_same, not_same}
 
 -- the records of a chain: no Huella stands twice, and the number of a sale is new

@@ -12,7 +12,8 @@ use Rattle.agency_rules.specs.Pairs.{line_of}
 use Rattle.agency_port.specs.Answers.{seen_of}
 use Rattle.agency_port.specs.declared.answers.Seen.{Seen}
 use Rattle.agency_port.specs.declared.answers.Seen.TheVariants.{NotSeen, Was}
-use Rattle.once_world.specs.Agreement.{IsPrefix, Agree, records_of, lines_of}
+use Rattle.shop_core.specs.Prefix.{IsPrefix}
+use Rattle.once_world.specs.Agreement.{Agree, records_of, lines_of}
 use Rattle.once_world.specs.Looks.{answers_for, lines_in_front, HasNoHole}
 use Rattle.once_world.specs.Laws.{LookedLinesAreNext, WaitingHaveNoHole}
 use Rattle.once_world.proofs.Lists.{bytes_same, not_same, split_by, drop_front, all_front, all_behind, prefix_none, prefix_cons}

@@ -15,7 +15,8 @@ use Rattle.agency_rules.specs.Pairs.{line_of, met, delivered_record, after_recor
 use Rattle.agency_port.specs.Answers.{reply_line, answers}
 use Rattle.agency_port.specs.declared.answers.ReplyLine.{ReplyLine}
 use Rattle.agency_port.specs.declared.answers.ReplyLine.TheVariants.{First}
-use Rattle.once_world.specs.Agreement.{IsPrefix, Agree, records_of, lines_of}
+use Rattle.shop_core.specs.Prefix.{IsPrefix}
+use Rattle.once_world.specs.Agreement.{Agree, records_of, lines_of}
 use Rattle.once_world.specs.Laws.{FirstLinesAreNext, DeliveriesOnlyAdd, DeliveredAreSeen, SeenStays}
 use Rattle.once_world.proofs.Lists.{prefix_length}
 use Rattle.once_world.proofs.Agreements.{as_many_lines, as_many_records, waiting_split}

@@ -15,7 +15,8 @@ use Rattle.shop_core.specs.declared.answer.Planned.{Planned}
 use Rattle.shop_core.specs.declared.answer.Planned.TheVariants.{Again, Refused, Made}
 use Rattle.agency_rules.specs.Pairs.{delivered}
 use Rattle.agency_rules.specs.declared.plans.Plan.{Plan}
-use Rattle.once_world.specs.Agreement.{IsPrefix, Agree, IsLearnt, HasNoRefusedSale, is_sale_refused, lines_of}
+use Rattle.shop_core.specs.Prefix.{IsPrefix}
+use Rattle.once_world.specs.Agreement.{Agree, IsLearnt, HasNoRefusedSale, is_sale_refused, lines_of}
 use Rattle.once_world.specs.Looks.{answers_for, lines_in_front}
 use Rattle.once_world.specs.World.{empty, appended, torn, may_send, after_send, after_delivery, learnt_lines, after_look}
 use Rattle.once_world.specs.World.{after_note, torn_note, reopened, happens, happen, world}

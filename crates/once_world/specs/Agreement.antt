@@ -10,11 +10,7 @@ use Rattle.record_fields.specs.declared.lines.Cause.TheVariants.{Vet, Held, NotH
 use Rattle.record_fields.specs.declared.lines.TheConstants.{BATCH}
 use Rattle.record_codec.specs.declared.entry.Entry.{Entry}
 use Rattle.shop_core.specs.History.{recs, noted}
-
--- ys begins with xs
-pub record IsPrefix {A : Type 0} (xs ys : List A) : Type 0 where
-  pub rest : List A
-  pub is : ys ≡ xs ++ rest
+use Rattle.shop_core.specs.Prefix.{IsPrefix}
 
 -- the records and the lines of pairs
 abbrev pub records_of : List (Sealed × Line) → List Sealed

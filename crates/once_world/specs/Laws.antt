@@ -17,7 +17,8 @@ use Rattle.agency_rules.specs.declared.plans.PlannedVerdict.{PlannedVerdict}
 use Rattle.agency_port.specs.Answers.{answers}
 use Rattle.agency_port.specs.Rules.{AreAmong}
 use Rattle.agency_port.specs.declared.answers.ReplyLine.TheVariants.{First}
-use Rattle.once_world.specs.Agreement.{IsPrefix, Agree, AreNextLines, IsLearnt, AddsNoRefusedSale, HasNoRefusedSale, AreOnce}
+use Rattle.shop_core.specs.Prefix.{IsPrefix}
+use Rattle.once_world.specs.Agreement.{Agree, AreNextLines, IsLearnt, AddsNoRefusedSale, HasNoRefusedSale, AreOnce}
 use Rattle.once_world.specs.Agreement.{lines_of}
 use Rattle.once_world.specs.Looks.{answers_for, lines_in_front, HasNoHole}
 use Rattle.once_world.specs.Outbox.{Sight, Grows, AddsOwn, GainsOwnNotes}

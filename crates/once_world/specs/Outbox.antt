@@ -13,7 +13,7 @@ use Rattle.shop_core.specs.declared.items.Item.{Item}
 use Rattle.shop_core.specs.declared.items.Item.TheVariants as recorded
 use Rattle.shop_core.specs.Legal.{Legal}
 use Rattle.shop_core.specs.declared.waiting.Waiting.{Waiting}
-use Rattle.once_world.specs.Agreement.{IsPrefix}
+use Rattle.shop_core.specs.Prefix.{IsPrefix}
 
 -- the shop's issuer, the items that were seen, and the places, from 0, of those that its own notes added
 pub record Sight : Type 0 where

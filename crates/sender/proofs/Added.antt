@@ -10,7 +10,7 @@ use Rattle.batches.specs.Batches.{huellas_of}
 use Rattle.agency_port.specs.Reply.{Replied}
 use Rattle.agency_port.specs.declared.answers.Seen.{Seen}
 use Rattle.agency_port.specs.declared.answers.ReplyLine.TheVariants.{First}
-use Rattle.once_world.specs.Agreement.{IsPrefix}
+use Rattle.shop_core.specs.Prefix.{IsPrefix}
 use Rattle.once_world.specs.Outbox.{Sight, Grows, AddsOwn, StopsHere, NotedBy, notes_behind}
 use Rattle.sender.specs.declared.answers.Turn.{Turn}
 use Rattle.sender.specs.declared.answers.Turn.TheVariants.{Noted, Cleared, Doubt}

@@ -13,7 +13,8 @@ use Rattle.shop_core.specs.declared.items.Item.{Item}
 use Rattle.shop_core.specs.declared.items.Item.TheVariants as recorded
 use Rattle.shop_core.specs.History.{noted}
 use Rattle.agency_port.specs.declared.turns.Told.{Told}
-use Rattle.once_world.specs.Agreement.{IsPrefix, Agree}
+use Rattle.shop_core.specs.Prefix.{IsPrefix}
+use Rattle.once_world.specs.Agreement.{Agree}
 use Rattle.once_world.specs.Outbox.{Sight, AddsOwn, notes_behind, history_of}
 use Rattle.sender.specs.declared.answers.Turn.{Turn}
 use Rattle.sender.specs.declared.answers.SendFault.{SendFault}

@@ -21,7 +21,8 @@ use Rattle.agency_port.specs.declared.answers.Seen.{Seen}
 use Rattle.agency_port.specs.declared.answers.AgencyFault.{AgencyFault}
 use Rattle.agency_port.specs.declared.answers.AgencyFault.TheVariants as agency
 use Rattle.consultation.specs.Sorting.{IsFront}
-use Rattle.once_world.specs.Agreement.{IsPrefix, Agree, lines_of}
+use Rattle.shop_core.specs.Prefix.{IsPrefix}
+use Rattle.once_world.specs.Agreement.{Agree, lines_of}
 use Rattle.once_world.specs.Laws.{DeliveriesOnlyAdd}
 use Rattle.once_world.specs.Looks.{answers_for, lines_in_front, HasNoHole}
 use Rattle.sender.specs.Agreeing.{AreSeen}

@@ -9,7 +9,7 @@ use Rattle.record_codec.specs.declared.entry.Entry.TheVariants.{Rec, Notes as no
 use Rattle.shop_core.specs.declared.items.Item.{Item}
 use Rattle.shop_core.specs.declared.items.Item.TheVariants as recorded
 use Rattle.shop_core.specs.declared.waiting.Waiting.{Waiting}
-use Rattle.once_world.specs.Agreement.{IsPrefix}
+use Rattle.shop_core.specs.Prefix.{IsPrefix}
 use Rattle.once_world.specs.Outbox.{Sight, Grows, AddsOwn, AreOwnNotes, GainsOwnNotes}
 use Rattle.sender.specs.declared.answers.Turn.{Turn}
 use Rattle.sender.specs.declared.answers.SendFault.{SendFault}

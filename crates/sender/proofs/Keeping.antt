@@ -22,7 +22,8 @@ use Rattle.agency_port.specs.declared.answers.Seen.{Seen}
 use Rattle.agency_port.specs.declared.answers.ReplyLine.TheVariants.{First}
 use Rattle.agency_port.specs.declared.answers.AgencyFault.{AgencyFault}
 use Rattle.agency_port.specs.declared.answers.AgencyFault.TheVariants as agency
-use Rattle.once_world.specs.Agreement.{IsPrefix, Agree, AreNextLines, lines_of}
+use Rattle.shop_core.specs.Prefix.{IsPrefix}
+use Rattle.once_world.specs.Agreement.{Agree, AreNextLines, lines_of}
 use Rattle.once_world.specs.Laws.{AreRecords}
 use Rattle.once_world.specs.Outbox.{Sight, Grows, ShowsWaiting, AddsOwn, NotedBy, history_of, notes_behind, GainsOwnNotes}
 use Rattle.sender.specs.declared.answers.Turn.{Turn}

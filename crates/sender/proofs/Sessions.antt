@@ -1,7 +1,7 @@
 -- What turns keep, one after another.
 use Rattle.std.proofs.Common.{ℕ, List, [], ◌++◌, sym, ◌∙◌, ap, append_assoc, append-nil, Bool, Result, IsTrue}
 use Rattle.agency_port.specs.declared.messages.Message.{Message}
-use Rattle.once_world.specs.Agreement.{IsPrefix}
+use Rattle.shop_core.specs.Prefix.{IsPrefix}
 use Rattle.once_world.specs.Outbox.{GainsOwnNotes}
 use Rattle.sender.specs.declared.answers.Turn.{Turn}
 use Rattle.sender.specs.declared.answers.SendFault.{SendFault}

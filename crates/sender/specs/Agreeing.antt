@@ -21,7 +21,8 @@ use Rattle.agency_port.specs.Rules.{Delivers}
 use Rattle.agency_port.specs.declared.messages.Message.{Message}
 use Rattle.agency_port.specs.declared.messages.Message.TheVariants.{Submitted}
 use Rattle.agency_port.specs.declared.answers.AgencyFault.{AgencyFault}
-use Rattle.once_world.specs.Agreement.{IsPrefix, Agree, AreNextLines}
+use Rattle.shop_core.specs.Prefix.{IsPrefix}
+use Rattle.once_world.specs.Agreement.{Agree, AreNextLines}
 use Rattle.once_world.specs.Laws.{AreRecords}
 use Rattle.once_world.specs.Outbox.{Sight, GainsOwnNotes, history_of}
 use Rattle.sender.specs.declared.answers.Turn.{Turn}

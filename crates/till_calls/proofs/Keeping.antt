@@ -5,18 +5,20 @@ use Rattle.std.proofs.lemmas.List.{append-nil}
 use Rattle.chain_disk.specs.OnDisk.{OnDisk, LeavesOnly, LeavesNow, moment}
 use Rattle.chain_disk.specs.Runs.{follows, weaker, started_settled, leaves_now}
 use Rattle.chain_lock.specs.Lists.{StartsWith}
+use Rattle.chain_store.specs.Crashes.{StandsBetween}
 use Rattle.chain_store.specs.Ready.{IsReady, Holds}
 use Rattle.shop_core.specs.File.Files.{StandsFor, StandsAround, StandsBeforeOrWith}
 use Rattle.ports.specs.Causes.{Rose}
 use Rattle.ports.specs.Readings.{MovedBy}
 use Rattle.record_codec.specs.declared.entry.Entry.{Entry}
 use Rattle.shop_core.specs.Legal.{Legal, Continues}
+use Rattle.shop_core.specs.Prefix.{IsPrefix}
 use Rattle.shop_core.specs.Answer.Replies.{Tells}
 use Rattle.shop_core.specs.declared.answer.Planned.{Planned}
 use Rattle.shop_core.specs.declared.answer.Planned.TheVariants.{Again, Refused, Made}
 use Rattle.shop_core.specs.declared.answer.Reply.{Reply}
 use Rattle.till_calls.specs.Root.{Root, Parts, with_torn, root_of}
-use Rattle.till_calls.specs.Sound.{StandsBetween, Leaves, IsLater, IsSound}
+use Rattle.till_calls.specs.Sound.{Leaves, IsLater, IsSound}
 
 pub none_torn : (history : List Entry) (stopped : Option ℕ) (torn : Option Entry) → stopped ≡ None →
     with_torn history stopped torn ≡ history
@@ -31,8 +33,17 @@ some_torn history stopped torn count entry e f = rw (e, f) refl
 front_more : (start entries gained : List Entry) → StartsWith entries start → StartsWith (entries ++ gained) start
 front_more start entries gained h = (h.0 ++ gained, ap (λ (es : List Entry). es ++ gained) h.1 ∙ append_assoc start h.0 gained)
 
+prefix_more : (start entries gained : List Entry) → IsPrefix start entries → IsPrefix start (entries ++ gained)
+prefix_more start entries gained h = record {
+  rest = h.rest ++ gained;
+  is = ap (λ (es : List Entry). es ++ gained) h.is ∙ append_assoc start h.rest gained;
+}
+
 front_all : (entries : List Entry) → StartsWith entries entries
 front_all entries = ([], sym (append-nil entries))
+
+prefix_all : (entries : List Entry) → IsPrefix entries entries
+prefix_all entries = record { rest = []; is = sym (append-nil entries) }
 
 between_more : (issuer : List ℕ) (start end gained : List Entry) (c : List ℕ) → StandsBetween issuer start end c →
     StandsBetween issuer start (end ++ gained) c
@@ -40,7 +51,7 @@ between_more issuer start end gained c h = record {
   history = h.history;
   stands = h.stands;
   begins = h.begins;
-  within = front_more h.history end gained h.within;
+  within = prefix_more h.history end gained h.within;
 }
 
 between_all : (issuer : List ℕ) (start entries gained : List Entry) (c : List ℕ) → StartsWith entries start →
@@ -48,8 +59,8 @@ between_all : (issuer : List ℕ) (start entries gained : List Entry) (c : List 
 between_all issuer start entries gained c begins stands = record {
   history = entries;
   stands = stands;
-  begins = begins;
-  within = front_more entries entries gained (front_all entries);
+  begins = record { rest = begins.0; is = begins.1 };
+  within = prefix_more entries entries gained (prefix_all entries);
 }
 
 between_whole : (issuer : List ℕ) (start entries gained : List Entry) (c : List ℕ) → StartsWith entries start →
@@ -57,8 +68,8 @@ between_whole : (issuer : List ℕ) (start entries gained : List Entry) (c : Lis
 between_whole issuer start entries gained c begins stands = record {
   history = entries ++ gained;
   stands = stands;
-  begins = front_more start entries gained begins;
-  within = front_all (entries ++ gained);
+  begins = prefix_more start entries gained (record { rest = begins.0; is = begins.1 });
+  within = prefix_all (entries ++ gained);
 }
 
 pub between_with : (issuer : List ℕ) (start entries : List Entry) (entry : Entry) (c : List ℕ) → StartsWith entries start →
@@ -233,8 +244,8 @@ module _ {D C : Type 0} (tells : Bool) (told : D → OnDisk) (faults : D → ℕ
               (λ c h. record {
                 history = p.state.entries;
                 stands = h;
-                begins = front_all p.state.entries;
-                within = front_all p.state.entries;
+                begins = prefix_all p.state.entries;
+                within = prefix_all p.state.entries;
               });
           whole = λ c left. inl (leaves_now (told p.disk) (StandsFor p.state.issuer p.state.entries) holds.file.nothing_pending
               stands c left);

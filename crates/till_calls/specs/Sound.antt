@@ -2,6 +2,7 @@
 use Rattle.std.specs.Prelude.{◌≡◌, ◌⊎◌, ◌≤◌, ℕ, List, Bool, IsTrue, Option, Some}
 use Rattle.chain_disk.specs.OnDisk.{OnDisk, LeavesOnly, LeavesNow}
 use Rattle.chain_lock.specs.Lists.{StartsWith}
+use Rattle.chain_store.specs.Crashes.{StandsBetween}
 use Rattle.chain_store.specs.Ready.{IsReady}
 use Rattle.shop_core.specs.File.Files.{StandsFor}
 use Rattle.ports.specs.Causes.{Rose}
@@ -9,13 +10,6 @@ use Rattle.ports.specs.Readings.{MovedBy}
 use Rattle.record_codec.specs.declared.entry.Entry.{Entry}
 use Rattle.shop_core.specs.Legal.{Legal, Continues}
 use Rattle.till_calls.specs.Root.{Root, Parts, with_torn}
-
--- the file stands for a legal history that begins with this one and is a front of that one
-pub record StandsBetween (issuer : List ℕ) (start end : List Entry) (file : List ℕ) : Type 0 where
-  pub history : List Entry
-  pub stands : StandsFor issuer history file
-  pub begins : StartsWith history start
-  pub within : StartsWith end history
 
 -- the file stands for the one history or for the other
 abbrev pub StandsForEither : List ℕ → List Entry → List Entry → List ℕ → Type 0

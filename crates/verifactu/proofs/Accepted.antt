@@ -8,7 +8,7 @@ use Rattle.std.proofs.lemmas.List.{drop-append-le, length-append}
 use Rattle.std.proofs.lemmas.List.Elements.{filter-append}
 use Rattle.journal.specs.declared.faults.StoreFault.{StoreFault}
 use Rattle.journal.specs.declared.faults.StoreFault.TheVariants as fault
-use Rattle.once_world.specs.Agreement.{IsPrefix}
+use Rattle.shop_core.specs.Prefix.{IsPrefix}
 use Rattle.record_codec.specs.declared.entry.Entry.{Entry}
 use Rattle.record_codec.specs.declared.entry.Entry.TheVariants.{Rec}
 use Rattle.record_fields.specs.declared.records.Sealed.{Sealed}
@@ -24,7 +24,7 @@ use Rattle.shop_core.specs.declared.answer.Reply.{Reply}
 use Rattle.shop_core.specs.declared.answer.Reply.TheVariants as reply
 use Rattle.shop_core.specs.declared.answer.receipts.Receipt.{Receipt}
 use Rattle.verifactu.specs.Promise.{AreAccepted}
-use Rattle.verifactu.specs.Replies.{Replies}
+use Rattle.chain_store.specs.Replies.{Replies}
 use Rattle.verifactu.specs.Tills.{AreTaken, ServedRun, is_from, own_of}
 use Rattle.verifactu.specs.Tills.ServedRun.{unasked, answered, torn, stopped, without_memory}
 use Rattle.verifactu.proofs.Each.{each_front}

@@ -29,7 +29,8 @@ use Rattle.sender.specs.declared.draining.TheConstants.{MAX_LINK_FAULTS}
 use Rattle.sender.specs.Draining.{is_link}
 use Rattle.sender.specs.Turning.{Kind, Desk}
 use Rattle.recovery.specs.Opening.{IsFound}
-use Rattle.verifactu.specs.Crashes.{StandsBetween, StandsForEnd, StandsSince}
+use Rattle.chain_store.specs.Crashes.{StandsBetween, StandsUpTo, StandsForEnd}
+use Rattle.verifactu.specs.Crashes.{StandsSince}
 use Rattle.verifactu.specs.Draining.{AddsNotesAlone, AgreesInFile, Beginning, DiskSpan, IsDiskAnswer, OpensSession, IsSession}
 use Rattle.verifactu.specs.Draining.{IsUnopened, Outcome, Sends, Span, StillAgrees, StoreDrains, from_desk, noted_pairs, spanning}
 use Rattle.verifactu.specs.Draining.{torn_in}
@@ -56,13 +57,13 @@ in_session begun plan d opened tells opens sends = record {
 
 module _ {D C : Type 0} (tells : Bool) (told : D → OnDisk) (faults : D → ℕ) (coming : C → ℕ → Option ℕ) (p0 p1 : Parts D C)
     (s : IsSound tells told faults coming (root_of told faults p0) p1) where
-  pub between : (c : List ℕ) → sound.StandsBetween p0.state.issuer p0.state.entries (with_torn p1.state.entries p1.stopped
-      p1.torn) c → StandsBetween p0.state.issuer p0.state.entries p1.state.entries (torn_in p1.stopped p1.torn) c
+  pub between : (c : List ℕ) → StandsBetween p0.state.issuer p0.state.entries (with_torn p1.state.entries p1.stopped
+      p1.torn) c → StandsUpTo p0.state.issuer p0.state.entries p1.state.entries (torn_in p1.stopped p1.torn) c
   between c h = record {
     history = h.history;
     stands = h.stands;
-    begins = record { rest = h.begins.0; is = h.begins.1 };
-    within = record { rest = h.within.0; is = sym (torn_is p1.state.entries p1.stopped p1.torn) ∙ h.within.1 };
+    begins = h.begins;
+    within = record { rest = h.within.rest; is = sym (torn_is p1.state.entries p1.stopped p1.torn) ∙ h.within.is };
   }
 
   pub either : (c : List ℕ) → sound.StandsForEither p0.state.issuer p1.state.entries (with_torn p1.state.entries p1.stopped
@@ -87,7 +88,7 @@ module _ {D C : Type 0} (tells : Bool) (told : D → OnDisk) (faults : D → ℕ
       new exact at o) → AddsNotesAlone p0.state.entries p1.state.entries →
       (IsDiskAnswer answer → IsSome p1.stopped) → (IsTrue tells → IsImage (told p1.disk).now (told p1.disk).content) →
       ((issuer : List ℕ) (entries : List Entry) → Legal issuer entries → Linked issuer (recs entries)) →
-      StoreDrains (StandsBetween p0.state.issuer) begun plan p0.state.issuer (record {
+      StoreDrains (StandsUpTo p0.state.issuer) begun plan p0.state.issuer (record {
         tells = tells;
         since = told p0.disk;
         now = told p1.disk;
@@ -96,7 +97,7 @@ module _ {D C : Type 0} (tells : Bool) (told : D → OnDisk) (faults : D → ℕ
       }) (spanning p0.state.entries kind old new
       exact at o)
   store_drains begun plan kind old new exact at turns answer o is session notes stopped image linked =
-      subst (λ (x : Outcome). StoreDrains (StandsBetween p0.state.issuer) begun plan p0.state.issuer (record {
+      subst (λ (x : Outcome). StoreDrains (StandsUpTo p0.state.issuer) begun plan p0.state.issuer (record {
         tells = tells;
         since = told p0.disk;
         now = told p1.disk;
@@ -133,7 +134,7 @@ module _ {D C : Type 0} (tells : Bool) (told : D → OnDisk) (faults : D → ℕ
 
 -- what a drain leaves, said since its file was opened
 pub since_opening : (begun : Beginning) (plan : Plan) (issuer : List ℕ) (k : DiskSpan) (d : Span) (first : OnDisk) (faults : ℕ) →
-    StoreDrains (StandsBetween issuer) begun plan issuer k d →
+    StoreDrains (StandsUpTo issuer) begun plan issuer k d →
     (IsTrue k.tells → LeavesOnly first k.since (IsFound issuer d.start)) →
     faults ≤ k.faults → StoreDrains (StandsSince issuer) begun plan issuer (record {
       tells = k.tells;
@@ -148,7 +149,7 @@ since_opening begun plan issuer k d first faults h found early = record {
   legal = h.legal;
   linked = h.linked;
   kept = λ says. let kept = h.kept says in record {
-    each_moment = follows first k.since k.now (IsFound issuer d.start) (StandsBetween issuer d.start d.end d.torn)
+    each_moment = follows first k.since k.now (IsFound issuer d.start) (StandsUpTo issuer d.start d.end d.torn)
         (StandsSince issuer d.start d.end d.torn) (found says) kept.each_moment
         (λ c here. since_found issuer d.start d.end d.torn c (record { rest = h.notes.more; is = h.notes.is }) here)
         (λ c here. inr here);

@@ -24,7 +24,7 @@ use Rattle.agency_port.specs.declared.turns.Evidence.TheVariants.{Hole, Forgotte
 use Rattle.agency_port.specs.declared.turns.Told.{Told}
 use Rattle.agency_port.proofs.Kept.{kept_more}
 use Rattle.consultation.specs.Sorting.{IsFront, IsHole, unseen_ones}
-use Rattle.once_world.specs.Agreement.{IsPrefix}
+use Rattle.shop_core.specs.Prefix.{IsPrefix}
 use Rattle.once_world.specs.Outbox.{Sight, ShowsWaiting, history_of}
 use Rattle.sender.specs.declared.answers.Turn.{Turn}
 use Rattle.sender.specs.declared.answers.Turn.TheVariants.{Idle, WaitUntil, Noted, Cleared, Doubt}

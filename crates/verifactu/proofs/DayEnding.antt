@@ -19,7 +19,8 @@ use Rattle.recovery.specs.Opening.{IsFound}
 use Rattle.report.specs.declared.ended.Detail.{Detail}
 use Rattle.report.specs.declared.ended.Detail.TheVariants as detail
 use Rattle.agency_port.specs.declared.turns.Evidence.{Evidence}
-use Rattle.once_world.specs.Agreement.{Agree, IsPrefix}
+use Rattle.shop_core.specs.Prefix.{IsPrefix}
+use Rattle.once_world.specs.Agreement.{Agree}
 use Rattle.sender.specs.Turning.{Desk, Kind}
 use Rattle.sender.specs.declared.answers.DrainFault.{DrainFault}
 use Rattle.sender.specs.declared.answers.DrainFault.TheVariants as drain
@@ -35,18 +36,20 @@ use Rattle.till_calls.specs.Root.{Parts, root_of}
 use Rattle.till_calls.specs.Sound.{IsLater}
 use Rattle.verifactu.specs.Beside.{DayRunEnds, IsUnbegun, SendsBeside, ShowsLast, StaysAgreed}
 use Rattle.verifactu.specs.Beside.DayRunEnds.{done, write_fault, undelivered, contradiction, disk_fault, no_memory}
-use Rattle.verifactu.specs.Crashes.{Kept, StandsBetween, StandsForEnd, StandsSince}
+use Rattle.chain_store.specs.Crashes.{Kept, StandsUpTo, StandsForEnd}
+use Rattle.verifactu.specs.Crashes.{StandsSince}
 use Rattle.verifactu.specs.Day.{DayEnds, DayServed, EachCrash, EachTill, FileDay, HistoryGoesOn, ItsAgency}
 use Rattle.verifactu.specs.Day.{Outcome, day_of, day_text}
 use Rattle.verifactu.specs.Days.{Day, Stop, TillReplies, all_replies, shop_day, stop_of, torn_of}
-use Rattle.verifactu.specs.Devices.{Agencies, AllDevices, Around, Clocks, LeftClock, LeftSleeper, Sleepers, StoreKind, around}
-use Rattle.verifactu.specs.Devices.{this_clock}
+use Rattle.chain_store.specs.Clocks.{Clocks, LeftClock}
+use Rattle.verifactu.specs.Devices.{Agencies, AllDevices, Around, LeftSleeper, Sleepers, StoreKind, around}
+use Rattle.chain_store.specs.Clocks.{this_clock}
 use Rattle.verifactu.specs.Drain.{AgreesAtStart, AllLeft, NothingRose}
 use Rattle.verifactu.specs.Draining.{AgreesInFile, IsDiskAnswer, OpensSession, noted_pairs, torn_in}
-use Rattle.verifactu.specs.Readings.{readings_of}
+use Rattle.chain_store.specs.Readings.{readings_of}
 use Rattle.verifactu.specs.Scripts.{IsGoodScript}
 use Rattle.verifactu.specs.Scripts.ScriptedEnds.{ran}
-use Rattle.verifactu.specs.Replies.{AllGoOn, Replies, is_disk_fault}
+use Rattle.chain_store.specs.Replies.{AllGoOn, Replies, is_disk_fault}
 use Rattle.verifactu.specs.Tills.{DayRun, RecordedBy, StopIs, ServedRun, TillServed, has_asks, tills_of}
 use Rattle.verifactu.specs.Tills.RecordedBy.{sender, till as by_till}
 use Rattle.verifactu.specs.Tills.ServedRun.{unasked, answered, torn as tears, stopped as told_stop, without_memory}
@@ -215,12 +218,12 @@ module _ {D C Z G : Type 0} (h : StoreKind D C) (issuer : List ℕ) (script : Sc
         since : LeavesOnly (synced (h.told disk)) (h.told r.new.disk) (StandsSince opened.state.issuer first r.new.state.entries
             (torn_in r.new.stopped r.new.torn))
         since = follows (synced (h.told disk)) (h.told opened.disk) (h.told r.new.disk)
-            (IsFound opened.state.issuer first) (StandsBetween opened.state.issuer first r.new.state.entries
+            (IsFound opened.state.issuer first) (StandsUpTo opened.state.issuer first r.new.state.entries
             (torn_in r.new.stopped r.new.torn))
             (StandsSince opened.state.issuer first r.new.state.entries (torn_in r.new.stopped r.new.torn))
             (subst (λ (n : List ℕ). LeavesOnly (synced (h.told disk)) (h.told opened.disk) (IsFound n first)) (sym own)
             (any_moment says))
-            (weaker (h.told opened.disk) (h.told r.new.disk) _ (StandsBetween opened.state.issuer first r.new.state.entries
+            (weaker (h.told opened.disk) (h.told r.new.disk) _ (StandsUpTo opened.state.issuer first r.new.state.entries
             (torn_in r.new.stopped r.new.torn)) (r.run.sound.crashes says).since
             (between h.tells h.told h.faults h.coming opened r.new r.run.sound))
             (λ c here. since_found opened.state.issuer first r.new.state.entries (torn_in r.new.stopped r.new.torn) c begins here)

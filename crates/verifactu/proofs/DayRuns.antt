@@ -35,7 +35,7 @@ use Rattle.sender.specs.Turning.{Desk, Kind}
 use Rattle.verifactu.specs.Beside.{SendsBeside}
 use Rattle.verifactu.specs.Days.{Day, TillReplies, all_replies, shop_day, stop_of}
 use Rattle.verifactu.specs.Draining.{IsDiskAnswer, IsFaultless}
-use Rattle.verifactu.specs.Replies.{IsGoingOn, Replies}
+use Rattle.chain_store.specs.Replies.{IsGoingOn, Replies}
 use Rattle.verifactu.specs.Tills.{AreTaken, DayRun, IsCutOffBy, RecordedBy, StopIs, TellsStop, TillServed, asks_of, is_from}
 use Rattle.verifactu.specs.Tills.{own_of, stops_in}
 use Rattle.verifactu.specs.Tills.RecordedBy.{sender, till as by_till}

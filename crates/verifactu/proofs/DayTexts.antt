@@ -15,7 +15,7 @@ use Rattle.verifactu.specs.Beside.{DayRunEnds, sender_end, sender_lacks_memory}
 use Rattle.verifactu.specs.Beside.DayRunEnds.{undelivered, contradiction, disk_fault, no_memory}
 use Rattle.verifactu.specs.Draining.{IsDiskAnswer}
 use Rattle.verifactu.specs.Printed.{answers}
-use Rattle.verifactu.specs.Replies.{AllReplied, is_no_memory}
+use Rattle.chain_store.specs.Replies.{AllReplied, is_no_memory}
 use Rattle.verifactu.specs.Days.{TillReplies, all_replies}
 use Rattle.verifactu.specs.Works.{told_in}
 use Rattle.verifactu.specs.declared.tills.TillDay.{TillDay}

@@ -17,7 +17,8 @@ use Rattle.script.specs.declared.scripts.Script.{Script}
 use Rattle.report.specs.declared.ended.Detail.{Detail}
 use Rattle.report.specs.declared.ended.Detail.TheVariants as detail
 use Rattle.verifactu.specs.Crashes.{StandsSince}
-use Rattle.verifactu.specs.Devices.{Agencies, Clocks, LeftClock, LeftSleeper, Sleepers}
+use Rattle.chain_store.specs.Clocks.{Clocks, LeftClock}
+use Rattle.verifactu.specs.Devices.{Agencies, LeftSleeper, Sleepers}
 use Rattle.verifactu.specs.Drain.{AgreesAtStart, AllLeft, FileDrainEnds, FileDrained, LeavesTime, NothingRose, ScriptDrainEnds}
 use Rattle.verifactu.specs.Drain.{file_span, first_moment, tells_moment}
 use Rattle.verifactu.specs.Draining.{DiskSpan, DrainRunEnds, Outcome, Span, StoreDrainEnds, StoreDrains, drain_text, fault_end}

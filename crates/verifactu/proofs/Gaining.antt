@@ -7,7 +7,7 @@ use Rattle.std.specs.Option.{option_map_or}
 use Rattle.std.proofs.lemmas.List.{drop-append-le, drop_all, length-append}
 use Rattle.std.proofs.lemmas.List.Elements.{filter-append}
 use Rattle.journal.specs.declared.faults.StoreFault.{StoreFault}
-use Rattle.once_world.specs.Agreement.{IsPrefix}
+use Rattle.shop_core.specs.Prefix.{IsPrefix}
 use Rattle.ports.specs.Sources.{Sources}
 use Rattle.record_codec.specs.declared.entry.Entry.{Entry}
 use Rattle.record_codec.specs.declared.entry.Entry.TheVariants.{Rec, Notes}
@@ -29,7 +29,7 @@ use Rattle.verifactu.specs.Day.{EachTill}
 use Rattle.verifactu.specs.Days.{Day, TillReplies}
 use Rattle.verifactu.specs.Draining.{AddsNotesAlone, AreNotesEntry}
 use Rattle.verifactu.specs.Promise.{AreAccepted, AreAskedIn, TillsGain}
-use Rattle.verifactu.specs.Replies.{Replies}
+use Rattle.chain_store.specs.Replies.{Replies}
 use Rattle.verifactu.specs.Tills.{TillServed, asks_of, has_asks, is_from, own_of, tills_of}
 use Rattle.verifactu.proofs.Accepted.{accepted_append, all_accepted, by_reply}
 use Rattle.verifactu.proofs.Each.{each_map, each_weaker}

@@ -12,8 +12,8 @@ use Rattle.shop_core.specs.Answer.Requests.{Asked}
 use Rattle.shop_core.specs.Answer.Replies.{ChainRun}
 use Rattle.verifactu.specs.Generate.{Generated, issuer}
 use Rattle.verifactu.specs.Generated.{AreCommands, command}
-use Rattle.verifactu.specs.Readings.{IsComing}
-use Rattle.verifactu.specs.Replies.{Replies, AllReplied}
+use Rattle.chain_store.specs.Readings.{IsComing}
+use Rattle.chain_store.specs.Replies.{Replies, AllReplied}
 use Rattle.verifactu.specs.declared.generate.TheConstants.{START, STEP}
 
 at_end : (xs : List Asked) (x : Asked) → slice_get (xs ++ x ∷ []) (length xs) ≡ Some x

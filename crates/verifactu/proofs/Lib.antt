@@ -1,8 +1,6 @@
 pub mod Bytewise
 pub mod CommandLine
 pub mod Counts
-pub mod Progress
-pub mod Stepping
 pub mod Finishing
 pub mod RunEnding
 pub mod Generating

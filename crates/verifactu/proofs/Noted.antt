@@ -10,7 +10,7 @@ use Rattle.shop_core.specs.Items.{entries_of}
 use Rattle.agency_port.specs.declared.messages.Message.{Message}
 use Rattle.agency_port.specs.declared.messages.Message.TheVariants.{Begun, Submitted, Consulted}
 use Rattle.agency_port.specs.declared.turns.Told.{Told}
-use Rattle.once_world.specs.Agreement.{IsPrefix}
+use Rattle.shop_core.specs.Prefix.{IsPrefix}
 use Rattle.once_world.specs.Laws.{CameBesideOwn, CameQuietly}
 use Rattle.once_world.specs.Outbox.{Sight, GainsOwnNotes, history_of}
 use Rattle.shop_core.specs.declared.items.Item.{Item}

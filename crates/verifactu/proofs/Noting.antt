@@ -30,7 +30,7 @@ use Rattle.agency_port.specs.declared.messages.Message.{Message}
 use Rattle.agency_port.specs.declared.messages.Message.TheVariants.{Submitted, Consulted}
 use Rattle.agency_port.proofs.Replies.{decides}
 use Rattle.consultation.specs.Sorting.{IsFront, unseen_ones}
-use Rattle.once_world.specs.Agreement.{IsPrefix}
+use Rattle.shop_core.specs.Prefix.{IsPrefix}
 use Rattle.once_world.specs.Looks.{lines_in_front}
 use Rattle.once_world.specs.Outbox.{Sight, Grows, AddsOwn, NotedBy, ShowsWaiting, GainsOwnNotes, history_of, notes_behind}
 use Rattle.once_world.specs.Laws.{CameBesideOwn, CameQuietly}

@@ -9,7 +9,7 @@ use Rattle.chain_store.specs.declared.causes.OpenCause.{OpenCause}
 use Rattle.chain_store.specs.declared.causes.OpenCause.TheVariants as cause
 use Rattle.huella.specs.Linked.{Linked}
 use Rattle.journal.specs.File.{IsNotBegunOrEmpty}
-use Rattle.once_world.specs.Agreement.{IsPrefix}
+use Rattle.shop_core.specs.Prefix.{IsPrefix}
 use Rattle.ports.specs.Causes.{Rose}
 use Rattle.ports.specs.Sinks.{Sinks}
 use Rattle.record_codec.specs.declared.entry.Entry.{Entry}
@@ -20,13 +20,14 @@ use Rattle.shop_core.specs.File.Laws.{NotBegunIsNeither, OneHistory, SoundOrDama
 use Rattle.shop_core.specs.File.Files.{StandsFor}
 use Rattle.shop_core.specs.History.{recs}
 use Rattle.shop_core.specs.Legal.{Legal}
-use Rattle.verifactu.specs.Crashes.{KeptByRun, StandsForEnd, StandsSince}
+use Rattle.chain_store.specs.Crashes.{KeptByRun, StandsForEnd}
+use Rattle.verifactu.specs.Crashes.{StandsSince}
 use Rattle.verifactu.specs.Days.{Day, Stop, torn_of}
 use Rattle.verifactu.specs.Opening.{NotOpened}
 use Rattle.verifactu.specs.Promise.{ChainGoesOn, Crashes, DamagedIsNotOwn, ForeignIsNotOwn, IsEither, IsFoundAgain, IsOwn}
 use Rattle.verifactu.specs.Promise.{IsUnwritten}
 use Rattle.verifactu.specs.Promise.Crashes.{unwritten, since_sync}
-use Rattle.verifactu.specs.Replies.{Replies, StopsOnce}
+use Rattle.chain_store.specs.Replies.{Replies, StopsOnce}
 use Rattle.verifactu.specs.Tills.{StopIs}
 use Rattle.verifactu.proofs.Finishing.{since_found}
 

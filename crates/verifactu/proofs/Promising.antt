@@ -3,7 +3,7 @@ use Rattle.std.proofs.Common.{◌≡◌, ◌⊎◌, inl, inr, ◌≤◌, ℕ, Li
 use Rattle.std.proofs.Common.{Bool, IsTrue, Option, Some, None}
 use Rattle.agency_rules.specs.declared.plans.Plan.{Plan}
 use Rattle.chain_disk.specs.Disks.{LeftDisk}
-use Rattle.once_world.specs.Agreement.{IsPrefix}
+use Rattle.shop_core.specs.Prefix.{IsPrefix}
 use Rattle.record_codec.specs.declared.entry.Entry.{Entry}
 use Rattle.report.specs.declared.ended.Detail.{Detail}
 use Rattle.script.specs.declared.forms.Form.TheVariants.{Full}
@@ -18,8 +18,8 @@ use Rattle.verifactu.specs.Drain.{AllLeft, DrainEnds, FileDrained, first_moment,
 use Rattle.verifactu.specs.Draining.{IsSession, IsUnopened, spanning}
 use Rattle.verifactu.specs.Opening.{NotOpened}
 use Rattle.verifactu.specs.Promise.{AgencyKept, BatchesKept, FileKept, Grows, Promise, TillsGain, writes_for}
-use Rattle.verifactu.specs.Replies.{Replies}
-use Rattle.verifactu.specs.Readings.{IsComing, LeavesClock, readings_of}
+use Rattle.chain_store.specs.Replies.{Replies}
+use Rattle.chain_store.specs.Readings.{IsComing, LeavesClock, readings_of}
 use Rattle.verifactu.specs.Running.{CommandEnds}
 use Rattle.verifactu.specs.Scripts.{IsGoodScript}
 use Rattle.verifactu.specs.Scripts.ScriptedEnds.{ran, bad_line, read_fault, too_big, no_memory}

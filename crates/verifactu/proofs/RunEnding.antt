@@ -24,18 +24,20 @@ use Rattle.shop_core.specs.Legal.{Legal}
 use Rattle.shop_core.specs.Answer.Replies.{ChainRun}
 use Rattle.shop_core.specs.Answer.Replies.ChainRun.{begun, replied}
 use Rattle.shop_core.specs.declared.answer.Reply.{Reply}
-use Rattle.verifactu.specs.Crashes.{IsCutOff, KeepsFile, KeptByRun, StandsBetween}
+use Rattle.chain_store.specs.Crashes.{FailsIn, IsCutOff, KeptByRun, StandsUpTo}
+use Rattle.verifactu.specs.Crashes.{KeepsFile}
 use Rattle.verifactu.specs.Printed.{printed}
-use Rattle.verifactu.specs.Readings.{IsComing, IsAsked, LeavesClock, readings, readings_of}
-use Rattle.verifactu.specs.Replies.{AllGoOn, AllReplied, StopsOnce, is_disk_fault, is_no_memory}
+use Rattle.chain_store.specs.Readings.{IsComing, IsAsked, LeavesClock, readings, readings_of}
+use Rattle.chain_store.specs.Replies.{AllGoOn, AllReplied, StopsOnce, is_disk_fault, is_no_memory}
 use Rattle.ports.specs.Sinks.{FailedIn, OutputIs, Sinks, Wrote, WroteNothing}
 use Rattle.chain_disk.specs.Disks.{DiskRose, Disks}
 use Rattle.verifactu.specs.Chain.{ChainEnds, Played, ScriptEnds}
 use Rattle.verifactu.specs.Opening.{NoRoom, NotOpened, opening_end}
 use Rattle.verifactu.specs.Scripts.{IsGoodScript, ScriptIs, ScriptedEnds, no_script_end}
 use Rattle.verifactu.specs.Scripts.ScriptedEnds.{ran, bad_line, read_fault, too_big, no_memory as unread_memory}
-use Rattle.verifactu.specs.Commands.{Answers, Stores}
-use Rattle.verifactu.specs.Devices.{Clocks, Devices, LeftClock}
+use Rattle.chain_store.specs.Runs.{Answers, Stores}
+use Rattle.chain_store.specs.Clocks.{Clocks, LeftClock}
+use Rattle.verifactu.specs.Devices.{Devices}
 use Rattle.verifactu.specs.Ending.{RunEnds}
 use Rattle.verifactu.specs.Ending.RunEnds.{disk_fault}
 use Rattle.verifactu.specs.declared.scripts.NoScript.{NoScript}
@@ -147,20 +149,25 @@ stops_from first before after replies later (inr h) = inr (record {
   risen = λ below. let risen = h.risen below in omega (arith, later, risen);
 })
 
+or_so : {A P Q : Type 0} → (P → Q) → A ⊎ P → A ⊎ Q
+or_so f (inl a) = inl a
+or_so f (inr p) = inr (f p)
+
 -- a run of a store is one of its file, from its opening on
-pub store_ran : {D C : Type 0} (issuer : List ℕ) (asks : List Asked) (replies : List (Result Reply StoreFault)) (s : Stores C)
+pub store_ran : {D C : Type 0} (issuer : List ℕ) (asks : List Asked) (replies : List (Result Reply StoreFault)) (s : Stores D C)
     (sink : Sinks) (k : Disks D) (end : Detail) → s.issuer ≡ issuer →
     s.tells ≡ k.tells → s.faults_after ≡ k.faults k.disk_after → s.now ≡ k.told k.disk_after → k.faults k.disk ≤ s.faults →
     (IsTrue k.tells → IsFound issuer s.start (k.told k.disk).content) →
-    (IsTrue k.tells → LeavesOnly (synced (k.told k.disk)) s.since (IsFound issuer s.start)) → Answers asks replies s →
+    (IsTrue k.tells → LeavesOnly (synced (k.told k.disk)) s.since (IsFound issuer s.start)) →
+    ((n : List ℕ) (es : List Entry) → FailsIn s.disk n es → FailsIn k n es) → Answers asks replies s →
     RunEnds replies (printed asks replies s.end) sink end → ScriptEnds issuer asks (s.clock.coming s.clock.clock)
     (λ rs. IsAsked s.clock (readings rs)) sink k end
-store_ran issuer asks replies s sink k end own tells faults_after now later found any h ends =
+store_ran issuer asks replies s sink k end own tells faults_after now later found any widen h ends =
     let Torn : List ℕ → Entry → Type 0 = λ n. IsCutOff n (IsComing (s.clock.coming s.clock.clock)) asks s.end replies in
-    let kept_here : IsTrue k.tells → KeptByRun (StandsBetween issuer s.start s.end) (Torn issuer) issuer s.end replies s.since
+    let kept_here : IsTrue k.tells → KeptByRun (StandsUpTo issuer s.start s.end) (Torn issuer) issuer s.end replies s.since
     (k.told k.disk_after) = λ says.
-    subst (λ (t : OnDisk). KeptByRun (StandsBetween issuer s.start s.end) (Torn issuer) issuer s.end replies s.since t) now
-    (subst (λ (n : List ℕ). KeptByRun (StandsBetween n s.start s.end) (Torn n) n s.end replies s.since s.now) own
+    subst (λ (t : OnDisk). KeptByRun (StandsUpTo issuer s.start s.end) (Torn issuer) issuer s.end replies s.since t) now
+    (subst (λ (n : List ℕ). KeptByRun (StandsUpTo n s.start s.end) (Torn n) n s.end replies s.since s.now) own
     (h.kept (subst (λ (b : Bool). IsTrue b) (sym tells) says))) in
     inr (inr (
       record {
@@ -175,6 +182,7 @@ store_ran issuer asks replies s sink k end own tells faults_after now later foun
         rising = h.rising;
         stops = subst (λ (n : ℕ). StopsOnce (k.faults k.disk) n replies) faults_after (stops_from (k.faults k.disk) s.faults
             s.faults_after replies later h.stops);
+        fails = or_so (λ f. widen issuer s.end (subst (λ (n : List ℕ). FailsIn s.disk n s.end) own f)) h.fails;
         kept = λ says. kept_since (Torn issuer) issuer s.start s.end replies (synced (k.told k.disk)) s.since
             (k.told k.disk_after) h.begins (any says) (kept_here says);
         clock = h.asked;
@@ -242,6 +250,7 @@ script_by issuer asks old new Leaves Left s k end same leaves (inr (inr h)) =
         linked = p.linked;
         rising = p.rising;
         stops = p.stops;
+        fails = p.fails;
         kept = λ says. kept_with _ _
             (cut_off_by issuer (IsComing old) (IsComing new) asks p.end p.replies told) (p.kept says);
         clock = leaves p.replies p.clock;

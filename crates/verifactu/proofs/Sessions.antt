@@ -11,7 +11,8 @@ use Rattle.agency_port.specs.Ledger.{Ledger}
 use Rattle.agency_port.specs.Messages.{batch_in, batches_in}
 use Rattle.agency_port.specs.declared.messages.Message.{Message}
 use Rattle.agency_port.specs.declared.messages.Message.TheVariants.{Begun}
-use Rattle.once_world.specs.Agreement.{Agree, IsPrefix}
+use Rattle.shop_core.specs.Prefix.{IsPrefix}
+use Rattle.once_world.specs.Agreement.{Agree}
 use Rattle.sender.specs.Dark.{AreRunsBy}
 use Rattle.sender.specs.Turning.{Desk}
 use Rattle.sender.specs.declared.answers.DrainFault.{DrainFault}

@@ -51,8 +51,8 @@ module _ {D C : Type 0} (tells : Bool) (told : D → OnDisk) (faults : D → ℕ
               (λ c h. record {
                 history = p.state.entries;
                 stands = h;
-                begins = front_all p.state.entries;
-                within = front_all p.state.entries;
+                begins = record { rest = []; is = sym (append-nil p.state.entries) };
+                within = record { rest = []; is = sym (append-nil p.state.entries) };
               });
           whole = λ c left. inl (leaves_now (told p.disk) (StandsFor p.state.issuer p.state.entries) holds.file.nothing_pending
               stands c left);

@@ -20,9 +20,9 @@ use Rattle.till_calls.specs.Client.{TillRun as Asking}
 use Rattle.till_calls.specs.Client.TillRun.{begun, asked}
 use Rattle.till_calls.specs.Shop.{Asks}
 use Rattle.till_calls.specs.Turns.{TillDoes}
-use Rattle.once_world.specs.Agreement.{IsPrefix}
+use Rattle.shop_core.specs.Prefix.{IsPrefix}
 use Rattle.sender.proofs.Adding.{get_front}
-use Rattle.verifactu.specs.Replies.{Replies}
+use Rattle.chain_store.specs.Replies.{Replies}
 use Rattle.verifactu.specs.Tills.{IsCutOffBy, IsSomeReading, ServedRun}
 use Rattle.verifactu.specs.Tills.ServedRun.{unasked, answered, torn as tears, stopped as told_stop, without_memory}
 use Rattle.verifactu.proofs.Each.{each_append, each_back, each_placed, each_snoc}

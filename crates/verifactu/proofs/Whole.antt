@@ -20,7 +20,8 @@ use Rattle.shop_core.specs.Items.{entries_of}
 use Rattle.shop_core.specs.declared.items.Item.{Item}
 use Rattle.shop_core.specs.declared.items.Item.TheVariants as item
 use Rattle.agency_port.specs.Ledger.{Ledger}
-use Rattle.once_world.specs.Agreement.{Agree, IsPrefix}
+use Rattle.shop_core.specs.Prefix.{IsPrefix}
+use Rattle.once_world.specs.Agreement.{Agree}
 use Rattle.once_world.specs.Laws.{AreRecords, RecordsKeepAgreement}
 use Rattle.once_world.specs.Outbox.{GainsOwnNotes}
 use Rattle.till_calls.specs.Mark.{sight_by}

@@ -17,7 +17,8 @@ use Rattle.agency_port.specs.declared.answers.Seen.{Seen}
 use Rattle.agency_port.specs.declared.messages.Message.{Message}
 use Rattle.agency_port.specs.declared.messages.Message.TheVariants.{Consulted, Submitted}
 use Rattle.agency_port.specs.declared.turns.Evidence.{Evidence}
-use Rattle.once_world.specs.Agreement.{Agree, IsPrefix}
+use Rattle.shop_core.specs.Prefix.{IsPrefix}
+use Rattle.once_world.specs.Agreement.{Agree}
 use Rattle.once_world.specs.Outbox.{GainsOwnNotes, Sight, history_of}
 use Rattle.sender.specs.Agreeing.{Adds, AgreesIfTorn, AreNotes, AreNotesOrTorn, InSession, IsCareful, KeepsReply, KeepsSession}
 use Rattle.sender.specs.Dark.{AreRunsBy}
@@ -37,7 +38,7 @@ use Rattle.report.specs.declared.ended.Detail.TheVariants as detail
 use Rattle.verifactu.specs.Days.{Day, torn_of}
 use Rattle.verifactu.specs.Draining.{AreOfChain, IsDiskAnswer, IsFaultless, SaysNothingBlindly, fault_end}
 use Rattle.verifactu.specs.Noting.{NotesSaid, TornSaid}
-use Rattle.verifactu.specs.Replies.{AllReplied, Replies, is_disk_fault, is_no_memory}
+use Rattle.chain_store.specs.Replies.{AllReplied, Replies, is_disk_fault, is_no_memory}
 
 -- the last item is a stop
 pub record EndsStopped (items : List Item) : Type 0 where

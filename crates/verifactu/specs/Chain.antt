@@ -15,15 +15,16 @@ use Rattle.script.specs.declared.scripts.Script.{Script}
 use Rattle.recovery.specs.Opening.{IsFound}
 use Rattle.report.specs.declared.ended.Detail.{Detail}
 use Rattle.report.specs.declared.ended.Detail.TheVariants as detail
-use Rattle.verifactu.specs.Commands.{Answers, Stores}
-use Rattle.once_world.specs.Agreement.{IsPrefix}
-use Rattle.verifactu.specs.Crashes.{IsCutOff, KeptByRun, StandsSince}
+use Rattle.chain_store.specs.Runs.{Answers, Stores}
+use Rattle.shop_core.specs.Prefix.{IsPrefix}
+use Rattle.chain_store.specs.Crashes.{FailsIn, IsCutOff, KeptByRun}
+use Rattle.verifactu.specs.Crashes.{StandsSince}
 use Rattle.verifactu.specs.Devices.{Devices, Untouched}
 use Rattle.verifactu.specs.Ending.{RunEnds}
 use Rattle.verifactu.specs.Opening.{NoRoom, NotOpened}
 use Rattle.verifactu.specs.Printed.{printed}
-use Rattle.verifactu.specs.Readings.{IsComing, readings_of, LeavesClock}
-use Rattle.verifactu.specs.Replies.{Replies, StopsOnce}
+use Rattle.chain_store.specs.Readings.{IsComing, readings_of, LeavesClock}
+use Rattle.chain_store.specs.Replies.{AllGoOn, Replies, StopsOnce}
 use Rattle.verifactu.specs.Scripts.{ScriptedEnds}
 
 -- The file was opened, and the commands were run from the history that it stood for to one that begins with it. The run is a
@@ -41,6 +42,7 @@ pub record Played {D : Type 0} (issuer : List ℕ) (asks : List Asked) (coming :
   pub linked : Linked issuer (recs end)
   pub rising : (till : ℕ) → SerialsRise end till
   pub stops : StopsOnce (k.faults k.disk) (k.faults k.disk_after) replies
+  pub fails : AllGoOn replies ⊎ FailsIn k issuer end
   pub kept : IsTrue k.tells →
       KeptByRun (StandsSince issuer start end) (IsCutOff issuer (IsComing coming) asks end replies) issuer end replies
       (synced (k.told k.disk)) (k.told k.disk_after)
@@ -55,7 +57,7 @@ ScriptEnds issuer asks coming Leaves s k end =
     ⊎ ((p : Played issuer asks coming Leaves k) × RunEnds p.replies (printed asks p.replies p.end) s end)
 
 -- the commands were run on an opened store, and this is how the run ended
-abbrev pub StoreEnds : {C : Type 0} → List Asked → Stores C → Sinks → Detail → Type 0
+abbrev pub StoreEnds : {D C : Type 0} → List Asked → Stores D C → Sinks → Detail → Type 0
 StoreEnds asks s sink end =
     (replies : Replies) × Answers asks replies s × RunEnds replies (printed asks replies s.end) sink end
 

@@ -25,16 +25,18 @@ use Rattle.report.specs.declared.answers.AnswerLine.{AnswerLine}
 use Rattle.report.specs.declared.answers.AnswerLine.TheVariants.{Saw}
 use Rattle.report.specs.declared.ended.Detail.{Detail}
 use Rattle.report.specs.declared.ended.Detail.TheVariants as detail
-use Rattle.once_world.specs.Agreement.{IsPrefix}
+use Rattle.shop_core.specs.Prefix.{IsPrefix}
 use Rattle.verifactu.specs.Beside.{DayRunEnds, IsUnbegun, SendsBeside, ShowsLast, StaysAgreed}
-use Rattle.verifactu.specs.Crashes.{Kept, StandsSince}
+use Rattle.chain_store.specs.Crashes.{Kept}
+use Rattle.verifactu.specs.Crashes.{StandsSince}
 use Rattle.verifactu.specs.Days.{Day, Stop, TillReplies, all_replies, torn_of}
-use Rattle.verifactu.specs.Devices.{Agencies, AllDevices, Around, LeftAll, LeftClock, LeftSleeper, around}
+use Rattle.chain_store.specs.Clocks.{LeftClock}
+use Rattle.verifactu.specs.Devices.{Agencies, AllDevices, Around, LeftAll, LeftSleeper, around}
 use Rattle.verifactu.specs.Drain.{AgreesAtStart, AllLeft, LeavesTime, NothingRose}
 use Rattle.verifactu.specs.Draining.{AgreesInFile, OpensSession}
 use Rattle.verifactu.specs.Opening.{NotOpened}
 use Rattle.verifactu.specs.Printed.{answers}
-use Rattle.verifactu.specs.Readings.{readings_of}
+use Rattle.chain_store.specs.Readings.{readings_of}
 use Rattle.verifactu.specs.Scripts.{ScriptedEnds}
 use Rattle.verifactu.specs.Tills.{StopIs, TillServed, asks_of, has_asks, own_of, tills_of}
 

@@ -5,7 +5,7 @@ use Rattle.sender.specs.Turning.{Desk, Kind}
 use Rattle.sender.specs.declared.answers.DrainFault.{DrainFault}
 use Rattle.shop_core.specs.Answer.Requests.{Asked}
 use Rattle.till_calls.specs.Root.{Parts, Root}
-use Rattle.verifactu.specs.Replies.{Replies}
+use Rattle.chain_store.specs.Replies.{Replies}
 
 -- what a till was told, and how many items of the shop's list it saw at its end
 pub record TillReplies : Type 0 where

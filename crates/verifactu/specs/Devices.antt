@@ -7,24 +7,12 @@ use Rattle.ports.specs.declared.sleeper.Sleeper as sleeper
 use Rattle.chain_disk.specs.Disks.{Disks, LeftDisk, OnlyRead, this_disk}
 use Rattle.chain_disk.specs.OnDisk.{OnDisk}
 use Rattle.chain_disk.specs.declared.disk.Disk as disk
+use Rattle.chain_store.specs.Clocks.{Clocks, LeftClock, this_clock}
 use Rattle.record_fields.specs.declared.records.Sealed.{Sealed}
 use Rattle.record_fields.specs.declared.lines.Line.{Line}
 use Rattle.agency_port.specs.declared.agency.Agency as agency
 use Rattle.sender.specs.Turning.{Desk, Kind}
 use Rattle.verifactu.specs.declared.outside.Outside.{Outside}
-
--- a clock and the answers to come that its kind tells
-pub record Clocks (C : Type 0) : Type 0 where
-  pub coming : C → ℕ → Option ℕ
-  pub clock : C
-  pub clock_after : C
-
--- this clock in this call: of its kind, before and after
-abbrev pub this_clock : {C : Type 0} → (C → ℕ → Option ℕ) → C → C → Clocks C
-this_clock coming old new = record { coming = coming; clock = old; clock_after = new }
-
-abbrev pub LeftClock : {C : Type 0} → Clocks C → Type 0
-LeftClock t = t.clock_after ≡ t.clock
 
 -- what contracts say of the store's devices: whether its disk tells, what it tells, its count of faults, and the clock's coming
 -- answers

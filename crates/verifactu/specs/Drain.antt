@@ -15,7 +15,8 @@ use Rattle.recovery.specs.Opening.{IsFound}
 use Rattle.report.specs.declared.ended.Detail.{Detail}
 use Rattle.report.specs.declared.ended.Detail.TheVariants as detail
 use Rattle.verifactu.specs.Crashes.{StandsSince}
-use Rattle.verifactu.specs.Devices.{Agencies, AllDevices, Clocks, LeftAgency, LeftAll, LeftClock, LeftSleeper, Sleepers, around}
+use Rattle.chain_store.specs.Clocks.{Clocks, LeftClock}
+use Rattle.verifactu.specs.Devices.{Agencies, AllDevices, LeftAgency, LeftAll, LeftSleeper, Sleepers, around}
 use Rattle.verifactu.specs.Draining.{DiskSpan, DrainRunEnds, Outcome, StoreDrains, drain_text, noted_pairs, spanning}
 use Rattle.verifactu.specs.Opening.{NotOpened}
 use Rattle.verifactu.specs.Scripts.{ScriptedEnds}

@@ -32,7 +32,7 @@ use Rattle.sender.specs.Turning.{Kind, Desk}
 use Rattle.report.specs.Turns.{turns_text}
 use Rattle.report.specs.declared.ended.Detail.{Detail}
 use Rattle.report.specs.declared.ended.Detail.TheVariants as detail
-use Rattle.verifactu.specs.Crashes.{Kept, StandsBetween}
+use Rattle.chain_store.specs.Crashes.{Kept, StandsUpTo}
 use Rattle.verifactu.specs.Noting.{NotesSaid, TornSaid}
 use Rattle.verifactu.specs.Steps.{Steps}
 
@@ -260,5 +260,5 @@ drain_text o = turns_text o.turns (length (recs o.end)) (length (noted o.end))
 abbrev pub StoreDrainEnds : Beginning → Plan → List ℕ → List Entry → DiskSpan → Kind → Desk → Desk → Bool → ℕ → Sinks →
     Detail → Type 0
 StoreDrainEnds begun plan issuer start k kind old new exact moment s end = (o : Outcome)
-    × StoreDrains (StandsBetween issuer) begun plan issuer k (spanning start kind old new exact moment o)
+    × StoreDrains (StandsUpTo issuer) begun plan issuer k (spanning start kind old new exact moment o)
     × DrainRunEnds o.answer (drain_text o) s end

@@ -4,7 +4,7 @@ use Rattle.std.specs.List.{list_any}
 use Rattle.ports.specs.Sinks.{Sinks, Wrote, FailedIn, WrotePart}
 use Rattle.report.specs.declared.ended.Detail.{Detail}
 use Rattle.report.specs.declared.ended.Detail.TheVariants as detail
-use Rattle.verifactu.specs.Replies.{Replies, AllReplied, is_no_memory, is_disk_fault}
+use Rattle.chain_store.specs.Replies.{Replies, AllReplied, is_no_memory, is_disk_fault}
 
 -- by its replies and what the sink took of its text: want of memory before a fault of the disk, and that before one of the sink
 pub data RunEnds (replies : Replies) (text : List ℕ) (s : Sinks) : Detail → Type 0 where

@@ -2,10 +2,7 @@ pub mod Words
 pub mod Help
 pub mod Printed
 pub mod Devices
-pub mod Readings
-pub mod Replies
 pub mod Crashes
-pub mod Commands
 pub mod Ending
 pub mod Scripts
 pub mod Opening

@@ -8,7 +8,7 @@ use Rattle.report.specs.Answers.{answers_text}
 use Rattle.report.specs.Listing.{listing_text}
 use Rattle.report.specs.declared.answers.AnswerLine.{AnswerLine}
 use Rattle.report.specs.declared.answers.AnswerLine.TheVariants.{Answered}
-use Rattle.verifactu.specs.Replies.{Replies}
+use Rattle.chain_store.specs.Replies.{Replies}
 
 -- an ask's answer
 abbrev pub answered : Asked × Result Reply StoreFault → AnswerLine

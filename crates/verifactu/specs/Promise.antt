@@ -7,7 +7,8 @@ use Rattle.chain_disk.specs.Disks.{DiskRose, Disks}
 use Rattle.chain_disk.specs.OnDisk.{IsLeft, IsSettled, IsSyncFailed, LeavesNow, LeavesOnly, OnDisk, moment, synced}
 use Rattle.huella.specs.Linked.{Linked}
 use Rattle.journal.specs.File.{IsNotBegun}
-use Rattle.once_world.specs.Agreement.{Agree, IsPrefix}
+use Rattle.shop_core.specs.Prefix.{IsPrefix}
+use Rattle.once_world.specs.Agreement.{Agree}
 use Rattle.ports.specs.Sources.{Sources}
 use Rattle.record_codec.specs.declared.entry.Entry.{Entry}
 use Rattle.record_codec.specs.declared.entry.Entry.TheVariants.{Rec}
@@ -25,7 +26,7 @@ use Rattle.verifactu.specs.Devices.{Agencies, AllDevices, NobodyCalled}
 use Rattle.verifactu.specs.Drain.{AgreesAtStart}
 use Rattle.verifactu.specs.Draining.{AreOfChain, SaysNothingBlindly}
 use Rattle.verifactu.specs.Noting.{all_said}
-use Rattle.verifactu.specs.Replies.{Replies}
+use Rattle.chain_store.specs.Replies.{Replies}
 use Rattle.verifactu.specs.Scripts.{IsGoodScript}
 use Rattle.verifactu.specs.Tills.{asks_of, has_asks, own_of, tills_of}
 use Rattle.verifactu.specs.Words.{IsAskedFor}

@@ -18,12 +18,12 @@ use Rattle.shop_core.specs.declared.answer.Reply.{Reply}
 use Rattle.shop_core.specs.declared.answer.Reply.TheVariants.{Taken, Again, Refused}
 use Rattle.till_calls.specs.Root.{Parts, Root}
 use Rattle.till_calls.specs.Sound.{IsSound}
-use Rattle.once_world.specs.Agreement.{IsPrefix}
+use Rattle.shop_core.specs.Prefix.{IsPrefix}
 use Rattle.verifactu.specs.Beside.{SendsBeside}
 use Rattle.verifactu.specs.Days.{Day, Stop, TillReplies, all_replies}
 use Rattle.verifactu.specs.Devices.{StoreKind}
 use Rattle.verifactu.specs.Draining.{AreNotesEntry, IsDiskAnswer, IsFaultless}
-use Rattle.verifactu.specs.Replies.{Replies, AllGoOn}
+use Rattle.chain_store.specs.Replies.{Replies, AllGoOn}
 
 -- the asks of a till, in line order
 abbrev pub asks_of : ℕ → List Asked → List Asked

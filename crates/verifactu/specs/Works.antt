@@ -7,7 +7,7 @@ use Rattle.shop_core.specs.declared.items.Item.{Item}
 use Rattle.till_calls.specs.Root.{Root}
 use Rattle.till_calls.specs.Client.{TillRun}
 use Rattle.till_calls.specs.Shop.{till_knows, till_number}
-use Rattle.verifactu.specs.Replies.{Replies}
+use Rattle.chain_store.specs.Replies.{Replies}
 use Rattle.verifactu.specs.Days.{TillReplies}
 use Rattle.verifactu.specs.Tills.{asks_of}
 use Rattle.verifactu.specs.declared.tills.Job.{Job}

@@ -8,17 +8,16 @@ ghost use Rattle.record_codec.specs.declared.entry.Entry.{Entry};
 ghost use Rattle.chain_store.specs.Store.{Ready, clock_of, journal_of, state_of};
 ghost use Rattle.report.specs.Ended.{status_of};
 ghost use Rattle.verifactu.specs.Chain.{ChainEnds, ScriptEnds, StoreEnds};
-ghost use Rattle.verifactu.specs.Commands.{this_store};
-ghost use Rattle.verifactu.specs.Devices.{this_clock};
-ghost use Rattle.verifactu.specs.Readings.{IsAsked, LeavesClock, readings, readings_of};
+ghost use Rattle.chain_store.specs.Runs.{this_store};
+ghost use Rattle.chain_store.specs.Clocks.{this_clock};
+ghost use Rattle.chain_store.specs.Readings.{IsAsked, LeavesClock, readings, readings_of};
 
-use crate::commands::run_commands;
 use crate::ending::run_end;
 use crate::opening::opening_end;
 use crate::printed::told_of;
 use crate::scripts::read_source;
 use chain_disk::Disk;
-use chain_store::Store;
+use chain_store::{Store, run_commands};
 use file_commands::write_texts;
 use journal::StoreFault;
 use parties::Nif;
@@ -130,6 +129,7 @@ fn run_opened<K: Sink, D: Disk, C: Clock>(
       now = D.told result.1;
       faults = D.faults (disk_of (journal_of store));
       faults_after = D.faults result.1;
+      disk = this_disk D.tells D.told D.faults (disk_of (journal_of store)) result.1;
       clock = this_clock C.coming (clock_of store) result.2;
     }) (this_sink K.taken K.faults sink.old sink.new) result.0 }
 {

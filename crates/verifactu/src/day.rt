@@ -13,7 +13,7 @@ ghost use Rattle.verifactu.specs.Day as spec;
 ghost use Rattle.verifactu.specs.Day.{DayEnds, FileDay, day_text};
 ghost use Rattle.verifactu.specs.Devices.{around_in, this_call};
 ghost use Rattle.verifactu.specs.Printed.{answers};
-ghost use Rattle.verifactu.specs.Replies as reply;
+ghost use Rattle.chain_store.specs.Replies as reply;
 ghost use Rattle.verifactu.specs.Days.{all_replies};
 ghost use Rattle.verifactu.specs.Tills.{asks_of};
 ghost use Rattle.verifactu.specs.Works.{told_in};

@@ -5,7 +5,7 @@ ghost use Rattle.journal.specs.Journal.{disk_of, stopped_of};
 ghost use Rattle.till_calls.specs.Root.{parts_of};
 ghost use Rattle.till_calls.specs.Shop.{shop_root};
 ghost use Rattle.till_calls.specs.Sound.{IsLater, IsSound};
-ghost use Rattle.verifactu.specs.Crashes.{StandsBetween};
+ghost use Rattle.chain_store.specs.Crashes.{StandsUpTo};
 ghost use Rattle.verifactu.specs.Devices.{agency_desk, agency_kind};
 ghost use Rattle.verifactu.specs.Draining.{IsDiskAnswer, Sends, StoreDrains, disk_span, spanning};
 ghost use Rattle.verifactu.specs.Outcomes.{outcome_of};
@@ -86,7 +86,7 @@ pub fn drain_opened<D: Disk, C: Clock, Z: Sleeper, G: Agency, R: Wait>(
 ) -> DrainEnd<D, C, Z, G>
     requires going_on { stopped_of (journal_of opened.store) ≡ None }
     requires ready { Ready D.tells D.told opened.store }
-    ensures drains { StoreDrains (StandsBetween (state_of opened.store).issuer) G.begun plan.now (state_of opened.store).issuer
+    ensures drains { StoreDrains (StandsUpTo (state_of opened.store).issuer) G.begun plan.now (state_of opened.store).issuer
         (disk_span D.Disk (disk_of (journal_of opened.store)) (disk_of (journal_of result.opened.store)))
         (spanning (state_of opened.store).entries (agency_kind G.Agency) (agency_desk G.Agency opened.agency)
         (agency_desk G.Agency result.opened.agency) Z.tells (Z.moment opened.sleeper) (outcome_of result)) }

@@ -2,7 +2,7 @@
 ghost use Rattle.std.specs.Prelude.{◌≡◌, ℕ, List};
 ghost use Rattle.std.specs.List.{list_any};
 ghost use Rattle.ports.specs.Sinks.{OutputIs, Sinks};
-ghost use Rattle.verifactu.specs.Replies as spec;
+ghost use Rattle.chain_store.specs.Replies as spec;
 ghost use Rattle.verifactu.specs.Ending.{RunEnds};
 
 use journal::StoreFault;

@@ -8,14 +8,13 @@ ghost use Rattle.chain_store.specs.Store.{Ready, clock_of, journal_of, state_of}
 ghost use Rattle.report.specs.Ended.{status_of};
 ghost use Rattle.verifactu.specs.Generate.{GenerateEnds, Generated, IsSummary};
 ghost use Rattle.verifactu.specs.Generate as spec;
-ghost use Rattle.verifactu.specs.Replies.{AllReplied};
+ghost use Rattle.chain_store.specs.Replies.{AllReplied};
 ghost use Rattle.verifactu.specs.declared.generate.TheConstants.{START, STEP};
 ghost use Rattle.verifactu.specs.declared.generated.TheConstants.{MOST};
 
-use crate::commands::run_commands;
 use crate::generated::{MOST, commands};
 use chain_disk::MemDisk;
-use chain_store::Store;
+use chain_store::{Store, run_commands};
 use file_commands::print;
 use journal::{StoreFault, a_file_not_begun_is_no_chain};
 use parties::Nif;

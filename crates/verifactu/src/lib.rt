@@ -5,7 +5,6 @@
 
 mod beside;
 mod chain;
-mod commands;
 mod day;
 mod drain;
 mod draining;

@@ -5,7 +5,8 @@ use Rattle.ports.specs.Sources.{this_source}
 use Rattle.report.specs.declared.ended.Detail.{Detail}
 use Rattle.script.specs.declared.forms.Form.TheVariants.{Full}
 use Rattle.verifactu.specs.Chain.{ChainEnds, ChainRan}
-use Rattle.verifactu.specs.Devices.{Devices, Untouched, this_clock}
+use Rattle.chain_store.specs.Clocks.{this_clock}
+use Rattle.verifactu.specs.Devices.{Devices, Untouched}
 use Rattle.verifactu.proofs.RunEnding.{chain_ran, unread}
 use Rattle.verifactu.proofs.chain.chain_cmd.Goals as goal
 

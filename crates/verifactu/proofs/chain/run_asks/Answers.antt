@@ -1,13 +1,13 @@
-use Rattle.std.proofs.Common.{inl, inr, subst, refl}
+use Rattle.std.proofs.Common.{arith, inl, inr, subst, refl}
 use Rattle.chain_disk.specs.Disks.{this_disk}
 use Rattle.chain_store.specs.Store.{state_of, journal_of, clock_of}
 use Rattle.file_commands.proofs.Bytewise.{took_nothing}
 use Rattle.journal.specs.Journal.{disk_of}
 use Rattle.ports.specs.Sinks.{this_sink}
 use Rattle.verifactu.specs.Chain.{ScriptEnds}
-use Rattle.verifactu.specs.Commands.{Stores}
-use Rattle.verifactu.specs.Devices.{this_clock}
-use Rattle.verifactu.specs.Readings.{IsAsked, readings}
+use Rattle.chain_store.specs.Runs.{Stores}
+use Rattle.chain_store.specs.Clocks.{this_clock}
+use Rattle.chain_store.specs.Readings.{IsAsked, readings}
 use Rattle.verifactu.proofs.RunEnding.{not_asked, not_opened, store_ran}
 use Rattle.verifactu.proofs.chain.run_asks.Goals as goal
 
@@ -39,7 +39,7 @@ returns-in-Ok g c =
     let sink = this_sink g.K.Sink.taken g.K.Sink.faults c.args.sink.now c.run_opened.new.sink in
     let disk = this_disk g.D.Disk.tells told faults c.args.disk c.run_opened.result.1 in
     let h = c.run_opened.ensures in
-    let span : Stores g.row.C.Denot = record {
+    let span : Stores g.row.D.Denot g.row.C.Denot = record {
       issuer = (state_of store).issuer;
       start = (state_of store).entries;
       end = h.0;
@@ -48,10 +48,19 @@ returns-in-Ok g c =
       now = told c.run_opened.result.1;
       faults = faults (disk_of (journal_of store));
       faults_after = faults c.run_opened.result.1;
+      disk = this_disk g.D.Disk.tells told faults (disk_of (journal_of store)) c.run_opened.result.1;
       clock = this_clock coming (clock_of store) after;
     } in
     let opened = c.in-Ok.ensures in
     let run = store_ran issuer asks h.1.0 span sink disk c.run_opened.result.0 opened.issuer refl refl refl opened.later
-    opened.found opened.any_moment h.1.1 h.1.2 in
+    opened.found opened.any_moment
+    (λ n es f. record {
+      found = f.found;
+      left = f.left;
+      held = f.held;
+      early = omega (arith, f.early, opened.later);
+      risen = f.risen;
+      late = f.late;
+    }) h.1.1 h.1.2 in
     subst (λ x. ScriptEnds issuer asks (coming x) (λ replies. IsAsked (this_clock coming x after) (readings replies)) sink disk
     c.run_opened.result.0) opened.clock run

@@ -4,8 +4,8 @@ use Rattle.ports.specs.Counting.{counting}
 use Rattle.ports.specs.Sinks.{this_sink}
 use Rattle.shop_core.specs.Answer.Requests.{Asked}
 use Rattle.verifactu.specs.Chain.{ScriptEnds}
-use Rattle.verifactu.specs.Devices.{this_clock}
-use Rattle.verifactu.specs.Readings.{IsAsked, LeavesClock, readings, readings_of}
+use Rattle.chain_store.specs.Clocks.{this_clock}
+use Rattle.chain_store.specs.Readings.{IsAsked, LeavesClock, readings, readings_of}
 use Rattle.verifactu.proofs.RunEnding.{script_by}
 use Rattle.verifactu.proofs.chain.run_script.Goals as goal
 

@@ -3,7 +3,7 @@ use Rattle.report.specs.declared.ended.Detail.{Detail}
 use Rattle.sender.specs.declared.answers.DrainFault.{DrainFault}
 use Rattle.verifactu.specs.Beside.{DayRunEnds}
 use Rattle.verifactu.specs.Beside.DayRunEnds.{done, write_fault, disk_fault, no_memory}
-use Rattle.verifactu.specs.Replies.{is_disk_fault, is_no_memory}
+use Rattle.chain_store.specs.Replies.{is_disk_fault, is_no_memory}
 use Rattle.verifactu.specs.Days.{all_replies}
 use Rattle.verifactu.specs.Works.{told_in}
 use Rattle.verifactu.proofs.Bytewise.{part_of_output}

@@ -5,7 +5,8 @@ use Rattle.ports.specs.Sinks.{this_sink}
 use Rattle.ports.specs.declared.memory.CountingClock.{CountingClock}
 use Rattle.ports.specs.declared.sleeper.LeapSleeper.{LeapSleeper}
 use Rattle.verifactu.specs.Day.{FileDay}
-use Rattle.verifactu.specs.Devices.{Agencies, Clocks, Sleepers, agency_in, around_in, disk_in, this_clock}
+use Rattle.chain_store.specs.Clocks.{Clocks, this_clock}
+use Rattle.verifactu.specs.Devices.{Agencies, Sleepers, agency_in, around_in, disk_in}
 use Rattle.verifactu.proofs.DayEnding.{by_line}
 use Rattle.verifactu.proofs.day.day_script.Goals as goal
 

@@ -5,7 +5,7 @@ use Rattle.file_commands.proofs.Bytewise.{took_nothing}
 use Rattle.ports.specs.Sinks.{this_sink}
 use Rattle.till_calls.specs.Root.{parts_of}
 use Rattle.till_calls.specs.Sound.{IsLater}
-use Rattle.verifactu.specs.Crashes.{StandsBetween}
+use Rattle.chain_store.specs.Crashes.{StandsUpTo}
 use Rattle.verifactu.specs.Devices.{agency_desk, agency_in, agency_kind, disk_in}
 use Rattle.verifactu.specs.Draining.{StoreDrains, disk_span, spanning}
 use Rattle.verifactu.specs.Outcomes.{outcome_of}
@@ -38,7 +38,7 @@ returns-in-Ok g c =
     let store = o.store in
     let issuer = (state_of store).issuer in
     let Drains : g.row.D.Denot → g.row.G.Denot → g.row.G.Denot → g.row.Z.Denot → Type 0 = λ d x y z.
-    StoreDrains (StandsBetween issuer) g.G.Agency.begun c.args.plan.now issuer (disk_span g.D.Disk (disk_of (journal_of store)) d)
+    StoreDrains (StandsUpTo issuer) g.G.Agency.begun c.args.plan.now issuer (disk_span g.D.Disk (disk_of (journal_of store)) d)
     (spanning (state_of store).entries (agency_kind g.G.Agency) (agency_desk g.G.Agency x) (agency_desk g.G.Agency y)
     g.Z.Sleeper.tells (g.Z.Sleeper.moment z) (outcome_of end)) in
     let drains = subst (λ (d : g.row.D.Denot). Drains d out.agency then.agency out.sleeper) (sym c.close.ensures.disk)

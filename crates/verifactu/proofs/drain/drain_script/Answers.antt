@@ -4,7 +4,8 @@ use Rattle.ports.specs.Counting.{counting}
 use Rattle.ports.specs.Sinks.{this_sink}
 use Rattle.ports.specs.declared.memory.CountingClock.{CountingClock}
 use Rattle.ports.specs.declared.sleeper.LeapSleeper.{LeapSleeper}
-use Rattle.verifactu.specs.Devices.{Agencies, Clocks, Sleepers, agency_in, clock_in, disk_in, sleeper_in, this_clock}
+use Rattle.chain_store.specs.Clocks.{Clocks, this_clock}
+use Rattle.verifactu.specs.Devices.{Agencies, Sleepers, agency_in, clock_in, disk_in, sleeper_in}
 use Rattle.verifactu.specs.Drain.{FileDrainEnds}
 use Rattle.verifactu.proofs.Finished.{script_plain, script_timed}
 use Rattle.verifactu.proofs.drain.drain_script.Goals as goal

@@ -5,7 +5,7 @@ use Rattle.shop_core.specs.Answer.Requests.{Asked}
 use Rattle.shop_core.specs.History.{History}
 use Rattle.verifactu.specs.Generate.{Generated}
 use Rattle.verifactu.specs.Generated.{AreCommands}
-use Rattle.verifactu.specs.Replies.{Replies, AllReplied}
+use Rattle.chain_store.specs.Replies.{Replies, AllReplied}
 use Rattle.verifactu.proofs.Generating.{ran}
 use Rattle.verifactu.proofs.generate.generated.Goals as goal
 

@@ -1,5 +1,5 @@
 use Rattle.std.proofs.lemmas.Result.{on_ok_weaker}
-use Rattle.std.proofs.Common.{refl, sym, ◌∙◌, subst, Ok, Err}
+use Rattle.std.proofs.Common.{rules, refl, sym, ◌∙◌, subst, Ok, Err}
 use Rattle.journal.specs.Journal.{end_of}
 use Rattle.journal.specs.declared.faults.StoreFault.{StoreFault}
 use Rattle.ports.specs.Readings.{MovedBy}
@@ -9,50 +9,96 @@ use Rattle.chain_store.proofs.Stores.{on_disk, untouched}
 use Rattle.chain_store.proofs.Taking.{made, not_made, told_again, told_refused}
 use Rattle.chain_store.proofs.store.Store.take_asking.Goals as goal
 
-pub returns-in-Err-clause-takes : goal.returns-in-Err-clause-takes
-returns-in-Err-clause-takes g c going_on =
-    not_made c.args.self.now.state c.args.ask.now _ _ g.D.Disk.tells _ (Err StoreFault.NoMemory) c.now-seconds.result
-    c.now-seconds.ensures.told c.now-seconds.ensures.moved refl
-    (λ tells. untouched c.args.self.now.state (end_of c.args.self.now.journal) _ (c.requires.holds going_on tells)
-    c.is_legal.ensures)
+pub returns-in-Err : goal.returns-in-Err
+returns-in-Err g c =
+    record {
+      ready = search rules;
+      takes = λ going_on.
+          not_made c.args.self.now.state c.args.ask.now _ _ g.D.Disk.tells _ (Err StoreFault.NoMemory) c.now-seconds.result
+          c.now-seconds.ensures.told c.now-seconds.ensures.moved refl
+          (λ tells. untouched c.args.self.now.state (end_of c.args.self.now.journal) _ (c.requires.holds going_on tells)
+          c.is_legal.ensures);
+      acknowledged = search rules;
+      going_on = search rules;
+      nothing_taken = search rules;
+      no_memory = search rules;
+      fault = search rules;
+      torn = search rules;
+      stopped = search rules;
+      untouched = search rules;
+      later = search rules;
+    }
 
-pub returns-in-Ok-Again-clause-takes : goal.returns-in-Ok-Again-clause-takes
-returns-in-Ok-Again-clause-takes g c going_on =
-    let s = c.args.self.now.state in
-    let planned = answer s.issuer s.entries c.args.ask.now c.now-seconds.result in
-    not_made s c.args.ask.now _ _ g.D.Disk.tells _ (Ok (reply.Again c.in-Ok-Again.receipt)) c.now-seconds.result
-    c.now-seconds.ensures.told c.now-seconds.ensures.moved
-    (told_again s.issuer s.entries planned c.in-Ok-Again.receipt (sym c.in-Ok-Again.ensures.answer ∙ c.in-Ok-Again.field-0-is))
-    (λ tells. untouched s (end_of c.args.self.now.journal) _ (c.requires.holds going_on tells) c.is_legal.ensures)
+pub returns-in-Ok-Again : goal.returns-in-Ok-Again
+returns-in-Ok-Again g c =
+    record {
+      ready = search rules;
+      takes = λ going_on.
+          let s = c.args.self.now.state in
+          let planned = answer s.issuer s.entries c.args.ask.now c.now-seconds.result in
+          not_made s c.args.ask.now _ _ g.D.Disk.tells _ (Ok (reply.Again c.in-Ok-Again.receipt)) c.now-seconds.result
+          c.now-seconds.ensures.told c.now-seconds.ensures.moved
+          (told_again s.issuer s.entries planned c.in-Ok-Again.receipt (sym c.in-Ok-Again.ensures.answer ∙ c.in-Ok-Again.field-0-is))
+          (λ tells. untouched s (end_of c.args.self.now.journal) _ (c.requires.holds going_on tells) c.is_legal.ensures);
+      acknowledged = λ tells.
+          on_disk c.args.self.now.state (end_of c.args.self.now.journal) _ (c.requires.holds (sym c.in_default.ensures) tells)
+          c.is_legal.ensures;
+      going_on = search rules;
+      nothing_taken = search rules;
+      no_memory = search rules;
+      fault = search rules;
+      torn = search rules;
+      stopped = search rules;
+      untouched = search rules;
+      later = search rules;
+    }
 
-pub returns-in-Ok-Again-clause-acknowledged : goal.returns-in-Ok-Again-clause-acknowledged
-returns-in-Ok-Again-clause-acknowledged g c tells =
-    on_disk c.args.self.now.state (end_of c.args.self.now.journal) _ (c.requires.holds (sym c.in_default.ensures) tells)
-    c.is_legal.ensures
+pub returns-in-Ok-Refused : goal.returns-in-Ok-Refused
+returns-in-Ok-Refused g c =
+    record {
+      ready = search rules;
+      takes = λ going_on.
+          let s = c.args.self.now.state in
+          let planned = answer s.issuer s.entries c.args.ask.now c.now-seconds.result in
+          not_made s c.args.ask.now _ _ g.D.Disk.tells _ (Ok (reply.Refused c.in-Ok-Refused.why)) c.now-seconds.result
+          c.now-seconds.ensures.told c.now-seconds.ensures.moved
+          (told_refused s.issuer s.entries planned c.in-Ok-Refused.why (sym c.in-Ok-Refused.ensures.answer ∙
+          c.in-Ok-Refused.field-0-is))
+          (λ tells. untouched s (end_of c.args.self.now.journal) _ (c.requires.holds going_on tells) c.is_legal.ensures);
+      acknowledged = λ tells.
+          on_disk c.args.self.now.state (end_of c.args.self.now.journal) _ (c.requires.holds (sym c.in_default.ensures) tells)
+          c.is_legal.ensures;
+      going_on = search rules;
+      nothing_taken = search rules;
+      no_memory = search rules;
+      fault = search rules;
+      torn = search rules;
+      stopped = search rules;
+      untouched = search rules;
+      later = search rules;
+    }
 
-pub returns-in-Ok-Refused-clause-takes : goal.returns-in-Ok-Refused-clause-takes
-returns-in-Ok-Refused-clause-takes g c going_on =
-    let s = c.args.self.now.state in
-    let planned = answer s.issuer s.entries c.args.ask.now c.now-seconds.result in
-    not_made s c.args.ask.now _ _ g.D.Disk.tells _ (Ok (reply.Refused c.in-Ok-Refused.why)) c.now-seconds.result
-    c.now-seconds.ensures.told c.now-seconds.ensures.moved
-    (told_refused s.issuer s.entries planned c.in-Ok-Refused.why (sym c.in-Ok-Refused.ensures.answer ∙
-    c.in-Ok-Refused.field-0-is))
-    (λ tells. untouched s (end_of c.args.self.now.journal) _ (c.requires.holds going_on tells) c.is_legal.ensures)
-
-pub returns-in-Ok-Refused-clause-acknowledged : goal.returns-in-Ok-Refused-clause-acknowledged
-returns-in-Ok-Refused-clause-acknowledged g c tells =
-    on_disk c.args.self.now.state (end_of c.args.self.now.journal) _ (c.requires.holds (sym c.in_default.ensures) tells)
-    c.is_legal.ensures
-
-pub returns-in-Ok-Made-clause-takes : goal.returns-in-Ok-Made-clause-takes
-returns-in-Ok-Made-clause-takes g c going_on =
-    let s = c.args.self.now.state in
-    let entry = c.in-Ok-Made.entry in
-    let t = c.take_made.ensures.adds in
-    made s c.take_made.new.self.state c.args.ask.now _ _ g.D.Disk.tells _ _ c.take_made.result c.now-seconds.result entry
-    c.now-seconds.ensures.told
-    (subst (λ (k : g.row.C.Denot). MovedBy 1 (g.C.Clock.coming c.args.self.now.clock) (g.C.Clock.coming k)) (sym t.clock)
-    c.now-seconds.ensures.moved)
-    t.issuer (sym c.in-Ok-Made.ensures.answer ∙ c.in-Ok-Made.field-0-is) c.take_made.ensures.reply
-    (on_ok_weaker c.take_made.result (λ both. both.1) t.added) t.same t.any_moment
+pub returns-in-Ok-Made : goal.returns-in-Ok-Made
+returns-in-Ok-Made g c =
+    record {
+      ready = search rules;
+      takes = λ going_on.
+          let s = c.args.self.now.state in
+          let entry = c.in-Ok-Made.entry in
+          let t = c.take_made.ensures.adds in
+          made s c.take_made.new.self.state c.args.ask.now _ _ g.D.Disk.tells _ _ c.take_made.result c.now-seconds.result entry
+          c.now-seconds.ensures.told
+          (subst (λ (k : g.row.C.Denot). MovedBy 1 (g.C.Clock.coming c.args.self.now.clock) (g.C.Clock.coming k)) (sym t.clock)
+          c.now-seconds.ensures.moved)
+          t.issuer (sym c.in-Ok-Made.ensures.answer ∙ c.in-Ok-Made.field-0-is) c.take_made.ensures.reply
+          (on_ok_weaker c.take_made.result (λ both. both.1) t.added) t.same t.any_moment;
+      acknowledged = search rules;
+      going_on = search rules;
+      nothing_taken = search rules;
+      no_memory = search rules;
+      fault = search rules;
+      torn = search rules;
+      stopped = search rules;
+      untouched = search rules;
+      later = search rules;
+    }

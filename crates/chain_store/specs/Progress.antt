@@ -1,5 +1,5 @@
 -- How far a run of a store has come.
-use Rattle.std.proofs.Common.{◌≡◌, ℕ, ◌≤◌, List, [], length, Bool, IsTrue, IsSome, OnOk, Option, Some, None, Result, Err, ◌↔◌}
+use Rattle.std.specs.Prelude.{◌≡◌, ℕ, ◌≤◌, List, [], length, Bool, IsTrue, IsSome, OnOk, Option, Some, None, Result, Err, ◌↔◌}
 use Rattle.std.specs.List.{AllByRecursion}
 use Rattle.chain_disk.specs.OnDisk.{OnDisk, LeavesOnly, LeavesNow}
 use Rattle.chain_disk.specs.declared.disk.Disk.{Ghosts}
@@ -16,10 +16,10 @@ use Rattle.shop_core.specs.Answer.Requests.{Asked}
 use Rattle.shop_core.specs.History.{History}
 use Rattle.shop_core.specs.Answer.Replies.{ChainRun}
 use Rattle.shop_core.specs.declared.answer.Reply.{Reply}
-use Rattle.once_world.specs.Agreement.{IsPrefix}
-use Rattle.verifactu.specs.Crashes.{IsCutOff, StandsBetween, StandsForEnd}
-use Rattle.verifactu.specs.Readings.{IsComing, readings}
-use Rattle.verifactu.specs.Replies.{AllGoOn, StopsByFault}
+use Rattle.shop_core.specs.Prefix.{IsPrefix}
+use Rattle.chain_store.specs.Crashes.{IsCutOff, StandsUpTo, StandsForEnd}
+use Rattle.chain_store.specs.Readings.{IsComing, readings}
+use Rattle.chain_store.specs.Replies.{AllGoOn, StopsByFault}
 
 -- where the run began
 pub record Origin : Type 0 where
@@ -41,14 +41,14 @@ pub record Point : Type 0 where
 -- the journal goes on
 pub record GoingOn (o : Origin) (replies : List (Result Reply StoreFault)) (p : Point) : Type 0 where
   pub go_on : AllGoOn replies
-  pub only : IsTrue o.tells → LeavesOnly o.since p.now (StandsBetween o.issuer o.start p.history.entries [])
+  pub only : IsTrue o.tells → LeavesOnly o.since p.now (StandsUpTo o.issuer o.start p.history.entries [])
 
 -- what a torn entry leaves
 pub record Torn (o : Origin) (asks : List Asked) (replies : List (Result Reply StoreFault)) (p : Point) : Type 0 where
   pub torn : List Entry
   pub at_most_one : length torn ≤ 1
   pub made : AllByRecursion (IsCutOff o.issuer (IsComing o.coming) asks p.history.entries replies) torn
-  pub only : LeavesOnly o.since p.now (StandsBetween o.issuer o.start p.history.entries torn)
+  pub only : LeavesOnly o.since p.now (StandsUpTo o.issuer o.start p.history.entries torn)
   pub here : LeavesNow p.now (StandsForEnd o.issuer p.history.entries torn)
 
 -- the journal has stopped

@@ -5,8 +5,8 @@ use Rattle.ports.specs.Readings.{IsTold, MovedBy}
 use Rattle.journal.specs.declared.faults.StoreFault.{StoreFault}
 use Rattle.journal.specs.declared.faults.StoreFault.TheVariants.{Stopped}
 use Rattle.shop_core.specs.declared.answer.Reply.{Reply}
-use Rattle.verifactu.specs.Devices.{Clocks, LeftClock}
-use Rattle.verifactu.specs.Replies.{Replies}
+use Rattle.chain_store.specs.Clocks.{Clocks, LeftClock}
+use Rattle.chain_store.specs.Replies.{Replies}
 
 -- whether the clock was read for a reply: for each but those of a journal that had stopped
 abbrev pub has_read : Result Reply StoreFault → Bool

@@ -23,12 +23,12 @@ use Rattle.shop_core.specs.Answer.Replies.ChainRun.{begun, replied}
 use Rattle.shop_core.specs.declared.answer.Planned.{Planned}
 use Rattle.shop_core.specs.declared.answer.Planned.TheVariants.{Again, Refused, Made}
 use Rattle.shop_core.specs.declared.answer.Reply.{Reply}
-use Rattle.once_world.specs.Agreement.{IsPrefix}
-use Rattle.verifactu.specs.Crashes.{IsCutOff, StandsBetween, StandsForEnd}
-use Rattle.verifactu.specs.Readings.{IsComing, has_read, readings}
-use Rattle.verifactu.specs.Replies.{IsGoingOn, IsStopped, StopsByFault}
-use Rattle.verifactu.proofs.Each.{each_weaker}
-use Rattle.verifactu.proofs.Progress.{Origin, Point, GoingOn, Torn, Halted, Progress, SoFar, Step, call_at}
+use Rattle.shop_core.specs.Prefix.{IsPrefix}
+use Rattle.chain_store.specs.Crashes.{IsCutOff, StandsUpTo, StandsForEnd}
+use Rattle.chain_store.specs.Readings.{IsComing, has_read, readings}
+use Rattle.chain_store.specs.Replies.{IsGoingOn, IsStopped, StopsByFault}
+use Rattle.chain_store.proofs.Each.{each_weaker}
+use Rattle.chain_store.specs.Progress.{Origin, Point, GoingOn, Torn, Halted, Progress, SoFar, Step, call_at}
 
 abbrev Told_reply : Type 0
 Told_reply = Result Reply StoreFault
@@ -70,7 +70,7 @@ prefix_all entries = record { rest = []; is = sym (append-nil entries) }
 
 -- what was left of a run is left of a longer one
 pub between_more : (issuer : List ℕ) (start entries gained torn whole : List Entry) → whole ≡ entries ++ gained → (c : List ℕ) →
-    StandsBetween issuer start entries [] c → StandsBetween issuer start whole torn c
+    StandsUpTo issuer start entries [] c → StandsUpTo issuer start whole torn c
 between_more issuer start entries gained torn whole is c h =
     let within : IsPrefix h.history entries = subst (λ (es : List Entry). IsPrefix h.history es) (append-nil entries) h.within in
     record {
@@ -83,7 +83,7 @@ between_more issuer start entries gained torn whole is c h =
 
 stands_between : (issuer : List ℕ) (start entries history rest : List Entry) (c : List ℕ) → IsPrefix start history →
     entries ≡ history ++ rest → StandsFor issuer history c →
-    StandsBetween issuer start entries [] c
+    StandsUpTo issuer start entries [] c
 stands_between issuer start entries history rest c begins is stands = record {
   history = history;
   stands = stands;
@@ -94,7 +94,7 @@ stands_between issuer start entries history rest c begins is stands = record {
 -- what one answered ask leaves
 around_gained : (issuer : List ℕ) (start entries gained whole : List Entry) (planned : Planned) (told : Reply) (c : List ℕ) →
     IsPrefix start entries → whole ≡ entries ++ gained →
-    Tells entries planned told gained → StandsAround issuer entries planned c → StandsBetween issuer start whole [] c
+    Tells entries planned told gained → StandsAround issuer entries planned c → StandsUpTo issuer start whole [] c
 around_gained issuer start entries gained whole (Again receipt) told c begins is tells stands =
     stands_between issuer start whole entries gained c begins is stands
 around_gained issuer start entries gained whole (Refused why) told c begins is tells stands =
@@ -107,7 +107,7 @@ around_gained issuer start entries gained whole (Made entry) told c begins is te
     (all ∙ sym (append-nil (entries ++ entry ∷ []))) with_it
 
 end_between : (issuer : List ℕ) (start entries torn : List Entry) (c : List ℕ) → IsPrefix start entries →
-    StandsForEnd issuer entries torn c → StandsBetween issuer start entries torn c
+    StandsForEnd issuer entries torn c → StandsUpTo issuer start entries torn c
 end_between issuer start entries torn c begins (inl stands) = record {
   history = entries;
   stands = stands;
@@ -170,9 +170,9 @@ answered : (o : Origin) (p q : Point) (ask : Asked) (reply : Reply) (replies : L
 answered o p q ask reply replies begins g t = record {
   go_on = all_push IsGoingOn replies (Ok reply) tt g.go_on;
   only = λ tells. follows o.since p.now q.now
-      (StandsBetween o.issuer o.start p.history.entries [])
+      (StandsUpTo o.issuer o.start p.history.entries [])
       (StandsAround o.issuer p.history.entries (answer o.issuer p.history.entries ask t.seconds))
-      (StandsBetween o.issuer o.start q.history.entries [])
+      (StandsUpTo o.issuer o.start q.history.entries [])
       (g.only tells) (t.any_moment tells)
       (between_more o.issuer o.start p.history.entries t.gained [] q.history.entries t.entries)
       (λ c stands. around_gained o.issuer o.start p.history.entries t.gained q.history.entries (answer o.issuer p.history.entries
@@ -184,8 +184,8 @@ unanswered : (o : Origin) (p q : Point) (ask : Asked) (replies : List Told_reply
     GoingOn o (replies ++ Err NoMemory ∷ []) q
 unanswered o p q ask replies g t same = record {
   go_on = all_push IsGoingOn replies (Err NoMemory) tt g.go_on;
-  only = λ tells. subst (λ (u : OnDisk). LeavesOnly o.since u (StandsBetween o.issuer o.start q.history.entries [])) (sym same)
-      (weaker o.since p.now (StandsBetween o.issuer o.start p.history.entries []) (StandsBetween o.issuer o.start
+  only = λ tells. subst (λ (u : OnDisk). LeavesOnly o.since u (StandsUpTo o.issuer o.start q.history.entries [])) (sym same)
+      (weaker o.since p.now (StandsUpTo o.issuer o.start p.history.entries []) (StandsUpTo o.issuer o.start
       q.history.entries []) (g.only tells)
       (between_more o.issuer o.start p.history.entries t.gained [] q.history.entries t.entries));
 }
@@ -276,11 +276,11 @@ torn : (o : Origin) (asks : List Asked) (replies : List Told_reply) (p q : Point
 torn o asks replies p q ask h g same t tells =
     let more = t.entry ∷ [] in
     let any = t.any_moment tells in
-    let only : LeavesOnly o.since q.now (StandsBetween o.issuer o.start p.history.entries more) =
+    let only : LeavesOnly o.since q.now (StandsUpTo o.issuer o.start p.history.entries more) =
     follows o.since p.now q.now
-    (StandsBetween o.issuer o.start p.history.entries [])
+    (StandsUpTo o.issuer o.start p.history.entries [])
     (StandsBeforeOrWith o.issuer p.history.entries t.entry)
-    (StandsBetween o.issuer o.start p.history.entries more)
+    (StandsUpTo o.issuer o.start p.history.entries more)
     (g.only tells) any
     (between_more o.issuer o.start p.history.entries [] more p.history.entries (sym (append-nil p.history.entries)))
     (λ c stands. end_between o.issuer o.start p.history.entries more c h.begins stands) in
@@ -292,7 +292,7 @@ torn o asks replies p q ask h g same t tells =
             t.entry) (sym same) (cut_off_here o asks replies p q ask h t),
         tt,
       );
-      only = subst (λ (es : List Entry). LeavesOnly o.since q.now (StandsBetween o.issuer o.start es more)) (sym same) only;
+      only = subst (λ (es : List Entry). LeavesOnly o.since q.now (StandsUpTo o.issuer o.start es more)) (sym same) only;
       here = subst (λ (es : List Entry). LeavesNow q.now (StandsForEnd o.issuer es more)) (sym same)
           (λ c left. any.each (moment q.now) c any.later left);
     }

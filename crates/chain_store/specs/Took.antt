@@ -1,0 +1,29 @@
+-- All that one ask at a store leaves.
+use Rattle.std.specs.Prelude.{◌≡◌, ℕ, Some, None, Result, OnOk, IfOk, IsErrOf, IsSome, ◌↔◌}
+use Rattle.ports.specs.declared.Clock as clock
+use Rattle.chain_disk.specs.declared.disk.Disk as disk
+use Rattle.journal.specs.Journal.{stopped_of}
+use Rattle.journal.specs.declared.faults.StoreFault.{StoreFault}
+use Rattle.journal.specs.declared.faults.StoreFault.TheVariants.{DiskFault, Stopped, NoMemory}
+use Rattle.shop_core.specs.Answer.Requests.{Asked}
+use Rattle.shop_core.specs.declared.answer.Reply.{Reply}
+use Rattle.chain_store.specs.Ready.{IfNothingTaken, Takes, Tears}
+use Rattle.chain_store.specs.Store.{Acknowledged, GoesOn, IsLater, IsStoppedByFault, Ready, journal_of, this_call, torn_of}
+use Rattle.chain_store.specs.declared.store.Store.{Store}
+
+-- one ask, of a store as it was and as it is then
+pub record Took {D C : Type 0} (d : disk.Ghosts D) (c : clock.Ghosts C) (old new : Store D C d) (ask : Asked)
+    (told : Result Reply StoreFault) : Type 0 where
+  pub ready : Ready d.tells d.told new
+  pub takes : stopped_of (journal_of old) ≡ None → Takes (this_call d.tells d.told c.coming old new) ask told
+  -- after Ok every crash leaves the whole history
+  pub acknowledged : OnOk told (Acknowledged d.tells d.told new)
+  pub going_on : OnOk told (GoesOn old new)
+  pub nothing_taken : IfOk told (λ reply. IfNothingTaken reply (journal_of new ≡ journal_of old))
+  pub no_memory : IsErrOf told NoMemory → journal_of new ≡ journal_of old
+  -- a fault of the disk stops the journal for good; from then on nothing is asked of the disk or the clock
+  pub fault : IsErrOf told DiskFault → IsStoppedByFault d.faults old new
+  pub torn : IsErrOf told DiskFault → Tears (this_call d.tells d.told c.coming old new) ask (torn_of new)
+  pub stopped : (count : ℕ) → IsErrOf told (Stopped count) ↔ (stopped_of (journal_of old) ≡ Some count)
+  pub untouched : IsSome (stopped_of (journal_of old)) → new ≡ old
+  pub later : IsLater d.faults old new
