@@ -21,7 +21,7 @@ use Rattle.sender.specs.declared.answers.SendFault.{SendFault}
 use Rattle.sender.specs.declared.answers.SendFault.TheVariants.{Store}
 use Rattle.sender.specs.declared.answers.DrainFault.{DrainFault}
 use Rattle.sender.specs.Sending.{Sending}
-use Rattle.sender.specs.Turning.{Kind, Desk, Turned, turn_call}
+use Rattle.sender.specs.Turning.{AgencyKind, Desk, Turned, turn_call}
 use Rattle.sender.specs.Agreeing.{InOneSession, KeepsAgreement, Gains, HasAt, AreNotes, AreNotesOrTorn, Adds, AgreesIfTorn}
 use Rattle.sender.specs.Draining.{Scene, Turns, none, more, GoesOn, Drained}
 use Rattle.sender.proofs.Lists.{all_both, all_change}
@@ -143,14 +143,14 @@ added_notes look after result never (quiet i g own) = adds_quiet AreNotes look a
 added_notes look after result never (notes i lines a) = adds_one AreNotes look after _ i a tt
 added_notes look after result never (stops i lines a e) = absurd (never e)
 
-pub turn_adds : (kind : Kind) (desk desk_then : Desk) (before after : Sight) (old new : Sending) (now : ℕ)
+pub turn_adds : (kind : AgencyKind) (desk desk_then : Desk) (before after : Sight) (old new : Sending) (now : ℕ)
     (result : Result Turn SendFault) → Turned (turn_call kind desk desk_then before after old new now result) → Adds AreNotesOrTorn before
     after
 turn_adds kind desk desk_then before after old new now result t =
     adds_then AreNotesOrTorn before t.look after (adds_quiet AreNotesOrTorn before t.look t.grows.issuer t.grows.items t.own)
     (added_adds t.look after result (ends_added old now t.shown t.look after t.deals.deed result new t.deals.ends))
 
-pub turn_notes : (kind : Kind) (desk desk_then : Desk) (before after : Sight) (old new : Sending) (now : ℕ)
+pub turn_notes : (kind : AgencyKind) (desk desk_then : Desk) (before after : Sight) (old new : Sending) (now : ℕ)
     (result : Result Turn SendFault) → Turned (turn_call kind desk desk_then before after old new now result) →
     (result ≡ Err (Store store.DiskFault) → ⊥) → Adds AreNotes before after
 turn_notes kind desk desk_then before after old new now result t never =
@@ -189,7 +189,7 @@ added_torn look after result items faults torn is (notes i lines a) =
     absurd (let h = e in cc)
 added_torn look after result items faults torn is (stops i lines a e) = inr e
 
-pub turn_torn : (kind : Kind) (desk desk_then : Desk) (before after : Sight) (old new : Sending) (now : ℕ)
+pub turn_torn : (kind : AgencyKind) (desk desk_then : Desk) (before after : Sight) (old new : Sending) (now : ℕ)
     (result : Result Turn SendFault) → Turned (turn_call kind desk desk_then before after old new now result) →
     KeepsAgreement before after desk.ledger desk_then.ledger new.said result → (items : List Item) (faults : ℕ) (torn : Entry) →
     after.items ≡ items ++ recorded.Stop faults torn ∷ [] → (after.own ≡ before.own → ⊥) →
@@ -202,7 +202,7 @@ turn_torn kind desk desk_then before after old new now result t k items faults t
           faults torn e is k.gains
     ]
 
-pub turn_if_torn : (kind : Kind) (desk desk_then : Desk) (before after : Sight) (old new : Sending) (now : ℕ)
+pub turn_if_torn : (kind : AgencyKind) (desk desk_then : Desk) (before after : Sight) (old new : Sending) (now : ℕ)
     (result : Result Turn SendFault) → Turned (turn_call kind desk desk_then before after old new now result) →
     KeepsAgreement before after desk.ledger desk_then.ledger new.said result → AgreesIfTorn before after desk_then.ledger
 turn_if_torn kind desk desk_then before after old new now result t k items faults torn is own =
@@ -217,7 +217,7 @@ turn_if_torn kind desk desk_then before after old new now result t k items fault
 goes_untorn : (answer : Result Turn SendFault) → GoesOn answer → answer ≡ Err (Store store.DiskFault) → ⊥
 goes_untorn answer on e = subst GoesOn e on
 
-pub turns_notes : (kind : Kind) (exact : Bool) (start : Scene) (answers : List (Result Turn SendFault)) (links : ℕ)
+pub turns_notes : (kind : AgencyKind) (exact : Bool) (start : Scene) (answers : List (Result Turn SendFault)) (links : ℕ)
     (scene : Scene) → Turns kind exact start answers links scene → Adds AreNotes start.sight scene.sight
 turns_notes kind exact start answers links scene none = adds_none AreNotes start.sight
 turns_notes kind exact start answers links scene (more before_answers before_links mid answer then t turn on few) =
@@ -225,7 +225,7 @@ turns_notes kind exact start answers links scene (more before_answers before_lin
     (turn_notes kind mid.desk then.desk mid.sight then.sight mid.sending then.sending turn.now answer turn.turned
     (goes_untorn answer on))
 
-pub drained_adds : (kind : Kind) (exact : Bool) (start then : Scene) (old new : List Told) (result : Result (Unit {0}) DrainFault)
+pub drained_adds : (kind : AgencyKind) (exact : Bool) (start then : Scene) (old new : List Told) (result : Result (Unit {0}) DrainFault)
     → Drained kind exact start then old new result → Adds AreNotesOrTorn start.sight then.sight
 drained_adds kind exact start then old new result d =
     adds_then AreNotesOrTorn start.sight d.scene.sight then.sight (adds_weaker AreNotes AreNotesOrTorn notes_or_torn start.sight
@@ -233,7 +233,7 @@ drained_adds kind exact start then old new result d =
     (turn_adds kind d.scene.desk then.desk d.scene.sight then.sight d.scene.sending then.sending d.turn.now d.answer
     d.turn.turned)
 
-pub drained_if_torn : Known → (kind : Kind) (exact : Bool) (start then : Scene) (old new : List Told)
+pub drained_if_torn : Known → (kind : AgencyKind) (exact : Bool) (start then : Scene) (old new : List Told)
     (result : Result (Unit {0}) DrainFault) → Drained kind exact start then old new result →
     (IsTrue kind.keeps_rules → IsTrue kind.tells) →
     InOneSession kind.keeps_rules start.sight then.sight start.desk.ledger start.sending.said

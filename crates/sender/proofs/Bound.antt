@@ -27,7 +27,7 @@ use Rattle.sender.specs.declared.answers.Turn.TheVariants.{Idle, WaitUntil, Note
 use Rattle.sender.specs.declared.answers.SendFault.{SendFault}
 use Rattle.sender.specs.declared.answers.SendFault.TheVariants.{LinkFault, NoMemory}
 use Rattle.sender.specs.Sending.{Sending}
-use Rattle.sender.specs.Turning.{Deed, Nothing, Asked, Handed, Kind, Desk, Dealt, RestEnds, SeenEnds, ReplyEnds, Ends}
+use Rattle.sender.specs.Turning.{Deed, Nothing, Asked, Handed, AgencyKind, Desk, Dealt, RestEnds, SeenEnds, ReplyEnds, Ends}
 use Rattle.sender.specs.Turning.{count_waiting}
 use Rattle.sender.specs.Agreeing.{InSession, InOneSession, AreSeen}
 use Rattle.sender.specs.Draining.{Scene, Turns, none, more, IsTurn, GoesOn, links_with, moment_after, told_in, list_of, told_list}
@@ -299,7 +299,7 @@ reply_step before look after shown g old new moment left reply (Err LinkFault) w
 reply_step before look after shown g old new moment left reply _ w some doubt names matched said ends on st = absurd on
 
 -- by what was asked
-deed_step : Known → (kind : Kind) (desk desk_then : Desk) (before look after : Sight) (g : Grows before look) (shown : Waiting)
+deed_step : Known → (kind : AgencyKind) (desk desk_then : Desk) (before look after : Sight) (g : Grows before look) (shown : Waiting)
     (old new : Sending) (moment now left : ℕ) (result : Result Turn SendFault) (deed : Deed) → IsTrue kind.keeps_rules →
     ShowsWaiting look 1000 shown → Agree (history_of before) desk.ledger.processed desk.ledger.sent →
     AreSeen desk.ledger.processed old.said → SameShop before look after shown g → moment ≤ now →
@@ -344,7 +344,7 @@ deed_step known kind desk desk_then before look after g shown old new moment now
     shows agree there w later dealt ends on st =
     absurd (subst (λ (r : Result Turn SendFault). GoesOn r) ends.3.0 on)
 
-turn_step : Known → (kind : Kind) (exact : Bool) (before after : Scene) (answer : Result Turn SendFault) (left : ℕ) →
+turn_step : Known → (kind : AgencyKind) (exact : Bool) (before after : Scene) (answer : Result Turn SendFault) (left : ℕ) →
     IsTrue kind.keeps_rules → Agree (history_of before.sight) before.desk.ledger.processed before.desk.ledger.sent →
     AreSeen before.desk.ledger.processed before.sending.said →
     GainsOwnNotes before.sight after.sight → length (recs (history_of after.sight)) ≤ length (recs (history_of before.sight)) →
@@ -369,7 +369,7 @@ pub record LeftAfter (batches links : ℕ) (answers : List (Result Turn SendFaul
   pub spent : length answers + left ≤ 2 * batches + 3 * links + 3
   pub stand : Stand (history_of scene.sight) scene.sending scene.moment left
 
-pub turns_left : Known → (kind : Kind) (exact : Bool) (begin : Scene) (answers : List (Result Turn SendFault)) (links : ℕ)
+pub turns_left : Known → (kind : AgencyKind) (exact : Bool) (begin : Scene) (answers : List (Result Turn SendFault)) (links : ℕ)
     (scene : Scene) (batches : ℕ) → (IsTrue kind.keeps_rules → IsTrue kind.tells) → IsTrue kind.keeps_rules →
     InSession begin.sight begin.desk.ledger begin.sending.said → length (waiting (history_of begin.sight)) ≤ 1000 * batches →
     Turns kind exact begin answers links scene → GainsOwnNotes begin.sight scene.sight → length (recs (history_of scene.sight)) ≤
@@ -413,7 +413,7 @@ count_append : (xs ys : List Told) → count_by is_link (xs ++ ys) ≡ count_by 
 count_append xs ys = sum_by-append (λ (x : Told). cond (is_link x) 1 0) xs ys
 
 -- as many link faults are told as there were
-turns_links : (kind : Kind) (exact : Bool) (begin : Scene) (answers : List (Result Turn SendFault)) (links : ℕ) (scene : Scene) →
+turns_links : (kind : AgencyKind) (exact : Bool) (begin : Scene) (answers : List (Result Turn SendFault)) (links : ℕ) (scene : Scene) →
     Turns kind exact begin answers links scene → count_by is_link (filter_map told_in answers) ≡ links
 turns_links kind exact begin answers links scene none = refl
 turns_links kind exact begin answers links scene (more before_answers before_links mid answer then t turn on below) =
@@ -437,7 +437,7 @@ told_short (answer ∷ answers) =
     let r = told_short answers in
     omega (arith, f, length-append (told_list answer) (filter_map told_in answers))
 
-pub drained_bounded : Known → (kind : Kind) (exact : Bool) (begin then : Scene) (old new : List Told)
+pub drained_bounded : Known → (kind : AgencyKind) (exact : Bool) (begin then : Scene) (old new : List Told)
     (result : Result (Unit {0}) DrainFault) → Drained kind exact begin then old new result →
     (IsTrue kind.keeps_rules → IsTrue kind.tells) →
     InOneSession kind.keeps_rules begin.sight then.sight begin.desk.ledger begin.sending.said
@@ -468,7 +468,7 @@ drained_bounded known kind exact begin then old new result d tells keeps session
     ]
 
 -- a drain that found nothing waiting
-over_delivered : (kind : Kind) (exact : Bool) (before after : Scene) (answer : Result Turn SendFault) (records : ℕ) →
+over_delivered : (kind : AgencyKind) (exact : Bool) (before after : Scene) (answer : Result Turn SendFault) (records : ℕ) →
     IsTurn kind exact before after answer → answer ≡ Ok (Idle records) → length (noted (history_of after.sight)) ≡ length
     (recs (history_of after.sight))
 over_delivered kind exact before after answer records t e =
@@ -493,7 +493,7 @@ over_delivered kind exact before after answer records t e =
     idle_counts old now shown look after (Handed (Err agency.Failed)) records new shows ends = (let e = ends.3.0 in absurd cc)
     idle_counts old now shown look after (Handed (Err agency.NoMemory)) records new shows ends = (let e = ends.3.0 in absurd cc)
 
-pub drained_delivered : (kind : Kind) (exact : Bool) (begin then : Scene) (old new : List Told)
+pub drained_delivered : (kind : AgencyKind) (exact : Bool) (begin then : Scene) (old new : List Told)
     (result : Result (Unit {0}) DrainFault) → Drained kind exact begin then old new result →
     OnOk result (length (noted (history_of then.sight)) ≡ length (recs (history_of then.sight)))
 drained_delivered kind exact begin then old new (Ok done) d = elim d.ends [

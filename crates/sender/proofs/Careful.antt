@@ -32,7 +32,7 @@ use Rattle.sender.specs.declared.answers.Turn.TheVariants.{Noted, Cleared, Doubt
 use Rattle.sender.specs.declared.answers.SendFault.{SendFault}
 use Rattle.sender.specs.declared.answers.SendFault.TheVariants.{Contradiction, Store, NoMemory}
 use Rattle.sender.specs.Sending.{Sending}
-use Rattle.sender.specs.Turning.{Deed, Nothing, Asked, Handed, Kind, Desk, Dealt, SeenEnds, ReplyEnds, Ends, Turned, turn_call}
+use Rattle.sender.specs.Turning.{Deed, Nothing, Asked, Handed, AgencyKind, Desk, Dealt, SeenEnds, ReplyEnds, Ends, Turned, turn_call}
 use Rattle.sender.specs.Dark.{AreLight, NoneInTheDark, IsRunBy, AreRunsBy}
 use Rattle.sender.specs.Agreeing.{IsCareful}
 use Rattle.sender.proofs.Lists.{all_take, all_drop_later}
@@ -307,7 +307,7 @@ with_messages : (past : List Message) (after : Sight) (messages then : List Mess
     IsCareful past after messages new → IsCareful past after then new
 with_messages past after messages then new e care = subst (λ (ms : List Message). IsCareful past after ms new) (sym e) care
 
-deed_careful : AreLinked → (past : List Message) (kind : Kind) (desk desk_then : Desk) (before look after : Sight)
+deed_careful : AreLinked → (past : List Message) (kind : AgencyKind) (desk desk_then : Desk) (before look after : Sight)
     (shown : Waiting) (old new : Sending) (now : ℕ) (result : Result Turn SendFault) (deed : Deed) → IsTrue kind.tells →
     Grows before look → ShowsWaiting look 1000 shown → IsCareful past before desk.ledger.messages old →
     Dealt kind desk desk_then shown deed → Ends old now shown look after deed result new →
@@ -376,7 +376,7 @@ deed_careful linked past kind desk desk_then before look after shown old new now
           (stays look after g.legal e.2) (λ f. in_doubt new.doubt doubt f))
     ]
 
-pub turn_careful : AreLinked → (past : List Message) (kind : Kind) (desk desk_then : Desk) (before after : Sight)
+pub turn_careful : AreLinked → (past : List Message) (kind : AgencyKind) (desk desk_then : Desk) (before after : Sight)
     (old new : Sending) (now : ℕ) (result : Result Turn SendFault) → Turned (turn_call kind desk desk_then before after old new now result) →
     IsTrue kind.tells → IsCareful past before desk.ledger.messages old → IsCareful past after desk_then.ledger.messages new
 turn_careful linked past kind desk desk_then before after old new now result t tells care =

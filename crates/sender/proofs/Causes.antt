@@ -9,19 +9,19 @@ use Rattle.sender.specs.declared.answers.Turn.{Turn}
 use Rattle.sender.specs.declared.answers.SendFault.{SendFault}
 use Rattle.sender.specs.declared.answers.SendFault.TheVariants.{LinkFault}
 use Rattle.sender.specs.Sending.{Sending}
-use Rattle.sender.specs.Turning.{Deed, Nothing, Asked, Handed, Kind, Desk, Dealt, Ends, Turned, turn_call}
+use Rattle.sender.specs.Turning.{Deed, Nothing, Asked, Handed, AgencyKind, Desk, Dealt, Ends, Turned, turn_call}
 
-later : (kind : Kind) (desk desk_then : Desk) (shown : Waiting) (deed : Deed) → Dealt kind desk desk_then shown deed →
+later : (kind : AgencyKind) (desk desk_then : Desk) (shown : Waiting) (deed : Deed) → Dealt kind desk desk_then shown deed →
     desk.faults ≤ desk_then.faults
 later kind desk desk_then shown Nothing dealt = let e = ap (λ (d : Desk). d.faults) dealt in omega arith
 later kind desk desk_then shown (Asked answer) dealt = dealt.0.later
 later kind desk desk_then shown (Handed answer) dealt = dealt.0.later
 
-pub turn_later : (kind : Kind) (desk desk_then : Desk) (before after : Sight) (old new : Sending) (now : ℕ)
+pub turn_later : (kind : AgencyKind) (desk desk_then : Desk) (before after : Sight) (old new : Sending) (now : ℕ)
     (result : Result Turn SendFault) → Turned (turn_call kind desk desk_then before after old new now result) → desk.faults ≤ desk_then.faults
 turn_later kind desk desk_then before after old new now result t = later kind desk desk_then t.shown t.deals.deed t.deals.dealt
 
-link : (kind : Kind) (desk desk_then : Desk) (look after : Sight) (shown : Waiting) (old new : Sending) (now : ℕ) (deed : Deed) →
+link : (kind : AgencyKind) (desk desk_then : Desk) (look after : Sight) (shown : Waiting) (old new : Sending) (now : ℕ) (deed : Deed) →
     Dealt kind desk desk_then shown deed → Ends old now shown look after deed (Err LinkFault) new →
     Rose desk.faults desk_then.faults
 link kind desk desk_then look after shown old new now Nothing dealt ends = absurd ends.0
@@ -35,7 +35,7 @@ link kind desk desk_then look after shown old new now (Handed (Ok reply)) dealt 
 link kind desk desk_then look after shown old new now (Handed (Err agency.Failed)) dealt ends = dealt.0.failed
 link kind desk desk_then look after shown old new now (Handed (Err agency.NoMemory)) dealt ends = (let e = ends.3.0 in absurd cc)
 
-pub turn_link : (kind : Kind) (desk desk_then : Desk) (before after : Sight) (old new : Sending) (now : ℕ)
+pub turn_link : (kind : AgencyKind) (desk desk_then : Desk) (before after : Sight) (old new : Sending) (now : ℕ)
     (result : Result Turn SendFault) → Turned (turn_call kind desk desk_then before after old new now result) → IsErrOf result LinkFault →
     Rose desk.faults desk_then.faults
 turn_link kind desk desk_then before after old new now result t is =

@@ -5,7 +5,7 @@ use Rattle.sender.specs.declared.answers.Turn.{Turn}
 use Rattle.sender.specs.declared.answers.SendFault.{SendFault}
 use Rattle.once_world.specs.Outbox.{Sight}
 use Rattle.sender.specs.Draining.{Scene, IsTurn}
-use Rattle.sender.specs.Turning.{Kind}
+use Rattle.sender.specs.Turning.{AgencyKind}
 use Rattle.sender.proofs.Growing.{Growth}
 use Rattle.sender.proofs.Sessions.{is_turn_growth}
 
@@ -14,7 +14,7 @@ longer n a b g le = let e = ap (λ (l : List Item). length l) g.items_is in let 
     omega (arith, le, e, s)
 
 -- what was known of at first is shown, whether this is the first turn or not
-pub covers_on : (kind : Kind) (exact : Bool) (scene then : Scene) (answer : Result Turn SendFault) (first now : ℕ) →
+pub covers_on : (kind : AgencyKind) (exact : Bool) (scene then : Scene) (answer : Result Turn SendFault) (first now : ℕ) →
     (first ≡ now) ⊎ (first ≤ length scene.sight.items) → now ≤ length then.sight.items → IsTurn kind exact scene then answer →
     first ≤ length then.sight.items
 covers_on kind exact scene then answer first now (inl e) le t = omega (arith, e, le)

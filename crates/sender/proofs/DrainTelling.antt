@@ -6,7 +6,7 @@ use Rattle.agency_port.specs.declared.turns.Told.{Told}
 use Rattle.sender.specs.declared.answers.Turn.{Turn}
 use Rattle.sender.specs.declared.answers.SendFault.{SendFault}
 use Rattle.sender.specs.declared.answers.DrainFault.{DrainFault}
-use Rattle.sender.specs.Turning.{Kind}
+use Rattle.sender.specs.Turning.{AgencyKind}
 use Rattle.sender.specs.Draining.{Scene, Turns, none, more, Drained, told_in, list_of, told_list}
 use Rattle.sender.specs.Lines.{TellsOf, LinesOf, no_line, quiet_line, line_of, DrainTells}
 use Rattle.sender.proofs.Telling.{turn_tells}
@@ -32,7 +32,7 @@ one_more old mid new lines answer s (inr p) = record {
       (line_of s.messages lines p.message p.line s.of_them p.of_it);
 }
 
-turns_tell : (kind : Kind) (exact : Bool) (begin : Scene) (answers : List (Result Turn SendFault)) (links : ℕ) (scene : Scene) →
+turns_tell : (kind : AgencyKind) (exact : Bool) (begin : Scene) (answers : List (Result Turn SendFault)) (links : ℕ) (scene : Scene) →
     IsTrue kind.tells → Turns kind exact begin answers links scene →
     SaidSoFar begin.desk.ledger.messages scene.desk.ledger.messages (filter_map told_in answers)
 turns_tell kind exact begin answers links scene tells none = record {
@@ -47,7 +47,7 @@ turns_tell kind exact begin answers links scene tells (more before_answers befor
     answer (turns_tell kind exact begin before_answers before_links mid tells t)
     (turn_tells kind mid.desk then.desk mid.sight then.sight mid.sending then.sending turn.now answer turn.turned tells))
 
-pub drained_tells : (kind : Kind) (exact : Bool) (begin then : Scene) (old new : List Told)
+pub drained_tells : (kind : AgencyKind) (exact : Bool) (begin then : Scene) (old new : List Told)
     (result : Result (Unit {0}) DrainFault) → Drained kind exact begin then old new result → IsTrue kind.tells →
     DrainTells begin.desk.ledger.messages then.desk.ledger.messages old new result
 drained_tells kind exact begin then old new result d tells =

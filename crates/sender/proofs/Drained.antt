@@ -16,7 +16,7 @@ use Rattle.sender.specs.declared.answers.SendFault.{SendFault}
 use Rattle.sender.specs.declared.answers.SendFault.TheVariants as send
 use Rattle.sender.specs.declared.answers.DrainFault.{DrainFault}
 use Rattle.sender.specs.declared.answers.DrainFault.TheVariants as drain
-use Rattle.sender.specs.Turning.{Kind}
+use Rattle.sender.specs.Turning.{AgencyKind}
 use Rattle.sender.specs.Agreeing.{InOneSession, KeepsAgreement, KeepsSession, Gains, AgreesTorn, IsCareful}
 use Rattle.sender.specs.Draining.{Scene, Drained, EndsWith}
 use Rattle.sender.specs.Known.{Known}
@@ -24,7 +24,7 @@ use Rattle.sender.proofs.Careful.{AreLinked, turn_careful}
 use Rattle.sender.proofs.Growing.{gains_each}
 use Rattle.sender.proofs.Sessions.{is_turn_growth, turns_growth, one_keeps, turns_keep, turns_careful}
 
-pub last : Known → (kind : Kind) (exact : Bool) (start then : Scene) (old new : List Told) (result : Result (Unit {0}) DrainFault)
+pub last : Known → (kind : AgencyKind) (exact : Bool) (start then : Scene) (old new : List Told) (result : Result (Unit {0}) DrainFault)
     (d : Drained kind exact start then old new result) → (IsTrue kind.keeps_rules → IsTrue kind.tells) →
     InOneSession kind.keeps_rules start.sight then.sight start.desk.ledger start.sending.said
     (KeepsSession start.sight then.sight start.desk.ledger then.desk.ledger then.sending.said × KeepsAgreement d.scene.sight
@@ -35,7 +35,7 @@ last known kind exact start then old new result d tells keeps session gains =
     one_keeps known kind exact start d.scene then d.answer tells keeps d.turn each.1 (turns_keep known kind exact start d.answers
     d.links d.scene tells d.made keeps session each.0)
 
-pub drained_keeps : Known → (kind : Kind) (exact : Bool) (start then : Scene) (old new : List Told)
+pub drained_keeps : Known → (kind : AgencyKind) (exact : Bool) (start then : Scene) (old new : List Told)
     (result : Result (Unit {0}) DrainFault) → Drained kind exact start then old new result →
     (IsTrue kind.keeps_rules → IsTrue kind.tells) →
     InOneSession kind.keeps_rules start.sight then.sight start.desk.ledger start.sending.said
@@ -43,7 +43,7 @@ pub drained_keeps : Known → (kind : Kind) (exact : Bool) (start then : Scene) 
 drained_keeps known kind exact start then old new result d tells keeps session gains =
     (last known kind exact start then old new result d tells keeps session gains).0
 
-pub drained_without : Known → (kind : Kind) (exact : Bool) (start then : Scene) (old new : List Told)
+pub drained_without : Known → (kind : AgencyKind) (exact : Bool) (start then : Scene) (old new : List Told)
     (result : Result (Unit {0}) DrainFault) → Drained kind exact start then old new result →
     (IsTrue kind.keeps_rules → IsTrue kind.tells) →
     InOneSession kind.keeps_rules start.sight then.sight start.desk.ledger start.sending.said
@@ -57,7 +57,7 @@ drained_without known kind exact start then old new result d tells keeps session
       | inr p ↦ (let a = p.0 in let b = is in absurd cc)
     ]
 
-pub drained_careful : AreLinked → (kind : Kind) (exact : Bool) (start then : Scene) (old new : List Told)
+pub drained_careful : AreLinked → (kind : AgencyKind) (exact : Bool) (start then : Scene) (old new : List Told)
     (result : Result (Unit {0}) DrainFault) → Drained kind exact start then old new result → IsTrue kind.tells →
     (past : List Message) →
     IsCareful past start.sight start.desk.ledger.messages start.sending → IsCareful past then.sight then.desk.ledger.messages
@@ -79,7 +79,7 @@ torn_by entries after new answer e gains =
           (sym n.is) n.torn.1;
     }
 
-pub drained_torn : Known → (kind : Kind) (exact : Bool) (start then : Scene) (old new : List Told)
+pub drained_torn : Known → (kind : AgencyKind) (exact : Bool) (start then : Scene) (old new : List Told)
     (result : Result (Unit {0}) DrainFault) → Drained kind exact start then old new result →
     (IsTrue kind.keeps_rules → IsTrue kind.tells) →
     InOneSession kind.keeps_rules start.sight then.sight start.desk.ledger start.sending.said

@@ -7,11 +7,11 @@ use Rattle.sender.specs.declared.answers.Turn.{Turn}
 use Rattle.sender.specs.declared.answers.SendFault.{SendFault}
 use Rattle.sender.specs.declared.answers.DrainFault.{DrainFault}
 use Rattle.sender.specs.declared.draining.TheConstants.{MAX_LINK_FAULTS}
-use Rattle.sender.specs.Turning.{Kind}
+use Rattle.sender.specs.Turning.{AgencyKind}
 use Rattle.sender.specs.Draining.{told_in, list_of, told_list, links_with, Scene, Turns, none, more, Made, Next, Drained}
 
 -- turns that go on, each told
-pub record GoingOn (kind : Kind) (exact : Bool) (before now : Scene) (old new : List Told) (links : ℕ) : Type 0 where
+pub record GoingOn (kind : AgencyKind) (exact : Bool) (before now : Scene) (old new : List Told) (links : ℕ) : Type 0 where
   pub answers : List (Result Turn SendFault)
   pub made : Turns kind exact before answers links now
   pub told : new ≡ old ++ filter_map told_in answers
@@ -34,10 +34,10 @@ told_all old new then answers answer a b =
     b ∙ ap (λ (ts : List Told). ts ++ told_list answer) a ∙ append_assoc old (filter_map told_in answers) (told_list answer)
     ∙ ap (λ (ts : List Told). old ++ ts) (sym (told_split answers answer))
 
-pub start_going : (kind : Kind) (exact : Bool) (scene : Scene) (told : List Told) → GoingOn kind exact scene scene told told 0
+pub start_going : (kind : AgencyKind) (exact : Bool) (scene : Scene) (told : List Told) → GoingOn kind exact scene scene told told 0
 start_going kind exact scene told = record { answers = []; made = none; told = sym (append-nil told); few = omega arith }
 
-pub goes_on : (kind : Kind) (exact : Bool) (before scene then : Scene) (old new told : List Told) (links links_then : ℕ)
+pub goes_on : (kind : AgencyKind) (exact : Bool) (before scene then : Scene) (old new told : List Told) (links links_then : ℕ)
     (result : Result Bool DrainFault) (b : Bool) → GoingOn kind exact before scene old new links →
     Made kind exact scene then new told links links_then result → result ≡ Ok b → b ≡ false → GoingOn kind exact before then old
     told links_then
@@ -53,7 +53,7 @@ goes_on kind exact before scene then old new told links links_then result b g m 
       few = n.3;
     }
 
-pub is_over : (kind : Kind) (exact : Bool) (before scene then : Scene) (old new told : List Told) (links links_then : ℕ)
+pub is_over : (kind : AgencyKind) (exact : Bool) (before scene then : Scene) (old new told : List Told) (links links_then : ℕ)
     (result : Result Bool DrainFault) (b : Bool) → GoingOn kind exact before scene old new links →
     Made kind exact scene then new told links links_then result → result ≡ Ok b → b ≡ true → Drained kind exact before then old
     told (Ok tt)
@@ -70,7 +70,7 @@ is_over kind exact before scene then old new told links links_then result b g m 
       ends = inl (told_all old new told g.answers m.answer g.told n.0, n.1);
     }
 
-pub stops : (kind : Kind) (exact : Bool) (before scene then : Scene) (old new told : List Told) (links links_then : ℕ)
+pub stops : (kind : AgencyKind) (exact : Bool) (before scene then : Scene) (old new told : List Told) (links links_then : ℕ)
     (result : Result Bool DrainFault) (fault : DrainFault) → GoingOn kind exact before scene old new links →
     Made kind exact scene then new told links links_then result → result ≡ Err fault → Drained kind exact before then old told
     (Err fault)

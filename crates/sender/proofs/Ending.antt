@@ -26,10 +26,10 @@ use Rattle.sender.specs.declared.answers.SendFault.{SendFault}
 use Rattle.sender.specs.declared.answers.SendFault.TheVariants.{LinkFault, Contradiction, NoMemory}
 use Rattle.sender.specs.Evidence.{Shows, Learns}
 use Rattle.sender.specs.Sending.{Sending}
-use Rattle.sender.specs.Turning.{Asked, Handed, Kind, Desk, NotesEnd, SeenEnds, ReplyEnds, AskedEnds, HandedEnds, NoteEnds}
+use Rattle.sender.specs.Turning.{Asked, Handed, AgencyKind, Desk, NotesEnd, SeenEnds, ReplyEnds, AskedEnds, HandedEnds, NoteEnds}
 use Rattle.sender.specs.Turning.{IsLook, Deals, Replies, IsStale, unanswered, first_place, count_waiting, turn_call}
 
-pub asked_deal : (kind : Kind) (desk desk_then : Desk) (look after : Sight) (shown : Waiting) (old new : Sending) (now : ℕ)
+pub asked_deal : (kind : AgencyKind) (desk desk_then : Desk) (look after : Sight) (shown : Waiting) (old new : Sending) (now : ℕ)
     (result : Result Turn SendFault) (huellas : List (List ℕ)) (got answer : Result (List Seen) AgencyFault) →
     IsLook look shown → old.doubt ≡ true → huellas ≡ huellas_of shown.list → got ≡ answer → HasCause desk.faults desk_then.faults
     got →
@@ -158,7 +158,7 @@ seen_noted old mid new shown seen look after lines result count pace said doubt 
           lines result mid new some few doubt learns e),
     )
 
-pub handed_deal : (kind : Kind) (desk desk_then : Desk) (look after : Sight) (shown : Waiting) (old new : Sending) (now : ℕ)
+pub handed_deal : (kind : AgencyKind) (desk desk_then : Desk) (look after : Sight) (shown : Waiting) (old new : Sending) (now : ℕ)
     (result : Result Turn SendFault) (batch : List Sealed) (got answer : Result Replied AgencyFault) →
     IsLook look shown → old.doubt ≡ false → is_due old.pace now (count_waiting shown) ≡ true → batch ≡ shown.list → got ≡ answer →
     HasCause desk.faults desk_then.faults got → StaleShows desk.faults desk_then.faults batch got →

@@ -33,7 +33,7 @@ use Rattle.sender.specs.declared.answers.SendFault.TheVariants.{LinkFault, Contr
 use Rattle.sender.specs.Answers.{of_agency}
 use Rattle.sender.specs.Evidence.{Shows}
 use Rattle.sender.specs.Sending.{Sending}
-use Rattle.sender.specs.Turning.{Deed, Nothing, Asked, Handed, Kind, Desk, Dealt, RestEnds, NotesEnd, SeenEnds, ReplyEnds, Ends}
+use Rattle.sender.specs.Turning.{Deed, Nothing, Asked, Handed, AgencyKind, Desk, Dealt, RestEnds, NotesEnd, SeenEnds, ReplyEnds, Ends}
 use Rattle.sender.specs.Turning.{Turned, turn_call, first_place}
 use Rattle.sender.specs.Agreeing.{InOneSession, AreSeen, MayBeTorn, Gains, KeepsAgreement}
 use Rattle.sender.specs.Known.{Known}
@@ -395,7 +395,7 @@ reply_ends known before look after g shown old new reply result doubt own shows 
     ends
 
 -- by what was asked
-deed_keeps : Known → (kind : Kind) (desk desk_then : Desk) (before look after : Sight) (g : Grows before look) (shown : Waiting)
+deed_keeps : Known → (kind : AgencyKind) (desk desk_then : Desk) (before look after : Sight) (g : Grows before look) (shown : Waiting)
     (old new : Sending) (now : ℕ) (result : Result Turn SendFault) (deed : Deed) →
     IsTrue kind.tells → IsTrue kind.keeps_rules → look.own ≡ before.own → ShowsWaiting look 1000 shown →
     Agree (history_of before) desk.ledger.processed desk.ledger.sent → AreSeen desk.ledger.processed old.said →
@@ -455,7 +455,7 @@ deed_keeps known kind desk desk_then before look after g shown old new now resul
     (failed_gains (at_look before look g) desk_then.ledger.processed desk_then.ledger.sent after why))
 
 -- the whole turn
-pub turn_keeps : Known → (kind : Kind) (desk desk_then : Desk) (before after : Sight) (old new : Sending) (now : ℕ)
+pub turn_keeps : Known → (kind : AgencyKind) (desk desk_then : Desk) (before after : Sight) (old new : Sending) (now : ℕ)
     (result : Result Turn SendFault) → Turned (turn_call kind desk desk_then before after old new now result) →
     (IsTrue kind.keeps_rules → IsTrue kind.tells) →
     InOneSession kind.keeps_rules before after desk.ledger old.said

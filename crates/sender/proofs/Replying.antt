@@ -19,7 +19,7 @@ use Rattle.sender.specs.declared.answers.Turn.{Turn}
 use Rattle.sender.specs.declared.answers.SendFault.{SendFault}
 use Rattle.sender.specs.declared.answers.DrainFault.{DrainFault}
 use Rattle.sender.specs.Sending.{Sending}
-use Rattle.sender.specs.Turning.{Deed, Nothing, Asked, Handed, Kind, Desk, Dealt, Ends, Turned, turn_call}
+use Rattle.sender.specs.Turning.{Deed, Nothing, Asked, Handed, AgencyKind, Desk, Dealt, Ends, Turned, turn_call}
 use Rattle.sender.specs.Agreeing.{KeepsReply}
 use Rattle.sender.specs.Draining.{Scene, Turns, none, more, Drained}
 
@@ -46,7 +46,7 @@ stale_left : (t : Bool) (reply : Replied) (said : Option Replied) → (t ≡ tru
 stale_left true reply said never = absurd (never refl)
 stale_left false reply said never = refl
 
-deed_keeps_reply : KeptByOneMore → (past : List Message) (kind : Kind) (desk desk_then : Desk) (look after : Sight)
+deed_keeps_reply : KeptByOneMore → (past : List Message) (kind : AgencyKind) (desk desk_then : Desk) (look after : Sight)
     (shown : Waiting) (old new : Sending) (now : ℕ) (result : Result Turn SendFault) (deed : Deed) → IsTrue kind.tells →
     Dealt kind desk desk_then shown deed → Ends old now shown look after deed result new → KeepsReply past desk.ledger.messages
     old.said → KeepsReply past desk_then.ledger.messages new.said
@@ -84,7 +84,7 @@ deed_keeps_reply law past kind desk desk_then look after shown old new now resul
           new.said s.messages (ap (λ (t : Sending). t.said) ends.3.1) k
     ]
 
-pub turn_keeps_reply : KeptByOneMore → (past : List Message) (kind : Kind) (desk desk_then : Desk) (before after : Sight)
+pub turn_keeps_reply : KeptByOneMore → (past : List Message) (kind : AgencyKind) (desk desk_then : Desk) (before after : Sight)
     (old new : Sending) (now : ℕ) (result : Result Turn SendFault) →
     Turned (turn_call kind desk desk_then before after old new now result) → IsTrue kind.tells → KeepsReply past desk.ledger.messages old.said
     → KeepsReply past desk_then.ledger.messages new.said
@@ -92,7 +92,7 @@ turn_keeps_reply law past kind desk desk_then before after old new now result t 
     deed_keeps_reply law past kind desk desk_then t.look after t.shown old new now result t.deals.deed tells t.deals.dealt
     t.deals.ends k
 
-turns_keep_reply : KeptByOneMore → (past : List Message) (kind : Kind) (exact : Bool) (start : Scene)
+turns_keep_reply : KeptByOneMore → (past : List Message) (kind : AgencyKind) (exact : Bool) (start : Scene)
     (answers : List (Result Turn SendFault)) (links : ℕ) (scene : Scene) → IsTrue kind.tells → Turns kind exact start answers
     links scene →
     KeepsReply past start.desk.ledger.messages start.sending.said → KeepsReply past scene.desk.ledger.messages scene.sending.said
@@ -102,7 +102,7 @@ turns_keep_reply law past kind exact start answers links scene tells (more befor
     turn_keeps_reply law past kind mid.desk then.desk mid.sight then.sight mid.sending then.sending turn.now answer turn.turned
     tells (turns_keep_reply law past kind exact start before_answers before_links mid tells t k)
 
-pub drained_keeps_reply : KeptByOneMore → (kind : Kind) (exact : Bool) (start then : Scene) (old new : List Told)
+pub drained_keeps_reply : KeptByOneMore → (kind : AgencyKind) (exact : Bool) (start then : Scene) (old new : List Told)
     (result : Result (Unit {0}) DrainFault) → Drained kind exact start then old new result → IsTrue kind.tells →
     (past : List Message) →
     KeepsReply past start.desk.ledger.messages start.sending.said → KeepsReply past then.desk.ledger.messages then.sending.said

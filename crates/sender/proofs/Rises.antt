@@ -8,12 +8,12 @@ use Rattle.sender.specs.declared.answers.SendFault.TheVariants.{LinkFault, Contr
 use Rattle.sender.specs.declared.answers.DrainFault.{DrainFault}
 use Rattle.sender.specs.declared.answers.DrainFault.TheVariants as drain
 use Rattle.sender.specs.declared.draining.TheConstants.{MAX_LINK_FAULTS}
-use Rattle.sender.specs.Turning.{Kind}
+use Rattle.sender.specs.Turning.{AgencyKind}
 use Rattle.sender.specs.Draining.{Scene, Turns, none, more, IsTurn, Drained, EndsWith, links_with}
 use Rattle.sender.proofs.Causes.{turn_later, turn_link}
 
 -- one turn
-rises : (kind : Kind) (exact : Bool) (mid then : Scene) (answer : Result Turn SendFault) (links : ℕ) → IsTurn kind exact mid then
+rises : (kind : AgencyKind) (exact : Bool) (mid then : Scene) (answer : Result Turn SendFault) (links : ℕ) → IsTurn kind exact mid then
     answer → then.desk.faults < 2 ^ 64 - 1 → links_with links answer + mid.desk.faults ≤ links + then.desk.faults
 rises kind exact mid then (Ok turn) links t below = let l = turn_later kind mid.desk then.desk mid.sight then.sight mid.sending
     then.sending t.now (Ok turn) t.turned in omega arith
@@ -26,7 +26,7 @@ rises kind exact mid then (Err (Store fault)) links t below = let l = turn_later
 rises kind exact mid then (Err NoMemory) links t below = let l = turn_later kind mid.desk then.desk mid.sight then.sight
     mid.sending then.sending t.now (Err NoMemory) t.turned in omega arith
 
-turns_rise : (kind : Kind) (exact : Bool) (begin : Scene) (answers : List (Result Turn SendFault)) (links : ℕ) (scene : Scene) →
+turns_rise : (kind : AgencyKind) (exact : Bool) (begin : Scene) (answers : List (Result Turn SendFault)) (links : ℕ) (scene : Scene) →
     Turns kind exact begin answers links scene → scene.desk.faults < 2 ^ 64 - 1 → links + begin.desk.faults ≤ scene.desk.faults
 turns_rise kind exact begin answers links scene none below = omega arith
 turns_rise kind exact begin answers links scene (more before_answers before_links mid answer then t turn on few) below =
@@ -36,7 +36,7 @@ turns_rise kind exact begin answers links scene (more before_answers before_link
     omega arith
 
 -- eight link faults are eight of the agency's
-pub undelivered_rises : (kind : Kind) (exact : Bool) (begin then : Scene) (old new : List Told)
+pub undelivered_rises : (kind : AgencyKind) (exact : Bool) (begin then : Scene) (old new : List Told)
     (result : Result (Unit {0}) DrainFault) → Drained kind exact begin then old new result →
     (noted_count records_count : ℕ) → IsErrOf result (drain.Undelivered noted_count records_count) → then.desk.faults < 2 ^ 64 - 1
     → begin.desk.faults + MAX_LINK_FAULTS ≤ then.desk.faults

@@ -5,7 +5,7 @@ use Rattle.shop_core.specs.Prefix.{IsPrefix}
 use Rattle.once_world.specs.Outbox.{GainsOwnNotes}
 use Rattle.sender.specs.declared.answers.Turn.{Turn}
 use Rattle.sender.specs.declared.answers.SendFault.{SendFault}
-use Rattle.sender.specs.Turning.{Kind}
+use Rattle.sender.specs.Turning.{AgencyKind}
 use Rattle.sender.specs.Agreeing.{InOneSession, KeepsAgreement, KeepsSession, IsCareful}
 use Rattle.sender.specs.Draining.{Scene, Turns, none, more, IsTurn}
 use Rattle.sender.specs.Known.{Known}
@@ -13,12 +13,12 @@ use Rattle.sender.proofs.Keeping.{turn_keeps}
 use Rattle.sender.proofs.Careful.{AreLinked, turn_careful}
 use Rattle.sender.proofs.Growing.{Growth, no_growth, growth_then, turn_growth, gains_each}
 
-pub is_turn_growth : (kind : Kind) (exact : Bool) (before after : Scene) (answer : Result Turn SendFault) →
+pub is_turn_growth : (kind : AgencyKind) (exact : Bool) (before after : Scene) (answer : Result Turn SendFault) →
     IsTurn kind exact before after answer → Growth before.sight after.sight
 is_turn_growth kind exact before after answer t = turn_growth kind before.desk after.desk before.sight after.sight before.sending
     after.sending t.now answer t.turned
 
-pub turns_growth : (kind : Kind) (exact : Bool) (start : Scene) (answers : List (Result Turn SendFault)) (links : ℕ)
+pub turns_growth : (kind : AgencyKind) (exact : Bool) (start : Scene) (answers : List (Result Turn SendFault)) (links : ℕ)
     (scene : Scene) → Turns kind exact start answers links scene → Growth start.sight scene.sight
 turns_growth kind exact start answers links scene none = no_growth start.sight
 turns_growth kind exact start answers links scene (more before_answers before_links mid answer then t turn on few) =
@@ -38,7 +38,7 @@ prefix_then xs ys zs p q = record {
 abbrev Keeps : Scene → Scene → Type 0
 Keeps start scene = KeepsSession start.sight scene.sight start.desk.ledger scene.desk.ledger scene.sending.said
 
-pub one_keeps : Known → (kind : Kind) (exact : Bool) (start mid then : Scene) (answer : Result Turn SendFault) →
+pub one_keeps : Known → (kind : AgencyKind) (exact : Bool) (start mid then : Scene) (answer : Result Turn SendFault) →
     (IsTrue kind.keeps_rules → IsTrue kind.tells) → IsTrue kind.keeps_rules → IsTurn kind exact mid then answer →
     GainsOwnNotes mid.sight then.sight → Keeps start mid →
     Keeps start then × KeepsAgreement mid.sight then.sight mid.desk.ledger then.desk.ledger then.sending.said answer
@@ -53,7 +53,7 @@ one_keeps known kind exact start mid then answer tells keeps turn gains k =
       t,
     )
 
-pub turns_keep : Known → (kind : Kind) (exact : Bool) (start : Scene) (answers : List (Result Turn SendFault)) (links : ℕ)
+pub turns_keep : Known → (kind : AgencyKind) (exact : Bool) (start : Scene) (answers : List (Result Turn SendFault)) (links : ℕ)
     (scene : Scene) → (IsTrue kind.keeps_rules → IsTrue kind.tells) → Turns kind exact start answers links scene →
     InOneSession kind.keeps_rules start.sight scene.sight start.desk.ledger start.sending.said (Keeps start scene)
 turns_keep known kind exact start answers links scene tells none keeps session gains =
@@ -65,7 +65,7 @@ turns_keep known kind exact start answers links scene tells (more before_answers
     (one_keeps known kind exact start mid then answer tells keeps turn each.1 (turns_keep known kind exact start before_answers
     before_links mid tells t keeps session each.0)).0
 
-pub turns_careful : AreLinked → (past : List Message) (kind : Kind) (exact : Bool) (start : Scene)
+pub turns_careful : AreLinked → (past : List Message) (kind : AgencyKind) (exact : Bool) (start : Scene)
     (answers : List (Result Turn SendFault)) (links : ℕ) (scene : Scene) → IsTrue kind.tells → Turns kind exact start answers
     links scene →
     IsCareful past start.sight start.desk.ledger.messages start.sending → IsCareful past scene.sight scene.desk.ledger.messages

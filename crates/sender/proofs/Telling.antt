@@ -17,7 +17,7 @@ use Rattle.sender.specs.declared.answers.Turn.TheVariants.{Idle, WaitUntil, Note
 use Rattle.sender.specs.declared.answers.SendFault.{SendFault}
 use Rattle.sender.specs.declared.answers.SendFault.TheVariants.{Contradiction, Store, NoMemory}
 use Rattle.sender.specs.Sending.{Sending}
-use Rattle.sender.specs.Turning.{Deed, Nothing, Asked, Handed, Kind, Desk, Dealt, RestEnds, SeenEnds, ReplyEnds, Ends, Turned, turn_call}
+use Rattle.sender.specs.Turning.{Deed, Nothing, Asked, Handed, AgencyKind, Desk, Dealt, RestEnds, SeenEnds, ReplyEnds, Ends, Turned, turn_call}
 use Rattle.sender.specs.Turning.{first_place}
 use Rattle.sender.specs.Draining.{told_in}
 use Rattle.sender.specs.Lines.{ReplyLineOf, SeenLineOf, IsQuiet, TellsOf}
@@ -101,7 +101,7 @@ reply_line shown reply look after (Err (Store store.NoMemory)) doubt names match
 reply_line shown reply look after (Err NoMemory) doubt names matched ends = record { line = told.Memory; told = refl; is = tt }
 reply_line shown reply look after _ doubt names matched ends = absurd ends
 
-deed_tells : (kind : Kind) (desk desk_then : Desk) (look after : Sight) (shown : Waiting) (old new : Sending) (now : ℕ)
+deed_tells : (kind : AgencyKind) (desk desk_then : Desk) (look after : Sight) (shown : Waiting) (old new : Sending) (now : ℕ)
     (result : Result Turn SendFault) (deed : Deed) → IsTrue kind.tells → Dealt kind desk desk_then shown deed →
     Ends old now shown look after deed result new →
     TellsOf desk.ledger.messages desk_then.ledger.messages result
@@ -163,7 +163,7 @@ deed_tells kind desk desk_then look after shown old new now result (Handed (Err 
       })
     ]
 
-pub turn_tells : (kind : Kind) (desk desk_then : Desk) (before after : Sight) (old new : Sending) (now : ℕ)
+pub turn_tells : (kind : AgencyKind) (desk desk_then : Desk) (before after : Sight) (old new : Sending) (now : ℕ)
     (result : Result Turn SendFault) → Turned (turn_call kind desk desk_then before after old new now result) → IsTrue kind.tells →
     TellsOf desk.ledger.messages desk_then.ledger.messages result
 turn_tells kind desk desk_then before after old new now result t tells = deed_tells kind desk desk_then t.look after t.shown old

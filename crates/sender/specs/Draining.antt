@@ -15,7 +15,7 @@ use Rattle.sender.specs.declared.answers.DrainFault.TheVariants as drain
 use Rattle.sender.specs.declared.draining.Counted.{Counted}
 use Rattle.sender.specs.declared.draining.TheConstants.{MAX_LINK_FAULTS}
 use Rattle.sender.specs.Sending.{Sending}
-use Rattle.sender.specs.Turning.{Kind, Desk, TurnCall, Turned, turn_call}
+use Rattle.sender.specs.Turning.{AgencyKind, Desk, TurnCall, Turned, turn_call}
 
 -- what is told of a turn: nothing where no record waited
 abbrev pub told_in : Result Turn SendFault → Option Told
@@ -92,12 +92,12 @@ abbrev pub scene_of : Desk → Sight → Sending → ℕ → Scene
 scene_of desk sight sending moment = record { desk = desk; sight = sight; sending = sending; moment = moment }
 
 -- the call of a turn between them
-abbrev pub turn_between : Kind → Scene → Scene → ℕ → Result Turn SendFault → TurnCall
+abbrev pub turn_between : AgencyKind → Scene → Scene → ℕ → Result Turn SendFault → TurnCall
 turn_between kind before after now answer =
     turn_call kind before.desk after.desk before.sight after.sight before.sending after.sending now answer
 
 -- one turn at the sleeper's second
-pub record IsTurn (kind : Kind) (exact : Bool) (before after : Scene) (answer : Result Turn SendFault) : Type 0 where
+pub record IsTurn (kind : AgencyKind) (exact : Bool) (before after : Scene) (answer : Result Turn SendFault) : Type 0 where
   pub now : ℕ
   pub later : before.moment ≤ now
   pub told : IsTrue exact → now ≡ before.moment
@@ -105,7 +105,7 @@ pub record IsTurn (kind : Kind) (exact : Bool) (before after : Scene) (answer : 
   pub moment : after.moment ≡ moment_after before.moment answer
 
 -- turns that go on, one after another, with so many link faults among them
-pub data Turns (kind : Kind) (exact : Bool) (start : Scene) : List (Result Turn SendFault) → ℕ → Scene → Type 0 where
+pub data Turns (kind : AgencyKind) (exact : Bool) (start : Scene) : List (Result Turn SendFault) → ℕ → Scene → Type 0 where
   none : Turns kind exact start [] 0 start
   more : (answers : List (Result Turn SendFault)) (links : ℕ) (scene : Scene) (answer : Result Turn SendFault) (then : Scene) →
       Turns kind exact start answers links scene → IsTurn kind exact scene then answer → GoesOn answer →
@@ -120,14 +120,14 @@ Next links then after old new answer (Ok false) = (new ≡ old ++ told_list answ
 Next links then after old new answer (Err fault) = ((new ≡ old ++ told_list answer) × EndsWith links after answer (Err fault))
     ⊎ ((fault ≡ drain.NoMemory) × (new ≡ old))
 
-pub record Made (kind : Kind) (exact : Bool) (before after : Scene) (old new : List Told) (links then : ℕ)
+pub record Made (kind : AgencyKind) (exact : Bool) (before after : Scene) (old new : List Told) (links then : ℕ)
     (result : Result Bool DrainFault) : Type 0 where
   pub answer : Result Turn SendFault
   pub turn : IsTurn kind exact before after answer
   pub next : Next links then after.sight old new answer result
 
 -- A drain: turns that go on, and the last one. Each is told, in order, unless memory was wanting for the last.
-pub record Drained (kind : Kind) (exact : Bool) (before after : Scene) (old new : List Told)
+pub record Drained (kind : AgencyKind) (exact : Bool) (before after : Scene) (old new : List Told)
     (result : Result (Unit {0}) DrainFault) : Type 0 where
   pub answers : List (Result Turn SendFault)
   pub links : ℕ
@@ -158,7 +158,7 @@ moment_by moment (answer ∷ answers) = moment_by (moment_after moment answer) a
 -- over a sleeper that tells its moment each turn is made at the moment that the answers before it leave
 abbrev pub KeepsTime : Type 0
 KeepsTime =
-    (kind : Kind) (begin : Scene) (answers : List (Result Turn SendFault)) (links : ℕ) (scene then : Scene)
+    (kind : AgencyKind) (begin : Scene) (answers : List (Result Turn SendFault)) (links : ℕ) (scene then : Scene)
     (answer : Result Turn SendFault) →
     Turns kind true begin answers links scene → (turn : IsTurn kind true scene then answer) →
     turn.now ≡ moment_by begin.moment answers

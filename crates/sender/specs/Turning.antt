@@ -129,7 +129,7 @@ Ends old now shown look after (Handed answer) result new =
     × HandedEnds old now shown look after answer result new
 
 -- what agencies of a type tell of themselves
-pub record Kind : Type 0 where
+pub record AgencyKind : Type 0 where
   pub tells : Bool
   pub keeps_rules : Bool
 
@@ -138,14 +138,14 @@ pub record Desk : Type 0 where
   pub ledger : Ledger
   pub faults : ℕ
 
-abbrev pub kind_of : Bool → Bool → Kind
-kind_of tells keeps_rules = record { tells = tells; keeps_rules = keeps_rules }
+abbrev pub agency_kind_of : Bool → Bool → AgencyKind
+agency_kind_of tells keeps_rules = record { tells = tells; keeps_rules = keeps_rules }
 
 abbrev pub desk_of : {G : Type 0} → (G → Ledger) → (G → ℕ) → G → Desk
 desk_of ledger faults agency = record { ledger = ledger agency; faults = faults agency }
 
 -- what the deed is to the agency
-abbrev pub Dealt : Kind → Desk → Desk → Waiting → Deed → Type 0
+abbrev pub Dealt : AgencyKind → Desk → Desk → Waiting → Deed → Type 0
 Dealt kind old new shown Nothing = new ≡ old
 Dealt kind old new shown (Asked answer) =
     HasCause old.faults new.faults answer
@@ -174,7 +174,7 @@ NoteEnds look after lines result old new = Grows look after
 -- One call of a turn: what agencies of its type tell of themselves; agency, shop and sender, before the call and after it; its
 -- second, and its answer.
 pub record TurnCall : Type 0 where
-  pub kind : Kind
+  pub kind : AgencyKind
   pub desk : Desk
   pub desk_after : Desk
   pub sight : Sight
@@ -184,7 +184,7 @@ pub record TurnCall : Type 0 where
   pub now : ℕ
   pub answer : Result Turn SendFault
 
-abbrev pub turn_call : Kind → Desk → Desk → Sight → Sight → Sending → Sending → ℕ → Result Turn SendFault → TurnCall
+abbrev pub turn_call : AgencyKind → Desk → Desk → Sight → Sight → Sending → Sending → ℕ → Result Turn SendFault → TurnCall
 turn_call kind desk desk_after sight sight_after sending sending_after now answer = record {
   kind = kind;
   desk = desk;
@@ -201,7 +201,7 @@ turn_call kind desk desk_after sight sight_after sending sending_after now answe
 abbrev pub this_turn : {G : Type 0} → agency.Ghosts G → G → G → Sight → Sight → Sending → Sending → ℕ → Result Turn SendFault →
     TurnCall
 this_turn kind agency agency_after sight sight_after sending sending_after now answer =
-    turn_call (kind_of kind.tells kind.keeps_rules) (desk_of kind.ledger kind.faults agency)
+    turn_call (agency_kind_of kind.tells kind.keeps_rules) (desk_of kind.ledger kind.faults agency)
     (desk_of kind.ledger kind.faults agency_after) sight sight_after sending sending_after now answer
 
 -- what is left of it behind its look

@@ -8,7 +8,7 @@ ghost use Rattle.sender.specs.Agreeing.{InOneSession, KeepsReply, KeepsSession, 
 ghost use Rattle.sender.specs.Agreeing.{IsCareful};
 ghost use Rattle.sender.specs.declared.draining.TheConstants.{MAX_LINK_FAULTS};
 ghost use Rattle.sender.specs.Lines.{DrainTells, SaysCalls};
-ghost use Rattle.sender.specs.Turning.{kind_of, desk_of};
+ghost use Rattle.sender.specs.Turning.{agency_kind_of, desk_of};
 ghost use Rattle.sender.specs.Draining.{told_in, told_list, moment_after, scene_of, LinksAfter, Made, Drained, IsBounded};
 ghost use Rattle.record_fields.specs.declared.lines.TheConstants.{BATCH};
 
@@ -109,7 +109,7 @@ impl Sender {
         links: &mut u32,
     ) -> Result<bool, DrainFault>
         requires { links.old < MAX_LINK_FAULTS }
-        ensures made { Made (kind_of G.tells G.keeps_rules) Z.tells
+        ensures made { Made (agency_kind_of G.tells G.keeps_rules) Z.tells
             (scene_of (desk_of G.ledger G.faults agency.old) (O.sight outbox.old) self.old (Z.moment sleeper.old))
             (scene_of (desk_of G.ledger G.faults agency.new) (O.sight outbox.new) self.new (Z.moment sleeper.new))
             turns.old turns.new links.old links.new result }
@@ -137,7 +137,7 @@ impl Sender {
         sleeper: &mut Z,
         turns: &mut Turns,
     ) -> Result<(), DrainFault>
-        ensures drained { Drained (kind_of G.tells G.keeps_rules) Z.tells
+        ensures drained { Drained (agency_kind_of G.tells G.keeps_rules) Z.tells
             (scene_of (desk_of G.ledger G.faults agency.old) (O.sight outbox.old) self.old (Z.moment sleeper.old))
             (scene_of (desk_of G.ledger G.faults agency.new) (O.sight outbox.new) self.new (Z.moment sleeper.new))
             turns.old turns.new result }
@@ -209,7 +209,7 @@ impl Sender {
         sleeper: &mut Z,
         turns: &mut Turns,
     ) -> Result<(), DrainFault>
-        ensures drained { Drained (kind_of G.tells G.keeps_rules) Z.tells
+        ensures drained { Drained (agency_kind_of G.tells G.keeps_rules) Z.tells
             (scene_of (desk_of G.ledger G.faults agency.old) (O.sight outbox.old) self.old (Z.moment sleeper.old))
             (scene_of (desk_of G.ledger G.faults agency.new) (O.sight outbox.new) self.new (Z.moment sleeper.new))
             turns.old turns.new result }

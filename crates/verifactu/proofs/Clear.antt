@@ -11,7 +11,7 @@ use Rattle.sender.specs.Agreeing.{KeepsReply}
 use Rattle.sender.specs.Draining.{Drained, Scene, Turns, none as no_turn, more as one_turn}
 use Rattle.sender.specs.Lines.{TellsOf}
 use Rattle.sender.specs.Sending.{Sending}
-use Rattle.sender.specs.Turning.{Desk, Kind, Turned, turn_call}
+use Rattle.sender.specs.Turning.{Desk, AgencyKind, Turned, turn_call}
 use Rattle.sender.proofs.Telling.{turn_tells}
 use Rattle.verifactu.specs.Beside.{NoneBefore, ShowsNothing}
 use Rattle.verifactu.proofs.Contrary.{same_ends, turns_show_nothing}
@@ -52,14 +52,14 @@ tells_before : (past old new : List Message) (answer : Result Turn SendFault) �
 tells_before past old new answer (inl quiet) clear before = subst (λ (ms : List Message). NoneBefore past ms) (sym quiet.0) before
 tells_before past old new answer (inr spoke) clear before = one_more past old new spoke.message spoke.said clear before
 
-pub turn_before : (kind : Kind) (desk desk_then : Desk) (before after : Sight) (old new : Sending) (now : ℕ)
+pub turn_before : (kind : AgencyKind) (desk desk_then : Desk) (before after : Sight) (old new : Sending) (now : ℕ)
     (answer : Result Turn SendFault) → Turned (turn_call kind desk desk_then before after old new now answer) → IsTrue kind.tells →
     (past : List Message) → KeepsReply past desk.ledger.messages old.said → ShowsNothing past desk.ledger.messages →
     NoneBefore past desk.ledger.messages → NoneBefore past desk_then.ledger.messages
 turn_before kind desk desk_then before after old new now answer t tells past k clear none = tells_before past desk.ledger.messages
     desk_then.ledger.messages answer (turn_tells kind desk desk_then before after old new now answer t tells) clear none
 
-turns_before : (kind : Kind) (exact : Bool) (tells : IsTrue kind.tells) (past : List Message) (start : Scene)
+turns_before : (kind : AgencyKind) (exact : Bool) (tells : IsTrue kind.tells) (past : List Message) (start : Scene)
     (answers : List (Result Turn SendFault)) (links : ℕ) (scene : Scene) → Turns kind exact start answers links scene →
     KeepsReply past start.desk.ledger.messages start.sending.said → ShowsNothing past start.desk.ledger.messages →
     NoneBefore past start.desk.ledger.messages → NoneBefore past scene.desk.ledger.messages
@@ -71,7 +71,7 @@ turns_before kind exact tells past start answers links scene (one_turn before_an
     (turns_show_nothing kind exact tells past start before_answers before_links mid t k clear)
     (turns_before kind exact tells past start before_answers before_links mid t k clear none)
 
-pub drained_before : (kind : Kind) (exact : Bool) (start then : Scene) (old new : List Told) (result : Result (Unit {0})
+pub drained_before : (kind : AgencyKind) (exact : Bool) (start then : Scene) (old new : List Told) (result : Result (Unit {0})
     DrainFault) → Drained kind exact start then old new result → IsTrue kind.tells → (past : List Message) →
     KeepsReply past start.desk.ledger.messages start.sending.said → ShowsNothing past start.desk.ledger.messages →
     NoneBefore past start.desk.ledger.messages → NoneBefore past then.desk.ledger.messages

@@ -27,7 +27,7 @@ use Rattle.sender.specs.declared.answers.DrainFault.{DrainFault}
 use Rattle.sender.specs.declared.answers.DrainFault.TheVariants as drain
 use Rattle.sender.specs.declared.draining.TheConstants.{MAX_LINK_FAULTS}
 use Rattle.sender.specs.Draining.{is_link}
-use Rattle.sender.specs.Turning.{Kind, Desk}
+use Rattle.sender.specs.Turning.{AgencyKind, Desk}
 use Rattle.recovery.specs.Opening.{IsFound}
 use Rattle.chain_store.specs.Crashes.{StandsBetween, StandsUpTo, StandsForEnd}
 use Rattle.verifactu.specs.Crashes.{StandsSince}
@@ -81,7 +81,7 @@ module _ {D C : Type 0} (tells : Bool) (told : D → OnDisk) (faults : D → ℕ
   torn_by None e = inl refl
   torn_by (Some count) e = inr (risen_by (Some count) e refl)
 
-  pub store_drains : (begun : Beginning) (plan : Plan) (kind : Kind) (old new : Desk) (exact : Bool) (at : ℕ)
+  pub store_drains : (begun : Beginning) (plan : Plan) (kind : AgencyKind) (old new : Desk) (exact : Bool) (at : ℕ)
       (turns : List TurnLine) (answer : Result (Unit {0}) DrainFault) (o : Outcome) →
       o ≡ record { end = p1.state.entries; torn = torn_in p1.stopped p1.torn; turns = turns; answer = answer } →
       IsUnopened (spanning p0.state.entries kind old new exact at o) ⊎ IsSession begun plan (spanning p0.state.entries kind old
@@ -218,7 +218,7 @@ both_ok (Ok x) P Q R f p q = f p q
 both_ok (Err e) P Q R f p q = tt
 
 -- a session was opened with the pairs that are noted
-pub opened_by : (kind : Kind) (begun : Beginning) (plan : Plan) (start : List Entry) (old opened : Desk)
+pub opened_by : (kind : AgencyKind) (begun : Beginning) (plan : Plan) (start : List Entry) (old opened : Desk)
     (pairs : List (Sealed × Line)) → pairs ≡ noted_pairs start → length (noted start) ≤ length (recs start) →
     (IsTrue kind.tells → Begins old.ledger opened.ledger plan (length pairs)) →
     (IsTrue kind.keeps_rules → opened.ledger.processed ≡ begun old.ledger.processed pairs) → opened.faults ≡ old.faults →

@@ -36,7 +36,7 @@ use Rattle.sender.specs.Agreeing.{KeepsReply}
 use Rattle.sender.specs.Draining.{Drained, EndsWith, GoesOn, Scene, Turns, none as no_turn, more as one_turn}
 use Rattle.sender.specs.Evidence.{Shows, forgotten, forgotten_in, said_at, said_in}
 use Rattle.sender.specs.Sending.{Sending}
-use Rattle.sender.specs.Turning.{Asked, Dealt, Deed, Desk, Ends, Handed, Kind, Nothing, SeenEnds, Turned, turn_call}
+use Rattle.sender.specs.Turning.{Asked, Dealt, Deed, Desk, Ends, Handed, AgencyKind, Nothing, SeenEnds, Turned, turn_call}
 use Rattle.sender.proofs.Replying.{turn_keeps_reply}
 use Rattle.verifactu.specs.Beside.{AnswersWhatIsShown, IsContrary, ShowsLast, ShowsNothing, sending_end}
 
@@ -194,7 +194,7 @@ first_asked records batch e = record {
 }
 
 -- a turn that answers a contradiction consulted, and its answer shows it
-deed_shows : (kind : Kind) (desk desk_then : Desk) (look after : Sight) (shown : Waiting) (old new : Sending) (now : ℕ) (deed :
+deed_shows : (kind : AgencyKind) (desk desk_then : Desk) (look after : Sight) (shown : Waiting) (old new : Sending) (now : ℕ) (deed :
     Deed) (evidence : Evidence) → IsTrue kind.tells → ShowsWaiting look 1000 shown → Dealt kind desk desk_then shown deed →
     Ends old now shown look after deed (Err (send.Contradiction evidence)) new → (past : List Message) →
     KeepsReply past desk.ledger.messages old.said → ShowsLast (history_of after) past desk_then.ledger.messages evidence
@@ -226,7 +226,7 @@ deed_shows kind desk desk_then look after shown old new now (Handed (Err agency.
 deed_shows kind desk desk_then look after shown old new now (Handed (Err agency.NoMemory)) evidence tells shows dealt ends past
     k = absurd (let e = ends.3.0 in cc)
 
-turn_of : (kind : Kind) (desk desk_then : Desk) (before after : Sight) (old new : Sending) (now : ℕ) (answer : Result Turn
+turn_of : (kind : AgencyKind) (desk desk_then : Desk) (before after : Sight) (old new : Sending) (now : ℕ) (answer : Result Turn
     SendFault) (evidence : Evidence) → answer ≡ Err (send.Contradiction evidence) →
     Turned (turn_call kind desk desk_then before after old new now answer) →
     IsTrue kind.tells → (past : List Message) → KeepsReply past desk.ledger.messages old.said →
@@ -244,7 +244,7 @@ contrary_answer (Err (send.Contradiction e)) evidence is = let f : e ≡ evidenc
 contrary_answer (Err (send.Store fault)) evidence is = absurd cc
 contrary_answer (Err send.NoMemory) evidence is = absurd cc
 
-pub turn_shows : (kind : Kind) (desk desk_then : Desk) (before after : Sight) (old new : Sending) (now : ℕ) (answer : Result
+pub turn_shows : (kind : AgencyKind) (desk desk_then : Desk) (before after : Sight) (old new : Sending) (now : ℕ) (answer : Result
     Turn SendFault) → Turned (turn_call kind desk desk_then before after old new now answer) → IsTrue kind.tells →
     (past : List Message) → KeepsReply past desk.ledger.messages old.said → (evidence : Evidence) →
     IsErrOf (sending_end answer) (drain.Contradiction evidence) →
@@ -283,7 +283,7 @@ seen_answers said shown seen look after doubt (Err (send.Store fault)) n evidenc
     (shown.noted + 1) n (huellas_of shown.list) seen ends.0.1.lines evidence ends.0.1.are s)
 seen_answers said shown seen look after doubt (Err send.NoMemory) n evidence ends s = inr refl
 
-deed_answers : (kind : Kind) (desk desk_then : Desk) (look after : Sight) (shown : Waiting) (old new : Sending) (now : ℕ) (deed
+deed_answers : (kind : AgencyKind) (desk desk_then : Desk) (look after : Sight) (shown : Waiting) (old new : Sending) (now : ℕ) (deed
     : Deed) (answer : Result Turn SendFault) → IsTrue kind.tells → Dealt kind desk desk_then shown deed →
     Ends old now shown look after deed answer new → (past : List Message) → KeepsReply past desk.ledger.messages old.said →
     ShowsNothing past desk.ledger.messages → AnswersWhatIsShown past desk_then.ledger.messages (sending_end answer)
@@ -312,7 +312,7 @@ deed_answers kind desk desk_then look after shown old new now (Handed (Err agenc
     = λ entries evidence s. inr (ap sending_end ends.3.0)
 
 -- where the last message shows a contradiction a turn answers it, or found no memory
-pub turn_answers : (kind : Kind) (desk desk_then : Desk) (before after : Sight) (old new : Sending) (now : ℕ) (answer : Result
+pub turn_answers : (kind : AgencyKind) (desk desk_then : Desk) (before after : Sight) (old new : Sending) (now : ℕ) (answer : Result
     Turn SendFault) → Turned (turn_call kind desk desk_then before after old new now answer) → IsTrue kind.tells →
     (past : List Message) → KeepsReply past desk.ledger.messages old.said → ShowsNothing past desk.ledger.messages →
     AnswersWhatIsShown past desk_then.ledger.messages (sending_end answer)
@@ -336,7 +336,7 @@ goes_on_without past messages (Err (send.Contradiction evidence)) on h = absurd 
 goes_on_without past messages (Err (send.Store fault)) on h = absurd on
 goes_on_without past messages (Err send.NoMemory) on h = absurd on
 
-module _ (kind : Kind) (exact : Bool) (tells : IsTrue kind.tells) (past : List Message) where
+module _ (kind : AgencyKind) (exact : Bool) (tells : IsTrue kind.tells) (past : List Message) where
   turns_keep : (start : Scene) (answers : List (Result Turn SendFault)) (links : ℕ) (scene : Scene) →
       Turns kind exact start answers links scene →
       KeepsReply past start.desk.ledger.messages start.sending.said →
@@ -358,7 +358,7 @@ module _ (kind : Kind) (exact : Bool) (tells : IsTrue kind.tells) (past : List M
       (turns_show_nothing start before_answers before_links mid t k clear))
 
 -- so does a drain that answers a contradiction
-pub drained_shows : (kind : Kind) (exact : Bool) (start then : Scene) (old new : List Told) (result : Result (Unit {0})
+pub drained_shows : (kind : AgencyKind) (exact : Bool) (start then : Scene) (old new : List Told) (result : Result (Unit {0})
     DrainFault) → Drained kind exact start then old new result → IsTrue kind.tells →
     (past : List Message) → KeepsReply past start.desk.ledger.messages start.sending.said → (evidence : Evidence) →
     IsErrOf result (drain.Contradiction evidence) → ShowsLast (history_of then.sight) past then.desk.ledger.messages
@@ -382,7 +382,7 @@ by_end links after answer (Err (drain.Store fault)) e h = subst (λ (a : Result 
     (sending_end a ≡ Err drain.NoMemory)) e h
 by_end links after answer (Err drain.NoMemory) e h = inr refl
 
-pub drained_answers : (kind : Kind) (exact : Bool) (start then : Scene) (old new : List Told) (result : Result (Unit {0})
+pub drained_answers : (kind : AgencyKind) (exact : Bool) (start then : Scene) (old new : List Told) (result : Result (Unit {0})
     DrainFault) → Drained kind exact start then old new result → IsTrue kind.tells →
     (past : List Message) → KeepsReply past start.desk.ledger.messages start.sending.said →
     ShowsNothing past start.desk.ledger.messages → AnswersWhatIsShown past then.desk.ledger.messages result

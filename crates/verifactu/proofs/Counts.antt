@@ -6,7 +6,7 @@ use Rattle.std.specs.Str.Parse.{digits_value}
 use Rattle.amounts.proofs.TextLemmas.{whole_text-decimal}
 use Rattle.amounts.specs.Text.{whole_text}
 use Rattle.amounts.specs.declared.whole.TheConstants.{WHOLE_LIMIT}
-use Rattle.verifactu.specs.Words.{IsCountOf}
+use Rattle.verifactu.specs.CommandLine.{IsCountOf}
 use Rattle.verifactu.specs.declared.generated.TheConstants.{MOST}
 
 -- the number that was read is the one that the word says

@@ -21,7 +21,7 @@ use Rattle.report.specs.declared.ended.Detail.TheVariants as detail
 use Rattle.agency_port.specs.declared.turns.Evidence.{Evidence}
 use Rattle.shop_core.specs.Prefix.{IsPrefix}
 use Rattle.once_world.specs.Agreement.{Agree}
-use Rattle.sender.specs.Turning.{Desk, Kind}
+use Rattle.sender.specs.Turning.{Desk, AgencyKind}
 use Rattle.sender.specs.declared.answers.DrainFault.{DrainFault}
 use Rattle.sender.specs.declared.answers.DrainFault.TheVariants as drain
 use Rattle.sender.specs.declared.draining.TheConstants.{MAX_LINK_FAULTS}
@@ -110,7 +110,7 @@ pub record ShopLeft {D C : Type 0} (left : Type 0) (old : Parts D C) (disk_after
   pub rest : left
 
 -- the tills of an opened store asked beside a sender, and this is what the day made of it, and how it ended
-pub record ShopRan {D C : Type 0} (h : StoreKind D C) (asks : List Asked) (kind : Kind) (opened after : Desk) (old : Parts D C)
+pub record ShopRan {D C : Type 0} (h : StoreKind D C) (asks : List Asked) (kind : AgencyKind) (opened after : Desk) (old : Parts D C)
     (disk_after : D) (clock_after : C) (s : Sinks) (end : Detail) : Type 0 where
   pub new : Parts D C
   pub tills : List TillReplies

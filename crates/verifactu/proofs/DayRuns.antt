@@ -31,7 +31,7 @@ use Rattle.till_calls.specs.Root.{Root, Parts, items_in, root_of, stop_in}
 use Rattle.till_calls.specs.Sound.{IsSound}
 use Rattle.sender.specs.Agreeing.{Adds, AreNotes, AreNotesOrTorn}
 use Rattle.sender.specs.declared.answers.DrainFault.{DrainFault}
-use Rattle.sender.specs.Turning.{Desk, Kind}
+use Rattle.sender.specs.Turning.{Desk, AgencyKind}
 use Rattle.verifactu.specs.Beside.{SendsBeside}
 use Rattle.verifactu.specs.Days.{Day, TillReplies, all_replies, shop_day, stop_of}
 use Rattle.verifactu.specs.Draining.{IsDiskAnswer, IsFaultless}
@@ -181,7 +181,7 @@ module _ {D C : Type 0} (tells : Bool) (tell : D → OnDisk) (faults : D → ℕ
   served : (base : List Item) → length base ≡ length root.history → Sound → (r : Row C) → RowTold coming asks base root p.stopped
       p.torn p.state.entries for_no_other what_is_taken r →
       TakenItems r.done.answers.items (records_of r.done.till (drop (length base) (items_in p))) →
-      (tills : List TillReplies) (kind : Kind) (opened after : Desk) (answer : Result (Unit {0}) DrainFault) →
+      (tills : List TillReplies) (kind : AgencyKind) (opened after : Desk) (answer : Result (Unit {0}) DrainFault) →
       TillServed (shop_day coming asks root p tills kind opened after answer) (told_in r.done)
   served base size sound r t own_items tills kind opened after answer =
       let total = length-append (map item.Entry p.state.entries) (stop_in p.stopped p.torn) in
@@ -201,7 +201,7 @@ module _ {D C : Type 0} (tells : Bool) (tell : D → OnDisk) (faults : D → ℕ
   module _ (base : List Item) (size : length base ≡ length root.history) (rows : List (Row C)) (seat : Known Item (Root C))
       (distinct : AreDistinct (map (λ (r : Row C). r.done.till) rows))
       (news : AllByRecursion (λ (r : Row C). IsNew base root r.from) rows)
-      (first : Known Item (Root C)) (first_new : IsNew base root first) (kind : Kind) (opened after : Desk)
+      (first : Known Item (Root C)) (first_new : IsNew base root first) (kind : AgencyKind) (opened after : Desk)
       (answer : Result (Unit {0}) DrainFault)
       (bare : (till : ℕ) → OwnsNone till seat)
       (noted : AllByRecursion (λ (z : ℕ × Item). AreNotesOrTorn z.1 × (IsFaultless answer → AreNotes z.1)) seat.own)
@@ -372,7 +372,7 @@ module _ {D C : Type 0} (tells : Bool) (tell : D → OnDisk) (faults : D → ℕ
       (seen_whole tell faults coming asks p root base within sees ran.rows news.0 ran.worked seat then h' told') delivered)
 
   -- the day of the tills that ran and of the sender beside them, once their shop is closed
-  pub ended : (kind : Kind) (opened after : Desk) (answer : Result (Unit {0}) DrainFault) → AddsForNoOther coming → AddsWhatIsTaken coming →
+  pub ended : (kind : AgencyKind) (opened after : Desk) (answer : Result (Unit {0}) DrainFault) → AddsForNoOther coming → AddsWhatIsTaken coming →
       length base ≡ length root.history → AllPairs (λ (a b : TillDay). a.till ≢ b.till) days → Shared base (items_in p) root new
       seat then →
       (IsFaultless answer → Adds AreNotes (sight_by seat) (sight_by then)) → (IsDiskAnswer answer → IsSome p.stopped) →

@@ -23,7 +23,7 @@ use Rattle.sender.specs.declared.draining.TheConstants.{MAX_LINK_FAULTS}
 use Rattle.sender.specs.Draining.{Drained, EndsWith, GoesOn, Scene, Turns, is_link, links_with, list_of, more, none, told_in}
 use Rattle.sender.specs.Draining.{told_list}
 use Rattle.sender.specs.Lines.{IsLineOf, IsQuiet, TellsOf}
-use Rattle.sender.specs.Turning.{Kind}
+use Rattle.sender.specs.Turning.{AgencyKind}
 use Rattle.sender.proofs.Telling.{turn_tells}
 use Rattle.verifactu.specs.Beside.{GivesUp, is_link_fault}
 use Rattle.verifactu.specs.Steps.{GoesOnBehind}
@@ -110,7 +110,7 @@ one_more old mid new links answer s on (inr p) =
       faults = omega (arith, more, one, split, before);
     }
 
-turns_say : (kind : Kind) (exact : Bool) (begin : Scene) (answers : List (Result Turn SendFault)) (links : ℕ) (scene : Scene) →
+turns_say : (kind : AgencyKind) (exact : Bool) (begin : Scene) (answers : List (Result Turn SendFault)) (links : ℕ) (scene : Scene) →
     IsTrue kind.tells → Turns kind exact begin answers links scene →
     SaidWith begin.desk.ledger.messages scene.desk.ledger.messages links
 turns_say kind exact begin answers links scene tells none = record {
@@ -148,7 +148,7 @@ last_fault old mid new links s eight (inr p) =
     }
 
 -- what a drain that gave up said ends in eight faults of the link
-pub drained_gives_up : (kind : Kind) (exact : Bool) (start then : Scene) (old new : List Told)
+pub drained_gives_up : (kind : AgencyKind) (exact : Bool) (start then : Scene) (old new : List Told)
     (result : Result (Unit {0}) DrainFault) → Drained kind exact start then old new result → IsTrue kind.tells → (n r : ℕ) →
     IsErrOf result (drain.Undelivered n r) → GivesUp start.desk.ledger.messages then.desk.ledger.messages
 drained_gives_up kind exact start then old new result d tells n r is = elim d.ends [

@@ -24,7 +24,7 @@ use Rattle.till_calls.specs.Sound.{IsSound}
 use Rattle.sender.specs.Agreeing.{BeginsCareful, BeginsInSession, InSession, IsCareful, KeepsReply}
 use Rattle.sender.specs.Evidence.{Shows}
 use Rattle.sender.specs.Sending.{Sending, fresh}
-use Rattle.sender.specs.Turning.{Desk, Kind}
+use Rattle.sender.specs.Turning.{Desk, AgencyKind}
 use Rattle.sender.specs.declared.answers.DrainFault.{DrainFault}
 use Rattle.sender.specs.declared.answers.DrainFault.TheVariants as drain
 use Rattle.shop_core.specs.Answer.Requests.{Asked}
@@ -49,7 +49,7 @@ module _ {D C : Type 0} (tells : Bool) (told : D → OnDisk) (faults : D → ℕ
     (root : Root C) (base : List Item) (tills : List (Known Item (Root C))) (seat then : Known Item (Root C))
     (h : Shared base (items_in p) root tills seat then)
     (sound : IsSound tells told faults coming root p) (is : base ≡ map item.Entry root.history)
-    (legal : Legal root.issuer root.history) (asks : List Asked) (told_all : List TillReplies) (kind : Kind) (old new : Desk)
+    (legal : Legal root.issuer root.history) (asks : List Asked) (told_all : List TillReplies) (kind : AgencyKind) (old new : Desk)
     (sending : Sending) (answer : Result (Unit {0}) DrainFault)
     (sends : SendsOn kind (sight_by seat) (sight_by then) old new fresh sending answer) where
   abbrev day : Day

@@ -20,7 +20,7 @@ use Rattle.sender.specs.declared.answers.SendFault.TheVariants as send
 use Rattle.sender.specs.declared.answers.DrainFault.{DrainFault}
 use Rattle.sender.specs.declared.answers.DrainFault.TheVariants as drain
 use Rattle.sender.specs.Draining.{Drained, EndsWith, GoesOn, Scene, Turns, none as no_turn, more as one_turn}
-use Rattle.sender.specs.Turning.{Kind}
+use Rattle.sender.specs.Turning.{AgencyKind}
 use Rattle.sender.proofs.Growing.{gains_each}
 use Rattle.sender.proofs.Sessions.{is_turn_growth, turns_growth}
 use Rattle.verifactu.specs.Beside.{sending_end}
@@ -171,7 +171,7 @@ with_answer before after old new first last f h = record {
   lines = f h.session h.lines;
 }
 
-module _ (quiet : CameQuietly) (beside : CameBesideOwn) (kind : Kind) (exact : Bool) (tells : IsTrue kind.tells) where
+module _ (quiet : CameQuietly) (beside : CameBesideOwn) (kind : AgencyKind) (exact : Bool) (tells : IsTrue kind.tells) where
   abbrev Notes : Scene → Scene → Result (Unit {0}) DrainFault → Type 0
   Notes start scene answer = NotesSaid (history_of start.sight) (history_of scene.sight) start.desk.ledger.messages
       scene.desk.ledger.messages answer

@@ -41,7 +41,7 @@ use Rattle.sender.specs.declared.answers.SendFault.TheVariants as send
 use Rattle.sender.specs.declared.answers.DrainFault.{DrainFault}
 use Rattle.sender.specs.declared.answers.DrainFault.TheVariants as drain
 use Rattle.sender.specs.Sending.{Sending}
-use Rattle.sender.specs.Turning.{Deed, Nothing, Asked, Handed, Kind, Desk, Dealt, RestEnds, NotesEnd, SeenEnds, ReplyEnds, Ends}
+use Rattle.sender.specs.Turning.{Deed, Nothing, Asked, Handed, AgencyKind, Desk, Dealt, RestEnds, NotesEnd, SeenEnds, ReplyEnds, Ends}
 use Rattle.sender.specs.Turning.{Turned, turn_call}
 use Rattle.sender.proofs.Histories.{grown, stays}
 use Rattle.sender.proofs.Keeping.{noted_same}
@@ -363,7 +363,7 @@ module _ (quiet : CameQuietly) (beside : CameBesideOwn) (before look after : Sig
     asked_first m answer s = huellas_first shown.list (drop (length (noted (history_of before))) (recs (history_of after)))
         (batch_first m answer s)
 
-    deed_notes : (kind : Kind) (desk desk_then : Desk) (old new : Sending) (now : ℕ) (result : Result Turn SendFault)
+    deed_notes : (kind : AgencyKind) (desk desk_then : Desk) (old new : Sending) (now : ℕ) (result : Result Turn SendFault)
         (deed : Deed) → IsTrue kind.tells → Dealt kind desk desk_then shown deed →
         Ends old now shown look after deed result new →
         NotesSaid (history_of before) (history_of after) desk.ledger.messages desk_then.ledger.messages (sending_end result)
@@ -411,7 +411,7 @@ module _ (quiet : CameQuietly) (beside : CameBesideOwn) (before look after : Sig
         ]
 
 -- what a turn notes, where the shop gained no notes but its own
-pub turn_notes : CameQuietly → CameBesideOwn → (kind : Kind) (desk desk_then : Desk) (before after : Sight) (old new : Sending) (now : ℕ)
+pub turn_notes : CameQuietly → CameBesideOwn → (kind : AgencyKind) (desk desk_then : Desk) (before after : Sight) (old new : Sending) (now : ℕ)
     (result : Result Turn SendFault) → Turned (turn_call kind desk desk_then before after old new now result) → IsTrue kind.tells →
     GainsOwnNotes before after →
     NotesSaid (history_of before) (history_of after) desk.ledger.messages desk_then.ledger.messages (sending_end result)

@@ -23,9 +23,9 @@ use Rattle.chain_store.specs.Readings.{IsComing, LeavesClock, readings_of}
 use Rattle.verifactu.specs.Running.{CommandEnds}
 use Rattle.verifactu.specs.Scripts.{IsGoodScript}
 use Rattle.verifactu.specs.Scripts.ScriptedEnds.{ran, bad_line, read_fault, too_big, no_memory}
-use Rattle.verifactu.specs.Words.{AsksFor, IsAskedFor}
-use Rattle.verifactu.specs.declared.words.Command.{Command}
-use Rattle.verifactu.specs.declared.words.Command.TheVariants.{Chain, Day, Drain, Audit, Link, Check, Generate, Help, Version}
+use Rattle.verifactu.specs.CommandLine.{AsksFor, IsAskedFor}
+use Rattle.verifactu.specs.declared.command_line.Command.{Command}
+use Rattle.verifactu.specs.declared.command_line.Command.TheVariants.{Chain, Day, Drain, Audit, Link, Check, Generate, Help, Version}
 use Rattle.verifactu.proofs.Sessions.{batches_not_served, batches_of_day, batches_of_drain, batches_silent, left_agency}
 use Rattle.verifactu.proofs.Sessions.{not_served, of_day, of_drain}
 use Rattle.verifactu.proofs.Gaining.{gains_day, gains_notes, gains_nothing, gains_run, notes_nothing}

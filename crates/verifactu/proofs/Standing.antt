@@ -42,7 +42,7 @@ use Rattle.sender.specs.declared.answers.SendFault.TheVariants.{LinkFault, Contr
 use Rattle.sender.specs.Draining.{told_in, list_of, told_list, GoesOn, moment_after}
 use Rattle.sender.specs.Evidence.{Shows}
 use Rattle.sender.specs.Sending.{Sending}
-use Rattle.sender.specs.Turning.{Deed, Nothing, Asked, Handed, Kind, Desk, Dealt, RestEnds, SeenEnds, ReplyEnds, Replies, Ends}
+use Rattle.sender.specs.Turning.{Deed, Nothing, Asked, Handed, AgencyKind, Desk, Dealt, RestEnds, SeenEnds, ReplyEnds, Replies, Ends}
 use Rattle.sender.proofs.Ending.{as_many}
 use Rattle.sender.proofs.Growing.{Growth}
 use Rattle.verifactu.specs.Steps.{Step, Waits, Says, LacksMemory, Standing, line_in, message_in, after_steps, after_message}
@@ -498,7 +498,7 @@ module _ (tells exact : Bool) (records : List Sealed) (st : Standing) (said said
         by_answer _ ends = absurd ends
 
     -- one turn behind its look
-    pub ends_did : (kind : Kind) (desk desk_then : Desk) (deed : Deed) (answer : Result Turn SendFault) → tells ≡ kind.tells →
+    pub ends_did : (kind : AgencyKind) (desk desk_then : Desk) (deed : Deed) (answer : Result Turn SendFault) → tells ≡ kind.tells →
         said ≡ desk.ledger.messages → said_then ≡ desk_then.ledger.messages →
         Dealt kind desk desk_then shown deed → Ends old now shown look after deed answer new → Done answer
     ends_did kind desk desk_then deed answer tells_is said_is then_is dealt ends = by_deed deed dealt ends

@@ -27,7 +27,7 @@ use Rattle.sender.specs.declared.answers.DrainFault.TheVariants as drain
 use Rattle.sender.specs.Agreeing.{HasAt, Adds, AreNotes}
 use Rattle.sender.specs.Draining.{Scene, Drained, EndsWith}
 use Rattle.sender.specs.Sending.{Sending}
-use Rattle.sender.specs.Turning.{Deed, Nothing, Asked, Handed, Kind, Ends, SeenEnds, ReplyEnds}
+use Rattle.sender.specs.Turning.{Deed, Nothing, Asked, Handed, AgencyKind, Ends, SeenEnds, ReplyEnds}
 use Rattle.sender.proofs.Adding.{adds_then, turn_notes, turns_notes}
 use Rattle.verifactu.specs.Beside.{EndsStopped}
 use Rattle.verifactu.specs.Draining.{IsDiskAnswer, IsFaultless, torn_in}
@@ -44,7 +44,7 @@ untorn_answer links after answer (Err (drain.Store fault)) e f is = f
 untorn_answer links after answer (Err drain.NoMemory) e f is = f
 
 -- a drain whose disk didn't fail added notes alone
-pub untorn_adds : (kind : Kind) (exact : Bool) (start then : Scene) (old new : List Told) (result : Result (Unit {0}) DrainFault)
+pub untorn_adds : (kind : AgencyKind) (exact : Bool) (start then : Scene) (old new : List Told) (result : Result (Unit {0}) DrainFault)
     → Drained kind exact start then old new result → IsFaultless result → Adds AreNotes start.sight then.sight
 untorn_adds kind exact start then old new result d faultless =
     adds_then AreNotes start.sight d.scene.sight then.sight (turns_notes kind exact start d.answers d.links d.scene d.made)
@@ -97,7 +97,7 @@ ends_stopped old now shown look after (Handed (Err agency.Failed)) fault new d e
 ends_stopped old now shown look after (Handed (Err agency.NoMemory)) fault new d ends = let e = ends.3.0 in absurd cc
 
 -- a drain that answers a fault of the disk leaves a stop
-pub drained_stopped : (kind : Kind) (exact : Bool) (start then : Scene) (old new : List Told)
+pub drained_stopped : (kind : AgencyKind) (exact : Bool) (start then : Scene) (old new : List Told)
     (result : Result (Unit {0}) DrainFault) → Drained kind exact start then old new result → IsDiskAnswer result →
     EndsStopped then.sight.items
 drained_stopped kind exact start then old new result d disk = elim d.ends [

@@ -21,7 +21,7 @@ use Rattle.sender.specs.declared.answers.DrainFault.{DrainFault}
 use Rattle.sender.specs.declared.answers.DrainFault.TheVariants as drain
 use Rattle.sender.specs.Draining.{Scene, Drained, EndsWith, told_in, told_list, is_link}
 use Rattle.sender.specs.Sending.{fresh}
-use Rattle.sender.specs.Turning.{Kind, Desk}
+use Rattle.sender.specs.Turning.{AgencyKind, Desk}
 use Rattle.sender.proofs.Drains.{told_split}
 use Rattle.sender.proofs.Growing.{no_growth}
 use Rattle.sender.proofs.Sessions.{is_turn_growth}
@@ -50,7 +50,7 @@ said_one (Says m l ∷ []) printed of e = record {
 }
 said_one (s ∷ (t ∷ steps)) printed of e = absurd cc
 
-module _ (kind : Kind) (exact : Bool) (records : List Sealed) (desk : Desk) (sight : Sight) (moment : ℕ) (then : Scene)
+module _ (kind : AgencyKind) (exact : Bool) (records : List Sealed) (desk : Desk) (sight : Sight) (moment : ℕ) (then : Scene)
     (old new : List Told) (answer : Result (Unit {0}) DrainFault) where
   abbrev begin : Scene
   begin = record { desk = desk; sight = sight; sending = fresh; moment = moment }

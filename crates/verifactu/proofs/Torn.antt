@@ -26,7 +26,7 @@ use Rattle.sender.specs.declared.answers.DrainFault.{DrainFault}
 use Rattle.sender.specs.Agreeing.{Adds, AreNotes, HasAt}
 use Rattle.sender.specs.Draining.{Drained, Scene}
 use Rattle.sender.specs.Sending.{Sending}
-use Rattle.sender.specs.Turning.{Deed, Nothing, Asked, Handed, Kind, Desk, Dealt, Ends, Turned, turn_call}
+use Rattle.sender.specs.Turning.{Deed, Nothing, Asked, Handed, AgencyKind, Desk, Dealt, Ends, Turned, turn_call}
 use Rattle.sender.proofs.Added.{Added, ends_added, quiet as added_none, notes as added_notes, stops as added_stop}
 use Rattle.sender.proofs.Adding.{has_front, turns_notes}
 use Rattle.sender.proofs.Growing.{Growth, all_contained}
@@ -65,7 +65,7 @@ of_lines look after old new m lines said are stop = record {
   stop = subst (λ (ls : List Line). StopsHere look after ls) (sym are) stop;
 }
 
-disk_deed : (kind : Kind) (desk desk_then : Desk) (look after : Sight) (shown : Waiting) (old new : Sending) (now : ℕ)
+disk_deed : (kind : AgencyKind) (desk desk_then : Desk) (look after : Sight) (shown : Waiting) (old new : Sending) (now : ℕ)
     (deed : Deed) → IsTrue kind.tells → Dealt kind desk desk_then shown deed →
     Ends old now shown look after deed (Err (send.Store store.DiskFault)) new →
     DiskFailed look after desk.ledger.messages desk_then.ledger.messages
@@ -118,7 +118,7 @@ by_added before look after old new result own f (added_notes issuer lines a) = �
 by_added before look after old new result own f (added_stop issuer lines a e) = λ items faults torn is there.
     stop_said look after old new (f e) items faults torn is
 
-pub turn_tears : (kind : Kind) (desk desk_then : Desk) (before after : Sight) (old new : Sending) (now : ℕ)
+pub turn_tears : (kind : AgencyKind) (desk desk_then : Desk) (before after : Sight) (old new : Sending) (now : ℕ)
     (result : Result Turn SendFault) → Turned (turn_call kind desk desk_then before after old new now result) → IsTrue kind.tells →
     TearsSaid before after desk_then.ledger.messages
 turn_tears kind desk desk_then before after old new now result t tells =
@@ -152,7 +152,7 @@ tears_then a b c messages notes g h items faults torn is own =
         let f : x.0 ≡ item.Stop faults torn = (let k = e in cc) in
         subst AreNotes f x.2
 
-pub drained_tears : (kind : Kind) (exact : Bool) (start then : Scene) (old new : List Told) (result : Result (Unit {0})
+pub drained_tears : (kind : AgencyKind) (exact : Bool) (start then : Scene) (old new : List Told) (result : Result (Unit {0})
     DrainFault) → Drained kind exact start then old new result → IsTrue kind.tells →
     TearsSaid start.sight then.sight then.desk.ledger.messages
 drained_tears kind exact start then old new result d tells =

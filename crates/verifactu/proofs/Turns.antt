@@ -29,7 +29,7 @@ use Rattle.sender.specs.Agreeing.{KeepsAgreement}
 use Rattle.sender.specs.Draining.{CountsOf, Drained, EndsWith, Scene, Turns, none, more}
 use Rattle.sender.specs.Lines.{IsCall}
 use Rattle.sender.specs.Sending.{Sending}
-use Rattle.sender.specs.Turning.{Desk, Kind, Turned, turn_call}
+use Rattle.sender.specs.Turning.{Desk, AgencyKind, Turned, turn_call}
 use Rattle.sender.proofs.Adding.{adds_none, adds_then, has_front}
 use Rattle.sender.proofs.Causes.{turn_later}
 use Rattle.sender.proofs.Growing.{Growth, all_contained, gains_each}
@@ -59,7 +59,7 @@ nothing_more : (own : List ℕ) → drop (length own) own ≡ []
 nothing_more own = ap (λ (xs : List ℕ). drop (length own) xs) (sym (append-nil own)) ∙ drop-append_seam own []
 
 -- nothing yet
-pub sends_none : (kind : Kind) (a : Sight) (k : Desk) (said : Sending) → SendsOn kind a a k k said said (Ok tt)
+pub sends_none : (kind : AgencyKind) (a : Sight) (k : Desk) (said : Sending) → SendsOn kind a a k k said said (Ok tt)
 sends_none kind a k said = record {
   adds = adds_none AreNotesOrTorn a;
   notes = λ faultless. adds_none AreNotes a;
@@ -86,7 +86,7 @@ sends_none kind a k said = record {
 }
 
 -- after turns that go on, more of them
-pub sends_then : (kind : Kind) (a b c : Sight) (k l m : Desk) (said mid then : Sending) (answer : Result (Unit {0}) DrainFault) →
+pub sends_then : (kind : AgencyKind) (a b c : Sight) (k l m : Desk) (said mid then : Sending) (answer : Result (Unit {0}) DrainFault) →
     SendsOn kind a b k l said mid (Ok tt) → SendsOn kind b c l m mid then answer → SendsOn kind a c k m said then answer
 sends_then kind a b c k l m said mid then answer x y = record {
   adds = adds_then AreNotesOrTorn a b c x.adds y.adds;
@@ -174,7 +174,7 @@ untorn_end (Err (send.Store fault)) f is = f
 untorn_end (Err send.NoMemory) f is = f
 
 -- a turn that answers a fault of the disk leaves a stop
-pub stopped_end : (kind : Kind) (desk desk_then : Desk) (before after : Sight) (old new : Sending) (now : ℕ)
+pub stopped_end : (kind : AgencyKind) (desk desk_then : Desk) (before after : Sight) (old new : Sending) (now : ℕ)
     (answer : Result Turn SendFault) → Turned (turn_call kind desk desk_then before after old new now answer) →
     IsDiskAnswer (sending_end answer) → EndsStopped after.items
 stopped_end kind desk desk_then before after old new now (Ok turn) t disk = absurd disk
@@ -205,7 +205,7 @@ never_gives_up (Err (send.Contradiction e)) n r is = absurd cc
 never_gives_up (Err (send.Store fault)) n r is = absurd cc
 never_gives_up (Err send.NoMemory) n r is = absurd cc
 
-turns_later : (kind : Kind) (exact : Bool) (start : Scene) (answers : List (Result Turn SendFault)) (links : ℕ) (scene : Scene) →
+turns_later : (kind : AgencyKind) (exact : Bool) (start : Scene) (answers : List (Result Turn SendFault)) (links : ℕ) (scene : Scene) →
     Turns kind exact start answers links scene → start.desk.faults ≤ scene.desk.faults
 turns_later kind exact start answers links scene none = omega arith
 turns_later kind exact start answers links scene (more before_answers before_links mid answer then t turn on few) =
@@ -214,7 +214,7 @@ turns_later kind exact start answers links scene (more before_answers before_lin
     omega (arith, a, b)
 
 -- a drain never lowers the agency's count of faults
-pub drained_later : (kind : Kind) (exact : Bool) (start then : Scene) (old new : List Told)
+pub drained_later : (kind : AgencyKind) (exact : Bool) (start then : Scene) (old new : List Told)
     (result : Result (Unit {0}) DrainFault) → Drained kind exact start then old new result → start.desk.faults ≤ then.desk.faults
 drained_later kind exact start then old new result d =
     let a = turns_later kind exact start d.answers d.links d.scene d.made in
@@ -223,7 +223,7 @@ drained_later kind exact start then old new result d =
     omega (arith, a, b)
 
 -- where a drain gave up, it did so with the counts of its last sight
-pub drained_counts : (kind : Kind) (exact : Bool) (start then : Scene) (old new : List Told)
+pub drained_counts : (kind : AgencyKind) (exact : Bool) (start then : Scene) (old new : List Told)
     (result : Result (Unit {0}) DrainFault) → Drained kind exact start then old new result → (n r : ℕ) →
     IsErrOf result (drain.Undelivered n r) → CountsOf then.sight n r
 drained_counts kind exact start then old new result d n r is = elim d.ends [
@@ -236,7 +236,7 @@ no_error (Ok done) e = refl
 no_error (Err fault) e = absurd (let x = e in cc)
 
 -- the same, where the answer of the last turn is that of all
-pub sends_after : {kind : Kind} {a b c : Sight} {k l m : Desk} {said mid then : Sending}
+pub sends_after : {kind : AgencyKind} {a b c : Sight} {k l m : Desk} {said mid then : Sending}
     {last answer : Result (Unit {0}) DrainFault} → last ≡ answer → SendsOn kind a b k l said mid (Ok tt) →
     SendsOn kind b c l m mid then last → SendsOn kind a c k m said then answer
 sends_after {kind} {a} {b} {c} {k} {l} {m} {said} {mid} {then} {last} {answer} is x y =

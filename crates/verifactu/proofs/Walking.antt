@@ -21,7 +21,7 @@ use Rattle.sender.specs.declared.answers.SendFault.TheVariants.{LinkFault, Contr
 use Rattle.sender.specs.declared.draining.TheConstants.{MAX_LINK_FAULTS}
 use Rattle.sender.specs.Draining.{Scene, Turns, none, more, IsTurn, GoesOn, told_in, list_of, told_list, links_with, is_link}
 use Rattle.sender.specs.Draining.{moment_after}
-use Rattle.sender.specs.Turning.{Kind}
+use Rattle.sender.specs.Turning.{AgencyKind}
 use Rattle.sender.proofs.Causes.{turn_later, turn_link}
 use Rattle.sender.proofs.Drains.{told_split}
 use Rattle.sender.proofs.Growing.{Growth, growth_then, quiet_growth, ends_growth}
@@ -96,7 +96,7 @@ both_go : (P : Step → Type 0) (xs ys : List Step) → AllByRecursion P xs → 
 both_go P [] ys a b = b
 both_go P (x ∷ xs) ys a b = (a.0, both_go P xs ys a.1 b)
 
-module _ (kind : Kind) (exact : Bool) (records : List Sealed) (final : Sight) (base : ℕ) (mine : (n : ℕ) → base ≤ n →
+module _ (kind : AgencyKind) (exact : Bool) (records : List Sealed) (final : Sight) (base : ℕ) (mine : (n : ℕ) → base ≤ n →
     n < length final.items → Contains final.own n) where
   -- one turn
   pub turn_did : (scene then : Scene) (st : Standing) (answer : Result Turn SendFault) → At exact records base scene st →

@@ -26,7 +26,7 @@ use Rattle.sender.specs.Draining.{CountsOf}
 use Rattle.sender.specs.Evidence.{Shows}
 use Rattle.sender.specs.Lines.{SaysCalls}
 use Rattle.sender.specs.Sending.{Sending}
-use Rattle.sender.specs.Turning.{Desk, Kind}
+use Rattle.sender.specs.Turning.{Desk, AgencyKind}
 use Rattle.sender.specs.declared.answers.Turn.{Turn}
 use Rattle.sender.specs.declared.answers.SendFault.{SendFault}
 use Rattle.sender.specs.declared.answers.SendFault.TheVariants as send
@@ -126,7 +126,7 @@ IsTornSaid after messages torn = (is_record torn ≡ true) ⊎ TornSaid after me
 -- Turns of one sender with one agency, between two sights of a shop to which others add beside it. What they added is their own
 -- notes, or the stop over them. In a session in which the agency keeps its rules and agreed, and no other notes came, it still
 -- agrees, also with what may be torn, and doesn't contradict itself.
-pub record SendsOn (kind : Kind) (before after : Sight) (old new : Desk) (sending sending_then : Sending)
+pub record SendsOn (kind : AgencyKind) (before after : Sight) (old new : Desk) (sending sending_then : Sending)
     (answer : Result (Unit {0}) DrainFault) : Type 0 where
   pub adds : Adds AreNotesOrTorn before after
   pub notes : IsFaultless answer → Adds AreNotes before after
@@ -205,7 +205,7 @@ pub record SendsBeside (d : Day) : Type 0 where
       IsErrOf d.answer (drain.Undelivered noted_count records_count) → GivesUp d.opened.ledger.messages d.after.ledger.messages
 
 -- no session was opened
-pub record IsUnbegun (kind : Kind) (old new : Desk) : Type 0 where
+pub record IsUnbegun (kind : AgencyKind) (old new : Desk) : Type 0 where
   pub lists : IsTrue kind.tells → new.ledger ≡ old.ledger
   pub faults : new.faults ≡ old.faults
 

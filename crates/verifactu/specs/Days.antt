@@ -1,7 +1,7 @@
 -- The record of a day.
 use Rattle.std.specs.Prelude.{ℕ, List, [], ◌∷◌, flat_map, Option, Some, None, Result}
 use Rattle.record_codec.specs.declared.entry.Entry.{Entry}
-use Rattle.sender.specs.Turning.{Desk, Kind}
+use Rattle.sender.specs.Turning.{Desk, AgencyKind}
 use Rattle.sender.specs.declared.answers.DrainFault.{DrainFault}
 use Rattle.shop_core.specs.Answer.Requests.{Asked}
 use Rattle.till_calls.specs.Root.{Parts, Root}
@@ -33,7 +33,7 @@ pub record Day : Type 0 where
   pub end : List Entry
   pub stop : Option Stop
   pub tills : List TillReplies
-  pub kind : Kind
+  pub kind : AgencyKind
   pub opened : Desk
   pub after : Desk
   pub answer : Result (Unit {0}) DrainFault
@@ -50,7 +50,7 @@ stop_of (Some count) None = None
 stop_of None torn = None
 
 -- the day of a shop that was this at its start, and left these parts of its store
-abbrev pub shop_day : {D C : Type 0} → (C → ℕ → Option ℕ) → List Asked → Root C → Parts D C → List TillReplies → Kind → Desk →
+abbrev pub shop_day : {D C : Type 0} → (C → ℕ → Option ℕ) → List Asked → Root C → Parts D C → List TillReplies → AgencyKind → Desk →
     Desk → Result (Unit {0}) DrainFault → Day
 shop_day coming asks root new tills kind opened after answer = record {
   issuer = root.issuer;

@@ -11,7 +11,7 @@ use Rattle.chain_store.specs.Clocks.{Clocks, LeftClock, this_clock}
 use Rattle.record_fields.specs.declared.records.Sealed.{Sealed}
 use Rattle.record_fields.specs.declared.lines.Line.{Line}
 use Rattle.agency_port.specs.declared.agency.Agency as agency
-use Rattle.sender.specs.Turning.{Desk, Kind}
+use Rattle.sender.specs.Turning.{Desk, AgencyKind}
 use Rattle.verifactu.specs.declared.outside.Outside.{Outside}
 
 -- what contracts say of the store's devices: whether its disk tells, what it tells, its count of faults, and the clock's coming
@@ -37,7 +37,7 @@ LeftSleeper s = s.sleeper_after ≡ s.sleeper
 
 -- an agency: what its kind tells, how that begins a session by what it had and by the noted pairs, and its desk before and after
 pub record Agencies (G : Type 0) : Type 0 where
-  pub kind : Kind
+  pub kind : AgencyKind
   pub begun : List (Sealed × Line) → List (Sealed × Line) → List (Sealed × Line)
   pub agency : G
   pub agency_after : G
@@ -45,7 +45,7 @@ pub record Agencies (G : Type 0) : Type 0 where
   pub after : Desk
 
 -- what contracts say of a kind of agency, and of an agency of it
-abbrev pub agency_kind : {G : Type 0} → agency.Ghosts G → Kind
+abbrev pub agency_kind : {G : Type 0} → agency.Ghosts G → AgencyKind
 agency_kind kind = record { tells = kind.tells; keeps_rules = kind.keeps_rules }
 
 abbrev pub agency_desk : {G : Type 0} → agency.Ghosts G → G → Desk

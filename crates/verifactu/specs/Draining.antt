@@ -28,7 +28,7 @@ use Rattle.sender.specs.declared.answers.DrainFault.TheVariants as drain
 use Rattle.sender.specs.Agreeing.{AreNotes}
 use Rattle.sender.specs.Dark.{AreRunsBy, NoneInTheDark}
 use Rattle.sender.specs.Draining.{IsBounded}
-use Rattle.sender.specs.Turning.{Kind, Desk}
+use Rattle.sender.specs.Turning.{AgencyKind, Desk}
 use Rattle.report.specs.Turns.{turns_text}
 use Rattle.report.specs.declared.ended.Detail.{Detail}
 use Rattle.report.specs.declared.ended.Detail.TheVariants as detail
@@ -63,7 +63,7 @@ pub record Span : Type 0 where
   pub start : List Entry
   pub end : List Entry
   pub torn : List Entry
-  pub kind : Kind
+  pub kind : AgencyKind
   pub old : Desk
   pub new : Desk
   pub exact : Bool
@@ -79,7 +79,7 @@ pub record Outcome : Type 0 where
   pub answer : Result (Unit {0}) DrainFault
 
 -- the drain that began with this and ended with that
-abbrev pub spanning : List Entry → Kind → Desk → Desk → Bool → ℕ → Outcome → Span
+abbrev pub spanning : List Entry → AgencyKind → Desk → Desk → Bool → ℕ → Outcome → Span
 spanning start kind old new exact moment o = record {
   start = start;
   end = o.end;
@@ -151,7 +151,7 @@ abbrev pub Beginning : Type 0
 Beginning = List (Sealed × Line) → List (Sealed × Line) → List (Sealed × Line)
 
 -- a session was opened, with this plan and the pairs noted in the history
-pub record OpensSession (kind : Kind) (begun : Beginning) (plan : Plan) (start : List Entry) (old opened : Desk) : Type 0 where
+pub record OpensSession (kind : AgencyKind) (begun : Beginning) (plan : Plan) (start : List Entry) (old opened : Desk) : Type 0 where
   pub lists : IsTrue kind.tells → Begins old.ledger opened.ledger plan (length (noted start))
   pub rules : IsTrue kind.keeps_rules → opened.ledger.processed ≡ begun old.ledger.processed (noted_pairs start)
   pub faults : opened.faults ≡ old.faults
@@ -257,7 +257,7 @@ abbrev pub drain_text : Outcome → List ℕ
 drain_text o = turns_text o.turns (length (recs o.end)) (length (noted o.end))
 
 -- an opened store with this history was drained, and this is how that ended
-abbrev pub StoreDrainEnds : Beginning → Plan → List ℕ → List Entry → DiskSpan → Kind → Desk → Desk → Bool → ℕ → Sinks →
+abbrev pub StoreDrainEnds : Beginning → Plan → List ℕ → List Entry → DiskSpan → AgencyKind → Desk → Desk → Bool → ℕ → Sinks →
     Detail → Type 0
 StoreDrainEnds begun plan issuer start k kind old new exact moment s end = (o : Outcome)
     × StoreDrains (StandsUpTo issuer) begun plan issuer k (spanning start kind old new exact moment o)

@@ -1,4 +1,4 @@
-pub mod Words
+pub mod CommandLine
 pub mod Help
 pub mod Printed
 pub mod Devices

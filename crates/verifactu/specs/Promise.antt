@@ -29,9 +29,9 @@ use Rattle.verifactu.specs.Noting.{all_said}
 use Rattle.chain_store.specs.Replies.{Replies}
 use Rattle.verifactu.specs.Scripts.{IsGoodScript}
 use Rattle.verifactu.specs.Tills.{asks_of, has_asks, own_of, tills_of}
-use Rattle.verifactu.specs.Words.{IsAskedFor}
-use Rattle.verifactu.specs.declared.words.Command.{Command}
-use Rattle.verifactu.specs.declared.words.Command.TheVariants.{Chain, Day, Drain}
+use Rattle.verifactu.specs.CommandLine.{IsAskedFor}
+use Rattle.verifactu.specs.declared.command_line.Command.{Command}
+use Rattle.verifactu.specs.declared.command_line.Command.TheVariants.{Chain, Day, Drain}
 
 -- the issuer whose file a command may write; the other commands write none
 abbrev pub writes_for : Option Command → Option (List ℕ)

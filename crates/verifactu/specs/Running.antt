@@ -15,9 +15,9 @@ use Rattle.verifactu.specs.Devices.{AllDevices, NobodyCalled, OnlyPrints, OnlyRe
 use Rattle.verifactu.specs.Drain.{DrainEnds}
 use Rattle.verifactu.specs.Generate.{GenerateEnds}
 use Rattle.verifactu.specs.Help.{help_text, version_text}
-use Rattle.verifactu.specs.Words.{IsAskedFor}
-use Rattle.verifactu.specs.declared.words.Command.{Command}
-use Rattle.verifactu.specs.declared.words.Command.TheVariants.{Chain, Day, Drain, Audit, Link, Check, Generate, Help, Version}
+use Rattle.verifactu.specs.CommandLine.{IsAskedFor}
+use Rattle.verifactu.specs.declared.command_line.Command.{Command}
+use Rattle.verifactu.specs.declared.command_line.Command.TheVariants.{Chain, Day, Drain, Audit, Link, Check, Generate, Help, Version}
 
 -- when a command ends in this way
 abbrev pub CommandEnds : {D C Z G : Type 0} → Command → AllDevices D C Z G → Detail → Type 0

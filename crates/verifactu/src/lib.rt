@@ -22,7 +22,7 @@ mod scripts;
 mod sending;
 mod serving;
 mod tills;
-mod words;
+mod command_line;
 
 pub use chain::chain_cmd;
 pub use day::day_cmd;

@@ -8,7 +8,7 @@ ghost use Rattle.report.specs.declared.ended.Detail.TheVariants as detail;
 ghost use Rattle.file_commands.specs.Output.{PrintEnds};
 ghost use Rattle.verifactu.specs.Promise.{Promise};
 ghost use Rattle.verifactu.specs.Running.{CommandEnds, EndsAs};
-ghost use Rattle.verifactu.specs.Words.{IsWithin};
+ghost use Rattle.verifactu.specs.CommandLine.{IsWithin};
 
 use crate::chain::chain_cmd;
 use crate::day::day_cmd;
@@ -17,7 +17,7 @@ use crate::generate::generate_cmd;
 use crate::help::{help_text, version_text};
 use crate::laws::who_keeps_the_rules_tells;
 use crate::outside::Outside;
-use crate::words::{Command, command_of};
+use crate::command_line::{Command, command_of};
 use agency_port::Agency;
 use chain_disk::Disk;
 use file_commands::{audit_cmd, check_cmd, link_cmd, print};

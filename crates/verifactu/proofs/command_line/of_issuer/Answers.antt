@@ -1,6 +1,6 @@
 use Rattle.std.proofs.Common.{◌∙◌, sym}
 use Rattle.verifactu.proofs.CommandLine.{is_chain, is_day, is_drain}
-use Rattle.verifactu.proofs.words.of_issuer.Goals as goal
+use Rattle.verifactu.proofs.command_line.of_issuer.Goals as goal
 
 pub returns-then-is_word : goal.returns-then-is_word
 returns-then-is_word c =

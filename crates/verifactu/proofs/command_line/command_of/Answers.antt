@@ -1,9 +1,9 @@
 use Rattle.std.proofs.Common.{arith, string_bytes, Global, String, List, map, sym, subst}
-use Rattle.verifactu.specs.Words.{IsAskedFor}
+use Rattle.verifactu.specs.CommandLine.{IsAskedFor}
 use Rattle.verifactu.proofs.CommandLine.{no_command, three_words, four_words}
-use Rattle.verifactu.proofs.words.command_of.Goals as goal
-use Rattle.verifactu.proofs.words.command_of.Goals.{in_default-via-then-words-lt1}
-use Rattle.verifactu.proofs.words.command_of.Goals.{in_default-via-else-words-lt1+else-words-lt2+else-words-lt3+else-words-lt4+else-words-lt5}
+use Rattle.verifactu.proofs.command_line.command_of.Goals as goal
+use Rattle.verifactu.proofs.command_line.command_of.Goals.{in_default-via-then-words-lt1}
+use Rattle.verifactu.proofs.command_line.command_of.Goals.{in_default-via-else-words-lt1+else-words-lt2+else-words-lt3+else-words-lt4+else-words-lt5}
 
 pub returns-in_default : goal.returns-in_default
 returns-in_default c =

@@ -1,6 +1,6 @@
 use Rattle.std.proofs.Common.{arith}
 use Rattle.verifactu.proofs.Counts.{one_count}
-use Rattle.verifactu.proofs.words.workers_of.Goals as goal
+use Rattle.verifactu.proofs.command_line.workers_of.Goals as goal
 
 pub returns-then-n-from : goal.returns-then-n-from
 returns-then-n-from c = λ n h.

@@ -1,7 +1,7 @@
 use Rattle.std.proofs.Common.{ℕ, Option, arith, subst, sym}
-use Rattle.verifactu.specs.Words.{IsCount}
+use Rattle.verifactu.specs.CommandLine.{IsCount}
 use Rattle.verifactu.proofs.Counts.{count_is, counted, no_count}
-use Rattle.verifactu.proofs.words.count_of.Goals as goal
+use Rattle.verifactu.proofs.command_line.count_of.Goals as goal
 
 pub returns-in_err-n : goal.returns-in_err-n
 returns-in_err-n c =

@@ -1,6 +1,6 @@
 // The words of the command line.
 ghost use Rattle.std.specs.Prelude.{◌≡◌, ◌<◌, ◌∷◌, [], map, string_bytes, bytes_eq, codes, false, length};
-ghost use Rattle.verifactu.specs.Words.{IsAskedFor, IsCount, IsHost, IsWorkers};
+ghost use Rattle.verifactu.specs.CommandLine.{IsAskedFor, IsCount, IsHost, IsWorkers};
 
 use crate::generated::MOST;
 use amounts::read_whole;
