@@ -8,6 +8,11 @@ use Rattle.recovery.specs.Opening.{IsCreation, IsFound}
 use Rattle.recovery.proofs.Opens.{if_ok, loaded_settled}
 use Rattle.recovery.proofs.opening.open_store.Goals as goal
 
+pub returns-in-Ok-Begun-clause-unwritten : goal.returns-in-Ok-Begun-clause-unwritten
+returns-in-Ok-Begun-clause-unwritten g c =
+    if_ok _ _ c.open_held.result c.open_held.ensures.same (λ store h tells begun.
+    ap (λ d. g.D.Disk.told d) h.3 ∙ c.load.ensures.same ∙ c.in-Ok.ensures.ok tells)
+
 pub open_held-requires-clause-holds : goal.open_held-requires-clause-holds
 open_held-requires-clause-holds g c tells = loaded_settled _ _ _ (Begun c.in-Ok-Begun.state c.in-Ok-Begun.end) (c.in-Ok.ensures.ok tells) c.load.ensures.same
     (rw c.in-Ok-Begun.field-0-is at (c.in-Ok-Begun.ensures.content tells))
@@ -17,11 +22,6 @@ returns-in-Ok-Begun-clause-any_moment g c =
     if_ok _ _ c.open_held.result c.open_held.ensures.any_moment (λ store h tells.
     subst (λ (t : OnDisk). LeavesOnly t (g.D.Disk.told (disk_of (journal_of store))) (IsFound c.args.issuer.now
     (state_of store).entries)) (c.load.ensures.same ∙ c.in-Ok.ensures.ok tells) (h tells))
-
-pub returns-in-Ok-Begun-clause-unwritten : goal.returns-in-Ok-Begun-clause-unwritten
-returns-in-Ok-Begun-clause-unwritten g c =
-    if_ok _ _ c.open_held.result c.open_held.ensures.same (λ store h tells begun.
-    ap (λ d. g.D.Disk.told d) h.3 ∙ c.load.ensures.same ∙ c.in-Ok.ensures.ok tells)
 
 pub returns-in-Ok-Begun-clause-created : goal.returns-in-Ok-Begun-clause-created
 returns-in-Ok-Begun-clause-created g c =
