@@ -1,8 +1,6 @@
 // Texts that are cut at a byte.
 ghost use Rattle.std.specs.Prelude.{◌≡◌, ◌==◌, [], ◌∷◌, MatchOption, position};
-ghost use Rattle.std.specs.List.{join_with_byte};
 ghost use Rattle.std.specs.Str.Lines.{strip_carriage_return};
-ghost use Rattle.script.specs.Cuts as spec;
 ghost use Rattle.script.specs.Cuts.{parts_of, parts_left};
 
 use std::marker::Model;
