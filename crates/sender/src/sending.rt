@@ -18,7 +18,6 @@ use crate::{SendFault, Turn};
 use agency_port::{Agency, AgencyFault, Reply, the_last_named_reply_is_kept};
 use agency_replies::{Sorted, sort_reply};
 use batches::{Batch, Huellas};
-use journal::StoreFault;
 use once_world::Outbox;
 use pacing::{Pace, WaitUntil};
 use record_fields::{BATCH, Line};
