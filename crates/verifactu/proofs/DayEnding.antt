@@ -395,7 +395,7 @@ module _ (d : Day) (new : ℕ → Option ℕ) (same : (k : ℕ) → d.coming k �
   }
 
   recorded_by : (e : Entry) → RecordedBy d e → RecordedBy other e
-  recorded_by e (by_till t among c) = by_till t among (record {
+  recorded_by e (by_till t among c once) = by_till t among (record {
     place = c.place;
     told = c.told;
     ask = c.ask;
@@ -403,8 +403,8 @@ module _ (d : Day) (new : ℕ → Option ℕ) (same : (k : ℕ) → d.coming k �
     seconds = c.seconds;
     reading = (c.reading.0, subst (λ (o : Option ℕ). IsTold o c.seconds) (same c.reading.0) c.reading.1);
     made = c.made;
-  })
-  recorded_by e (sender notes failed) = sender notes failed
+  }) once
+  recorded_by e (sender notes fails none) = sender notes fails none
 
   stop_by : (faults after : ℕ) (stop : Option Stop) → StopIs d faults after stop → StopIs other faults after stop
   stop_by faults after None is = is
@@ -436,6 +436,7 @@ module _ (d : Day) (new : ℕ → Option ℕ) (same : (k : ℕ) → d.coming k �
     counts = h.counts;
     undelivered = h.undelivered;
     gives_up = h.gives_up;
+    gave_up = h.gave_up;
   }
 
 -- the same end, said of a call whose clock line replaced clock and sleeper by these

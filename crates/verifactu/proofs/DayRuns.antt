@@ -1,8 +1,8 @@
 -- A day of tills, from their rows to the history at its end.
-use Rattle.std.proofs.Common.{◌≡◌, inl, inr, ℕ, zero, suc, ◌<◌, ◌≤◌, Bool, true, false, List, [], ◌∷◌, ◌++◌, length, drop}
+use Rattle.std.proofs.Common.{◌≡◌, ◌⊎◌, inl, inr, ℕ, zero, suc, ◌<◌, ◌≤◌, Bool, true, false, List, [], ◌∷◌, ◌++◌, length, drop}
 use Rattle.std.proofs.Common.{map, All, Option, Some, None, Result, Ok, Err, slice_get, refl, ap, sym, ◌∙◌, subst, arith}
 use Rattle.std.specs.Prelude.{◌≢◌, AllPairs, Contains, IsSome, OnOk}
-use Rattle.std.specs.List.{AllByRecursion, flat_map}
+use Rattle.std.specs.List.{AllByRecursion, count_by, flat_map}
 use Rattle.std.proofs.lemmas.List.{append-nil, get_or-map, length-append, length-map}
 use Rattle.std.proofs.lemmas.List.Elements.{All-weaker}
 use Rattle.std.proofs.lemmas.List.Folds.{flat_map-map}
@@ -32,12 +32,12 @@ use Rattle.till_calls.specs.Sound.{IsSound}
 use Rattle.sender.specs.Agreeing.{Adds, AreNotes, AreNotesOrTorn}
 use Rattle.sender.specs.declared.answers.DrainFault.{DrainFault}
 use Rattle.sender.specs.Turning.{Desk, AgencyKind}
-use Rattle.verifactu.specs.Beside.{SendsBeside}
+use Rattle.verifactu.specs.Beside.{FailsAtNotes, SendsBeside}
 use Rattle.verifactu.specs.Days.{Day, TillReplies, all_replies, shop_day, stop_of}
-use Rattle.verifactu.specs.Draining.{IsDiskAnswer, IsFaultless}
+use Rattle.verifactu.specs.Draining.{IsDiskAnswer}
 use Rattle.chain_store.specs.Replies.{IsGoingOn, Replies}
 use Rattle.verifactu.specs.Tills.{AreTaken, DayRun, IsCutOffBy, RecordedBy, StopIs, TellsStop, TillServed, asks_of, is_from}
-use Rattle.verifactu.specs.Tills.{own_of, stops_in}
+use Rattle.verifactu.specs.Tills.{is_own_fault, own_of, stops_in}
 use Rattle.verifactu.specs.Tills.RecordedBy.{sender, till as by_till}
 use Rattle.verifactu.specs.Works.{Ran, Row, Worked, told_in}
 use Rattle.verifactu.specs.declared.tills.TillDay.{TillDay}
@@ -47,7 +47,7 @@ use Rattle.verifactu.proofs.Rows.{AreDistinct, after_all, distinct_of, none_else
 use Rattle.verifactu.proofs.Rows.{own_asks, Told as RowTold}
 use Rattle.verifactu.proofs.SeenAll.{seen_whole}
 use Rattle.verifactu.proofs.Theirs.{Theirs, run_of_till}
-use Rattle.verifactu.proofs.TillRuns.{StopTold, items}
+use Rattle.verifactu.proofs.TillRuns.{StopTold, is_stop, items}
 use Rattle.verifactu.proofs.Whole.{Shared, all_noted, bare}
 
 no_record : (stopped : Option ℕ) (torn : Option Entry) (till : ℕ) → records_of till (stop_in stopped torn) ≡ []
@@ -111,6 +111,17 @@ no_entries (e ∷ es) h = absurd (let x = h in cc)
 at_end : (es : List Entry) (x : Item) (rest : List Item) → slice_get (map item.Entry es ++ x ∷ rest) (length es) ≡ Some x
 at_end [] x rest = refl
 at_end (e ∷ es) x rest = at_end es x rest
+
+-- behind entries alone the last item is the only stop
+only_stop : (es : List Entry) (x : Item) (i : ℕ) (y : Item) → slice_get (map item.Entry es ++ x ∷ []) i ≡ Some y →
+    is_stop y ≡ true → i ≡ length es
+only_stop [] x zero y at stops = refl
+only_stop [] x (suc i) y at stops = absurd (let e = at in cc)
+only_stop (e ∷ es) x zero y at stops =
+    let same : item.Entry e ≡ y = (let s = at in cc) in
+    let no : false ≡ true = ap is_stop same ∙ stops in
+    absurd (let n = no in cc)
+only_stop (e ∷ es) x (suc i) y at stops = let more = only_stop es x i y at stops in omega (arith, more)
 
 -- what is at a place of a list is in it, and so in a list that it is a piece of
 got : {A : Type 0} (xs : List A) (place : ℕ) (x : A) → slice_get xs place ≡ Some x → Contains xs x
@@ -204,7 +215,8 @@ module _ {D C : Type 0} (tells : Bool) (tell : D → OnDisk) (faults : D → ℕ
       (first : Known Item (Root C)) (first_new : IsNew base root first) (kind : AgencyKind) (opened after : Desk)
       (answer : Result (Unit {0}) DrainFault)
       (bare : (till : ℕ) → OwnsNone till seat)
-      (noted : AllByRecursion (λ (z : ℕ × Item). AreNotesOrTorn z.1 × (IsFaultless answer → AreNotes z.1)) seat.own)
+      (Untorn : Type 0) (noted : AllByRecursion (λ (z : ℕ × Item). AreNotesOrTorn z.1 × (Untorn → AreNotes z.1)) seat.own)
+      (fails : Untorn ⊎ FailsAtNotes kind opened after answer)
       (disk : IsDiskAnswer answer → IsSome p.stopped) (worked : AllByRecursion (Worked coming asks) rows)
       (fits : AllByRecursion (Fits (items_in p)) (after_all coming asks rows ++ seat ∷ [])) (starts : StartsWith (items_in p)
       base)
@@ -251,18 +263,23 @@ module _ {D C : Type 0} (tells : Bool) (tell : D → OnDisk) (faults : D → ℕ
         (item.Stop count e ∷ []) in
         let entries = length-map p.state.entries (λ (x : Entry). item.Entry x) in
         elim (stop_whose coming asks base root p.stopped p.torn p.state.entries for_no_other what_is_taken size rows seat
-        distinct news bare worked fits starts since (λ (x : Item). AreNotesOrTorn x × (IsFaultless answer → AreNotes x)) noted
+        distinct news bare worked fits starts since (λ (x : Item). AreNotesOrTorn x × (Untorn → AreNotes x)) noted
         (length p.state.entries) (item.Stop count e) there refl
+        (λ i y at stops. only_stop p.state.entries (item.Stop count e) i y
+        (sym (ap (λ (l : List Item). slice_get l i) last) ∙ at) stops)
         (let l = low sound in omega (arith, size, l)) (omega (arith, total, entries))) [
-          | inl one ↦
-              (let same : Some one.cut.entry ≡ Some e = sym one.cut.is ∙ torn_is in
+          | inl by ↦
+              (let one = by.0 in
+              let same : Some one.cut.entry ≡ Some e = sym one.cut.is ∙ torn_is in
               let entry_is : one.cut.entry ≡ e = (let s = same in cc) in
               by_till (told_in one.row.done)
               (in_map told_in (map (λ (r : Row C). r.done) rows) one.row.done
               (in_map (λ (r : Row C). r.done) rows one.row one.among))
               (subst (λ (x : Entry). IsCutOffBy root.issuer (coming root.clock) p.state.entries
-              (asks_of one.row.done.till asks) one.row.done.answers.items x) entry_is one.cut.by))
-          | inr mine ↦ sender mine.0 mine.1
+              (asks_of one.row.done.till asks) one.row.done.answers.items x) entry_is one.cut.by)
+              (ap (λ (rs : Replies). count_by is_own_fault rs) replies_are ∙ by.1))
+          | inr mine ↦ sender mine.0.0 (elim fails [ inl untorn ↦ absurd (mine.0.1 untorn) | inr is ↦ is ])
+              (ap (λ (rs : Replies). count_by is_own_fault rs) replies_are ∙ mine.1)
         ]
 
     each_told : (s : Option ℕ) → p.stopped ≡ s → AllByRecursion (StopTold s) (all_replies tills)
@@ -375,7 +392,7 @@ module _ {D C : Type 0} (tells : Bool) (tell : D → OnDisk) (faults : D → ℕ
   pub ended : (kind : AgencyKind) (opened after : Desk) (answer : Result (Unit {0}) DrainFault) → AddsForNoOther coming → AddsWhatIsTaken coming →
       length base ≡ length root.history → AllPairs (λ (a b : TillDay). a.till ≢ b.till) days → Shared base (items_in p) root new
       seat then →
-      (IsFaultless answer → Adds AreNotes (sight_by seat) (sight_by then)) → (IsDiskAnswer answer → IsSome p.stopped) →
+      Adds AreNotes (sight_by seat) (sight_by then) ⊎ FailsAtNotes kind opened after answer → (IsDiskAnswer answer → IsSome p.stopped) →
       IsSound tells tell faults coming root p →
       OnOk answer (length (noted_in p.state.entries) ≡ length (recs p.state.entries)) →
       SendsBeside (shop_day coming asks root p (map told_in done) kind opened after answer) →
@@ -397,6 +414,6 @@ module _ {D C : Type 0} (tells : Bool) (tell : D → OnDisk) (faults : D → ℕ
       subst (λ (l : List TillDay). DayRun (record { tells = tells; told = tell; faults = faults; coming = coming }) root p (Told l))
       (sym ran.done_are)
       (whole tells tell faults coming asks root p for_no_other what_is_taken base size ran.rows then distinct' news.0 seat news.1 kind opened after
-      answer (bare base (items_in p) root new seat then h) (all_noted base (items_in p) root new seat then h
-      (IsFaultless answer) notes)
+      answer (bare base (items_in p) root new seat then h) (Adds AreNotes (sight_by seat) (sight_by then))
+      (all_noted base (items_in p) root new seat then h (Adds AreNotes (sight_by seat) (sight_by then)) (λ added. added)) notes
       disk ran.worked fits' h.starts since' sound counted (subst (λ (l : List TillDay). SendsBeside (Told l)) ran.done_are sends))

@@ -185,4 +185,5 @@ module _ {D C : Type 0} (tells : Bool) (told : D → OnDisk) (faults : D → ℕ
     counts = counts_within;
     undelivered = sends.undelivered;
     gives_up = sends.gives_up;
+    gave_up = sends.gave_up;
   }

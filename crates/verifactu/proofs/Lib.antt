@@ -10,6 +10,7 @@ pub mod Starting
 pub mod Standing
 pub mod Walking
 pub mod Told
+pub mod Stopping
 pub mod Stops
 pub mod Pairs
 pub mod Closing

@@ -1,25 +1,27 @@
 -- What each till of a day did, once the shop's list at the end is known.
-use Rattle.std.proofs.Common.{◌≡◌, ◌⊎◌, inl, inr, ℕ, zero, suc, ◌<◌, ◌≤◌, true, false, List, [], ◌∷◌, ◌++◌, length, drop, map}
-use Rattle.std.proofs.Common.{All, Option, Some, slice_get, refl, ap, sym, ◌∙◌, subst, arith, cond, ◌==◌}
+use Rattle.std.proofs.Common.{◌≡◌, ◌⊎◌, inl, inr, ℕ, zero, suc, ◌+◌, ◌<◌, ◌≤◌, Bool, true, false, List, [], ◌∷◌, ◌++◌, length, drop, map}
+use Rattle.std.proofs.Common.{All, Option, Some, Result, slice_get, refl, ap, sym, ◌∙◌, subst, arith, cond, ◌==◌}
 use Rattle.std.specs.Prelude.{◌≢◌, AllPairs, Contains}
-use Rattle.std.specs.List.{AllByRecursion, count_by}
+use Rattle.std.specs.List.{AllByRecursion, count_by, flat_map}
 use Rattle.std.proofs.lemmas.Bool.Decides.{eqb_tells, nat_tests}
 use Rattle.std.proofs.lemmas.List.Elements.{All-weaker, Contains-append_right, filter_passes}
 use Rattle.std.proofs.lemmas.List.{length-append}
-use Rattle.std.proofs.lemmas.List.Sums.{sum_by-cons, sum_by_push}
+use Rattle.std.proofs.lemmas.List.Sums.{sum_by-append, sum_by-cons, sum_by_push}
 use Rattle.chain_lock.specs.Known.{Known, IsNew, Fits, holders, owners, times_held, times_owned}
 use Rattle.chain_lock.specs.Lists.{StartsWith}
+use Rattle.journal.specs.declared.faults.StoreFault.{StoreFault}
 use Rattle.record_codec.specs.declared.entry.Entry.{Entry}
 use Rattle.shop_core.specs.Answer.Requests.{Asked}
+use Rattle.shop_core.specs.declared.answer.Reply.{Reply}
 use Rattle.shop_core.specs.declared.items.Item.{Item}
 use Rattle.till_calls.specs.Laws.{AddsForNoOther, AddsWhatIsTaken}
 use Rattle.till_calls.specs.Own.{AreTaken, OwnsNone, records_of}
 use Rattle.till_calls.specs.Root.{Root}
 use Rattle.till_calls.specs.Client.TillRun.{begun}
-use Rattle.verifactu.specs.Tills.{asks_of}
+use Rattle.verifactu.specs.Tills.{asks_of, is_own_fault}
 use Rattle.verifactu.specs.Works.{Row, Worked, known_after}
 use Rattle.verifactu.proofs.Each.{all_of_each, each_both, each_front, each_map, each_of_all, each_snoc, each_unmap, each_weaker}
-use Rattle.verifactu.proofs.TillRuns.{CutOff, SoFar, is_stop, items, run_numbers, so_far}
+use Rattle.verifactu.proofs.TillRuns.{CutOff, SoFar, is_stop, items, run_numbers, so_far, stops_owned}
 
 -- no two of the numbers are the same
 abbrev pub AreDistinct : List ℕ → Type 0
@@ -78,6 +80,28 @@ module _ (log : List Item) (n : ℕ) (x : Item) (there : slice_get log n ≡ Som
           inr (omega (arith, no, none, sum)))
     ]
   ]
+
+  -- where no other place has a stop, a pass that fits owns as many stops as it owns this place
+  pub stops_at : is_stop x ≡ true → ((i : ℕ) (y : Item) → slice_get log i ≡ Some y → is_stop y ≡ true → i ≡ n) →
+      (own : List (ℕ × Item)) → AllByRecursion (λ (z : ℕ × Item). slice_get log z.0 ≡ Some z.1) own →
+      stops_owned own ≡ count_by (λ (z : ℕ × Item). z.0 == n) own
+  stops_at stops only [] fits = refl
+  stops_at stops only (z ∷ zs) fits =
+      let more = stops_at stops only zs fits.1 in
+      let a = sum_by-cons (λ (y : ℕ × Item). cond (is_stop y.1) 1 0) z zs in
+      let b = sum_by-cons (λ (y : ℕ × Item). cond (y.0 == n) 1 0) z zs in
+      let one : ◌≡◌ {A = ℕ} (cond (is_stop z.1) 1 0) (cond (z.0 == n) 1 0) = elim (eqb_tells z.0 n) [
+        | inl same ↦
+            (let found : Some z.1 ≡ Some x = sym fits.0 ∙ ap (λ (k : ℕ). slice_get log k) same.1 ∙ there in
+            let is : z.1 ≡ x = (let s = found in cc) in
+            ap (λ (t : Bool). cond t 1 0) (ap is_stop is ∙ stops ∙ sym same.0))
+        | inr apart ↦ ap (λ (t : Bool). cond t 1 0) (by_test apart.1 (is_stop z.1) refl ∙ sym apart.0)
+      ] in
+      omega (arith, more, a, b, one)
+    where
+      by_test : (z.0 ≡ n → ⊥) → (t : Bool) → is_stop z.1 ≡ t → is_stop z.1 ≡ false
+      by_test apart true e = absurd (apart (only z.0 z.1 fits.0 e))
+      by_test apart false e = e
 
   -- passes without stops of their own don't own the place of a stop
   pub none_own : {R : Type 0} → is_stop x ≡ true → (ks : List (Known Item R)) → AllByRecursion (Fits log) ks →
@@ -255,25 +279,63 @@ module _ {C : Type 0} (coming : C → ℕ → Option ℕ) (asks : List Asked) wh
           both (inl clean) (inr c) =
               inr (record { row = c.row; among = Contains-append_right (r ∷ []) rs c.row c.among; cut = c.cut })
 
-      -- a stop behind the start is that of a till's ask, or it is the seat's, and what holds of each of the seat's holds of it
+      -- how many of the tills' asks were answered with a fault of their own
+      abbrev faults_told : List (Row C) → ℕ
+      faults_told rs = count_by is_own_fault (flat_map (λ (r : Row C). r.done.answers.items) rs)
+
+      -- it is how often they own the place of the only stop
+      faults_own : (n : ℕ) (x : Item) → slice_get log n ≡ Some x → is_stop x ≡ true →
+          ((i : ℕ) (y : Item) → slice_get log i ≡ Some y → is_stop y ≡ true → i ≡ n) → (rs : List (Row C)) →
+          AllByRecursion Told rs → faults_told rs ≡ owners n (lasts rs)
+      faults_own n x there stops only [] t = refl
+      faults_own n x there stops only (r ∷ rs) t =
+          let more = faults_own n x there stops only rs t.1 in
+          let split = sum_by-append (λ (a : Result Reply StoreFault). cond (is_own_fault a) 1 0) r.done.answers.items
+          (flat_map (λ (s : Row C). s.done.answers.items) rs) in
+          let here = t.0.told.faults in
+          let at : stops_owned r.last.own ≡ times_owned n r.last = stops_at log n x there stops only r.last.own
+          (each_of_all (λ (z : ℕ × Item). slice_get log z.0 ≡ Some z.1) r.last.own t.0.fits.own) in
+          let sum = sum_by-cons (times_owned n) r.last (lasts rs) in
+          omega (arith, more, split, here, at, sum)
+
+      -- A stop behind the start, the only one, is that of a till's ask, which alone is answered with a fault of its own. Or it is
+      -- the seat's, and no ask is; what holds of each of the seat's holds of it.
       pub stop_whose : (P : Item → Type 0) → AllByRecursion (λ (z : ℕ × Item). P z.1) seat.own → (n : ℕ) (x : Item) →
-          slice_get log n ≡ Some x → is_stop x ≡ true → length base ≤ n → n < length log → CutByOne rows ⊎ P x
-      stop_whose P each n x there stops above below = decide (clean_or_cut rows told)
+          slice_get log n ≡ Some x → is_stop x ≡ true →
+          ((i : ℕ) (y : Item) → slice_get log i ≡ Some y → is_stop y ≡ true → i ≡ n) → length base ≤ n → n < length log →
+          (CutByOne rows × (faults_told rows ≡ 1)) ⊎ (P x × (faults_told rows ≡ 0))
+      stop_whose P each n x there stops only above below = by_seat (times_owned n seat) refl
         where
-          decide : AllByRecursion (λ (r : Row C). AllByRecursion (λ (z : ℕ × Item). is_stop z.1 ≡ false) r.last.own) rows ⊎
-              CutByOne rows → CutByOne rows ⊎ P x
-          decide (inr cut) = inl cut
-          decide (inl clean) = elim (owned log n x there P seat.own (each_of_all
+          sum : owners n passes ≡ owners n (lasts rows) + times_owned n seat
+          sum = sum_by_push (times_owned n) (lasts rows) seat
+
+          faults : faults_told rows ≡ owners n (lasts rows)
+          faults = faults_own n x there stops only rows told
+
+          decide : times_owned n seat ≡ 0 → AllByRecursion (λ (r : Row C). AllByRecursion (λ (z : ℕ × Item). is_stop z.1 ≡ false)
+              r.last.own) rows ⊎ CutByOne rows → CutByOne rows × (faults_told rows ≡ 1)
+          decide mine (inr cut) = (
+            cut,
+            (let one = since_last n above below in let a = sum in let b = faults in omega (arith, mine, one, a, b)),
+          )
+          decide mine (inl clean) =
+              let none = none_own log n x there stops (lasts rows)
+              (each_map (λ (r : Row C). r.last) (Fits log) rows
+              (each_weaker Told (λ (r : Row C). Fits log r.last) rows (λ r t. t.fits) told))
+              (each_map (λ (r : Row C). r.last) (λ (k : Known Item (Root C)). AllByRecursion
+              (λ (z : ℕ × Item). is_stop z.1 ≡ false) k.own) rows clean) in
+              let a = sum in
+              let one = since_last n above below in
+              absurd (omega (arith, mine, none, a, one))
+
+          by_seat : (times : ℕ) → times_owned n seat ≡ times →
+              (CutByOne rows × (faults_told rows ≡ 1)) ⊎ (P x × (faults_told rows ≡ 0))
+          by_seat zero mine = inl (decide mine (clean_or_cut rows told))
+          by_seat (suc k) mine = elim (owned log n x there P seat.own (each_of_all
               (λ (z : ℕ × Item). slice_get log z.0 ≡ Some z.1) seat.own seat_fits.own) each) [
-                | inl holds ↦ inr holds
-                | inr unowned ↦
-                    (let mine : times_owned n seat ≡ 0 = unowned in
-                    let none = none_own log n x there stops (lasts rows)
-                    (each_map (λ (r : Row C). r.last) (Fits log) rows
-                    (each_weaker Told (λ (r : Row C). Fits log r.last) rows (λ r t. t.fits) told))
-                    (each_map (λ (r : Row C). r.last) (λ (k : Known Item (Root C)). AllByRecursion
-                    (λ (z : ℕ × Item). is_stop z.1 ≡ false) k.own) rows clean) in
-                    let sum = sum_by_push (times_owned n) (lasts rows) seat in
-                    let one = since_last n above below in
-                    absurd (omega (arith, mine, none, sum, one)))
+                | inl holds ↦ inr (
+                  holds,
+                  (let one = since_last n above below in let a = sum in let b = faults in omega (arith, mine, one, a, b)),
+                )
+                | inr unowned ↦ (let none : times_owned n seat ≡ 0 = unowned in absurd (omega (arith, mine, none)))
               ]

@@ -68,7 +68,6 @@ nothing_sent d end untorn same silent lacking = record {
   notes = record { more = []; is = end ∙ sym (append-nil d.start); are = tt };
   torn_notes = subst (λ (es : List Entry). AllByRecursion AreNotesEntry es) (sym untorn) tt;
   at_most_one = let e = ap length untorn in omega (arith, e);
-  by_a_fault = λ faultless. untorn;
   all_noted = subst (λ (r : Result (Unit {0}) DrainFault). OnOk r (length (noted d.end) ≡ length (recs d.end))) (sym lacking) tt;
   steps = record {
     going = [];
@@ -84,6 +83,7 @@ nothing_sent d end untorn same silent lacking = record {
     ends = subst (λ (r : Result (Unit {0}) DrainFault). EndsBy (recs d.start) (at_start (length (noted d.start)) d.moment) 0
         (length (noted d.end)) [] r) (sym lacking) tt;
   };
+  torn_told = inl untorn;
   lines = λ tells. record {
     session = [];
     is = ap (λ (k : Desk). k.ledger.messages) same ∙ sym (append-nil d.old.ledger.messages);

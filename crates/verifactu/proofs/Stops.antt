@@ -1,5 +1,5 @@
 -- Whether a closed shop that had no tills has stopped, by the answer of its drain.
-use Rattle.std.proofs.Common.{◌≡◌, inl, inr, ℕ, ◌<◌, ◌≤◌, List, [], ◌∷◌, ◌++◌, length, length-append, map, Option, Some, None}
+use Rattle.std.proofs.Common.{◌≡◌, ◌⊎◌, inl, inr, ℕ, ◌<◌, ◌≤◌, List, [], ◌∷◌, ◌++◌, length, length-append, map, Option, Some, None}
 use Rattle.std.proofs.Common.{slice_get, refl, ap, sym, ◌∙◌, subst, arith, Bool, Result, Ok, Err}
 use Rattle.std.specs.Prelude.{Contains, IsSome}
 use Rattle.std.specs.List.{AllByRecursion}
@@ -30,32 +30,38 @@ use Rattle.sender.specs.Sending.{Sending}
 use Rattle.sender.specs.Turning.{Deed, Nothing, Asked, Handed, AgencyKind, Ends, SeenEnds, ReplyEnds}
 use Rattle.sender.proofs.Adding.{adds_then, turn_notes, turns_notes}
 use Rattle.verifactu.specs.Beside.{EndsStopped}
-use Rattle.verifactu.specs.Draining.{IsDiskAnswer, IsFaultless, torn_in}
+use Rattle.verifactu.specs.Draining.{IsDiskAnswer, torn_in}
 use Rattle.verifactu.proofs.Alone.{Closed, all_contained, all_seen, mine, own_before}
 use Rattle.verifactu.proofs.Agreed.{Stored}
 
--- the last turn's note was no fault of the disk
-untorn_answer : (links : ℕ) (after : Sight) (answer : Result Turn SendFault) (result : Result (Unit {0}) DrainFault) →
-    EndsWith links after answer result → IsFaultless result → answer ≡ Err (send.Store store.DiskFault) → ⊥
-untorn_answer links after answer (Ok done) e f is = let g = sym e.1 ∙ is in absurd cc
-untorn_answer links after answer (Err (drain.Undelivered noted_count records_count)) e f is = let g = sym e.0 ∙ is in absurd cc
-untorn_answer links after answer (Err (drain.Contradiction evidence)) e f is = let g = sym e ∙ is in absurd cc
-untorn_answer links after answer (Err (drain.Store fault)) e f is = f
-untorn_answer links after answer (Err drain.NoMemory) e f is = f
-
--- a drain whose disk didn't fail added notes alone
-pub untorn_adds : (kind : AgencyKind) (exact : Bool) (start then : Scene) (old new : List Told) (result : Result (Unit {0}) DrainFault)
-    → Drained kind exact start then old new result → IsFaultless result → Adds AreNotes start.sight then.sight
-untorn_adds kind exact start then old new result d faultless =
+-- a drain whose last turn's note was no fault of the disk added notes alone
+pub adds_without_fault : (kind : AgencyKind) (exact : Bool) (start then : Scene) (old new : List Told) (result : Result (Unit {0}) DrainFault)
+    → (d : Drained kind exact start then old new result) → (d.answer ≡ Err (send.Store store.DiskFault) → ⊥) →
+    Adds AreNotes start.sight then.sight
+adds_without_fault kind exact start then old new result d never =
     adds_then AreNotes start.sight d.scene.sight then.sight (turns_notes kind exact start d.answers d.links d.scene d.made)
     (turn_notes kind d.scene.desk then.desk d.scene.sight then.sight d.scene.sending then.sending d.turn.now d.answer
     d.turn.turned never)
-  where
-    never : d.answer ≡ Err (send.Store store.DiskFault) → ⊥
-    never is = elim d.ends [
-      | inl p ↦ untorn_answer d.links then.sight d.answer result p.1 faultless is
-      | inr p ↦ subst (λ (r : Result (Unit {0}) DrainFault). IsFaultless r) p.0 faultless
-    ]
+
+-- whether a turn's note was a fault of the disk
+pub is_disk_fault : (answer : Result Turn SendFault) → (answer ≡ Err (send.Store store.DiskFault)) ⊎
+    (answer ≡ Err (send.Store store.DiskFault) → ⊥)
+is_disk_fault (Ok turn) = inr (λ is. absurd cc)
+is_disk_fault (Err send.LinkFault) = inr (λ is. absurd cc)
+is_disk_fault (Err (send.Contradiction evidence)) = inr (λ is. absurd cc)
+is_disk_fault (Err (send.Store store.DiskFault)) = inl refl
+is_disk_fault (Err (send.Store (store.Stopped faults))) = inr (λ is. absurd cc)
+is_disk_fault (Err (send.Store store.NoMemory)) = inr (λ is. absurd cc)
+is_disk_fault (Err send.NoMemory) = inr (λ is. absurd cc)
+
+-- a drain whose last turn's note was a fault of the disk answers it
+pub answers_fault : (links : ℕ) (after : Sight) (last : Result Turn SendFault) (result : Result (Unit {0}) DrainFault) →
+    EndsWith links after last result → last ≡ Err (send.Store store.DiskFault) → result ≡ Err (drain.Store store.DiskFault)
+answers_fault links after last (Ok done) e is = let g = sym e.1 ∙ is in absurd cc
+answers_fault links after last (Err (drain.Undelivered noted_count records_count)) e is = let g = sym e.0 ∙ is in absurd cc
+answers_fault links after last (Err (drain.Contradiction evidence)) e is = let g = sym e ∙ is in absurd cc
+answers_fault links after last (Err (drain.Store fault)) e is = let g = sym e ∙ is in cc
+answers_fault links after last (Err drain.NoMemory) e is = let g = sym e ∙ is in absurd cc
 
 pub get_seam : (xs : List Item) (x : Item) → slice_get (xs ++ x ∷ []) (length xs) ≡ Some x
 get_seam [] x = refl

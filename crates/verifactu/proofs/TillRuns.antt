@@ -1,9 +1,10 @@
 -- What one till's asks come to, once the shop's list at the end is known.
 use Rattle.std.proofs.Common.{◌≡◌, ◌⊎◌, inl, inr, ℕ, ◌<◌, ◌≤◌, Bool, true, false, List, [], ◌∷◌, ◌++◌, length, map, Option, Some}
-use Rattle.std.proofs.Common.{None, Result, Ok, Err, refl, ap, sym, ◌∙◌, subst, arith, append_assoc, slice_get}
+use Rattle.std.proofs.Common.{None, Result, Ok, Err, refl, ap, sym, ◌∙◌, subst, arith, append_assoc, slice_get, cond, ◌+◌}
 use Rattle.std.specs.Prelude.{IsSome}
-use Rattle.std.specs.List.{AllByRecursion, enumerate_from}
+use Rattle.std.specs.List.{AllByRecursion, count_by, enumerate_from}
 use Rattle.std.proofs.lemmas.List.{append-nil, append_cancel_left, length-append, length-map}
+use Rattle.std.proofs.lemmas.List.Sums.{sum_by-append, sum_by-cons, sum_by_push}
 use Rattle.chain_lock.specs.Known.{Known}
 use Rattle.chain_lock.specs.Lists.{StartsWith}
 use Rattle.journal.specs.declared.faults.StoreFault.{StoreFault}
@@ -23,13 +24,33 @@ use Rattle.till_calls.specs.Turns.{TillDoes}
 use Rattle.shop_core.specs.Prefix.{IsPrefix}
 use Rattle.sender.proofs.Adding.{get_front}
 use Rattle.chain_store.specs.Replies.{Replies}
-use Rattle.verifactu.specs.Tills.{IsCutOffBy, IsSomeReading, ServedRun}
+use Rattle.verifactu.specs.Tills.{IsCutOffBy, IsSomeReading, ServedRun, is_own_fault}
 use Rattle.verifactu.specs.Tills.ServedRun.{unasked, answered, torn as tears, stopped as told_stop, without_memory}
 use Rattle.verifactu.proofs.Each.{each_append, each_back, each_placed, each_snoc}
 
 abbrev pub is_stop : Item → Bool
 is_stop (item.Entry e) = false
 is_stop (item.Stop faults torn) = true
+
+-- how many of the items that a pass owns are stops
+abbrev pub stops_owned : List (ℕ × Item) → ℕ
+stops_owned own = count_by (λ (z : ℕ × Item). is_stop z.1) own
+
+no_stop_counted : (xs : List Item) → AllByRecursion (λ (x : Item). is_stop x ≡ false) xs → count_by is_stop xs ≡ 0
+no_stop_counted [] h = refl
+no_stop_counted (x ∷ xs) h =
+    let one : ◌≡◌ {A = ℕ} (cond (is_stop x) 1 0) 0 = ap (λ (b : Bool). cond b 1 0) h.0 in
+    let more = no_stop_counted xs h.1 in
+    let sum = sum_by-cons (λ (y : Item). cond (is_stop y) 1 0) x xs in
+    omega (arith, one, more, sum)
+
+placed_stops : (n : ℕ) (xs : List Item) → stops_owned (enumerate_from n xs) ≡ count_by is_stop xs
+placed_stops n [] = refl
+placed_stops n (x ∷ xs) =
+    let more = placed_stops (n + 1) xs in
+    let sum = sum_by-cons (λ (y : Item). cond (is_stop y) 1 0) x xs in
+    let own = sum_by-cons (λ (z : ℕ × Item). cond (is_stop z.1) 1 0) (n, x) (enumerate_from (n + 1) xs) in
+    omega (arith, more, sum, own)
 
 pub no_stops : (es : List Entry) → AllByRecursion (λ (x : Item). is_stop x ≡ false) (map item.Entry es)
 no_stops [] = tt
@@ -142,6 +163,7 @@ module _ {C : Type 0} (coming : C → ℕ → Option ℕ) (root : Root C) (stopp
       pub stops : AllByRecursion (StopTold stopped) replies
       pub even : length replies ≡ length asks
       pub clean : IsClean k.own ⊎ CutOff asks replies
+      pub faults : count_by is_own_fault replies ≡ stops_owned k.own
 
     -- this ask, whose reply tells the fault, made the entry of the stop
     record Tore (ask : Asked) (reply : Result Reply StoreFault) : Type 0 where
@@ -162,6 +184,7 @@ module _ {C : Type 0} (coming : C → ℕ → Option ℕ) (root : Root C) (stopp
       whole : told ≡ true → length end < length (before ++ more)
       stop : StopTold stopped reply
       clean : AllByRecursion (λ (x : Item). is_stop x ≡ false) more ⊎ Tore ask reply
+      fault : cond (is_own_fault reply) 1 0 ≡ count_by is_stop more
 
     none_more : (before more : List Item) → before ++ more ≡ before → AllByRecursion (λ (x : Item). is_stop x ≡ false) more
     none_more before more e = subst (λ (l : List Item). AllByRecursion (λ (x : Item). is_stop x ≡ false) l)
@@ -200,6 +223,11 @@ module _ {C : Type 0} (coming : C → ℕ → Option ℕ) (root : Root C) (stopp
       on : (s : SoFar asks replies old) → s.told ≡ false → Run asks replies s.seen false
       on s e = subst (λ (b : Bool). Run asks replies s.seen b) e s.run
 
+      none_gained : (history gained : List Entry) → before ++ more ≡ map item.Entry (history ++ gained) →
+          AllByRecursion (λ (x : Item). is_stop x ≡ false) more
+      none_gained history gained is = each_back (λ (x : Item). is_stop x ≡ false) before more
+          (subst (λ (l : List Item). AllByRecursion (λ (x : Item). is_stop x ≡ false) l) (sym is) (no_stops (history ++ gained)))
+
       step : (reply : Result Reply StoreFault) → SoFar asks replies old → TillDoes coming ask reply root before (before ++ more) →
           Step (asks ++ ask ∷ []) (replies ++ reply ∷ []) ask before more reply
       step (Ok reply) s a =
@@ -218,9 +246,8 @@ module _ {C : Type 0} (coming : C → ℕ → Option ℕ) (root : Root C) (stopp
             within = omega (arith, all);
             whole = λ e. absurd (let x = e in cc);
             stop = tt;
-            clean = inl (each_back (λ (x : Item). is_stop x ≡ false) before more
-                (subst (λ (l : List Item). AllByRecursion (λ (x : Item). is_stop x ≡ false) l) (sym a.after_is)
-                (no_stops (a.history ++ a.gained))));
+            clean = inl (none_gained a.history a.gained a.after_is);
+            fault = sym (no_stop_counted more (none_gained a.history a.gained a.after_is));
           }
       step (Err DiskFault) s t =
           let there = stop_long t.history t.count t.torn (before ++ more) reaches t.after_is in
@@ -239,6 +266,9 @@ module _ {C : Type 0} (coming : C → ℕ → Option ℕ) (root : Root C) (stopp
               reading = (t.reading.number, t.reading.told);
               made = subst (λ (h : List Entry). answer root.issuer h ask t.seconds ≡ Made t.torn) there.0.whole t.made;
             });
+            fault = sym (ap (λ (l : List Item). count_by is_stop l) (append_cancel_left before more
+                (item.Stop t.count t.torn ∷ []) (t.after_is ∙ sym (ap (λ (l : List Item). l ++ item.Stop t.count t.torn ∷ [])
+                t.going_on))));
           }
       step (Err (Stopped count)) s t =
           let there = stop_long t.1.history count t.1.torn (before ++ more) reaches (t.0 ∙ t.1.items_are) in
@@ -250,6 +280,7 @@ module _ {C : Type 0} (coming : C → ℕ → Option ℕ) (root : Root C) (stopp
             whole = λ e. there.1;
             stop = there.0.is;
             clean = inl (none_more before more t.0);
+            fault = sym (no_stop_counted more (none_more before more t.0));
           }
       step (Err NoMemory) s e = record {
         seen = s.seen;
@@ -259,6 +290,7 @@ module _ {C : Type 0} (coming : C → ℕ → Option ℕ) (root : Root C) (stopp
         whole = λ x. absurd (let y = x in cc);
         stop = tt;
         clean = inl (none_more before more e.0);
+        fault = sym (no_stop_counted more (none_more before more e.0));
       }
 
     -- the same entry, after one more ask
@@ -306,6 +338,16 @@ module _ {C : Type 0} (coming : C → ℕ → Option ℕ) (root : Root C) (stopp
         (λ (z : ℕ × Item). is_stop z.1 ≡ false) own (enumerate_from place more) clean
         (each_placed (λ (x : Item). is_stop x ≡ false) place more none))
 
+    -- one more answer, and what the till owns with what it added
+    faults_more : (replies : Replies) (reply : Result Reply StoreFault) (own : List (ℕ × Item)) (place : ℕ) (more : List Item) →
+        count_by is_own_fault replies ≡ stops_owned own → cond (is_own_fault reply) 1 0 ≡ count_by is_stop more →
+        count_by is_own_fault (replies ++ reply ∷ []) ≡ stops_owned (own ++ enumerate_from place more)
+    faults_more replies reply own place more before here =
+        let told = sum_by_push (λ (r : Result Reply StoreFault). cond (is_own_fault r) 1 0) replies reply in
+        let owned = sum_by-append (λ (z : ℕ × Item). cond (is_stop z.1) 1 0) own (enumerate_from place more) in
+        let placed = placed_stops place more in
+        omega (arith, before, here, told, owned, placed)
+
     one_more : (asks : List Asked) (replies : Replies) (ask : Asked) (reply : Result Reply StoreFault)
         (old new : Known Item (Root C)) → Asks coming ask reply old new → StartsWith log new.seen →
         SoFar asks replies old → SoFar (asks ++ ask ∷ []) (replies ++ reply ∷ []) new
@@ -330,6 +372,8 @@ module _ {C : Type 0} (coming : C → ℕ → Option ℕ) (root : Root C) (stopp
               omega (arith, s.even, a, b));
           clean = subst (λ (k : Known Item (Root C)). IsClean k.own ⊎ CutOff (asks ++ ask ∷ []) (replies ++ reply ∷ []))
               (sym t.after) (clean_more asks replies ask reply old.own (length t.before) t.added s.even s.clean next.clean);
+          faults = subst (λ (k : Known Item (Root C)). count_by is_own_fault (replies ++ reply ∷ []) ≡ stops_owned k.own)
+              (sym t.after) (faults_more replies reply old.own (length t.before) t.added s.faults next.fault);
         }
 
     seen_before : (ask : Asked) (reply : Result Reply StoreFault) (old new : Known Item (Root C)) →
@@ -354,6 +398,7 @@ module _ {C : Type 0} (coming : C → ℕ → Option ℕ) (root : Root C) (stopp
       stops = tt;
       even = refl;
       clean = inl (subst (λ (o : List (ℕ × Item)). IsClean o) (sym bare) tt);
+      faults = sym (ap (λ (o : List (ℕ × Item)). stops_owned o) bare);
     }
     so_far old new asks' replies' low home least bare whole (asked asks replies mid _ ask reply run this) =
         one_more asks replies ask reply mid new this whole (so_far old mid asks replies low home least bare

@@ -25,9 +25,11 @@ use Rattle.sender.specs.Turning.{AgencyKind, Desk}
 use Rattle.sender.proofs.Drains.{told_split}
 use Rattle.sender.proofs.Growing.{no_growth}
 use Rattle.sender.proofs.Sessions.{is_turn_growth}
+use Rattle.verifactu.specs.Draining.{TearsLast}
 use Rattle.verifactu.specs.Steps.{Step, Waits, Says, LacksMemory, Standing, Steps, at_start, line_in, message_in, after_steps}
 use Rattle.verifactu.specs.Steps.{EndsBy, EndsSaying, AreTold}
 use Rattle.verifactu.proofs.Standing.{Did}
+use Rattle.verifactu.proofs.Stops.{answers_fault}
 use Rattle.verifactu.proofs.Walking.{At, Walked, walked, turn_did, are_then, link_count, risen_more, steps_then}
 
 no_steps : (steps : List Step) → map line_in steps ≡ [] → steps ≡ []
@@ -55,38 +57,52 @@ module _ (kind : AgencyKind) (exact : Bool) (records : List Sealed) (desk : Desk
   abbrev begin : Scene
   begin = record { desk = desk; sight = sight; sending = fresh; moment = moment }
 
-  pub drained_steps : Drained kind exact (record { desk = desk; sight = sight; sending = fresh; moment = moment }) then old new
-      answer → recs (history_of sight) ≡ records → sight.own ≡ [] → old ≡ [] →
+  -- the steps, whose last line is the disk's fault where that is the last turn's answer
+  pub record StepsTold (d : Drained kind exact begin then old new answer) : Type 0 where
+    pub steps : Steps kind.tells exact records (length (noted (history_of sight))) (length (noted (history_of then.sight))) moment
+        desk then.desk new answer
+    pub tears : d.answer ≡ Err (send.Store store.DiskFault) → TearsLast steps.going steps.last new answer
+
+  pub drained_steps : (d : Drained kind exact (record { desk = desk; sight = sight; sending = fresh; moment = moment }) then old
+      new answer) → recs (history_of sight) ≡ records → sight.own ≡ [] → old ≡ [] →
       ((n : ℕ) → length sight.items ≤ n → n < length then.sight.items → Contains then.sight.own n) →
       OnOk answer (length (noted (history_of then.sight)) ≡ length (recs (history_of then.sight))) →
-      Steps kind.tells exact records (length (noted (history_of sight))) (length (noted (history_of then.sight))) moment desk
-      then.desk new answer
+      StepsTold d
   drained_steps d records_are none empty mine delivered = record {
-    going = w.steps;
-    last = x.steps;
-    one = x.one;
-    are = are_then exact records st w.steps x.steps w.are x.are;
-    go_on = w.go_on;
-    told = told_so;
-    messages = λ tells. x.messages tells ∙ ap (λ (ms : List Message). ms ++ filter_map message_in x.steps) (w.messages tells) ∙
-        append_assoc desk.ledger.messages (filter_map message_in w.steps) (filter_map message_in x.steps)
-        ∙ ap (λ (ms : List Message). desk.ledger.messages ++ ms) (sym (filter_map-append message_in w.steps x.steps));
-    noted = x.noted_is ∙ ap (λ (s : Standing). s.noted) (sym (steps_then st w.steps x.steps));
-    few = let a = w.counted in let b = w.few in omega (arith, a, b);
-    links = λ below.
-        let split = ap (λ (ls : List Told). count_by is_link ls) (map-append line_in w.steps x.steps) ∙
-        sum_by-append _ (map line_in w.steps) (map line_in x.steps) in
-        let one = link_count d.links d.answer in
-        let same = ap (λ (ls : List Told). count_by is_link ls) x.lines in
-        let so_far = w.counted in
-        let risen = risen_more kind exact records then.sight (length sight.items) mine begin d.scene then d.links d.answer d.turn
-        w.risen below in
-        omega (arith, split, one, same, so_far, risen);
-    ends = elim d.ends [
-      | inl p ↦ by_answer answer p.1 delivered
-      | inr p ↦ subst (λ (a : Result (Unit {0}) DrainFault). EndsBy records (after_steps st w.steps)
-          (count_by is_link (map line_in w.steps)) (length (noted (history_of then.sight))) x.steps a) (sym p.0) tt
-    ];
+    steps = record {
+      going = w.steps;
+      last = x.steps;
+      one = x.one;
+      are = are_then exact records st w.steps x.steps w.are x.are;
+      go_on = w.go_on;
+      told = told_so;
+      messages = λ tells. x.messages tells ∙ ap (λ (ms : List Message). ms ++ filter_map message_in x.steps) (w.messages tells) ∙
+          append_assoc desk.ledger.messages (filter_map message_in w.steps) (filter_map message_in x.steps)
+          ∙ ap (λ (ms : List Message). desk.ledger.messages ++ ms) (sym (filter_map-append message_in w.steps x.steps));
+      noted = x.noted_is ∙ ap (λ (s : Standing). s.noted) (sym (steps_then st w.steps x.steps));
+      few = let a = w.counted in let b = w.few in omega (arith, a, b);
+      links = λ below.
+          let split = ap (λ (ls : List Told). count_by is_link ls) (map-append line_in w.steps x.steps) ∙
+          sum_by-append _ (map line_in w.steps) (map line_in x.steps) in
+          let one = link_count d.links d.answer in
+          let same = ap (λ (ls : List Told). count_by is_link ls) x.lines in
+          let so_far = w.counted in
+          let risen = risen_more kind exact records then.sight (length sight.items) mine begin d.scene then d.links d.answer d.turn
+          w.risen below in
+          omega (arith, split, one, same, so_far, risen);
+      ends = elim d.ends [
+        | inl p ↦ by_answer answer p.1 delivered
+        | inr p ↦ subst (λ (a : Result (Unit {0}) DrainFault). EndsBy records (after_steps st w.steps)
+            (count_by is_link (map line_in w.steps)) (length (noted (history_of then.sight))) x.steps a) (sym p.0) tt
+      ];
+    };
+    tears = λ e. record {
+      line = said_one x.steps told.Disk ((λ at q. absurd cc), (λ q. absurd cc)) (lines_of (Err (send.Store store.DiskFault)) e);
+      printed = elim d.ends [
+        | inl p ↦ inl (answers_fault d.links then.sight d.answer answer p.1 e, told_whole p.0)
+        | inr p ↦ inr (p.0, told_but_last p.1)
+      ];
+    };
   }
     where
       st : Standing
@@ -117,10 +133,16 @@ module _ (kind : AgencyKind) (exact : Bool) (records : List Sealed) (desk : Desk
       lines_are = told_split d.answers d.answer ∙ ap (λ (ls : List Told). ls ++ told_list d.answer) (sym w.lines) ∙
           ap (λ (ls : List Told). map line_in w.steps ++ ls) (sym x.lines) ∙ sym (map-append line_in w.steps x.steps)
 
+      told_whole : new ≡ old ++ filter_map told_in (d.answers ++ d.answer ∷ []) → new ≡ map line_in (w.steps ++ x.steps)
+      told_whole e = e ∙ ap (λ (ls : List Told). ls ++ filter_map told_in (d.answers ++ d.answer ∷ [])) empty ∙ lines_are
+
+      told_but_last : new ≡ old ++ filter_map told_in d.answers → new ≡ map line_in w.steps
+      told_but_last e = e ∙ ap (λ (ls : List Told). ls ++ filter_map told_in d.answers) empty ∙ sym w.lines
+
       told_so : AreTold new w.steps x.steps answer
       told_so = elim d.ends [
-        | inl p ↦ inl (p.0 ∙ ap (λ (ls : List Told). ls ++ filter_map told_in (d.answers ++ d.answer ∷ [])) empty ∙ lines_are)
-        | inr p ↦ inr (p.0, p.1 ∙ ap (λ (ls : List Told). ls ++ filter_map told_in d.answers) empty ∙ sym w.lines)
+        | inl p ↦ inl (told_whole p.0)
+        | inr p ↦ inr (p.0, told_but_last p.1)
       ]
 
       lines_of : (a : Result Turn SendFault) → d.answer ≡ a → map line_in x.steps ≡ told_list a

@@ -1,8 +1,8 @@
 -- Turns of a day's sender, one after another.
 use Rattle.std.proofs.Common.{◌≡◌, ◌⊎◌, inl, inr, ℕ, ◌<◌, ◌≤◌, List, [], ◌∷◌, ◌++◌, refl, sym, ◌∙◌, ap, subst}
-use Rattle.std.proofs.Common.{length, drop, Bool, false, IsTrue, Result, Ok, Err, Some, slice_get, append_assoc}
+use Rattle.std.proofs.Common.{length, drop, Bool, true, false, IsTrue, ◌+◌, Result, Ok, Err, Some, slice_get, append_assoc}
 use Rattle.std.proofs.Common.{append-nil, arith}
-use Rattle.std.specs.Prelude.{Contains, IsErrOf, is_err}
+use Rattle.std.specs.Prelude.{Contains, IsErrOf, OnOk, is_err}
 use Rattle.std.proofs.Math.Seq.{drop-append_seam}
 use Rattle.std.proofs.lemmas.List.Elements.{Contains-append_cases}
 use Rattle.std.proofs.lemmas.Option.{slice_get_within}
@@ -27,6 +27,7 @@ use Rattle.sender.specs.declared.answers.DrainFault.TheVariants as drain
 use Rattle.sender.specs.Agreeing.{Adds, AreNotes, AreNotesOrTorn, HasAt, InSession}
 use Rattle.sender.specs.Agreeing.{KeepsAgreement}
 use Rattle.sender.specs.Draining.{CountsOf, Drained, EndsWith, Scene, Turns, none, more}
+use Rattle.sender.specs.declared.draining.TheConstants.{MAX_LINK_FAULTS}
 use Rattle.sender.specs.Lines.{IsCall}
 use Rattle.sender.specs.Sending.{Sending}
 use Rattle.sender.specs.Turning.{Desk, AgencyKind, Turned, turn_call}
@@ -34,12 +35,12 @@ use Rattle.sender.proofs.Adding.{adds_none, adds_then, has_front}
 use Rattle.sender.proofs.Causes.{turn_later}
 use Rattle.sender.proofs.Growing.{Growth, all_contained, gains_each}
 use Rattle.sender.proofs.Lists.{all_both, all_change}
-use Rattle.verifactu.specs.Beside.{EndsStopped, SendsOn, sending_end}
-use Rattle.verifactu.specs.Draining.{IsDiskAnswer, IsFaultless}
+use Rattle.verifactu.specs.Beside.{AnsweredByDrain, DrainsTo, EndsStopped, FailsAtNotes, IsUndelivered, SendsOn, sending_end}
+use Rattle.verifactu.specs.Draining.{IsDiskAnswer}
 use Rattle.verifactu.proofs.Contrary.{shows_nothing}
 use Rattle.verifactu.proofs.GivingUp.{gives_up_behind}
 use Rattle.verifactu.proofs.Noted.{grown_records, notes_none, notes_then}
-use Rattle.verifactu.proofs.Stops.{ends_stopped, get_seam}
+use Rattle.verifactu.proofs.Stops.{adds_without_fault, answers_fault, ends_stopped, get_seam, is_disk_fault}
 use Rattle.verifactu.proofs.Torn.{tears_none, tears_then}
 
 growth_of : (P : Item → Type 0) (a b : Sight) → Adds P a b → Growth a b
@@ -62,7 +63,7 @@ nothing_more own = ap (λ (xs : List ℕ). drop (length own) xs) (sym (append-ni
 pub sends_none : (kind : AgencyKind) (a : Sight) (k : Desk) (said : Sending) → SendsOn kind a a k k said said (Ok tt)
 sends_none kind a k said = record {
   adds = adds_none AreNotesOrTorn a;
-  notes = λ faultless. adds_none AreNotes a;
+  notes = inl (adds_none AreNotes a);
   stopped = λ disk. absurd disk;
   session = λ keeps in_it gains. record {
     session = in_it;
@@ -83,14 +84,41 @@ sends_none kind a k said = record {
   counts = λ n r is. absurd cc;
   undelivered = λ n r is. absurd cc;
   gives_up = λ tells n r is. absurd cc;
+  gave_up = λ is. absurd (let e = is.2 in cc);
 }
+
+-- a drain behind turns that were before it
+drain_later : (kind : AgencyKind) (k l m : Desk) (answer : Result (Unit {0}) DrainFault) → k.faults ≤ l.faults →
+    AnsweredByDrain kind l m answer → AnsweredByDrain kind k m answer
+drain_later kind k l m answer later by = record {
+  exact = by.exact;
+  before = by.before;
+  after = by.after;
+  drains = by.drains;
+  desk = by.desk;
+  later = (let f = by.later in omega (arith, later, f));
+}
+
+fails_later : (kind : AgencyKind) (k l m : Desk) (answer : Result (Unit {0}) DrainFault) → k.faults ≤ l.faults →
+    FailsAtNotes kind l m answer → FailsAtNotes kind k m answer
+unfolding drain_later
+fails_later kind k l m answer later (inl is) = inl is
+fails_later kind k l m answer later (inr f) = inr (f.0, drain_later kind k l m answer later f.1, f.2)
+
+-- turns that end well failed at no notes
+no_fault : (answer : Result (Unit {0}) DrainFault) (kind : AgencyKind) (k l : Desk) → answer ≡ Ok tt → FailsAtNotes kind k l answer → ⊥
+no_fault answer kind k l well (inl is) = let e = sym well ∙ is in absurd cc
+no_fault answer kind k l well (inr f) = let e = sym well ∙ f.0 in absurd cc
 
 -- after turns that go on, more of them
 pub sends_then : (kind : AgencyKind) (a b c : Sight) (k l m : Desk) (said mid then : Sending) (answer : Result (Unit {0}) DrainFault) →
     SendsOn kind a b k l said mid (Ok tt) → SendsOn kind b c l m mid then answer → SendsOn kind a c k m said then answer
 sends_then kind a b c k l m said mid then answer x y = record {
   adds = adds_then AreNotesOrTorn a b c x.adds y.adds;
-  notes = λ faultless. adds_then AreNotes a b c notes (y.notes faultless);
+  notes = elim y.notes [
+    | inl added ↦ inl (adds_then AreNotes a b c notes added)
+    | inr fails ↦ inr (fails_later kind k l m answer x.later fails)
+  ];
   stopped = y.stopped;
   session = λ keeps in_it gains.
       let each = both gains in
@@ -141,10 +169,11 @@ sends_then kind a b c k l m said mid then answer x y = record {
   undelivered = λ n r is below. (let w = y.undelivered n r is below in let e = x.later in omega (arith, w, e));
   gives_up = λ tells n r is. (let f = x.says tells in
       gives_up_behind k.ledger.messages l.ledger.messages m.ledger.messages f.session f.is (y.gives_up tells n r is));
+  gave_up = λ is. drain_later kind k l m answer x.later (y.gave_up is);
 }
   where
     notes : Adds AreNotes a b
-    notes = x.notes tt
+    notes = elim x.notes [ inl added ↦ added | inr fails ↦ absurd (no_fault (Ok tt) kind k l refl fails) ]
 
     both : GainsOwnNotes a c → GainsOwnNotes a b × GainsOwnNotes b c
     both gains = gains_each a b c (growth_of AreNotesOrTorn a b x.adds) (growth_of AreNotesOrTorn b c y.adds) gains
@@ -164,14 +193,10 @@ sends_then kind a b c k l m said mid then answer x y = record {
     by_part keeps first gains items faults torn is later (inr late) =
         y.torn keeps first gains items faults torn is (subst (λ (ps : List ℕ). Contains ps (length items)) (sym later) late)
 
--- a turn whose answer goes on, or is no fault of the disk, tore no notes
-pub untorn_end : (answer : Result Turn SendFault) → IsFaultless (sending_end answer) → IsErrOf answer (send.Store store.DiskFault)
-    → ⊥
-untorn_end (Ok turn) f is = absurd cc
-untorn_end (Err send.LinkFault) f is = absurd cc
-untorn_end (Err (send.Contradiction evidence)) f is = absurd cc
-untorn_end (Err (send.Store fault)) f is = f
-untorn_end (Err send.NoMemory) f is = f
+-- a turn's note whose fault is the disk's ends the turns so
+pub notes_end : (kind : AgencyKind) (old new : Desk) (answer : Result Turn SendFault) → answer ≡ Err (send.Store store.DiskFault) →
+    FailsAtNotes kind old new (sending_end answer)
+notes_end kind old new answer is = inl (ap sending_end is)
 
 -- a turn that answers a fault of the disk leaves a stop
 pub stopped_end : (kind : AgencyKind) (desk desk_then : Desk) (before after : Sight) (old new : Sending) (now : ℕ)
@@ -230,6 +255,73 @@ drained_counts kind exact start then old new result d n r is = elim d.ends [
   | inl p ↦ (subst (λ (a : Result (Unit {0}) DrainFault). EndsWith d.links then.sight d.answer a) is p.1).2
   | inr p ↦ absurd (let e = sym p.0 ∙ is in cc)
 ]
+
+-- what a drain that ends with this turn answers
+eighth_link : (links : ℕ) (after : Sight) (last : Result Turn SendFault) (result : Result (Unit {0}) DrainFault) →
+    EndsWith links after last result → IsUndelivered result → (last ≡ Err send.LinkFault) × (links + 1 ≡ MAX_LINK_FAULTS)
+eighth_link links after last result e is =
+    let end = subst (λ (a : Result (Unit {0}) DrainFault). EndsWith links after last a) is.2 e in (end.0, end.1)
+
+after_link : (links : ℕ) (after : Sight) (last : Result Turn SendFault) (result : Result (Unit {0}) DrainFault) →
+    EndsWith links after last result → last ≡ Err send.LinkFault → IsUndelivered result
+after_link links after last (Ok done) e is = let g = sym e.1 ∙ is in absurd cc
+after_link links after last (Err (drain.Undelivered n r)) e is = (n, r, refl)
+after_link links after last (Err (drain.Contradiction evidence)) e is = let g = sym e ∙ is in absurd cc
+after_link links after last (Err (drain.Store fault)) e is = let g = sym e ∙ is in absurd cc
+after_link links after last (Err drain.NoMemory) e is = let g = sym e ∙ is in absurd cc
+
+drains_to : (kind : AgencyKind) (exact : Bool) (before after : Scene) (turns : List Told) (answer : Result (Unit {0}) DrainFault) →
+    Drained kind exact before after [] turns answer → DrainsTo kind exact before after answer
+drains_to kind exact before after turns answer d = record {
+  turns = turns;
+  drained = d;
+  eighth = λ is. elim d.ends [
+    | inl p ↦ eighth_link d.links after.sight d.answer answer p.1 is
+    | inr p ↦ absurd (let e = sym p.0 ∙ is.2 in cc)
+  ];
+  gives_up = λ is. elim d.ends [
+    | inl p ↦ inl (after_link d.links after.sight d.answer answer p.1 is)
+    | inr p ↦ inr p.0
+  ];
+}
+
+pub drains_from : (kind : AgencyKind) (exact : Bool) (before after : Scene) (told turns : List Told)
+    (answer : Result (Unit {0}) DrainFault) → told ≡ [] → Drained kind exact before after told turns answer →
+    DrainsTo kind exact before after answer
+drains_from kind exact before after told turns answer untold d = drains_to kind exact before after turns answer
+    (subst (λ (ts : List Told). Drained kind exact before after ts turns answer) untold d)
+
+-- whether the disk failed at the notes of a drain's last turn
+pub drained_notes_or : (kind : AgencyKind) (exact : Bool) (before after : Scene) (old new : Desk)
+    (answer : Result (Unit {0}) DrainFault) → (d : DrainsTo kind exact before after answer) → before.desk ≡ old →
+    after.desk ≡ new → Adds AreNotes before.sight after.sight ⊎ FailsAtNotes kind old new answer
+drained_notes_or kind exact before after old new answer d from to = elim (is_disk_fault d.drained.answer) [
+  | inl is ↦ inr (elim d.drained.ends [
+    | inl p ↦ inl (answers_fault d.drained.links after.sight d.drained.answer answer p.1 is)
+    | inr p ↦ inr (
+      p.0,
+      record {
+        exact = exact;
+        before = before;
+        after = after;
+        drains = d;
+        desk = to;
+        later = (let e = ap (λ (k : Desk). k.faults) from in omega (arith, e));
+      },
+      is,
+    )
+  ])
+  | inr never ↦ inl (adds_without_fault kind exact before after [] d.turns answer d.drained never)
+]
+
+-- what holds anyway holds at Ok, and anything does at a fault
+pub on_ok : {P : Type 0} (answer : Result (Unit {0}) DrainFault) → P → OnOk answer P
+on_ok (Ok done) p = p
+on_ok (Err fault) p = tt
+
+pub on_fault : (P : Type 0) (answer : Result (Unit {0}) DrainFault) → is_err answer ≡ true → OnOk answer P
+on_fault P (Ok done) e = absurd (let x = e in cc)
+on_fault P (Err fault) e = tt
 
 pub no_error : (answer : Result (Unit {0}) DrainFault) → is_err answer ≡ false → answer ≡ Ok tt
 no_error (Ok done) e = refl

@@ -17,12 +17,13 @@ use Rattle.agency_port.specs.declared.answers.Seen.{Seen}
 use Rattle.agency_port.specs.declared.messages.Message.{Message}
 use Rattle.agency_port.specs.declared.messages.Message.TheVariants.{Consulted, Submitted}
 use Rattle.agency_port.specs.declared.turns.Evidence.{Evidence}
+use Rattle.agency_port.specs.declared.turns.Told.{Told}
 use Rattle.shop_core.specs.Prefix.{IsPrefix}
 use Rattle.once_world.specs.Agreement.{Agree}
 use Rattle.once_world.specs.Outbox.{GainsOwnNotes, Sight, history_of}
 use Rattle.sender.specs.Agreeing.{Adds, AgreesIfTorn, AreNotes, AreNotesOrTorn, InSession, IsCareful, KeepsReply, KeepsSession}
 use Rattle.sender.specs.Dark.{AreRunsBy}
-use Rattle.sender.specs.Draining.{CountsOf}
+use Rattle.sender.specs.Draining.{CountsOf, Drained, Scene}
 use Rattle.sender.specs.Evidence.{Shows}
 use Rattle.sender.specs.Lines.{SaysCalls}
 use Rattle.sender.specs.Sending.{Sending}
@@ -36,7 +37,7 @@ use Rattle.sender.specs.declared.draining.TheConstants.{MAX_LINK_FAULTS}
 use Rattle.report.specs.declared.ended.Detail.{Detail}
 use Rattle.report.specs.declared.ended.Detail.TheVariants as detail
 use Rattle.verifactu.specs.Days.{Day, torn_of}
-use Rattle.verifactu.specs.Draining.{AreOfChain, IsDiskAnswer, IsFaultless, SaysNothingBlindly, fault_end}
+use Rattle.verifactu.specs.Draining.{AreOfChain, IsDiskAnswer, SaysNothingBlindly, fault_end}
 use Rattle.verifactu.specs.Noting.{NotesSaid, TornSaid}
 use Rattle.chain_store.specs.Replies.{AllReplied, Replies, is_disk_fault, is_no_memory}
 
@@ -77,6 +78,33 @@ pub record GivesUp (old new : List Message) : Type 0 where
   pub is : new ≡ (old ++ before) ++ (going ++ last ∷ [])
   pub faults : count_by is_link_fault (going ++ last ∷ []) ≡ MAX_LINK_FAULTS
   pub fails : is_link_fault last ≡ true
+
+abbrev pub IsUndelivered : Result (Unit {0}) DrainFault → Type 0
+IsUndelivered answer = (noted_count : ℕ) × (records_count : ℕ) × IsErrOf answer (drain.Undelivered noted_count records_count)
+
+-- A drain from one scene to another, by turns of its own. It gives up exactly where its last turn is answered with a fault of the
+-- link: that is the eighth of its turns which is. Without memory for the line of that turn it says so instead.
+pub record DrainsTo (kind : AgencyKind) (exact : Bool) (before after : Scene) (answer : Result (Unit {0}) DrainFault) : Type 0 where
+  pub turns : List Told
+  pub drained : Drained kind exact before after [] turns answer
+  pub eighth : IsUndelivered answer → (drained.answer ≡ Err send.LinkFault) × (drained.links + 1 ≡ MAX_LINK_FAULTS)
+  pub gives_up : drained.answer ≡ Err send.LinkFault → IsUndelivered answer ⊎ (answer ≡ Err drain.NoMemory)
+
+-- this was answered by a drain that left the agency at this desk, and found it at one no earlier than that
+pub record AnsweredByDrain (kind : AgencyKind) (old new : Desk) (answer : Result (Unit {0}) DrainFault) : Type 0 where
+  pub exact : Bool
+  pub before : Scene
+  pub after : Scene
+  pub drains : DrainsTo kind exact before after answer
+  pub desk : after.desk ≡ new
+  pub later : old.faults ≤ before.desk.faults
+
+-- The disk failed at the sender's own notes. That is the answer; or it was answered to the last turn of a drain, and memory was
+-- wanting for the line of that turn.
+abbrev pub FailsAtNotes : AgencyKind → Desk → Desk → Result (Unit {0}) DrainFault → Type 0
+FailsAtNotes kind old new answer = (answer ≡ Err (drain.Store store.DiskFault))
+    ⊎ ((answer ≡ Err drain.NoMemory) × (by : AnsweredByDrain kind old new answer)
+    × (by.drains.drained.answer ≡ Err (send.Store store.DiskFault)))
 
 -- So many lines and records were counted, some record waited, and only records came since: the history has just these lines, and
 -- no fewer records.
@@ -129,7 +157,7 @@ IsTornSaid after messages torn = (is_record torn ≡ true) ⊎ TornSaid after me
 pub record SendsOn (kind : AgencyKind) (before after : Sight) (old new : Desk) (sending sending_then : Sending)
     (answer : Result (Unit {0}) DrainFault) : Type 0 where
   pub adds : Adds AreNotesOrTorn before after
-  pub notes : IsFaultless answer → Adds AreNotes before after
+  pub notes : Adds AreNotes before after ⊎ FailsAtNotes kind old new answer
   pub stopped : IsDiskAnswer answer → EndsStopped after.items
   pub session : IsTrue kind.keeps_rules → InSession before old.ledger sending.said → GainsOwnNotes before after →
       KeepsSession before after old.ledger new.ledger sending_then.said
@@ -166,6 +194,8 @@ pub record SendsOn (kind : AgencyKind) (before after : Sight) (old new : Desk) (
   -- what was said ends in the messages of the drain that gave up
   pub gives_up : IsTrue kind.tells → (noted_count records_count : ℕ) →
       IsErrOf answer (drain.Undelivered noted_count records_count) → GivesUp old.ledger.messages new.ledger.messages
+  -- and it was the eighth of that drain's turns that is answered with a fault of the link
+  pub gave_up : IsUndelivered answer → AnsweredByDrain kind old new answer
 
 -- with an agency that keeps its rules: it agrees with the history, and with what may be torn, and contradicts itself never
 pub record StaysAgreed (d : Day) : Type 0 where
@@ -203,6 +233,8 @@ pub record SendsBeside (d : Day) : Type 0 where
   -- what was said ends in the messages of the drain that gave up
   pub gives_up : IsTrue d.kind.tells → (noted_count records_count : ℕ) →
       IsErrOf d.answer (drain.Undelivered noted_count records_count) → GivesUp d.opened.ledger.messages d.after.ledger.messages
+  -- and it was the eighth of that drain's turns that is answered with a fault of the link
+  pub gave_up : IsUndelivered d.answer → AnsweredByDrain d.kind d.opened d.after d.answer
 
 -- no session was opened
 pub record IsUnbegun (kind : AgencyKind) (old new : Desk) : Type 0 where

@@ -1,5 +1,5 @@
 -- What a drain leaves of an opened store and of its agency.
-use Rattle.std.specs.Prelude.{◌≡◌, ◌⊎◌, ℕ, ◌+◌, ◌*◌, ◌≤◌, List, [], ◌∷◌, ◌++◌, length}
+use Rattle.std.specs.Prelude.{◌≡◌, ◌⊎◌, ℕ, ◌+◌, ◌*◌, ◌≤◌, List, [], ◌∷◌, ◌++◌, length, map}
 use Rattle.std.specs.Prelude.{zip, Bool, IsTrue, ⊤, IsErrOf, OnOk, Option, Some, None, Result, Ok, Err}
 use Rattle.std.specs.List.{AllByRecursion}
 use Rattle.ports.specs.Causes.{Rose}
@@ -22,6 +22,7 @@ use Rattle.agency_port.specs.Messages.{batches_in}
 use Rattle.agency_port.specs.declared.messages.Message.{Message}
 use Rattle.agency_port.specs.declared.turns.Evidence.{Evidence}
 use Rattle.agency_port.specs.declared.turns.Told.{Told as TurnLine}
+use Rattle.agency_port.specs.declared.turns.Told.TheVariants as told
 use Rattle.once_world.specs.Agreement.{Agree}
 use Rattle.sender.specs.declared.answers.DrainFault.{DrainFault}
 use Rattle.sender.specs.declared.answers.DrainFault.TheVariants as drain
@@ -34,7 +35,7 @@ use Rattle.report.specs.declared.ended.Detail.{Detail}
 use Rattle.report.specs.declared.ended.Detail.TheVariants as detail
 use Rattle.chain_store.specs.Crashes.{Kept, StandsUpTo}
 use Rattle.verifactu.specs.Noting.{NotesSaid, TornSaid}
-use Rattle.verifactu.specs.Steps.{Steps}
+use Rattle.verifactu.specs.Steps.{EndsSaying, Step, Steps, line_in}
 
 -- an entry that notes lines
 abbrev pub AreNotesEntry : Entry → Type 0
@@ -93,11 +94,12 @@ spanning start kind old new exact moment o = record {
   answer = o.answer;
 }
 
--- an answer before which the disk didn't fail
-abbrev pub IsFaultless : Result (Unit {0}) DrainFault → Type 0
-IsFaultless (Err (drain.Store fault)) = ⊥
-IsFaultless (Err drain.NoMemory) = ⊥
-IsFaultless _ = ⊤
+-- The disk failed at the notes of a drain's last step. Its line tells that, and so does the answer; or memory was wanting for the
+-- line, which then isn't told.
+pub record TearsLast (going last : List Step) (turns : List TurnLine) (answer : Result (Unit {0}) DrainFault) : Type 0 where
+  pub line : EndsSaying last told.Disk
+  pub printed : ((answer ≡ Err (drain.Store store.DiskFault)) × (turns ≡ map line_in (going ++ last)))
+      ⊎ ((answer ≡ Err drain.NoMemory) × (turns ≡ map line_in going))
 
 -- the disk failed while notes were added, or had stopped the shop
 abbrev pub IsDiskAnswer : Result (Unit {0}) DrainFault → Type 0
@@ -128,12 +130,13 @@ pub record Sends (d : Span) : Type 0 where
   pub notes : AddsNotesAlone d.start d.end
   pub torn_notes : AllByRecursion AreNotesEntry d.torn
   pub at_most_one : length d.torn ≤ 1
-  pub by_a_fault : IsFaultless d.answer → d.torn ≡ []
   -- at Ok all is noted
   pub all_noted : OnOk d.answer (length (noted d.end) ≡ length (recs d.end))
   -- what it said and noted, turn by turn, and the lines that stand for it
   pub steps : Steps d.kind.tells d.exact (recs d.start) (length (noted d.start)) (length (noted d.end)) d.moment d.old d.new
       d.turns d.answer
+  -- notes are torn only where the last step's line is the disk's fault
+  pub torn_told : (d.torn ≡ []) ⊎ TearsLast steps.going steps.last d.turns d.answer
   -- the lines that were noted are those that its messages say, each message of the first records that waited
   pub lines : IsTrue d.kind.tells → NotesSaid d.start d.end d.old.ledger.messages d.new.ledger.messages d.answer
   pub torn_lines : IsTrue d.kind.tells → AllByRecursion (TornSaid d.end d.new.ledger.messages) d.torn

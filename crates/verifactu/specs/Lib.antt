@@ -10,6 +10,7 @@ pub mod Chain
 pub mod Generated
 pub mod Generate
 pub mod Steps
+pub mod Stopping
 pub mod Noting
 pub mod Draining
 pub mod Outcomes

@@ -1,6 +1,6 @@
 -- What a day makes of a shop: what its tills are told, by the history at its end, and its stop.
 use Rattle.std.specs.Prelude.{◌≡◌, ◌≢◌, ◌≤◌, ℕ, ◌+◌, ◌==◌, Bool, true, false, List, [], ◌∷◌, ◌++◌, filter, drop}
-use Rattle.std.specs.Prelude.{length, slice_get, Contains, OnOk, Option, None, Some, Result, Ok, Err}
+use Rattle.std.specs.Prelude.{count_by, length, slice_get, Contains, OnOk, Option, None, Some, Result, Ok, Err}
 use Rattle.std.specs.List.{AllByRecursion, list_any, range_with_len}
 use Rattle.journal.specs.declared.faults.StoreFault.{StoreFault}
 use Rattle.journal.specs.declared.faults.StoreFault.TheVariants.{DiskFault, Stopped, NoMemory}
@@ -19,10 +19,10 @@ use Rattle.shop_core.specs.declared.answer.Reply.TheVariants.{Taken, Again, Refu
 use Rattle.till_calls.specs.Root.{Parts, Root}
 use Rattle.till_calls.specs.Sound.{IsSound}
 use Rattle.shop_core.specs.Prefix.{IsPrefix}
-use Rattle.verifactu.specs.Beside.{SendsBeside}
+use Rattle.verifactu.specs.Beside.{FailsAtNotes, SendsBeside}
 use Rattle.verifactu.specs.Days.{Day, Stop, TillReplies, all_replies}
 use Rattle.verifactu.specs.Devices.{StoreKind}
-use Rattle.verifactu.specs.Draining.{AreNotesEntry, IsDiskAnswer, IsFaultless}
+use Rattle.verifactu.specs.Draining.{AreNotesEntry, IsDiskAnswer}
 use Rattle.chain_store.specs.Replies.{Replies, AllGoOn}
 
 -- the asks of a till, in line order
@@ -113,14 +113,27 @@ pub record IsCutOffBy (issuer : List ℕ) (coming : ℕ → Option ℕ) (history
   pub reading : IsSomeReading coming seconds
   pub made : answer issuer history ask seconds ≡ Made entry
 
--- Who recorded a day's stop over an entry: a till at its answer to one of its asks; or the sender by its notes, whose answer is a
--- fault of the store or want of memory.
+-- the answer to an ask at whose own record the disk failed
+abbrev pub is_own_fault : Result Reply StoreFault → Bool
+is_own_fault (Err DiskFault) = true
+is_own_fault _ = false
+
+-- how many of a day's asks were answered so
+abbrev pub own_faults : Day → ℕ
+own_faults d = count_by is_own_fault (all_replies d.tills)
+
+-- the disk failed at the notes of a day's sender
+abbrev pub SenderFails : Day → Type 0
+SenderFails d = FailsAtNotes d.kind d.opened d.after d.answer
+
+-- Who recorded a day's stop over an entry: a till at its answer to one of its asks, the only one of all that is answered with a
+-- fault of the disk; or the sender at its notes, and then no ask is.
 pub data RecordedBy (d : Day) (torn : Entry) : Type 0 where
   till : (t : TillReplies) → Contains d.tills t → IsCutOffBy d.issuer d.coming d.end (asks_of t.till d.asks) t.replies torn →
-      RecordedBy d torn
-  sender : AreNotesEntry torn → (IsFaultless d.answer → ⊥) → RecordedBy d torn
+      own_faults d ≡ 1 → RecordedBy d torn
+  sender : AreNotesEntry torn → SenderFails d → own_faults d ≡ 0 → RecordedBy d torn
 
--- The shop has stopped, the disk's count of faults having risen to the stop's. It is told by this count.
+-- The shop has stopped, the disk's count of faults having risen to the stop's. Each till that is told of it is told this count.
 pub record IsStop (d : Day) (faults faults_after : ℕ) (stop : Stop) : Type 0 where
   pub by : RecordedBy d stop.torn
   pub told : AllByRecursion (TellsStop stop.count) (all_replies d.tills)

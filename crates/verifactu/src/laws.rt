@@ -2,6 +2,8 @@
 ghost use Rattle.std.specs.Prelude.{IsTrue};
 ghost use Rattle.chain_disk.specs.OnDisk.{IsImage};
 ghost use Rattle.verifactu.specs.Promise.{DamagedIsNotOwn, ForeignIsNotOwn, IsFoundAgain, StaysOfChain};
+ghost use Rattle.verifactu.specs.Stopping.{FaultsOnce, TearsAtMostOne, TearsByAFault, TearsForTillOrSender, TearsWhereItRose};
+ghost use Rattle.verifactu.specs.Stopping.{TellsOfItsStop};
 
 use agency_port::Agency;
 use chain_disk::Disk;
@@ -36,4 +38,16 @@ pub fn what_a_run_left_is_found_again()
 /// What was handed over as runs of a chain is so of each that it begins: of the one that the next run finds.
 pub fn what_was_handed_over_stays_of_the_chain()
     ensures { StaysOfChain }
+{}
+
+/// What is said of a day's stop comes to this: at most one entry is torn; none without a fault that a till or the sender answered;
+/// one only where the disk's count of faults rose; it is a till's or the sender's; where the shop stopped, a till or the sender was
+/// told; and at most one ask of all tills is answered with a fault of its own record.
+pub fn a_day_stops_once()
+    ensures one { TearsAtMostOne }
+    ensures fault { TearsByAFault }
+    ensures rose { TearsWhereItRose }
+    ensures whose { TearsForTillOrSender }
+    ensures told { TellsOfItsStop }
+    ensures once { FaultsOnce }
 {}

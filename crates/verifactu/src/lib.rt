@@ -29,7 +29,7 @@ pub use day::day_cmd;
 pub use drain::drain_cmd;
 pub use generate::generate_cmd;
 pub use laws::{
-    a_strange_file_is_not_own, what_a_run_left_is_found_again,
+    a_day_stops_once, a_strange_file_is_not_own, what_a_run_left_is_found_again,
     what_was_handed_over_stays_of_the_chain,
 };
 pub use outside::Outside;

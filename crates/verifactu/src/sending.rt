@@ -2,12 +2,13 @@
 ghost use Rattle.std.specs.Prelude.{◌≡◌, ◌≤◌, length, OnOk};
 ghost use Rattle.once_world.specs.Outbox.{Sight, history_of};
 ghost use Rattle.shop_core.specs.History.{noted, recs};
+ghost use Rattle.sender.specs.Draining.{scene_of};
 ghost use Rattle.sender.specs.Sending.{Sending, fresh};
 ghost use Rattle.sender.specs.Turning.{Desk};
 ghost use Rattle.till_calls.specs.Mark.{mark_by, sight_by};
 ghost use Rattle.till_calls.specs.Shop.{seat_knows, seat_shop, shop_id};
 ghost use Rattle.verifactu.specs.Devices.{agency_desk, agency_kind};
-ghost use Rattle.verifactu.specs.Beside.{SendsOn, sending_end};
+ghost use Rattle.verifactu.specs.Beside.{DrainsTo, SendsOn, sending_end};
 
 use crate::means::Means;
 use agency_port::{Agency, Turns};
@@ -153,7 +154,8 @@ pub(crate) fn send_part<D: Disk, C: Clock, G: Agency + Drop, Z: Sleeper + Drop, 
     }
 }
 
-/// Drains with the same sender, unless a fault ended its turns.
+/// Drains with the same sender, unless a fault ended its turns. It answers `Undelivered` exactly at the eighth turn of this drain
+/// that is answered with a fault of the link.
 pub(crate) fn drain_rest<D: Disk, C: Clock, G: Agency + Drop, Z: Sleeper + Drop, T, R: Wait>(
     means: Means<'_, R, T>,
     shop: &Shop<D, C>,
@@ -167,6 +169,10 @@ pub(crate) fn drain_rest<D: Disk, C: Clock, G: Agency + Drop, Z: Sleeper + Drop,
         sent.sender sent.answer →
         SendsOn (agency_kind G.Agency) before (sight_by (seat_knows result.seat)) old (agency_desk G.Agency result.agency)
         sending result.sender result.answer }
+    ensures turns { OnOk sent.answer (DrainsTo (agency_kind G.Agency) Z.tells
+        (scene_of (agency_desk G.Agency sent.agency) (sight_by (seat_knows sent.seat)) sent.sender (Z.moment sent.sleeper))
+        (scene_of (agency_desk G.Agency result.agency) (sight_by (seat_knows result.seat)) result.sender
+        (Z.moment result.sleeper)) result.answer) }
     ensures covers { OnOk result.answer ((seat_knows sent.seat).least ≤ length (seat_knows result.seat).seen) }
     ensures delivered { OnOk result.answer (length (noted (history_of (sight_by (seat_knows result.seat))))
         ≡ length (recs (history_of (sight_by (seat_knows result.seat))))) }

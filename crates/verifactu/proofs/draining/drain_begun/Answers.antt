@@ -1,14 +1,16 @@
-use Rattle.std.proofs.Common.{◌≡◌, ◌∙◌, sym, ap, refl, subst, List, [], length, OnOk, ℕ, ◌+◌, ◌*◌, ◌<◌, ◌≤◌, arith, IsTrue}
+use Rattle.std.proofs.Common.{◌≡◌, ◌∙◌, inl, inr, Err, sym, ap, refl, subst, List, [], length, OnOk, ℕ, ◌+◌, ◌*◌, ◌<◌, ◌≤◌, arith, IsTrue}
 use Rattle.std.specs.Prelude.{Contains}
 use Rattle.agency_port.specs.Messages.{batches_in}
 use Rattle.agency_port.specs.declared.turns.Told.{Told as TurnLine}
 use Rattle.once_world.specs.Agreement.{Agree}
 use Rattle.once_world.specs.Outbox.{Sight, history_of, plain_sight, GainsOwnNotes}
+use Rattle.journal.specs.declared.faults.StoreFault.TheVariants as store
 use Rattle.record_codec.specs.declared.entry.Entry.{Entry}
 use Rattle.sender.specs.Agreeing.{InSession, IsCareful}
 use Rattle.sender.specs.Dark.{AreRunsBy}
 use Rattle.sender.specs.Draining.{Drained, IsBounded, Scene}
 use Rattle.sender.specs.Sending.{Sending, fresh}
+use Rattle.sender.specs.declared.answers.SendFault.TheVariants as send
 use Rattle.shop_core.specs.History.{recs, noted, waiting}
 use Rattle.shop_core.specs.Legal.{Legal}
 use Rattle.shop_core.specs.declared.items.Item.{Item}
@@ -17,13 +19,13 @@ use Rattle.till_calls.specs.Root.{items_in, parts_of}
 use Rattle.till_calls.specs.Seat.{box_knows}
 use Rattle.till_calls.specs.Shop.{first_items, seat_knows, shop_root, tills_know}
 use Rattle.verifactu.specs.Devices.{agency_desk, agency_kind}
-use Rattle.verifactu.specs.Draining.{AreOfChain, Span, StillAgrees, spanning, torn_in}
+use Rattle.verifactu.specs.Draining.{AreOfChain, Span, StillAgrees, TearsLast, spanning, torn_in}
 use Rattle.verifactu.specs.Noting.{NotesSaid}
 use Rattle.verifactu.specs.Steps.{Steps}
 use Rattle.verifactu.proofs.Alone.{Closed, closed_from, gains, mine, all_seen, still_held}
 use Rattle.verifactu.proofs.Agreed.{Stored, agree_new, agreed, agreed_torn, entries_back, notes_alone, same_records, seen_all}
 use Rattle.verifactu.proofs.Agreed.{sight_new, torn_is, torn_one, torn_said}
-use Rattle.verifactu.proofs.Stops.{drained_stopped, is_stopped, is_untorn, untorn_adds}
+use Rattle.verifactu.proofs.Stops.{adds_without_fault, drained_stopped, is_disk_fault, is_stopped, is_untorn}
 use Rattle.verifactu.proofs.Noted.{drained_notes}
 use Rattle.verifactu.proofs.Told.{drained_steps}
 use Rattle.verifactu.proofs.Torn.{drained_tears}
@@ -134,9 +136,14 @@ drained : (g : Over) (c : goal.Joined-sender g) → Drained (span g c).kind (spa
 drained g c = subst (λ (q : Sending). Drained (span g c).kind (span g c).exact (first_scene g c q) (last_scene g c)
     c.new-turns.result c.drain-answer.new.turns c.drain-answer.result) c.new-sender.ensures c.drain-answer.ensures.drained
 
-steps : (g : Over) (c : goal.Joined-sender g) → Steps g.G.Agency.tells g.Z.Sleeper.tells (recs (span g c).start)
-    (length (noted (span g c).start)) (length (noted (span g c).end)) (span g c).moment (span g c).old (span g c).new
-    (span g c).turns (span g c).answer
+-- its steps, and the last one where an entry is torn
+record StepsSo (g : Over) (c : goal.Joined-sender g) (start end : ℕ) : Type 0 where
+  steps : Steps g.G.Agency.tells g.Z.Sleeper.tells (recs (span g c).start) start end (span g c).moment (span g c).old (span g c).new
+      (span g c).turns (span g c).answer
+  tears : (drained g c).answer ≡ Err (send.Store store.DiskFault) →
+      TearsLast steps.going steps.last (span g c).turns (span g c).answer
+
+steps : (g : Over) (c : goal.Joined-sender g) → StepsSo g c (length (noted (span g c).start)) (length (noted (span g c).end))
 steps g c =
     let before = sight_by (box_knows c.seat_box-outbox.result) in
     let after = sight_by (box_knows c.drain-answer.new.outbox) in
@@ -150,12 +157,10 @@ steps g c =
     c.new-turns.result c.drain-answer.new.turns c.drain-answer.result (drained g c)
     (ap recs (begun_at g c)) (ap (λ (x : Sight). x.own) (new_sight g c)) c.new-turns.ensures there
     c.drain-answer.ensures.delivered in
-    subst (λ (es : List Entry). Steps g.G.Agency.tells g.Z.Sleeper.tells (recs (span g c).start) (length (noted es))
-    (length (noted (span g c).end)) (span g c).moment (span g c).old (span g c).new (span g c).turns (span g c).answer)
-    (begun_at g c)
-    (subst (λ (es : List Entry). Steps g.G.Agency.tells g.Z.Sleeper.tells (recs (span g c).start)
-    (length (noted (history_of before))) (length (noted es)) (span g c).moment (span g c).old (span g c).new (span g c).turns
-    (span g c).answer) (seen g c) s)
+    let so : StepsSo g c (length (noted (history_of before))) (length (noted (history_of after))) =
+    record { steps = s.steps; tears = s.tears } in
+    subst (λ (es : List Entry). StepsSo g c (length (noted es)) (length (noted (span g c).end))) (begun_at g c)
+    (subst (λ (es : List Entry). StepsSo g c (length (noted (history_of before))) (length (noted es))) (seen g c) so)
 
 lines : (g : Over) (c : goal.Joined-sender g) → IsTrue g.G.Agency.tells → NotesSaid (span g c).start (span g c).end
     (span g c).old.ledger.messages (span g c).new.ledger.messages (span g c).answer
@@ -179,11 +184,14 @@ returns-clause-sends g c =
       notes = notes.0;
       torn_notes = notes.1;
       at_most_one = torn_one (parts_of c.close.result).stopped (parts_of c.close.result).torn;
-      by_a_fault = λ faultless. is_untorn _ _ _ _ _ _ (closed g c) _ _ _ _ (stored g c) (untorn_adds _ _ _ _ _ _ _ (drained g c)
-          faultless);
       all_noted = subst (λ (es : List Entry). OnOk c.drain-answer.result (length (noted es) ≡ length (recs es))) (seen g c)
           c.drain-answer.ensures.delivered;
-      steps = steps g c;
+      steps = (steps g c).steps;
+      torn_told = elim (is_disk_fault (drained g c).answer) [
+        | inl is ↦ inr ((steps g c).tears is)
+        | inr never ↦ inl (is_untorn _ _ _ _ _ _ (closed g c) _ _ _ _ (stored g c) (adds_without_fault _ _ _ _ _ _ _ (drained g c)
+            never))
+      ];
       lines = lines g c;
       torn_lines = λ tells. torn_said _ _ _ _ _ _ (closed g c) _ _ _ _ (stored g c) (span g c).new.ledger.messages
           (drained_tears _ _ _ _ _ _ _ (drained g c) tells);

@@ -1,6 +1,7 @@
-use Rattle.std.proofs.Common.{◌≤◌, ◌∙◌, length, sym, subst, Result}
+use Rattle.std.proofs.Common.{◌≤◌, ◌∙◌, arith, length, refl, sym, subst, Result}
 use Rattle.std.specs.Prelude.{OnOk}
 use Rattle.chain_lock.specs.Known.{Known}
+use Rattle.sender.specs.Draining.{Scene, scene_of}
 use Rattle.sender.specs.declared.answers.DrainFault.{DrainFault}
 use Rattle.shop_core.specs.declared.items.Item.{Item}
 use Rattle.till_calls.specs.Mark.{sight_by}
@@ -8,15 +9,35 @@ use Rattle.till_calls.specs.Root.{Root}
 use Rattle.till_calls.specs.Seat.{box_knows}
 use Rattle.till_calls.specs.Shop.{seat_knows}
 use Rattle.verifactu.specs.Devices.{agency_desk, agency_kind}
-use Rattle.verifactu.specs.Beside.{SendsOn}
+use Rattle.verifactu.specs.Beside.{DrainsTo, SendsOn}
 use Rattle.verifactu.proofs.Clear.{drained_before}
 use Rattle.verifactu.proofs.Contrary.{drained_answers, drained_shows}
 use Rattle.verifactu.proofs.GivingUp.{drained_gives_up}
 use Rattle.verifactu.proofs.Noted.{drained_notes}
-use Rattle.verifactu.proofs.Stops.{drained_stopped, untorn_adds}
+use Rattle.verifactu.proofs.Stops.{drained_stopped}
 use Rattle.verifactu.proofs.Torn.{drained_tears}
-use Rattle.verifactu.proofs.Turns.{drained_counts, drained_later, no_error, sends_then}
+use Rattle.verifactu.proofs.Turns.{drained_counts, drained_later, drained_notes_or, drains_from, no_error, on_fault, on_ok, sends_then}
 use Rattle.verifactu.proofs.sending.drain_rest.Goals as goal
+
+pub returns-then-is_err-clause-turns : goal.returns-then-is_err-clause-turns
+returns-then-is_err-clause-turns g c = on_fault _ c.args.sent.answer (sym c.is_err.ensures.value ∙ c.if-is_err.true)
+
+pub returns-clause-turns : goal.returns-clause-turns
+returns-clause-turns g c =
+    let kind = agency_kind g.G.Agency in
+    let exact = g.Z.Sleeper.tells in
+    let answer = c.drain-answer.result in
+    let before : Known Item (Root g.row.C.Denot) → Scene = λ k. scene_of (agency_desk g.G.Agency c.args.sent.agency) (sight_by k)
+    c.args.sent.sender (g.Z.Sleeper.moment c.args.sent.sleeper) in
+    let after : Known Item (Root g.row.C.Denot) → Scene = λ k. scene_of (agency_desk g.G.Agency c.drain-answer.new.agency)
+    (sight_by k) c.drain-answer.new.self (g.Z.Sleeper.moment c.drain-answer.new.sleeper) in
+    let drains : DrainsTo kind exact (before (box_knows c.seat_box-outbox.result)) (after (box_knows c.drain-answer.new.outbox))
+    answer = drains_from _ _ _ _ _ _ _ c.new-turns.ensures c.drain-answer.ensures.drained in
+    on_ok c.args.sent.answer
+    (subst (λ (k : Known Item (Root g.row.C.Denot)). DrainsTo kind exact (before k) (after (seat_knows c.into_seat.result)) answer)
+    c.seat_box-outbox.ensures.knows
+    (subst (λ (k : Known Item (Root g.row.C.Denot)). DrainsTo kind exact (before (box_knows c.seat_box-outbox.result)) (after k)
+    answer) (sym c.into_seat.ensures.knows) drains))
 
 pub returns-clause-sends : goal.returns-clause-sends
 returns-clause-sends g c = λ before desk sending x.
@@ -27,9 +48,12 @@ returns-clause-sends g c = λ before desk sending x.
     let a = sight_by (box_knows c.seat_box-outbox.result) in
     let b = sight_by (box_knows c.drain-answer.new.outbox) in
     let e = c.drain-answer.ensures in
+    let first : Scene = scene_of mid a c.args.sent.sender (g.Z.Sleeper.moment c.args.sent.sleeper) in
+    let last : Scene = scene_of new b c.drain-answer.new.self (g.Z.Sleeper.moment c.drain-answer.new.sleeper) in
+    let drains : DrainsTo kind g.Z.Sleeper.tells first last answer = drains_from _ _ _ _ _ _ _ c.new-turns.ensures e.drained in
     let drained : SendsOn kind a b mid new c.args.sent.sender c.drain-answer.new.self answer = record {
       adds = e.adds;
-      notes = untorn_adds _ _ _ _ _ _ _ e.drained;
+      notes = drained_notes_or kind g.Z.Sleeper.tells first last mid new answer drains refl refl;
       stopped = drained_stopped _ _ _ _ _ _ _ e.drained;
       session = e.agreement;
       no_contradiction = e.no_contradiction;
@@ -47,6 +71,14 @@ returns-clause-sends g c = λ before desk sending x.
       counts = drained_counts _ _ _ _ _ _ _ e.drained;
       undelivered = e.undelivered;
       gives_up = drained_gives_up _ _ _ _ _ _ _ e.drained;
+      gave_up = λ is. record {
+        exact = g.Z.Sleeper.tells;
+        before = first;
+        after = last;
+        drains = drains;
+        desk = refl;
+        later = omega arith;
+      };
     } in
     let into : SendsOn kind (sight_by (seat_knows c.args.sent.seat)) (sight_by (seat_knows c.into_seat.result)) mid new
     c.args.sent.sender c.drain-answer.new.self answer =
@@ -54,10 +86,10 @@ returns-clause-sends g c = λ before desk sending x.
     c.args.sent.sender c.drain-answer.new.self answer) c.seat_box-outbox.ensures.knows
     (subst (λ (k : Known Item (Root g.row.C.Denot)). SendsOn kind a (sight_by k) mid new c.args.sent.sender
     c.drain-answer.new.self answer) (sym c.into_seat.ensures.knows) drained) in
-    let first = subst (λ (r : Result (Unit {0}) DrainFault). SendsOn kind before (sight_by (seat_knows c.args.sent.seat)) desk mid
+    let beside = subst (λ (r : Result (Unit {0}) DrainFault). SendsOn kind before (sight_by (seat_knows c.args.sent.seat)) desk mid
     sending c.args.sent.sender r) (no_error c.args.sent.answer (sym c.is_err.ensures.value ∙ c.if-is_err.false)) x in
     sends_then kind before (sight_by (seat_knows c.args.sent.seat)) (sight_by (seat_knows c.into_seat.result)) desk mid new
-    sending c.args.sent.sender c.drain-answer.new.self answer first into
+    sending c.args.sent.sender c.drain-answer.new.self answer beside into
 
 pub returns-clause-covers : goal.returns-clause-covers
 returns-clause-covers g c =

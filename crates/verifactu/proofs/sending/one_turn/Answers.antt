@@ -1,12 +1,13 @@
-use Rattle.std.proofs.Common.{sym, subst, Result}
+use Rattle.std.proofs.Common.{inl, inr, sym, subst, Result}
 use Rattle.sender.specs.declared.answers.DrainFault.{DrainFault}
 use Rattle.verifactu.specs.Devices.{agency_desk, agency_kind}
 use Rattle.verifactu.specs.Beside.{SendsOn}
 use Rattle.verifactu.proofs.Clear.{turn_before}
 use Rattle.verifactu.proofs.Contrary.{turn_answers, turn_shows}
 use Rattle.verifactu.proofs.Noting.{turn_notes}
+use Rattle.verifactu.proofs.Stops.{is_disk_fault}
 use Rattle.verifactu.proofs.Torn.{turn_tears}
-use Rattle.verifactu.proofs.Turns.{never_end, never_gives_up, stopped_end, untorn_end}
+use Rattle.verifactu.proofs.Turns.{never_end, never_gives_up, notes_end, stopped_end}
 use Rattle.verifactu.proofs.sending.one_turn.Goals as goal
 
 pub returns-clause-fixed : goal.returns-clause-fixed
@@ -24,7 +25,10 @@ returns-clause-sends g c =
     subst (λ (r : Result (Unit {0}) DrainFault). SendsOn kind before after old new c.args.sender.now c.turn-answer.new.self r)
     (sym c.going_on.ensures) (record {
       adds = e.above.adds;
-      notes = λ faultless. e.above.notes (untorn_end answer faultless);
+      notes = elim (is_disk_fault answer) [
+        | inl is ↦ inr (notes_end kind old new answer is)
+        | inr never ↦ inl (e.above.notes never)
+      ];
       stopped = stopped_end kind old new before after c.args.sender.now c.turn-answer.new.self c.now-now.result answer e.turned;
       session = λ keeps in_it gains. let k = e.agreement.keeps keeps in_it gains in record { session = k.session; begins = k.begins };
       no_contradiction = λ keeps in_it gains. never_end answer before after old new c.turn-answer.new.self
@@ -43,4 +47,5 @@ returns-clause-sends g c =
       counts = λ n r is. absurd (never_gives_up answer n r is);
       undelivered = λ n r is. absurd (never_gives_up answer n r is);
       gives_up = λ tells n r is. absurd (never_gives_up answer n r is);
+      gave_up = λ is. absurd (never_gives_up answer is.0 is.1 is.2);
     })
