@@ -1,5 +1,5 @@
 -- What a run leaves, said since its file was opened.
-use Rattle.std.proofs.Common.{◌≡◌, inl, inr, ℕ, List, [], ◌++◌, append_assoc, sym, ◌∙◌, ap, Result}
+use Rattle.std.proofs.Common.{inl, inr, ℕ, List, [], ◌++◌, append_assoc, sym, ◌∙◌, ap, Result}
 use Rattle.std.proofs.lemmas.List.{append-nil}
 use Rattle.chain_disk.specs.OnDisk.{OnDisk, LeavesOnly}
 use Rattle.chain_disk.specs.Runs.{follows}
