@@ -1,17 +1,15 @@
 -- What follows from what is said of a day's stop.
-use Rattle.std.proofs.Common.{◌≡◌, ◌⊎◌, inl, inr, ℕ, zero, suc, ◌<◌, ◌≤◌, Bool, true, false, List, [], ◌∷◌, ◌++◌, length, Option, Some}
-use Rattle.std.proofs.Common.{None, Result, Ok, Err, refl, sym, ap, ◌∙◌, arith, cond, ◌+◌}
-use Rattle.std.specs.Prelude.{Contains}
+use Rattle.std.proofs.Common.{◌≡◌, ◌⊎◌, inl, inr, ◌≤◌, true, [], ◌∷◌, Option, Some}
+use Rattle.std.proofs.Common.{None, Result, Ok, Err, refl, arith, cond}
 use Rattle.std.specs.List.{AllByRecursion, count_by, list_any}
 use Rattle.std.proofs.lemmas.List.Sums.{sum_by-cons}
-use Rattle.ports.specs.Causes.{Rose}
 use Rattle.journal.specs.declared.faults.StoreFault.{StoreFault}
 use Rattle.journal.specs.declared.faults.StoreFault.TheVariants.{DiskFault, Stopped, NoMemory}
 use Rattle.record_codec.specs.declared.entry.Entry.{Entry}
 use Rattle.shop_core.specs.declared.answer.Reply.{Reply}
-use Rattle.verifactu.specs.Days.{Day, Stop, TillReplies, all_replies, torn_of}
+use Rattle.verifactu.specs.Days.{Stop, TillReplies, all_replies, torn_of}
 use Rattle.verifactu.specs.Draining.{AreNotesEntry}
-use Rattle.verifactu.specs.Replies.{AllGoOn, Replies, is_disk_fault}
+use Rattle.chain_store.specs.Replies.{AllGoOn, Replies, is_disk_fault}
 use Rattle.verifactu.specs.Stopping.{FaultsOnce, IsOfTill, TearsAtMostOne, TearsByAFault, TearsForTillOrSender, TearsWhereItRose}
 use Rattle.verifactu.specs.Stopping.{TellsOfItsStop}
 use Rattle.verifactu.specs.Tills.{RecordedBy, SenderFails, StopIs, is_own_fault, own_faults}

@@ -1,11 +1,11 @@
 -- What follows from what is said of a day's stop, whatever the day.
-use Rattle.std.specs.Prelude.{◌≡◌, ◌⊎◌, ◌≤◌, ℕ, true, [], length, Contains, Option, None, Some}
+use Rattle.std.specs.Prelude.{◌≡◌, ◌⊎◌, ◌≤◌, ℕ, true, [], length, Contains, None}
 use Rattle.std.specs.List.{AllByRecursion, list_any}
 use Rattle.ports.specs.Causes.{Rose}
 use Rattle.record_codec.specs.declared.entry.Entry.{Entry}
 use Rattle.verifactu.specs.Days.{Day, TillReplies, all_replies, torn_of}
 use Rattle.verifactu.specs.Draining.{AreNotesEntry}
-use Rattle.verifactu.specs.Replies.{AllGoOn, is_disk_fault}
+use Rattle.chain_store.specs.Replies.{AllGoOn, is_disk_fault}
 use Rattle.verifactu.specs.Tills.{IsCutOffBy, SenderFails, StopIs, asks_of, own_faults}
 
 -- at most one entry is torn

@@ -5,6 +5,7 @@
 
 mod beside;
 mod chain;
+mod command_line;
 mod day;
 mod drain;
 mod draining;
@@ -22,7 +23,6 @@ mod scripts;
 mod sending;
 mod serving;
 mod tills;
-mod command_line;
 
 pub use chain::chain_cmd;
 pub use day::day_cmd;

@@ -11,13 +11,13 @@ ghost use Rattle.verifactu.specs.Running.{CommandEnds, EndsAs};
 ghost use Rattle.verifactu.specs.CommandLine.{IsWithin};
 
 use crate::chain::chain_cmd;
+use crate::command_line::{Command, command_of};
 use crate::day::day_cmd;
 use crate::drain::drain_cmd;
 use crate::generate::generate_cmd;
 use crate::help::{help_text, version_text};
 use crate::laws::who_keeps_the_rules_tells;
 use crate::outside::Outside;
-use crate::command_line::{Command, command_of};
 use agency_port::Agency;
 use chain_disk::Disk;
 use file_commands::{audit_cmd, check_cmd, link_cmd, print};
