@@ -2,3 +2,4 @@ pub mod Bytewise
 pub mod Lasts
 pub mod FileReads
 mod Cutting
+mod Generating

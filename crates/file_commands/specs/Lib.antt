@@ -4,3 +4,5 @@ pub mod Lines
 pub mod Auditing
 pub mod Linking
 pub mod Checking
+pub mod Generated
+pub mod Generate

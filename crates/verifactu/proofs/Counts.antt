@@ -7,7 +7,7 @@ use Rattle.amounts.proofs.TextLemmas.{whole_text-decimal}
 use Rattle.amounts.specs.Text.{whole_text}
 use Rattle.amounts.specs.declared.whole.TheConstants.{WHOLE_LIMIT}
 use Rattle.verifactu.specs.CommandLine.{IsCountOf}
-use Rattle.verifactu.specs.declared.generated.TheConstants.{MOST}
+use Rattle.file_commands.specs.declared.generated.TheConstants.{MOST}
 
 -- the number that was read is the one that the word says
 pub count_is : (word : List ℕ) (n m : ℕ) → n ≡ min (digits_value 10 word) WHOLE_LIMIT → IsCountOf word m → n ≡ m

@@ -3,7 +3,6 @@ pub mod CommandLine
 pub mod Counts
 pub mod Finishing
 pub mod RunEnding
-pub mod Generating
 pub mod Alone
 pub mod Agreed
 pub mod Starting

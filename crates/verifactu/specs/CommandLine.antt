@@ -8,7 +8,7 @@ use Rattle.verify_link.specs.declared.parts.Host.TheVariants.{Real, Practice}
 use Rattle.link_check.specs.declared.all.TheConstants.{MAX_WORKERS}
 use Rattle.verifactu.specs.declared.command_line.Command.{Command}
 use Rattle.verifactu.specs.declared.command_line.Command.TheVariants.{Chain, Day, Drain, Audit, Link, Check, Generate, Help, Version}
-use Rattle.verifactu.specs.declared.generated.TheConstants.{MOST}
+use Rattle.file_commands.specs.declared.generated.TheConstants.{MOST}
 
 -- `chain FILE NIF`: a file's name, which isn't empty, and a tax number
 pub record IsChain (words : List (List ℕ)) (issuer : List ℕ) : Type 0 where

@@ -7,8 +7,6 @@ pub mod Ending
 pub mod Scripts
 pub mod Opening
 pub mod Chain
-pub mod Generated
-pub mod Generate
 pub mod Steps
 pub mod Stopping
 pub mod Noting

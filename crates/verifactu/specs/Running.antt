@@ -13,7 +13,7 @@ use Rattle.verifactu.specs.Chain.{ChainEnds}
 use Rattle.verifactu.specs.Day.{DayEnds}
 use Rattle.verifactu.specs.Devices.{AllDevices, NobodyCalled, OnlyPrints, OnlyReads, OnlyReadsFile}
 use Rattle.verifactu.specs.Drain.{DrainEnds}
-use Rattle.verifactu.specs.Generate.{GenerateEnds}
+use Rattle.file_commands.specs.Generate.{GenerateEnds}
 use Rattle.verifactu.specs.Help.{help_text, version_text}
 use Rattle.verifactu.specs.CommandLine.{IsAskedFor}
 use Rattle.verifactu.specs.declared.command_line.Command.{Command}

@@ -2,8 +2,8 @@
 ghost use Rattle.std.specs.Prelude.{◌≡◌, ◌<◌, ◌∷◌, [], map, string_bytes, bytes_eq, codes, false, length};
 ghost use Rattle.verifactu.specs.CommandLine.{IsAskedFor, IsCount, IsHost, IsWorkers};
 
-use crate::generated::MOST;
 use amounts::read_whole;
+use file_commands::MOST;
 use link_check::MAX_WORKERS;
 use parties::Nif;
 use series::NumSerie;

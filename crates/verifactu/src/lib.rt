@@ -10,8 +10,6 @@ mod day;
 mod drain;
 mod draining;
 mod ending;
-mod generate;
-mod generated;
 mod help;
 mod laws;
 mod means;
@@ -27,7 +25,7 @@ mod tills;
 pub use chain::chain_cmd;
 pub use day::day_cmd;
 pub use drain::drain_cmd;
-pub use generate::generate_cmd;
+pub use file_commands::generate_cmd;
 pub use laws::{
     a_day_stops_once, a_strange_file_is_not_own, what_a_run_left_is_found_again,
     what_was_handed_over_stays_of_the_chain,

@@ -1,8 +1,8 @@
 use Rattle.std.proofs.Common.{◌+◌, List, subst, sym}
 use Rattle.shop_core.specs.Answer.Requests.{Asked}
-use Rattle.verifactu.specs.Generated.{AreCommands}
-use Rattle.verifactu.proofs.Generating.{commands_more}
-use Rattle.verifactu.proofs.generated.commands.Goals as goal
+use Rattle.file_commands.specs.Generated.{AreCommands}
+use Rattle.file_commands.proofs.Generating.{commands_more}
+use Rattle.file_commands.proofs.generated.commands.Goals as goal
 
 pub loop-i-preserved : goal.loop-i-preserved
 loop-i-preserved c =

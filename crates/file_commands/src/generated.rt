@@ -1,8 +1,8 @@
 // The commands of the generator, which are this project's own.
 ghost use Rattle.std.specs.Prelude.{◌≡◌, ◌≤◌, IfOk, codes};
 ghost use Rattle.std.specs.Int.{IsInRange};
-ghost use Rattle.verifactu.specs.Generated as spec;
-ghost use Rattle.verifactu.specs.declared.generated.TheConstants.{MOST};
+ghost use Rattle.file_commands.specs.Generated as spec;
+ghost use Rattle.file_commands.specs.declared.generated.TheConstants.{MOST};
 
 use amounts::Cents;
 use invoice_kinds::Kind;

@@ -3,11 +3,11 @@ use Rattle.chain_store.specs.Store.{clock_of, state_of}
 use Rattle.ports.specs.Counting.{counting}
 use Rattle.shop_core.specs.Answer.Requests.{Asked}
 use Rattle.shop_core.specs.History.{History}
-use Rattle.verifactu.specs.Generate.{Generated}
-use Rattle.verifactu.specs.Generated.{AreCommands}
+use Rattle.file_commands.specs.Generate.{Generated}
+use Rattle.file_commands.specs.Generated.{AreCommands}
 use Rattle.chain_store.specs.Replies.{Replies, AllReplied}
-use Rattle.verifactu.proofs.Generating.{ran}
-use Rattle.verifactu.proofs.generate.generated.Goals as goal
+use Rattle.file_commands.proofs.Generating.{ran}
+use Rattle.file_commands.proofs.generate.generated.Goals as goal
 
 pub returns : goal.returns
 returns c =

@@ -9,10 +9,10 @@ use Rattle.report.specs.Summary.{summary_text}
 use Rattle.report.specs.declared.ended.Detail.{Detail}
 use Rattle.report.specs.declared.ended.Detail.TheVariants as detail
 use Rattle.file_commands.specs.Output.{PrintEnds}
-use Rattle.verifactu.specs.Generated.{AreCommands}
+use Rattle.file_commands.specs.Generated.{AreCommands}
 use Rattle.chain_store.specs.Readings.{IsComing}
 use Rattle.chain_store.specs.Replies.{Replies, AllReplied}
-use Rattle.verifactu.specs.declared.generate.TheConstants.{START, STEP}
+use Rattle.file_commands.specs.declared.generate.TheConstants.{START, STEP}
 
 -- the issuer of the generated chain
 abbrev pub issuer : List ℕ

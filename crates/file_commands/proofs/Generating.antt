@@ -1,6 +1,10 @@
 -- One command more of the generator, and the run of its commands from an empty file.
 use Rattle.std.proofs.Common.{◌≡◌, ◌⊎◌, inl, inr, ℕ, zero, suc, ◌+◌, ◌<◌, List, [], ◌∷◌, ◌++◌, length, length-append, refl, ◌∙◌}
-use Rattle.std.proofs.Common.{ap, subst, arith, Option, Some, Err, slice_get}
+use Rattle.std.proofs.Common.{ap, subst, sym, arith, Option, Some, None, Err, IsTrue, true, slice_get}
+use Rattle.chain_disk.specs.OnDisk.{OnDisk}
+use Rattle.chain_store.specs.Ready.{IsReady}
+use Rattle.journal.specs.File.{IsAt}
+use Rattle.shop_core.specs.History.{History}
 use Rattle.std.proofs.Math.Path.{fun_ext}
 use Rattle.parties.specs.Nif.{person_letter}
 use Rattle.parties.specs.NifReading.{IsNifReading}
@@ -10,11 +14,11 @@ use Rattle.ports.specs.Counting.{counting}
 use Rattle.record_codec.specs.declared.entry.Entry.{Entry}
 use Rattle.shop_core.specs.Answer.Requests.{Asked}
 use Rattle.shop_core.specs.Answer.Replies.{ChainRun}
-use Rattle.verifactu.specs.Generate.{Generated, issuer}
-use Rattle.verifactu.specs.Generated.{AreCommands, command}
+use Rattle.file_commands.specs.Generate.{Generated, issuer}
+use Rattle.file_commands.specs.Generated.{AreCommands, command}
 use Rattle.chain_store.specs.Readings.{IsComing}
 use Rattle.chain_store.specs.Replies.{Replies, AllReplied}
-use Rattle.verifactu.specs.declared.generate.TheConstants.{START, STEP}
+use Rattle.file_commands.specs.declared.generate.TheConstants.{START, STEP}
 
 at_end : (xs : List Asked) (x : Asked) → slice_get (xs ++ x ∷ []) (length xs) ≡ Some x
 at_end [] x = refl
@@ -60,3 +64,13 @@ ran n asks replies start entries own coming are whose nothing told run replied =
           nothing of_issuer;
       replied = replied;
     }
+
+-- of a file that was begun, whose disk tells what it holds
+pub ready_empty : (own : List ℕ) (history : History) (stopped : Option ℕ) (gate : ℕ) (t : OnDisk) →
+    history ≡ record { issuer = own; entries = []; room = None } →
+    gate ≡ 19 → (IsTrue true → IsAt own [] gate t) → IsReady true history stopped gate t
+ready_empty own history stopped gate t made at file = subst (λ (h : History). IsReady true h stopped gate t) (sym made)
+    (record {
+      place = omega (arith, at);
+      holds = λ going told. record { file = file told; encoded = tt };
+    })

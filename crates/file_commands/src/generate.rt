@@ -6,21 +6,20 @@ ghost use Rattle.chain_disk.specs.MemDisk.{told_of};
 ghost use Rattle.journal.specs.Journal.{stopped_of};
 ghost use Rattle.chain_store.specs.Store.{Ready, clock_of, journal_of, state_of};
 ghost use Rattle.report.specs.Ended.{status_of};
-ghost use Rattle.verifactu.specs.Generate.{GenerateEnds, Generated, IsSummary};
-ghost use Rattle.verifactu.specs.Generate as spec;
+ghost use Rattle.file_commands.specs.Generate.{GenerateEnds, Generated, IsSummary};
+ghost use Rattle.file_commands.specs.Generate as spec;
 ghost use Rattle.chain_store.specs.Replies.{AllReplied};
-ghost use Rattle.verifactu.specs.declared.generate.TheConstants.{START, STEP};
-ghost use Rattle.verifactu.specs.declared.generated.TheConstants.{MOST};
+ghost use Rattle.file_commands.specs.declared.generate.TheConstants.{START, STEP};
+ghost use Rattle.file_commands.specs.declared.generated.TheConstants.{MOST};
 
 use crate::generated::{MOST, commands};
+use crate::output::print;
 use chain_disk::MemDisk;
 use chain_store::{Store, run_commands};
-use file_commands::print;
-use journal::{StoreFault, a_file_not_begun_is_no_chain};
+use journal::{Journal, StoreFault};
 use parties::Nif;
 use ports::{Clock, CountingClock, NoMemory, Sink};
 use record_fields::Text;
-use recovery::open_store;
 use report::{Detail, Ended, summary_text};
 use shop_core::{Reply, State};
 use std::alloc::Global;
@@ -49,11 +48,12 @@ fn begun(alloc: Global) -> Result<Store<MemDisk, CountingClock>, NoMemory>
     ensures clock { IfOk result (λ store. (k : ℕ) →
         ⟦<CountingClock as Clock>⟧.coming (clock_of store) k ≡ Some (counting START STEP k)) }
 {
-    a_file_not_begun_is_no_chain();
+    let issuer = issuer();
     let disk = MemDisk::new(alloc, Vec::new(alloc), Vec::new(alloc));
     let clock = CountingClock::new(START, STEP);
-    match open_store(alloc, disk, clock, &issuer()) {
-        Ok(store) => Ok(store),
+    let state = State::empty(alloc, &issuer);
+    match Journal::create(disk, &issuer) {
+        Ok(journal) => Ok(Store::of(state, journal, clock)),
         Err(_) => Err(NoMemory),
     }
 }

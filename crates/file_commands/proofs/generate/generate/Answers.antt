@@ -3,8 +3,8 @@ use Rattle.file_commands.proofs.Bytewise.{took_nothing}
 use Rattle.file_commands.specs.Output.{PrintEnds}
 use Rattle.ports.specs.Sinks.{this_sink}
 use Rattle.report.specs.declared.ended.Detail.TheVariants as detail
-use Rattle.verifactu.specs.Generate.GenerateEnds.{ran, no_memory}
-use Rattle.verifactu.proofs.generate.generate.Goals as goal
+use Rattle.file_commands.specs.Generate.GenerateEnds.{ran, no_memory}
+use Rattle.file_commands.proofs.generate.generate.Goals as goal
 
 pub returns-in-Ok : goal.returns-in-Ok
 returns-in-Ok g c =

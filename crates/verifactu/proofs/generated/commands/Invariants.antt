@@ -1,5 +1,0 @@
-use Rattle.verifactu.specs.Generated.{AreCommands}
-use Rattle.verifactu.proofs.generated.commands.Given as goal
-
-abbrev pub invariant-loop-i : goal.invariant-loop-i
-invariant-loop-i l = AreCommands l.i l.asks.items
