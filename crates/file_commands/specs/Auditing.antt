@@ -6,8 +6,8 @@ use Rattle.shop_core.specs.declared.file.audits.AuditEnd.{AuditEnd}
 use Rattle.shop_core.specs.declared.file.audits.AuditEnd.TheVariants.{Sound, Broken}
 use Rattle.audit.specs.Auditing.{IsVerdict}
 use Rattle.report.specs.Verdicts.{verdict_text}
-use Rattle.report.specs.declared.ended.Detail.{Detail}
-use Rattle.report.specs.declared.ended.Detail.TheVariants as detail
+use Rattle.report.specs.declared.status.Detail.{Detail}
+use Rattle.report.specs.declared.status.Detail.TheVariants as detail
 use Rattle.file_commands.specs.Output.{PrintEnds}
 
 -- this is the verdict on the file

@@ -9,8 +9,8 @@ use Rattle.link_check.specs.Checking.{Chain, AreChecked}
 use Rattle.link_check.specs.Checking.Chain.{not_begun, begun}
 use Rattle.link_check.specs.Texts.{checks_text}
 use Rattle.link_check.specs.declared.checked.Checked.{Checked}
-use Rattle.report.specs.declared.ended.Detail.{Detail}
-use Rattle.report.specs.declared.ended.Detail.TheVariants as detail
+use Rattle.report.specs.declared.status.Detail.{Detail}
+use Rattle.report.specs.declared.status.Detail.TheVariants as detail
 use Rattle.file_commands.specs.Input.{ReadAll, ReadFailed, ReadPast}
 use Rattle.file_commands.specs.Lines.{lines_of}
 use Rattle.file_commands.specs.Output.{PrintEnds}

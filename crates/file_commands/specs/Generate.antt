@@ -6,8 +6,8 @@ use Rattle.record_codec.specs.declared.entry.Entry.{Entry}
 use Rattle.shop_core.specs.Answer.Requests.{Asked}
 use Rattle.shop_core.specs.Answer.Replies.{ChainRun}
 use Rattle.report.specs.Summary.{summary_text}
-use Rattle.report.specs.declared.ended.Detail.{Detail}
-use Rattle.report.specs.declared.ended.Detail.TheVariants as detail
+use Rattle.report.specs.declared.status.Detail.{Detail}
+use Rattle.report.specs.declared.status.Detail.TheVariants as detail
 use Rattle.file_commands.specs.Output.{PrintEnds}
 use Rattle.file_commands.specs.Generated.{AreCommands}
 use Rattle.chain_store.specs.Readings.{IsComing}

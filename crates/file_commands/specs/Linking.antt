@@ -11,8 +11,8 @@ use Rattle.shop_core.specs.Standing.{last_alta}
 use Rattle.shop_core.specs.File.Files.{StandsFor, IsDamagedFile}
 use Rattle.verify_link.specs.Parts.{link_text, parts_of}
 use Rattle.verify_link.specs.declared.parts.Host.{Host}
-use Rattle.report.specs.declared.ended.Detail.{Detail}
-use Rattle.report.specs.declared.ended.Detail.TheVariants as detail
+use Rattle.report.specs.declared.status.Detail.{Detail}
+use Rattle.report.specs.declared.status.Detail.TheVariants as detail
 use Rattle.file_commands.specs.Output.{PrintEnds}
 
 -- the file isn't begun, and then the history is empty; or it stands for this history

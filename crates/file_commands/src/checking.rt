@@ -4,7 +4,7 @@ ghost use Rattle.std.specs.Int.{IsInRange};
 ghost use Rattle.chain_disk.specs.Disks.{this_disk};
 ghost use Rattle.ports.specs.Sinks.{this_sink};
 ghost use Rattle.ports.specs.Sources.{this_source};
-ghost use Rattle.report.specs.Ended.{status_of};
+ghost use Rattle.report.specs.Status.{status_of};
 ghost use Rattle.link_check.specs.Checking.Chain.{begun, not_begun};
 ghost use Rattle.link_check.specs.declared.all.TheConstants.{MAX_WORKERS};
 ghost use Rattle.file_commands.specs.Checking.{AnswersFrom, AnswersPrinted, AreTold, CheckEnds};

@@ -5,7 +5,7 @@ ghost use Rattle.ports.specs.Sinks.{this_sink};
 ghost use Rattle.chain_disk.specs.MemDisk.{told_of};
 ghost use Rattle.journal.specs.Journal.{stopped_of};
 ghost use Rattle.chain_store.specs.Store.{Ready, clock_of, journal_of, state_of};
-ghost use Rattle.report.specs.Ended.{status_of};
+ghost use Rattle.report.specs.Status.{status_of};
 ghost use Rattle.file_commands.specs.Generate.{GenerateEnds, Generated, IsSummary};
 ghost use Rattle.file_commands.specs.Generate as spec;
 ghost use Rattle.chain_store.specs.Replies.{AllReplied};

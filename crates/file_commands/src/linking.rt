@@ -2,7 +2,7 @@
 ghost use Rattle.std.specs.Prelude.{◌≡◌};
 ghost use Rattle.chain_disk.specs.Disks.{this_disk};
 ghost use Rattle.ports.specs.Sinks.{this_sink};
-ghost use Rattle.report.specs.Ended.{status_of};
+ghost use Rattle.report.specs.Status.{status_of};
 ghost use Rattle.file_commands.specs.Linking.{LinkEnds, LinkedFrom};
 
 use crate::output::print_line;

@@ -6,8 +6,8 @@ use Rattle.shop_core.specs.declared.words.Word.{Word}
 use Rattle.shop_core.specs.declared.words.Word.TheVariants as word
 use Rattle.shop_core.specs.declared.file.audits.What.{What}
 use Rattle.report.specs.Verdicts.{what_text}
-use Rattle.report.specs.declared.ended.Detail.{Detail}
-use Rattle.report.specs.declared.ended.Detail.TheVariants as detail
+use Rattle.report.specs.declared.status.Detail.{Detail}
+use Rattle.report.specs.declared.status.Detail.TheVariants as detail
 
 abbrev pub word_text : Word → List ℕ
 word_text word.Utf8 = codes "Utf8"

@@ -4,6 +4,6 @@ pub mod Listing
 pub mod Turns
 pub mod Sums
 pub mod Summary
-pub mod Ended
+pub mod Status
 pub mod Faults
 pub mod Verdicts

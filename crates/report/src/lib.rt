@@ -4,19 +4,19 @@
 #![tactic(auto)]
 
 mod answers;
-mod ended;
 mod faults;
 mod listing;
 mod pieces;
 mod records;
+mod status;
 mod summary;
 mod turns;
 mod verdicts;
 
 pub use answers::{AnswerLine, Answers, answers_text};
-pub use ended::{Detail, Ended, status_of};
 pub use faults::fault_text;
 pub use listing::listing_text;
+pub use status::{Detail, Ended, status_of};
 pub use summary::summary_text;
 pub use turns::turns_text;
 pub use verdicts::verdict_text;

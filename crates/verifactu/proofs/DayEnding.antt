@@ -16,8 +16,8 @@ use Rattle.ports.specs.Sinks.{Sinks, WroteNothing}
 use Rattle.record_codec.specs.declared.entry.Entry.{Entry}
 use Rattle.record_codec.specs.declared.entry.TheConstants.{LAST_TILL}
 use Rattle.recovery.specs.Opening.{IsFound}
-use Rattle.report.specs.declared.ended.Detail.{Detail}
-use Rattle.report.specs.declared.ended.Detail.TheVariants as detail
+use Rattle.report.specs.declared.status.Detail.{Detail}
+use Rattle.report.specs.declared.status.Detail.TheVariants as detail
 use Rattle.agency_port.specs.declared.turns.Evidence.{Evidence}
 use Rattle.shop_core.specs.Prefix.{IsPrefix}
 use Rattle.once_world.specs.Agreement.{Agree}

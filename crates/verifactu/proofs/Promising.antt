@@ -5,7 +5,7 @@ use Rattle.agency_rules.specs.declared.plans.Plan.{Plan}
 use Rattle.chain_disk.specs.Disks.{LeftDisk}
 use Rattle.shop_core.specs.Prefix.{IsPrefix}
 use Rattle.record_codec.specs.declared.entry.Entry.{Entry}
-use Rattle.report.specs.declared.ended.Detail.{Detail}
+use Rattle.report.specs.declared.status.Detail.{Detail}
 use Rattle.script.specs.declared.forms.Form.TheVariants.{Full}
 use Rattle.script.specs.declared.scripts.Script.{Script}
 use Rattle.sender.specs.Turning.{Desk}

@@ -15,8 +15,8 @@ use Rattle.ports.specs.declared.faults.Failed.{Failed}
 use Rattle.record_codec.specs.declared.entry.Entry.{Entry}
 use Rattle.recovery.specs.Opening.{IsDiskLost, IsFound, IsLeftUnopened}
 use Rattle.recovery.specs.Opening.IsDiskLost.{not_synced, not_read, in_part}
-use Rattle.report.specs.declared.ended.Detail.{Detail}
-use Rattle.report.specs.declared.ended.Detail.TheVariants as detail
+use Rattle.report.specs.declared.status.Detail.{Detail}
+use Rattle.report.specs.declared.status.Detail.TheVariants as detail
 use Rattle.shop_core.specs.Answer.Requests.{Asked}
 use Rattle.huella.specs.Linked.{Linked}
 use Rattle.shop_core.specs.History.{recs}

@@ -34,8 +34,8 @@ use Rattle.sender.specs.declared.answers.SendFault.TheVariants as send
 use Rattle.sender.specs.declared.answers.DrainFault.{DrainFault}
 use Rattle.sender.specs.declared.answers.DrainFault.TheVariants as drain
 use Rattle.sender.specs.declared.draining.TheConstants.{MAX_LINK_FAULTS}
-use Rattle.report.specs.declared.ended.Detail.{Detail}
-use Rattle.report.specs.declared.ended.Detail.TheVariants as detail
+use Rattle.report.specs.declared.status.Detail.{Detail}
+use Rattle.report.specs.declared.status.Detail.TheVariants as detail
 use Rattle.verifactu.specs.Days.{Day, torn_of}
 use Rattle.verifactu.specs.Draining.{AreOfChain, IsDiskAnswer, SaysNothingBlindly, fault_end}
 use Rattle.verifactu.specs.Noting.{NotesSaid, TornSaid}

@@ -13,8 +13,8 @@ use Rattle.shop_core.specs.Answer.Replies.{ChainRun}
 use Rattle.script.specs.declared.forms.Form.TheVariants.{Full}
 use Rattle.script.specs.declared.scripts.Script.{Script}
 use Rattle.recovery.specs.Opening.{IsFound}
-use Rattle.report.specs.declared.ended.Detail.{Detail}
-use Rattle.report.specs.declared.ended.Detail.TheVariants as detail
+use Rattle.report.specs.declared.status.Detail.{Detail}
+use Rattle.report.specs.declared.status.Detail.TheVariants as detail
 use Rattle.chain_store.specs.Runs.{Answers, Stores}
 use Rattle.shop_core.specs.Prefix.{IsPrefix}
 use Rattle.chain_store.specs.Crashes.{FailsIn, IsCutOff, KeptByRun}

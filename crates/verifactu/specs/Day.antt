@@ -23,8 +23,8 @@ use Rattle.report.specs.Answers.{answers_text}
 use Rattle.report.specs.Listing.{listing_text}
 use Rattle.report.specs.declared.answers.AnswerLine.{AnswerLine}
 use Rattle.report.specs.declared.answers.AnswerLine.TheVariants.{Saw}
-use Rattle.report.specs.declared.ended.Detail.{Detail}
-use Rattle.report.specs.declared.ended.Detail.TheVariants as detail
+use Rattle.report.specs.declared.status.Detail.{Detail}
+use Rattle.report.specs.declared.status.Detail.TheVariants as detail
 use Rattle.shop_core.specs.Prefix.{IsPrefix}
 use Rattle.verifactu.specs.Beside.{DayRunEnds, IsUnbegun, SendsBeside, ShowsLast, StaysAgreed}
 use Rattle.chain_store.specs.Crashes.{Kept}

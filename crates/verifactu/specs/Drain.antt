@@ -12,8 +12,8 @@ use Rattle.sender.specs.declared.draining.TheConstants.{MAX_LINK_FAULTS}
 use Rattle.script.specs.declared.forms.Form.TheVariants.{NoCommands}
 use Rattle.script.specs.declared.scripts.Script.{Script}
 use Rattle.recovery.specs.Opening.{IsFound}
-use Rattle.report.specs.declared.ended.Detail.{Detail}
-use Rattle.report.specs.declared.ended.Detail.TheVariants as detail
+use Rattle.report.specs.declared.status.Detail.{Detail}
+use Rattle.report.specs.declared.status.Detail.TheVariants as detail
 use Rattle.verifactu.specs.Crashes.{StandsSince}
 use Rattle.chain_store.specs.Clocks.{Clocks, LeftClock}
 use Rattle.verifactu.specs.Devices.{Agencies, AllDevices, LeftAgency, LeftAll, LeftSleeper, Sleepers, around}

@@ -31,8 +31,8 @@ use Rattle.sender.specs.Dark.{AreRunsBy, NoneInTheDark}
 use Rattle.sender.specs.Draining.{IsBounded}
 use Rattle.sender.specs.Turning.{AgencyKind, Desk}
 use Rattle.report.specs.Turns.{turns_text}
-use Rattle.report.specs.declared.ended.Detail.{Detail}
-use Rattle.report.specs.declared.ended.Detail.TheVariants as detail
+use Rattle.report.specs.declared.status.Detail.{Detail}
+use Rattle.report.specs.declared.status.Detail.TheVariants as detail
 use Rattle.chain_store.specs.Crashes.{Kept, StandsUpTo}
 use Rattle.verifactu.specs.Noting.{NotesSaid, TornSaid}
 use Rattle.verifactu.specs.Steps.{EndsSaying, Step, Steps, line_in}

@@ -5,8 +5,8 @@ use Rattle.chain_disk.specs.Disks.{Disks, DiskRose, LeftDisk}
 use Rattle.chain_store.specs.declared.causes.OpenCause.{OpenCause}
 use Rattle.chain_store.specs.declared.causes.OpenCause.TheVariants as cause
 use Rattle.recovery.specs.Opening.{IsLeftUnopened}
-use Rattle.report.specs.declared.ended.Detail.{Detail}
-use Rattle.report.specs.declared.ended.Detail.TheVariants as detail
+use Rattle.report.specs.declared.status.Detail.{Detail}
+use Rattle.report.specs.declared.status.Detail.TheVariants as detail
 use Rattle.chain_disk.specs.OnDisk.{LeavesNow, LeavesOnly, synced}
 use Rattle.recovery.specs.Opening.{IsFound}
 use Rattle.shop_core.specs.File.Files.{StandsFor}

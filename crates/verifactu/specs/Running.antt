@@ -1,10 +1,10 @@
 -- One call of the program, by what it is given and what it leaves.
 use Rattle.std.specs.Prelude.{◌≡◌, ℕ, List, Option, Some, None}
 use Rattle.ports.specs.Sinks.{WroteNothing}
-use Rattle.report.specs.Ended.{status_of}
-use Rattle.report.specs.declared.ended.Detail.{Detail}
-use Rattle.report.specs.declared.ended.Detail.TheVariants as detail
-use Rattle.report.specs.declared.ended.Ended.{Ended}
+use Rattle.report.specs.Status.{status_of}
+use Rattle.report.specs.declared.status.Detail.{Detail}
+use Rattle.report.specs.declared.status.Detail.TheVariants as detail
+use Rattle.report.specs.declared.status.Ended.{Ended}
 use Rattle.file_commands.specs.Auditing.{AuditEnds}
 use Rattle.file_commands.specs.Checking.{CheckEnds}
 use Rattle.file_commands.specs.Linking.{LinkEnds}

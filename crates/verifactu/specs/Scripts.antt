@@ -6,8 +6,8 @@ use Rattle.script.specs.Script.{IsScript}
 use Rattle.script.specs.declared.forms.Form.{Form}
 use Rattle.script.specs.declared.scripts.Script.{Script}
 use Rattle.script.specs.declared.scripts.ScriptFault.TheVariants as script_fault
-use Rattle.report.specs.declared.ended.Detail.{Detail}
-use Rattle.report.specs.declared.ended.Detail.TheVariants as detail
+use Rattle.report.specs.declared.status.Detail.{Detail}
+use Rattle.report.specs.declared.status.Detail.TheVariants as detail
 use Rattle.file_commands.specs.Input.{ReadAll, ReadPast, ReadFailed}
 use Rattle.verifactu.specs.declared.scripts.NoScript.{NoScript}
 use Rattle.verifactu.specs.declared.scripts.NoScript.TheVariants.{ReadFault, TooBig, BadLine, NoMemory}

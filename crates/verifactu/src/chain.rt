@@ -6,7 +6,7 @@ ghost use Rattle.chain_disk.specs.Disks.{this_disk};
 ghost use Rattle.journal.specs.Journal.{disk_of, stopped_of};
 ghost use Rattle.record_codec.specs.declared.entry.Entry.{Entry};
 ghost use Rattle.chain_store.specs.Store.{Ready, clock_of, journal_of, state_of};
-ghost use Rattle.report.specs.Ended.{status_of};
+ghost use Rattle.report.specs.Status.{status_of};
 ghost use Rattle.verifactu.specs.Chain.{ChainEnds, ScriptEnds, StoreEnds};
 ghost use Rattle.chain_store.specs.Runs.{this_store};
 ghost use Rattle.chain_store.specs.Clocks.{this_clock};

@@ -4,7 +4,7 @@ ghost use Rattle.std.specs.Prelude.{◌≡◌, ◌++◌, ◌∷◌, ℕ, List, m
 ghost use Rattle.std.specs.List.{list_any};
 ghost use Rattle.ports.specs.Sinks.{OutputIs, Sinks, this_sink};
 ghost use Rattle.ports.specs.Sources.{this_source};
-ghost use Rattle.report.specs.Ended.{status_of};
+ghost use Rattle.report.specs.Status.{status_of};
 ghost use Rattle.shop_core.specs.History.{recs, noted};
 ghost use Rattle.shop_core.specs.Answer.Requests.{Asked};
 ghost use Rattle.verifactu.specs.Beside as beside;

@@ -3,7 +3,7 @@
 ghost use Rattle.std.specs.Prelude.{◌≡◌, ℕ, List};
 ghost use Rattle.ports.specs.Sinks.{OutputIs, Sinks, this_sink};
 ghost use Rattle.ports.specs.Sources.{this_source};
-ghost use Rattle.report.specs.Ended.{status_of};
+ghost use Rattle.report.specs.Status.{status_of};
 ghost use Rattle.verifactu.specs.Devices.{agency_in, clock_in, disk_in, sleeper_in, this_call};
 ghost use Rattle.verifactu.specs.Drain.{DrainEnds, FileDrainEnds, ScriptDrainEnds};
 ghost use Rattle.verifactu.specs.Draining as spec;

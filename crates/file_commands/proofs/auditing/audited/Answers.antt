@@ -1,7 +1,7 @@
 use Rattle.std.proofs.Common.{rules, ◌≡◌, ◌∙◌, List, ℕ, subst}
 use Rattle.ports.specs.Sinks.{this_sink}
 use Rattle.report.specs.Verdicts.{verdict_text}
-use Rattle.report.specs.declared.ended.Detail.{Detail}
+use Rattle.report.specs.declared.status.Detail.{Detail}
 use Rattle.file_commands.specs.Auditing.{verdict_end}
 use Rattle.file_commands.specs.Auditing.AuditEnds.{reached, disk_fault, no_memory}
 use Rattle.file_commands.specs.Output.{PrintEnds}

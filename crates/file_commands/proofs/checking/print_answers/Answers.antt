@@ -1,7 +1,7 @@
 use Rattle.std.proofs.Common.{◌≡◌, ◌∙◌, List, ℕ, subst}
 use Rattle.link_check.specs.Texts.{checks_text}
 use Rattle.ports.specs.Sinks.{this_sink}
-use Rattle.report.specs.declared.ended.Detail.TheVariants as detail
+use Rattle.report.specs.declared.status.Detail.TheVariants as detail
 use Rattle.file_commands.specs.Checking.AreTold.{told, no_memory}
 use Rattle.file_commands.specs.Output.{PrintEnds}
 use Rattle.file_commands.proofs.Bytewise.{took_nothing}

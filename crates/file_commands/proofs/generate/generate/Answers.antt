@@ -2,7 +2,7 @@ use Rattle.std.proofs.Common.{ℕ, List, subst}
 use Rattle.file_commands.proofs.Bytewise.{took_nothing}
 use Rattle.file_commands.specs.Output.{PrintEnds}
 use Rattle.ports.specs.Sinks.{this_sink}
-use Rattle.report.specs.declared.ended.Detail.TheVariants as detail
+use Rattle.report.specs.declared.status.Detail.TheVariants as detail
 use Rattle.file_commands.specs.Generate.GenerateEnds.{ran, no_memory}
 use Rattle.file_commands.proofs.generate.generate.Goals as goal
 

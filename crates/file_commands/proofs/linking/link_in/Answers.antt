@@ -1,7 +1,7 @@
 use Rattle.std.proofs.Common.{◌≡◌, ◌∙◌, ◌++◌, ◌∷◌, [], List, ℕ, sym, ap, subst, Some}
 use Rattle.ports.specs.Sinks.{this_sink}
 use Rattle.record_fields.specs.declared.records.Record.{Record}
-use Rattle.report.specs.declared.ended.Detail.TheVariants as detail
+use Rattle.report.specs.declared.status.Detail.TheVariants as detail
 use Rattle.verify_link.specs.Parts.{link_text, parts_of}
 use Rattle.file_commands.specs.Linking.LinkedFrom.{found, unknown, no_memory}
 use Rattle.file_commands.specs.Output.{PrintEnds}

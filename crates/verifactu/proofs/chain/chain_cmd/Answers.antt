@@ -2,7 +2,7 @@ use Rattle.std.proofs.Common.{rules, sym, ◌∙◌, subst, refl}
 use Rattle.chain_disk.specs.Disks.{this_disk}
 use Rattle.ports.specs.Sinks.{this_sink}
 use Rattle.ports.specs.Sources.{this_source}
-use Rattle.report.specs.declared.ended.Detail.{Detail}
+use Rattle.report.specs.declared.status.Detail.{Detail}
 use Rattle.script.specs.declared.forms.Form.TheVariants.{Full}
 use Rattle.verifactu.specs.Chain.{ChainEnds, ChainRan}
 use Rattle.chain_store.specs.Clocks.{this_clock}

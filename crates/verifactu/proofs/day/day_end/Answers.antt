@@ -1,5 +1,5 @@
 use Rattle.std.proofs.Common.{◌≡◌, ◌∙◌, map, sym, inl, subst, OnOk, Result}
-use Rattle.report.specs.declared.ended.Detail.{Detail}
+use Rattle.report.specs.declared.status.Detail.{Detail}
 use Rattle.sender.specs.declared.answers.DrainFault.{DrainFault}
 use Rattle.verifactu.specs.Beside.{DayRunEnds}
 use Rattle.verifactu.specs.Beside.DayRunEnds.{done, write_fault, disk_fault, no_memory}

@@ -1,7 +1,7 @@
 use Rattle.std.proofs.Common.{rules, sym, ◌∙◌, subst, refl}
 use Rattle.ports.specs.Sinks.{this_sink}
 use Rattle.ports.specs.Sources.{this_source}
-use Rattle.report.specs.declared.ended.Detail.{Detail}
+use Rattle.report.specs.declared.status.Detail.{Detail}
 use Rattle.script.specs.declared.forms.Form.TheVariants.{NoCommands}
 use Rattle.script.specs.declared.scripts.Script.{Script}
 use Rattle.verifactu.specs.Devices.{LeftAll, around, this_call}

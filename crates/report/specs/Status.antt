@@ -1,7 +1,7 @@
 -- The status of each end. The numbers are this project's own.
 use Rattle.std.specs.Prelude.{ℕ}
-use Rattle.report.specs.declared.ended.Detail.{Detail}
-use Rattle.report.specs.declared.ended.Detail.TheVariants as detail
+use Rattle.report.specs.declared.status.Detail.{Detail}
+use Rattle.report.specs.declared.status.Detail.TheVariants as detail
 
 abbrev pub status_of : Detail → ℕ
 status_of detail.Done = 0

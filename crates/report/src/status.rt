@@ -1,6 +1,6 @@
 // How a call of the program ends.
 ghost use Rattle.std.specs.Prelude.{◌≡◌};
-ghost use Rattle.report.specs.Ended.{status_of};
+ghost use Rattle.report.specs.Status.{status_of};
 
 use agency_port::Evidence;
 use parties::Nif;
