@@ -8,6 +8,7 @@ use Rattle.journal.specs.Laws.{OneHeader}
 use Rattle.journal.specs.declared.reading.Header.TheVariants as header
 use Rattle.record_codec.specs.Validity.{IsEncoding}
 use Rattle.record_codec.specs.Writing.{entry_bytes}
+use Rattle.record_fields.specs.declared.versions.Version.TheVariants.{One}
 use Rattle.record_codec.specs.Laws.{EncodingsAreApart}
 use Rattle.record_codec.specs.declared.entry.Entry.{Entry}
 use Rattle.record_codec.specs.declared.entry.Entry.TheVariants as entry_of
@@ -30,10 +31,10 @@ use Rattle.audit.specs.Laws.{OneVerdict}
 data Ends (issuer : List ℕ) (entries : List Entry) (at : ℕ) (file : List ℕ) : AuditEnd → Type 0 where
   at_closed : IsClosed (drop at file) → Ends issuer entries at file (sound_end entries)
   at_frame : IsDamaged (drop at file) → Ends issuer entries at file (Broken (next_place entries) at what.Frame)
-  at_body : (bytes : List ℕ) → IsCounted (drop at file) bytes → ((entry : Entry) → IsEncoding issuer entry bytes → ⊥) →
+  at_body : (bytes : List ℕ) → IsCounted (drop at file) bytes → ((entry : Entry) → IsEncoding One issuer entry bytes → ⊥) →
       Ends issuer entries at file (Broken (next_place entries) at what.Body)
-  at_entry : (bytes : List ℕ) (entry : Entry) (why : Break) → IsCounted (drop at file) bytes → IsEncoding issuer entry bytes →
-      IsBreak issuer entries entry (Some why) →
+  at_entry : (bytes : List ℕ) (entry : Entry) (why : Break) → IsCounted (drop at file) bytes → IsEncoding One issuer entry bytes →
+      IsBreak One issuer entries entry (Some why) →
       Ends issuer entries at file (Broken (next_place entries) at (word_of why))
 
 record Stop (file : List ℕ) (end : AuditEnd) : Type 0 where
@@ -46,15 +47,16 @@ record Stop (file : List ℕ) (end : AuditEnd) : Type 0 where
 not_both : (bytes body : List ℕ) → IsClosed bytes → IsCounted bytes body → ⊥
 not_both bytes body closed counted = closed.shut (cc (sym closed.parts ∙ counted.parts))
 
-same_entry : EncodingsAreApart → (issuer : List ℕ) (a b : Entry) (x y : List ℕ) → IsEncoding issuer a x → IsEncoding issuer b y →
+same_entry : EncodingsAreApart → (issuer : List ℕ) (a b : Entry) (x y : List ℕ) → IsEncoding One issuer a x →
+    IsEncoding One issuer b y →
     x ≡ y → a ≡ b
 same_entry apart issuer a b x y is is' same =
-    let bytes : entry_bytes a ≡ entry_bytes b = sym is.bytes ∙ same ∙ is'.bytes in
-    (apart issuer a b [] [] is.issuer is'.issuer is.fields is'.fields (ap (λ (l : List ℕ). l ++ []) bytes)).0
+    let bytes : entry_bytes One a ≡ entry_bytes One b = sym is.bytes ∙ same ∙ is'.bytes in
+    (apart One issuer a b [] [] is.issuer is'.issuer is.fields is'.fields (ap (λ (l : List ℕ). l ++ []) bytes)).0
 
 -- an entry breaks a history by one word
-one_break : (issuer : List ℕ) (entries : List Entry) (entry : Entry) (a b : Break) → IsBreak issuer entries entry (Some a) →
-    IsBreak issuer entries entry (Some b) → a ≡ b
+one_break : (issuer : List ℕ) (entries : List Entry) (entry : Entry) (a b : Break) → IsBreak One issuer entries entry (Some a) →
+    IsBreak One issuer entries entry (Some b) → a ≡ b
 one_break issuer entries (entry_of.Rec till serial s) Notes b is is' = absurd is
 one_break issuer entries (entry_of.Rec till serial s) Link Notes is is' = absurd is'
 one_break issuer entries (entry_of.Rec till serial s) Link Link is is' = refl
@@ -92,14 +94,15 @@ module _ (one_frame : OneFrame) (apart : EncodingsAreApart) (headers : OneHeader
   one_end issuer entries at file a b (at_body x n none) (at_frame d') = absurd (d'.not_counted x n)
   one_end issuer entries at file a b (at_body x n none) (at_body x' n' none') = refl
   one_end issuer entries at file a b (at_body x n none) (at_entry x' e' why' n' is' br') =
-      absurd (none e' (subst (λ (l : List ℕ). IsEncoding issuer e' l) (one_frame.1 (drop at file) x' x n' n) is'))
+      absurd (none e' (subst (λ (l : List ℕ). IsEncoding One issuer e' l) (one_frame.1 (drop at file) x' x n' n) is'))
   one_end issuer entries at file a b (at_entry x e why n is br) (at_closed c') = absurd (not_both (drop at file) x c' n)
   one_end issuer entries at file a b (at_entry x e why n is br) (at_frame d') = absurd (d'.not_counted x n)
   one_end issuer entries at file a b (at_entry x e why n is br) (at_body x' n' none') =
-      absurd (none' e (subst (λ (l : List ℕ). IsEncoding issuer e l) (one_frame.1 (drop at file) x x' n n') is))
+      absurd (none' e (subst (λ (l : List ℕ). IsEncoding One issuer e l) (one_frame.1 (drop at file) x x' n n') is))
   one_end issuer entries at file a b (at_entry x e why n is br) (at_entry x' e' why' n' is' br') =
       let same : e' ≡ e = same_entry apart issuer e' e x' x is' is (one_frame.1 (drop at file) x' x n' n) in
-      let word : why ≡ why' = one_break issuer entries e why why' br (subst (λ (f : Entry). IsBreak issuer entries f (Some why'))
+      let word : why ≡ why' = one_break issuer entries e why why' br (subst
+      (λ (f : Entry). IsBreak One issuer entries f (Some why'))
       same br') in
       ap (λ (w : Break). Broken (next_place entries) at (word_of w)) word
 
@@ -144,7 +147,7 @@ module _ (one_frame : OneFrame) (apart : EncodingsAreApart) (headers : OneHeader
     at = at;
     stop = record {
       sound = sound;
-      ends = λ entry other counted' encoding cont. none entry (subst (λ (l : List ℕ). IsEncoding issuer entry l)
+      ends = λ entry other counted' encoding cont. none entry (subst (λ (l : List ℕ). IsEncoding One issuer entry l)
           (one_frame.1 (drop at file) other bytes counted' counted) encoding);
     };
     ends = at_body bytes counted none;
@@ -158,7 +161,7 @@ module _ (one_frame : OneFrame) (apart : EncodingsAreApart) (headers : OneHeader
       ends = λ other others counted' encoding' cont.
           let same : other ≡ entry = same_entry apart issuer other entry others bytes encoding' encoding
           (one_frame.1 (drop at file) others bytes counted' counted) in
-          never (subst (λ (e : Entry). Continues issuer entries e) same cont);
+          never (subst (λ (e : Entry). Continues One issuer entries e) same cont);
     };
     ends = at_entry bytes entry why counted encoding broken;
   }))

@@ -1,6 +1,5 @@
 -- The verdict on a file.
-use Rattle.std.specs.Prelude.{◌≡◌, ℕ, List, length, Option, None, option_map}
-use Rattle.record_fields.specs.declared.records.Sealed.{Sealed}
+use Rattle.std.specs.Prelude.{◌≡◌, ℕ, List, length, None}
 use Rattle.record_codec.specs.declared.entry.Entry.{Entry}
 use Rattle.shop_core.specs.History.{last_huella, recs, noted}
 use Rattle.shop_core.specs.File.Reading.{IsRead}

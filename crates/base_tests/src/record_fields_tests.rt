@@ -6,7 +6,7 @@ use series::{InvoiceId, NumSerie};
 use stamps::Day;
 use std::alloc::Global;
 use std::test::Fail;
-use tax_lines::{Breakdown, LineKey, TaxLine};
+use tax_lines::{Breakdown, Class, LineKey, TaxLine};
 
 fn party(alloc: Global) -> Result<Party, Fail> {
     let Ok(nif) = Nif::read("B12345674") else {
@@ -63,7 +63,7 @@ fn fault(
 #[test]
 fn drafts_are_checked(rt: HostRuntime) -> Result<(), Fail> {
     let alloc = rt.alloc();
-    let euro = || line(alloc, LineKey::General, 100);
+    let euro = || line(alloc, LineKey::iva(Class::General), 100);
     let substitution = Some(RectKind::S);
     let difference = Some(RectKind::I);
     let missing = fault(alloc, Kind::F1, substitution, false, 0, euro()?)?;
@@ -79,7 +79,7 @@ fn drafts_are_checked(rt: HostRuntime) -> Result<(), Fail> {
         difference,
         false,
         0,
-        line(alloc, LineKey::Zero, -300_001)?,
+        line(alloc, LineKey::iva(Class::Zero), -300_001)?,
     )?;
     assert_eq!(rt; over, Some(DraftFault::OverSimplified { total }));
     let unwanted = fault(alloc, Kind::F2, None, true, 0, euro()?)?;
@@ -90,7 +90,7 @@ fn drafts_are_checked(rt: HostRuntime) -> Result<(), Fail> {
         None,
         false,
         0,
-        line(alloc, LineKey::Zero, 300_000)?,
+        line(alloc, LineKey::iva(Class::Zero), 300_000)?,
     )?;
     assert_eq!(rt; limit, None);
     let whole = fault(alloc, Kind::R4, difference, true, 8, euro()?)?;

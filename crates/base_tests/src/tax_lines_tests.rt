@@ -24,9 +24,10 @@ fn each_class_has_its_word_code_and_tax(rt: HostRuntime) -> Result<(), Fail> {
         (15, "E6", 0),
     ] {
         let key = LineKey::read(word).ok_or("no class")?;
-        assert!(rt; key.text() == word, "{code}");
-        assert!(rt; key.code() == code, "{code}");
-        assert!(rt; LineKey::of_code(code) == Some(key), "{code}");
+        assert!(rt; key.text().as_slice() == word.as_bytes(), "{code}");
+        assert!(rt; key.class().code() == code, "{code}");
+        assert!(rt; Class::of_code(code) == Some(key.class()), "{code}");
+        assert!(rt; key.tax() == Tax::Iva, "{code}");
         let line = TaxLine {
             key,
             base: Cents::of(10_000),
@@ -35,10 +36,48 @@ fn each_class_has_its_word_code_and_tax(rt: HostRuntime) -> Result<(), Fail> {
         assert!(rt; breakdown.cuota().get() == tax, "{code}");
         assert!(rt; breakdown.total().get() == 10_000 + tax, "{code}");
     }
-    assert!(rt; LineKey::of_code(16).is_none());
+    assert!(rt; Class::of_code(16) == Some(Class::Free));
+    assert!(rt; Class::of_code(17).is_none());
     assert!(rt; LineKey::read("5").is_none());
     assert!(rt; LineKey::read("E7").is_none());
     Ok(())
+}
+
+#[test]
+fn keys_of_other_taxes_have_their_words_and_taxes(rt: HostRuntime) -> Result<(), Fail> {
+    for (word, base, tax) in [
+        ("03/700", 10_000, 700),
+        ("02/21", 100, 0),
+        ("02/2500", 10_000, 2500),
+        ("03/0", 10_000, 0),
+        ("02/S2", 10_000, 0),
+        ("03/E6", 10_000, 0),
+    ] {
+        let key = LineKey::read(word).ok_or("no key")?;
+        assert!(rt; key.text().as_slice() == word.as_bytes(), "{word}");
+        let base = Cents::new(base).ok_or("a base")?;
+        let lines = [TaxLine { key, base }];
+        let breakdown = Breakdown::of(rt.alloc(), &lines).map_err(|_| "no breakdown")?;
+        assert!(rt; breakdown.cuota().get() == tax, "{word}");
+        assert!(rt; breakdown.first_other() == Some(0), "{word}");
+    }
+    for word in [
+        "03/2501", "01/21", "02/", "03/07", "02/21+", "03/F1", "02/-1", "04/21", "S1", "",
+    ] {
+        assert!(rt; LineKey::read(word).is_none(), "{word}");
+    }
+    Ok(())
+}
+
+#[test]
+fn the_table_permits_a_tax_a_class_and_a_rate(rt: HostRuntime) {
+    assert!(rt; LineKey::new(Tax::Iva, Class::General, 2100).is_some());
+    assert!(rt; LineKey::new(Tax::Iva, Class::General, 2000).is_none());
+    assert!(rt; LineKey::new(Tax::Iva, Class::Free, 2100).is_none());
+    assert!(rt; LineKey::new(Tax::Igic, Class::General, 2100).is_none());
+    assert!(rt; LineKey::new(Tax::Igic, Class::Free, 2501).is_none());
+    assert!(rt; LineKey::new(Tax::Ipsi, Class::Free, 2500).is_some());
+    assert!(rt; LineKey::new(Tax::Ipsi, Class::E1, 0).is_some());
 }
 
 fn fault(alloc: Global, lines: &[TaxLine]) -> Option<LinesFault> {
@@ -50,14 +89,14 @@ fn fault(alloc: Global, lines: &[TaxLine]) -> Option<LinesFault> {
 
 fn near() -> TaxLine {
     TaxLine {
-        key: LineKey::General,
+        key: LineKey::iva(Class::General),
         base: Cents::of(-9_999_999_999),
     }
 }
 
 fn past() -> TaxLine {
     TaxLine {
-        key: LineKey::Zero,
+        key: LineKey::iva(Class::Zero),
         base: Cents::of(10_000_000_000),
     }
 }
@@ -76,11 +115,11 @@ fn lines_are_refused_in_order(rt: HostRuntime) {
 fn taxes_round_line_by_line(rt: HostRuntime) -> Result<(), Fail> {
     let lines = [
         TaxLine {
-            key: LineKey::General,
+            key: LineKey::iva(Class::General),
             base: Cents::of(1127),
         },
         TaxLine {
-            key: LineKey::Reduced,
+            key: LineKey::iva(Class::Reduced),
             base: Cents::of(9983),
         },
     ];
@@ -92,7 +131,7 @@ fn taxes_round_line_by_line(rt: HostRuntime) -> Result<(), Fail> {
     assert!(rt; copy.total() == breakdown.total());
     for (base, tax) in [(12, 4), (-12, -4)] {
         let line = TaxLine {
-            key: LineKey::GeneralSurcharge,
+            key: LineKey::iva(Class::GeneralSurcharge),
             base: Cents::of(base),
         };
         assert!(rt; line.tax().get() == tax);

@@ -9,6 +9,7 @@ use Rattle.chain_store.specs.Ready.{Holds}
 use Rattle.shop_core.specs.File.Files.{StandsFor}
 use Rattle.journal.specs.declared.faults.StoreFault.{StoreFault}
 use Rattle.journal.specs.declared.faults.StoreFault.TheVariants.{DiskFault}
+use Rattle.record_fields.specs.declared.versions.Version.{Version}
 use Rattle.record_codec.specs.declared.entry.Entry.{Entry}
 use Rattle.shop_core.specs.Answer.Requests.{Asked}
 use Rattle.shop_core.specs.History.{History}
@@ -23,16 +24,22 @@ use Rattle.chain_store.specs.Replies.{AllGoOn, IsGoingOn, StopsByFault, StopsOnc
 use Rattle.chain_store.specs.Progress.{Origin, Point, Progress, SoFar}
 
 -- a store that holds its history stands for it
-pub stands : (history : History) (gate : ℕ) (t : OnDisk) → Holds history gate t → Legal history.issuer history.entries →
+pub stands : (history : History) (gate : ℕ) (t : OnDisk) → Holds history gate t →
+    Legal history.version history.issuer history.entries →
     StandsFor history.issuer history.entries t.content
-stands history gate t h legal = record { frames = h.file.file; encoded = h.encoded; legal = legal }
+stands history gate t h legal = record {
+  frames = h.file.file;
+  encoded = h.encoded;
+  legal = subst (λ (v : Version). Legal v history.issuer history.entries) h.version legal;
+}
 
 pub begins : (o : Origin) (p : Point) (replies : List (Result Reply StoreFault)) (gate : ℕ) → replies ≡ [] →
-    p.history.issuer ≡ o.issuer → p.history.entries ≡ o.start → p.now ≡ o.since →
-    p.faults ≡ o.at_faults → p.stopped ≡ None → ((k : ℕ) → p.next k ≡ o.coming k) → Legal p.history.issuer p.history.entries →
+    p.history.issuer ≡ o.issuer → p.history.version ≡ o.version → p.history.entries ≡ o.start → p.now ≡ o.since →
+    p.faults ≡ o.at_faults → p.stopped ≡ None → ((k : ℕ) → p.next k ≡ o.coming k) →
+    Legal p.history.version p.history.issuer p.history.entries →
     (IsTrue o.tells → Holds p.history gate p.now) →
     SoFar o [] replies p
-begins o p replies gate none issuer start since faults going next legal holds =
+begins o p replies gate none issuer version start since faults going next legal holds =
     let whole : IsPrefix o.start p.history.entries = record { rest = []; is = start ∙ sym (append-nil o.start) } in
     let only : IsTrue o.tells → LeavesOnly o.since p.now (StandsUpTo o.issuer o.start p.history.entries []) = λ tells.
     let h = holds tells in
@@ -48,7 +55,8 @@ begins o p replies gate none issuer start since faults going next legal holds =
     let progress : Progress o [] [] p None = record { go_on = tt; only = only } in
     subst (λ (rs : List (Result Reply StoreFault)). SoFar o [] rs p) (sym none) (record {
       own = issuer;
-      run = subst (λ (es : List Entry). ChainRun o.issuer (IsComing o.coming) o.start [] [] es) (sym start) begun;
+      version = version;
+      run = subst (λ (es : List Entry). ChainRun o.version o.issuer (IsComing o.coming) o.start [] [] es) (sym start) begun;
       moved = λ k. let e : k ≡ 0 + k = omega arith in next k ∙ ap o.coming e;
       begins = whole;
       later = omega (arith, faults);
@@ -79,11 +87,12 @@ stops o asks replies p h = stops_by p.stopped o asks replies p h.progress
 -- what this run leaves up to this point
 abbrev KeptSoFar : Origin → List Asked → List (Result Reply StoreFault) → Point → Type 0
 KeptSoFar o asks replies p = KeptByRun (StandsUpTo o.issuer o.start p.history.entries)
-    (IsCutOff o.issuer (IsComing o.coming) asks p.history.entries replies) o.issuer p.history.entries replies o.since p.now
+    (IsCutOff o.version o.issuer (IsComing o.coming) asks p.history.entries replies) o.issuer p.history.entries replies o.since
+    p.now
 
 kept_by : (stopped : Option ℕ) (o : Origin) (asks : List Asked) (replies : List (Result Reply StoreFault)) (p : Point) (gate : ℕ)
     → p.history.issuer ≡ o.issuer → Progress o asks replies p stopped →
-    Legal p.history.issuer p.history.entries → (stopped ≡ None → IsTrue o.tells → Holds p.history gate p.now) →
+    Legal p.history.version p.history.issuer p.history.entries → (stopped ≡ None → IsTrue o.tells → Holds p.history gate p.now) →
     IsImage p.now.now p.now.content → IsTrue o.tells → KeptSoFar o asks replies p
 kept_by None o asks replies p gate own g legal holds image tells =
     let h = holds refl tells in
@@ -115,7 +124,7 @@ kept_by (Some count) o asks replies p gate own g legal holds image tells =
     }
 
 pub kept : (o : Origin) (asks : List Asked) (replies : List (Result Reply StoreFault)) (p : Point) (gate : ℕ) →
-    SoFar o asks replies p → Legal p.history.issuer p.history.entries →
+    SoFar o asks replies p → Legal p.history.version p.history.issuer p.history.entries →
     (p.stopped ≡ None → IsTrue o.tells → Holds p.history gate p.now) → IsImage p.now.now p.now.content → IsTrue o.tells →
     KeptSoFar o asks replies p
 kept o asks replies p gate h legal holds image tells =

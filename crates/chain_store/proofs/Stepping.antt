@@ -7,6 +7,7 @@ use Rattle.std.proofs.Math.Seq.{get_or-append_seam}
 use Rattle.std.proofs.lemmas.List.{append-nil, get_or_append_left}
 use Rattle.std.proofs.lemmas.Option.{get_or_from_slice_get, slice_get_read, slice_get_within}
 use Rattle.std.proofs.lemmas.List.Sums.{sum_by-append}
+use Rattle.record_fields.specs.declared.versions.Version.{Version}
 use Rattle.chain_disk.specs.OnDisk.{OnDisk, LeavesOnly, LeavesNow, moment}
 use Rattle.chain_disk.specs.Runs.{follows, weaker}
 use Rattle.chain_store.specs.Ready.{Takes, Tears}
@@ -143,25 +144,32 @@ pub record Taking (o : Origin) (p : Point) (ask : Asked) (told : Told_reply) (q 
   pub reading : IsTold (p.next 0) seconds
   pub moved : MovedBy 1 p.next q.next
   pub own : q.history.issuer ≡ o.issuer
+  pub version : q.history.version ≡ o.version
   pub gained : List Entry
   pub entries : q.history.entries ≡ p.history.entries ++ gained
-  pub reply : IsReply o.issuer p.history.entries ask seconds told gained
+  pub reply : IsReply o.version o.issuer p.history.entries ask seconds told gained
   pub any_moment : IsTrue o.tells → LeavesOnly p.now q.now (StandsAround o.issuer p.history.entries
-      (answer o.issuer p.history.entries ask seconds))
+      (answer o.version o.issuer p.history.entries ask seconds))
 
 taking : (o : Origin) (p q : Point) (ask : Asked) (told : Told_reply) → p.history.issuer ≡ o.issuer →
+    p.history.version ≡ o.version →
     Takes (call_at o.tells p q) ask told → Taking o p ask told q
-taking o p q ask told own t = record {
+taking o p q ask told own version t = record {
   seconds = t.seconds;
   reading = t.reading;
   moved = t.moved;
   own = t.issuer ∙ own;
+  version = t.version ∙ version;
   gained = t.gained;
   entries = t.entries;
-  reply = subst (λ (n : List ℕ). IsReply n p.history.entries ask t.seconds told t.gained) own t.reply;
+  reply = subst (λ (v : Version). IsReply v o.issuer p.history.entries ask t.seconds told t.gained) version
+      (subst (λ (n : List ℕ). IsReply p.history.version n p.history.entries ask t.seconds told t.gained) own t.reply);
   any_moment = λ tells.
-      subst (λ (n : List ℕ). LeavesOnly p.now q.now (StandsAround n p.history.entries (answer n p.history.entries ask t.seconds)))
-      own (t.any_moment tells);
+      subst (λ (v : Version). LeavesOnly p.now q.now (StandsAround o.issuer p.history.entries (answer v o.issuer p.history.entries
+      ask t.seconds))) version
+      (subst (λ (n : List ℕ). LeavesOnly p.now q.now (StandsAround n p.history.entries
+      (answer p.history.version n p.history.entries
+      ask t.seconds))) own (t.any_moment tells));
 }
 
 answered : (o : Origin) (p q : Point) (ask : Asked) (reply : Reply) (replies : List Told_reply) →
@@ -171,11 +179,12 @@ answered o p q ask reply replies begins g t = record {
   go_on = all_push IsGoingOn replies (Ok reply) tt g.go_on;
   only = λ tells. follows o.since p.now q.now
       (StandsUpTo o.issuer o.start p.history.entries [])
-      (StandsAround o.issuer p.history.entries (answer o.issuer p.history.entries ask t.seconds))
+      (StandsAround o.issuer p.history.entries (answer o.version o.issuer p.history.entries ask t.seconds))
       (StandsUpTo o.issuer o.start q.history.entries [])
       (g.only tells) (t.any_moment tells)
       (between_more o.issuer o.start p.history.entries t.gained [] q.history.entries t.entries)
-      (λ c stands. around_gained o.issuer o.start p.history.entries t.gained q.history.entries (answer o.issuer p.history.entries
+      (λ c stands. around_gained o.issuer o.start p.history.entries t.gained q.history.entries
+      (answer o.version o.issuer p.history.entries
       ask t.seconds) reply c begins t.entries t.reply stands);
 }
 
@@ -195,27 +204,30 @@ pub record Tearing (o : Origin) (p : Point) (ask : Asked) (q : Point) : Type 0 w
   pub entry : Entry
   pub seconds : ℕ
   pub reading : IsTold (p.next 0) seconds
-  pub made : answer o.issuer p.history.entries ask seconds ≡ Made entry
+  pub made : answer o.version o.issuer p.history.entries ask seconds ≡ Made entry
   pub any_moment : IsTrue o.tells → LeavesOnly p.now q.now (StandsBeforeOrWith o.issuer p.history.entries entry)
 
 tearing : (o : Origin) (p q : Point) (ask : Asked) (torn : Option Entry) → p.history.issuer ≡ o.issuer →
+    p.history.version ≡ o.version →
     Tears (call_at o.tells p q) ask torn → Tearing o p ask q
-tearing o p q ask torn own t = record {
+tearing o p q ask torn own version t = record {
   entry = t.entry;
   seconds = t.seconds;
   reading = t.reading;
-  made = subst (λ (n : List ℕ). answer n p.history.entries ask t.seconds ≡ Made t.entry) own t.made;
+  made = subst (λ (v : Version). answer v o.issuer p.history.entries ask t.seconds ≡ Made t.entry) version
+      (subst (λ (n : List ℕ). answer p.history.version n p.history.entries ask t.seconds ≡ Made t.entry) own t.made);
   any_moment = λ tells. subst (λ (n : List ℕ). LeavesOnly p.now q.now (StandsBeforeOrWith n p.history.entries t.entry)) own
       (t.any_moment tells);
 }
 
 -- a run has one reply an ask
-replies_of_asks : (issuer : List ℕ) (R : List Told_reply → ℕ → Type 0) (start : List Entry) {asks : List Asked}
-    {replies : List Told_reply} {entries : List Entry} → ChainRun issuer R start asks replies entries →
+replies_of_asks : (version : Version) (issuer : List ℕ) (R : List Told_reply → ℕ → Type 0)
+    (start : List Entry) {asks : List Asked}
+    {replies : List Told_reply} {entries : List Entry} → ChainRun version issuer R start asks replies entries →
     length asks ≡ length replies
-replies_of_asks issuer R start begun = refl
-replies_of_asks issuer R start (replied asks replies entries ask told gained run seconds reading h) =
-    let so_far = replies_of_asks issuer R start run in
+replies_of_asks version issuer R start begun = refl
+replies_of_asks version issuer R start (replied asks replies entries ask told gained run seconds reading h) =
+    let so_far = replies_of_asks version issuer R start run in
     omega (arith, so_far, length-append asks (ask ∷ []), length-append replies (told ∷ []))
 
 -- the last ask of a list is behind the others
@@ -242,14 +254,14 @@ next_coming o replies p seconds moved told =
 
 -- the entry of an ask that was cut off, at the end of its run
 cut_off_here : (o : Origin) (asks : List Asked) (replies : List Told_reply) (p q : Point) (ask : Asked) → SoFar o asks replies p →
-    (t : Tearing o p ask q) → IsCutOff o.issuer (IsComing o.coming) (asks ++ ask ∷ []) p.history.entries
+    (t : Tearing o p ask q) → IsCutOff o.version o.issuer (IsComing o.coming) (asks ++ ask ∷ []) p.history.entries
     (replies ++ Err DiskFault ∷ []) t.entry
 cut_off_here o asks replies p q ask h t = record {
   before = replies;
   behind = [];
   told = refl;
   ask = ask;
-  asked = asked_last asks ask (length replies) (replies_of_asks o.issuer (IsComing o.coming) o.start h.run);
+  asked = asked_last asks ask (length replies) (replies_of_asks o.version o.issuer (IsComing o.coming) o.start h.run);
   seconds = t.seconds;
   reading = next_coming o replies p t.seconds h.moved t.reading;
   made = t.made;
@@ -257,8 +269,8 @@ cut_off_here o asks replies p q ask h t = record {
 
 -- the same in a longer run
 cut_off_more : (o : Origin) (asks : List Asked) (history : List Entry) (replies : List Told_reply) (ask : Asked)
-    (told : Told_reply) (entry : Entry) → IsCutOff o.issuer (IsComing o.coming) asks history replies entry →
-    IsCutOff o.issuer (IsComing o.coming) (asks ++ ask ∷ []) history (replies ++ told ∷ []) entry
+    (told : Told_reply) (entry : Entry) → IsCutOff o.version o.issuer (IsComing o.coming) asks history replies entry →
+    IsCutOff o.version o.issuer (IsComing o.coming) (asks ++ ask ∷ []) history (replies ++ told ∷ []) entry
 cut_off_more o asks history replies ask told entry h = record {
   before = h.before;
   behind = h.behind ++ told ∷ [];
@@ -288,7 +300,8 @@ torn o asks replies p q ask h g same t tells =
       torn = more;
       at_most_one = omega arith;
       made = (
-        subst (λ (es : List Entry). IsCutOff o.issuer (IsComing o.coming) (asks ++ ask ∷ []) es (replies ++ Err DiskFault ∷ [])
+        subst (λ (es : List Entry). IsCutOff o.version o.issuer (IsComing o.coming) (asks ++ ask ∷ []) es
+            (replies ++ Err DiskFault ∷ [])
             t.entry) (sym same) (cut_off_here o asks replies p q ask h t),
         tt,
       );
@@ -326,7 +339,7 @@ progress_on o asks replies p q ask (Err DiskFault) h g none t s =
         risen = risen_from o.at_faults p.faults q.faults h.later f.0;
       };
       at_this = refl;
-      left = torn o asks replies p q ask h g same (tearing o p q ask cut.0 h.own cut.1);
+      left = torn o asks replies p q ask h g same (tearing o p q ask cut.0 h.own h.version cut.1);
     })
 progress_on o asks replies p q ask (Err (Stopped count)) h g none t s = absurd (none_some none ((s.stops count).0 refl))
 
@@ -334,13 +347,15 @@ step_on : (o : Origin) (asks : List Asked) (replies : List Told_reply) (p q : Po
     p.stopped ≡ None → SoFar o asks replies p → Step o.tells p ask told q →
     SoFar o (asks ++ ask ∷ []) (replies ++ told ∷ []) q
 step_on o asks replies p q ask told none h s =
-    let t = taking o p q ask told h.own (s.takes none) in
+    let t = taking o p q ask told h.own h.version (s.takes none) in
     let g : GoingOn o replies p = subst (λ (x : Option ℕ). Progress o asks replies p x) none h.progress in
     let read = readings_read replies told (reads told (λ count is. none_some none ((s.stops count).0 is))) in
     let reading = next_coming o replies p t.seconds h.moved t.reading in
     record {
       own = t.own;
-      run = subst (λ (es : List Entry). ChainRun o.issuer (IsComing o.coming) o.start (asks ++ ask ∷ []) (replies ++ told ∷ [])
+      version = t.version;
+      run = subst (λ (es : List Entry). ChainRun o.version o.issuer (IsComing o.coming) o.start (asks ++ ask ∷ [])
+          (replies ++ told ∷ [])
           es) (sym t.entries)
           (replied asks replies p.history.entries ask told t.gained h.run t.seconds reading t.reply);
       moved = subst (λ (n : ℕ). MovedBy n o.coming q.next) (sym read) (moved_on (readings replies) o.coming p.next q.next h.moved
@@ -387,7 +402,9 @@ step_stopped o asks replies p ask count some h =
     } in
     record {
       own = h.own;
-      run = subst (λ (es : List Entry). ChainRun o.issuer (IsComing o.coming) o.start (asks ++ ask ∷ []) (replies ++ told ∷ [])
+      version = h.version;
+      run = subst (λ (es : List Entry). ChainRun o.version o.issuer (IsComing o.coming) o.start (asks ++ ask ∷ [])
+          (replies ++ told ∷ [])
           es) (append-nil p.history.entries)
           (replied asks replies p.history.entries ask told [] h.run any.0 any.1 refl);
       moved = subst (λ (n : ℕ). MovedBy n o.coming p.next) (sym (readings_stopped replies count)) h.moved;

@@ -11,6 +11,7 @@ use Rattle.huella.specs.Linked.{Linked}
 use Rattle.journal.specs.Journal.{disk_of, end_of, stopped_of}
 use Rattle.journal.specs.declared.faults.StoreFault.{StoreFault}
 use Rattle.journal.specs.declared.faults.StoreFault.TheVariants.{DiskFault, NoMemory, Stopped}
+use Rattle.record_fields.specs.declared.versions.Version.{Version}
 use Rattle.record_codec.specs.declared.entry.Entry.{Entry}
 use Rattle.shop_core.specs.Answer.Requests.{Asked}
 use Rattle.shop_core.specs.File.Files.{StandsFor}
@@ -89,13 +90,13 @@ module _ {D C : Type 0} (d : disk.Ghosts D) (c : clock.Ghosts C) where
       (took.untouched (subst (λ (x : Option ℕ). IsSome x) (sym was) refl)) (run.fails n was)
 
   begins_by : (x : Option ℕ) (s : Store D C d) → stopped_of (journal_of s) ≡ x → Ready d.tells d.told s →
-      Legal (state_of s).issuer (state_of s).entries → RunsBy x d c s s [] []
+      Legal (state_of s).version (state_of s).issuer (state_of s).entries → RunsBy x d c s s [] []
   begins_by None s is ready legal =
       let o = origin_of d.tells d.told d.faults c.coming s in
       let p = point_of d.told d.faults c.coming s in
       record {
         goes = record {
-          so_far = begins o p [] (end_of (journal_of s)) refl refl refl refl refl is (λ k. refl) legal
+          so_far = begins o p [] (end_of (journal_of s)) refl refl refl refl refl refl is (λ k. refl) legal
               (λ says. ready.holds is says);
           unread = λ none. refl;
         };
@@ -103,7 +104,8 @@ module _ {D C : Type 0} (d : disk.Ghosts D) (c : clock.Ghosts C) where
       }
   begins_by (Some count) s is ready legal = record { each = tt; one_each = refl; same = refl }
 
-  pub run_begins : (s : Store D C d) → Ready d.tells d.told s → Legal (state_of s).issuer (state_of s).entries →
+  pub run_begins : (s : Store D C d) → Ready d.tells d.told s → Legal (state_of s).version (state_of s).issuer
+      (state_of s).entries →
       RunsBy (stopped_of (journal_of s)) d c s s [] []
   run_begins s ready legal = begins_by (stopped_of (journal_of s)) s refl ready legal
 
@@ -154,8 +156,10 @@ module _ {D C : Type 0} (d : disk.Ghosts D) (c : clock.Ghosts C) where
 
   -- what every legal history is
   pub record Chained : Type 0 where
-    pub linked : (issuer : List ℕ) (entries : List Entry) → Legal issuer entries → Linked issuer (recs entries)
-    pub rising : (issuer : List ℕ) (entries : List Entry) (till : ℕ) → Legal issuer entries → SerialsRise entries till
+    pub linked : (version : Version) (issuer : List ℕ) (entries : List Entry) → Legal version issuer entries →
+        Linked issuer (recs entries)
+    pub rising : (version : Version) (issuer : List ℕ) (entries : List Entry) (till : ℕ) → Legal version issuer entries →
+        SerialsRise entries till
 
   fails_by : (x : Option ℕ) (first now : Store D C d) (asks : List Asked) (replies : Replies) → stopped_of (journal_of now) ≡ x →
       GoesOrFails d c first now asks replies → FailsOnce d c first now asks replies
@@ -169,7 +173,7 @@ module _ {D C : Type 0} (d : disk.Ghosts D) (c : clock.Ghosts C) where
 
   -- what the disk was in such a call
   fails_in : (first now : Store D C d) (asks : List Asked) (replies : Replies) →
-      Legal (state_of now).issuer (state_of now).entries → GoesOrFails d c first now asks replies →
+      Legal (state_of now).version (state_of now).issuer (state_of now).entries → GoesOrFails d c first now asks replies →
       FailsOnce d c first now asks replies →
       AllGoOn replies ⊎ FailsIn (this_disk d.tells d.told d.faults (disk_of (journal_of first)) (disk_of (journal_of now)))
       (state_of first).issuer (state_of now).entries
@@ -181,9 +185,10 @@ module _ {D C : Type 0} (d : disk.Ghosts D) (c : clock.Ghosts C) where
       let same : (state_of now).entries ≡ found.entries =
       t.entries ∙ ap (λ (es : List Entry). found.entries ++ es) t.reply ∙ append-nil found.entries in
       let issuer : found.issuer ≡ (state_of first).issuer = f.run.so_far.own in
-      let legal : Legal found.issuer found.entries =
-      subst (λ (es : List Entry). Legal found.issuer es) same
-      (subst (λ (n : List ℕ). Legal n (state_of now).entries) t.issuer own) in
+      let legal : Legal found.version found.issuer found.entries =
+      subst (λ (es : List Entry). Legal found.version found.issuer es) same
+      (subst (λ (v : Version). Legal v found.issuer (state_of now).entries) t.version
+      (subst (λ (n : List ℕ). Legal (state_of now).version n (state_of now).entries) t.issuer own)) in
       inr (record {
         found = disk_of (journal_of f.found);
         left = disk_of (journal_of now);
@@ -200,21 +205,22 @@ module _ {D C : Type 0} (d : disk.Ghosts D) (c : clock.Ghosts C) where
 
   ends_by : (x : Option ℕ) (first now : Store D C d) (asks : List Asked) (replies : Replies) →
       RunsBy x d c first now asks replies → Ready d.tells d.told now →
-      Legal (state_of now).issuer (state_of now).entries → Chained →
+      Legal (state_of now).version (state_of now).issuer (state_of now).entries → Chained →
       (IsTrue d.tells → IsImage (d.told (disk_of (journal_of now))).now (d.told (disk_of (journal_of now))).content) →
       OwnRun x asks replies (this_store d.tells d.told d.faults c.coming first now)
   ends_by None first now asks replies run ready own chained image =
       let o = origin_of d.tells d.told d.faults c.coming first in
       let p = point_of d.told d.faults c.coming now in
       let so_far = run.goes.so_far in
-      let legal : Legal o.issuer (state_of now).entries =
-      subst (λ (n : List ℕ). Legal n (state_of now).entries) so_far.own own in
+      let legal : Legal o.version o.issuer (state_of now).entries =
+      subst (λ (v : Version). Legal v o.issuer (state_of now).entries) so_far.version
+      (subst (λ (n : List ℕ). Legal (state_of now).version n (state_of now).entries) so_far.own own) in
       record {
         run = so_far.run;
         begins = so_far.begins;
         legal = legal;
-        linked = chained.linked o.issuer (state_of now).entries legal;
-        rising = λ till. chained.rising o.issuer (state_of now).entries till legal;
+        linked = chained.linked o.version o.issuer (state_of now).entries legal;
+        rising = λ till. chained.rising o.version o.issuer (state_of now).entries till legal;
         stops = stops o asks replies p so_far;
         fails = fails_in first now asks replies own run (fails_by (stopped_of (journal_of now)) first now asks replies refl run);
         kept = λ says. kept o asks replies p (end_of (journal_of now)) so_far own (λ going told. ready.holds going told)
@@ -231,7 +237,7 @@ module _ {D C : Type 0} (d : disk.Ghosts D) (c : clock.Ghosts C) where
 
   pub run_ends : (first now : Store D C d) (asks : List Asked) (replies : Replies) →
       RunsBy (stopped_of (journal_of first)) d c first now asks replies → Ready d.tells d.told now →
-      Legal (state_of now).issuer (state_of now).entries → Chained →
+      Legal (state_of now).version (state_of now).issuer (state_of now).entries → Chained →
       (IsTrue d.tells → IsImage (d.told (disk_of (journal_of now))).now (d.told (disk_of (journal_of now))).content) →
       OwnRun (stopped_of (journal_of first)) asks replies (this_store d.tells d.told d.faults c.coming first now)
   run_ends first now asks replies run ready own chained image =

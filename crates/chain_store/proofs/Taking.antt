@@ -1,6 +1,7 @@
 -- What one ask leaves.
 use Rattle.std.proofs.Common.{◌≡◌, ℕ, List, [], ◌∷◌, ◌++◌, refl, sym, ◌∙◌, subst, append-nil, inl, Bool, Option, Result, Ok, Err}
 use Rattle.std.specs.Prelude.{IsTrue, IfOk, OnErr}
+use Rattle.record_fields.specs.declared.versions.Version.{Version}
 use Rattle.chain_disk.specs.OnDisk.{OnDisk, LeavesOnly}
 use Rattle.chain_disk.specs.Runs.{weaker}
 use Rattle.journal.specs.declared.faults.StoreFault.{StoreFault}
@@ -28,7 +29,7 @@ stands_around issuer entries (Made entry) file s = inl s
 -- where nothing is added and no call of the disk is made
 pub not_made : (old : History) (ask : Asked) (coming coming_after : ℕ → Option ℕ) (tells : Bool) (t : OnDisk)
     (told : Result Reply StoreFault) (seconds : ℕ) →
-    IsTold (coming 0) seconds → MovedBy 1 coming coming_after → IsReply old.issuer old.entries ask seconds told [] →
+    IsTold (coming 0) seconds → MovedBy 1 coming coming_after → IsReply old.version old.issuer old.entries ask seconds told [] →
     (IsTrue tells → LeavesOnly t t (StandsFor old.issuer old.entries)) → Takes (record {
       old = old;
       new = old;
@@ -43,12 +44,13 @@ not_made old ask coming coming_after tells t told seconds reading moved reply on
   reading = reading;
   moved = moved;
   issuer = refl;
+  version = refl;
   gained = [];
   entries = sym (append-nil old.entries);
   reply = reply;
   any_moment = λ says. weaker t t (StandsFor old.issuer old.entries) (StandsAround old.issuer old.entries
-      (answer old.issuer old.entries ask seconds)) (only says)
-      (λ c s. stands_around old.issuer old.entries (answer old.issuer old.entries ask seconds) c s);
+      (answer old.version old.issuer old.entries ask seconds)) (only says)
+      (λ c s. stands_around old.issuer old.entries (answer old.version old.issuer old.entries ask seconds) c s);
 }
 
 -- the reply of an answer that makes nothing
@@ -71,17 +73,20 @@ entries_by : (old new : History) (entry : Entry) (told : Result Reply StoreFault
 entries_by old new entry (Ok reply) ok err = ok
 entries_by old new entry (Err fault) ok err = err ∙ sym (append-nil old.entries)
 
-reply_by : (issuer : List ℕ) (entries : List Entry) (ask : Asked) (seconds : ℕ) (entry : Entry) (told : Result Reply StoreFault) →
-    answer issuer entries ask seconds ≡ Made entry →
-    IfOk told (λ reply. IsTaken entries entry reply) → IsReply issuer entries ask seconds told (gained_by told entry)
-reply_by issuer entries ask seconds entry (Ok reply) made taken = subst (λ (p : Planned). Tells entries p reply (entry ∷ []))
+reply_by : (version : Version) (issuer : List ℕ) (entries : List Entry) (ask : Asked) (seconds : ℕ) (entry : Entry)
+    (told : Result Reply StoreFault) →
+    answer version issuer entries ask seconds ≡ Made entry →
+    IfOk told (λ reply. IsTaken entries entry reply) → IsReply version issuer entries ask seconds told (gained_by told entry)
+reply_by version issuer entries ask seconds entry (Ok reply) made taken =
+    subst (λ (p : Planned). Tells entries p reply (entry ∷ []))
     (sym made) (taken, refl)
-reply_by issuer entries ask seconds entry (Err fault) made taken = refl
+reply_by version issuer entries ask seconds entry (Err fault) made taken = refl
 
 -- where a record was made
 pub made : (old new : History) (ask : Asked) (coming coming_after : ℕ → Option ℕ) (tells : Bool) (t u : OnDisk)
     (told : Result Reply StoreFault) (seconds : ℕ) (entry : Entry) →
-    IsTold (coming 0) seconds → MovedBy 1 coming coming_after → new.issuer ≡ old.issuer → answer old.issuer old.entries ask
+    IsTold (coming 0) seconds → MovedBy 1 coming coming_after → new.issuer ≡ old.issuer → new.version ≡ old.version →
+    answer old.version old.issuer old.entries ask
     seconds ≡ Made entry →
     IfOk told (λ reply. IsTaken old.entries entry reply) → IfOk told (λ _. new.entries ≡ old.entries ++ entry ∷ []) →
     OnErr told (new.entries ≡ old.entries) →
@@ -94,13 +99,15 @@ pub made : (old new : History) (ask : Asked) (coming coming_after : ℕ → Opti
       disk = t;
       disk_after = u;
     }) ask told
-made old new ask coming coming_after tells t u told seconds entry reading moved issuer planned taken ok err only = record {
-  seconds = seconds;
-  reading = reading;
-  moved = moved;
-  issuer = issuer;
-  gained = gained_by told entry;
-  entries = entries_by old new entry told ok err;
-  reply = reply_by old.issuer old.entries ask seconds entry told planned taken;
-  any_moment = λ says. subst (λ (p : Planned). LeavesOnly t u (StandsAround old.issuer old.entries p)) (sym planned) (only says);
-}
+made old new ask coming coming_after tells t u told seconds entry reading moved issuer version planned taken ok err only =
+    record {
+      seconds = seconds;
+      reading = reading;
+      moved = moved;
+      issuer = issuer;
+      version = version;
+      gained = gained_by told entry;
+      entries = entries_by old new entry told ok err;
+      reply = reply_by old.version old.issuer old.entries ask seconds entry told planned taken;
+      any_moment = λ says. subst (λ (p : Planned). LeavesOnly t u (StandsAround old.issuer old.entries p)) (sym planned) (only says);
+    }

@@ -1,6 +1,7 @@
 -- What a crash leaves of a run.
 use Rattle.std.specs.Prelude.{◌≡◌, ◌⊎◌, ◌≤◌, ℕ, List, [], ◌∷◌, ◌++◌, length, slice_get, IsTrue, Some, Err}
 use Rattle.std.specs.List.{AllByRecursion}
+use Rattle.record_fields.specs.declared.versions.Version.{Version}
 use Rattle.chain_disk.specs.Disks.{Disks}
 use Rattle.chain_disk.specs.OnDisk.{OnDisk, LeavesOnly, LeavesNow}
 use Rattle.journal.specs.declared.faults.StoreFault.TheVariants.{DiskFault}
@@ -30,7 +31,8 @@ StandsForEnd issuer end torn file = StandsFor issuer end file ⊎ StandsFor issu
 
 -- An entry whose append failed: what the answer made, at the history before it and at the clock's reading, for the ask that
 -- was told of the fault.
-pub record IsCutOff (issuer : List ℕ) (IsReading : Replies → ℕ → Type 0) (asks : List Asked) (history : List Entry)
+pub record IsCutOff (version : Version) (issuer : List ℕ) (IsReading : Replies → ℕ → Type 0) (asks : List Asked)
+    (history : List Entry)
     (replies : Replies) (entry : Entry) : Type 0 where
   pub before : Replies
   pub behind : Replies
@@ -39,7 +41,7 @@ pub record IsCutOff (issuer : List ℕ) (IsReading : Replies → ℕ → Type 0)
   pub asked : slice_get asks (length before) ≡ Some ask
   pub seconds : ℕ
   pub reading : IsReading before seconds
-  pub made : answer issuer history ask seconds ≡ Made entry
+  pub made : answer version issuer history ask seconds ≡ Made entry
 
 -- Since some moment each crash leaves a file with P; now it leaves the history at the end, or that with the torn entry, and so
 -- reads the disk.

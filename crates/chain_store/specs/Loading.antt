@@ -1,6 +1,7 @@
 -- What a sound file is loaded as.
 use Rattle.std.specs.Prelude.{◌≡◌, ◌≤◌, ℕ, List}
 use Rattle.journal.specs.File.{IsNotBegun, closing_gate}
+use Rattle.record_fields.specs.declared.versions.Version.{Version}
 use Rattle.shop_core.specs.File.Files.{StandsFor, bodies_of, furthest_gate}
 use Rattle.chain_store.specs.declared.causes.LoadFault.{LoadFault}
 use Rattle.chain_store.specs.declared.causes.LoadFault.TheVariants.{DiskFault, Damaged, NoMemory}
@@ -19,6 +20,11 @@ IsLoaded file (Begun history end) =
 abbrev pub HasNearGate : Loaded → Type 0
 HasNearGate NotBegun = Unit {0}
 HasNearGate (Begun history end) = end ≤ furthest_gate history.entries
+
+-- a history that was loaded is of this version
+abbrev pub HasVersion : Version → Loaded → Type 0
+HasVersion version NotBegun = Unit {0}
+HasVersion version (Begun history end) = history.version ≡ version
 
 -- why a file that gives no history can't be opened
 abbrev pub open_cause : LoadFault → OpenCause

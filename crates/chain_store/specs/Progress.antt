@@ -11,6 +11,7 @@ use Rattle.journal.specs.declared.faults.StoreFault.{StoreFault}
 use Rattle.journal.specs.declared.faults.StoreFault.TheVariants.{DiskFault, Stopped, NoMemory}
 use Rattle.ports.specs.Causes.{Rose}
 use Rattle.ports.specs.Readings.{MovedBy}
+use Rattle.record_fields.specs.declared.versions.Version.{Version}
 use Rattle.record_codec.specs.declared.entry.Entry.{Entry}
 use Rattle.shop_core.specs.Answer.Requests.{Asked}
 use Rattle.shop_core.specs.History.{History}
@@ -24,6 +25,7 @@ use Rattle.chain_store.specs.Replies.{AllGoOn, StopsByFault}
 -- where the run began
 pub record Origin : Type 0 where
   pub issuer : List ℕ
+  pub version : Version
   pub start : List Entry
   pub tells : Bool
   pub since : OnDisk
@@ -47,7 +49,7 @@ pub record GoingOn (o : Origin) (replies : List (Result Reply StoreFault)) (p : 
 pub record Torn (o : Origin) (asks : List Asked) (replies : List (Result Reply StoreFault)) (p : Point) : Type 0 where
   pub torn : List Entry
   pub at_most_one : length torn ≤ 1
-  pub made : AllByRecursion (IsCutOff o.issuer (IsComing o.coming) asks p.history.entries replies) torn
+  pub made : AllByRecursion (IsCutOff o.version o.issuer (IsComing o.coming) asks p.history.entries replies) torn
   pub only : LeavesOnly o.since p.now (StandsUpTo o.issuer o.start p.history.entries torn)
   pub here : LeavesNow p.now (StandsForEnd o.issuer p.history.entries torn)
 
@@ -77,7 +79,8 @@ call_at tells p q = record {
 -- these asks got these replies, up to this point
 pub record SoFar (o : Origin) (asks : List Asked) (replies : List (Result Reply StoreFault)) (p : Point) : Type 0 where
   pub own : p.history.issuer ≡ o.issuer
-  pub run : ChainRun o.issuer (IsComing o.coming) o.start asks replies p.history.entries
+  pub version : p.history.version ≡ o.version
+  pub run : ChainRun o.version o.issuer (IsComing o.coming) o.start asks replies p.history.entries
   pub moved : MovedBy (readings replies) o.coming p.next
   pub begins : IsPrefix o.start p.history.entries
   pub later : o.at_faults ≤ p.faults
@@ -97,6 +100,7 @@ pub record Step (tells : Bool) (p : Point) (ask : Asked) (told : Result Reply St
 abbrev pub origin_of : {D C : Type 0} {g : Ghosts D} → Bool → (D → OnDisk) → (D → ℕ) → (C → ℕ → Option ℕ) → Store D C g → Origin
 origin_of tells told faults coming store = record {
   issuer = (state_of store).issuer;
+  version = (state_of store).version;
   start = (state_of store).entries;
   tells = tells;
   since = told (disk_of (journal_of store));

@@ -7,6 +7,7 @@ use Rattle.ports.specs.Readings.{IsTold, MovedBy}
 use Rattle.record_codec.specs.declared.entry.Entry.{Entry}
 use Rattle.record_codec.specs.declared.entry.Entry.TheVariants.{Notes}
 use Rattle.record_fields.specs.declared.lines.Line.{Line}
+use Rattle.record_fields.specs.declared.versions.Version.TheVariants.{One}
 use Rattle.shop_core.specs.Answer.Plans.{answer}
 use Rattle.shop_core.specs.Answer.Requests.{Asked}
 use Rattle.shop_core.specs.History.{History, noted}
@@ -17,10 +18,12 @@ use Rattle.shop_core.specs.Legal.{Continues}
 use Rattle.shop_core.specs.declared.answer.Planned.TheVariants.{Made}
 use Rattle.shop_core.specs.File.Files.{AreEncoded, bodies_of, furthest_gate, StandsAround, StandsBeforeOrWith}
 
--- the disk reads as this history's file, with nothing pending, and its closing gate is at this place
+-- the disk reads as this history's file, with nothing pending, and its closing gate is at this place; every file is of version
+-- One
 pub record Holds (history : History) (gate : ℕ) (t : OnDisk) : Type 0 where
   pub file : IsAt history.issuer (bodies_of history.entries) gate t
   pub encoded : AreEncoded history.issuer history.entries
+  pub version : history.version ≡ One
 
 -- where the journal isn't stopped and its disk tells what it holds, that is this history
 pub record IsReady (tells : Bool) (history : History) (stopped : Option ℕ) (gate : ℕ) (t : OnDisk) : Type 0 where
@@ -48,10 +51,12 @@ pub record Takes (k : StoreCall) (ask : Asked) (told : Result Reply StoreFault) 
   pub reading : IsTold (k.coming 0) seconds
   pub moved : MovedBy 1 k.coming k.coming_after
   pub issuer : k.new.issuer ≡ k.old.issuer
+  pub version : k.new.version ≡ k.old.version
   pub gained : List Entry
   pub entries : k.new.entries ≡ k.old.entries ++ gained
-  pub reply : IsReply k.old.issuer k.old.entries ask seconds told gained
-  pub any_moment : CrashesLeave k (StandsAround k.old.issuer k.old.entries (answer k.old.issuer k.old.entries ask seconds))
+  pub reply : IsReply k.old.version k.old.issuer k.old.entries ask seconds told gained
+  pub any_moment : CrashesLeave k (StandsAround k.old.issuer k.old.entries
+      (answer k.old.version k.old.issuer k.old.entries ask seconds))
 
 -- One ask that the disk's failure cut off. Its entry was made at the history and a reading of the clock, room was made for it,
 -- and it may be on the disk.
@@ -60,8 +65,8 @@ pub record Tears (k : StoreCall) (ask : Asked) (torn : Option Entry) : Type 0 wh
   pub entry_is : torn ≡ Some entry
   pub seconds : ℕ
   pub reading : IsTold (k.coming 0) seconds
-  pub made : answer k.old.issuer k.old.entries ask seconds ≡ Made entry
-  pub continues : Continues k.old.issuer k.old.entries entry
+  pub made : answer k.old.version k.old.issuer k.old.entries ask seconds ≡ Made entry
+  pub continues : Continues k.old.version k.old.issuer k.old.entries entry
   pub room : k.new.room ≡ Some entry
   pub any_moment : CrashesLeave k (StandsBeforeOrWith k.old.issuer k.old.entries entry)
 
@@ -72,7 +77,7 @@ noted_next entries lines = Notes (length (noted entries)) lines
 -- lines whose append the disk's failure cut off: they continue the history, room was made for them, and they may be on the disk
 pub record TearsLines (k : StoreCall) (lines : List Line) (torn : Option Entry) : Type 0 where
   pub entry_is : torn ≡ Some (noted_next k.old.entries lines)
-  pub continues : Continues k.old.issuer k.old.entries (noted_next k.old.entries lines)
+  pub continues : Continues k.old.version k.old.issuer k.old.entries (noted_next k.old.entries lines)
   pub room : k.new.room ≡ Some (noted_next k.old.entries lines)
   pub any_moment : CrashesLeave k (StandsBeforeOrWith k.old.issuer k.old.entries (noted_next k.old.entries lines))
 

@@ -6,6 +6,7 @@ use Rattle.chain_disk.specs.declared.disk.Disk.{Ghosts}
 use Rattle.huella.specs.Linked.{Linked}
 use Rattle.journal.specs.Journal.{disk_of}
 use Rattle.record_codec.specs.declared.entry.Entry.{Entry}
+use Rattle.record_fields.specs.declared.versions.Version.{Version}
 use Rattle.shop_core.specs.Answer.Requests.{Asked}
 use Rattle.shop_core.specs.History.{recs}
 use Rattle.shop_core.specs.Legal.{Legal}
@@ -22,6 +23,7 @@ use Rattle.chain_store.specs.Replies.{AllGoOn, Replies, StopsOnce}
 -- a store's history and disk before the run and after it, and its clock
 pub record Stores (D C : Type 0) : Type 0 where
   pub issuer : List ℕ
+  pub version : Version
   pub start : List Entry
   pub end : List Entry
   pub tells : Bool
@@ -37,6 +39,7 @@ abbrev pub this_store : {D C : Type 0} {g : Ghosts D} → Bool → (D → OnDisk
     Store D C g → Store D C g → Stores D C
 this_store tells told faults coming old new = record {
   issuer = (state_of old).issuer;
+  version = (state_of old).version;
   start = (state_of old).entries;
   end = (state_of new).entries;
   tells = tells;
@@ -50,9 +53,9 @@ this_store tells told faults coming old new = record {
 
 -- these asks got these replies from it
 pub record Answers {D C : Type 0} (asks : List Asked) (replies : Replies) (s : Stores D C) : Type 0 where
-  pub run : ChainRun s.issuer (IsComing (s.clock.coming s.clock.clock)) s.start asks replies s.end
+  pub run : ChainRun s.version s.issuer (IsComing (s.clock.coming s.clock.clock)) s.start asks replies s.end
   pub begins : IsPrefix s.start s.end
-  pub legal : Legal s.issuer s.end
+  pub legal : Legal s.version s.issuer s.end
   pub linked : Linked s.issuer (recs s.end)
   pub rising : (till : ℕ) → SerialsRise s.end till
   pub stops : StopsOnce s.faults s.faults_after replies
@@ -60,5 +63,6 @@ pub record Answers {D C : Type 0} (asks : List Asked) (replies : Replies) (s : S
   pub fails : AllGoOn replies ⊎ FailsIn s.disk s.issuer s.end
   pub kept : IsTrue s.tells →
       KeptByRun (StandsUpTo s.issuer s.start s.end)
-      (IsCutOff s.issuer (IsComing (s.clock.coming s.clock.clock)) asks s.end replies) s.issuer s.end replies s.since s.now
+      (IsCutOff s.version s.issuer (IsComing (s.clock.coming s.clock.clock)) asks s.end replies) s.issuer s.end replies s.since
+      s.now
   pub asked : IsAsked s.clock (readings replies)

@@ -71,6 +71,7 @@ pub record Adds {D C X : Type 0} {g : Ghosts D} (tells : Bool) (told : D → OnD
     (entry : Entry) (result : Result X StoreFault) : Type 0 where
   pub ready : Ready tells told new
   pub issuer : new.state.issuer ≡ old.state.issuer
+  pub version : new.state.version ≡ old.state.version
   pub clock : new.clock ≡ old.clock
   pub added : OnOk result ((stopped_of new.journal ≡ None) × (new.state.entries ≡ old.state.entries ++ entry ∷ []))
   pub same : OnErr result (new.state.entries ≡ old.state.entries)

@@ -65,6 +65,7 @@ pub fn run_commands<D: Disk, C: Clock>(
     requires none { replies.old.items ≡ [] }
     requires room { length asks.now ≤ vec_capacity replies.old }
     ensures issuer { (state_of store.new).issuer ≡ (state_of store.old).issuer }
+    ensures version { (state_of store.new).version ≡ (state_of store.old).version }
     ensures answers { Answers asks.now replies.new.items (this_store D.tells D.told D.faults C.coming store.old store.new) }
     ensures fails { FailsOnce D.Disk C.Clock store.old store.new asks.now replies.new.items }
 {

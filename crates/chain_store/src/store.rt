@@ -1,13 +1,12 @@
 // A history on disk: the state, the journal that keeps it, and the clock that dates its records.
-ghost use Rattle.std.specs.Prelude.{◌≡◌, ◌≤◌, ◌+◌, ◌++◌, ◌∷◌, [], ◌↔◌, true, ℕ, List, length, take, drop};
+ghost use Rattle.std.specs.Prelude.{◌≡◌, ◌≤◌, ◌+◌, ◌++◌, ◌∷◌, [], ◌↔◌, true, ℕ, length, take, drop};
 ghost use Rattle.std.specs.Prelude.{IsTrue, IfOk, OnOk, OnErr, IsErrOf, IsSome, None, Some};
-ghost use Rattle.ports.specs.Causes.{Rose};
-ghost use Rattle.chain_disk.specs.OnDisk.{LeavesOnly, LeavesNow};
+ghost use Rattle.chain_disk.specs.OnDisk.{LeavesOnly};
 ghost use Rattle.shop_core.specs.History.{recs, noted, is_record};
 ghost use Rattle.shop_core.specs.Answer.Replies.{IsTaken};
 ghost use Rattle.std.specs.Int.{IsInRange};
 ghost use Rattle.shop_core.specs.Legal.{Continues};
-ghost use Rattle.shop_core.specs.File.Files.{StandsFor, StandsBeforeOrWith};
+ghost use Rattle.shop_core.specs.File.Files.{StandsBeforeOrWith};
 ghost use Rattle.chain_store.specs.Ready.{IsReady, TearsLines, noted_next};
 ghost use Rattle.record_fields.specs.declared.lines.TheConstants.{BATCH};
 
@@ -110,7 +109,7 @@ impl<D: Disk, C: Clock> Store<D, C> {
     fn take_made(&mut self, alloc: Global, entry: Entry) -> Result<Reply, StoreFault>
         requires going_on { stopped_of self.old.journal ≡ None }
         requires ready { IsReady D.tells self.old.state None (end_of self.old.journal) (D.told (disk_of self.old.journal)) }
-        requires continues { Continues self.old.state.issuer self.old.state.entries entry }
+        requires continues { Continues self.old.state.version self.old.state.issuer self.old.state.entries entry }
         requires of_record { is_record entry ≡ true }
         ensures adds { Adds D.tells D.told D.faults self.old self.new entry result }
         ensures reply { IfOk result (λ reply. IsTaken self.old.state.entries entry reply) }
@@ -132,6 +131,7 @@ impl<D: Disk, C: Clock> Store<D, C> {
         requires within { length (noted self.old.state.entries) + length lines.now ≤ length (recs self.old.state.entries) }
         ensures ready { Ready D.tells D.told self.new }
         ensures issuer { self.new.state.issuer ≡ self.old.state.issuer }
+        ensures version { self.new.state.version ≡ self.old.state.version }
         ensures noted { OnOk result (self.new.state.entries
             ≡ self.old.state.entries ++ noted_next self.old.state.entries lines.now ∷ []) }
         ensures same { OnErr result (self.new.state.entries ≡ self.old.state.entries) }
@@ -188,16 +188,17 @@ impl<D: Disk, C: Clock> Store<D, C> {
     fn add(&mut self, alloc: Global, entry: Entry) -> Result<(), StoreFault>
         requires going_on { stopped_of self.old.journal ≡ None }
         requires ready { IsReady D.tells self.old.state None (end_of self.old.journal) (D.told (disk_of self.old.journal)) }
-        requires continues { Continues self.old.state.issuer self.old.state.entries entry }
+        requires continues { Continues self.old.state.version self.old.state.issuer self.old.state.entries entry }
         ensures { Adds D.tells D.told D.faults self.old self.new entry result }
     {
         a_legal_history_goes_on();
         what_continues_fits_its_bytes();
         an_encoding_is_a_body();
-        fields_are_valid(&entry);
+        let version = self.state.version();
+        fields_are_valid(version, &entry);
         let _few = self.state.entries();
         self.state.is_legal();
-        let Ok(bytes) = encode(alloc, &entry) else {
+        let Ok(bytes) = encode(alloc, version, &entry) else {
             return Err(StoreFault::NoMemory);
         };
         let Ok(()) = self.state.reserve(&entry) else {

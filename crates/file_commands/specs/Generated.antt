@@ -8,7 +8,8 @@ use Rattle.series.specs.Numbers.{number_text}
 use Rattle.shop_core.specs.Answer.Requests.{Asked}
 use Rattle.shop_core.specs.declared.answer.requests.Request.{Request}
 use Rattle.shop_core.specs.declared.answer.requests.Request.TheVariants.{Sale, Cancel}
-use Rattle.tax_lines.specs.declared.classes.LineKey.TheVariants as key
+use Rattle.tax_lines.specs.Keys.{iva_key}
+use Rattle.tax_lines.specs.declared.classes.Class.TheVariants.{General}
 use Rattle.tax_lines.specs.declared.lines.TaxLine.{TaxLine}
 
 -- the base of the i-th command's line, in cents
@@ -16,7 +17,7 @@ abbrev pub base : ℕ → ℕ
 base i = (i * 7531) % 100_000 + 1
 
 abbrev pub line : ℕ → TaxLine
-line i = record { key = key.General; base = pos (base i) }
+line i = record { key = iva_key General; base = pos (base i) }
 
 -- a simplified invoice of one line
 abbrev pub draft : ℕ → Draft

@@ -11,7 +11,7 @@ use record_fields::{Draft, Refs};
 use series::{SeriesName, number};
 use shop_core::{Ask, Request};
 use std::alloc::Global;
-use tax_lines::{Breakdown, LineKey, TaxLine};
+use tax_lines::{Breakdown, Class, LineKey, TaxLine};
 
 /// The most commands. The limit is this project's own.
 pub const MOST: u32 = 100_000;
@@ -30,7 +30,7 @@ fn draft(alloc: Global, i: u32) -> Result<Draft, NoMemory>
     ensures { IfOk result (λ draft. draft ≡ spec.draft i) }
 {
     let line = TaxLine {
-        key: LineKey::General,
+        key: LineKey::iva(Class::General),
         base: Cents::of(i64::from(i * 7531 % 100_000 + 1)),
     };
     let Ok(lines) = Breakdown::of(alloc, &[line]) else {

@@ -15,7 +15,7 @@ use series::SeriesName;
 use shop_core::{Ask, Reply, Request, State};
 use std::alloc::Global;
 use std::test::Fail;
-use tax_lines::{Breakdown, LineKey, TaxLine};
+use tax_lines::{Breakdown, Class, LineKey, TaxLine};
 
 const HUELLAS: [[u8; 64]; 2] = [
     *b"D88B42F8D11C4EA2112502EC992F055A7E94F796D67095359B946A4A5B03E616",
@@ -39,8 +39,8 @@ fn issuer() -> Result<Nif, Fail> {
 // The sale of the first till with this serial, 1 or 2.
 fn sale(alloc: Global, serial: u32) -> Result<Ask, Fail> {
     let (key, cents) = match serial {
-        1 => (LineKey::General, 10_000),
-        _ => (LineKey::Reduced, 1_000),
+        1 => (LineKey::iva(Class::General), 10_000),
+        _ => (LineKey::iva(Class::Reduced), 1_000),
     };
     let base = Cents::new(cents).ok_or("a base")?;
     let Ok(lines) = Breakdown::of(alloc, &[TaxLine { key, base }]) else {

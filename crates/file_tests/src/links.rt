@@ -10,7 +10,7 @@ use invoice_kinds::Kind;
 use link_check::{ScannedLines, check_all, check_link, check_unbegun, checks_text};
 use parties::Nif;
 use ports::{Clock, CountingClock, MemSink, MemSource};
-use record_codec::Entry;
+use record_codec::{Entry, Version};
 use record_fields::{Bytes, Cause, Draft, DraftFault, Line, Lines, Refs};
 use recovery::open_store;
 use report::Detail;
@@ -19,7 +19,7 @@ use shop_core::{Ask, Refusal, Reply, Request, State, next_fault, reply_to};
 use std::alloc::Global;
 use std::test::Fail;
 use std::thread::Threads;
-use tax_lines::{Breakdown, LineKey, TaxLine};
+use tax_lines::{Breakdown, Class, LineKey, TaxLine};
 
 const REAL: &str = "https://www2.agenciatributaria.gob.es/wlpl/TIKE-CONT/ValidarQR?";
 
@@ -193,7 +193,7 @@ fn number(num: &str) -> Result<NumSerie, Fail> {
 fn draft(alloc: Global, cents: i64) -> Result<Draft, Fail> {
     let base = Cents::new(cents).ok_or("a base")?;
     let line = TaxLine {
-        key: LineKey::General,
+        key: LineKey::iva(Class::General),
         base,
     };
     Ok(Draft {
@@ -265,7 +265,7 @@ fn note(alloc: Global, state: &mut State, lines: &[Line]) -> Result<(), Fail> {
 
 // Eleven records, with the agency's lines for the first eight.
 fn shop(alloc: Global) -> Result<State, Fail> {
-    let mut state = State::empty(alloc, &issuer()?);
+    let mut state = State::empty(alloc, &issuer()?, Version::One);
     take(alloc, &mut state, sale(alloc, "A")?)?;
     take(alloc, &mut state, sale(alloc, "A")?)?;
     take(alloc, &mut state, sale(alloc, "A")?)?;

@@ -16,7 +16,7 @@ use series::SeriesName;
 use shop_core::{Ask, Reply, Request};
 use std::alloc::Global;
 use std::test::Fail;
-use tax_lines::{Breakdown, LineKey, TaxLine};
+use tax_lines::{Breakdown, Class, LineKey, TaxLine};
 
 // 2025-01-01, 10:00 on the peninsular clock.
 const TEN: u64 = 1_735_722_000;
@@ -59,7 +59,7 @@ fn sale(alloc: Global, serial: u32) -> Result<Ask, Fail> {
     }
     let base = Cents::new(10_000).ok_or("a base")?;
     let line = TaxLine {
-        key: LineKey::General,
+        key: LineKey::iva(Class::General),
         base,
     };
     let Ok(lines) = Breakdown::of(alloc, &[line]) else {

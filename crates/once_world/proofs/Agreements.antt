@@ -214,12 +214,12 @@ agree_batches verdicts entries processed sent (batch ∷ batches) chain agree am
     batch chain agree among.0) agree) among.1
 
 pub agree_delivered : AreLinked → SalesAreNew → DeliveriesKeepAgreement
-agree_delivered linked sales issuer verdicts entries processed sent batches legal agree among =
-    agree_batches verdicts entries processed sent batches (chain_of linked sales issuer entries legal) agree among
+agree_delivered linked sales version issuer verdicts entries processed sent batches legal agree among =
+    agree_batches verdicts entries processed sent batches (chain_of linked sales version issuer entries legal) agree among
 
 pub refuse_no_sale : AreLinked → SalesAreNew → DeliveriesRefuseNoSale
-refuse_no_sale linked sales issuer verdicts entries processed sent batch legal agree there =
-    (batch_delivered verdicts entries processed sent batch (chain_of linked sales issuer entries legal) agree there).adds
+refuse_no_sale linked sales version issuer verdicts entries processed sent batch legal agree there =
+    (batch_delivered verdicts entries processed sent batch (chain_of linked sales version issuer entries legal) agree there).adds
 
 records_zip : (records : List Sealed) (lines : List Line) → IsPrefix (records_of (zip records lines)) records
 records_zip [] lines = record { rest = []; is = refl }
@@ -236,9 +236,9 @@ lines_zip (s ∷ records) (line ∷ lines) le = let p = lines_zip records lines 
     record { rest = p.rest; is = ap (λ (ls : List Line). line ∷ ls) p.is }
 
 pub agree_begun : NotedWithinRecords → NotedPairsAgree
-agree_begun within issuer entries legal = record {
+agree_begun within version issuer entries legal = record {
   records = records_zip (recs entries) (noted entries);
-  lines = lines_zip (recs entries) (noted entries) (within issuer entries legal);
+  lines = lines_zip (recs entries) (noted entries) (within version issuer entries legal);
   batches = tt;
 }
 
@@ -258,8 +258,8 @@ once_of entries processed sent chain agree before after p e =
     back p.0 before (chain.huellas (records_of before) (records_of after ++ agree.records.rest) p.0 whole)
 
 pub stand_once : AreLinked → SalesAreNew → StandOnce
-stand_once linked sales issuer entries processed sent legal agree = once_of entries processed sent
-    (chain_of linked sales issuer entries legal) agree
+stand_once linked sales version issuer entries processed sent legal agree = once_of entries processed sent
+    (chain_of linked sales version issuer entries legal) agree
 
 -- the next lines can be noted
 pub lines_fit : (entries : List Entry) (processed : List (Sealed × Line)) (sent : List (List Sealed)) (lines : List Line) →

@@ -5,6 +5,7 @@ use Rattle.std.proofs.Common.{bytes_eq}
 use Rattle.std.proofs.lemmas.Bool.{cases_Bool}
 use Rattle.std.proofs.lemmas.List.{map-append, length-map}
 use Rattle.std.specs.List.{AllByRecursion}
+use Rattle.record_fields.specs.declared.versions.Version.{Version}
 use Rattle.series.specs.declared.numbers.InvoiceId.{InvoiceId}
 use Rattle.huella.specs.Linked.{Linked}
 use Rattle.record_fields.specs.Records.{id_of, num_of, is_sale}
@@ -36,12 +37,14 @@ pub record IsChain (records : List Sealed) : Type 0 where
 
 -- what is known of legal histories
 abbrev pub AreLinked : Type 0
-AreLinked = (issuer : List ℕ) (entries : List Entry) → Legal issuer entries → Linked issuer (recs entries)
+AreLinked = (version : Version) (issuer : List ℕ) (entries : List Entry) → Legal version issuer entries →
+    Linked issuer (recs entries)
 
-pub chain_of : AreLinked → SalesAreNew → (issuer : List ℕ) (entries : List Entry) → Legal issuer entries → IsChain (recs entries)
-chain_of linked sales issuer entries legal = record {
-  huellas = λ before after s e. (linked issuer entries legal before after s e).new;
-  sales = λ before after s e sale. sales issuer entries before after s legal e sale;
+pub chain_of : AreLinked → SalesAreNew → (version : Version) (issuer : List ℕ) (entries : List Entry) →
+    Legal version issuer entries → IsChain (recs entries)
+chain_of linked sales version issuer entries legal = record {
+  huellas = λ before after s e. (linked version issuer entries legal before after s e).new;
+  sales = λ before after s e sale. sales version issuer entries before after s legal e sale;
 }
 
 -- a record that stands past so many is the next one, or is there already

@@ -197,11 +197,12 @@ look_next entries processed sent count chain agree =
     }
 
 pub looked_next : AreLinked → SalesAreNew → LookedLinesAreNext
-looked_next linked sales issuer entries processed sent count legal agree = look_next entries processed sent count
-    (chain_of linked sales issuer entries legal) agree
+looked_next linked sales version issuer entries processed sent count legal agree = look_next entries processed sent count
+    (chain_of linked sales version issuer entries legal) agree
 
 pub no_hole : AreLinked → SalesAreNew → WaitingHaveNoHole
-no_hole linked sales issuer entries processed sent count legal agree =
+no_hole linked sales version issuer entries processed sent count legal agree =
     let a = at_noted entries processed sent count agree in
-    no_hole_run (recs entries) (chain_of linked sales issuer entries legal) (take count (waiting entries)) (records_of a.first)
+    no_hole_run (recs entries) (chain_of linked sales version issuer entries legal) (take count (waiting entries))
+    (records_of a.first)
     a.after processed a.first a.second a.run agree.records a.split refl

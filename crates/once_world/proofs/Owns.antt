@@ -1,10 +1,9 @@
 -- What a shop gained, where it gained no notes but its outbox's own.
-use Rattle.std.proofs.Common.{◌≡◌, ℕ, ◌+◌, List, [], ◌∷◌, ◌++◌, refl, sym, ◌∙◌, ap, subst, length, length-append, drop, ◌<◌}
-use Rattle.std.proofs.Common.{arith, append_assoc, append-nil, add-one, true, get_or}
+use Rattle.std.proofs.Common.{◌≡◌, ℕ, ◌+◌, List, [], ◌∷◌, ◌++◌, refl, ◌∙◌, ap, subst, length, length-append, drop}
+use Rattle.std.proofs.Common.{arith, append_assoc, true, get_or}
 use Rattle.std.proofs.Math.Seq.{drop-append_seam, drop-length}
 use Rattle.std.proofs.lemmas.List.Elements.{filter_map-append}
 use Rattle.std.specs.Prelude.{Contains}
-use Rattle.std.specs.List.{AllByRecursion}
 use Rattle.record_codec.specs.declared.entry.Entry.{Entry}
 use Rattle.record_codec.specs.declared.entry.Entry.TheVariants.{Rec, Notes}
 use Rattle.shop_core.specs.History.{is_record}
@@ -12,7 +11,7 @@ use Rattle.shop_core.specs.Items.{entry_in, entries_of}
 use Rattle.shop_core.specs.declared.items.Item.{Item}
 use Rattle.shop_core.specs.declared.items.Item.TheVariants as recorded
 use Rattle.once_world.specs.Laws.{AreRecords, CameQuietly, CameBesideOwn}
-use Rattle.once_world.specs.Outbox.{Sight, AreOwnNotes}
+use Rattle.once_world.specs.Outbox.{AreOwnNotes}
 use Rattle.once_world.proofs.Lists.{all_front, all_back}
 
 entries_both : (xs ys : List Item) → entries_of (xs ++ ys) ≡ entries_of xs ++ entries_of ys

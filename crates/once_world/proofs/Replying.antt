@@ -142,9 +142,9 @@ from_noted verdicts entries processed sent (s ∷ batch) after lines chain agree
     (all_first verdicts (recs entries) chain (s ∷ batch) before after processed lines run here e)
 
 pub first_lines : AreLinked → SalesAreNew → FirstLinesAreNext
-first_lines linked sales issuer verdicts entries processed sent count lines legal agree e =
+first_lines linked sales version issuer verdicts entries processed sent count lines legal agree e =
     from_noted verdicts entries processed sent (take count (waiting entries)) (drop count (waiting entries)) lines
-    (chain_of linked sales issuer entries legal) agree (waiting_split entries count) e
+    (chain_of linked sales version issuer entries legal) agree (waiting_split entries count) e
 
 record_adds : (verdicts : List PlannedVerdict) (processed : List (Sealed × Line)) (s : Sealed) (found : Option Line) →
     line_of processed s.huella ≡ found → IsPrefix processed (after_record verdicts processed s)

@@ -2,6 +2,7 @@
 use Rattle.std.proofs.Common.{◌≡◌, ℕ, List, [], sym, ◌∙◌, ap, subst, Bool, true, false, not, ◌&&◌, length, take, drop, ◌≤◌, arith}
 use Rattle.std.proofs.Common.{nat_le, leb-true, is_none}
 use Rattle.std.proofs.lemmas.List.{length-take, take_all}
+use Rattle.record_fields.specs.declared.versions.Version.{Version}
 use Rattle.record_fields.specs.Links.{LinkedRun}
 use Rattle.record_fields.specs.declared.records.Sealed.{Sealed}
 use Rattle.record_codec.specs.declared.entry.Entry.{Entry}
@@ -35,11 +36,11 @@ sendable w count h =
     let c = counts w.up (not w.doubt) (is_none w.learnt) count (length (waiting w.state.entries)) h in
     record { some = c.0; few = c.1; within = c.2 }
 
-pub next_linked : RunsAreLinked → (issuer : List ℕ) (entries : List Entry) (count : ℕ) (batch : List Sealed) →
-    Legal issuer entries → batch ≡ take count (waiting entries) → LinkedRun batch
-next_linked linked issuer entries count batch legal e =
+pub next_linked : RunsAreLinked → (version : Version) (issuer : List ℕ) (entries : List Entry) (count : ℕ) (batch : List Sealed) →
+    Legal version issuer entries → batch ≡ take count (waiting entries) → LinkedRun batch
+next_linked linked version issuer entries count batch legal e =
     subst (λ (xs : List Sealed). LinkedRun xs) (sym e)
-    (linked issuer entries (take (length (noted entries)) (recs entries)) (take count (waiting entries))
+    (linked version issuer entries (take (length (noted entries)) (recs entries)) (take count (waiting entries))
     (drop count (waiting entries)) legal (waiting_split entries count))
 
 -- some are sent

@@ -1,8 +1,9 @@
 -- What is seen of a history in memory.
-use Rattle.std.proofs.Common.{◌≡◌, ℕ, List, [], ◌∷◌, ◌++◌, refl, sym, ◌∙◌, ap, subst, length, map, take, ◌≤◌, ◌<◌, ◌+◌, All}
+use Rattle.std.proofs.Common.{◌≡◌, ℕ, List, [], ◌∷◌, ◌++◌, refl, sym, ◌∙◌, ap, subst, length, map, take, ◌≤◌, ◌<◌, All}
 use Rattle.std.proofs.Common.{arith, append-nil, length-append, slice_index_or}
 use Rattle.std.proofs.lemmas.List.{map-append, length-drop, length-map}
 use Rattle.std.proofs.lemmas.List.Elements.{All-append}
+use Rattle.record_fields.specs.declared.versions.Version.{Version}
 use Rattle.record_fields.specs.declared.lines.Line.{Line}
 use Rattle.record_codec.specs.declared.entry.Entry.{Entry}
 use Rattle.record_codec.specs.declared.entry.Entry.TheVariants.{Notes}
@@ -20,35 +21,42 @@ pub entries_plain : (entries : List Entry) → entries_of (map recorded.Entry en
 entries_plain [] = refl
 entries_plain (e ∷ entries) = ap (λ (es : List Entry). e ∷ es) (entries_plain entries)
 
-legal_plain : (issuer : List ℕ) (entries : List Entry) → Legal issuer entries →
-    Legal issuer (entries_of (map recorded.Entry entries))
-legal_plain issuer entries legal = subst (λ (es : List Entry). Legal issuer es) (sym (entries_plain entries)) legal
+legal_plain : (version : Version) (issuer : List ℕ) (entries : List Entry) → Legal version issuer entries →
+    Legal version issuer (entries_of (map recorded.Entry entries))
+legal_plain version issuer entries legal = subst (λ (es : List Entry). Legal version issuer es)
+    (sym (entries_plain entries)) legal
 
 -- more entries are more items
-pub grows_by : (issuer issuer_then : List ℕ) (entries entries_then more : List Entry) (own own_then : List ℕ) →
-    issuer_then ≡ issuer → entries_then ≡ entries ++ more → Legal issuer_then entries_then →
-    Grows (plain_sight issuer entries own) (plain_sight issuer_then entries_then own_then)
-grows_by issuer issuer_then entries entries_then more own own_then same e legal = record {
+pub grows_by : (version version_then : Version) (issuer issuer_then : List ℕ) (entries entries_then more : List Entry)
+    (own own_then : List ℕ) →
+    version_then ≡ version → issuer_then ≡ issuer → entries_then ≡ entries ++ more → Legal version_then issuer_then entries_then →
+    Grows (plain_sight version issuer entries own) (plain_sight version_then issuer_then entries_then own_then)
+grows_by version version_then issuer issuer_then entries entries_then more own own_then kept same e legal = record {
   issuer = same;
+  version = kept;
   items = record {
     rest = map recorded.Entry more;
     is = ap (λ (es : List Entry). map recorded.Entry es) e ∙
         map-append recorded.Entry entries more;
   };
-  legal = legal_plain issuer_then entries_then legal;
+  legal = legal_plain version_then issuer_then entries_then legal;
 }
 
 -- nothing was added
-pub grows_same : (issuer issuer_then : List ℕ) (entries entries_then : List Entry) (own own_then : List ℕ) →
-    issuer_then ≡ issuer → entries_then ≡ entries → Legal issuer_then entries_then →
-    Grows (plain_sight issuer entries own) (plain_sight issuer_then entries_then own_then)
-grows_same issuer issuer_then entries entries_then own own_then same e legal =
-    grows_by issuer issuer_then entries entries_then [] own own_then same (e ∙ sym (append-nil entries)) legal
+pub grows_same : (version version_then : Version) (issuer issuer_then : List ℕ) (entries entries_then : List Entry)
+    (own own_then : List ℕ) →
+    version_then ≡ version → issuer_then ≡ issuer → entries_then ≡ entries → Legal version_then issuer_then entries_then →
+    Grows (plain_sight version issuer entries own) (plain_sight version_then issuer_then entries_then own_then)
+grows_same version version_then issuer issuer_then entries entries_then own own_then kept same e legal =
+    grows_by version version_then issuer issuer_then entries entries_then [] own own_then kept same
+    (e ∙ sym (append-nil entries)) legal
 
 -- the places of its own notes are below the count of entries
-pub within_plain : (issuer : List ℕ) (entries : List Entry) (own : List ℕ) → All (λ (p : ℕ). p < length entries) own →
-    OwnWithin (plain_sight issuer entries own)
-within_plain issuer entries own h = subst (λ (n : ℕ). All (λ (p : ℕ). p < n) own) (sym (length-map entries recorded.Entry)) h
+pub within_plain : (version : Version) (issuer : List ℕ) (entries : List Entry) (own : List ℕ) →
+    All (λ (p : ℕ). p < length entries) own →
+    OwnWithin (plain_sight version issuer entries own)
+within_plain version issuer entries own h = subst (λ (n : ℕ). All (λ (p : ℕ). p < n) own)
+    (sym (length-map entries recorded.Entry)) h
 
 all_below : (n m : ℕ) (own : List ℕ) → n ≤ m → All (λ (p : ℕ). p < n) own → All (λ (p : ℕ). p < m) own
 all_below n m own le h = λ k d lt. let one = h k d lt in omega (arith, one, le)
@@ -78,16 +86,17 @@ ends_in_none (x ∷ entries) [] faults torn e = absurd cc
 ends_in_none (x ∷ entries) (y ∷ before) faults torn e = let rest : map recorded.Entry entries ≡ before ++ recorded.Stop faults
     torn ∷ [] = cc in ends_in_none entries before faults torn rest
 
-pub never_stopped : (old : Sight) (issuer : List ℕ) (entries : List Entry) (own : List ℕ) (faults : ℕ) →
-    HasStopped old (plain_sight issuer entries own) faults → ⊥
-never_stopped old issuer entries own faults h = ends_in_none entries h.before faults h.torn h.items
+pub never_stopped : (old : Sight) (version : Version) (issuer : List ℕ) (entries : List Entry) (own : List ℕ) (faults : ℕ) →
+    HasStopped old (plain_sight version issuer entries own) faults → ⊥
+never_stopped old version issuer entries own faults h = ends_in_none entries h.before faults h.torn h.items
 
 -- notes of these lines were
-pub adds_notes : (issuer issuer_then : List ℕ) (entries entries_then : List Entry) (own own_then : List ℕ) (lines : List Line) →
+pub adds_notes : (version version_then : Version) (issuer issuer_then : List ℕ) (entries entries_then : List Entry)
+    (own own_then : List ℕ) (lines : List Line) →
     entries_then ≡ entries ++ Notes (length (noted entries)) lines ∷ [] → own_then ≡ own ++ length entries ∷ [] →
-    AddsOwn (plain_sight issuer entries own) (plain_sight issuer_then entries_then own_then)
+    AddsOwn (plain_sight version issuer entries own) (plain_sight version_then issuer_then entries_then own_then)
     (λ items. recorded.Entry (notes_behind items lines))
-adds_notes issuer issuer_then entries entries_then own own_then lines is own_is =
+adds_notes version version_then issuer issuer_then entries entries_then own own_then lines is own_is =
     let items : List Item = map recorded.Entry entries in
     let e : Entry = Notes (length (noted entries)) lines in
     let same : e ≡ notes_behind items lines = ap (λ (es : List Entry). Notes (length (noted es)) lines)
@@ -105,10 +114,10 @@ adds_notes issuer issuer_then entries entries_then own own_then lines is own_is 
       own = own_is ∙ ap (λ (k : ℕ). own ++ k ∷ []) at;
     }
 
-pub shows_plain : (issuer : List ℕ) (entries : List Entry) (own : List ℕ) (max : ℕ) (shown : Waiting) →
+pub shows_plain : (version : Version) (issuer : List ℕ) (entries : List Entry) (own : List ℕ) (max : ℕ) (shown : Waiting) →
     shown.noted ≡ length (noted entries) → shown.records ≡ length (recs entries) → shown.list ≡ take max (waiting entries) →
-    ShowsWaiting (plain_sight issuer entries own) max shown
-shows_plain issuer entries own max shown a b c =
+    ShowsWaiting (plain_sight version issuer entries own) max shown
+shows_plain version issuer entries own max shown a b c =
     let same : entries ≡ entries_of (map recorded.Entry entries) = sym (entries_plain entries) in
     record {
       noted_count = a ∙ ap (λ (es : List Entry). length (noted es)) same;

@@ -4,6 +4,7 @@ use Rattle.std.proofs.Common.{false, cond, ◌&&◌, length, take, ◌≤◌, �
 use Rattle.std.proofs.lemmas.List.{map-append, take_more}
 use Rattle.std.proofs.lemmas.Option.{slice_get_within, get_or_from_slice_get}
 use Rattle.std.specs.List.{Contains}
+use Rattle.record_fields.specs.declared.versions.Version.{Version}
 use Rattle.record_fields.specs.declared.records.Sealed.{Sealed}
 use Rattle.record_fields.specs.declared.lines.Line.{Line}
 use Rattle.record_codec.specs.declared.entry.Entry.{Entry}
@@ -129,16 +130,16 @@ holds_forgotten entries processed sent learnt h = record {
 }
 
 holds_appended : MakesRecords → (w : World) (ask : Asked) (seconds : ℕ) (planned : Planned) →
-    answer w.state.issuer w.state.entries ask seconds ≡ planned → HoldsOf w → HoldsOf (appended w planned)
+    answer w.state.version w.state.issuer w.state.entries ask seconds ≡ planned → HoldsOf w → HoldsOf (appended w planned)
 holds_appended made w ask seconds (Made entry) e h = holds_record w.state.entries entry w.processed w.sent w.learnt
-    (made w.state.issuer w.state.entries ask seconds entry e) h
+    (made w.state.version w.state.issuer w.state.entries ask seconds entry e) h
 holds_appended made w ask seconds (Again receipt) e h = h
 holds_appended made w ask seconds (Refused why) e h = h
 
 holds_torn : MakesRecords → (w : World) (kept : Bool) (ask : Asked) (seconds : ℕ) (planned : Planned) →
-    answer w.state.issuer w.state.entries ask seconds ≡ planned → HoldsOf w → HoldsOf (torn w kept planned)
+    answer w.state.version w.state.issuer w.state.entries ask seconds ≡ planned → HoldsOf w → HoldsOf (torn w kept planned)
 holds_torn made w true ask seconds (Made entry) e h = holds_record w.state.entries entry w.processed w.sent w.learnt
-    (made w.state.issuer w.state.entries ask seconds entry e) h
+    (made w.state.version w.state.issuer w.state.entries ask seconds entry e) h
 holds_torn made w false ask seconds (Made entry) e h = h
 holds_torn made w kept ask seconds (Again receipt) e h = h
 holds_torn made w kept ask seconds (Refused why) e h = h
@@ -163,7 +164,7 @@ either false v w h k = k
 pub holds_then : MakesRecords → (plan : Plan) (w : World) (e : Event) → IsChain (recs w.state.entries) → HoldsOf w →
     HoldsOf (happens plan w e)
 holds_then made plan w (event.Append ask seconds) chain h =
-    let planned = answer w.state.issuer w.state.entries ask seconds in
+    let planned = answer w.state.version w.state.issuer w.state.entries ask seconds in
     either w.up (appended w planned) w (λ up. holds_appended made w ask seconds planned refl h) h
 holds_then made plan w (event.Send count) chain h =
     either (may_send w count) (after_send w count) w
@@ -172,58 +173,67 @@ holds_then made plan w (event.Deliver index) chain h = holds_coming plan w index
 holds_then made plan w event.Look chain h = either (w.up && w.doubt) (after_look w) w (λ may. holds_look w chain h) h
 holds_then made plan w event.Note chain h = either w.up (after_note w w.learnt) w (λ up. holds_note w w.learnt refl h) h
 holds_then made plan w (event.Tear ask seconds kept) chain h =
-    let planned = answer w.state.issuer w.state.entries ask seconds in
+    let planned = answer w.state.version w.state.issuer w.state.entries ask seconds in
     either w.up (torn w kept planned) w (λ up. holds_torn made w kept ask seconds planned refl h) h
 holds_then made plan w (event.TearNote kept) chain h = either w.up (torn_note w kept w.learnt) w
     (λ up. holds_torn_note w kept w.learnt refl h) h
 holds_then made plan w event.Reopen chain h = either w.up w (reopened w) (λ up. h) (holds_forgotten w.state.entries w.processed
     w.sent w.learnt h)
 
--- no event changes the issuer
-same_either : (b : Bool) (v w : World) (issuer : List ℕ) → v.state.issuer ≡ issuer → w.state.issuer ≡ issuer →
-    (cond b v w).state.issuer ≡ issuer
-same_either true v w issuer h k = h
-same_either false v w issuer h k = k
+-- no event changes the issuer or the version
+abbrev whose : World → List ℕ × Version
+whose w = (w.state.issuer, w.state.version)
 
-same_appended : (w : World) (planned : Planned) → (appended w planned).state.issuer ≡ w.state.issuer
+same_either : (b : Bool) (v w : World) (own : List ℕ × Version) → whose v ≡ own → whose w ≡ own →
+    whose (cond b v w) ≡ own
+same_either true v w own h k = h
+same_either false v w own h k = k
+
+same_appended : (w : World) (planned : Planned) → whose (appended w planned) ≡ whose w
 same_appended w (Made entry) = refl
 same_appended w (Again receipt) = refl
 same_appended w (Refused why) = refl
 
-same_torn : (w : World) (kept : Bool) (planned : Planned) → (torn w kept planned).state.issuer ≡ w.state.issuer
+same_torn : (w : World) (kept : Bool) (planned : Planned) → whose (torn w kept planned) ≡ whose w
 same_torn w true (Made entry) = refl
 same_torn w false (Made entry) = refl
 same_torn w kept (Again receipt) = refl
 same_torn w kept (Refused why) = refl
 
-same_delivery : (plan : Plan) (w : World) (found : Option (List Sealed)) → (after_delivery plan w found).state.issuer ≡
-    w.state.issuer
+same_delivery : (plan : Plan) (w : World) (found : Option (List Sealed)) → whose (after_delivery plan w found) ≡
+    whose w
 same_delivery plan w None = refl
 same_delivery plan w (Some batch) = refl
 
-same_note : (w : World) (learnt : Option (List Line)) → (after_note w learnt).state.issuer ≡ w.state.issuer
+same_note : (w : World) (learnt : Option (List Line)) → whose (after_note w learnt) ≡ whose w
 same_note w None = refl
 same_note w (Some lines) = refl
 
-same_torn_note : (w : World) (kept : Bool) (learnt : Option (List Line)) → (torn_note w kept learnt).state.issuer ≡ w.state.issuer
+same_torn_note : (w : World) (kept : Bool) (learnt : Option (List Line)) → whose (torn_note w kept learnt) ≡ whose w
 same_torn_note w kept None = refl
 same_torn_note w true (Some lines) = refl
 same_torn_note w false (Some lines) = refl
 
-pub same_issuer : (plan : Plan) (w : World) (e : Event) → (happens plan w e).state.issuer ≡ w.state.issuer
-same_issuer plan w (event.Append ask seconds) =
-    let planned = answer w.state.issuer w.state.entries ask seconds in
-    same_either w.up (appended w planned) w w.state.issuer (same_appended w planned) refl
-same_issuer plan w (event.Send count) = same_either (may_send w count) (after_send w count) w w.state.issuer refl refl
-same_issuer plan w (event.Deliver index) = same_delivery plan w (slice_get w.sent index)
-same_issuer plan w event.Look = same_either (w.up && w.doubt) (after_look w) w w.state.issuer refl refl
-same_issuer plan w event.Note = same_either w.up (after_note w w.learnt) w w.state.issuer (same_note w w.learnt) refl
-same_issuer plan w (event.Tear ask seconds kept) =
-    let planned = answer w.state.issuer w.state.entries ask seconds in
-    same_either w.up (torn w kept planned) w w.state.issuer (same_torn w kept planned) refl
-same_issuer plan w (event.TearNote kept) = same_either w.up (torn_note w kept w.learnt) w w.state.issuer
+same_own : (plan : Plan) (w : World) (e : Event) → whose (happens plan w e) ≡ whose w
+same_own plan w (event.Append ask seconds) =
+    let planned = answer w.state.version w.state.issuer w.state.entries ask seconds in
+    same_either w.up (appended w planned) w (whose w) (same_appended w planned) refl
+same_own plan w (event.Send count) = same_either (may_send w count) (after_send w count) w (whose w) refl refl
+same_own plan w (event.Deliver index) = same_delivery plan w (slice_get w.sent index)
+same_own plan w event.Look = same_either (w.up && w.doubt) (after_look w) w (whose w) refl refl
+same_own plan w event.Note = same_either w.up (after_note w w.learnt) w (whose w) (same_note w w.learnt) refl
+same_own plan w (event.Tear ask seconds kept) =
+    let planned = answer w.state.version w.state.issuer w.state.entries ask seconds in
+    same_either w.up (torn w kept planned) w (whose w) (same_torn w kept planned) refl
+same_own plan w (event.TearNote kept) = same_either w.up (torn_note w kept w.learnt) w (whose w)
     (same_torn_note w kept w.learnt) refl
-same_issuer plan w event.Reopen = same_either w.up w (reopened w) w.state.issuer refl refl
+same_own plan w event.Reopen = same_either w.up w (reopened w) (whose w) refl refl
+
+pub same_issuer : (plan : Plan) (w : World) (e : Event) → (happens plan w e).state.issuer ≡ w.state.issuer
+same_issuer plan w e = ap (λ (p : List ℕ × Version). p.0) (same_own plan w e)
+
+pub same_version : (plan : Plan) (w : World) (e : Event) → (happens plan w e).state.version ≡ w.state.version
+same_version plan w e = ap (λ (p : List ℕ × Version). p.1) (same_own plan w e)
 
 pub holds_first : (issuer : List ℕ) → HoldsOf (empty issuer)
 holds_first issuer = record {

@@ -1,6 +1,8 @@
 -- What holds of a shop's legal history and an agency that agree.
 use Rattle.std.specs.Prelude.{◌≡◌, ℕ, ◌≤◌, List, [], ◌∷◌, ◌++◌, length, map, take, zip, Some, true, IsSome, ⊤}
 use Rattle.std.specs.List.{AllByRecursion, Contains}
+use Rattle.record_fields.specs.declared.versions.Version.{Version}
+use Rattle.record_fields.specs.declared.versions.Version.TheVariants.{Two}
 use Rattle.record_fields.specs.declared.records.Sealed.{Sealed}
 use Rattle.record_fields.specs.declared.lines.Line.{Line}
 use Rattle.record_fields.specs.declared.lines.TheConstants.{BATCH}
@@ -32,14 +34,15 @@ AreRecords more = AllByRecursion (λ (entry : Entry). is_record entry ≡ true) 
 
 -- each record stands once among the processed ones
 abbrev pub StandOnce : Type 0
-StandOnce = (issuer : List ℕ) (entries : List Entry) (processed : List (Sealed × Line)) (sent : List (List Sealed)) →
-    Legal issuer entries → Agree entries processed sent → AreOnce processed
+StandOnce = (version : Version) (issuer : List ℕ) (entries : List Entry) (processed : List (Sealed × Line))
+    (sent : List (List Sealed)) →
+    Legal version issuer entries → Agree entries processed sent → AreOnce processed
 
 -- whatever batches that were sent come, in whatever order, agreement stays
 abbrev pub DeliveriesKeepAgreement : Type 0
-DeliveriesKeepAgreement = (issuer : List ℕ) (verdicts : List PlannedVerdict) (entries : List Entry)
+DeliveriesKeepAgreement = (version : Version) (issuer : List ℕ) (verdicts : List PlannedVerdict) (entries : List Entry)
     (processed : List (Sealed × Line)) (sent batches : List (List Sealed)) →
-    Legal issuer entries → Agree entries processed sent → AreAmong sent batches →
+    Legal version issuer entries → Agree entries processed sent → AreAmong sent batches →
     Agree entries (delivered_all verdicts processed batches) sent
 
 -- with more records, one batch of waiting records sent, or the next lines noted, agreement stays
@@ -63,35 +66,37 @@ RecordsKeepNextLines = (entries more : List Entry) (processed : List (Sealed × 
 
 -- an agency that takes the noted pairs, and to which nothing was sent, agrees
 abbrev pub NotedPairsAgree : Type 0
-NotedPairsAgree = (issuer : List ℕ) (entries : List Entry) → Legal issuer entries →
+NotedPairsAgree = (version : Version) (issuer : List ℕ) (entries : List Entry) → Legal version issuer entries →
     Agree entries (zip (recs entries) (noted entries)) []
 
 -- a batch that was sent adds no refused sale
 abbrev pub DeliveriesRefuseNoSale : Type 0
-DeliveriesRefuseNoSale = (issuer : List ℕ) (verdicts : List PlannedVerdict) (entries : List Entry)
+DeliveriesRefuseNoSale = (version : Version) (issuer : List ℕ) (verdicts : List PlannedVerdict) (entries : List Entry)
     (processed : List (Sealed × Line)) (sent : List (List Sealed)) (batch : List Sealed) →
-    Legal issuer entries → Agree entries processed sent → Contains sent batch →
+    Legal version issuer entries → Agree entries processed sent → Contains sent batch →
     AddsNoRefusedSale processed (delivered verdicts processed batch)
 
 -- where the first waiting records are all answered as new, their lines are the next ones
 abbrev pub FirstLinesAreNext : Type 0
-FirstLinesAreNext = (issuer : List ℕ) (verdicts : List PlannedVerdict) (entries : List Entry)
+FirstLinesAreNext = (version : Version) (issuer : List ℕ) (verdicts : List PlannedVerdict) (entries : List Entry)
     (processed : List (Sealed × Line)) (sent : List (List Sealed)) (count : ℕ) (lines : List Line) →
-    Legal issuer entries → Agree entries processed sent → answers verdicts processed (take count (waiting entries))
+    Legal version issuer entries → Agree entries processed sent → answers verdicts processed (take count (waiting entries))
     ≡ map First lines →
     IsPrefix (noted entries ++ lines) (lines_of (delivered verdicts processed (take count (waiting entries))))
 
 -- a consultation of the first waiting records has no hole
 abbrev pub WaitingHaveNoHole : Type 0
-WaitingHaveNoHole = (issuer : List ℕ) (entries : List Entry) (processed : List (Sealed × Line)) (sent : List (List Sealed))
+WaitingHaveNoHole = (version : Version) (issuer : List ℕ) (entries : List Entry) (processed : List (Sealed × Line))
+    (sent : List (List Sealed))
     (count : ℕ) →
-    Legal issuer entries → Agree entries processed sent → HasNoHole (answers_for processed (take count (waiting entries)))
+    Legal version issuer entries → Agree entries processed sent → HasNoHole (answers_for processed (take count (waiting entries)))
 
 -- the lines in front of it are the next ones
 abbrev pub LookedLinesAreNext : Type 0
-LookedLinesAreNext = (issuer : List ℕ) (entries : List Entry) (processed : List (Sealed × Line)) (sent : List (List Sealed))
+LookedLinesAreNext = (version : Version) (issuer : List ℕ) (entries : List Entry) (processed : List (Sealed × Line))
+    (sent : List (List Sealed))
     (count : ℕ) →
-    Legal issuer entries → Agree entries processed sent →
+    Legal version issuer entries → Agree entries processed sent →
     IsPrefix (noted entries ++ lines_in_front (answers_for processed (take count (waiting entries)))) (lines_of processed)
 
 -- whatever batches come, the list only grows
@@ -124,7 +129,7 @@ IsEvent event.Reopen = ⊤
 -- The history is legal and agrees with the agency, and what was learnt are the agency's next lines. So each record stands once
 -- among the processed ones, and no sale is refused because the register says otherwise.
 pub record IsSound (issuer : List ℕ) (w : World) : Type 0 where
-  pub legal : Legal issuer w.state.entries
+  pub legal : Legal Two issuer w.state.entries
   pub agree : Agree w.state.entries w.processed w.sent
   pub learnt : IsLearnt w.state.entries w.processed w.learnt
   pub once : AreOnce w.processed

@@ -2,6 +2,7 @@
 use Rattle.std.specs.Prelude.{◌≡◌, ℕ, ◌+◌, ◌<◌, ◌≤◌, List, [], ◌∷◌, ◌++◌, length, take, drop, map, Result, Ok, Err, ⊤, All}
 use Rattle.std.specs.Prelude.{Contains}
 use Rattle.std.specs.List.{AllByRecursion}
+use Rattle.record_fields.specs.declared.versions.Version.{Version}
 use Rattle.record_fields.specs.declared.lines.Line.{Line}
 use Rattle.record_codec.specs.declared.entry.Entry.{Entry}
 use Rattle.record_codec.specs.declared.entry.Entry.TheVariants.{Rec, Notes}
@@ -15,9 +16,11 @@ use Rattle.shop_core.specs.Legal.{Legal}
 use Rattle.shop_core.specs.declared.waiting.Waiting.{Waiting}
 use Rattle.shop_core.specs.Prefix.{IsPrefix}
 
--- the shop's issuer, the items that were seen, and the places, from 0, of those that its own notes added
+-- the shop's issuer, the version of its history, the items that were seen, and the places, from 0, of those that its own notes
+-- added
 pub record Sight : Type 0 where
   pub issuer : List ℕ
+  pub version : Version
   pub items : List Item
   pub own : List ℕ
 
@@ -31,8 +34,9 @@ OwnWithin s = All (λ (place : ℕ). place < length s.items) s.own
 -- what is seen grows, and is a legal history of the one issuer
 pub record Grows (old new : Sight) : Type 0 where
   pub issuer : new.issuer ≡ old.issuer
+  pub version : new.version ≡ old.version
   pub items : IsPrefix old.items new.items
-  pub legal : Legal new.issuer (history_of new)
+  pub legal : Legal new.version new.issuer (history_of new)
 
 -- the two counts, and the first waiting records
 pub record ShowsWaiting (seen : Sight) (max : ℕ) (shown : Waiting) : Type 0 where
@@ -81,8 +85,14 @@ NotedBy old new lines (Err (Stopped faults)) = HasStopped old new faults
 NotedBy old new lines (Err NoMemory) = new.own ≡ old.own
 
 -- what is seen of a history without a stop
-abbrev pub plain_sight : List ℕ → List Entry → List ℕ → Sight
-plain_sight issuer entries own = record { issuer = issuer; items = map recorded.Entry entries; own = own }
+abbrev pub plain_sight : Version → List ℕ → List Entry → List ℕ → Sight
+plain_sight version issuer entries own = record {
+  issuer = issuer;
+  version = version;
+  items = map recorded.Entry
+      entries;
+  own = own;
+}
 
 -- the notes among these items, the first of which stands at this place, stand at places of its own
 abbrev pub AreOwnNotes : List ℕ → ℕ → List Item → Type 0

@@ -2,6 +2,7 @@
 -- has learnt lines is this project's own.
 use Rattle.std.specs.Prelude.{ℕ, List, [], ◌∷◌, ◌++◌, length, take, Option, Some, None, Bool, true, false, not, ◌&&◌, nat_le}
 use Rattle.std.specs.Prelude.{slice_get, is_none, if◌then◌else◌}
+use Rattle.record_fields.specs.declared.versions.Version.TheVariants.{Two}
 use Rattle.record_fields.specs.declared.records.Sealed.{Sealed}
 use Rattle.record_fields.specs.declared.lines.Line.{Line}
 use Rattle.record_fields.specs.declared.lines.TheConstants.{BATCH}
@@ -21,7 +22,7 @@ use Rattle.once_world.specs.declared.world.World.{World}
 -- up and in doubt, and nothing else
 abbrev pub empty : List ℕ → World
 empty issuer = record {
-  state = record { issuer = issuer; entries = []; room = None };
+  state = record { issuer = issuer; version = Two; entries = []; room = None };
   processed = [];
   sent = [];
   up = true;
@@ -30,7 +31,8 @@ empty issuer = record {
 }
 
 abbrev pub with_entry : World → Entry → World
-with_entry w entry = record w { state = record { issuer = w.state.issuer; entries = w.state.entries ++ entry ∷ []; room = None } }
+with_entry w entry = record
+    w { state = record { issuer = w.state.issuer; version = w.state.version; entries = w.state.entries ++ entry ∷ []; room = None } }
 
 -- the entry that was made is added
 abbrev pub appended : World → Planned → World
@@ -85,12 +87,14 @@ reopened w = record w { up = true; doubt = true; learnt = None }
 
 -- what an event makes of the world; one whose condition fails changes nothing
 abbrev pub happens : Plan → World → Event → World
-happens plan w (event.Append ask seconds) = if w.up then appended w (answer w.state.issuer w.state.entries ask seconds) else w
+happens plan w (event.Append ask seconds) = if w.up then appended w (answer w.state.version w.state.issuer w.state.entries ask
+    seconds) else w
 happens plan w (event.Send count) = if may_send w count then after_send w count else w
 happens plan w (event.Deliver index) = after_delivery plan w (slice_get w.sent index)
 happens plan w event.Look = if w.up && w.doubt then after_look w else w
 happens plan w event.Note = if w.up then after_note w w.learnt else w
-happens plan w (event.Tear ask seconds kept) = if w.up then torn w kept (answer w.state.issuer w.state.entries ask seconds) else w
+happens plan w (event.Tear ask seconds kept) = if w.up then torn w kept (answer w.state.version w.state.issuer w.state.entries ask
+    seconds) else w
 happens plan w (event.TearNote kept) = if w.up then torn_note w kept w.learnt else w
 happens plan w event.Reopen = if w.up then w else reopened w
 

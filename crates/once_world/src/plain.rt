@@ -51,8 +51,9 @@ impl PlainOutbox {
 
     // Adds an entry of its own that continues the history. Without memory nothing is added.
     fn add(&mut self, entry: Entry) -> Result<(), NoMemory>
-        requires { Continues self.old.state.issuer self.old.state.entries entry }
+        requires { Continues self.old.state.version self.old.state.issuer self.old.state.entries entry }
         ensures issuer { self.new.state.issuer ≡ self.old.state.issuer }
+        ensures version { self.new.state.version ≡ self.old.state.version }
         ensures ok { OnOk result ((self.new.state.entries ≡ self.old.state.entries ++ entry ∷ [])
             × (self.new.own.items ≡ self.old.own.items ++ length self.old.state.entries ∷ [])) }
         ensures err { OnErr result ((self.new.state.entries ≡ self.old.state.entries)
@@ -84,6 +85,7 @@ impl PlainOutbox {
     fn add_notes(&mut self, alloc: Global, lines: &[Line]) -> Result<(), NoMemory>
         requires { AreNext self.old.state.entries (length (noted self.old.state.entries)) lines.now }
         ensures issuer { self.new.state.issuer ≡ self.old.state.issuer }
+        ensures version { self.new.state.version ≡ self.old.state.version }
         ensures ok { OnOk result ((self.new.state.entries
             ≡ self.old.state.entries ++ Notes (length (noted self.old.state.entries)) lines.now ∷ [])
             × (self.new.own.items ≡ self.old.own.items ++ length self.old.state.entries ∷ [])) }
@@ -100,7 +102,7 @@ impl Outbox for PlainOutbox {
 
     ghost fixed = { λ o. tt };
 
-    ghost sight = { λ o. plain_sight o.state.issuer o.state.entries o.own.items };
+    ghost sight = { λ o. plain_sight o.state.version o.state.issuer o.state.entries o.own.items };
 
     ghost least = { λ o. length o.state.entries };
 

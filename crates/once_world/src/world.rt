@@ -1,6 +1,7 @@
 // The world of a shop and its agency, event by event.
 ghost use Rattle.std.specs.Prelude.{◌≡◌, ◌++◌, ◌∷◌, [], IfOk, OnOk, IfSome, length, None, slice_get, take, true, if◌then◌else◌};
 ghost use Rattle.record_codec.specs.declared.entry.Entry.{Entry as AnyEntry};
+ghost use Rattle.record_fields.specs.declared.versions.Version.TheVariants.{Two};
 ghost use Rattle.shop_core.specs.History as history;
 ghost use Rattle.shop_core.specs.Legal.{Legal, Continues, AreNext};
 ghost use Rattle.shop_core.specs.declared.answer.Planned.TheVariants.{Made as made};
@@ -13,7 +14,7 @@ use agency_rules::{Pairs, Plan};
 use batches::{Batch, Batches};
 use parties::Nif;
 use ports::NoMemory;
-use record_codec::Entry;
+use record_codec::{Entry, Version};
 use record_fields::{BATCH, Lines};
 use shop_core::{
     Ask, Planned, State, a_run_of_a_history_is_linked, a_sale_has_a_new_number, legal_is_chained,
@@ -40,9 +41,14 @@ pub struct World {
 
 // Adds an entry that continues the history.
 fn add(state: &mut State, entry: Entry) -> Result<(), NoMemory>
-    requires { Continues state.old.issuer state.old.entries entry }
+    requires { Continues state.old.version state.old.issuer state.old.entries entry }
     ensures { OnOk result (state.new
-        ≡ record { issuer = state.old.issuer; entries = state.old.entries ++ entry ∷ []; room = None }) }
+        ≡ record {
+          issuer = state.old.issuer;
+          version = state.old.version;
+          entries = state.old.entries ++ entry ∷ [];
+          room = None;
+        }) }
 {
     state.reserve(&entry)?;
     state.apply(entry);
@@ -55,7 +61,7 @@ impl World {
         ensures { result ≡ spec.empty issuer.now }
     {
         World {
-            state: State::empty(alloc, issuer),
+            state: State::empty(alloc, issuer, Version::Two),
             processed: Pairs::new(alloc),
             sent: Batches::of(Vec::new(alloc)),
             up: true,
@@ -65,7 +71,8 @@ impl World {
     }
 
     fn append(&mut self, planned: Planned) -> Result<(), NoMemory>
-        requires { (entry : AnyEntry) → planned ≡ made entry → Continues self.old.state.issuer self.old.state.entries entry }
+        requires { (entry : AnyEntry) → planned ≡ made entry →
+            Continues self.old.state.version self.old.state.issuer self.old.state.entries entry }
         ensures { OnOk result (self.new ≡ spec.appended self.old planned) }
     {
         match planned {
@@ -75,7 +82,8 @@ impl World {
     }
 
     fn tear(&mut self, planned: Planned, kept: bool) -> Result<(), NoMemory>
-        requires { (entry : AnyEntry) → planned ≡ made entry → Continues self.old.state.issuer self.old.state.entries entry }
+        requires { (entry : AnyEntry) → planned ≡ made entry →
+            Continues self.old.state.version self.old.state.issuer self.old.state.entries entry }
         ensures { OnOk result (self.new ≡ spec.torn self.old kept planned) }
     {
         if let Planned::Made(entry) = planned {
@@ -246,7 +254,7 @@ pub fn run_events(
     events: &[Event],
 ) -> Result<World, NoMemory>
     ensures world { IfOk result (λ w. w ≡ spec.world issuer.now plan.now events.now) }
-    ensures legal { IfOk result (λ w. Legal issuer.now w.state.entries) }
+    ensures legal { IfOk result (λ w. Legal Two issuer.now w.state.entries) }
     ensures agree { IfOk result (λ w. Agree w.state.entries w.processed w.sent) }
     ensures learnt { IfOk result (λ w. IsLearnt w.state.entries w.processed w.learnt) }
     ensures once { IfOk result (λ w. AreOnce w.processed) }

@@ -11,22 +11,22 @@ use Rattle.invoice_kinds.specs.declared.kind.RectKind.{RectKind}
 use Rattle.parties.specs.Nif as nif_specs
 use Rattle.parties.specs.Nif.{IsNif}
 use Rattle.stamps.specs.Clock.{IsStampOffset}
-use Rattle.tax_lines.specs.declared.classes.LineKey.{LineKey}
-use Rattle.tax_lines.specs.declared.classes.LineKey.TheVariants.{General}
-use Rattle.tax_lines.specs.Classes.{key_code}
+use Rattle.tax_lines.specs.declared.taxes.Tax.{Tax}
+use Rattle.tax_lines.specs.declared.taxes.Tax.TheVariants as tax
+use Rattle.tax_lines.specs.Keys.{tax_code, taxes}
 use Rattle.record_fields.specs.Picks.{when}
 use Rattle.record_fields.specs.declared.lines.Line.TheVariants.{Correcto}
 use Rattle.record_fields.specs.declared.records.Previo.{Previo}
 use Rattle.record_fields.specs.declared.records.Previo.TheVariants as previo
 use Rattle.record_codec.specs.Writing.{text_bytes, line_bytes}
-use Rattle.record_codec.specs.Codes.{flag_code, flags, kind_code, kinds, rect_code, rects, previo_code, previos, classes, of_code}
+use Rattle.record_codec.specs.Codes.{flag_code, flags, kind_code, kinds, rect_code, rects, previo_code, previos, of_code}
 use Rattle.record_codec.specs.Validity.{IsHuella, IsLine}
 use Rattle.record_codec.specs.Layout.{byte_field}
 use Rattle.record_codec.specs.Reading.{Reading, ◌>>=◌, byte_at, fixed_at, number_at, number_in, text_at, many_at, flag_at, nif_in}
 use Rattle.record_codec.specs.Reading.{base_in, offset_in, line_in, huella_at}
 use Rattle.record_codec.proofs.FieldLemmas.{found_not, guarded, Reads-text}
 use Rattle.record_codec.proofs.FieldReaders.{IsWide, Reads-number, Reads-byte_in, flag_reads, kind_reads, rect_reads}
-use Rattle.record_codec.proofs.FieldReaders.{previo_reads, class_reads, nif_reads, huella_reads, IsBase, base_reads, offset_reads}
+use Rattle.record_codec.proofs.FieldReaders.{previo_reads, tax_reads, nif_reads, huella_reads, IsBase, base_reads, offset_reads}
 use Rattle.record_codec.proofs.FieldReaders.{line_reads}
 use Rattle.record_codec.proofs.Halts.{Halts, Halts-one, Halts-none, Halts-then, Halts-through, Halts-is, Halts-and}
 use Rattle.record_codec.proofs.Readers.{Reads, pair_at, bind_assoc}
@@ -49,12 +49,13 @@ text_whole passes (n ∷ bytes) left e =
 pub alone : (x : List ℕ) → x ≡ concat (x ∷ [])
 alone x = sym (append-nil x)
 
-byte_halts : {A : Type 0} (says : ℕ → Option A) (code : A → ℕ) (Fits : A → Type 0) → Reads (byte_at says) (λ x. code x ∷ []) Fits
+pub byte_halts : {A : Type 0} (says : ℕ → Option A) (code : A → ℕ) (Fits : A → Type 0) →
+    Reads (byte_at says) (λ x. code x ∷ []) Fits
     → (value : A) → Fits value → Halts (byte_at says) (λ x. byte_field (code x) ∷ []) Fits
 byte_halts {A} says code Fits reads value fits = Halts-one (byte_at says) (λ (x : A). code x ∷ []) Fits reads (byte_whole says)
     value fits
 
-fixed_halts : {A : Type 0} (n : ℕ) (says : List ℕ → Option A) (spell : A → List ℕ) (Fits : A → Type 0) →
+pub fixed_halts : {A : Type 0} (n : ℕ) (says : List ℕ → Option A) (spell : A → List ℕ) (Fits : A → Type 0) →
     Reads (fixed_at n says) spell Fits
     → (value : A) → Fits value → Halts (fixed_at n says) (λ x. spell x ∷ []) Fits
 fixed_halts {A} n says spell Fits reads value fits = Halts-one (fixed_at n says) spell Fits reads (fixed_whole n says) value fits
@@ -88,8 +89,8 @@ pub previo_halts : Halts (byte_at (of_code previo_code previos)) (λ previo. byt
     (λ (previo : Previo). ⊤)
 previo_halts = byte_halts (of_code previo_code previos) previo_code (λ _. ⊤) previo_reads previo.N tt
 
-pub class_halts : Halts (byte_at (of_code key_code classes)) (λ key. byte_field (key_code key) ∷ []) (λ (key : LineKey). ⊤)
-class_halts = byte_halts (of_code key_code classes) key_code (λ _. ⊤) class_reads General tt
+pub tax_halts : Halts (byte_at (of_code tax_code taxes)) (λ tax. byte_field (tax_code tax) ∷ []) (λ (tax : Tax). ⊤)
+tax_halts = byte_halts (of_code tax_code taxes) tax_code (λ _. ⊤) tax_reads tax.Iva tt
 
 sample_nif : List ℕ
 sample_nif = 56 ∷ 57 ∷ 56 ∷ 57 ∷ 48 ∷ 48 ∷ 48 ∷ 49 ∷ 75 ∷ []

@@ -1,6 +1,6 @@
 -- The bytes of an entry are those of its fields.
 use Rattle.std.proofs.Common.{◌≡◌, ℕ, List, [], ◌∷◌, ◌++◌, length, Option, Some, None, refl, sym, ap, ◌∙◌, append_assoc}
-use Rattle.std.specs.Int.{w32, to_be_bytes}
+use Rattle.std.specs.Int.{w32, w64, to_be_bytes, cast_unsigned}
 use Rattle.std.specs.List.{flat_map, concat}
 use Rattle.std.proofs.lemmas.List.{append-nil}
 use Rattle.std.proofs.lemmas.List.Folds.{concat-append}
@@ -17,13 +17,16 @@ use Rattle.record_fields.specs.declared.records.Link.TheVariants.{First, After}
 use Rattle.record_fields.specs.declared.records.Record.{Record}
 use Rattle.record_fields.specs.declared.records.Record.TheVariants as record_of
 use Rattle.record_codec.specs.declared.entry.Entry.TheVariants.{Rec, Notes}
+use Rattle.record_fields.specs.declared.versions.Version.{Version}
 use Rattle.record_codec.specs.Writing.{text_bytes, id_bytes, party_bytes, customer_bytes, refs_bytes, tax_line_bytes}
 use Rattle.record_codec.specs.Writing.{breakdown_bytes, draft_bytes, link_bytes, moment_bytes, alta_bytes, anulacion_bytes}
 use Rattle.record_codec.specs.Writing.{line_bytes, record_bytes, entry_bytes}
 use Rattle.record_codec.specs.Codes.{kind_code, rect_code}
 use Rattle.record_codec.specs.Laws.{AnEncodingIsItsFields}
+use Rattle.record_codec.proofs.KeyReaders.{key_whole}
 use Rattle.record_codec.proofs.RecordReaders.{said_bytes}
-use Rattle.record_codec.specs.Layout.{byte_field, id_fields, party_fields, customer_fields, refs_fields, tax_line_fields}
+use Rattle.record_codec.specs.Layout.{byte_field, id_fields, party_fields, customer_fields, refs_fields, key_fields}
+use Rattle.record_codec.specs.Layout.{tax_line_fields}
 use Rattle.record_codec.specs.Layout.{breakdown_fields, draft_fields, link_fields, moment_fields, alta_fields, anulacion_fields}
 use Rattle.record_codec.specs.Layout.{said_fields, entry_fields}
 
@@ -60,21 +63,25 @@ pub refs_whole : (ids : List InvoiceId) → refs_bytes ids ≡ concat (refs_fiel
 unfolding refs_bytes
 refs_whole ids = ap (λ (x : List ℕ). length ids ∷ x) (all id_bytes id_fields id_whole ids)
 
-pub tax_line_whole : (line : TaxLine) → tax_line_bytes line ≡ concat (tax_line_fields line)
+pub tax_line_whole : (version : Version) (line : TaxLine) → tax_line_bytes version line ≡ concat (tax_line_fields version line)
 unfolding tax_line_bytes
-tax_line_whole line = simp append-nil
+tax_line_whole version line =
+    joined (key_fields version line.key) (to_be_bytes w64 (cast_unsigned w64 line.base) ∷ []) (key_whole version line.key)
+    (sym (append-nil (to_be_bytes w64 (cast_unsigned w64 line.base))))
 
-pub breakdown_whole : (lines : List TaxLine) → breakdown_bytes lines ≡ concat (breakdown_fields lines)
+pub breakdown_whole : (version : Version) (lines : List TaxLine) → breakdown_bytes version lines ≡
+    concat (breakdown_fields version lines)
 unfolding breakdown_bytes
-breakdown_whole lines = ap (λ (x : List ℕ). length lines ∷ x) (all tax_line_bytes tax_line_fields tax_line_whole lines)
+breakdown_whole version lines =
+    ap (λ (x : List ℕ). length lines ∷ x) (all (tax_line_bytes version) (tax_line_fields version) (tax_line_whole version) lines)
 
-pub draft_whole : (draft : Draft) → draft_bytes draft ≡ concat (draft_fields draft)
+pub draft_whole : (version : Version) (draft : Draft) → draft_bytes version draft ≡ concat (draft_fields version draft)
 unfolding draft_bytes
-draft_whole draft =
+draft_whole version draft =
     ap (λ (x : List ℕ). kind_code draft.kind ∷ rect_code draft.rect ∷ x)
-    (joined (customer_fields draft.customer ++ refs_fields draft.refs) (breakdown_fields draft.lines)
+    (joined (customer_fields draft.customer ++ refs_fields draft.refs) (breakdown_fields version draft.lines)
     (joined (customer_fields draft.customer) (refs_fields draft.refs) (customer_whole draft.customer) (refs_whole draft.refs))
-    (breakdown_whole draft.lines))
+    (breakdown_whole version draft.lines))
 
 pub link_whole : (link : Link) → link_bytes link ≡ concat (link_fields link)
 unfolding link_bytes
@@ -85,10 +92,10 @@ pub moment_whole : (moment : Moment) → moment_bytes moment ≡ concat (moment_
 unfolding moment_bytes
 moment_whole moment = simp append-nil
 
-pub alta_whole : (alta : Alta) → alta_bytes alta ≡ concat (alta_fields alta)
+pub alta_whole : (version : Version) (alta : Alta) → alta_bytes version alta ≡ concat (alta_fields version alta)
 unfolding alta_bytes
-alta_whole alta =
-    rw (id_whole alta.id, draft_whole alta.draft, link_whole alta.link, moment_whole alta.moment)
+alta_whole version alta =
+    rw (id_whole alta.id, draft_whole version alta.draft, link_whole alta.link, moment_whole alta.moment)
     (simp (concat-append, append_assoc, append-nil))
 
 pub anulacion_whole : (anulacion : Anulacion) → anulacion_bytes anulacion ≡ concat (anulacion_fields anulacion)
@@ -100,20 +107,21 @@ anulacion_whole anulacion =
 line_whole : (line : Line) → line_bytes line ≡ concat (line_bytes line ∷ [])
 line_whole line = sym (append-nil (line_bytes line))
 
-pub said_whole : (body : Record) → said_bytes body ≡ concat (said_fields body)
-said_whole (record_of.Alta alta) = alta_whole alta
-said_whole (record_of.Anulacion anulacion) = anulacion_whole anulacion
+pub said_whole : (version : Version) (body : Record) → said_bytes version body ≡ concat (said_fields version body)
+said_whole version (record_of.Alta alta) = alta_whole version alta
+said_whole version (record_of.Anulacion anulacion) = anulacion_whole anulacion
 
-record_whole : (till serial : ℕ) (body : Record) (huella : List ℕ)
-    → record_bytes till serial body huella ≡ concat (entry_fields (Rec till serial (record { body = body; huella = huella })))
-record_whole till serial (record_of.Alta alta) huella =
-    joined (byte_field 1 ∷ byte_field till ∷ to_be_bytes w32 serial ∷ alta_fields alta) (huella ∷ [])
-    (ap (λ (x : List ℕ). (1 ∷ till ∷ to_be_bytes w32 serial) ++ x) (alta_whole alta)) (sym (append-nil huella))
-record_whole till serial (record_of.Anulacion anulacion) huella =
+record_whole : (version : Version) (till serial : ℕ) (body : Record) (huella : List ℕ)
+    → record_bytes version till serial body huella ≡
+    concat (entry_fields version (Rec till serial (record { body = body; huella = huella })))
+record_whole version till serial (record_of.Alta alta) huella =
+    joined (byte_field 1 ∷ byte_field till ∷ to_be_bytes w32 serial ∷ alta_fields version alta) (huella ∷ [])
+    (ap (λ (x : List ℕ). (1 ∷ till ∷ to_be_bytes w32 serial) ++ x) (alta_whole version alta)) (sym (append-nil huella))
+record_whole version till serial (record_of.Anulacion anulacion) huella =
     joined (byte_field 2 ∷ byte_field till ∷ to_be_bytes w32 serial ∷ anulacion_fields anulacion) (huella ∷ [])
     (ap (λ (x : List ℕ). (2 ∷ till ∷ to_be_bytes w32 serial) ++ x) (anulacion_whole anulacion)) (sym (append-nil huella))
 
 pub whole : AnEncodingIsItsFields
 unfolding entry_bytes
-whole (Rec till serial sealed) = record_whole till serial sealed.body sealed.huella
-whole (Notes first lines) = rw (all line_bytes (λ (line : Line). line_bytes line ∷ []) line_whole lines) refl
+whole version (Rec till serial sealed) = record_whole version till serial sealed.body sealed.huella
+whole version (Notes first lines) = rw (all line_bytes (λ (line : Line). line_bytes line ∷ []) line_whole lines) refl

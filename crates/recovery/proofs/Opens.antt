@@ -1,5 +1,6 @@
 -- A file that was opened.
 use Rattle.std.proofs.Common.{◌≡◌, ℕ, List, [], refl, sym, ◌∙◌, subst, inl, inr, Result, Ok, Err, IfOk}
+use Rattle.record_fields.specs.declared.versions.Version.TheVariants.{One}
 use Rattle.recovery.specs.Opening.{IsFound}
 use Rattle.chain_disk.specs.OnDisk.{OnDisk, IsSettled, LeavesNow, LeavesOnly, synced}
 use Rattle.chain_disk.specs.Runs.{leaves_now, started_settled, weaker}
@@ -11,7 +12,8 @@ use Rattle.chain_store.specs.declared.loading.Loaded.{Loaded}
 use Rattle.shop_core.specs.File.Files.{StandsFor, bodies_of}
 
 -- a file that was begun stands for the empty history
-pub begun : (issuer : List ℕ) (t : OnDisk) → Legal issuer [] → LeavesNow t (IsFile issuer []) → LeavesNow t (StandsFor issuer [])
+pub begun : (issuer : List ℕ) (t : OnDisk) → Legal One issuer [] → LeavesNow t (IsFile issuer []) →
+    LeavesNow t (StandsFor issuer [])
 begun issuer t legal only = λ c left. record { frames = only c left; encoded = tt; legal = legal }
 
 pub at_some : (issuer : List ℕ) (entries : List Entry) (end : ℕ) (t : OnDisk) → StandsFor issuer entries t.content →
@@ -30,12 +32,12 @@ pub stays : (issuer : List ℕ) (entries : List Entry) (t : OnDisk) → StandsFo
     LeavesNow t (StandsFor issuer entries)
 stays issuer entries t stands quiet = leaves_now t (StandsFor issuer entries) quiet stands
 
-found_empty : (issuer c : List ℕ) → Legal issuer [] → IsNotBegunOrEmpty issuer c → IsFound issuer [] c
+found_empty : (issuer c : List ℕ) → Legal One issuer [] → IsNotBegunOrEmpty issuer c → IsFound issuer [] c
 found_empty issuer c legal (inl not_begun) = inl (not_begun, refl)
 found_empty issuer c legal (inr file) = inr (record { frames = file; encoded = tt; legal = legal })
 
 -- while a file is begun, each crash leaves the empty history
-pub begins : (issuer : List ℕ) (t u : OnDisk) → Legal issuer [] → LeavesOnly t u (IsNotBegunOrEmpty issuer) →
+pub begins : (issuer : List ℕ) (t u : OnDisk) → Legal One issuer [] → LeavesOnly t u (IsNotBegunOrEmpty issuer) →
     LeavesOnly t u (IsFound issuer [])
 begins issuer t u legal only = weaker t u (IsNotBegunOrEmpty issuer) (IsFound issuer []) only (λ c left. found_empty issuer c
     legal left)

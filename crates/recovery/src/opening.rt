@@ -1,5 +1,6 @@
 // Opens a file for an issuer.
 ghost use Rattle.std.specs.Prelude.{◌≡◌, ◌≢◌, ◌≤◌, [], ℕ, IsTrue, IfOk, IfErr, None};
+ghost use Rattle.record_fields.specs.declared.versions.Version.TheVariants.{One};
 ghost use Rattle.ports.specs.Causes.{Rose};
 ghost use Rattle.chain_disk.specs.OnDisk.{IsSettled, LeavesNow, LeavesOnly, synced};
 ghost use Rattle.journal.specs.File.{IsNotBegun};
@@ -16,6 +17,7 @@ use chain_store::{Loaded, OpenCause, Store, load};
 use journal::{Journal, Lost, a_file_not_begun_is_no_chain};
 use parties::Nif;
 use ports::Clock;
+use record_codec::Version;
 use shop_core::State;
 use std::alloc::Global;
 
@@ -28,7 +30,7 @@ pub struct OpenFault<D: Disk, C: Clock> {
 }
 
 /// Opens the file of an issuer's chain, and begins it where it isn't begun. The clock isn't read. First the file is synced, so
-/// that a crash leaves what is read. A damaged file and one of another issuer are left as they are.
+/// that a crash leaves what is read. Every file is of version One. A damaged file and one of another issuer are left as they are.
 pub fn open_store<D: Disk, C: Clock>(
     alloc: Global,
     disk: D,
@@ -39,6 +41,7 @@ pub fn open_store<D: Disk, C: Clock>(
     ensures going_on { IfOk result (λ store. stopped_of (journal_of store) ≡ None) }
     ensures no_torn { IfOk result (λ store. torn_of store ≡ None) }
     ensures issuer { IfOk result (λ store. (state_of store).issuer ≡ issuer.now) }
+    ensures version { IfOk result (λ store. (state_of store).version ≡ One) }
     ensures found { IfOk result (λ store. IsTrue D.tells → IsFound issuer.now (state_of store).entries (D.told disk).content) }
     ensures every_crash { IfOk result (λ store. IsTrue D.tells →
         LeavesNow (D.told (disk_of (journal_of store))) (StandsFor issuer.now (state_of store).entries)) }
@@ -92,6 +95,7 @@ fn open_held<D: Disk, C: Clock>(
     end: u64,
 ) -> Result<Store<D, C>, OpenFault<D, C>>
     requires near { end ≤ furthest_gate state.entries }
+    requires version { state.version ≡ One }
     requires holds { IsTrue D.tells → IsLoaded (D.told disk).content (Begun state end) × IsSettled (D.told disk) }
     ensures ready { IfOk result (λ store. Ready D.tells D.told store) }
     ensures going_on { IfOk result (λ store. stopped_of (journal_of store) ≡ None) }
@@ -128,7 +132,8 @@ fn begin<D: Disk, C: Clock>(
     ensures ready { IfOk result (λ store. Ready D.tells D.told store) }
     ensures going_on { IfOk result (λ store. stopped_of (journal_of store) ≡ None) }
     ensures no_torn { IfOk result (λ store. torn_of store ≡ None) }
-    ensures empty { IfOk result (λ store. ((state_of store).issuer ≡ issuer.now) × ((state_of store).entries ≡ [])
+    ensures empty { IfOk result (λ store. ((state_of store).issuer ≡ issuer.now) × ((state_of store).version ≡ One)
+        × ((state_of store).entries ≡ [])
         × (clock_of store ≡ clock)) }
     ensures every_crash { IfOk result (λ store. IsTrue D.tells →
         LeavesNow (D.told (disk_of (journal_of store))) (StandsFor issuer.now (state_of store).entries)) }
@@ -142,7 +147,7 @@ fn begin<D: Disk, C: Clock>(
     ensures later { IfOk result (λ store. D.faults disk ≤ D.faults (disk_of (journal_of store))) }
     ensures later_err { IfErr result (λ fault. D.faults disk ≤ D.faults fault.disk) }
 {
-    let state = State::empty(alloc, issuer);
+    let state = State::empty(alloc, issuer, Version::One);
     state.is_legal();
     match Journal::create(disk, issuer) {
         Ok(journal) => Ok(Store::of(state, journal, clock)),

@@ -10,8 +10,8 @@ use Rattle.record_fields.specs.declared.checks.DraftFault.TheVariants.{OverSimpl
 use Rattle.huella.specs.Texts.{huella_text}
 use Rattle.shop_core.specs.declared.answer.receipts.Receipt.{Receipt}
 use Rattle.shop_core.specs.declared.answer.refusals.Refusal.{Refusal}
-use Rattle.shop_core.specs.declared.answer.refusals.Refusal.TheVariants.{Passed, BadDraft, Unknown, Cancelled, RefNotSimplified}
-use Rattle.shop_core.specs.declared.answer.refusals.Refusal.TheVariants.{ChainFull, ClockRange, HuellaTwice}
+use Rattle.shop_core.specs.declared.answer.refusals.Refusal.TheVariants.{Passed, BadDraft, OldFile, Unknown, Cancelled}
+use Rattle.shop_core.specs.declared.answer.refusals.Refusal.TheVariants.{RefNotSimplified, ChainFull, ClockRange, HuellaTwice}
 use Rattle.shop_core.specs.declared.answer.Reply.{Reply}
 use Rattle.shop_core.specs.declared.answer.Reply.TheVariants.{Taken, Again, Refused}
 use Rattle.report.specs.declared.answers.AnswerLine.{AnswerLine}
@@ -34,6 +34,7 @@ draft_fault_text (OverSimplified cents) = codes "over-simplified " ++ signed_dec
 abbrev pub refusal_text : Refusal → List ℕ
 refusal_text (Passed last) = codes "passed " ++ decimal last
 refusal_text (BadDraft fault) = codes "draft " ++ draft_fault_text fault
+refusal_text (OldFile index) = codes "old-file " ++ decimal index
 refusal_text Unknown = codes "unknown"
 refusal_text (Cancelled place) = codes "cancelled " ++ decimal place
 refusal_text (RefNotSimplified index) = codes "ref " ++ decimal index

@@ -89,6 +89,7 @@ fn put_refusal(text: &mut Vec<u8>, why: Refusal) -> Result<(), AllocError>
             put(text, b"draft ")?;
             put_draft_fault(text, fault)
         }
+        Refusal::OldFile { index } => put_counted(text, b"old-file ", u64::from(index)),
         Refusal::Unknown => put(text, b"unknown"),
         Refusal::Cancelled { place } => put_counted(text, b"cancelled ", u64::from(place)),
         Refusal::RefNotSimplified { index } => put_counted(text, b"ref ", u64::from(index)),

@@ -5,7 +5,9 @@ ghost use Rattle.record_codec.specs.Validity.{InRanges};
 use crate::records::{TEN, breakdown, draft, issuer, line, nif, number};
 use invoice_kinds::{Kind, RectKind};
 use parties::{Name, Party};
-use record_codec::{BadEntry, Entry, Head, decode, encode, fields_are_valid, head_of, write_entry};
+use record_codec::{
+    BadEntry, Entry, Head, Version, decode, encode, fields_are_valid, fits, head_of, write_entry,
+};
 use record_fields::{
     Alta, Anulacion, Cause, Draft, Line, Lines, Link, Previo, Record, Refs, Sealed,
 };
@@ -13,7 +15,7 @@ use series::InvoiceId;
 use stamps::{Day, Stamp};
 use std::alloc::Global;
 use std::test::Fail;
-use tax_lines::LineKey;
+use tax_lines::{Class, LineKey};
 
 // The bytes below were made by another program from the fields that the functions after them give.
 
@@ -116,9 +118,9 @@ fn rectifying_draft(alloc: Global) -> Result<Draft, Fail>
     let nif = nif("B12345674")?;
     let refs = [id("A-1", 20_089)?, id("B/7 x", 0)?];
     let lines = [
-        line(LineKey::SuperReducedSurcharge, -1)?,
-        line(LineKey::E6, 9_999_999_999)?,
-        line(LineKey::Zero, -9_999_999_999)?,
+        line(LineKey::iva(Class::SuperReducedSurcharge), -1)?,
+        line(LineKey::iva(Class::E6), 9_999_999_999)?,
+        line(LineKey::iva(Class::Zero), -9_999_999_999)?,
     ];
     Ok(Draft {
         kind: Kind::R4,
@@ -129,7 +131,7 @@ fn rectifying_draft(alloc: Global) -> Result<Draft, Fail>
     })
 }
 
-fn rectified(alloc: Global) -> Result<Entry, Fail>
+pub fn rectified(alloc: Global) -> Result<Entry, Fail>
     ensures { IfOk result (λ entry. InRanges entry) }
 {
     let alta = Alta {
@@ -152,7 +154,7 @@ fn rectified(alloc: Global) -> Result<Entry, Fail>
     })
 }
 
-fn cancelled() -> Result<Entry, Fail>
+pub fn cancelled() -> Result<Entry, Fail>
     ensures { IfOk result (λ entry. InRanges entry) }
 {
     let anulacion = Anulacion {
@@ -174,7 +176,7 @@ fn cancelled() -> Result<Entry, Fail>
     })
 }
 
-fn noted(alloc: Global) -> Result<Entry, Fail>
+pub fn noted(alloc: Global) -> Result<Entry, Fail>
     ensures { IfOk result (λ entry. InRanges entry) }
 {
     let lines = [
@@ -192,8 +194,11 @@ fn noted(alloc: Global) -> Result<Entry, Fail>
 fn is_written(alloc: Global, entry: &Entry, bytes: &[u8]) -> bool
     requires { InRanges entry.now }
 {
-    fields_are_valid(entry);
-    match encode(alloc, entry) {
+    if !fits(Version::One, entry) {
+        return false;
+    }
+    fields_are_valid(Version::One, entry);
+    match encode(alloc, Version::One, entry) {
         Ok(written) => written.as_slice() == bytes,
         Err(_) => false,
     }
@@ -202,7 +207,7 @@ fn is_written(alloc: Global, entry: &Entry, bytes: &[u8]) -> bool
 // The bytes are an entry's, and that entry's bytes are these.
 fn is_read_back(alloc: Global, bytes: &[u8]) -> Result<bool, Fail> {
     let issuer = issuer()?;
-    match decode(alloc, &issuer, bytes) {
+    match decode(alloc, Version::One, &issuer, bytes) {
         Ok(entry) => Ok(is_written(alloc, &entry, bytes)),
         Err(_) => Ok(false),
     }
@@ -228,7 +233,7 @@ fn bytes_are_those_of_an_entry(rt: HostRuntime) -> Result<(), Fail> {
 
 fn fault(alloc: Global, bytes: &[u8]) -> Result<Option<BadEntry>, Fail> {
     let issuer = issuer()?;
-    Ok(decode(alloc, &issuer, bytes).err())
+    Ok(decode(alloc, Version::One, &issuer, bytes).err())
 }
 
 // The fault of the bytes with another byte at this place.
@@ -343,7 +348,9 @@ fn a_cut_field_is_named_and_so_is_a_byte_too_many(rt: HostRuntime) -> Result<(),
 #[test]
 fn the_first_sale_is_written_in_73_bytes(rt: HostRuntime) -> Result<(), Fail> {
     let mut out = [0; 4096];
-    let n = write_entry(&sale(rt.alloc())?, &mut out);
+    let sale = sale(rt.alloc())?;
+    assert!(rt; fits(Version::One, &sale));
+    let n = write_entry(Version::One, &sale, &mut out);
     assert_eq!(rt; n, 73);
     assert!(rt; out.starts_with(&SALE));
     Ok(())

@@ -5,7 +5,7 @@ use invoice_kinds::Kind;
 use record_fields::{Link, Record};
 use std::alloc::Global;
 use std::test::Fail;
-use tax_lines::LineKey;
+use tax_lines::{Class, LineKey};
 
 const FIRST: &str = "3C464DAF61ACB827C65FDA19F352A4E3BDC2C640E9E9FC4CC058073F38F12F60";
 
@@ -24,7 +24,10 @@ const THIRD_TEXT: &str =
 
 // The invoice of this number, whose lines are 11.27 at the general rate and 99.83 at the reduced one.
 fn invoiced(alloc: Global, num: &str, link: Link, seconds: u64) -> Result<Record, Fail> {
-    let lines = [line(LineKey::General, 1127)?, line(LineKey::Reduced, 9983)?];
+    let lines = [
+        line(LineKey::iva(Class::General), 1127)?,
+        line(LineKey::iva(Class::Reduced), 9983)?,
+    ];
     let draft = draft_of(alloc, Kind::F1, &lines)?;
     let id = id(num, "01-01-2024")?;
     Ok(Record::Alta(alta(issuer()?, id, draft, link, moment(seconds)?)))

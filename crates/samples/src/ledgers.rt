@@ -2,14 +2,14 @@
 use amounts::Cents;
 use invoice_kinds::Kind;
 use parties::Nif;
-use record_codec::Entry;
+use record_codec::{Entry, Version};
 use record_fields::{Cause, Draft, Line, Lines, Refs};
 use series::{NumSerie, SeriesName};
 use shop_core::{Ask, Planned, Request, State, next_fault, plan};
 use statements::{Ledger, Month, Row};
 use std::alloc::Global;
 use std::test::Fail;
-use tax_lines::{Breakdown, LineKey, TaxLine};
+use tax_lines::{Breakdown, Class, LineKey, TaxLine};
 
 /// 2025-01-01, 10:00 on the peninsular clock.
 const TEN: u64 = 1_735_722_000;
@@ -58,7 +58,7 @@ fn note(alloc: Global, ledger: &mut Ledger, line: Line) -> Result<(), Fail> {
 
 fn empty(alloc: Global) -> Result<Ledger, Fail> {
     let issuer = Nif::read("89890001K").ok().ok_or("a tax number")?;
-    Ok(Ledger::of(alloc, State::empty(alloc, &issuer))?)
+    Ok(Ledger::of(alloc, State::empty(alloc, &issuer, Version::One))?)
 }
 
 fn sale(alloc: Global, key: LineKey, base: i64) -> Result<Request, Fail> {
@@ -92,13 +92,13 @@ fn two_sales_have_a_row_each(rt: HostRuntime) -> Result<(), Fail> {
     let alloc = rt.alloc();
     let mut ledger = empty(alloc)?;
     assert!(rt; rows_are(&ledger, &[])?);
-    let request = sale(alloc, LineKey::Reduced, 1_000)?;
+    let request = sale(alloc, LineKey::iva(Class::Reduced), 1_000)?;
     ask(alloc, &mut ledger, 1, request)?;
-    let request = sale(alloc, LineKey::General, 10_000)?;
+    let request = sale(alloc, LineKey::iva(Class::General), 10_000)?;
     ask(alloc, &mut ledger, 2, request)?;
     let rows = [
-        row(LineKey::General, 10_000, 2_100),
-        row(LineKey::Reduced, 1_000, 100),
+        row(LineKey::iva(Class::General), 10_000, 2_100),
+        row(LineKey::iva(Class::Reduced), 1_000, 100),
     ];
     assert!(rt; rows_are(&ledger, &rows)?);
     Ok(())
@@ -108,9 +108,9 @@ fn two_sales_have_a_row_each(rt: HostRuntime) -> Result<(), Fail> {
 fn a_refused_fix_brings_the_sale_back(rt: HostRuntime) -> Result<(), Fail> {
     let alloc = rt.alloc();
     let mut ledger = empty(alloc)?;
-    let request = sale(alloc, LineKey::General, 10_000)?;
+    let request = sale(alloc, LineKey::iva(Class::General), 10_000)?;
     ask(alloc, &mut ledger, 1, request)?;
-    let draft = draft(alloc, &[line(LineKey::General, 20_000)?])?;
+    let draft = draft(alloc, &[line(LineKey::iva(Class::General), 20_000)?])?;
     ask(
         alloc,
         &mut ledger,
@@ -120,11 +120,11 @@ fn a_refused_fix_brings_the_sale_back(rt: HostRuntime) -> Result<(), Fail> {
             draft,
         },
     )?;
-    assert!(rt; rows_are(&ledger, &[row(LineKey::General, 20_000, 4_200)])?);
+    assert!(rt; rows_are(&ledger, &[row(LineKey::iva(Class::General), 20_000, 4_200)])?);
     note(alloc, &mut ledger, Line::Correcto)?;
-    assert!(rt; rows_are(&ledger, &[row(LineKey::General, 20_000, 4_200)])?);
+    assert!(rt; rows_are(&ledger, &[row(LineKey::iva(Class::General), 20_000, 4_200)])?);
     note(alloc, &mut ledger, Line::Incorrecto(Cause::Vet(4_100)))?;
-    assert!(rt; rows_are(&ledger, &[row(LineKey::General, 10_000, 2_100)])?);
+    assert!(rt; rows_are(&ledger, &[row(LineKey::iva(Class::General), 10_000, 2_100)])?);
     Ok(())
 }
 
@@ -132,7 +132,7 @@ fn a_refused_fix_brings_the_sale_back(rt: HostRuntime) -> Result<(), Fail> {
 fn a_refused_sale_that_is_cancelled_has_no_row(rt: HostRuntime) -> Result<(), Fail> {
     let alloc = rt.alloc();
     let mut ledger = empty(alloc)?;
-    let request = sale(alloc, LineKey::General, 10_000)?;
+    let request = sale(alloc, LineKey::iva(Class::General), 10_000)?;
     ask(alloc, &mut ledger, 1, request)?;
     ask(alloc, &mut ledger, 2, Request::Cancel { num: first()? })?;
     assert!(rt; rows_are(&ledger, &[])?);

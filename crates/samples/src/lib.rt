@@ -11,6 +11,8 @@ mod consultations;
 #[cfg(test)]
 mod entries;
 #[cfg(test)]
+mod exports;
+#[cfg(test)]
 mod huellas;
 #[cfg(test)]
 mod judgements;
@@ -24,5 +26,7 @@ mod records;
 mod replies;
 #[cfg(test)]
 mod shops;
+#[cfg(test)]
+mod versions;
 #[cfg(test)]
 mod walks;

@@ -62,6 +62,18 @@ fn is_sale_of(body: &Record, series: &SeriesName) -> bool {
     }
 }
 
+// The first line with another tax than IVA.
+fn old_file(draft: &Draft) -> Option<Refusal> {
+    let mut index: u8 = 0;
+    for line in draft.lines.lines() {
+        if !line.key.tax().is_iva() {
+            return Some(Refusal::OldFile { index });
+        }
+        index = index.saturating_add(1);
+    }
+    None
+}
+
 impl Plain {
     fn is_refused(&self, place: u32) -> bool {
         if place == 0 {
@@ -176,6 +188,9 @@ impl Plain {
         if let Some(draft) = draft {
             if let Err(fault) = check_draft(draft) {
                 return Some(Refusal::BadDraft(fault));
+            }
+            if let Some(why) = old_file(draft) {
+                return Some(why);
             }
         }
         if let Some(num) = num {

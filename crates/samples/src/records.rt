@@ -10,7 +10,7 @@ use series::{InvoiceId, NumSerie, SeriesName, number as number_in};
 use stamps::{Day, Stamp, stamp_at};
 use std::alloc::Global;
 use std::test::Fail;
-use tax_lines::{Breakdown, LineKey, TaxLine};
+use tax_lines::{Breakdown, Class, LineKey, TaxLine};
 
 /// 2025-01-01, 10:00 on the peninsular clock.
 pub const TEN: u64 = 1_735_722_000;
@@ -63,7 +63,7 @@ pub fn draft_of(alloc: Global, kind: Kind, lines: &[TaxLine]) -> Result<Draft, F
 pub fn draft(alloc: Global, kind: Kind, base: i64) -> Result<Draft, Fail>
     ensures { IfOk result (λ draft. draft.refs ≡ []) }
 {
-    draft_of(alloc, kind, &[line(LineKey::General, base)?])
+    draft_of(alloc, kind, &[line(LineKey::iva(Class::General), base)?])
 }
 
 /// An alta of a new invoice.

@@ -1,16 +1,18 @@
-use crate::records::{TEN, draft, id, issuer, nif, number};
+use crate::records::{TEN, draft, draft_of, id, issuer, line, nif, number};
 use amounts::Cents;
+use huella::huella_text;
 use invoice_kinds::Kind;
 use parties::{Name, Party};
-use record_codec::Entry;
+use record_codec::{Entry, Version};
 use record_fields::{Cause, Draft, DraftFault, Line, Lines, Previo, Record, Refs};
 use series::SeriesName;
 use shop_core::{Ask, Break, Receipt, Refusal, Reply, Request, State, next_fault, reply_to};
 use std::alloc::Global;
 use std::test::Fail;
+use tax_lines::LineKey;
 
 fn empty(alloc: Global) -> Result<State, Fail> {
-    Ok(State::empty(alloc, &issuer()?))
+    Ok(State::empty(alloc, &issuer()?, Version::One))
 }
 
 fn sale(draft: Draft) -> Result<Request, Fail> {
@@ -147,6 +149,9 @@ fn a_refusal_leaves_the_state_as_it_was(rt: HostRuntime) -> Result<(), Fail> {
     let total = Cents::new(363_001).ok_or("a total")?;
     let bad = Refusal::BadDraft(DraftFault::OverSimplified { total });
     assert!(rt; refuses(alloc, &mut state, 1, over, bad)?);
+    let key = LineKey::read("03/700").ok_or("a key")?;
+    let other = sale(draft_of(alloc, Kind::F2, &[line(key, 10_000)?])?)?;
+    assert!(rt; refuses(alloc, &mut state, 1, other, Refusal::OldFile { index: 0 })?);
     assert_eq!(rt;
         (state.records(), state.noted(), state.entries()),
         (0, 0, 0)
@@ -166,6 +171,23 @@ fn the_first_sale_takes_one_page_and_73_bytes(rt: HostRuntime) -> Result<(), Fai
         (1, 0, 1)
     );
     assert!(rt; state.entry(alloc, 0)?.is_some() && state.entry(alloc, 1)?.is_none());
+    Ok(())
+}
+
+#[test]
+fn a_line_of_igic_is_taken_in_version_two(rt: HostRuntime) -> Result<(), Fail> {
+    let alloc = rt.alloc();
+    let mut state = State::empty(alloc, &issuer()?, Version::Two);
+    let key = LineKey::read("03/700").ok_or("a key")?;
+    let other = sale(draft_of(alloc, Kind::F2, &[line(key, 10_000)?])?)?;
+    let receipt = take(alloc, &mut state, 1, other)?;
+    assert_eq!(rt; receipt.place, 1);
+    assert_eq!(rt;
+        huella_text(&receipt.huella).as_slice(),
+        b"357E582BB1783E5B1657FEB345467B88EA84552B9B1E6CC279FDFB2911BCDD5E".as_slice()
+    );
+    let held = state.held();
+    assert_eq!(rt; (held.pages, held.bytes), (1, 76));
     Ok(())
 }
 

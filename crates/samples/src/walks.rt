@@ -5,7 +5,7 @@ use crate::plain::{Plain, Row, Told};
 use crate::records::{TEN, draft, id, issuer, nif};
 use invoice_kinds::Kind;
 use parties::{Name, Party};
-use record_codec::Entry;
+use record_codec::{Entry, Version};
 use record_fields::{Cause, Draft, Line, Lines, Previo, Record, Refs, Sealed};
 use series::{NumSerie, SeriesName, number};
 use shop_core::{Ask, Planned, Reply, Request, State, next_fault, plan, reply_to};
@@ -210,7 +210,7 @@ fn tables_answer_as_walks_do(rt: HostRuntime) -> Result<(), Fail> {
     let alloc = rt.alloc();
     for seed in [1, 2, 3] {
         let mut dice = Dice { seed };
-        let mut state = State::empty(alloc, &issuer()?);
+        let mut state = State::empty(alloc, &issuer()?, Version::One);
         let mut plain = Plain {
             rows: Vec::new(alloc),
             lines: Vec::new(alloc),

@@ -1,5 +1,6 @@
 pub mod Cutting
 pub mod Digits
+pub mod LineKeys
 pub mod Named
 pub mod Reading
 pub mod Plans

@@ -1,17 +1,16 @@
 -- Values that are found by their texts.
 use Rattle.std.proofs.Common.{◌≡◌, ◌≢◌, ℕ, suc, zero, ◌+◌, ◌<◌, ◌≤◌, List, [], ◌∷◌, refl, sym, ◌∙◌, ap, arith, Option, Some, None}
-use Rattle.std.proofs.Common.{Bool, true, false, bytes_eq, ◌==◌, ◌⊎◌, inl, inr, IfSome}
+use Rattle.std.proofs.Common.{Bool, true, false, bytes_eq, ◌==◌, ◌⊎◌, inl, inr, IfSome, subst}
 use Rattle.std.proofs.lemmas.Slice.Eq.{bytes_eq-Decides}
-use Rattle.std.specs.List.{range_with_len}
+use Rattle.std.specs.List.{AllByRecursion, range_with_len}
 use Rattle.std.proofs.lemmas.Bool.Decides.{nat_tests}
 use Rattle.invoice_kinds.specs.Kinds.{kind_text, kinds}
 use Rattle.invoice_kinds.specs.declared.kind.Kind.{Kind}
 use Rattle.invoice_kinds.specs.declared.kind.Kind.TheVariants.{F1}
-use Rattle.script.specs.Readings.{named, kind_of, class_of, first_days, day_of}
+use Rattle.script.proofs.LineKeys.{keys_are_keys, key_is_there}
+use Rattle.script.specs.Readings.{named, kind_of, line_keys, class_of, first_days, day_of}
 use Rattle.stamps.specs.Text.{date_text_of}
-use Rattle.tax_lines.specs.Classes.{key_text, classes}
-use Rattle.tax_lines.specs.declared.classes.LineKey.{LineKey}
-use Rattle.tax_lines.specs.declared.classes.LineKey.TheVariants.{General}
+use Rattle.tax_lines.specs.Keys.{Key, IsKey, key_text}
 
 cases : (b : Bool) → (b ≡ true) ⊎ (b ≡ false)
 cases true = inl refl
@@ -45,17 +44,41 @@ unfolding kind_of
 kind_is text None value complete = none_unless (kind_of text) (λ y e. let h = complete y (found kind_text kinds text y e) in cc)
 kind_is text (Some kind) value complete = sym (ap kind_of value ∙ kind_there kind)
 
-class_there : (key : LineKey) → class_of (key_text key) ≡ Some key
-unfolding class_of
-class_there General = refl
-class_there other = refl
+-- ---- keys of lines
 
-pub class_is : (text : List ℕ) (r : Option LineKey) → IfSome r (λ (key : LineKey). text ≡ key_text key)
-    → ((key : LineKey) → text ≡ key_text key → r ≡ Some key) → r ≡ class_of text
+-- what is said of each of a list is said of the first whose text it is
+found_in : {A : Type 0} (f : A → List ℕ) (P : A → Type 0) (all : List A) (text : List ℕ) (y : A) → AllByRecursion P all →
+    named f all text ≡ Some y → P y
+found_in f P [] text y each e = absurd cc
+found_in f P (x ∷ all) text y each e =
+    elim (cases (bytes_eq text (f x))) [
+      | inl it ↦ let h = rw it at e in let same : x ≡ y = cc in subst P same each.0
+      | inr no_it ↦ found_in f P all text y each.1 (rw no_it at e)
+    ]
+
+none_has : {A : Type 0} (f : A → List ℕ) (all : List A) (text : List ℕ) → named f all text ≡ None →
+    AllByRecursion (λ x. text ≢ f x) all
+none_has f [] text e = tt
+none_has f (x ∷ all) text e =
+    elim (cases (bytes_eq text (f x))) [
+      | inl it ↦ let h = rw it at e in absurd cc
+      | inr no_it ↦
+          ((λ t. let there = (bytes_eq-Decides text (f x)).1 t in absurd cc), none_has f all text (rw no_it at e))
+    ]
+
+read_as : (text : List ℕ) (r : Option Key) → IfSome r (λ (key : Key). text ≡ key_text key) → IfSome r IsKey
+    → ((key : Key) → IsKey key → text ≡ key_text key → r ≡ Some key)
+    → (o : Option Key) → named key_text line_keys text ≡ o → r ≡ o
+read_as text None value is complete None e = refl
+read_as text (Some key) value is complete None e =
+    absurd (key_is_there (λ (k : Key). text ≢ key_text k) (none_has key_text line_keys text e) key is value)
+read_as text r value is complete (Some key) e =
+    complete key (found_in key_text IsKey line_keys text key keys_are_keys e) (found key_text line_keys text key e)
+
+pub class_is : (text : List ℕ) (r : Option Key) → IfSome r (λ (key : Key). text ≡ key_text key) → IfSome r IsKey
+    → ((key : Key) → IsKey key → text ≡ key_text key → r ≡ Some key) → r ≡ class_of text
 unfolding class_of
-class_is text None value complete = none_unless (class_of text) (λ y e. let h = complete y (found key_text classes text y e) in
-    cc)
-class_is text (Some key) value complete = sym (ap class_of value ∙ class_there key)
+class_is text r value is complete = read_as text r value is complete (named key_text line_keys text) refl
 
 -- days
 

@@ -14,7 +14,7 @@ use Rattle.series.specs.Numbers.{is_num_serie}
 use Rattle.series.specs.declared.numbers.InvoiceId.{InvoiceId}
 use Rattle.shop_core.specs.declared.words.Word.{Word}
 use Rattle.shop_core.specs.declared.words.Word.TheVariants as word
-use Rattle.tax_lines.specs.declared.classes.LineKey.{LineKey}
+use Rattle.tax_lines.specs.Keys.{Key}
 use Rattle.tax_lines.specs.declared.lines.TaxLine.{TaxLine}
 use Rattle.script.specs.Cuts.{has, cut_at_first, cut_at_last}
 use Rattle.script.specs.Fields.{and_then, unless_any, such}
@@ -69,7 +69,7 @@ option_said party_of seen name value =
 abbrev pub tax_line_said : List ℕ → Result Item Word
 tax_line_said field =
     and_then (ok_or (cut_at_first 58 field) word.Class) (λ (cut : List ℕ × List ℕ).
-    and_then (ok_or (class_of cut.0) word.Class) (λ (key : LineKey).
+    and_then (ok_or (class_of cut.0) word.Class) (λ (key : Key).
     and_then (ok_or (cents_of cut.1) word.Number) (λ (base : ℤ).
     Ok (Line (record { key = key; base = base })))))
 

@@ -1,6 +1,6 @@
 -- What single fields are read as.
 use Rattle.std.specs.Prelude.{ℕ, ◌-◌, List, [], ◌∷◌, length, map, Bool, not, ◌&&◌, ◌||◌, nat_le, ◌==◌, slice_index, codes}
-use Rattle.std.specs.Prelude.{bytes_eq, is_some, position, Option}
+use Rattle.std.specs.Prelude.{bytes_eq, is_some, position, Option, filter, flat_map, if◌then◌else◌}
 use Rattle.std.specs.Char.{is_ascii_alphanumeric}
 use Rattle.std.specs.List.{list_all, range_with_len}
 use Rattle.agency_rules.specs.declared.plans.Fate.{Fate}
@@ -14,10 +14,12 @@ use Rattle.parties.specs.NameForm.{is_control}
 use Rattle.record_fields.specs.Picks.{first_of, when}
 use Rattle.stamps.specs.Text.{date_text_of}
 use Rattle.tax_lines.specs.Breakdown.{is_past}
-use Rattle.tax_lines.specs.Classes.{classes, key_text}
+use Rattle.tax_lines.specs.Classes.{classes, class_rate, is_free}
+use Rattle.tax_lines.specs.Keys.{Key, taxes, has_class, key_text}
 use Rattle.tax_lines.specs.declared.breakdown.TheConstants.{MAX_LINES}
-use Rattle.tax_lines.specs.declared.classes.LineKey.{LineKey}
+use Rattle.tax_lines.specs.declared.classes.Class.{Class}
 use Rattle.tax_lines.specs.declared.lines.TaxLine.{TaxLine}
+use Rattle.tax_lines.specs.declared.taxes.Tax.{Tax}
 
 -- the first of all whose text this is
 abbrev pub named : {A : Type 0} → (A → List ℕ) → List A → List ℕ → Option A
@@ -27,9 +29,25 @@ named text_of all text = first_of (map (λ x. when (bytes_eq text (text_of x)) x
 unfoldable pub kind_of : List ℕ → Option Kind
 kind_of text = named kind_text kinds text
 
--- the class of a line with this word
-unfoldable pub class_of : List ℕ → Option LineKey
-class_of text = named key_text classes text
+-- the rates that a line may name
+unfoldable pub free_rates : List ℕ
+free_rates = range_with_len 0 2501
+
+-- the rates of a class: its own, or those that a line may name
+abbrev pub rates_of : Class → List ℕ
+rates_of class = if is_free class then free_rates else class_rate class ∷ []
+
+-- the keys of a class under a tax
+abbrev pub keys_of : Tax → Class → List Key
+keys_of tax class = map (λ (rate : ℕ). record { tax = tax; class = class; rate = rate }) (rates_of class)
+
+-- all keys that the table permits
+unfoldable pub line_keys : List Key
+line_keys = flat_map (λ (tax : Tax). flat_map (keys_of tax) (filter (has_class tax) classes)) taxes
+
+-- the key of a line with this word
+unfoldable pub class_of : List ℕ → Option Key
+class_of text = named key_text line_keys text
 
 abbrev pub rect_text : RectKind → List ℕ
 rect_text S = codes "S"

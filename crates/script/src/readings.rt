@@ -134,7 +134,7 @@ pub fn fate_of(text: &str) -> Option<Fate>
     }
 }
 
-/// The class of a line.
+/// What a line is taxed by: its tax, class and rate.
 pub fn class_of(text: &str) -> Option<LineKey>
     ensures { result ≡ spec.class_of text.now }
 {

@@ -20,16 +20,20 @@ use Rattle.sender.specs.Sending.{Sending}
 use Rattle.sender.specs.Evidence.{Shows}
 use Rattle.sender.specs.Turning.{Deed, Nothing, Asked, Handed, NotesEnd, SeenEnds, ReplyEnds, Ends, first_place}
 
+-- the shop is the same
+abbrev pub IsSameShop : Sight → Sight → Type 0
+IsSameShop before after = (after.issuer ≡ before.issuer) × (after.version ≡ before.version)
+
 -- nothing, notes, or the stop over them
 pub data Added (look after : Sight) (result : Result Turn SendFault) : Type 0 where
-  quiet : after.issuer ≡ look.issuer → IsPrefix look.items after.items → after.own ≡ look.own → Added look after result
-  notes : after.issuer ≡ look.issuer → (lines : List Line) → AddsOwn look after (λ (items : List Item). recorded.Entry
+  quiet : IsSameShop look after → IsPrefix look.items after.items → after.own ≡ look.own → Added look after result
+  notes : IsSameShop look after → (lines : List Line) → AddsOwn look after (λ (items : List Item). recorded.Entry
       (notes_behind items lines)) → Added look after result
-  stops : after.issuer ≡ look.issuer → (lines : List Line) → StopsHere look after lines → result ≡ Err (Store store.DiskFault) →
+  stops : IsSameShop look after → (lines : List Line) → StopsHere look after lines → result ≡ Err (Store store.DiskFault) →
       Added look after result
 
 same_added : (look after : Sight) (result : Result Turn SendFault) → after ≡ look → Added look after result
-same_added look after result e = quiet (ap (λ (s : Sight). s.issuer) e) (record {
+same_added look after result e = quiet (ap (λ (s : Sight). s.issuer) e, ap (λ (s : Sight). s.version) e) (record {
   rest = [];
   is = ap (λ (s : Sight). s.items) e ∙
       sym (append-nil look.items);
@@ -37,13 +41,13 @@ same_added look after result e = quiet (ap (λ (s : Sight). s.issuer) e) (record
 
 fault_added : (look after : Sight) (lines : List Line) (fault : StoreFault) → Grows look after →
     NotedBy look after lines (Err fault) → Added look after (Err (Store fault))
-fault_added look after lines store.DiskFault g a = stops g.issuer lines a refl
-fault_added look after lines (store.Stopped faults) g a = quiet g.issuer g.items a.own
-fault_added look after lines store.NoMemory g a = quiet g.issuer g.items a
+fault_added look after lines store.DiskFault g a = stops (g.issuer, g.version) lines a refl
+fault_added look after lines (store.Stopped faults) g a = quiet (g.issuer, g.version) g.items a.own
+fault_added look after lines store.NoMemory g a = quiet (g.issuer, g.version) g.items a
 
 notes_added : (P : List Line → Type 0) (look after : Sight) (result : Result Turn SendFault) (doubt : Bool) →
     NotesEnd P look after result doubt → Added look after result
-notes_added P look after (Ok (Noted n)) doubt ends = notes ends.0.grows.issuer ends.0.lines ends.0.noted
+notes_added P look after (Ok (Noted n)) doubt ends = notes (ends.0.grows.issuer, ends.0.grows.version) ends.0.lines ends.0.noted
 notes_added P look after (Err (Store fault)) doubt ends =
     fault_added look after ends.0.1.lines fault ends.0.1.grows ends.0.1.noted
 notes_added P look after (Err NoMemory) doubt ends = same_added look after (Err NoMemory) ends.0

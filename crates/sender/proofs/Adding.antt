@@ -28,7 +28,7 @@ use Rattle.sender.proofs.Lists.{all_both, all_change}
 use Rattle.sender.specs.Known.{Known}
 use Rattle.sender.proofs.Drained.{last}
 use Rattle.sender.proofs.Growing.{all_contained}
-use Rattle.sender.proofs.Added.{Added, quiet, notes, stops, ends_added}
+use Rattle.sender.proofs.Added.{Added, IsSameShop, quiet, notes, stops, ends_added}
 
 -- an element in front, and one at the seam
 pub get_front : {A : Type 0} (xs ys : List A) (k : ℕ) (x : A) → slice_get xs k ≡ Some x → slice_get (xs ++ ys) k ≡ Some x
@@ -56,6 +56,7 @@ has_front P xs ys p h = (h.0, get_front xs ys p h.0 h.1, h.2)
 pub adds_none : (P : Item → Type 0) (s : Sight) → Adds P s s
 adds_none P s = record {
   issuer = refl;
+  version = refl;
   items = [];
   items_is = sym (append-nil s.items);
   own = [];
@@ -71,6 +72,7 @@ adds_then P a b c g h =
     let le : length a.items ≤ length b.items = omega arith in
     record {
       issuer = h.issuer ∙ g.issuer;
+      version = h.version ∙ g.version;
       items = g.items ++ h.items;
       items_is = h.items_is ∙ ap (λ (xs : List Item). xs ++ h.items) g.items_is ∙ append_assoc a.items g.items h.items;
       own = g.own ++ h.own;
@@ -85,6 +87,7 @@ adds_then P a b c g h =
 pub adds_weaker : (P Q : Item → Type 0) → ((x : Item) → P x → Q x) → (a b : Sight) → Adds P a b → Adds Q a b
 adds_weaker P Q f a b g = record {
   issuer = g.issuer;
+  version = g.version;
   items = g.items;
   items_is = g.items_is;
   own = g.own;
@@ -98,9 +101,10 @@ notes_or_torn (recorded.Entry (Rec till serial sealed)) h = h
 notes_or_torn (recorded.Entry (notes_of first lines)) h = h
 notes_or_torn (recorded.Stop faults torn) h = absurd h
 
-adds_quiet : (P : Item → Type 0) (a b : Sight) → b.issuer ≡ a.issuer → IsPrefix a.items b.items → b.own ≡ a.own → Adds P a b
+adds_quiet : (P : Item → Type 0) (a b : Sight) → IsSameShop a b → IsPrefix a.items b.items → b.own ≡ a.own → Adds P a b
 adds_quiet P a b i g own = record {
-  issuer = i;
+  issuer = i.0;
+  version = i.1;
   items = g.rest;
   items_is = g.is;
   own = [];
@@ -109,13 +113,14 @@ adds_quiet P a b i g own = record {
   are = tt;
 }
 
-adds_one : (P : Item → Type 0) (a b : Sight) (item : List Item → Item) → b.issuer ≡ a.issuer → (o : AddsOwn a b item) →
+adds_one : (P : Item → Type 0) (a b : Sight) (item : List Item → Item) → IsSameShop a b → (o : AddsOwn a b item) →
     P (item (a.items ++ o.others)) → Adds P a b
 adds_one P a b item i o h =
     let p : ℕ = length (a.items ++ o.others) in
     let y = length-append a.items o.others in
     record {
-      issuer = i;
+      issuer = i.0;
+      version = i.1;
       items = o.others ++ item (a.items ++ o.others) ∷ [];
       items_is = o.items ∙ append_assoc a.items o.others (item (a.items ++ o.others) ∷ []);
       own = p ∷ [];
@@ -147,14 +152,16 @@ pub turn_adds : (kind : AgencyKind) (desk desk_then : Desk) (before after : Sigh
     (result : Result Turn SendFault) → Turned (turn_call kind desk desk_then before after old new now result) → Adds AreNotesOrTorn before
     after
 turn_adds kind desk desk_then before after old new now result t =
-    adds_then AreNotesOrTorn before t.look after (adds_quiet AreNotesOrTorn before t.look t.grows.issuer t.grows.items t.own)
+    adds_then AreNotesOrTorn before t.look after (adds_quiet AreNotesOrTorn before t.look
+    (t.grows.issuer, t.grows.version) t.grows.items t.own)
     (added_adds t.look after result (ends_added old now t.shown t.look after t.deals.deed result new t.deals.ends))
 
 pub turn_notes : (kind : AgencyKind) (desk desk_then : Desk) (before after : Sight) (old new : Sending) (now : ℕ)
     (result : Result Turn SendFault) → Turned (turn_call kind desk desk_then before after old new now result) →
     (result ≡ Err (Store store.DiskFault) → ⊥) → Adds AreNotes before after
 turn_notes kind desk desk_then before after old new now result t never =
-    adds_then AreNotes before t.look after (adds_quiet AreNotes before t.look t.grows.issuer t.grows.items t.own)
+    adds_then AreNotes before t.look after (adds_quiet AreNotes before t.look
+    (t.grows.issuer, t.grows.version) t.grows.items t.own)
     (added_notes t.look after result never (ends_added old now t.shown t.look after t.deals.deed result new t.deals.ends))
 
 -- no own notes are the stop

@@ -5,6 +5,7 @@ use Rattle.std.proofs.Common.{IsTrue}
 use Rattle.std.proofs.lemmas.List.{map-append, length-take, length-map, length-replicate, take-append-drop}
 use Rattle.std.proofs.lemmas.List.Elements.{filter_map-append}
 use Rattle.std.proofs.lemmas.Grind.{flat_map-append}
+use Rattle.record_fields.specs.declared.versions.Version.{Version}
 use Rattle.record_fields.specs.declared.records.Sealed.{Sealed}
 use Rattle.record_fields.specs.declared.lines.Line.{Line}
 use Rattle.huella.specs.Linked.{Linked}
@@ -41,10 +42,12 @@ use Rattle.sender.proofs.Ending.{as_many}
 use Rattle.sender.proofs.Darkness.{AreDistinct, none_more, runs_more, light_grows, light_handed, light_looked, runs_handed}
 
 abbrev pub AreLinked : Type 0
-AreLinked = (issuer : List ℕ) (entries : List Entry) → Legal issuer entries → Linked issuer (recs entries)
+AreLinked = (version : Version) (issuer : List ℕ) (entries : List Entry) → Legal version issuer entries →
+    Linked issuer (recs entries)
 
-distinct : AreLinked → (issuer : List ℕ) (entries : List Entry) → Legal issuer entries → AreDistinct (recs entries)
-distinct linked issuer entries legal before after s e = (linked issuer entries legal before after s e).new
+distinct : AreLinked → (version : Version) (issuer : List ℕ) (entries : List Entry) → Legal version issuer entries →
+    AreDistinct (recs entries)
+distinct linked version issuer entries legal before after s e = (linked version issuer entries legal before after s e).new
 
 pub recs_both : (xs ys : List Entry) → recs (xs ++ ys) ≡ recs xs ++ recs ys
 recs_both xs ys = ap (λ (rs : List Row). map (λ (r : Row). r.sealed) rs) (filter_map-append row_in xs ys) ∙
@@ -85,7 +88,7 @@ light_later : AreLinked → (before after : Sight) (messages : List Message) (j 
 light_later linked before after messages j g runs le light =
     let m = gained before after g in
     let whole : AreDistinct (recs (history_of before) ++ m.more) = subst (λ (xs : List Sealed). AreDistinct xs) m.records
-    (distinct linked after.issuer (history_of after) g.legal) in
+    (distinct linked after.version after.issuer (history_of after) g.legal) in
     subst (λ (xs : List Sealed). AreLight messages (drop (length (noted (history_of after))) xs)) (sym m.records)
     (light_grows (recs (history_of before)) m.more (length (noted (history_of before)) + 1000) j
     (length (noted (history_of after))) messages whole runs le light)
@@ -175,7 +178,8 @@ noted_by look after lines a =
 
 -- what a consultation of all that is shown clears
 looked_light : AreLinked → (look : Sight) (shown : Waiting) (messages : List Message) (seen : List Seen) (lines : List Line) →
-    Legal look.issuer (history_of look) → ShowsWaiting look 1000 shown → AreRunsAt look messages → length seen ≡ length shown.list
+    Legal look.version look.issuer (history_of look) → ShowsWaiting look 1000 shown → AreRunsAt look messages →
+    length seen ≡ length shown.list
     → IsFront seen lines →
     AreLight (messages ++ Consulted (huellas_of shown.list) (Ok seen) ∷ [])
     (drop (length (noted (history_of look)) + length lines) (recs (history_of look)))
@@ -195,7 +199,8 @@ looked_light linked look shown messages seen lines legal shows runs count front 
       length-replicate
           front.rest NotSeen,
     )) in
-    let l = light_looked records k 1000 messages lines front.rest (distinct linked look.issuer (history_of look) legal) runs e in
+    let l = light_looked records k 1000 messages lines front.rest (distinct linked look.version look.issuer
+    (history_of look) legal) runs e in
     subst (λ (xs : List Sealed). AreLight (messages ++ Consulted (huellas_of xs) (Ok seen) ∷ [])
     (drop (k + length lines) records)) (sym shows.first)
     (subst (λ (xs : List Seen). AreLight (messages ++ Consulted (huellas_of first) (Ok xs) ∷ [])
@@ -203,7 +208,7 @@ looked_light linked look shown messages seen lines legal shows runs count front 
 
 seen_after : AreLinked → (past : List Message) (look after : Sight) (shown : Waiting) (messages : List Message)
     (old new : Sending) (said : Option Replied) (seen : List Seen) (result : Result Turn SendFault) →
-    Legal look.issuer (history_of look) → ShowsWaiting look 1000 shown → AtLook past look messages old →
+    Legal look.version look.issuer (history_of look) → ShowsWaiting look 1000 shown → AtLook past look messages old →
     length seen ≡ length shown.list → SeenEnds said shown seen look after result new.doubt →
     IsCareful past after (messages ++ Consulted (huellas_of shown.list) (Ok seen) ∷ []) new
 seen_after linked past look after shown messages old new said seen (Ok (Noted n)) legal shows a count ends =
@@ -267,18 +272,20 @@ handed_after linked past look after shown messages old new answer j shows a doub
     (runs_handed (recs (history_of look)) (length (noted (history_of look)) + 1000) messages batch answer a.runs run) g light
 
 replied_light : AreLinked → (look : Sight) (shown : Waiting) (messages : List Message) (answer : Result Replied AgencyFault)
-    (n : ℕ) → Legal look.issuer (history_of look) → ShowsWaiting look 1000 shown → n ≡ length shown.list →
+    (n : ℕ) → Legal look.version look.issuer (history_of look) → ShowsWaiting look 1000 shown → n ≡ length shown.list →
     AreLight messages (waiting (history_of look)) →
     AreLight (messages ++ Submitted shown.list answer ∷ []) (drop (length (noted (history_of look)) + n) (recs (history_of look)))
 replied_light linked look shown messages answer n legal shows count light =
     let k = length (noted (history_of look)) in
-    light_handed (recs (history_of look)) shown.list (k + n) messages answer (distinct linked look.issuer (history_of look) legal)
+    light_handed (recs (history_of look)) shown.list (k + n) messages answer
+    (distinct linked look.version look.issuer (history_of look) legal)
     (shown_run look shown (k + n) shows (omega arith))
     (all_drop_later _ k (k + n) (recs (history_of look)) (omega arith) light)
 
 reply_after : AreLinked → (past : List Message) (look after : Sight) (shown : Waiting) (messages : List Message)
     (old new : Sending) (reply : Replied) (result : Result Turn SendFault) →
-    Legal look.issuer (history_of look) → ShowsWaiting look 1000 shown → AtLook past look messages old → old.doubt ≡ false →
+    Legal look.version look.issuer (history_of look) → ShowsWaiting look 1000 shown → AtLook past look messages old →
+    old.doubt ≡ false →
     (reply.huellas ≡ huellas_of shown.list) → length reply.lines ≡ length reply.huellas → ReplyEnds shown reply look after
     result new.doubt →
     IsCareful past after (messages ++ Submitted shown.list (Ok reply) ∷ []) new

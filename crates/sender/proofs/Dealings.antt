@@ -4,6 +4,7 @@ use Rattle.std.proofs.Common.{Option, Some, Result, Ok, Err}
 use Rattle.std.proofs.lemmas.List.{map-append}
 use Rattle.std.specs.Prelude.{IsSome}
 use Rattle.std.specs.List.{AllByRecursion}
+use Rattle.record_fields.specs.declared.versions.Version.{Version}
 use Rattle.record_fields.specs.declared.records.Sealed.{Sealed}
 use Rattle.record_fields.specs.declared.lines.Line.{Line}
 use Rattle.record_codec.specs.declared.entry.Entry.{Entry}
@@ -65,14 +66,15 @@ nothing_said entries old new e adds agree = subst (λ (l : Ledger). Dealing entr
   verdicts = refl;
 })
 
-pub consulted : Known → (issuer : List ℕ) (entries : List Entry) (old new : Ledger) (huellas : List (List ℕ))
-    (answer : Result (List Seen) AgencyFault) → Legal issuer entries →
+pub consulted : Known → (version : Version) (issuer : List ℕ) (entries : List Entry) (old new : Ledger) (huellas : List (List ℕ))
+    (answer : Result (List Seen) AgencyFault) → Legal version issuer entries →
     Agree entries old.processed old.sent → Consults old new huellas answer → ConsultKeeps old new huellas answer →
     Dealing entries old new
-consulted known issuer entries old new huellas answer legal agree consults keeps =
+consulted known version issuer entries old new huellas answer legal agree consults keeps =
     let sent : new.sent ≡ old.sent = consult_sent old new huellas answer consults in
     let d = keeps.delivers in
-    let then : Agree entries (delivered_all old.verdicts old.processed d.batches) old.sent = known.deliveries issuer old.verdicts
+    let then : Agree entries (delivered_all old.verdicts old.processed d.batches) old.sent =
+    known.deliveries version issuer old.verdicts
     entries old.processed old.sent d.batches legal agree d.among in
     record {
       agree = subst (λ (s : List (List Sealed)). Agree entries new.processed s) (sym sent)
@@ -92,14 +94,16 @@ pub record Looked (entries : List Entry) (old new : Ledger) (said : Option Repli
   pub there : AreSeen then said
   pub lines : (lines : List Line) → IsFront seen lines → IsPrefix (noted entries ++ lines) (lines_of new.processed)
 
-pub looked_at : Known → (issuer : List ℕ) (entries : List Entry) (count : ℕ) (old new : Ledger) (said : Option Replied)
-    (seen : List Seen) → Legal issuer entries → Agree entries old.processed old.sent → AreSeen old.processed said →
+pub looked_at : Known → (version : Version) (issuer : List ℕ) (entries : List Entry) (count : ℕ) (old new : Ledger)
+    (said : Option Replied)
+    (seen : List Seen) → Legal version issuer entries → Agree entries old.processed old.sent → AreSeen old.processed said →
     LooksUp old.verdicts old.sent old.processed new.processed (huellas_of (take count (waiting entries))) seen →
     Looked entries old new said (huellas_of (take count (waiting entries))) seen
-looked_at known issuer entries count old new said seen legal agree there l =
+looked_at known version issuer entries count old new said seen legal agree there l =
     let first : List Sealed = take count (waiting entries) in
     let then : List (Sealed × Line) = delivered_all old.verdicts old.processed l.before in
-    let agree_then : Agree entries then old.sent = known.deliveries issuer old.verdicts entries old.processed old.sent l.before
+    let agree_then : Agree entries then old.sent = known.deliveries version issuer old.verdicts entries old.processed old.sent
+    l.before
     legal agree l.among_before in
     let later : IsPrefix then new.processed =
     subst (λ (p : List (Sealed × Line)). IsPrefix then p) (sym (l.is ∙ all_delivered old.verdicts old.processed l.before l.after))
@@ -107,14 +111,15 @@ looked_at known issuer entries count old new said seen legal agree there l =
     record {
       then = then;
       is = l.said;
-      whole = subst (λ (xs : List Seen). HasNoHole xs) (sym l.said) (known.whole issuer entries then old.sent count legal
+      whole = subst (λ (xs : List Seen). HasNoHole xs) (sym l.said) (known.whole version issuer entries then old.sent count legal
           agree_then);
       there = seen_kept known.stays old.verdicts old.processed l.before said there;
       lines = λ lines front.
           let same : lines_in_front (answers_for then first) ≡ lines = ap lines_in_front (sym l.said) ∙ front_is seen lines front
           in
           lines_longer (noted entries ++ lines) then new.processed
-          (subst (λ (ls : List Line). IsPrefix (noted entries ++ ls) (lines_of then)) same (known.looked issuer entries then
+          (subst (λ (ls : List Line). IsPrefix (noted entries ++ ls) (lines_of then)) same
+          (known.looked version issuer entries then
           old.sent count legal agree_then)) later;
     }
 
@@ -136,15 +141,16 @@ agree_handed known entries count old new few agree (inr e) =
     subst (λ (s : List (List Sealed)). Agree entries old.processed s) (sym e) (known.sending entries old.processed old.sent count
     agree few)
 
-pub submitted : Known → (issuer : List ℕ) (entries : List Entry) (count : ℕ) (old new : Ledger)
-    (answer : Result Replied AgencyFault) → count ≤ 1000 → Legal issuer entries → Agree entries old.processed old.sent →
+pub submitted : Known → (version : Version) (issuer : List ℕ) (entries : List Entry) (count : ℕ) (old new : Ledger)
+    (answer : Result Replied AgencyFault) → count ≤ 1000 → Legal version issuer entries → Agree entries old.processed old.sent →
     Submits old new (take count (waiting entries)) answer → SubmitKeeps old new (take count (waiting entries)) answer →
     Dealing entries old new
-submitted known issuer entries count old new answer few legal agree submits keeps =
+submitted known version issuer entries count old new answer few legal agree submits keeps =
     let d = keeps.delivers in
     let handed : Agree entries old.processed new.sent = agree_handed known entries count old new few agree
     (submit_sent old new (take count (waiting entries)) answer submits) in
-    let then : Agree entries (delivered_all old.verdicts old.processed d.batches) new.sent = known.deliveries issuer old.verdicts
+    let then : Agree entries (delivered_all old.verdicts old.processed d.batches) new.sent =
+    known.deliveries version issuer old.verdicts
     entries old.processed new.sent d.batches legal handed d.among in
     record {
       agree = subst (λ (p : List (Sealed × Line)). Agree entries p new.sent) (sym d.is) then;
@@ -165,16 +171,18 @@ pub record Told (entries : List Entry) (new : Ledger) (reply : Replied) : Type 0
   pub there : AreSeen new.processed (Some reply)
   pub lines : (lines : List Line) → reply.lines ≡ map First lines → IsPrefix (noted entries ++ lines) (lines_of new.processed)
 
-pub told_by : Known → (issuer : List ℕ) (entries : List Entry) (count : ℕ) (old new : Ledger) (reply : Replied) → count ≤ 1000 →
-    Legal issuer entries → Agree entries old.processed old.sent →
+pub told_by : Known → (version : Version) (issuer : List ℕ) (entries : List Entry) (count : ℕ) (old new : Ledger)
+    (reply : Replied) → count ≤ 1000 →
+    Legal version issuer entries → Agree entries old.processed old.sent →
     Submits old new (take count (waiting entries)) (Ok reply) → SubmitKeeps old new (take count (waiting entries)) (Ok reply) →
     Names reply (take count (waiting entries)) → Told entries new reply
-told_by known issuer entries count old new reply few legal agree submits keeps names =
+told_by known version issuer entries count old new reply few legal agree submits keeps names =
     let batch : List Sealed = take count (waiting entries) in
     let d = keeps.answered names in
     let handed : Agree entries old.processed new.sent = agree_handed known entries count old new few agree (inr submits.sent) in
     let then : List (Sealed × Line) = delivered_all old.verdicts old.processed d.before in
-    let agree_then : Agree entries then new.sent = known.deliveries issuer old.verdicts entries old.processed new.sent d.before
+    let agree_then : Agree entries then new.sent = known.deliveries version issuer old.verdicts entries old.processed new.sent
+    d.before
     legal handed d.among_before in
     let came : List (Sealed × Line) = delivered old.verdicts then batch in
     let is : new.processed ≡ delivered_all old.verdicts came d.after = d.is ∙ all_delivered old.verdicts old.processed d.before
@@ -187,6 +195,7 @@ told_by known issuer entries count old new reply few legal agree submits keeps n
     record {
       there = subst (λ (p : List (Sealed × Line)). AreSeen p (Some reply)) (sym is) (seen_kept known.stays old.verdicts came
           d.after (Some reply) seen);
-      lines = λ lines e. lines_longer (noted entries ++ lines) came new.processed (known.first issuer old.verdicts entries then
+      lines = λ lines e. lines_longer (noted entries ++ lines) came new.processed
+          (known.first version issuer old.verdicts entries then
           new.sent count lines legal agree_then (sym d.said ∙ e)) later;
     }

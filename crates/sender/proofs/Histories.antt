@@ -12,9 +12,10 @@ entries_both xs ys = filter_map-append entry_in xs ys
 pub grown : (before look : Sight) (g : Grows before look) → history_of look ≡ history_of before ++ entries_of g.items.rest
 grown before look g = ap entries_of g.items.is ∙ entries_both before.items g.items.rest
 
-pub stays : (look after : Sight) → Legal look.issuer (history_of look) → after ≡ look → Grows look after
+pub stays : (look after : Sight) → Legal look.version look.issuer (history_of look) → after ≡ look → Grows look after
 stays look after legal e = subst (λ (s : Sight). Grows look s) (sym e) (record {
   issuer = refl;
+  version = refl;
   items = record { rest = []; is = sym (append-nil look.items) };
   legal = legal;
 })

@@ -236,7 +236,7 @@ failed_gains entries processed sent after agency.NoMemory e = e
 
 -- What each part of a turn begins with.
 pub record Start (before look : Sight) (g : Grows before look) (shown : Waiting) (old : Ledger) : Type 0 where
-  pub legal : Legal look.issuer (at_look before look g)
+  pub legal : Legal look.version look.issuer (at_look before look g)
   pub agree : Agree (at_look before look g) old.processed old.sent
   pub shown_is : shown.list ≡ take 1000 (waiting (at_look before look g))
 
@@ -244,7 +244,7 @@ pub start : Known → (before look : Sight) (g : Grows before look) (shown : Wai
     → Agree (history_of before) old.processed old.sent → AreRecords (entries_of g.items.rest) →
     Start before look g shown old
 start known before look g shown old shows agree are = record {
-  legal = subst (λ (es : List Entry). Legal look.issuer es) (grown before look g) g.legal;
+  legal = subst (λ (es : List Entry). Legal look.version look.issuer es) (grown before look g) g.legal;
   agree = known.records (history_of before) (entries_of g.items.rest) old.processed old.sent agree are;
   shown_is = shows.first ∙ ap (λ (es : List Entry). take 1000 (waiting es)) (grown before look g);
 }
@@ -255,7 +255,8 @@ asked : Known → (before look : Sight) (g : Grows before look) (shown : Waiting
     Consults old new (huellas_of shown.list) answer → ConsultKeeps old new (huellas_of shown.list) answer →
     Dealing (at_look before look g) old new
 asked known before look g shown old new answer s consults keeps =
-    consulted known look.issuer (at_look before look g) old new (huellas_of shown.list) answer s.legal s.agree consults keeps
+    consulted known look.version look.issuer (at_look before look g) old new
+    (huellas_of shown.list) answer s.legal s.agree consults keeps
 
 pub looked_there : Known → (before look : Sight) (g : Grows before look) (shown : Waiting) (old new : Ledger)
     (said : Option Replied) (seen : List Seen) → Start before look g shown old → AreSeen old.processed said →
@@ -265,7 +266,7 @@ looked_there known before look g shown old new said seen s there keeps =
     let first = take 1000 (waiting (at_look before look g)) in
     let l = subst (λ (xs : List Sealed). ConsultKeeps old new (huellas_of xs) (Ok seen)) s.shown_is keeps in
     subst (λ (xs : List Sealed). Looked (at_look before look g) old new said (huellas_of xs) seen) (sym s.shown_is)
-    (looked_at known look.issuer (at_look before look g) 1000 old new said seen s.legal s.agree there l.answered)
+    (looked_at known look.version look.issuer (at_look before look g) 1000 old new said seen s.legal s.agree there l.answered)
 
 -- the sender keeps nothing of a reply, or what was said before
 asked_quiet : Known → (before look : Sight) (g : Grows before look) (shown : Waiting) (old new : Ledger)
@@ -348,7 +349,7 @@ handed_quiet known before look g shown old new said answer shows agree there sub
     let submits_first = subst (λ (xs : List Sealed). Submits old new xs answer) s.shown_is submits in
     let keeps_first = subst (λ (xs : List Sealed). SubmitKeeps old new xs answer) s.shown_is keeps in
     record {
-      dealing = submitted known look.issuer (at_look before look g) 1000 old new answer (omega arith) s.legal s.agree
+      dealing = submitted known look.version look.issuer (at_look before look g) 1000 old new answer (omega arith) s.legal s.agree
           submits_first keeps_first;
       sent = submit_sent old new (take 1000 (waiting (at_look before look g))) answer submits_first;
       seen = subst (λ (p : List (Sealed × Line)). AreSeen p said) (sym keeps.delivers.is) (seen_kept known.stays old.verdicts
@@ -361,7 +362,7 @@ told_there : Known → (before look : Sight) (g : Grows before look) (shown : Wa
     AreRecords (entries_of g.items.rest) → Told (at_look before look g) new reply
 told_there known before look g shown old new reply shows agree submits keeps names are =
     let s = start known before look g shown old shows agree are in
-    told_by known look.issuer (at_look before look g) 1000 old new reply (omega arith) s.legal s.agree
+    told_by known look.version look.issuer (at_look before look g) 1000 old new reply (omega arith) s.legal s.agree
     (subst (λ (xs : List Sealed). Submits old new xs (Ok reply)) s.shown_is submits)
     (subst (λ (xs : List Sealed). SubmitKeeps old new xs (Ok reply)) s.shown_is keeps)
     (names ∙ ap huellas_of s.shown_is)

@@ -31,9 +31,9 @@ counts look shown l =
 
 -- where the two counts differ some record waits
 pub is_look : NotedWithinRecords → (look : Sight) (shown : Waiting) → ShowsWaiting look 1000 shown →
-    Legal look.issuer (history_of look) → (shown.noted ≢ shown.records) → shown.records < 2 ^ 32 → IsLook look shown
+    Legal look.version look.issuer (history_of look) → (shown.noted ≢ shown.records) → shown.records < 2 ^ 32 → IsLook look shown
 is_look within look shown shows legal differ small =
-    let w = within look.issuer (history_of look) legal in
+    let w = within look.version look.issuer (history_of look) legal in
     let n = shows.noted_count in
     let r = shows.records_count in
     record { shows = shows; legal = legal; some = omega arith; small = small }
@@ -57,4 +57,5 @@ shown_linked linked look shown l =
     sym (take-append-drop k (recs entries)) ∙ ap (λ (xs : List Sealed). take k (recs entries) ++ xs)
     (sym (take-append-drop 1000 (waiting entries))) in
     subst (λ (xs : List Sealed). LinkedRun xs) (sym l.shows.first)
-    (linked look.issuer entries (take k (recs entries)) (take 1000 (waiting entries)) (drop 1000 (waiting entries)) l.legal split)
+    (linked look.version look.issuer entries (take k (recs entries)) (take 1000 (waiting entries))
+    (drop 1000 (waiting entries)) l.legal split)

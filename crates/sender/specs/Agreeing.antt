@@ -106,7 +106,7 @@ pub record IsCareful (past : List Message) (seen : Sight) (messages : List Messa
   pub session : List Message
   pub is : messages ≡ past ++ session
   pub never : NoneInTheDark past session
-  pub legal : Legal seen.issuer (history_of seen)
+  pub legal : Legal seen.version seen.issuer (history_of seen)
   pub runs : AreRunsBy (recs (history_of seen)) (length (noted (history_of seen)) + BATCH) (batches_in messages)
   pub light : sending.doubt ≡ false → AreLight messages (waiting (history_of seen))
 
@@ -134,7 +134,7 @@ pub record KeepsSession (before after : Sight) (old new : Ledger) (said : Option
 
 -- a new sender begins so, whatever was said before its session
 abbrev pub BeginsCareful : Type 0
-BeginsCareful = (past : List Message) (seen : Sight) → Legal seen.issuer (history_of seen) →
+BeginsCareful = (past : List Message) (seen : Sight) → Legal seen.version seen.issuer (history_of seen) →
     AreRunsBy (recs (history_of seen)) (length (noted (history_of seen)) + BATCH) (batches_in past) →
     IsCareful past seen past fresh
 
@@ -169,6 +169,7 @@ AreNotesOrTorn item = AreNotes item
 -- A shop's sight after turns of its sender: it grew, and P holds of each item that its own notes added.
 pub record Adds (P : Item → Type 0) (before after : Sight) : Type 0 where
   pub issuer : after.issuer ≡ before.issuer
+  pub version : after.version ≡ before.version
   pub items : List Item
   pub items_is : after.items ≡ before.items ++ items
   pub own : List ℕ

@@ -160,7 +160,7 @@ Dealt kind old new shown (Handed answer) =
 -- what a look shows: at least one record waits
 pub record IsLook (look : Sight) (shown : Waiting) : Type 0 where
   pub shows : ShowsWaiting look BATCH shown
-  pub legal : Legal look.issuer (history_of look)
+  pub legal : Legal look.version look.issuer (history_of look)
   pub some : shown.noted < shown.records
   pub small : shown.records < 2 ^ 32
 

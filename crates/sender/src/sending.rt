@@ -200,7 +200,7 @@ impl Sender {
         now: u64,
     ) -> Result<Turn, SendFault>
         requires shows { ShowsWaiting (O.sight outbox.old) BATCH shown.now }
-        requires legal { Legal (O.sight outbox.old).issuer (history_of (O.sight outbox.old)) }
+        requires legal { Legal (O.sight outbox.old).version (O.sight outbox.old).issuer (history_of (O.sight outbox.old)) }
         ensures ends { Deals (this_turn G.Agency agency.old agency.new (O.sight outbox.old) (O.sight outbox.new)
             self.old self.new now result) shown.now }
         ensures fixed { O.fixed outbox.new ≡ O.fixed outbox.old }

@@ -6,12 +6,13 @@ use batches::Huellas;
 use invoice_kinds::Kind;
 use once_world::PlainOutbox;
 use parties::Nif;
+use record_codec::Version;
 use record_fields::{Draft, DraftFault, Refs};
 use series::SeriesName;
 use shop_core::{Ask, Refusal, Reply, Request, State, reply_to};
 use std::alloc::Global;
 use std::test::Fail;
-use tax_lines::{Breakdown, LineKey, TaxLine};
+use tax_lines::{Breakdown, Class, LineKey, TaxLine};
 
 // 2025-01-01, 10:00 on the peninsular clock.
 const TEN: u64 = 1_735_722_000;
@@ -24,7 +25,7 @@ fn sale(alloc: Global) -> Result<Request, Fail> {
     let series = SeriesName::read("A").ok_or("a series")?;
     let base = Cents::new(10_000).ok_or("a base")?;
     let line = TaxLine {
-        key: LineKey::General,
+        key: LineKey::iva(Class::General),
         base,
     };
     let Ok(lines) = Breakdown::of(alloc, &[line]) else {
@@ -83,7 +84,7 @@ pub fn shop_of(alloc: Global, sales: u32) -> Result<PlainOutbox, Fail> {
     let Ok(issuer) = Nif::read("89890001K") else {
         return Err(Fail::from("a tax number"));
     };
-    let state = with_sales(alloc, State::empty(alloc, &issuer), sales)?;
+    let state = with_sales(alloc, State::empty(alloc, &issuer, Version::Two), sales)?;
     Ok(PlainOutbox::new(alloc, state))
 }
 

@@ -5,6 +5,7 @@ use Rattle.std.proofs.lemmas.Bool.{cases_Bool}
 use Rattle.std.proofs.lemmas.Slice.Eq.{bytes_eq-Decides}
 use Rattle.std.specs.List.{AllByRecursion, enumerate_from}
 use Rattle.std.specs.Option.{option_map_or}
+use Rattle.record_fields.specs.declared.versions.Version.{Version}
 use Rattle.record_fields.specs.Picks.{last_of}
 use Rattle.record_fields.specs.Records.{id_of, num_of, moment_of, is_alta, is_sale}
 use Rattle.record_fields.specs.declared.records.Alta.{Alta}
@@ -184,49 +185,58 @@ record_step issuer front s before have num = elim (cases_Bool (is_own num s)) [
       (λ it. absurd cc))
 ]
 
-day_step : SalesAreNew → (issuer : List ℕ) (front : List Entry) (entry : Entry) → Legal issuer (front ++ entry ∷ []) →
-    Continues issuer front entry → HaveLast (recs front) → HaveLast (recs (front ++ entry ∷ []))
-day_step new issuer front (Notes first lines) legal c have =
+day_step : SalesAreNew → (version : Version) (issuer : List ℕ) (front : List Entry) (entry : Entry) →
+    Legal version issuer (front ++ entry ∷ []) →
+    Continues version issuer front entry → HaveLast (recs front) → HaveLast (recs (front ++ entry ∷ []))
+day_step new version issuer front (Notes first lines) legal c have =
     subst HaveLast (sym (recs_still front (Notes first lines) refl)) have
-day_step new issuer front (Rec till serial s) legal c have =
+day_step new version issuer front (Rec till serial s) legal c have =
     let e : recs (front ++ Rec till serial s ∷ []) ≡ recs front ++ s ∷ [] = recs_then front till serial s in
-    let m = is_made issuer front (ask_of till serial s) (moment_of s.body).seconds (Rec till serial s) c.made in
-    let made = made_is issuer front till serial s m in
+    let m = is_made version issuer front (ask_of till serial s) (moment_of s.body).seconds (Rec till serial s) c.made in
+    let made = made_is version issuer front till serial s m in
     subst HaveLast (sym e)
     (record_step issuer front s (λ num own. before_alta issuer front num s.body s.huella (moment_of s.body).seconds own made
-    (λ sale. new issuer (front ++ Rec till serial s ∷ []) (recs front) [] s legal e sale) have) have)
+    (λ sale. new version issuer (front ++ Rec till serial s ∷ []) (recs front) [] s legal e sale) have) have)
 
-days_from : SalesAreNew → (issuer : List ℕ) (front rest : List Entry) → Legal issuer (front ++ rest) → HaveLast (recs front) →
+days_from : SalesAreNew → (version : Version) (issuer : List ℕ) (front rest : List Entry) → Legal version issuer (front ++ rest) →
+    HaveLast (recs front) →
     HaveLast (recs (front ++ rest))
-days_from new issuer front [] legal have = subst (λ (xs : List Entry). HaveLast (recs xs)) (sym (append-nil front)) have
-days_from new issuer front (e ∷ rest) legal have =
+days_from new version issuer front [] legal have = subst (λ (xs : List Entry). HaveLast (recs xs)) (sym (append-nil front)) have
+days_from new version issuer front (e ∷ rest) legal have =
     let a : (front ++ e ∷ []) ++ rest ≡ front ++ e ∷ rest = append_assoc front (e ∷ []) rest in
-    let whole : Legal issuer ((front ++ e ∷ []) ++ rest) = subst (λ (xs : List Entry). Legal issuer xs) (sym a) legal in
+    let whole : Legal version issuer ((front ++ e ∷ []) ++ rest) = subst (λ (xs : List Entry). Legal version issuer xs)
+    (sym a) legal in
     subst (λ (xs : List Entry). HaveLast (recs xs)) a
-    (days_from new issuer (front ++ e ∷ []) rest whole
-    (day_step new issuer front e (legal_front issuer (front ++ e ∷ []) rest whole) (legal front rest e refl) have))
+    (days_from new version issuer (front ++ e ∷ []) rest whole
+    (day_step new version issuer front e (legal_front version issuer (front ++ e ∷ []) rest whole)
+    (legal front rest e refl) have))
 
-have_last : SalesAreNew → (issuer : List ℕ) (entries : List Entry) → Legal issuer entries → HaveLast (recs entries)
-have_last new issuer entries legal = days_from new issuer [] entries legal (λ num. tt)
+have_last : SalesAreNew → (version : Version) (issuer : List ℕ) (entries : List Entry) → Legal version issuer entries →
+    HaveLast (recs entries)
+have_last new version issuer entries legal = days_from new version issuer [] entries legal (λ num. tt)
 
-known_alta : SalesAreNew → (issuer : List ℕ) (entries : List Entry) (num : List ℕ) (day : ℕ) → Legal issuer entries →
+known_alta : SalesAreNew → (version : Version) (issuer : List ℕ) (entries : List Entry) (num : List ℕ) (day : ℕ) →
+    Legal version issuer entries →
     is_known_on entries num day ≡ is_on day (last_alta entries num)
-known_alta new issuer entries num day legal = known_on entries num day (have_last new issuer entries legal num)
+known_alta new version issuer entries num day legal = known_on entries num day (have_last new version issuer entries legal num)
 
 -- as it is read off the last alta
-pub none_known : SalesAreNew → (issuer : List ℕ) (entries : List Entry) (num : List ℕ) (day : ℕ) → Legal issuer entries →
+pub none_known : SalesAreNew → (version : Version) (issuer : List ℕ) (entries : List Entry) (num : List ℕ) (day : ℕ) →
+    Legal version issuer entries →
     None ≡ option_map read_off (last_alta entries num) → false ≡ is_known_on entries num day
-none_known new issuer entries num day legal e = by (last_alta entries num) e ∙ sym (known_alta new issuer entries num day legal)
+none_known new version issuer entries num day legal e = by (last_alta entries num) e ∙
+    sym (known_alta new version issuer entries num day legal)
   where
     by : (o : Option (ℕ × Sealed)) → None ≡ option_map read_off o → false ≡ is_on day o
     by None h = refl
     by (Some p) h = absurd cc
 
-pub some_known : SalesAreNew → (issuer : List ℕ) (entries : List Entry) (num : List ℕ) (day : ℕ) (found : Found) →
-    Legal issuer entries → Some found ≡ option_map read_off (last_alta entries num) →
+pub some_known : SalesAreNew → (version : Version) (issuer : List ℕ) (entries : List Entry) (num : List ℕ) (day : ℕ)
+    (found : Found) →
+    Legal version issuer entries → Some found ≡ option_map read_off (last_alta entries num) →
     (found.day == day) ≡ is_known_on entries num day
-some_known new issuer entries num day found legal e =
-    by (last_alta entries num) e ∙ sym (known_alta new issuer entries num day legal)
+some_known new version issuer entries num day found legal e =
+    by (last_alta entries num) e ∙ sym (known_alta new version issuer entries num day legal)
   where
     by : (o : Option (ℕ × Sealed)) → Some found ≡ option_map read_off o → (found.day == day) ≡ is_on day o
     by None h = absurd cc

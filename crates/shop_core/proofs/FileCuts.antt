@@ -12,6 +12,7 @@ use Rattle.journal.specs.Header.{HasMark, HasVersion, IsBegun, IsHeaderDamaged}
 use Rattle.journal.specs.Header.IsHeaderDamaged.{cut_in_mark, cut_in_issuer}
 use Rattle.journal.specs.Laws.{WalkEnds}
 use Rattle.record_codec.specs.Writing.{entry_bytes}
+use Rattle.record_fields.specs.declared.versions.Version.TheVariants.{One}
 use Rattle.record_codec.specs.declared.entry.Entry.{Entry}
 use Rattle.shop_core.specs.File.Laws.{CutIsDamaged, IsCutAt, SoundBegins, SoundGoesOn}
 use Rattle.shop_core.specs.File.Laws.IsCutAt.{in_frame, in_header as in_the_header}
@@ -130,13 +131,13 @@ abbrev Broken : List Entry → List ℕ → Type 0
 Broken entries front = (at : ℕ) × IsCutAt entries (length front) at × IsDamagedFile front at
 
 walked : OneFrame → SoundGoesOn → (issuer : List ℕ) (entries before after : List Entry) (at : ℕ) (front rest tail : List ℕ) →
-    entries ≡ before ++ after → Legal issuer entries → AreEncoded issuer after → AreBodies (bodies_of after) →
+    entries ≡ before ++ after → Legal One issuer entries → AreEncoded issuer after → AreBodies (bodies_of after) →
     IsSoundUpTo issuer before at front → at < length front → drop at front ++ rest ≡ framed (bodies_of after) ++ tail →
     length tail ≡ 1 → 1 ≤ length rest → Broken entries front
 walked one goes_on issuer entries before [] at front rest tail is legal encoded sizes sound inside bytes closes cut =
     absurd (omega (arith, inside, closes, cut, ap length bytes, length-append (drop at front) rest, length-drop at front))
 walked one goes_on issuer entries before (e ∷ after) at front rest tail is legal encoded sizes sound inside bytes closes cut =
-    let body = entry_bytes e in
+    let body = entry_bytes One e in
     elim (cases_lt (at + 5 + length body) (length front)) [
       | inl further ↦
           let w = whole (drop at front) rest body (bodies_of after) tail sizes.0 bytes

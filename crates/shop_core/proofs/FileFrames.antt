@@ -6,24 +6,26 @@ use Rattle.journal.specs.Laws.{WalkBegins, WalkGoesOn, WalkEnds}
 use Rattle.journal.specs.Walk.{AreFrames}
 use Rattle.record_codec.specs.Writing.{entry_bytes}
 use Rattle.record_codec.specs.Validity.{IsEncoding}
+use Rattle.record_fields.specs.declared.versions.Version.TheVariants.{One}
 use Rattle.record_codec.specs.declared.entry.Entry.{Entry}
 use Rattle.shop_core.specs.Legal.{Legal, GoesOn}
 use Rattle.shop_core.specs.File.Laws.{SoundBegins, SoundGoesOn, SoundEnds}
 use Rattle.shop_core.specs.File.Files.{IsSoundUpTo, AreEncoded, bodies_of}
 
 pub encoded_more : (issuer : List ℕ) (entries : List Entry) (entry : Entry) → AreEncoded issuer entries →
-    IsEncoding issuer entry (entry_bytes entry) → AreEncoded issuer (entries ++ entry ∷ [])
+    IsEncoding One issuer entry (entry_bytes One entry) → AreEncoded issuer (entries ++ entry ∷ [])
 encoded_more issuer [] entry all is = (is, tt)
 encoded_more issuer (e ∷ entries) entry all is = (all.0, encoded_more issuer entries entry all.1 is)
 
-pub bodies_more : (entries : List Entry) (entry : Entry) → bodies_of (entries ++ entry ∷ []) ≡ bodies_of entries ++ entry_bytes
+pub bodies_more : (entries : List Entry) (entry : Entry) → bodies_of (entries ++ entry ∷ []) ≡ bodies_of entries ++
+    entry_bytes One
     entry ∷ []
-bodies_more entries entry = map-append entry_bytes entries (entry ∷ [])
+bodies_more entries entry = map-append (entry_bytes One) entries (entry ∷ [])
 
 -- a counted frame of an entry that continues the history is sound too
 pub sound_more : WalkGoesOn → (issuer : List ℕ) (entries : List Entry) (at : ℕ) (file body : List ℕ) (entry : Entry) →
-    Legal issuer (entries ++ entry ∷ []) →
-    IsSoundUpTo issuer entries at file → IsCounted (drop at file) body → IsEncoding issuer entry body →
+    Legal One issuer (entries ++ entry ∷ []) →
+    IsSoundUpTo issuer entries at file → IsCounted (drop at file) body → IsEncoding One issuer entry body →
     IsSoundUpTo issuer (entries ++ entry ∷ []) (at + 5 + length body) file
 sound_more goes_on issuer entries at file body entry legal sound counted encoding =
     let walk : AreFrames file (bodies_of entries ++ body ∷ []) (at + 5 + length body) = goes_on file (bodies_of entries) at body
@@ -33,12 +35,13 @@ sound_more goes_on issuer entries at file body entry legal sound counted encodin
     record {
       header = sound.header;
       frames = subst (λ (bs : List (List ℕ)). AreFrames file bs (at + 5 + length body)) same walk;
-      encoded = encoded_more issuer entries entry sound.encoded (subst (λ (b : List ℕ). IsEncoding issuer entry b) encoding.bytes
+      encoded = encoded_more issuer entries entry sound.encoded
+          (subst (λ (b : List ℕ). IsEncoding One issuer entry b) encoding.bytes
           encoding);
       legal = legal;
     }
 
-nothing_legal : (issuer : List ℕ) → Legal issuer []
+nothing_legal : (issuer : List ℕ) → Legal One issuer []
 nothing_legal issuer [] after entry is = absurd cc
 nothing_legal issuer (x ∷ before) after entry is = absurd cc
 
@@ -52,7 +55,7 @@ sound_begins begins issuer file header = record {
 
 pub sound_goes_on : WalkGoesOn → GoesOn → SoundGoesOn
 sound_goes_on walk goes_on issuer entries at file body entry sound counted encoding next =
-    sound_more walk issuer entries at file body entry (goes_on issuer entries entry sound.legal next) sound counted encoding
+    sound_more walk issuer entries at file body entry (goes_on One issuer entries entry sound.legal next) sound counted encoding
 
 pub sound_ends : WalkEnds → SoundEnds
 sound_ends ends issuer entries at file sound closed =

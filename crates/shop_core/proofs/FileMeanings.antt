@@ -7,6 +7,7 @@ use Rattle.journal.specs.Header.{IsHeaderDamaged, IsBegun}
 use Rattle.journal.specs.Laws.{OneHeader}
 use Rattle.journal.specs.declared.reading.Header.TheVariants.{NotBegun, Begun, Damaged}
 use Rattle.record_codec.specs.Validity.{IsEncoding}
+use Rattle.record_fields.specs.declared.versions.Version.TheVariants.{One}
 use Rattle.record_codec.specs.Laws.{EncodingsAreApart}
 use Rattle.record_codec.specs.declared.entry.Entry.{Entry}
 use Rattle.shop_core.specs.Legal.{Continues}
@@ -36,7 +37,7 @@ placed frame apart file at (no_entry issuer entries _ body sound counted none) =
   entries = entries;
   stop = record {
     sound = sound;
-    ends = λ entry other counted' encoding next. none entry (subst (λ (l : List ℕ). IsEncoding issuer entry l)
+    ends = λ entry other counted' encoding next. none entry (subst (λ (l : List ℕ). IsEncoding One issuer entry l)
         (frame.1 (drop at file) other body counted' counted) encoding);
   };
   open_gate = λ closed. not_both (drop at file) body closed counted;
@@ -49,7 +50,7 @@ placed frame apart file at (not_next issuer entries _ body entry sound counted e
     ends = λ other bytes counted' encoding' next.
         let same : other ≡ entry = same_entry apart issuer other entry bytes body encoding' encoding
         (frame.1 (drop at file) bytes body counted' counted) in
-        never (subst (λ (e : Entry). Continues issuer entries e) same next);
+        never (subst (λ (e : Entry). Continues One issuer entries e) same next);
   };
   open_gate = λ closed. not_both (drop at file) body closed counted;
 })

@@ -6,6 +6,7 @@ use Rattle.journal.specs.Laws.{WalkEnds, WalksAgree}
 use Rattle.journal.specs.Walk.{GoOn}
 use Rattle.record_codec.specs.Writing.{entry_bytes}
 use Rattle.record_codec.specs.Validity.{IsEncoding}
+use Rattle.record_fields.specs.declared.versions.Version.TheVariants.{One}
 use Rattle.record_codec.specs.Laws.{EncodingsAreApart}
 use Rattle.record_codec.specs.declared.entry.Entry.{Entry}
 use Rattle.shop_core.specs.File.Laws.{StopsAt, OneStop, StopsAtItsGate}
@@ -16,11 +17,11 @@ pub not_both : (bytes body : List ℕ) → IsClosed bytes → IsCounted bytes bo
 not_both bytes body closed counted = closed.shut (cc (sym closed.parts ∙ counted.parts))
 
 -- bytes are the encoding of one entry
-pub same_entry : EncodingsAreApart → (issuer : List ℕ) (a b : Entry) (x y : List ℕ) → IsEncoding issuer a x →
-    IsEncoding issuer b y → x ≡ y → a ≡ b
+pub same_entry : EncodingsAreApart → (issuer : List ℕ) (a b : Entry) (x y : List ℕ) → IsEncoding One issuer a x →
+    IsEncoding One issuer b y → x ≡ y → a ≡ b
 same_entry apart issuer a b x y is is' same =
-    let bytes : entry_bytes a ≡ entry_bytes b = sym is.bytes ∙ same ∙ is'.bytes in
-    (apart issuer a b [] [] is.issuer is'.issuer is.fields is'.fields (ap (λ (l : List ℕ). l ++ []) bytes)).0
+    let bytes : entry_bytes One a ≡ entry_bytes One b = sym is.bytes ∙ same ∙ is'.bytes in
+    (apart One issuer a b [] [] is.issuer is'.issuer is.fields is'.fields (ap (λ (l : List ℕ). l ++ []) bytes)).0
 
 same_entries : EncodingsAreApart → (issuer : List ℕ) (a b : List Entry) → AreEncoded issuer a → AreEncoded issuer b →
     bodies_of a ≡ bodies_of b → a ≡ b
@@ -28,9 +29,9 @@ same_entries apart issuer [] [] are are' same = refl
 same_entries apart issuer [] (y ∷ b) are are' same = absurd cc
 same_entries apart issuer (x ∷ a) [] are are' same = absurd cc
 same_entries apart issuer (x ∷ a) (y ∷ b) are are' same =
-    let heads : entry_bytes x ≡ entry_bytes y = cc same in
+    let heads : entry_bytes One x ≡ entry_bytes One y = cc same in
     let tails : bodies_of a ≡ bodies_of b = cc same in
-    let first : x ≡ y = same_entry apart issuer x y (entry_bytes x) (entry_bytes y) are.0 are'.0 heads in
+    let first : x ≡ y = same_entry apart issuer x y (entry_bytes One x) (entry_bytes One y) are.0 are'.0 heads in
     let rest = same_entries apart issuer a b are.1 are'.1 tails in cc (first, rest)
 
 -- the others are these entries, one of this body, and more
@@ -38,20 +39,20 @@ record Longer (issuer : List ℕ) (entries others : List Entry) (body : List ℕ
   entry : Entry
   rest : List Entry
   longer : others ≡ entries ++ entry ∷ rest
-  encoding : IsEncoding issuer entry body
+  encoding : IsEncoding One issuer entry body
 
 more_entries : EncodingsAreApart → (issuer : List ℕ) (a b : List Entry) (body : List ℕ) (more : List (List ℕ)) →
     AreEncoded issuer a → AreEncoded issuer b →
     bodies_of b ≡ bodies_of a ++ body ∷ more → Longer issuer a b body
 more_entries apart issuer [] [] body more are are' same = absurd cc
 more_entries apart issuer [] (y ∷ b) body more are are' same =
-    let heads : entry_bytes y ≡ body = cc same in
-    record { entry = y; rest = b; longer = refl; encoding = subst (λ (l : List ℕ). IsEncoding issuer y l) heads are'.0 }
+    let heads : entry_bytes One y ≡ body = cc same in
+    record { entry = y; rest = b; longer = refl; encoding = subst (λ (l : List ℕ). IsEncoding One issuer y l) heads are'.0 }
 more_entries apart issuer (x ∷ a) [] body more are are' same = absurd cc
 more_entries apart issuer (x ∷ a) (y ∷ b) body more are are' same =
-    let heads : entry_bytes x ≡ entry_bytes y = cc same in
+    let heads : entry_bytes One x ≡ entry_bytes One y = cc same in
     let tails : bodies_of b ≡ bodies_of a ++ body ∷ more = cc same in
-    let first : x ≡ y = same_entry apart issuer x y (entry_bytes x) (entry_bytes y) are.0 are'.0 heads in
+    let first : x ≡ y = same_entry apart issuer x y (entry_bytes One x) (entry_bytes One y) are.0 are'.0 heads in
     let on = more_entries apart issuer a b body more are.1 are'.1 tails in
     record { entry = on.entry; rest = on.rest; longer = cc (first, on.longer); encoding = on.encoding }
 

@@ -1,18 +1,18 @@
 -- How an invoice stands once one more line is noted.
-use Rattle.std.proofs.Common.{◌≡◌, ℕ, zero, suc, ◌+◌, ◌-◌, ◌<◌, ◌≤◌, ◌⊎◌, List, [], ◌∷◌, ◌++◌, length, length-append}
+use Rattle.std.proofs.Common.{◌≡◌, ℕ, zero, suc, ◌+◌, ◌-◌, ◌<◌, ◌≤◌, List, [], ◌∷◌, ◌++◌, length, length-append}
 use Rattle.std.proofs.Common.{append_assoc, append-nil, slice_get, refl, sym, ◌∙◌, ap, subst, inl, inr, Option, Some, None}
 use Rattle.std.proofs.Common.{option_map, filter, Bool, true, false, cond, not, arith, eqb, ◌&&◌}
-use Rattle.std.proofs.lemmas.Bool.{cases_Bool, cases_order, eqb-true, eq-eqb, ne_eqb}
+use Rattle.std.proofs.lemmas.Bool.{cases_Bool, eqb-true, eq-eqb, ne_eqb}
 use Rattle.std.specs.List.{enumerate_from}
 use Rattle.record_fields.specs.declared.records.Sealed.{Sealed}
 use Rattle.record_fields.specs.declared.lines.Line.{Line}
-use Rattle.shop_core.specs.Tables.ByNumber.{is_any, is_settled, last_in, place_in}
+use Rattle.shop_core.specs.Tables.ByNumber.{is_any, last_in}
 use Rattle.shop_core.specs.History.{at_place}
-use Rattle.shop_core.specs.Places.{accepted_place, is_place, last_place, settled_place, LineSettles, LinesSettle}
+use Rattle.shop_core.specs.Places.{accepted_place, is_place, last_place, settled_place, LinesSettle}
 use Rattle.shop_core.specs.Standing.{has_num, is_incorrecto}
 use Rattle.shop_core.proofs.Lasts.{last_passing, last_skips}
-use Rattle.shop_core.proofs.Standings.{at_within, cut, is_accepted, last_found, line_here, place_or_0, settled_before, settled_here}
-use Rattle.shop_core.proofs.Standings.{Shows, shows_all}
+use Rattle.shop_core.proofs.Standings.{at_within, cut, last_found, line_here, place_or_0, settled_before, settled_here}
+use Rattle.shop_core.proofs.Standings.{shows_all}
 
 first : (test : ℕ × Sealed → Bool) (x : ℕ × Sealed) (ps : List (ℕ × Sealed)) (n : ℕ) (p : ℕ × Sealed) → test x ≡ true →
     ((k : ℕ) → slice_get ps k ≡ Some p → test p ≡ true) → slice_get (x ∷ ps) n ≡ Some p → test p ≡ true
@@ -171,8 +171,9 @@ module _ (records : List Sealed) (lines : List Line) (line : Line) (s : Sealed)
                   elim (cases_Bool (is_incorrecto line)) [
                     | inl refuses ↦
                         let s' : settled_place records (lines ++ line ∷ []) num ≡ settled_place records lines num =
-                        settled_is ∙ ap (λ (b : Bool). cond (has_num num s && not b) (Some q) (settled_place records lines num)) refuses
-                        ∙ ap (λ (b : Bool). cond b (Some q) (settled_place records lines num)) (and_false (has_num num s)) in
+                        settled_is ∙ ap (λ (b : Bool). cond (has_num num s && not b) (Some q) (settled_place records lines num))
+                        refuses ∙ ap (λ (b : Bool). cond b (Some q) (settled_place records lines num))
+                        (and_false (has_num num s)) in
                         rw (refuses, yes) (ap (option_map (λ (p : ℕ × Sealed). p.0)) after.0 ∙ s')
                     | inr accepts ↦
                         let s' : settled_place records (lines ++ line ∷ []) num ≡ Some q =
@@ -191,7 +192,8 @@ module _ (records : List Sealed) (lines : List Line) (line : Line) (s : Sealed)
                     | inr e ↦ e
                   ] in
                   let s' : settled_place records (lines ++ line ∷ []) num ≡ settled_place records lines num =
-                  settled_is ∙ ap (λ (b : Bool). cond (b && not (is_incorrecto line)) (Some q) (settled_place records lines num)) other in
+                  settled_is ∙ ap (λ (b : Bool). cond (b && not (is_incorrecto line)) (Some q) (settled_place records lines num))
+                  other in
                   rw no (ap (option_map (λ (p : ℕ × Sealed). p.0)) after.0 ∙ s'
                   ∙ sym (ap (option_map (λ (p : ℕ × Sealed). p.0)) before.0))
             ]

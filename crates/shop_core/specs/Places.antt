@@ -3,8 +3,7 @@ use Rattle.std.specs.Prelude.{◌≡◌, ℕ, ◌+◌, List, [], ◌∷◌, ◌+
 use Rattle.std.specs.Prelude.{if◌then◌else◌}
 use Rattle.record_fields.specs.declared.records.Sealed.{Sealed}
 use Rattle.record_fields.specs.declared.lines.Line.{Line}
-use Rattle.record_codec.specs.declared.entry.Entry.{Entry}
-use Rattle.shop_core.specs.History.{recs, noted, at_place}
+use Rattle.shop_core.specs.History.{at_place}
 use Rattle.shop_core.specs.Standing.{has_num, is_incorrecto, is_refused_in}
 use Rattle.shop_core.specs.Tables.ByNumber.{place_in, is_any, is_settled}
 

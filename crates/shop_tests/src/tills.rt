@@ -11,13 +11,14 @@ use invoice_kinds::Kind;
 use journal::{Journal, StoreFault};
 use parties::Nif;
 use ports::{Clock, CountingClock};
+use record_codec::Version;
 use record_fields::{Draft, Refs};
 use series::SeriesName;
 use shop_core::{Reply, Request, State};
 use std::alloc::Global;
 use std::sync::Wait;
 use std::test::Fail;
-use tax_lines::{Breakdown, LineKey, TaxLine};
+use tax_lines::{Breakdown, Class, LineKey, TaxLine};
 use till_calls::{Shop, Started};
 
 // 2025-01-01, 10:00 on the peninsular clock.
@@ -27,7 +28,7 @@ const TEN: u64 = 1_735_722_000;
 fn sale(alloc: Global) -> Result<Request, Fail> {
     let base = Cents::new(10_000).ok_or("a base")?;
     let line = TaxLine {
-        key: LineKey::General,
+        key: LineKey::iva(Class::General),
         base,
     };
     let Ok(lines) = Breakdown::of(alloc, &[line]) else {
@@ -53,7 +54,7 @@ fn begun<D: Disk + Drop, C: Clock + Drop>(alloc: Global, disk: D, clock: C) -> O
     let Ok(issuer) = Nif::read("89890001K") else {
         return None;
     };
-    let state = State::empty(alloc, &issuer);
+    let state = State::empty(alloc, &issuer, Version::One);
     match Journal::create(disk, &issuer) {
         Ok(journal) => Some(Store::of(state, journal, clock)),
         Err(_) => None,

@@ -3,6 +3,7 @@ use Rattle.std.proofs.Common.{◌≡◌, ℕ, zero, suc, ◌+◌, ◌<◌, ◌�
 use Rattle.std.proofs.Common.{ap, subst, Bool, true, false, cond, arith, Option, Some, None, slice_get}
 use Rattle.std.proofs.Common.{option_to_list, take}
 use Rattle.std.proofs.lemmas.List.{length-take-le, take_all}
+use Rattle.record_fields.specs.declared.versions.Version.{Version}
 use Rattle.tax_lines.specs.declared.lines.TaxLine.{TaxLine}
 use Rattle.record_fields.specs.Records.{num_of}
 use Rattle.record_fields.specs.declared.records.Record.{Record}
@@ -78,10 +79,11 @@ one_at_most : (o : Option Posting) → length (option_to_list o) ≤ 1
 one_at_most None = omega arith
 one_at_most (Some p) = omega arith
 
-pub booking_room : (issuer : List ℕ) (entries : List Entry) (n : ℕ) (found : Option Posting) (postings : List Posting)
-    (months : List (List Row)) → Legal issuer entries → n < length (recs entries) → length (recs entries) ≤ 1_000_000 →
+pub booking_room : (version : Version) (issuer : List ℕ) (entries : List Entry) (n : ℕ) (found : Option Posting)
+    (postings : List Posting)
+    (months : List (List Row)) → Legal version issuer entries → n < length (recs entries) → length (recs entries) ≤ 1_000_000 →
     postings ≡ option_to_list found → ArePostings postings → IsBooked entries n months → HaveRoomFor (all_at postings) months
-booking_room issuer entries n found postings months legal lt few all are booked = record {
+booking_room version issuer entries n found postings months legal lt few all are booked = record {
   held = λ (i : ℕ). lines_from (accepted_place entries) (month_at i) 1 (take n (recs entries));
   are = booked;
   few = λ i within.
@@ -92,7 +94,7 @@ booking_room issuer entries n found postings months legal lt few all are booked 
       (lines_from (accepted_place entries) (month_at i) 1 (take n (recs entries))) (omega (arith, a, b)) (omega (arith, c, lt, few))
       (of_postings postings i are)
       (of_records (accepted_place entries) (month_at i) 1 (take n (recs entries)) (small_take n (recs entries)
-      (small_records issuer entries legal)));
+      (small_records version issuer entries legal)));
 }
 
 pub booked_all : (entries : List Entry) (n : ℕ) (months : List (List Row)) → n ≡ length (recs entries) →
@@ -103,25 +105,27 @@ booked_all entries n months e booked =
 
 -- ---- an entry more
 
-pub plan_room : (issuer : List ℕ) (entries after : List Entry) (put drop : List Posting) (months : List (List Row)) →
-    Legal issuer entries → length (recs entries) ≤ 1_000_000 → IsPlan entries after put drop → IsKept entries months →
+pub plan_room : (version : Version) (issuer : List ℕ) (entries after : List Entry) (put drop : List Posting)
+    (months : List (List Row)) →
+    Legal version issuer entries → length (recs entries) ≤ 1_000_000 → IsPlan entries after put drop → IsKept entries months →
     HaveRoomFor (all_at put) months
-plan_room issuer entries after put drop months legal few plan kept = record {
+plan_room version issuer entries after put drop months legal few plan kept = record {
   held = λ (i : ℕ). held_lines entries (month_at i);
   are = kept;
   few = λ i within.
       let a = plan.few in
       few_both (length put) (length (recs entries)) (all_at put i) (held_lines entries (month_at i)) (omega (arith, a)) (omega (arith, few))
       (of_postings put i plan.puts)
-      (of_records (accepted_place entries) (month_at i) 1 (recs entries) (small_records issuer entries legal));
+      (of_records (accepted_place entries) (month_at i) 1 (recs entries) (small_records version issuer entries legal));
 }
 
 -- what was put in can be taken out
-pub put_back : (issuer : List ℕ) (entries after : List Entry) (put drop : List Posting) (months new : List (List Row)) →
-    Legal issuer entries → length (recs entries) ≤ 1_000_000 → IsPlan entries after put drop → IsKept entries months →
+pub put_back : (version : Version) (issuer : List ℕ) (entries after : List Entry) (put drop : List Posting)
+    (months new : List (List Row)) →
+    Legal version issuer entries → length (recs entries) ≤ 1_000_000 → IsPlan entries after put drop → IsKept entries months →
     ((f : ℕ → List TaxLine) → AreMonths f months → AreMonths (λ (i : ℕ). all_at put i ++ f i) new) → HaveAll (all_at put) new
-put_back issuer entries after put drop months new legal few plan kept puts =
-    let room = plan_room issuer entries after put drop months legal few plan kept in record {
+put_back version issuer entries after put drop months new legal few plan kept puts =
+    let room = plan_room version issuer entries after put drop months legal few plan kept in record {
       rest = room.held;
       are = puts room.held room.are;
       few = room.few;
@@ -148,11 +152,12 @@ one_more entries (Notes first lines) =
     omega (arith, e)
 
 -- what is to be taken out is there
-pub drop_there : (issuer : List ℕ) (entries : List Entry) (entry : Entry) (put drop : List Posting) (months new : List (List Row)) →
-    Legal issuer (entries ++ entry ∷ []) → length (recs entries) ≤ 1_000_000 →
+pub drop_there : (version : Version) (issuer : List ℕ) (entries : List Entry) (entry : Entry) (put drop : List Posting)
+    (months new : List (List Row)) →
+    Legal version issuer (entries ++ entry ∷ []) → length (recs entries) ≤ 1_000_000 →
     IsPlan entries (entries ++ entry ∷ []) put drop → IsKept entries months →
     ((f : ℕ → List TaxLine) → AreMonths f months → AreMonths (λ (i : ℕ). all_at put i ++ f i) new) → HaveAll (all_at drop) new
-drop_there issuer entries entry put drop months new legal few plan kept puts = record {
+drop_there version issuer entries entry put drop months new legal few plan kept puts = record {
   rest = λ (i : ℕ). held_lines (entries ++ entry ∷ []) (month_at i);
   are = moved_in entries entry put drop months new plan kept puts;
   few = λ i within.
@@ -161,5 +166,5 @@ drop_there issuer entries entry put drop months new legal few plan kept puts = r
       few_both (length drop) (length (recs (entries ++ entry ∷ []))) (all_at drop i) (held_lines (entries ++ entry ∷ []) (month_at i))
       (omega (arith, a)) (omega (arith, few, m)) (of_postings drop i plan.drops)
       (of_records (accepted_place (entries ++ entry ∷ [])) (month_at i) 1 (recs (entries ++ entry ∷ []))
-      (small_records issuer (entries ++ entry ∷ []) legal));
+      (small_records version issuer (entries ++ entry ∷ []) legal));
 }

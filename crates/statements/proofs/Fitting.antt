@@ -3,7 +3,8 @@ use Rattle.std.proofs.Common.{◌≡◌, ℕ, zero, suc, ◌+◌, ◌*◌, ◌�
 use Rattle.std.proofs.Common.{subst, inl, inr, cond, arith, Some, None, append_assoc, nat_lt, take, eqb, unsigned_abs}
 use Rattle.std.proofs.lemmas.Bool.{cases_Bool, ltb-false}
 use Rattle.std.specs.List.{AllByRecursion, position_or_len}
-use Rattle.tax_lines.specs.Breakdown.{IsBreakdown, is_past}
+use Rattle.record_fields.specs.declared.versions.Version.{Version}
+use Rattle.tax_lines.specs.Breakdown.{HasKey, IsBreakdown, is_past}
 use Rattle.tax_lines.specs.declared.lines.TaxLine.{TaxLine}
 use Rattle.tax_lines.specs.declared.lines.TheConstants.{MAX_BASE}
 use Rattle.record_fields.specs.Records.{num_of}
@@ -36,13 +37,14 @@ pub record AreOfOne (lines : List TaxLine) : Type 0 where
 none_of_one : AreOfOne []
 none_of_one = record { few = omega arith; near = tt }
 
-all_near : (lines : List TaxLine) → length lines ≤ position_or_len is_past lines → AllByRecursion IsNear lines
-all_near [] le = tt
-all_near (line ∷ lines) le = elim (cases_Bool (is_past line)) [
+all_near : (lines : List TaxLine) → length lines ≤ position_or_len is_past lines → AllByRecursion HasKey lines →
+    AllByRecursion IsNear lines
+all_near [] le keys = tt
+all_near (line ∷ lines) le keys = elim (cases_Bool (is_past line)) [
   | inl e ↦ absurd (let h : suc (length lines) ≤ 0 = rw e at le in omega arith)
   | inr e ↦
       let h : suc (length lines) ≤ 1 + position_or_len is_past lines = rw e at le in
-      (ltb-false MAX_BASE (unsigned_abs line.base) e, all_near lines (omega (arith, h)))
+      (record { key = keys.0; base = ltb-false MAX_BASE (unsigned_abs line.base) e }, all_near lines (omega (arith, h)) keys.1)
 ]
 
 breakdown_of_one : (lines : List TaxLine) → IsBreakdown lines → AreOfOne lines
@@ -53,7 +55,7 @@ breakdown_of_one lines is =
       | inl e ↦ absurd (let h : Some (position_or_len is_past lines) ≡ None = rw e at is.near in cc)
       | inr e ↦ ltb-false (position_or_len is_past lines) (length lines) e
     ] in
-    record { few = omega (arith, few); near = all_near lines le }
+    record { few = omega (arith, few); near = all_near lines le is.keys }
 
 -- ---- the records of a legal history
 
@@ -79,23 +81,27 @@ small_body (record_of.Alta a) is month = elim (cases_Bool (is_in month a.id.day)
   | inr e ↦ rw e none_of_one
 ]
 
-small_from : (issuer : List ℕ) (front entries : List Entry) → Legal issuer (front ++ entries) → AllByRecursion IsSmallRecord
+small_from : (version : Version) (issuer : List ℕ) (front entries : List Entry) → Legal version issuer (front ++ entries) →
+    AllByRecursion IsSmallRecord
     (recs entries)
-small_from issuer front [] legal = tt
-small_from issuer front (Rec till serial s ∷ entries) legal =
+small_from version issuer front [] legal = tt
+small_from version issuer front (Rec till serial s ∷ entries) legal =
     let next = legal front entries (Rec till serial s) refl in
     let a : (front ++ Rec till serial s ∷ []) ++ entries ≡ front ++ Rec till serial s ∷ entries =
     append_assoc front (Rec till serial s ∷ []) entries in (
       small_body s.body next.asked.request,
-      small_from issuer (front ++ Rec till serial s ∷ []) entries (subst (λ (es : List Entry). Legal issuer es) (sym a) legal),
+      small_from version issuer (front ++ Rec till serial s ∷ []) entries
+          (subst (λ (es : List Entry). Legal version issuer es) (sym a) legal),
     )
-small_from issuer front (Notes first lines ∷ entries) legal =
+small_from version issuer front (Notes first lines ∷ entries) legal =
     let a : (front ++ Notes first lines ∷ []) ++ entries ≡ front ++ Notes first lines ∷ entries =
     append_assoc front (Notes first lines ∷ []) entries in
-    small_from issuer (front ++ Notes first lines ∷ []) entries (subst (λ (es : List Entry). Legal issuer es) (sym a) legal)
+    small_from version issuer (front ++ Notes first lines ∷ []) entries (subst (λ (es : List Entry). Legal version issuer es)
+    (sym a) legal)
 
-pub small_records : (issuer : List ℕ) (entries : List Entry) → Legal issuer entries → AllByRecursion IsSmallRecord (recs entries)
-small_records issuer entries legal = small_from issuer [] entries legal
+pub small_records : (version : Version) (issuer : List ℕ) (entries : List Entry) → Legal version issuer entries →
+    AllByRecursion IsSmallRecord (recs entries)
+small_records version issuer entries legal = small_from version issuer [] entries legal
 
 pub small_take : (n : ℕ) (records : List Sealed) → AllByRecursion IsSmallRecord records →
     AllByRecursion IsSmallRecord (take n records)

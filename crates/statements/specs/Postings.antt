@@ -3,7 +3,7 @@ use Rattle.std.specs.Prelude.{◌≡◌, ℕ, ◌<◌, ◌≤◌, ◌==◌, List
 use Rattle.std.specs.Prelude.{get_or, Bool, true, false}
 use Rattle.std.specs.List.{AllByRecursion}
 use Rattle.tax_lines.specs.Breakdown.{IsBreakdown}
-use Rattle.tax_lines.specs.declared.classes.LineKey.{LineKey}
+use Rattle.tax_lines.specs.Keys.{Key}
 use Rattle.tax_lines.specs.declared.lines.TaxLine.{TaxLine}
 use Rattle.record_fields.specs.declared.lines.TheConstants.{BATCH}
 use Rattle.record_fields.specs.declared.records.Record.{Record}
@@ -21,8 +21,8 @@ use Rattle.statements.specs.declared.rows.Row.{Row}
 
 -- these lines and those have the same rows
 pub record AreSame (xs ys : List TaxLine) : Type 0 where
-  pub count : (key : LineKey) → count key xs ≡ count key ys
-  pub sum : (amount : TaxLine → ℤ) (key : LineKey) → sum amount key xs ≡ sum amount key ys
+  pub count : (key : Key) → count key xs ≡ count key ys
+  pub sum : (amount : TaxLine → ℤ) (key : Key) → sum amount key xs ≡ sum amount key ys
 
 -- the lines that a posting has in the month of an index
 abbrev pub lines_at : Posting → ℕ → List TaxLine

@@ -187,7 +187,7 @@ fn plan_entry(alloc: Global, state: &State, first: u32, lines: &[Line]) -> Resul
 
 /// What an entry changes that continues the history.
 pub(crate) fn plan_of(alloc: Global, state: &State, entry: &Entry) -> Result<Plan, NoMemory>
-    requires { Continues state.now.issuer state.now.entries entry.now }
+    requires { Continues state.now.version state.now.issuer state.now.entries entry.now }
     ensures { IfOk result (λ plan. IsPlan state.now.entries (state.now.entries ++ entry.now ∷ []) plan.put.items plan.drop.items) }
 {
     match entry {

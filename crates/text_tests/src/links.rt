@@ -8,7 +8,7 @@ use stamps::{Day, stamp_at};
 use std::alloc::Global;
 use std::str::from_utf8;
 use std::test::Fail;
-use tax_lines::{Breakdown, LineKey, TaxLine};
+use tax_lines::{Breakdown, Class, LineKey, TaxLine};
 use verify_link::{Host, LinkFault, LinkParts, link_of, read_link};
 
 const REAL: &str = "https://www2.agenciatributaria.gob.es/wlpl/TIKE-CONT/ValidarQR?";
@@ -37,7 +37,7 @@ fn alta(alloc: Global, parts: &LinkParts) -> Result<Alta, Fail> {
         Err(_) => return Err(Fail::from("a moment")),
     };
     let line = TaxLine {
-        key: LineKey::General,
+        key: LineKey::iva(Class::General),
         base: Cents::new(10_000).ok_or("a base")?,
     };
     let lines = match Breakdown::of(alloc, &[line]) {

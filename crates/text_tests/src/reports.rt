@@ -4,7 +4,7 @@ use amounts::Cents;
 use invoice_kinds::Kind;
 use journal::StoreFault;
 use parties::Nif;
-use record_codec::Entry;
+use record_codec::{Entry, Version};
 use record_fields::{Cause, Draft, DraftFault, Line, Lines, Refs};
 use report::{
     AnswerLine, Answers, Detail, answers_text, fault_text, listing_text, status_of, summary_text,
@@ -17,7 +17,7 @@ use shop_core::{
 use stamps::{civil_day, stamp_at};
 use std::alloc::Global;
 use std::test::Fail;
-use tax_lines::{Breakdown, LineKey, TaxLine};
+use tax_lines::{Breakdown, Class, LineKey, TaxLine};
 
 // 2025-01-01, 10:00 on the peninsular clock.
 const TEN: u64 = 1_735_722_000;
@@ -53,6 +53,7 @@ till 64 serial 4294967295 refused draft refs-missing\n\
 till 64 serial 4294967295 refused draft refs-unwanted\n\
 till 64 serial 4294967295 refused draft too-many-refs 101\n\
 till 64 serial 4294967295 refused draft over-simplified 300001\n\
+till 64 serial 4294967295 refused old-file 11\n\
 till 64 serial 4294967295 refused unknown\n\
 till 64 serial 4294967295 refused cancelled 3\n\
 till 64 serial 4294967295 refused ref 0\n\
@@ -90,7 +91,7 @@ fn number(num: &str) -> Result<NumSerie, Fail> {
 fn draft(alloc: Global, base: i64) -> Result<Draft, Fail> {
     let base = Cents::new(base).ok_or("a base")?;
     let line = TaxLine {
-        key: LineKey::General,
+        key: LineKey::iva(Class::General),
         base,
     };
     let Ok(lines) = Breakdown::of(alloc, &[line]) else {
@@ -160,7 +161,7 @@ fn note(alloc: Global, state: &mut State, line: Line) -> Result<(), Fail> {
 #[test]
 fn histories_are_listed(rt: HostRuntime) -> Result<(), Fail> {
     let alloc = rt.alloc();
-    let mut state = State::empty(alloc, &issuer()?);
+    let mut state = State::empty(alloc, &issuer()?, Version::One);
     let empty = listing_text(alloc, &state)?;
     assert_eq!(rt; empty.as_slice(), b"chain 0 noted 0\n".as_slice());
     let nothing = summary_text(alloc, &state)?;
@@ -238,6 +239,7 @@ fn answers_have_lines(rt: HostRuntime) -> Result<(), Fail> {
         bad_draft(DraftFault::RefsUnwanted),
         bad_draft(DraftFault::TooManyRefs { n: 101 }),
         bad_draft(DraftFault::OverSimplified { total }),
+        refused(Refusal::OldFile { index: 11 }),
         refused(Refusal::Unknown),
         refused(Refusal::Cancelled { place: 3 }),
         refused(Refusal::RefNotSimplified { index: 0 }),

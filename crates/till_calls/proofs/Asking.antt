@@ -3,6 +3,7 @@ use Rattle.std.proofs.Common.{◌≡◌, ◌⊎◌, ◌↔◌, inl, inr, ℕ, �
 use Rattle.std.proofs.Common.{subst, refl, Bool, IsTrue, IsSome, is_some, true, Option, Some, None, Result, Ok, Err}
 use Rattle.std.specs.Prelude.{OnOk}
 use Rattle.std.proofs.lemmas.List.{append-nil, map-append, length-map}
+use Rattle.record_fields.specs.declared.versions.Version.{Version}
 use Rattle.chain_disk.specs.OnDisk.{OnDisk, LeavesNow}
 use Rattle.chain_lock.specs.Lists.{StartsWith, MayAdd}
 use Rattle.chain_store.specs.Ready.{IsReady, Takes, Tears as StoreTears}
@@ -78,7 +79,7 @@ pub till_adds : {C : Type 0} (coming : C → ℕ → Option ℕ) (ask : Asked) (
     (before after : List Item) → TillDoes coming ask reply root before after →
     MayAdd before after
 till_adds coming ask (Ok reply) root before after a =
-    elim (adds_of (answer root.issuer a.history ask a.seconds) a.history reply a.gained a.tells) [
+    elim (adds_of (answer root.version root.issuer a.history ask a.seconds) a.history reply a.gained a.tells) [
       | inl none ↦ inl (a.after_is ∙ ap (λ (l : List Entry). map item.Entry (a.history ++ l)) none ∙
           ap (λ (l : List Entry). map item.Entry l) (append-nil a.history) ∙ sym a.going_on)
       | inr one ↦ inr (
@@ -99,7 +100,7 @@ module _ {D C : Type 0} (tells : Bool) (told : D → OnDisk) (faults : D → ℕ
   -- what one ask of the store does, in its parts
   pub record Took (p q : Parts D C) (ask : Asked) (r : Result Reply StoreFault) : Type 0 where
     pub ready : IsReady tells q.state q.stopped q.gate (told q.disk)
-    pub legal : Legal q.state.issuer q.state.entries
+    pub legal : Legal q.state.version q.state.issuer q.state.entries
     pub takes : p.stopped ≡ None → Takes (call_of tells told coming p q) ask r
     pub torn : r ≡ Err DiskFault → StoreTears (call_of tells told coming p q) ask q.torn
     pub acknowledged : OnOk r (IsTrue tells → LeavesNow (told q.disk) (StandsFor q.state.issuer q.state.entries))
@@ -122,7 +123,7 @@ module _ {D C : Type 0} (tells : Bool) (told : D → OnDisk) (faults : D → ℕ
 
   pub list_of : (q : Parts D C) → IsSound tells told faults coming root q → IsShopList root (items_in q)
   list_of q s = record {
-    legal = subst (λ (es : List Entry). Legal root.issuer es) (sym (entries_in q)) s.legal;
+    legal = subst (λ (es : List Entry). Legal root.version root.issuer es) (sym (entries_in q)) s.legal;
     begins = subst (λ (es : List Entry). StartsWith es root.history) (sym (entries_in q)) s.begins;
   }
 
@@ -134,10 +135,10 @@ module _ {D C : Type 0} (tells : Bool) (told : D → OnDisk) (faults : D → ℕ
       p.stopped ≡ None → Took p q ask r → Outcome p ask r q
   took_going p q ask (Ok reply) s going t =
       let takes = t.takes going in
-      let planned = answer p.state.issuer p.state.entries ask takes.seconds in
+      let planned = answer p.state.version p.state.issuer p.state.entries ask takes.seconds in
       let clock : IsLater coming root.clock q.clock = later_more coming root.clock p.clock q.clock 1 s.clock takes.moved in
       let sound = sound_gains tells told faults coming root p q takes.gained (StandsAround p.state.issuer p.state.entries planned)
-      s going t.going_on.1 t.ready takes.issuer t.legal takes.entries clock
+      s going t.going_on.1 t.ready takes.issuer takes.version t.legal takes.entries clock
       takes.any_moment (λ c h. between_around root.issuer root.history p.state.entries takes.gained planned reply c s.begins
       takes.reply (subst (λ (n : List ℕ). StandsAround n p.state.entries planned c) s.issuer h))
       t.acknowledged t.later in
@@ -147,8 +148,10 @@ module _ {D C : Type 0} (tells : Bool) (told : D → OnDisk) (faults : D → ℕ
         seconds = takes.seconds;
         reading = reading_of p takes.seconds s takes.reading;
         gained = takes.gained;
-        tells = subst (λ (n : List ℕ). Tells p.state.entries (answer n p.state.entries ask takes.seconds) reply takes.gained)
-            s.issuer takes.reply;
+        tells = subst (λ (v : Version). Tells p.state.entries (answer v root.issuer p.state.entries ask takes.seconds) reply
+            takes.gained) s.version
+            (subst (λ (n : List ℕ). Tells p.state.entries (answer p.state.version n p.state.entries ask takes.seconds) reply
+            takes.gained) s.issuer takes.reply);
         after_is = items_going q t.going_on.1 ∙ ap (λ (es : List Entry). map item.Entry es) takes.entries;
       })
   took_going p q ask (Err DiskFault) s going t =
@@ -159,7 +162,7 @@ module _ {D C : Type 0} (tells : Bool) (told : D → OnDisk) (faults : D → ℕ
       append-nil p.state.entries in
       let clock : IsLater coming root.clock q.clock = later_more coming root.clock p.clock q.clock 1 s.clock takes.moved in
       let sound = sound_stops tells told faults coming root p q tears.entry (faults q.disk) s going fault.1 tears.entry_is refl
-      t.ready takes.issuer same tears.continues clock tears.any_moment fault.0 t.later in
+      t.ready takes.issuer takes.version same tears.continues clock tears.any_moment fault.0 t.later in
       let stopped : HasStopped faults root q (faults q.disk) = sound.stop (faults q.disk) fault.1 in
       outcome p q ask (Err DiskFault) sound (record {
         history = p.state.entries;
@@ -167,7 +170,9 @@ module _ {D C : Type 0} (tells : Bool) (told : D → OnDisk) (faults : D → ℕ
         seconds = tears.seconds;
         reading = reading_of p tears.seconds s tears.reading;
         torn = tears.entry;
-        made = subst (λ (n : List ℕ). answer n p.state.entries ask tears.seconds ≡ Made tears.entry) s.issuer tears.made;
+        made = subst (λ (v : Version). answer v root.issuer p.state.entries ask tears.seconds ≡ Made tears.entry) s.version
+            (subst (λ (n : List ℕ). answer p.state.version n p.state.entries ask tears.seconds ≡ Made tears.entry) s.issuer
+            tears.made);
         count = faults q.disk;
         rose = stopped.rose;
         after_is = items_stopped q (faults q.disk) tears.entry fault.1 tears.entry_is ∙
@@ -182,7 +187,8 @@ module _ {D C : Type 0} (tells : Bool) (told : D → OnDisk) (faults : D → ℕ
       append-nil p.state.entries in
       let clock : IsLater coming root.clock q.clock = later_more coming root.clock p.clock q.clock 1 s.clock takes.moved in
       let goes : q.stopped ≡ None = disk.1 ∙ going in
-      let sound = sound_stays tells told faults coming root p q s going goes disk.0 t.ready takes.issuer same clock in
+      let sound = sound_stays tells told faults coming root p q s going goes disk.0 t.ready takes.issuer takes.version same clock
+      in
       outcome p q ask (Err NoMemory) sound (
         items_going q goes ∙ ap (λ (es : List Entry). map item.Entry es) same ∙ sym (items_going p going),
         record { history = p.state.entries; entries = items_going p going },

@@ -2,6 +2,7 @@
 use Rattle.std.proofs.Common.{◌≡◌, inl, inr, ℕ, ◌+◌, ◌≤◌, List, [], ◌∷◌, ◌++◌, append_assoc, sym, ◌∙◌, ap, subst, refl, arith}
 use Rattle.std.proofs.Common.{add_assoc, zero-add, Bool, IsTrue, Option, Some, None}
 use Rattle.std.proofs.lemmas.List.{append-nil}
+use Rattle.record_fields.specs.declared.versions.Version.{Version}
 use Rattle.chain_disk.specs.OnDisk.{OnDisk, LeavesOnly, LeavesNow, moment}
 use Rattle.chain_disk.specs.Runs.{follows, weaker, started_settled, leaves_now}
 use Rattle.chain_lock.specs.Lists.{StartsWith}
@@ -109,15 +110,18 @@ module _ {D C : Type 0} (tells : Bool) (told : D → OnDisk) (faults : D → ℕ
   pub sound_gains : (p q : Parts D C) (gained : List Entry) (P : List ℕ → Type 0) → Sound p → p.stopped ≡ None →
       q.stopped ≡ None →
       IsReady tells q.state q.stopped q.gate (told q.disk) → q.state.issuer ≡ p.state.issuer →
-      Legal q.state.issuer q.state.entries → q.state.entries ≡ p.state.entries ++ gained →
+      q.state.version ≡ p.state.version → Legal q.state.version q.state.issuer q.state.entries →
+      q.state.entries ≡ p.state.entries ++ gained →
       IsLater coming root.clock q.clock → (IsTrue tells → LeavesOnly (told p.disk) (told q.disk) P) →
       ((c : List ℕ) → P c → StandsBetween root.issuer root.history (p.state.entries ++ gained) c) →
       (IsTrue tells → LeavesNow (told q.disk) (StandsFor q.state.issuer q.state.entries)) → faults p.disk ≤ faults q.disk →
       Sound q
-  sound_gains p q gained P s going goes ready issuer legal entries clock only between now later = record {
+  sound_gains p q gained P s going goes ready issuer version legal entries clock only between now later = record {
     ready = ready;
     issuer = own;
-    legal = subst (λ (n : List ℕ). Legal n q.state.entries) own legal;
+    version = version ∙ s.version;
+    legal = subst (λ (v : Version). Legal v root.issuer q.state.entries) (version ∙ s.version)
+        (subst (λ (n : List ℕ). Legal q.state.version n q.state.entries) own legal);
     begins = subst (λ (es : List Entry). StartsWith es root.history) (sym entries) (front_more root.history p.state.entries gained
         s.begins);
     clock = clock;
@@ -143,12 +147,14 @@ module _ {D C : Type 0} (tells : Bool) (told : D → OnDisk) (faults : D → ℕ
 
   -- the disk was not called
   pub sound_stays : (p q : Parts D C) → Sound p → p.stopped ≡ None → q.stopped ≡ None → q.disk ≡ p.disk →
-      IsReady tells q.state q.stopped q.gate (told q.disk) → q.state.issuer ≡ p.state.issuer → q.state.entries ≡ p.state.entries →
+      IsReady tells q.state q.stopped q.gate (told q.disk) → q.state.issuer ≡ p.state.issuer →
+      q.state.version ≡ p.state.version → q.state.entries ≡ p.state.entries →
       IsLater coming root.clock q.clock → Sound q
-  sound_stays p q s going goes disk ready issuer entries clock = record {
+  sound_stays p q s going goes disk ready issuer version entries clock = record {
     ready = ready;
     issuer = issuer ∙ s.issuer;
-    legal = subst (λ (es : List Entry). Legal root.issuer es) (sym entries) s.legal;
+    version = version ∙ s.version;
+    legal = subst (λ (es : List Entry). Legal root.version root.issuer es) (sym entries) s.legal;
     begins = subst (λ (es : List Entry). StartsWith es root.history) (sym entries) s.begins;
     clock = clock;
     crashes = λ says.
@@ -165,40 +171,44 @@ module _ {D C : Type 0} (tells : Bool) (told : D → OnDisk) (faults : D → ℕ
   -- the disk failed while an entry was added
   pub sound_stops : (p q : Parts D C) (entry : Entry) (count : ℕ) → Sound p → p.stopped ≡ None → q.stopped ≡ Some count →
       q.torn ≡ Some entry → count ≡ faults q.disk →
-      IsReady tells q.state q.stopped q.gate (told q.disk) → q.state.issuer ≡ p.state.issuer → q.state.entries ≡ p.state.entries →
-      Continues p.state.issuer p.state.entries entry →
+      IsReady tells q.state q.stopped q.gate (told q.disk) → q.state.issuer ≡ p.state.issuer →
+      q.state.version ≡ p.state.version → q.state.entries ≡ p.state.entries →
+      Continues p.state.version p.state.issuer p.state.entries entry →
       IsLater coming root.clock q.clock → (IsTrue tells → LeavesOnly (told p.disk) (told q.disk)
       (StandsBeforeOrWith p.state.issuer p.state.entries entry)) →
       Rose (faults p.disk) (faults q.disk) → faults p.disk ≤ faults q.disk → Sound q
-  sound_stops p q entry count s going stopped torn count_is ready issuer entries continues clock only rose later = record {
-    ready = ready;
-    issuer = issuer ∙ s.issuer;
-    legal = subst (λ (es : List Entry). Legal root.issuer es) (sym entries) s.legal;
-    begins = subst (λ (es : List Entry). StartsWith es root.history) (sym entries) s.begins;
-    clock = clock;
-    crashes = λ says.
-        let here = only says in
-        let whole : with_torn q.state.entries q.stopped q.torn ≡ p.state.entries ++ entry ∷ [] =
-        some_torn q.state.entries q.stopped q.torn count entry stopped torn ∙ ap (λ (es : List Entry). es ++ entry ∷ []) entries
-        in
-        subst (λ (es : List Entry). Leaves root q.state.entries es (told q.disk)) (sym whole)
-        (subst (λ (es : List Entry). Leaves root es (p.state.entries ++ entry ∷ []) (told q.disk)) (sym entries) (record {
-          since = follows root.told (told p.disk) (told q.disk) _ _ _ (s.crashes says).since here (λ c h. older c h)
-              (λ c h. between_with root.issuer root.history p.state.entries entry c s.begins (own c h));
-          whole = λ c left. own c (here.each (moment (told q.disk)) c here.later left);
-        }));
-    stop = λ other e. record {
-      torn = entry;
-      torn_is = torn;
-      continues = subst (λ (es : List Entry). Continues root.issuer es entry) (sym entries)
-          (subst (λ (n : List ℕ). Continues n p.state.entries entry) s.issuer continues);
-      rose = let same : other ≡ count = (let x : ◌≡◌ {A = Option ℕ} (Some other) (Some count) = sym e ∙ stopped in cc) in
-          rose_of other same;
-      within = let same : other ≡ count = (let x : ◌≡◌ {A = Option ℕ} (Some other) (Some count) = sym e ∙ stopped in cc) in
-          omega (arith, same, count_is);
-    };
-    later = omega (arith, s.later, later);
-  }
+  sound_stops p q entry count s going stopped torn count_is ready issuer version entries continues clock only rose later =
+      record {
+        ready = ready;
+        issuer = issuer ∙ s.issuer;
+        version = version ∙ s.version;
+        legal = subst (λ (es : List Entry). Legal root.version root.issuer es) (sym entries) s.legal;
+        begins = subst (λ (es : List Entry). StartsWith es root.history) (sym entries) s.begins;
+        clock = clock;
+        crashes = λ says.
+            let here = only says in
+            let whole : with_torn q.state.entries q.stopped q.torn ≡ p.state.entries ++ entry ∷ [] =
+            some_torn q.state.entries q.stopped q.torn count entry stopped torn ∙ ap (λ (es : List Entry). es ++ entry ∷ []) entries
+            in
+            subst (λ (es : List Entry). Leaves root q.state.entries es (told q.disk)) (sym whole)
+            (subst (λ (es : List Entry). Leaves root es (p.state.entries ++ entry ∷ []) (told q.disk)) (sym entries) (record {
+              since = follows root.told (told p.disk) (told q.disk) _ _ _ (s.crashes says).since here (λ c h. older c h)
+                  (λ c h. between_with root.issuer root.history p.state.entries entry c s.begins (own c h));
+              whole = λ c left. own c (here.each (moment (told q.disk)) c here.later left);
+            }));
+        stop = λ other e. record {
+          torn = entry;
+          torn_is = torn;
+          continues = subst (λ (es : List Entry). Continues root.version root.issuer es entry) (sym entries)
+              (subst (λ (v : Version). Continues v root.issuer p.state.entries entry) s.version
+              (subst (λ (n : List ℕ). Continues p.state.version n p.state.entries entry) s.issuer continues));
+          rose = let same : other ≡ count = (let x : ◌≡◌ {A = Option ℕ} (Some other) (Some count) = sym e ∙ stopped in cc) in
+              rose_of other same;
+          within = let same : other ≡ count = (let x : ◌≡◌ {A = Option ℕ} (Some other) (Some count) = sym e ∙ stopped in cc) in
+              omega (arith, same, count_is);
+        };
+        later = omega (arith, s.later, later);
+      }
     where
       own : (c : List ℕ) → StandsBeforeOrWith p.state.issuer p.state.entries entry c → StandsBeforeOrWith root.issuer
           p.state.entries entry c
@@ -222,11 +232,12 @@ module _ {D C : Type 0} (tells : Bool) (told : D → OnDisk) (faults : D → ℕ
 -- a store that begins
 module _ {D C : Type 0} (tells : Bool) (told : D → OnDisk) (faults : D → ℕ) (coming : C → ℕ → Option ℕ) where
   pub sound_at_start : (p : Parts D C) → p.stopped ≡ None → IsReady tells p.state p.stopped p.gate (told p.disk) →
-      Legal p.state.issuer p.state.entries →
+      Legal p.state.version p.state.issuer p.state.entries →
       IsSound tells told faults coming (root_of told faults p) p
   sound_at_start p going ready legal = record {
     ready = ready;
     issuer = refl;
+    version = refl;
     legal = legal;
     begins = front_all p.state.entries;
     clock = record { number = 0; moved = λ k. ap (coming p.clock) (sym (zero-add k)) };
@@ -235,7 +246,7 @@ module _ {D C : Type 0} (tells : Bool) (told : D → OnDisk) (faults : D → ℕ
         let stands : StandsFor p.state.issuer p.state.entries (told p.disk).content = record {
           frames = holds.file.file;
           encoded = holds.encoded;
-          legal = legal;
+          legal = subst (λ (v : Version). Legal v p.state.issuer p.state.entries) holds.version legal;
         } in
         subst (λ (es : List Entry). Leaves (root_of told faults p) p.state.entries es (told p.disk))
         (sym (none_torn p.state.entries p.stopped p.torn going)) (record {

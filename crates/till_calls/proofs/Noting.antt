@@ -35,8 +35,9 @@ module _ {D C : Type 0} (tells : Bool) (told : D → OnDisk) (faults : D → ℕ
   -- what one note of the store does, in its parts
   pub record Noted (p q : Parts D C) (lines : List Line) (r : Result (Unit {0}) StoreFault) : Type 0 where
     pub ready : IsReady tells q.state q.stopped q.gate (told q.disk)
-    pub legal : Legal q.state.issuer q.state.entries
+    pub legal : Legal q.state.version q.state.issuer q.state.entries
     pub issuer : q.state.issuer ≡ p.state.issuer
+    pub version : q.state.version ≡ p.state.version
     pub added : OnOk r (q.state.entries ≡ p.state.entries ++ Notes (length (noted p.state.entries)) lines ∷ [])
     pub same : OnErr r (q.state.entries ≡ p.state.entries)
     pub clock : q.clock ≡ p.clock
@@ -60,7 +61,7 @@ module _ {D C : Type 0} (tells : Bool) (told : D → OnDisk) (faults : D → ℕ
       let e = Notes (length (noted p.state.entries)) lines in
       let clock : IsLater coming root.clock q.clock = later_same coming root.clock p.clock q.clock s.clock t.clock in
       let sound = sound_gains tells told faults coming root p q (e ∷ []) (StandsBeforeOrWith p.state.issuer p.state.entries e) s
-      going t.going_on.1 t.ready t.issuer t.legal t.added clock t.any_moment
+      going t.going_on.1 t.ready t.issuer t.version t.legal t.added clock t.any_moment
       (λ c h. between_with root.issuer root.history p.state.entries e c s.begins
       (subst (λ (n : List ℕ). StandsBeforeOrWith n p.state.entries e c) s.issuer h)) t.acknowledged t.later in (
         sound,
@@ -82,6 +83,7 @@ module _ {D C : Type 0} (tells : Bool) (told : D → OnDisk) (faults : D → ℕ
       let torn : q.torn ≡ Some e = (t.torn refl).entry_is in
       let clock : IsLater coming root.clock q.clock = later_same coming root.clock p.clock q.clock s.clock t.clock in
       let sound = sound_stops tells told faults coming root p q e (faults q.disk) s going fault.1 torn refl t.ready t.issuer
+      t.version
       t.same (t.torn refl).continues clock t.any_moment fault.0 t.later in
       let stopped : HasStopped faults root q (faults q.disk) = sound.stop (faults q.disk) fault.1 in (
         sound,
@@ -105,7 +107,7 @@ module _ {D C : Type 0} (tells : Bool) (told : D → OnDisk) (faults : D → ℕ
   notes p q lines (Err NoMemory) s going t =
       let disk = t.no_memory refl in
       let goes : q.stopped ≡ None = disk.1 ∙ going in
-      let sound = sound_stays tells told faults coming root p q s going goes disk.0 t.ready t.issuer t.same
+      let sound = sound_stays tells told faults coming root p q s going goes disk.0 t.ready t.issuer t.version t.same
       (later_same coming root.clock p.clock q.clock s.clock t.clock) in (
         sound,
         record {

@@ -6,6 +6,7 @@ use Rattle.std.specs.List.{enumerate_from}
 use Rattle.std.specs.Option.{option_map_or}
 use Rattle.std.proofs.lemmas.Bool.Decides.{nat_tests}
 use Rattle.std.proofs.lemmas.List.{append-nil, map-append, length-append, append_cancel_left}
+use Rattle.record_fields.specs.declared.versions.Version.{Version}
 use Rattle.chain_lock.specs.Known.{Known, IsNew}
 use Rattle.chain_lock.specs.Lists.{EachOf, StartsWith}
 use Rattle.journal.specs.declared.faults.StoreFault.{StoreFault}
@@ -53,11 +54,12 @@ made_of None (Some why) m e h = absurd (let x = h in cc)
 made_of None None m e h = let x = h in cc
 
 -- what an ask makes is a record of its till
-of_its_till : (issuer : List ℕ) (history : List Entry) (ask : Asked) (seconds : ℕ) (e : Entry) → answer issuer history ask seconds
+of_its_till : (version : Version) (issuer : List ℕ) (history : List Entry) (ask : Asked) (seconds : ℕ) (e : Entry) →
+    answer version issuer history ask seconds
     ≡ planned.Made e → is_of ask.till (item.Entry e) ≡ true
-of_its_till issuer history ask seconds e h =
+of_its_till version issuer history ask seconds e h =
     let is : e ≡ Rec ask.till ask.serial (made_sealed issuer history ask.request seconds) =
-    made_of (kept history ask.till ask.serial) (refusal issuer history ask seconds)
+    made_of (kept history ask.till ask.serial) (refusal version issuer history ask seconds)
     (Rec ask.till ask.serial (made_sealed issuer history ask.request seconds)) e h in
     subst (λ (x : Entry). is_of ask.till (item.Entry x) ≡ true) (sym is) (let t : (ask.till == ask.till) ≡ true =
     grind (arith, nat_tests) in t)
@@ -205,11 +207,11 @@ module _ {C : Type 0} (till : ℕ) (start : ℕ) where
       ask.till ≡ till → length old.seen ≤ length before → TillDoes coming ask reply home before (before ++ more) →
       Served replies old → Served (replies ++ reply ∷ []) (after old before more)
   serves_turn coming ask (Ok (Taken receipt)) replies old home before more same longer a s =
-      let g = gains_taken a.history (answer home.issuer a.history ask a.seconds) receipt a.gained a.tells in
+      let g = gains_taken a.history (answer home.version home.issuer a.history ask a.seconds) receipt a.gained a.tells in
       let one : more ≡ item.Entry g.0 ∷ [] = turn_adds a.history a.gained before more a.going_on a.after_is ∙
       ap (λ (l : List Entry). map item.Entry l) g.3 in
       let own : is_of till (item.Entry g.0) ≡ true = subst (λ (n : ℕ). is_of n (item.Entry g.0) ≡ true) same
-      (of_its_till home.issuer a.history ask a.seconds g.0 g.1) in
+      (of_its_till home.version home.issuer a.history ask a.seconds g.0 g.1) in
       let told : AreTaken replies (records_of till (added old)) → AreTaken (replies ++ Ok (Taken receipt) ∷ [])
       (records_of till (added old) ++ records_of till (item.Entry g.0 ∷ [])) =
       λ h. subst (λ (l : List Item). AreTaken (replies ++ Ok (Taken receipt) ∷ []) (records_of till (added old) ++ l))
@@ -220,13 +222,14 @@ module _ {C : Type 0} (till : ℕ) (start : ℕ) where
       own) own told s)
   serves_turn coming ask (Ok (Again receipt)) replies old home before more same longer a s =
       let none : more ≡ [] = turn_adds a.history a.gained before more a.going_on a.after_is
-      ∙ ap (λ (l : List Entry). map item.Entry l) (gains_none a.history (answer home.issuer a.history ask a.seconds)
+      ∙ ap (λ (l : List Entry). map item.Entry l) (gains_none a.history (answer home.version home.issuer a.history ask a.seconds)
       (Again receipt) a.gained (λ r e. absurd (let x = e in cc)) a.tells) in
       subst (λ (l : List Item). Served (replies ++ Ok (Again receipt) ∷ []) (after old before l)) (sym none)
       (serves_none replies (Ok (Again receipt)) old before longer (λ r e. absurd (let x = e in cc)) s)
   serves_turn coming ask (Ok (Refused why)) replies old home before more same longer a s =
       let none : more ≡ [] = turn_adds a.history a.gained before more a.going_on a.after_is
-      ∙ ap (λ (l : List Entry). map item.Entry l) (gains_none a.history (answer home.issuer a.history ask a.seconds) (Refused why)
+      ∙ ap (λ (l : List Entry). map item.Entry l) (gains_none a.history (answer home.version home.issuer a.history ask a.seconds)
+      (Refused why)
       a.gained (λ r e. absurd (let x = e in cc)) a.tells) in
       subst (λ (l : List Item). Served (replies ++ Ok (Refused why) ∷ []) (after old before l)) (sym none)
       (serves_none replies (Ok (Refused why)) old before longer (λ r e. absurd (let x = e in cc)) s)
@@ -235,7 +238,8 @@ module _ {C : Type 0} (till : ℕ) (start : ℕ) where
       (t.after_is ∙ ap (λ (l : List Item). l ++ item.Stop t.count t.torn ∷ []) (sym t.going_on)) in
       subst (λ (l : List Item). Served (replies ++ Err DiskFault ∷ []) (after old before l)) (sym one)
       (serves_one replies (Err DiskFault) old before (item.Stop t.count t.torn) longer (λ other apart. refl)
-      (subst (λ (n : ℕ). is_of n (item.Entry t.torn) ≡ true) same (of_its_till home.issuer t.history ask t.seconds t.torn t.made))
+      (subst (λ (n : ℕ). is_of n (item.Entry t.torn) ≡ true) same (of_its_till home.version home.issuer t.history ask t.seconds
+      t.torn t.made))
       (λ h. taken_none replies (Err DiskFault) (records_of till (added old) ++ []) (λ r e. absurd (let x = e in cc))
       (subst (λ (l : List Item). AreTaken replies l) (sym (append-nil (records_of till (added old)))) h)) s)
   serves_turn coming ask (Err (Stopped count)) replies old home before more same longer t s =

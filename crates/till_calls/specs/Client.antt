@@ -39,7 +39,7 @@ pub data TillTold {C : Type 0} (coming : C → ℕ → Option ℕ) (root : Root 
   answered : (asks : List Asked) (replies : List (Result Reply StoreFault)) (seen : ℕ) (ask : Asked) (reply : Reply)
       (history gained : List Entry) (seconds : ℕ) → TillTold coming root log start asks replies seen false →
       seen ≤ length history → StartsWith log (map item.Entry (history ++ gained)) → IsReading coming root seconds →
-      Tells history (answer root.issuer history ask seconds) reply gained →
+      Tells history (answer root.version root.issuer history ask seconds) reply gained →
       TillTold coming root log start (asks ++ ask ∷ []) (replies ++ Ok reply ∷ []) (length (history ++ gained)) false
   torn : (asks : List Asked) (replies : List (Result Reply StoreFault)) (seen : ℕ) (ask : Asked) →
       TillTold coming root log start asks replies seen false →

@@ -1,6 +1,7 @@
 -- What a seat's box shows of what its seat knows, and what no call of the box changes.
 use Rattle.std.specs.Prelude.{ℕ, [], List, Option, map}
 use Rattle.std.specs.Option.{option_map_or}
+use Rattle.record_fields.specs.declared.versions.Version.TheVariants.{One}
 use Rattle.atomic_table.specs.Seated.{TableId}
 use Rattle.chain_lock.specs.Known.{Known}
 use Rattle.once_world.specs.Outbox.{Sight}
@@ -20,6 +21,7 @@ mark_by shop k = record { shop = shop; numbers = k.numbers; root = k.root }
 abbrev pub sight_by : {C : Type 0} → Known Item (Root C) → Sight
 sight_by k = record {
   issuer = option_map_or (λ (r : Root _). r.issuer) k.root [];
+  version = option_map_or (λ (r : Root _). r.version) k.root One;
   items = k.seen;
   own = map (λ (x : ℕ × Item). x.0) k.own;
 }

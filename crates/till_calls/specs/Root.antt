@@ -1,5 +1,6 @@
 -- What a shop's lock guards: the parts of its store, and how they were at the start.
 use Rattle.std.specs.Prelude.{ℕ, List, [], ◌∷◌, ◌++◌, map, Option, Some, None}
+use Rattle.record_fields.specs.declared.versions.Version.{Version}
 use Rattle.chain_disk.specs.OnDisk.{OnDisk}
 use Rattle.chain_disk.specs.declared.disk.Disk.{Ghosts}
 use Rattle.chain_store.specs.Store.{clock_of, journal_of, state_of, torn_of}
@@ -13,6 +14,7 @@ use Rattle.shop_core.specs.declared.items.Item.TheVariants as item
 -- the shop at its start: no turn changes it
 pub record Root (C : Type 0) : Type 0 where
   pub issuer : List ℕ
+  pub version : Version
   pub history : List Entry
   -- what the disk told
   pub told : OnDisk
@@ -58,7 +60,14 @@ with_torn history None torn = history
 -- the root of a shop that starts with this store
 abbrev pub root_of : {D C : Type 0} → (D → OnDisk) → (D → ℕ) → Parts D C → Root C
 root_of told faults p =
-    record { issuer = p.state.issuer; history = p.state.entries; told = told p.disk; faults = faults p.disk; clock = p.clock }
+    record {
+      issuer = p.state.issuer;
+      version = p.state.version;
+      history = p.state.entries;
+      told = told p.disk;
+      faults = faults p.disk;
+      clock = p.clock;
+    }
 
 -- what contracts see of the lock's value
 pub record Guarded (D C : Type 0) : Type 0 where

@@ -24,7 +24,7 @@ pub record Leaves {C : Type 0} (root : Root C) (history longer : List Entry) (no
 pub record HasStopped {D C : Type 0} (faults : D → ℕ) (root : Root C) (p : Parts D C) (count : ℕ) : Type 0 where
   pub torn : Entry
   pub torn_is : p.torn ≡ Some torn
-  pub continues : Continues root.issuer p.state.entries torn
+  pub continues : Continues root.version root.issuer p.state.entries torn
   pub rose : Rose root.faults count
   pub within : count ≤ faults p.disk
 
@@ -39,7 +39,8 @@ pub record IsSound {D C : Type 0} (tells : Bool) (told : D → OnDisk) (faults :
   -- where it hasn't stopped, its file stands for its history
   pub ready : IsReady tells p.state p.stopped p.gate (told p.disk)
   pub issuer : p.state.issuer ≡ root.issuer
-  pub legal : Legal root.issuer p.state.entries
+  pub version : p.state.version ≡ root.version
+  pub legal : Legal root.version root.issuer p.state.entries
   pub begins : StartsWith p.state.entries root.history
   pub clock : IsLater coming root.clock p.clock
   pub crashes : IsTrue tells → Leaves root p.state.entries (with_torn p.state.entries p.stopped p.torn) (told p.disk)

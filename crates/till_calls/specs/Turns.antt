@@ -40,7 +40,7 @@ pub record EndsInStop (count : ℕ) (items : List Item) : Type 0 where
 
 -- the entries are a legal history of the root's issuer that begins with the root's
 pub record IsShopList {C : Type 0} (root : Root C) (items : List Item) : Type 0 where
-  pub legal : Legal root.issuer (entries_of items)
+  pub legal : Legal root.version root.issuer (entries_of items)
   pub begins : StartsWith (entries_of items) root.history
 
 -- The reply is the answer at the history so far and at a reading, and what it makes is added. Nothing had stopped.
@@ -51,7 +51,7 @@ pub record Answers {C : Type 0} (coming : C → ℕ → Option ℕ) (ask : Asked
   pub seconds : ℕ
   pub reading : IsReading coming root seconds
   pub gained : List Entry
-  pub tells : Tells history (answer root.issuer history ask seconds) reply gained
+  pub tells : Tells history (answer root.version root.issuer history ask seconds) reply gained
   pub after_is : after ≡ map item.Entry (history ++ gained)
 
 -- The disk failed while this record was added, which stops the shop. Nothing had stopped it before.
@@ -62,7 +62,7 @@ pub record Tears {C : Type 0} (coming : C → ℕ → Option ℕ) (ask : Asked) 
   pub seconds : ℕ
   pub reading : IsReading coming root seconds
   pub torn : Entry
-  pub made : answer root.issuer history ask seconds ≡ Made torn
+  pub made : answer root.version root.issuer history ask seconds ≡ Made torn
   pub count : ℕ
   pub rose : Rose root.faults count
   pub after_is : after ≡ map item.Entry history ++ item.Stop count torn ∷ []

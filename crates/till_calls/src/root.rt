@@ -9,12 +9,14 @@ pub struct ShopRoot<C> {
 
 impl<C> Model for ShopRoot<C> {
     ghost use Rattle.std.specs.Prelude.{[]};
+    ghost use Rattle.record_fields.specs.declared.versions.Version.TheVariants.{One};
     ghost use Rattle.till_calls.specs.Root.{Root};
 
     ghost Value = { Root C };
 
     ghost view = { λ r. record {
       issuer = [];
+      version = One;
       history = [];
       told = record { content = []; now = record { synced = []; ranges = [] }; past = [] };
       faults = 0;

@@ -9,6 +9,8 @@ use Rattle.std.proofs.lemmas.Bool.{cases_Bool}
 use Rattle.std.proofs.lemmas.List.{append-nil, length-map}
 use Rattle.std.proofs.lemmas.List.Elements.{filter_map-append}
 use Rattle.std.proofs.lemmas.Option.{slice_get-map}
+use Rattle.record_fields.specs.declared.versions.Version.{Version}
+use Rattle.record_fields.specs.declared.versions.Version.TheVariants.{One}
 use Rattle.chain_disk.specs.OnDisk.{OnDisk}
 use Rattle.chain_store.specs.Ready.{StoreCall, Takes}
 use Rattle.journal.specs.declared.faults.StoreFault.{StoreFault}
@@ -184,11 +186,11 @@ told_stands old new ask coming after tells t u told receipt which k =
     by : (told ≡ Ok (Taken receipt)) ⊎ (told ≡ Ok (Again receipt)) → StandsAt (old.entries ++ k.gained) ask.till ask.serial
         receipt.place
     by (inl e) = taken_by old.entries ask.till ask.serial sealed receipt k.gained (kept old.entries ask.till ask.serial)
-        (refusal old.issuer old.entries ask k.seconds) refl
-        (subst (λ (r : Result Reply StoreFault). IsReply old.issuer old.entries ask k.seconds r k.gained) e k.reply)
+        (refusal old.version old.issuer old.entries ask k.seconds) refl
+        (subst (λ (r : Result Reply StoreFault). IsReply old.version old.issuer old.entries ask k.seconds r k.gained) e k.reply)
     by (inr e) = again_by old.entries ask.till ask.serial sealed receipt k.gained (kept old.entries ask.till ask.serial)
-        (refusal old.issuer old.entries ask k.seconds) refl
-        (subst (λ (r : Result Reply StoreFault). IsReply old.issuer old.entries ask k.seconds r k.gained) e k.reply)
+        (refusal old.version old.issuer old.entries ask k.seconds) refl
+        (subst (λ (r : Result Reply StoreFault). IsReply old.version old.issuer old.entries ask k.seconds r k.gained) e k.reply)
 
 -- what holds after Ok holds after these two
 pub if_told : (told : Result Reply StoreFault) (receipt : Receipt) (P : Type 0) → (told ≡ Ok (Taken receipt)) ⊎
@@ -199,10 +201,10 @@ if_told told receipt P (inr e) h = subst (λ (r : Result Reply StoreFault). OnOk
 -- an ask that was answered so at what was found
 pub answers : (tells : Bool) (issuer file : List ℕ) (old new : History) (ask : Asked) (coming after : ℕ → Option ℕ) (t u : OnDisk)
     (told : Result Reply StoreFault) (receipt : Receipt) → (told ≡ Ok (Taken receipt)) ⊎ (told ≡ Ok (Again receipt)) →
-    Takes (call_of old new coming after tells t u) ask told → old.issuer ≡ issuer → (IsTrue tells → IsFound issuer old.entries
-    file) →
+    Takes (call_of old new coming after tells t u) ask told → old.issuer ≡ issuer → old.version ≡ One →
+    (IsTrue tells → IsFound issuer old.entries file) →
     Answers tells issuer file coming ask new.entries
-answers tells issuer file old new ask coming after t u told receipt which k same found = by which
+answers tells issuer file old new ask coming after t u told receipt which k same version found = by which
   where
     with_reply : (reply : Reply) → told ≡ Ok reply → Answers tells issuer file coming ask new.entries
     with_reply reply e = record {
@@ -212,8 +214,10 @@ answers tells issuer file old new ask coming after t u told receipt which k same
       reading = k.reading;
       reply = reply;
       gained = k.gained;
-      told = subst (λ (i : List ℕ). Tells old.entries (answer i old.entries ask k.seconds) reply k.gained) same
-          (subst (λ (r : Result Reply StoreFault). IsReply old.issuer old.entries ask k.seconds r k.gained) e k.reply);
+      told = subst (λ (i : List ℕ). Tells old.entries (answer One i old.entries ask k.seconds) reply k.gained) same
+          (subst (λ (v : Version). Tells old.entries (answer v old.issuer old.entries ask k.seconds) reply k.gained) version
+          (subst (λ (r : Result Reply StoreFault). IsReply old.version old.issuer old.entries ask k.seconds r k.gained) e
+          k.reply));
       chain_is = k.entries;
     }
 

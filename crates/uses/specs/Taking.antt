@@ -1,5 +1,6 @@
 -- What a sale makes of a chain, and what its ticket shows.
 use Rattle.std.specs.Prelude.{◌≡◌, ◌++◌, ℕ, List, Bool, IsTrue, Option, Some}
+use Rattle.record_fields.specs.declared.versions.Version.TheVariants.{One}
 use Rattle.huella.specs.Texts.{huella_text}
 use Rattle.ports.specs.Readings.{IsTold}
 use Rattle.record_codec.specs.declared.entry.Entry.{Entry}
@@ -25,7 +26,7 @@ pub record Answers (tells : Bool) (issuer file : List ℕ) (coming : ℕ → Opt
   pub reading : IsTold (coming 0) seconds
   pub reply : Reply
   pub gained : List Entry
-  pub told : Tells history (answer issuer history ask seconds) reply gained
+  pub told : Tells history (answer One issuer history ask seconds) reply gained
   pub chain_is : chain ≡ history ++ gained
 
 -- the Huella and the link of this record, an alta

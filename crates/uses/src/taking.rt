@@ -22,7 +22,7 @@ use series::SeriesName;
 use shop_core::{Ask, Receipt, Refusal, Reply, Request, State};
 use std::alloc::Global;
 use std::io::{self, Write};
-use tax_lines::{Breakdown, LineKey, TaxLine};
+use tax_lines::{Breakdown, Class, LineKey, TaxLine};
 use verify_link::{Host, link_of};
 
 /// What a ticket shows of a sale: its Huella, 64 capital hexadecimal digits, and the link of its QR code.
@@ -56,7 +56,7 @@ pub fn counter_sale(
     requires serial { IsInRange 1 4_294_967_295 serial }
 {
     let line = TaxLine {
-        key: LineKey::General,
+        key: LineKey::iva(Class::General),
         base,
     };
     let Ok(lines) = Breakdown::of(alloc, &[line]) else {

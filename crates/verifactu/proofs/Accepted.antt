@@ -6,6 +6,7 @@ use Rattle.std.specs.List.{AllByRecursion}
 use Rattle.std.specs.Option.{option_map_or}
 use Rattle.std.proofs.lemmas.List.{drop-append-le, length-append}
 use Rattle.std.proofs.lemmas.List.Elements.{filter-append}
+use Rattle.record_fields.specs.declared.versions.Version.{Version}
 use Rattle.journal.specs.declared.faults.StoreFault.{StoreFault}
 use Rattle.journal.specs.declared.faults.StoreFault.TheVariants as fault
 use Rattle.shop_core.specs.Prefix.{IsPrefix}
@@ -92,18 +93,20 @@ by_answer entries ask sealed None None told gained till h =
     subst (λ (es : List Entry). AcceptedIf (ask.till == till) ask (Ok told) (own_of till es)) (sym h.1)
     (made_gained (ask.till == till) entries ask sealed told h.0)
 
-pub by_tells : (issuer : List ℕ) (entries : List Entry) (ask : Asked) (seconds : ℕ) (told : Reply) (gained : List Entry)
-    (till : ℕ) → Tells entries (answer issuer entries ask seconds) told gained →
+pub by_tells : (version : Version) (issuer : List ℕ) (entries : List Entry) (ask : Asked) (seconds : ℕ) (told : Reply)
+    (gained : List Entry) (till : ℕ) → Tells entries (answer version issuer entries ask seconds) told gained →
     AcceptedIf (ask.till == till) ask (Ok told) (own_of till gained)
-by_tells issuer entries ask seconds told gained till h =
+by_tells version issuer entries ask seconds told gained till h =
     by_answer entries ask (made_sealed issuer entries ask.request seconds) (kept entries ask.till ask.serial)
-    (refusal issuer entries ask seconds) told gained till h
+    (refusal version issuer entries ask seconds) told gained till h
 
-pub by_reply : (issuer : List ℕ) (entries : List Entry) (ask : Asked) (seconds : ℕ) (told : Result Reply StoreFault)
-    (gained : List Entry) (till : ℕ) → IsReply issuer entries ask seconds told gained →
+pub by_reply : (version : Version) (issuer : List ℕ) (entries : List Entry) (ask : Asked) (seconds : ℕ)
+    (told : Result Reply StoreFault) (gained : List Entry) (till : ℕ) → IsReply version issuer entries ask seconds told gained →
     AcceptedIf (ask.till == till) ask told (own_of till gained)
-by_reply issuer entries ask seconds (Ok told) gained till h = by_tells issuer entries ask seconds told gained till h
-by_reply issuer entries ask seconds (Err why) gained till h = none_gained (ask.till == till) ask (Err why) gained till h refl
+by_reply version issuer entries ask seconds (Ok told) gained till h =
+    by_tells version issuer entries ask seconds told gained till h
+by_reply version issuer entries ask seconds (Err why) gained till h =
+    none_gained (ask.till == till) ask (Err why) gained till h refl
 
 -- the first list is the second, with some left out
 data Among : List Entry → List Entry → Type 0 where
@@ -180,7 +183,7 @@ shorter (x ∷ xs) (y ∷ ys) r s e l =
     let inner = shorter xs ys r s tails (omega (arith, l)) in
     record { rest = inner.rest; is = ap (λ (z : Entry). z ∷ ys) (sym heads) ∙ ap (λ (zs : List Entry). x ∷ zs) inner.is }
 
-module _ (issuer : List ℕ) (coming : ℕ → Option ℕ) (start end : List Entry) (till : ℕ) where
+module _ (version : Version) (issuer : List ℕ) (coming : ℕ → Option ℕ) (start end : List Entry) (till : ℕ) where
   -- how far a till run has come: its accepted records are among the till's in the front that it has seen
   record SoFar (asks : List Asked) (replies : Replies) (seen : ℕ) : Type 0 where
     made : List Entry
@@ -214,12 +217,12 @@ module _ (issuer : List ℕ) (coming : ℕ → Option ℕ) (start end : List Ent
   -- an ask that was answered
   told_one : (asks : List Asked) (replies : Replies) (seen : ℕ) (ask : Asked) (told : Reply) (history gained : List Entry)
       (seconds : ℕ) → (ask.till == till) ≡ true → seen ≤ length history → IsPrefix (history ++ gained) end →
-      Tells history (answer issuer history ask seconds) told gained → SoFar asks replies seen →
+      Tells history (answer version issuer history ask seconds) told gained → SoFar asks replies seen →
       SoFar (asks ++ ask ∷ []) (replies ++ Ok told ∷ []) (length (history ++ gained))
   told_one asks replies seen ask told history gained seconds own low reaches tells s =
       let one : AreAccepted (ask ∷ []) (Ok told ∷ []) (own_of till gained) =
       subst (λ (b : Bool). AcceptedIf b ask (Ok told) (own_of till gained)) own
-      (by_tells issuer history ask seconds told gained till tells) in
+      (by_tells version issuer history ask seconds told gained till tells) in
       let same : s.front ++ s.within.rest ≡ history ++ (gained ++ reaches.rest) =
       sym s.within.is ∙ reaches.is ∙ append_assoc history gained reaches.rest in
       let further = shorter s.front history s.within.rest (gained ++ reaches.rest) same
@@ -247,7 +250,7 @@ module _ (issuer : List ℕ) (coming : ℕ → Option ℕ) (start end : List Ent
       }
 
   run_accepted : IsPrefix start end → {asks : List Asked} {replies : Replies} {seen : ℕ} {mark : Bool} →
-      ServedRun issuer coming start end asks replies seen mark →
+      ServedRun version issuer coming start end asks replies seen mark →
       AllByRecursion (λ (a : Asked). (a.till == till) ≡ true) asks → SoFar asks replies seen
   run_accepted begins unasked own = record {
     made = [];
@@ -273,7 +276,7 @@ module _ (issuer : List ℕ) (coming : ℕ → Option ℕ) (start end : List Ent
 
   -- a till's records are those of its accepted commands: they are among them, and as many
   pub all_accepted : IsPrefix start end → (asks : List Asked) (replies : Replies) (seen : ℕ) (mark : Bool) →
-      ServedRun issuer coming start end asks replies seen mark →
+      ServedRun version issuer coming start end asks replies seen mark →
       AllByRecursion (λ (a : Asked). (a.till == till) ≡ true) asks →
       AreTaken replies (own_of till (drop (length start) end)) →
       AreAccepted asks replies (own_of till (drop (length start) end))

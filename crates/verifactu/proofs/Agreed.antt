@@ -167,7 +167,7 @@ module _ {C : Type 0} (base log : List Item) (root : Root C) (tills : List (Know
 
 -- a new seat sees the history at the start
 pub sight_new : {C : Type 0} (base : List Item) (root : Root C) (k : Known Item (Root C)) → IsNew base root k →
-    base ≡ map item.Entry root.history → sight_by k ≡ plain_sight root.issuer root.history []
+    base ≡ map item.Entry root.history → sight_by k ≡ plain_sight root.version root.issuer root.history []
 sight_new base root k new is = rw (new.root_is, new.seen, new.own, is) refl
 
 -- a new seat agrees where the history at the start does

@@ -4,6 +4,7 @@ use Rattle.std.proofs.Common.{◌<◌, ◌≤◌, List, [], map, length, Bool, I
 use Rattle.std.specs.Prelude.{IsSome, count_by}
 use Rattle.std.proofs.lemmas.List.{map-append}
 use Rattle.std.proofs.lemmas.List.Sums.{sum_by-append}
+use Rattle.record_fields.specs.declared.versions.Version.{Version}
 use Rattle.ports.specs.Causes.{Rose}
 use Rattle.chain_disk.specs.Runs.{follows, weaker}
 use Rattle.chain_disk.specs.OnDisk.{OnDisk, IsImage, LeavesOnly}
@@ -87,8 +88,9 @@ module _ {D C : Type 0} (tells : Bool) (told : D → OnDisk) (faults : D → ℕ
       IsUnopened (spanning p0.state.entries kind old new exact at o) ⊎ IsSession begun plan (spanning p0.state.entries kind old
       new exact at o) → AddsNotesAlone p0.state.entries p1.state.entries →
       (IsDiskAnswer answer → IsSome p1.stopped) → (IsTrue tells → IsImage (told p1.disk).now (told p1.disk).content) →
-      ((issuer : List ℕ) (entries : List Entry) → Legal issuer entries → Linked issuer (recs entries)) →
-      StoreDrains (StandsUpTo p0.state.issuer) begun plan p0.state.issuer (record {
+      ((version : Version) (issuer : List ℕ) (entries : List Entry) → Legal version issuer entries →
+      Linked issuer (recs entries)) →
+      StoreDrains (StandsUpTo p0.state.issuer) begun plan p0.state.version p0.state.issuer (record {
         tells = tells;
         since = told p0.disk;
         now = told p1.disk;
@@ -97,7 +99,7 @@ module _ {D C : Type 0} (tells : Bool) (told : D → OnDisk) (faults : D → ℕ
       }) (spanning p0.state.entries kind old new
       exact at o)
   store_drains begun plan kind old new exact at turns answer o is session notes stopped image linked =
-      subst (λ (x : Outcome). StoreDrains (StandsUpTo p0.state.issuer) begun plan p0.state.issuer (record {
+      subst (λ (x : Outcome). StoreDrains (StandsUpTo p0.state.issuer) begun plan p0.state.version p0.state.issuer (record {
         tells = tells;
         since = told p0.disk;
         now = told p1.disk;
@@ -110,7 +112,7 @@ module _ {D C : Type 0} (tells : Bool) (told : D → OnDisk) (faults : D → ℕ
             IsSession begun plan (spanning p0.state.entries kind old new exact at x)) is session;
         notes = notes;
         legal = s.legal;
-        linked = linked p0.state.issuer p1.state.entries s.legal;
+        linked = linked p0.state.version p0.state.issuer p1.state.entries s.legal;
         kept = λ says. record {
           each_moment = weaker (told p0.disk) (told p1.disk) _ _ (s.crashes says).since between;
           every_crash = λ c left. either c ((s.crashes says).whole c left);
@@ -133,17 +135,18 @@ module _ {D C : Type 0} (tells : Bool) (told : D → OnDisk) (faults : D → ℕ
       in_file agrees c (inr h) = (_, h, agrees.torn)
 
 -- what a drain leaves, said since its file was opened
-pub since_opening : (begun : Beginning) (plan : Plan) (issuer : List ℕ) (k : DiskSpan) (d : Span) (first : OnDisk) (faults : ℕ) →
-    StoreDrains (StandsUpTo issuer) begun plan issuer k d →
+pub since_opening : (begun : Beginning) (plan : Plan) (version : Version) (issuer : List ℕ) (k : DiskSpan) (d : Span)
+    (first : OnDisk) (faults : ℕ) →
+    StoreDrains (StandsUpTo issuer) begun plan version issuer k d →
     (IsTrue k.tells → LeavesOnly first k.since (IsFound issuer d.start)) →
-    faults ≤ k.faults → StoreDrains (StandsSince issuer) begun plan issuer (record {
+    faults ≤ k.faults → StoreDrains (StandsSince issuer) begun plan version issuer (record {
       tells = k.tells;
       since = first;
       now = k.now;
       faults = faults;
       faults_after = k.faults_after;
     }) d
-since_opening begun plan issuer k d first faults h found early = record {
+since_opening begun plan version issuer k d first faults h found early = record {
   session = h.session;
   notes = h.notes;
   legal = h.legal;
@@ -191,10 +194,10 @@ undelivered_steps tells exact records from to at old new turns answer steps n r 
 
 -- the agency failed eight times in a drain that is undelivered
 pub undelivered_by : (P : List Entry → List Entry → List Entry → List ℕ → Type 0) (begun : Beginning) (plan : Plan)
-    (issuer : List ℕ) (k : DiskSpan) (d : Span) → StoreDrains P begun plan issuer k d → (n r : ℕ) →
+    (version : Version) (issuer : List ℕ) (k : DiskSpan) (d : Span) → StoreDrains P begun plan version issuer k d → (n r : ℕ) →
     d.answer ≡ Err (drain.Undelivered n r) →
     (n < r) × (d.new.faults < 2 ^ 64 - 1 → d.old.faults + MAX_LINK_FAULTS ≤ d.new.faults)
-undelivered_by P begun plan issuer k d h n r is = elim h.session [
+undelivered_by P begun plan version issuer k d h n r is = elim h.session [
   | inl u ↦ absurd (let e = sym u.answer ∙ is in cc)
   | inr s ↦ (let u = undelivered_steps d.kind.tells d.exact (recs d.start) _ _ d.moment s.opened d.new d.turns d.answer
       s.sends.steps n r is in
@@ -204,10 +207,11 @@ undelivered_by P begun plan issuer k d h n r is = elim h.session [
 
 -- an agency that keeps its rules and agreed doesn't contradict itself
 pub never_contrary : (P : List Entry → List Entry → List Entry → List ℕ → Type 0) (begun : Beginning) (plan : Plan)
-    (issuer : List ℕ) (k : DiskSpan) (d : Span) → StoreDrains P begun plan issuer k d → IsTrue d.kind.keeps_rules →
+    (version : Version) (issuer : List ℕ) (k : DiskSpan) (d : Span) → StoreDrains P begun plan version issuer k d →
+    IsTrue d.kind.keeps_rules →
     Agree d.start (begun d.old.ledger.processed (noted_pairs d.start)) d.old.ledger.sent → (evidence : Evidence) →
     d.answer ≡ Err (drain.Contradiction evidence) → ⊥
-never_contrary P begun plan issuer k d h keeps agree evidence is = elim h.session [
+never_contrary P begun plan version issuer k d h keeps agree evidence is = elim h.session [
   | inl u ↦ (let e = sym u.answer ∙ is in cc)
   | inr s ↦ (s.agreement keeps agree).no_contradiction evidence is
 ]

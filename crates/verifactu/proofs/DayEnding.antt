@@ -5,6 +5,8 @@ use Rattle.std.specs.Prelude.{◌≢◌, IsErrOf}
 use Rattle.std.specs.List.{AllByRecursion, list_any, range_with_len}
 use Rattle.std.proofs.lemmas.List.{append-nil}
 use Rattle.std.proofs.lemmas.List.Elements.{filter_passes}
+use Rattle.record_fields.specs.declared.versions.Version.TheVariants.{One}
+use Rattle.record_fields.specs.declared.versions.Version.{Version}
 use Rattle.chain_disk.specs.OnDisk.{IsImage, LeavesNow, LeavesOnly, synced}
 use Rattle.chain_disk.specs.Runs.{follows, weaker}
 use Rattle.chain_disk.specs.Disks.{DiskRose, this_disk}
@@ -127,8 +129,8 @@ pub record ShopRan {D C : Type 0} (h : StoreKind D C) (asks : List Asked) (kind 
 
 module _ {D C Z G : Type 0} (h : StoreKind D C) (issuer : List ℕ) (script : Script) (disk disk_after : D)
     (clock clock_after : C) (z : Sleepers Z) (a : Agencies G) (opened : Parts D C) (s : Sinks) (end : Detail)
-    (own : opened.state.issuer ≡ issuer) (same_clock : opened.clock ≡ clock) (found : IsTrue h.tells →
-    IsFound issuer opened.state.entries (h.told disk).content)
+    (own : opened.state.issuer ≡ issuer) (one : opened.state.version ≡ One) (same_clock : opened.clock ≡ clock)
+    (found : IsTrue h.tells → IsFound issuer opened.state.entries (h.told disk).content)
     (any_moment : IsTrue h.tells → LeavesOnly (synced (h.told disk)) (h.told opened.disk) (IsFound issuer opened.state.entries))
     (every_crash : IsTrue h.tells → LeavesNow (h.told opened.disk) (StandsFor issuer opened.state.entries))
     (later : h.faults disk ≤ h.faults opened.disk) (reads : (d : D) → IsTrue h.tells → IsImage (h.told d).now (h.told d).content)
@@ -185,13 +187,14 @@ module _ {D C Z G : Type 0} (h : StoreKind D C) (issuer : List ℕ) (script : Sc
     abbrev day : Day
     day = day_of issuer script None call outcome
 
-    -- the day of this issuer and from this clock on
-    abbrev at : List ℕ → C → Day
-    at n c = record day { issuer = n; coming = h.coming c }
+    -- the day of this version and issuer, and from this clock on
+    abbrev at : Version → List ℕ → C → Day
+    at v n c = record day { issuer = n; version = v; coming = h.coming c }
 
     -- what holds of the shop's day holds of the call's
-    here : (P : Day → Type 0) → P (at opened.state.issuer opened.clock) → P day
-    here P shop = subst (λ (c : C). P (at issuer c)) same_clock (subst (λ (n : List ℕ). P (at n opened.clock)) own shop)
+    here : (P : Day → Type 0) → P (at opened.state.version opened.state.issuer opened.clock) → P day
+    here P shop = subst (λ (c : C). P (at One issuer c)) same_clock (subst (λ (n : List ℕ). P (at One n opened.clock)) own
+        (subst (λ (v : Version). P (at v opened.state.issuer opened.clock)) one shop))
 
     begins : IsPrefix first r.new.state.entries
     begins = record { rest = r.run.sound.begins.0; is = r.run.sound.begins.1 }
@@ -252,7 +255,8 @@ module _ {D C Z G : Type 0} (h : StoreKind D C) (issuer : List ℕ) (script : Sc
     history : HistoryGoesOn day
     history = record {
       begins = begins;
-      legal = subst (λ (n : List ℕ). Legal n r.new.state.entries) own r.run.sound.legal;
+      legal = subst (λ (n : List ℕ). Legal One n r.new.state.entries) own
+          (subst (λ (v : Version). Legal v opened.state.issuer r.new.state.entries) one r.run.sound.legal);
       linked = subst (λ (n : List ℕ). Linked n (recs r.new.state.entries)) own r.linked;
       rising = r.rising;
     }
@@ -364,20 +368,20 @@ module _ {D C Z G : Type 0} (h : StoreKind D C) (issuer : List ℕ) (script : Sc
     })))
 
 -- a till run by readings of one kind is one by readings of another kind that gives the same
-till_run_by : (issuer : List ℕ) (start end : List Entry) (old new : ℕ → Option ℕ) → ((k : ℕ) → old k ≡ new k) →
-    {asks : List Asked} {replies : Replies} {seen : ℕ} {mark : Bool} → ServedRun issuer old start end asks replies seen mark →
-    ServedRun issuer new start end asks replies seen mark
-till_run_by issuer start end old new same unasked = unasked
-till_run_by issuer start end old new same (answered asks replies seen ask reply history gained seconds before low reaches reading
-    tells) =
-    answered asks replies seen ask reply history gained seconds (till_run_by issuer start end old new same before) low reaches
-    (reading.0, subst (λ (o : Option ℕ). IsTold o seconds) (same reading.0) reading.1) tells
-till_run_by issuer start end old new same (tears asks replies seen ask before) = tears asks replies seen ask
-    (till_run_by issuer start end old new same before)
-till_run_by issuer start end old new same (told_stop asks replies seen mark ask count before) = told_stop asks replies seen mark
-    ask count (till_run_by issuer start end old new same before)
-till_run_by issuer start end old new same (without_memory asks replies seen ask before) = without_memory asks replies seen ask
-    (till_run_by issuer start end old new same before)
+till_run_by : (version : Version) (issuer : List ℕ) (start end : List Entry) (old new : ℕ → Option ℕ) →
+    ((k : ℕ) → old k ≡ new k) → {asks : List Asked} {replies : Replies} {seen : ℕ} {mark : Bool} →
+    ServedRun version issuer old start end asks replies seen mark → ServedRun version issuer new start end asks replies seen mark
+till_run_by version issuer start end old new same unasked = unasked
+till_run_by version issuer start end old new same (answered asks replies seen ask reply history gained seconds before low
+    reaches reading tells) =
+    answered asks replies seen ask reply history gained seconds (till_run_by version issuer start end old new same before) low
+    reaches (reading.0, subst (λ (o : Option ℕ). IsTold o seconds) (same reading.0) reading.1) tells
+till_run_by version issuer start end old new same (tears asks replies seen ask before) = tears asks replies seen ask
+    (till_run_by version issuer start end old new same before)
+till_run_by version issuer start end old new same (told_stop asks replies seen mark ask count before) =
+    told_stop asks replies seen mark ask count (till_run_by version issuer start end old new same before)
+till_run_by version issuer start end old new same (without_memory asks replies seen ask before) =
+    without_memory asks replies seen ask (till_run_by version issuer start end old new same before)
 
 -- A day by readings of one kind is one by readings of another kind that gives the same.
 module _ (d : Day) (new : ℕ → Option ℕ) (same : (k : ℕ) → d.coming k ≡ new k) where
@@ -388,7 +392,7 @@ module _ (d : Day) (new : ℕ → Option ℕ) (same : (k : ℕ) → d.coming k �
   till_by t h = record {
     last = h.last;
     told = h.told;
-    run = till_run_by d.issuer d.start d.end d.coming new same h.run;
+    run = till_run_by d.version d.issuer d.start d.end d.coming new same h.run;
     own = h.own;
     at_least = h.at_least;
     at_most = h.at_most;

@@ -275,7 +275,7 @@ module _ {D C : Type 0} (tells : Bool) (tell : D → OnDisk) (faults : D → ℕ
               by_till (told_in one.row.done)
               (in_map told_in (map (λ (r : Row C). r.done) rows) one.row.done
               (in_map (λ (r : Row C). r.done) rows one.row one.among))
-              (subst (λ (x : Entry). IsCutOffBy root.issuer (coming root.clock) p.state.entries
+              (subst (λ (x : Entry). IsCutOffBy root.version root.issuer (coming root.clock) p.state.entries
               (asks_of one.row.done.till asks) one.row.done.answers.items x) entry_is one.cut.by)
               (ap (λ (rs : Replies). count_by is_own_fault rs) replies_are ∙ by.1))
           | inr mine ↦ sender mine.0.0 (elim fails [ inl untorn ↦ absurd (mine.0.1 untorn) | inr is ↦ is ])

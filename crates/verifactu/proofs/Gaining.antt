@@ -6,6 +6,7 @@ use Rattle.std.specs.List.{AllByRecursion, range_with_len}
 use Rattle.std.specs.Option.{option_map_or}
 use Rattle.std.proofs.lemmas.List.{drop-append-le, drop_all, length-append}
 use Rattle.std.proofs.lemmas.List.Elements.{filter-append}
+use Rattle.record_fields.specs.declared.versions.Version.TheVariants.{One}
 use Rattle.journal.specs.declared.faults.StoreFault.{StoreFault}
 use Rattle.shop_core.specs.Prefix.{IsPrefix}
 use Rattle.ports.specs.Sources.{Sources}
@@ -130,7 +131,7 @@ record Gained (start : List Entry) (till : ℕ) (asks : List Asked) (replies : R
   taken : AreAccepted (asks_of till asks) (replies_to till asks replies) (own_of till (drop (length start) end))
 
 module _ (issuer : List ℕ) (R : Replies → ℕ → Type 0) (start : List Entry) (till : ℕ) where
-  run_gains : {asks : List Asked} {replies : Replies} {end : List Entry} → ChainRun issuer R start asks replies end →
+  run_gains : {asks : List Asked} {replies : Replies} {end : List Entry} → ChainRun One issuer R start asks replies end →
       Gained start till asks replies end
   unfolding replies_to
   run_gains begun = record {
@@ -156,7 +157,7 @@ module _ (issuer : List ℕ) (R : Replies → ℕ → Type 0) (start : List Entr
             (sym (filter-append (λ (a : Asked). a.till == till) asks (ask ∷ [])))
             (accepted_append (asks_of till asks) (asks_of till (ask ∷ [])) (replies_to till asks replies)
             (reply_to till ask told) (own_of till (drop (length start) entries)) (own_of till gained) so_far.taken
-            (by_reply issuer entries ask seconds told gained till h))));
+            (by_reply One issuer entries ask seconds told gained till h))));
       }
 
 each_any : {A : Type 0} (P : A → Type 0) → ((x : A) → P x) → (xs : List A) → AllByRecursion P xs
@@ -170,7 +171,7 @@ firsts f (till ∷ tills) = ap (λ (l : List ℕ). till ∷ l) (firsts f tills)
 
 -- a run of one thread
 pub gains_run : (s : Sources) (issuer : List ℕ) (R : Replies → ℕ → Type 0) (start : List Entry) (asks : List Asked)
-    (replies : Replies) (end : List Entry) → AreAskedIn s asks → ChainRun issuer R start asks replies end →
+    (replies : Replies) (end : List Entry) → AreAskedIn s asks → ChainRun One issuer R start asks replies end →
     TillsGain s start end
 gains_run s issuer R start asks replies end asked run =
     let Own : ℕ × Replies → Type 0 = λ t. AreAccepted (asks_of t.0 asks) t.1 (own_of t.0 (drop (length start) end)) in
@@ -208,7 +209,7 @@ own_asks till (ask ∷ asks) = by_test (ask.till == till) refl (own_asks till as
 served_accepted : (d : Day) → IsPrefix d.start d.end → (t : TillReplies) → TillServed d t →
     AreAccepted (asks_of t.till d.asks) t.replies (own_of t.till (drop (length d.start) d.end))
 served_accepted d begins t h =
-    all_accepted d.issuer d.coming d.start d.end t.till begins (asks_of t.till d.asks) t.replies h.last h.told h.run
+    all_accepted d.version d.issuer d.coming d.start d.end t.till begins (asks_of t.till d.asks) t.replies h.last h.told h.run
     (own_asks t.till d.asks) h.own
 
 pub noted_both : (xs ys : List Entry) → noted (xs ++ ys) ≡ noted xs ++ noted ys
@@ -226,16 +227,16 @@ no_lines entries ask sealed None (Some why) told gained h = ap (λ (es : List En
 no_lines entries ask sealed None None told gained h = ap (λ (es : List Entry). noted es) h.1
 
 none_noted : (issuer : List ℕ) (entries : List Entry) (ask : Asked) (seconds : ℕ) (told : Result Reply StoreFault)
-    (gained : List Entry) → IsReply issuer entries ask seconds told gained → noted gained ≡ []
+    (gained : List Entry) → IsReply One issuer entries ask seconds told gained → noted gained ≡ []
 none_noted issuer entries ask seconds (Ok told) gained h =
     no_lines entries ask (made_sealed issuer entries ask.request seconds) (kept entries ask.till ask.serial)
-    (refusal issuer entries ask seconds) told gained h
+    (refusal One issuer entries ask seconds) told gained h
 none_noted issuer entries ask seconds (Err why) gained h = ap (λ (es : List Entry). noted es) h
 
 module _ (issuer : List ℕ) (R : Replies → ℕ → Type 0) (start : List Entry) where
   -- nor does a run of one thread
   pub notes_nothing : {asks : List Asked} {replies : Replies} {end : List Entry} →
-      ChainRun issuer R start asks replies end → noted end ≡ noted start
+      ChainRun One issuer R start asks replies end → noted end ≡ noted start
   notes_nothing begun = refl
   notes_nothing (replied asks replies entries ask told gained run seconds reading h) =
       noted_both entries gained

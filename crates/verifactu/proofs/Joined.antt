@@ -49,8 +49,8 @@ module _ {D C : Type 0} (tells : Bool) (told : D → OnDisk) (faults : D → ℕ
     (root : Root C) (base : List Item) (tills : List (Known Item (Root C))) (seat then : Known Item (Root C))
     (h : Shared base (items_in p) root tills seat then)
     (sound : IsSound tells told faults coming root p) (is : base ≡ map item.Entry root.history)
-    (legal : Legal root.issuer root.history) (asks : List Asked) (told_all : List TillReplies) (kind : AgencyKind) (old new : Desk)
-    (sending : Sending) (answer : Result (Unit {0}) DrainFault)
+    (legal : Legal root.version root.issuer root.history) (asks : List Asked) (told_all : List TillReplies)
+    (kind : AgencyKind) (old new : Desk) (sending : Sending) (answer : Result (Unit {0}) DrainFault)
     (sends : SendsOn kind (sight_by seat) (sight_by then) old new fresh sending answer) where
   abbrev day : Day
   day = shop_day coming asks root p told_all kind old new answer
@@ -85,9 +85,9 @@ module _ {D C : Type 0} (tells : Bool) (told : D → OnDisk) (faults : D → ℕ
   careful_then : BeginsCareful → IsTrue kind.tells → AreOfChain root.history old.ledger.messages →
       IsCareful old.ledger.messages (sight_by then) new.ledger.messages sending
   careful_then careful says runs =
-      let there = subst (λ (n : List ℕ). Legal n (history_of (sight_by seat)))
-      (sym (ap (λ (s : Sight). s.issuer) (sight_new base root seat h.fresh is)))
-      (subst (λ (es : List Entry). Legal root.issuer es) (sym begun) legal) in
+      let there = subst (λ (s : Sight). Legal s.version s.issuer (history_of (sight_by seat)))
+      (sym (sight_new base root seat h.fresh is))
+      (subst (λ (es : List Entry). Legal root.version root.issuer es) (sym begun) legal) in
       let start = careful old.ledger.messages (sight_by seat) there
       (subst (λ (es : List Entry). AreOfChain es old.ledger.messages) (sym begun) runs) in
       sends.careful says old.ledger.messages start

@@ -2,6 +2,8 @@
 use Rattle.std.proofs.Common.{◌≡◌, ◌⊎◌, inl, inr, ◌<◌, ◌≤◌, ℕ, List, [], ◌∷◌, ◌++◌, append-nil, length, refl, sym, ◌∙◌, ap}
 use Rattle.std.proofs.Common.{subst, arith, IsTrue, Option, Some, None}
 use Rattle.std.proofs.lemmas.Bool.{cases_lt}
+use Rattle.record_fields.specs.declared.versions.Version.TheVariants.{One}
+use Rattle.record_fields.specs.declared.versions.Version.{Version}
 use Rattle.chain_disk.specs.Disks.{DiskRose, Disks, LeftDisk}
 use Rattle.chain_disk.specs.OnDisk.{IsImage, IsLeft, IsSettled, LeavesNow, LeavesOnly, OnDisk, Pending, later, moment, synced}
 use Rattle.chain_disk.specs.Runs.{leaves_now, left_before, settled_image, started_settled, weaker}
@@ -34,12 +36,12 @@ use Rattle.verifactu.proofs.Finishing.{since_found}
 pub whole : (start : List Entry) → IsPrefix start start
 whole start = record { rest = []; is = sym (append-nil start) }
 
-none_legal : (issuer : List ℕ) → Legal issuer []
+none_legal : (issuer : List ℕ) → Legal One issuer []
 none_legal issuer [] after entry e = absurd (let x = e in cc)
 none_legal issuer (b ∷ before) after entry e = absurd (let x = e in cc)
 
-pub legal_found : (issuer : List ℕ) (start : List Entry) (file : List ℕ) → IsFound issuer start file → Legal issuer start
-legal_found issuer start file (inl none) = subst (λ (es : List Entry). Legal issuer es) (sym none.1) (none_legal issuer)
+pub legal_found : (issuer : List ℕ) (start : List Entry) (file : List ℕ) → IsFound issuer start file → Legal One issuer start
+legal_found issuer start file (inl none) = subst (λ (es : List Entry). Legal One issuer es) (sym none.1) (none_legal issuer)
 legal_found issuer start file (inr stands) = stands.legal
 
 empty_found : (issuer file : List ℕ) → IsNotBegunOrEmpty issuer file → IsFound issuer [] file
@@ -154,7 +156,8 @@ foreign_not_own one neither issuer held entries file stands other own = by_found
 
 -- a legal history is linked
 abbrev pub AreLinked : Type 0
-AreLinked = (issuer : List ℕ) (entries : List Entry) → Legal issuer entries → Linked issuer (recs entries)
+AreLinked = (version : Version) (issuer : List ℕ) (entries : List Entry) → Legal version issuer entries →
+    Linked issuer (recs entries)
 
 module _ {D : Type 0} (chained : AreLinked) (issuer : List ℕ) (k : Disks D) where
   abbrev Old : OnDisk
@@ -168,7 +171,7 @@ module _ {D : Type 0} (chained : AreLinked) (issuer : List ℕ) (k : Disks D) wh
   stays start same found = record {
     begins = whole start;
     legal = legal_found issuer start Old.content found;
-    linked = chained issuer start (legal_found issuer start Old.content found);
+    linked = chained One issuer start (legal_found issuer start Old.content found);
     at_most_one = omega arith;
     by_a_fault = inl refl;
     file = inl (subst (λ (c : List ℕ). IsFound issuer start c) (sym (same_content Old New same)) found);
@@ -190,7 +193,7 @@ module _ {D : Type 0} (chained : AreLinked) (issuer : List ℕ) (k : Disks D) wh
   begins_file h = record {
     begins = whole [];
     legal = none_legal issuer;
-    linked = chained issuer [] (none_legal issuer);
+    linked = chained One issuer [] (none_legal issuer);
     at_most_one = omega arith;
     by_a_fault = inl refl;
     file = inl (empty_found issuer New.content h.reads);
@@ -200,7 +203,7 @@ module _ {D : Type 0} (chained : AreLinked) (issuer : List ℕ) (k : Disks D) wh
   }
 
   -- a file whose history went on
-  pub goes_on : (start end torn : List Entry) → IsFound issuer start Old.content → IsPrefix start end → Legal issuer end →
+  pub goes_on : (start end torn : List Entry) → IsFound issuer start Old.content → IsPrefix start end → Legal One issuer end →
       length torn ≤ 1 → (torn ≡ []) ⊎ DiskRose k → LeavesOnly (synced Old) New (StandsSince issuer start end torn) →
       LeavesNow New (StandsForEnd issuer end torn) → StandsForEnd issuer end torn New.content →
       ChainGoesOn issuer start end torn k
@@ -210,7 +213,7 @@ module _ {D : Type 0} (chained : AreLinked) (issuer : List ℕ) (k : Disks D) wh
       record {
         begins = begins;
         legal = legal;
-        linked = chained issuer end legal;
+        linked = chained One issuer end legal;
         at_most_one = at_most_one;
         by_a_fault = by_a_fault;
         file = either issuer end torn New.content reads;
@@ -259,7 +262,7 @@ module _ {D : Type 0} (chained : AreLinked) (issuer : List ℕ) (k : Disks D) wh
 
   -- a run of replies, and the entry that was cut off in it
   pub by_kept : (P : Entry → Type 0) (start end : List Entry) (replies : Replies) → IsFound issuer start Old.content →
-      IsPrefix start end → Legal issuer end → StopsOnce (k.faults k.disk) (k.faults k.disk_after) replies →
+      IsPrefix start end → Legal One issuer end → StopsOnce (k.faults k.disk) (k.faults k.disk_after) replies →
       (h : KeptByRun (StandsSince issuer start end) P issuer end replies (synced Old) New) → ChainGoesOn issuer start end h.torn k
   by_kept P start end replies found begins legal stops h =
       goes_on start end h.torn found begins legal h.at_most_one (by_a_fault stops) h.kept.each_moment h.kept.every_crash

@@ -2,6 +2,8 @@
 use Rattle.std.proofs.Common.{◌≡◌, inl, inr, ◌⊎◌, ℕ, ◌+◌, ◌≤◌, List, [], ◌∷◌, sym, ◌∙◌, ap, subst, refl, arith, Bool, true, false}
 use Rattle.std.proofs.Common.{IsTrue, Option, Result, Ok, Err}
 use Rattle.std.specs.List.{list_any}
+use Rattle.record_fields.specs.declared.versions.Version.TheVariants.{One}
+use Rattle.record_fields.specs.declared.versions.Version.{Version}
 use Rattle.chain_disk.specs.Runs.{started_settled, weaker}
 use Rattle.chain_disk.specs.OnDisk.{OnDisk, LeavesOnly, synced}
 use Rattle.journal.specs.File.{IsNotBegun, IsNotBegunOrEmpty}
@@ -155,29 +157,33 @@ or_so f (inr p) = inr (f p)
 
 -- a run of a store is one of its file, from its opening on
 pub store_ran : {D C : Type 0} (issuer : List ℕ) (asks : List Asked) (replies : List (Result Reply StoreFault)) (s : Stores D C)
-    (sink : Sinks) (k : Disks D) (end : Detail) → s.issuer ≡ issuer →
+    (sink : Sinks) (k : Disks D) (end : Detail) → s.issuer ≡ issuer → s.version ≡ One →
     s.tells ≡ k.tells → s.faults_after ≡ k.faults k.disk_after → s.now ≡ k.told k.disk_after → k.faults k.disk ≤ s.faults →
     (IsTrue k.tells → IsFound issuer s.start (k.told k.disk).content) →
     (IsTrue k.tells → LeavesOnly (synced (k.told k.disk)) s.since (IsFound issuer s.start)) →
     ((n : List ℕ) (es : List Entry) → FailsIn s.disk n es → FailsIn k n es) → Answers asks replies s →
     RunEnds replies (printed asks replies s.end) sink end → ScriptEnds issuer asks (s.clock.coming s.clock.clock)
     (λ rs. IsAsked s.clock (readings rs)) sink k end
-store_ran issuer asks replies s sink k end own tells faults_after now later found any widen h ends =
-    let Torn : List ℕ → Entry → Type 0 = λ n. IsCutOff n (IsComing (s.clock.coming s.clock.clock)) asks s.end replies in
+store_ran issuer asks replies s sink k end own version tells faults_after now later found any widen h ends =
+    let Torn : List ℕ → Entry → Type 0 = λ n. IsCutOff One n (IsComing (s.clock.coming s.clock.clock)) asks s.end replies in
     let kept_here : IsTrue k.tells → KeptByRun (StandsUpTo issuer s.start s.end) (Torn issuer) issuer s.end replies s.since
     (k.told k.disk_after) = λ says.
     subst (λ (t : OnDisk). KeptByRun (StandsUpTo issuer s.start s.end) (Torn issuer) issuer s.end replies s.since t) now
     (subst (λ (n : List ℕ). KeptByRun (StandsUpTo n s.start s.end) (Torn n) n s.end replies s.since s.now) own
-    (h.kept (subst (λ (b : Bool). IsTrue b) (sym tells) says))) in
+    (subst (λ (v : Version). KeptByRun (StandsUpTo s.issuer s.start s.end) (IsCutOff v s.issuer (IsComing (s.clock.coming
+    s.clock.clock)) asks s.end replies) s.issuer s.end replies s.since s.now) version
+    (h.kept (subst (λ (b : Bool). IsTrue b) (sym tells) says)))) in
     inr (inr (
       record {
         start = s.start;
         replies = replies;
         end = s.end;
         found = found;
-        run = subst (λ (n : List ℕ). ChainRun n (IsComing (s.clock.coming s.clock.clock)) s.start asks replies s.end) own h.run;
+        run = subst (λ (n : List ℕ). ChainRun One n (IsComing (s.clock.coming s.clock.clock)) s.start asks replies s.end) own
+            (subst (λ (v : Version). ChainRun v s.issuer (IsComing (s.clock.coming s.clock.clock)) s.start asks replies s.end)
+            version h.run);
         begins = h.begins;
-        legal = subst (λ (n : List ℕ). Legal n s.end) own h.legal;
+        legal = subst (λ (n : List ℕ). Legal One n s.end) own (subst (λ (v : Version). Legal v s.issuer s.end) version h.legal);
         linked = subst (λ (n : List ℕ). Linked n (recs s.end)) own h.linked;
         rising = h.rising;
         stops = subst (λ (n : ℕ). StopsOnce (k.faults k.disk) n replies) faults_after (stops_from (k.faults k.disk) s.faults
@@ -193,8 +199,8 @@ store_ran issuer asks replies s sink k end own tells faults_after now later foun
 -- a run by readings of one kind is one by readings of another kind, where each of the first is one of the second
 run_by : (issuer : List ℕ) (R Q : List (Result Reply StoreFault) → ℕ → Type 0) (start : List Entry) →
     ((replies : List (Result Reply StoreFault)) (seconds : ℕ) → R replies seconds → Q replies seconds) →
-    {asks : List Asked} {replies : List (Result Reply StoreFault)} {entries : List Entry} → ChainRun issuer R start asks replies
-    entries → ChainRun issuer Q start asks replies entries
+    {asks : List Asked} {replies : List (Result Reply StoreFault)} {entries : List Entry} → ChainRun One issuer R start asks replies
+    entries → ChainRun One issuer Q start asks replies entries
 run_by issuer R Q start each begun = begun
 run_by issuer R Q start each (replied asks replies entries ask told gained run seconds reading h) =
     replied asks replies entries ask told gained (run_by issuer R Q start each run) seconds (each replies seconds reading) h
@@ -203,7 +209,7 @@ run_by issuer R Q start each (replied asks replies entries ask told gained run s
 cut_off_by : (issuer : List ℕ) (R Q : List (Result Reply StoreFault) → ℕ → Type 0) (asks : List Asked) (history : List Entry)
     (replies : List (Result Reply StoreFault)) →
     ((replies : List (Result Reply StoreFault)) (seconds : ℕ) → R replies seconds → Q replies seconds) → (entry : Entry) →
-    IsCutOff issuer R asks history replies entry → IsCutOff issuer Q asks history replies entry
+    IsCutOff One issuer R asks history replies entry → IsCutOff One issuer Q asks history replies entry
 cut_off_by issuer R Q asks history replies each entry h = record {
   before = h.before;
   behind = h.behind;

@@ -2,6 +2,7 @@
 use Rattle.std.proofs.Common.{◌≡◌, ◌∙◌, refl, inl, List, [], ◌++◌, length, append-nil, sym, ap, subst, arith, zero-add, Bool, ℕ}
 use Rattle.std.proofs.Common.{Option, Some, None, Result, Err, OnOk}
 use Rattle.std.specs.List.{AllByRecursion}
+use Rattle.record_fields.specs.declared.versions.Version.{Version}
 use Rattle.chain_disk.specs.OnDisk.{OnDisk}
 use Rattle.chain_disk.specs.Runs.{weaker, started_settled, leaves_now}
 use Rattle.chain_lock.specs.Lists.{StartsWith}
@@ -30,10 +31,11 @@ front_all entries = ([], sym (append-nil entries))
 
 module _ {D C : Type 0} (tells : Bool) (told : D → OnDisk) (faults : D → ℕ) (coming : C → ℕ → Option ℕ) where
   pub sound_at_start : (p : Parts D C) → p.stopped ≡ None → IsReady tells p.state p.stopped p.gate (told p.disk) →
-      Legal p.state.issuer p.state.entries → IsSound tells told faults coming (root_of told faults p) p
+      Legal p.state.version p.state.issuer p.state.entries → IsSound tells told faults coming (root_of told faults p) p
   sound_at_start p going ready legal = record {
     ready = ready;
     issuer = refl;
+    version = refl;
     legal = legal;
     begins = front_all p.state.entries;
     clock = record { number = 0; moved = λ k. ap (coming p.clock) (sym (zero-add k)) };
@@ -42,7 +44,7 @@ module _ {D C : Type 0} (tells : Bool) (told : D → OnDisk) (faults : D → ℕ
         let stands : StandsFor p.state.issuer p.state.entries (told p.disk).content = record {
           frames = holds.file.file;
           encoded = holds.encoded;
-          legal = legal;
+          legal = subst (λ (v : Version). Legal v p.state.issuer p.state.entries) holds.version legal;
         } in
         subst (λ (es : List Entry). Leaves (root_of told faults p) p.state.entries es (told p.disk))
         (sym (none_torn p.state.entries p.stopped p.torn going)) (record {

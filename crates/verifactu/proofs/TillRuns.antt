@@ -140,7 +140,7 @@ module _ {C : Type 0} (coming : C → ℕ → Option ℕ) (root : Root C) (stopp
     log = items stopped torn end
 
     abbrev Run : List Asked → Replies → ℕ → Bool → Type 0
-    Run asks replies seen told = ServedRun root.issuer (coming root.clock) root.history end asks replies seen told
+    Run asks replies seen told = ServedRun root.version root.issuer (coming root.clock) root.history end asks replies seen told
 
     abbrev pub IsClean : List (ℕ × Item) → Type 0
     IsClean own = AllByRecursion (λ (z : ℕ × Item). is_stop z.1 ≡ false) own
@@ -149,7 +149,7 @@ module _ {C : Type 0} (coming : C → ℕ → Option ℕ) (root : Root C) (stopp
     pub record CutOff (asks : List Asked) (replies : Replies) : Type 0 where
       pub entry : Entry
       pub is : torn ≡ Some entry
-      pub by : IsCutOffBy root.issuer (coming root.clock) end asks replies entry
+      pub by : IsCutOffBy root.version root.issuer (coming root.clock) end asks replies entry
 
     -- how far the till has been told
     pub record SoFar (asks : List Asked) (replies : Replies) (k : Known Item (Root C)) : Type 0 where
@@ -172,7 +172,7 @@ module _ {C : Type 0} (coming : C → ℕ → Option ℕ) (root : Root C) (stopp
       is : torn ≡ Some entry
       seconds : ℕ
       reading : IsSomeReading (coming root.clock) seconds
-      made : answer root.issuer end ask seconds ≡ Made entry
+      made : answer root.version root.issuer end ask seconds ≡ Made entry
 
     -- what one more ask tells, at this list and with what it adds
     record Step (asks : List Asked) (replies : Replies) (ask : Asked) (before more : List Item)
@@ -264,7 +264,8 @@ module _ {C : Type 0} (coming : C → ℕ → Option ℕ) (root : Root C) (stopp
               is = there.0.torn_is;
               seconds = t.seconds;
               reading = (t.reading.number, t.reading.told);
-              made = subst (λ (h : List Entry). answer root.issuer h ask t.seconds ≡ Made t.torn) there.0.whole t.made;
+              made = subst (λ (h : List Entry). answer root.version root.issuer h ask t.seconds ≡ Made t.torn)
+                  there.0.whole t.made;
             });
             fault = sym (ap (λ (l : List Item). count_by is_stop l) (append_cancel_left before more
                 (item.Stop t.count t.torn ∷ []) (t.after_is ∙ sym (ap (λ (l : List Item). l ++ item.Stop t.count t.torn ∷ [])

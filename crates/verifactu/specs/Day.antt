@@ -2,6 +2,7 @@
 use Rattle.std.specs.Prelude.{◌≡◌, ◌⊎◌, ◌<◌, ◌≤◌, ◌+◌, ◌-◌, ◌^◌, ℕ, false, List, [], ◌∷◌, ◌++◌, drop, flat_map, length, map}
 use Rattle.std.specs.Prelude.{IsTrue, Option, Result}
 use Rattle.std.specs.List.{AllByRecursion}
+use Rattle.record_fields.specs.declared.versions.Version.TheVariants.{One}
 use Rattle.ports.specs.Sinks.{WroteNothing}
 use Rattle.chain_disk.specs.OnDisk.{LeavesNow, synced}
 use Rattle.chain_disk.specs.Disks.{Disks, DiskRose}
@@ -61,6 +62,7 @@ pub record Outcome : Type 0 where
 abbrev pub day_of : {D C Z G : Type 0} → List ℕ → Script → Option (ℕ × ℕ) → Around D C Z G → Outcome → Day
 day_of issuer script line c o = record {
   issuer = issuer;
+  version = One;
   asks = script.asks;
   coming = readings_of line (c.clock.coming c.clock.clock);
   start = o.start;
@@ -76,7 +78,7 @@ day_of issuer script line c o = record {
 -- the history: it goes on from the one at the start, and is legal
 pub record HistoryGoesOn (d : Day) : Type 0 where
   pub begins : IsPrefix d.start d.end
-  pub legal : Legal d.issuer d.end
+  pub legal : Legal One d.issuer d.end
   pub linked : Linked d.issuer (recs d.end)
   pub rising : (till : ℕ) → SerialsRise d.end till
 

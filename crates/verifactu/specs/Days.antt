@@ -1,5 +1,6 @@
 -- The record of a day.
 use Rattle.std.specs.Prelude.{ℕ, List, [], ◌∷◌, flat_map, Option, Some, None, Result}
+use Rattle.record_fields.specs.declared.versions.Version.{Version}
 use Rattle.record_codec.specs.declared.entry.Entry.{Entry}
 use Rattle.sender.specs.Turning.{Desk, AgencyKind}
 use Rattle.sender.specs.declared.answers.DrainFault.{DrainFault}
@@ -22,11 +23,12 @@ pub record Stop : Type 0 where
   pub count : ℕ
   pub torn : Entry
 
--- A day of a shop: whose it is, what was asked, and the coming answers of the clock; the history at its start and at its end, and
--- the stop behind that; what each till was told; what the agency's kind tells, and its desk once the session was open and at the
--- end; and how the sending ended.
+-- A day of a shop: whose it is, the version of its history, what was asked, and the coming answers of the clock; the history at
+-- its start and at its end, and the stop behind that; what each till was told; what the agency's kind tells, and its desk once the
+-- session was open and at the end; and how the sending ended.
 pub record Day : Type 0 where
   pub issuer : List ℕ
+  pub version : Version
   pub asks : List Asked
   pub coming : ℕ → Option ℕ
   pub start : List Entry
@@ -54,6 +56,7 @@ abbrev pub shop_day : {D C : Type 0} → (C → ℕ → Option ℕ) → List Ask
     Desk → Result (Unit {0}) DrainFault → Day
 shop_day coming asks root new tills kind opened after answer = record {
   issuer = root.issuer;
+  version = root.version;
   asks = asks;
   coming = coming root.clock;
   start = root.history;

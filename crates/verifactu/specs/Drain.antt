@@ -1,5 +1,6 @@
 -- How `drain` ends.
 use Rattle.std.specs.Prelude.{◌≡◌, ◌⊎◌, ℕ, ◌+◌, ◌-◌, ◌^◌, ◌<◌, ◌≤◌, List, Bool, true, IsTrue, Option, Some, None}
+use Rattle.record_fields.specs.declared.versions.Version.TheVariants.{One}
 use Rattle.ports.specs.Causes.{Rose}
 use Rattle.ports.specs.Sinks.{Sinks}
 use Rattle.chain_disk.specs.OnDisk.{synced}
@@ -49,7 +50,7 @@ pub record FileDrained {D G : Type 0} (issuer : List ℕ) (plan : Plan) (exact :
   pub found : IsTrue k.tells → IsFound issuer start (k.told k.disk).content
   pub outcome : Outcome
   -- what was said, noted and kept
-  pub drains : StoreDrains (StandsSince issuer) a.begun plan issuer (file_span k)
+  pub drains : StoreDrains (StandsSince issuer) a.begun plan One issuer (file_span k)
       (spanning start a.kind a.before a.after exact moment outcome)
   -- the text, and the end by the answer and the sink
   pub ends : DrainRunEnds outcome.answer (drain_text outcome) s end

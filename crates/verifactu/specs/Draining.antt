@@ -2,6 +2,7 @@
 use Rattle.std.specs.Prelude.{◌≡◌, ◌⊎◌, ℕ, ◌+◌, ◌*◌, ◌≤◌, List, [], ◌∷◌, ◌++◌, length, map}
 use Rattle.std.specs.Prelude.{zip, Bool, IsTrue, ⊤, IsErrOf, OnOk, Option, Some, None, Result, Ok, Err}
 use Rattle.std.specs.List.{AllByRecursion}
+use Rattle.record_fields.specs.declared.versions.Version.{Version}
 use Rattle.ports.specs.Causes.{Rose}
 use Rattle.ports.specs.Sinks.{Sinks, Wrote, FailedIn, WrotePart}
 use Rattle.record_fields.specs.declared.records.Sealed.{Sealed}
@@ -217,10 +218,10 @@ disk_span kind old new = record {
 
 -- The drain of an opened store. Each crash since some moment leaves what P says of the histories and the torn notes.
 pub record StoreDrains (P : List Entry → List Entry → List Entry → List ℕ → Type 0) (begun : Beginning) (plan : Plan)
-    (issuer : List ℕ) (k : DiskSpan) (d : Span) : Type 0 where
+    (version : Version) (issuer : List ℕ) (k : DiskSpan) (d : Span) : Type 0 where
   pub session : IsUnopened d ⊎ IsSession begun plan d
   pub notes : AddsNotesAlone d.start d.end
-  pub legal : Legal issuer d.end
+  pub legal : Legal version issuer d.end
   pub linked : Linked issuer (recs d.end)
   pub kept : IsTrue k.tells → Kept (P d.start d.end d.torn) issuer d.end d.torn k.since k.now
   -- where the agency agrees it does with the history of each file that a crash now leaves
@@ -260,8 +261,8 @@ abbrev pub drain_text : Outcome → List ℕ
 drain_text o = turns_text o.turns (length (recs o.end)) (length (noted o.end))
 
 -- an opened store with this history was drained, and this is how that ended
-abbrev pub StoreDrainEnds : Beginning → Plan → List ℕ → List Entry → DiskSpan → AgencyKind → Desk → Desk → Bool → ℕ → Sinks →
-    Detail → Type 0
-StoreDrainEnds begun plan issuer start k kind old new exact moment s end = (o : Outcome)
-    × StoreDrains (StandsUpTo issuer) begun plan issuer k (spanning start kind old new exact moment o)
+abbrev pub StoreDrainEnds : Beginning → Plan → Version → List ℕ → List Entry → DiskSpan → AgencyKind → Desk → Desk → Bool → ℕ →
+    Sinks → Detail → Type 0
+StoreDrainEnds begun plan version issuer start k kind old new exact moment s end = (o : Outcome)
+    × StoreDrains (StandsUpTo issuer) begun plan version issuer k (spanning start kind old new exact moment o)
     × DrainRunEnds o.answer (drain_text o) s end

@@ -2,6 +2,7 @@
 use Rattle.std.specs.Prelude.{◌≡◌, ◌⊎◌, ◌≤◌, ℕ, List, [], ◌∷◌, ◌++◌, drop, length, map, false, IsTrue}
 use Rattle.std.specs.Prelude.{Option, Some, None, Ok, Err}
 use Rattle.std.specs.List.{AllByRecursion}
+use Rattle.record_fields.specs.declared.versions.Version.TheVariants.{One}
 use Rattle.agency_port.specs.declared.messages.Message.{Message}
 use Rattle.chain_disk.specs.Disks.{DiskRose, Disks}
 use Rattle.chain_disk.specs.OnDisk.{IsLeft, IsSettled, IsSyncFailed, LeavesNow, LeavesOnly, OnDisk, moment, synced}
@@ -65,7 +66,7 @@ pub data Crashes (Since Now : List ℕ → Type 0) (old new : OnDisk) : Type 0 w
 -- at the start, and otherwise since the first sync. Once the disk was synced each crash from now on leaves the whole history.
 pub record ChainGoesOn {D : Type 0} (issuer : List ℕ) (start end torn : List Entry) (k : Disks D) : Type 0 where
   pub begins : IsPrefix start end
-  pub legal : Legal issuer end
+  pub legal : Legal One issuer end
   pub linked : Linked issuer (recs end)
   pub at_most_one : length torn ≤ 1
   pub by_a_fault : (torn ≡ []) ⊎ DiskRose k

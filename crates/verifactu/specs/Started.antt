@@ -15,7 +15,7 @@ pub record IsStarted {D C : Type 0} {g : disk.Ghosts D} {h : clock.Ghosts C} (s 
   pub own : (tills_shop s.tills ≡ shop_id s.shop) × (seat_shop s.seat ≡ shop_id s.shop)
   pub new : All (IsNew (first_items s.shop) (shop_root s.shop)) (tills_know s.tills ++ seat_knows s.seat ∷ [])
   pub whole : (n : ℕ) → n < places s.shop → holders n (tills_know s.tills ++ seat_knows s.seat ∷ []) ≡ 1
-  pub legal : Legal (shop_root s.shop).issuer (shop_root s.shop).history
+  pub legal : Legal (shop_root s.shop).version (shop_root s.shop).issuer (shop_root s.shop).history
   pub base : first_items s.shop ≡ map item.Entry (shop_root s.shop).history
 
 -- it has begun over a store with these parts, and has a till for each of these numbers

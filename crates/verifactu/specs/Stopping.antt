@@ -24,7 +24,7 @@ TearsWhereItRose = (d : Day) (faults faults_after : ℕ) → StopIs d faults fau
 
 -- the entry is what the answer made of this till's ask, which was told the fault
 abbrev pub IsOfTill : Day → Entry → TillReplies → Type 0
-IsOfTill d entry t = Contains d.tills t × IsCutOffBy d.issuer d.coming d.end (asks_of t.till d.asks) t.replies entry
+IsOfTill d entry t = Contains d.tills t × IsCutOffBy d.version d.issuer d.coming d.end (asks_of t.till d.asks) t.replies entry
 
 -- each torn entry is a till's or the sender's
 abbrev pub TearsForTillOrSender : Type 0

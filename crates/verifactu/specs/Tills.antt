@@ -2,6 +2,7 @@
 use Rattle.std.specs.Prelude.{◌≡◌, ◌≢◌, ◌≤◌, ℕ, ◌+◌, ◌==◌, Bool, true, false, List, [], ◌∷◌, ◌++◌, filter, drop}
 use Rattle.std.specs.Prelude.{count_by, length, slice_get, Contains, OnOk, Option, None, Some, Result, Ok, Err}
 use Rattle.std.specs.List.{AllByRecursion, list_any, range_with_len}
+use Rattle.record_fields.specs.declared.versions.Version.{Version}
 use Rattle.journal.specs.declared.faults.StoreFault.{StoreFault}
 use Rattle.journal.specs.declared.faults.StoreFault.TheVariants.{DiskFault, Stopped, NoMemory}
 use Rattle.ports.specs.Causes.{Rose}
@@ -45,23 +46,23 @@ IsSomeReading coming seconds = (number : ℕ) × IsTold (coming number) seconds
 -- at a front of the history at the end and at a coming reading of the clock. That front is no shorter than all that the till
 -- had seen, and where a record was taken it is the next entry there. Once the disk has failed each later ask is told of the
 -- stop. The number is how many entries the till had seen at its last answer, the mark whether it was told of the stop.
-pub data ServedRun (issuer : List ℕ) (coming : ℕ → Option ℕ) (start end : List Entry) :
+pub data ServedRun (version : Version) (issuer : List ℕ) (coming : ℕ → Option ℕ) (start end : List Entry) :
     List Asked → Replies → ℕ → Bool → Type 0 where
-  unasked : ServedRun issuer coming start end [] [] (length start) false
+  unasked : ServedRun version issuer coming start end [] [] (length start) false
   answered : (asks : List Asked) (replies : Replies) (seen : ℕ) (ask : Asked) (reply : Reply) (history gained : List Entry)
-      (seconds : ℕ) → ServedRun issuer coming start end asks replies seen false → seen ≤ length history →
+      (seconds : ℕ) → ServedRun version issuer coming start end asks replies seen false → seen ≤ length history →
       IsPrefix (history ++ gained) end → IsSomeReading coming seconds →
-      Tells history (answer issuer history ask seconds) reply gained →
-      ServedRun issuer coming start end (asks ++ ask ∷ []) (replies ++ Ok reply ∷ []) (length (history ++ gained)) false
+      Tells history (answer version issuer history ask seconds) reply gained →
+      ServedRun version issuer coming start end (asks ++ ask ∷ []) (replies ++ Ok reply ∷ []) (length (history ++ gained)) false
   torn : (asks : List Asked) (replies : Replies) (seen : ℕ) (ask : Asked) →
-      ServedRun issuer coming start end asks replies seen false →
-      ServedRun issuer coming start end (asks ++ ask ∷ []) (replies ++ Err DiskFault ∷ []) seen true
+      ServedRun version issuer coming start end asks replies seen false →
+      ServedRun version issuer coming start end (asks ++ ask ∷ []) (replies ++ Err DiskFault ∷ []) seen true
   stopped : (asks : List Asked) (replies : Replies) (seen : ℕ) (told : Bool) (ask : Asked) (count : ℕ) →
-      ServedRun issuer coming start end asks replies seen told →
-      ServedRun issuer coming start end (asks ++ ask ∷ []) (replies ++ Err (Stopped count) ∷ []) seen true
+      ServedRun version issuer coming start end asks replies seen told →
+      ServedRun version issuer coming start end (asks ++ ask ∷ []) (replies ++ Err (Stopped count) ∷ []) seen true
   without_memory : (asks : List Asked) (replies : Replies) (seen : ℕ) (ask : Asked) →
-      ServedRun issuer coming start end asks replies seen false →
-      ServedRun issuer coming start end (asks ++ ask ∷ []) (replies ++ Err NoMemory ∷ []) seen false
+      ServedRun version issuer coming start end asks replies seen false →
+      ServedRun version issuer coming start end (asks ++ ask ∷ []) (replies ++ Err NoMemory ∷ []) seen false
 
 -- the entry is a record of this till
 abbrev pub is_from : ℕ → Entry → Bool
@@ -91,7 +92,7 @@ stops_in (Some stop) = 1
 pub record TillServed (d : Day) (t : TillReplies) : Type 0 where
   pub last : ℕ
   pub told : Bool
-  pub run : ServedRun d.issuer d.coming d.start d.end (asks_of t.till d.asks) t.replies last told
+  pub run : ServedRun d.version d.issuer d.coming d.start d.end (asks_of t.till d.asks) t.replies last told
   pub own : AreTaken t.replies (own_of t.till (drop (length d.start) d.end))
   pub at_least : last ≤ t.saw
   pub at_most : t.saw ≤ length d.end + stops_in d.stop
@@ -103,15 +104,15 @@ TellsStop _ _ = Unit {0}
 
 -- An entry whose append failed for a till run of these asks, at this history: the till was told the fault at one of its asks, and
 -- the entry is what the answer made of that ask, at this history and at a coming reading of the clock.
-pub record IsCutOffBy (issuer : List ℕ) (coming : ℕ → Option ℕ) (history : List Entry) (asks : List Asked) (replies : Replies)
-    (entry : Entry) : Type 0 where
+pub record IsCutOffBy (version : Version) (issuer : List ℕ) (coming : ℕ → Option ℕ) (history : List Entry) (asks : List Asked)
+    (replies : Replies) (entry : Entry) : Type 0 where
   pub place : ℕ
   pub told : slice_get replies place ≡ Some (Err DiskFault)
   pub ask : Asked
   pub asked : slice_get asks place ≡ Some ask
   pub seconds : ℕ
   pub reading : IsSomeReading coming seconds
-  pub made : answer issuer history ask seconds ≡ Made entry
+  pub made : answer version issuer history ask seconds ≡ Made entry
 
 -- the answer to an ask at whose own record the disk failed
 abbrev pub is_own_fault : Result Reply StoreFault → Bool
@@ -129,7 +130,8 @@ SenderFails d = FailsAtNotes d.kind d.opened d.after d.answer
 -- Who recorded a day's stop over an entry: a till at its answer to one of its asks, the only one of all that is answered with a
 -- fault of the disk; or the sender at its notes, and then no ask is.
 pub data RecordedBy (d : Day) (torn : Entry) : Type 0 where
-  till : (t : TillReplies) → Contains d.tills t → IsCutOffBy d.issuer d.coming d.end (asks_of t.till d.asks) t.replies torn →
+  till : (t : TillReplies) → Contains d.tills t →
+      IsCutOffBy d.version d.issuer d.coming d.end (asks_of t.till d.asks) t.replies torn →
       own_faults d ≡ 1 → RecordedBy d torn
   sender : AreNotesEntry torn → SenderFails d → own_faults d ≡ 0 → RecordedBy d torn
 

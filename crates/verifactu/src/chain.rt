@@ -122,6 +122,7 @@ fn run_opened<K: Sink, D: Disk, C: Clock>(
     requires room { length asks.now ≤ vec_capacity replies }
     ensures { (end : List Entry) × StoreEnds asks.now (record {
       issuer = (state_of store).issuer;
+      version = (state_of store).version;
       start = (state_of store).entries;
       end = end;
       tells = D.tells;

@@ -42,7 +42,9 @@ A script has one command a line:
                            or again
 KIND is F1, F2, F3 or R1 to R5. OPTION is to=KEY, rect=S, rect=I or
 ref=NUM@DD-MM-YYYY. LINE is CLASS:BASE, the base in cents; CLASS is 21, 10, 4,
-0, 21+, 10+, 4+, S2, N1, N2 or E1 to E6.
+0, 21+, 10+, 4+, S2, N1, N2 or E1 to E6. Under IPSI it is 02/RATE, under IGIC
+03/RATE, RATE in hundredths of a percent up to 2500, or 02/ or 03/ in front of S2,
+N1, N2 or E1 to E6; a file of version 1, as every file is, refuses these lines.
 Empty lines and lines that begin with # are skipped. An example:
   clock 1735722000 0
   sale 1 1 A F2 21:10000

@@ -3,6 +3,7 @@ use Rattle.std.specs.Prelude.{◌≡◌, ℕ, List, Option, option_map, find, �
 use Rattle.std.specs.Prelude.{true}
 use Rattle.std.specs.Option.{option_map_or}
 use Rattle.std.specs.List.{enumerate_from}
+use Rattle.record_fields.specs.declared.versions.Version.{Version}
 use Rattle.record_codec.specs.declared.entry.Entry.{Entry}
 use Rattle.record_codec.specs.declared.entry.Entry.TheVariants.{Rec}
 use Rattle.shop_core.specs.Answer.Requests.{Asked}
@@ -23,12 +24,13 @@ abbrev pub kept : List Entry → ℕ → ℕ → Option Receipt
 kept entries till serial = option_map (λ (p : ℕ × Row). receipt p.0 p.1.sealed) (kept_row entries till serial)
 
 -- the kept receipt, else the first refusal, else the entry that is made
-abbrev pub answer : List ℕ → List Entry → Asked → ℕ → Planned
-answer issuer entries ask seconds =
+abbrev pub answer : Version → List ℕ → List Entry → Asked → ℕ → Planned
+answer version issuer entries ask seconds =
     let made = Made (Rec ask.till ask.serial (made_sealed issuer entries ask.request seconds)) in
-    option_map_or Again (kept entries ask.till ask.serial) (option_map_or Refused (refusal issuer entries ask seconds) made)
+    option_map_or Again (kept entries ask.till ask.serial)
+    (option_map_or Refused (refusal version issuer entries ask seconds) made)
 
 -- what is made is a record
 abbrev pub MakesRecords : Type 0
-MakesRecords = (issuer : List ℕ) (entries : List Entry) (ask : Asked) (seconds : ℕ) (entry : Entry) →
-    answer issuer entries ask seconds ≡ Made entry → is_record entry ≡ true
+MakesRecords = (version : Version) (issuer : List ℕ) (entries : List Entry) (ask : Asked) (seconds : ℕ) (entry : Entry) →
+    answer version issuer entries ask seconds ≡ Made entry → is_record entry ≡ true

@@ -1,13 +1,16 @@
 -- Why an ask is refused at a history and a reading of the clock. The refusals and their order are this project's own.
 use Rattle.std.specs.Prelude.{ℕ, List, [], ◌∷◌, length, Option, Some, None, option_map, ◌&&◌, not, nat_lt}
-use Rattle.std.specs.Prelude.{nat_le, bytes_eq, if◌then◌else◌, Bool}
+use Rattle.std.specs.Prelude.{nat_le, bytes_eq, position, if◌then◌else◌, Bool}
 use Rattle.std.specs.List.{position_from}
 use Rattle.series.specs.declared.numbers.InvoiceId.{InvoiceId}
 use Rattle.invoice_kinds.specs.Kinds.{is_f3}
+use Rattle.tax_lines.specs.Breakdown.{is_other}
 use Rattle.record_fields.specs.Picks.{first_of}
 use Rattle.record_fields.specs.Checks.{draft_fault}
 use Rattle.record_fields.specs.declared.drafts.Draft.{Draft}
 use Rattle.record_fields.specs.declared.records.Sealed.{Sealed}
+use Rattle.record_fields.specs.declared.versions.Version.{Version}
+use Rattle.record_fields.specs.declared.versions.Version.TheVariants.{One, Two}
 use Rattle.record_codec.specs.declared.entry.Entry.{Entry}
 use Rattle.shop_core.specs.Answer.Requests.{Asked}
 use Rattle.shop_core.specs.History.{recs, last_serial}
@@ -18,8 +21,8 @@ use Rattle.shop_core.specs.declared.limits.TheConstants.{MAX_RECORDS}
 use Rattle.shop_core.specs.declared.answer.requests.Request.{Request}
 use Rattle.shop_core.specs.declared.answer.requests.Request.TheVariants.{Sale, Fix, Cancel}
 use Rattle.shop_core.specs.declared.answer.refusals.Refusal.{Refusal}
-use Rattle.shop_core.specs.declared.answer.refusals.Refusal.TheVariants.{Passed, BadDraft, Unknown, Cancelled, RefNotSimplified}
-use Rattle.shop_core.specs.declared.answer.refusals.Refusal.TheVariants.{ChainFull, ClockRange, HuellaTwice}
+use Rattle.shop_core.specs.declared.answer.refusals.Refusal.TheVariants.{Passed, BadDraft, OldFile, Unknown, Cancelled}
+use Rattle.shop_core.specs.declared.answer.refusals.Refusal.TheVariants.{RefNotSimplified, ChainFull, ClockRange, HuellaTwice}
 
 -- nothing is refused where the test holds
 abbrev pub unless : Bool → Refusal → Option Refusal
@@ -34,6 +37,13 @@ abbrev pub bad_draft : Request → Option Refusal
 bad_draft (Sale series draft) = option_map BadDraft (draft_fault draft)
 bad_draft (Fix num draft) = option_map BadDraft (draft_fault draft)
 bad_draft (Cancel num) = None
+
+-- the first line of a sale or a fix, from 0, that has another tax than IVA: files of version One have lines of IVA alone
+abbrev pub old_file : Version → Request → Option Refusal
+old_file One (Sale series draft) = option_map OldFile (position is_other draft.lines)
+old_file One (Fix num draft) = option_map OldFile (position is_other draft.lines)
+old_file One (Cancel num) = None
+old_file Two request = None
 
 -- a fix or a cancel of a number that no alta of the chain has
 abbrev pub unknown : List Entry → Request → Option Refusal
@@ -73,10 +83,11 @@ abbrev pub twice : List Entry → Sealed → Option Refusal
 twice entries made = option_map HuellaTwice (position_from (λ (s : Sealed). bytes_eq s.huella made.huella) 1 (recs entries))
 
 -- the first refusal that can be seen before the record is made
-abbrev pub early_refusal : List Entry → Asked → ℕ → Option Refusal
-early_refusal entries ask seconds = first_of (
+abbrev pub early_refusal : Version → List Entry → Asked → ℕ → Option Refusal
+early_refusal version entries ask seconds = first_of (
     passed entries ask.till ask.serial
     ∷ bad_draft ask.request
+    ∷ old_file version ask.request
     ∷ unknown entries ask.request
     ∷ cancelled entries ask.request
     ∷ bad_ref entries ask.request
@@ -85,8 +96,8 @@ early_refusal entries ask seconds = first_of (
     ∷ [])
 
 -- the first refusal that holds
-abbrev pub refusal : List ℕ → List Entry → Asked → ℕ → Option Refusal
-refusal issuer entries ask seconds = first_of (
-    early_refusal entries ask seconds
+abbrev pub refusal : Version → List ℕ → List Entry → Asked → ℕ → Option Refusal
+refusal version issuer entries ask seconds = first_of (
+    early_refusal version entries ask seconds
     ∷ twice entries (made_sealed issuer entries ask.request seconds)
     ∷ [])

@@ -1,6 +1,7 @@
 -- Runs of one thread over the commands of all tills.
 use Rattle.std.specs.Prelude.{◌≡◌, ℕ, ◌+◌, List, [], ◌∷◌, ◌++◌, length, Result, Ok, Err}
 use Rattle.ports.specs.declared.faults.NoMemory.{NoMemory}
+use Rattle.record_fields.specs.declared.versions.Version.{Version}
 use Rattle.record_codec.specs.declared.entry.Entry.{Entry}
 use Rattle.record_codec.specs.declared.entry.Entry.TheVariants.{Rec, Notes}
 use Rattle.shop_core.specs.Answer.Requests.{Asked}
@@ -27,24 +28,27 @@ Tells entries (Refused why) told gained = (told ≡ reply.Refused why) × (gaine
 Tells entries (Made entry) told gained = IsTaken entries entry told × (gained ≡ entry ∷ [])
 
 -- one reply of a run at a reading of the clock; a fault changes nothing
-abbrev pub IsReply : {E : Type 0} → List ℕ → List Entry → Asked → ℕ → Result Reply E → List Entry → Type 0
-IsReply issuer entries ask seconds (Ok told) gained = Tells entries (answer issuer entries ask seconds) told gained
-IsReply issuer entries ask seconds (Err e) gained = gained ≡ []
+abbrev pub IsReply : {E : Type 0} → Version → List ℕ → List Entry → Asked → ℕ → Result Reply E → List Entry → Type 0
+IsReply version issuer entries ask seconds (Ok told) gained =
+    Tells entries (answer version issuer entries ask seconds) told gained
+IsReply version issuer entries ask seconds (Err e) gained = gained ≡ []
 
 -- the same, from state to state
 pub record Replied (old new : History) (ask : Asked) (seconds : ℕ) (told : Result Reply NoMemory) : Type 0 where
   pub issuer : new.issuer ≡ old.issuer
+  pub version : new.version ≡ old.version
   pub gained : List Entry
   pub entries : new.entries ≡ old.entries ++ gained
-  pub reply : IsReply old.issuer old.entries ask seconds told gained
+  pub reply : IsReply old.version old.issuer old.entries ask seconds told gained
 
 -- The replies to these asks, in order, from this history to that one. IsReading replies seconds says which numbers the
 -- clock may give after these replies; a reply may be a fault E in place of an answer.
-pub data ChainRun {E : Type 0} (issuer : List ℕ) (IsReading : List (Result Reply E) → ℕ → Type 0) (start : List Entry) :
+pub data ChainRun {E : Type 0} (version : Version) (issuer : List ℕ) (IsReading : List (Result Reply E) → ℕ → Type 0)
+    (start : List Entry) :
     List Asked → List (Result Reply E) → List Entry → Type 0 where
-  begun : ChainRun issuer IsReading start [] [] start
+  begun : ChainRun version issuer IsReading start [] [] start
   replied : (asks : List Asked) (replies : List (Result Reply E)) (entries : List Entry)
       (ask : Asked) (told : Result Reply E) (gained : List Entry) →
-      ChainRun issuer IsReading start asks replies entries →
-      (seconds : ℕ) → IsReading replies seconds → IsReply issuer entries ask seconds told gained →
-      ChainRun issuer IsReading start (asks ++ ask ∷ []) (replies ++ told ∷ []) (entries ++ gained)
+      ChainRun version issuer IsReading start asks replies entries →
+      (seconds : ℕ) → IsReading replies seconds → IsReply version issuer entries ask seconds told gained →
+      ChainRun version issuer IsReading start (asks ++ ask ∷ []) (replies ++ told ∷ []) (entries ++ gained)

@@ -6,6 +6,7 @@ use Rattle.journal.specs.Header.{IsBegun}
 use Rattle.journal.specs.declared.TheConstants.{HEADER}
 use Rattle.record_codec.specs.Writing.{entry_bytes}
 use Rattle.record_codec.specs.Validity.{IsEncoding}
+use Rattle.record_fields.specs.declared.versions.Version.TheVariants.{One}
 use Rattle.record_codec.specs.declared.entry.Entry.{Entry}
 use Rattle.shop_core.specs.Legal.{Continues}
 use Rattle.shop_core.specs.File.Files.{StandsFor, IsSoundUpTo, IsDamagedFile, bodies_of}
@@ -36,7 +37,7 @@ NotBegunIsNeither =
 pub record StopsAt (issuer : List ℕ) (entries : List Entry) (at : ℕ) (file : List ℕ) : Type 0 where
   pub sound : IsSoundUpTo issuer entries at file
   pub ends : (entry : Entry) (body : List ℕ) →
-      IsCounted (drop at file) body → IsEncoding issuer entry body → Continues issuer entries entry → ⊥
+      IsCounted (drop at file) body → IsEncoding One issuer entry body → Continues One issuer entries entry → ⊥
 
 -- a file stops at one place
 abbrev pub OneStop : Type 0
@@ -58,8 +59,8 @@ SoundBegins = (issuer file : List ℕ) → IsBegun issuer file → IsSoundUpTo i
 abbrev pub SoundGoesOn : Type 0
 SoundGoesOn =
     (issuer : List ℕ) (entries : List Entry) (at : ℕ) (file body : List ℕ) (entry : Entry) →
-    IsSoundUpTo issuer entries at file → IsCounted (drop at file) body → IsEncoding issuer entry body →
-    Continues issuer entries entry →
+    IsSoundUpTo issuer entries at file → IsCounted (drop at file) body → IsEncoding One issuer entry body →
+    Continues One issuer entries entry →
     IsSoundUpTo issuer (entries ++ entry ∷ []) (at + 5 + length body) file
 
 -- and it stands for the history where a closed gate follows
@@ -73,7 +74,7 @@ SoundEnds =
 pub data IsCutAt (entries : List Entry) (left : ℕ) : ℕ → Type 0 where
   in_header : left ≤ HEADER → IsCutAt entries left left
   in_frame : (before after : List Entry) (entry : Entry) (at : ℕ) → entries ≡ before ++ entry ∷ after →
-      at ≡ closing_gate (bodies_of before) → at < left → left ≤ at + 5 + length (entry_bytes entry) → IsCutAt entries left at
+      at ≡ closing_gate (bodies_of before) → at < left → left ≤ at + 5 + length (entry_bytes One entry) → IsCutAt entries left at
 
 -- each proper front, of 2 bytes or more, of a file that stands for a history and ends in its closing gate is damaged
 abbrev pub CutIsDamaged : Type 0

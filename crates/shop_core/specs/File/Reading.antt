@@ -4,6 +4,8 @@ use Rattle.frames.specs.Frames.{IsCounted, IsClosed, IsDamaged}
 use Rattle.journal.specs.File.{IsNotBegun, closing_gate}
 use Rattle.journal.specs.Header.{IsHeaderDamaged}
 use Rattle.record_codec.specs.Validity.{IsEncoding}
+use Rattle.record_fields.specs.declared.versions.Version.{Version}
+use Rattle.record_fields.specs.declared.versions.Version.TheVariants.{One}
 use Rattle.record_codec.specs.declared.entry.Entry.{Entry}
 use Rattle.shop_core.specs.Breaks.{IsBreak}
 use Rattle.shop_core.specs.File.Files.{StandsFor, IsSoundUpTo, IsDamagedFile, bodies_of, furthest_gate}
@@ -39,11 +41,11 @@ pub data IsRead (file : List ℕ) : FileRead → Type 0 where
   no_frame : (issuer : List ℕ) (entries : List Entry) (at : ℕ) → IsSoundUpTo issuer entries at file → IsDamaged (drop at file) →
       IsRead file (Broken (next_place entries) at what.Frame)
   no_entry : (issuer : List ℕ) (entries : List Entry) (at : ℕ) (body : List ℕ) → IsSoundUpTo issuer entries at file →
-      IsCounted (drop at file) body → ((entry : Entry) → IsEncoding issuer entry body → ⊥) →
+      IsCounted (drop at file) body → ((entry : Entry) → IsEncoding One issuer entry body → ⊥) →
       IsRead file (Broken (next_place entries) at what.Body)
   not_next : (issuer : List ℕ) (entries : List Entry) (at : ℕ) (body : List ℕ) (entry : Entry) (why : Break) →
-      IsSoundUpTo issuer entries at file → IsCounted (drop at file) body → IsEncoding issuer entry body →
-      (Continues issuer entries entry → ⊥) → IsBreak issuer entries entry (Some why) →
+      IsSoundUpTo issuer entries at file → IsCounted (drop at file) body → IsEncoding One issuer entry body →
+      (Continues One issuer entries entry → ⊥) → IsBreak One issuer entries entry (Some why) →
       IsRead file (Broken (next_place entries) at (word_of why))
 
 -- a file that is read as broken is damaged at that byte
@@ -55,6 +57,12 @@ abbrev pub HasNearGate : FileRead → Type 0
 HasNearGate NotBegun = Unit {0}
 HasNearGate (Sound history end) = end ≤ furthest_gate history.entries
 HasNearGate (Broken place at what) = Unit {0}
+
+-- a history that is read has this version
+abbrev pub HasVersion : Version → FileRead → Type 0
+HasVersion version NotBegun = Unit {0}
+HasVersion version (Sound history end) = history.version ≡ version
+HasVersion version (Broken place at what) = Unit {0}
 
 -- what a look at a gate makes of the state
 abbrev pub Grows : History → History → AtGate → Type 0

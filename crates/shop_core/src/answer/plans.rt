@@ -33,9 +33,11 @@ pub(crate) fn next_moment(state: &State, last: u64, seconds: u64) -> Stamp
 /// What is to be done for an ask, with the clock at these seconds since 1970: the kept receipt where its till and serial
 /// stand in the history; else the first refusal that holds; else the entry that the history gains.
 pub fn plan(alloc: Global, state: &State, ask: &Ask, seconds: u64) -> Result<Planned, NoMemory>
-    ensures answer { IfOk result (λ planned. planned ≡ spec.answer state.now.issuer state.now.entries ask.now seconds) }
+    ensures answer { IfOk result
+        (λ planned. planned ≡ spec.answer state.now.version state.now.issuer state.now.entries ask.now seconds) }
     ensures continues { IfOk result
-        (λ planned. (entry : AnyEntry) → planned ≡ planned_as.Made entry → Continues state.now.issuer state.now.entries entry) }
+        (λ planned. (entry : AnyEntry) → planned ≡ planned_as.Made entry →
+        Continues state.now.version state.now.issuer state.now.entries entry) }
 {
     plan_asking(alloc, state, &ask.borrowed(), seconds)
 }
@@ -47,9 +49,11 @@ pub fn plan_asking(
     ask: &Asking,
     seconds: u64,
 ) -> Result<Planned, NoMemory>
-    ensures answer { IfOk result (λ planned. planned ≡ spec.answer state.now.issuer state.now.entries ask.now seconds) }
+    ensures answer { IfOk result
+        (λ planned. planned ≡ spec.answer state.now.version state.now.issuer state.now.entries ask.now seconds) }
     ensures continues { IfOk result
-        (λ planned. (entry : AnyEntry) → planned ≡ planned_as.Made entry → Continues state.now.issuer state.now.entries entry) }
+        (λ planned. (entry : AnyEntry) → planned ≡ planned_as.Made entry →
+        Continues state.now.version state.now.issuer state.now.entries entry) }
 {
     state.is_legal();
     if let Some(receipt) = state.kept(ask.till, ask.serial) {

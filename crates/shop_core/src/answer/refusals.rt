@@ -1,14 +1,16 @@
 // Why an ask is refused, at a history and a reading of the clock: the order of the refusals.
-ghost use Rattle.std.specs.Prelude.{◌≡◌, ◌≤◌, length, option_map, not, None};
+ghost use Rattle.std.specs.Prelude.{◌≡◌, ◌≤◌, length, option_map, position, not, None};
 ghost use Rattle.std.specs.List.{position_from};
 ghost use Rattle.record_fields.specs.Checks.{draft_fault};
 ghost use Rattle.record_fields.specs.declared.checks.TheConstants.{MAX_REFS};
+ghost use Rattle.tax_lines.specs.Breakdown.{is_other};
 ghost use Rattle.series.specs.declared.numbers.InvoiceId.{InvoiceId as AnyId};
 ghost use Rattle.shop_core.specs.Answer.Refusals as spec;
 ghost use Rattle.shop_core.specs.Standing as standing;
 ghost use Rattle.shop_core.specs.declared.answer.refusals.Refusal.TheVariants as refusal;
 
 use crate::{Asking, MAX_RECORDS, Request, State};
+use record_codec::Version;
 use record_fields::{Draft, DraftFault, check_draft};
 use series::{InvoiceId, NumSerie};
 use stamps::{CLOCK_FROM, CLOCK_TO};
@@ -20,6 +22,9 @@ pub enum Refusal {
     Passed { last: u32 },
     /// The draft of a sale or a fix lacks what its kind needs.
     BadDraft(DraftFault),
+    /// The line at this index of a sale or a fix, from 0, is its first one with another tax than IVA, and the version is One,
+    /// whose files have lines of IVA alone.
+    OldFile { index: u8 },
     /// The number of a fix or a cancel is that of no alta of the chain.
     Unknown,
     /// The invoice is cancelled, by the record at this place.
@@ -60,6 +65,29 @@ fn bad_draft(request: &Request) -> Option<Refusal>
         Request::Sale { draft, .. } => draft_refusal(draft),
         Request::Fix { draft, .. } => draft_refusal(draft),
         Request::Cancel { .. } => None,
+    }
+}
+
+fn other_tax(draft: &Draft) -> Option<Refusal>
+    ensures { result ≡ option_map refusal.OldFile (position is_other draft.now.lines) }
+{
+    let _few = draft.lines.lines();
+    match draft.lines.first_other() {
+        None => None,
+        Some(i) => Some(Refusal::OldFile { index: i as u8 }),
+    }
+}
+
+fn old_file(state: &State, request: &Request) -> Option<Refusal>
+    ensures { result ≡ spec.old_file state.now.version request.now }
+{
+    match state.version() {
+        Version::Two => None,
+        Version::One => match request {
+            Request::Sale { draft, .. } => other_tax(draft),
+            Request::Fix { draft, .. } => other_tax(draft),
+            Request::Cancel { .. } => None,
+        },
     }
 }
 
@@ -164,12 +192,15 @@ fn out_of_range(seconds: u64) -> Option<Refusal>
 
 /// The first refusal that needs no record.
 pub(crate) fn early_refusal(state: &State, ask: &Asking, seconds: u64) -> Option<Refusal>
-    ensures { result ≡ spec.early_refusal state.now.entries ask.now seconds }
+    ensures { result ≡ spec.early_refusal state.now.version state.now.entries ask.now seconds }
 {
     if let Some(why) = passed(state, ask) {
         return Some(why);
     }
     if let Some(why) = bad_draft(ask.request) {
+        return Some(why);
+    }
+    if let Some(why) = old_file(state, ask.request) {
         return Some(why);
     }
     if let Some(why) = unknown(state, ask.request) {

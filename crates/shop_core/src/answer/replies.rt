@@ -10,7 +10,7 @@ use record_codec::Entry;
 use std::alloc::Global;
 
 /// Answers an ask with the clock at these seconds since 1970, and adds the entry that it makes. Want of memory leaves
-/// issuer and history as they were.
+/// issuer, version and history as they were.
 pub fn reply_to(
     alloc: Global,
     state: &mut State,
@@ -27,10 +27,15 @@ pub fn reply_to(
 }
 
 fn take(state: &mut State, entry: Entry) -> Result<Reply, NoMemory>
-    requires continues { Continues state.old.issuer state.old.entries entry }
+    requires continues { Continues state.old.version state.old.issuer state.old.entries entry }
     requires of_record { history.is_record entry ≡ true }
     ensures ok { IfOk result (λ reply. IsTaken state.old.entries entry reply
-        × (state.new ≡ record { issuer = state.old.issuer; entries = state.old.entries ++ entry ∷ []; room = None })) }
+        × (state.new ≡ record {
+          issuer = state.old.issuer;
+          version = state.old.version;
+          entries = state.old.entries ++ entry ∷ [];
+          room = None;
+        })) }
     ensures err { OnErr result (state.new ≡ state.old) }
 {
     let reply = taken(state.records() + 1, &entry);

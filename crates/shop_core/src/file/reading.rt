@@ -3,10 +3,11 @@ ghost use Rattle.std.specs.Prelude.{◌≡◌, ◌≤◌, ◌+◌, ◌++◌, ◌
 ghost use Rattle.ports.specs.Causes.{Rose};
 ghost use Rattle.journal.specs.Header.{IsBegun};
 ghost use Rattle.record_codec.specs.Writing.{entry_bytes};
+ghost use Rattle.record_fields.specs.declared.versions.Version.TheVariants.{One};
 ghost use Rattle.shop_core.specs.Breaks.{IsBreak};
 ghost use Rattle.shop_core.specs.File.Files.{IsSoundUpTo, furthest_gate};
 ghost use Rattle.shop_core.specs.Legal.{Continues};
-ghost use Rattle.shop_core.specs.File.Reading.{BrokenIsDamaged, Grows, HasNearGate, IsRead, IsSeen, word_of};
+ghost use Rattle.shop_core.specs.File.Reading.{BrokenIsDamaged, Grows, HasNearGate, HasVersion, IsRead, IsSeen, word_of};
 
 use crate::{Break, State, What, a_history_is_read_by_frames, next_fault};
 use chain_disk::Disk;
@@ -14,7 +15,7 @@ use frames::FrameBuf;
 use journal::{Header, Step, read_header, scan};
 use parties::Nif;
 use ports::NoMemory;
-use record_codec::{BadEntry, Entry, decode};
+use record_codec::{BadEntry, Entry, Version, decode};
 use std::alloc::Global;
 
 /// What a file holds.
@@ -22,7 +23,7 @@ use std::alloc::Global;
 pub enum FileRead {
     /// No header.
     NotBegun,
-    /// A legal history, with its issuer. The closing gate is at the byte `end`.
+    /// A legal history of version One, with its issuer. The closing gate is at the byte `end`.
     Sound { state: State, end: u64 },
     /// A break at the byte `at`. `place` is one more than the records before it.
     Broken { place: u32, at: u64, what: What },
@@ -40,6 +41,7 @@ pub enum ReadFault {
 pub fn read_file<D: Disk>(alloc: Global, disk: &mut D) -> Result<FileRead, ReadFault>
     ensures read { IfOk result (λ read. IsTrue D.tells → IsRead (D.told disk.old).content read) }
     ensures near { IfOk result HasNearGate }
+    ensures version { IfOk result (HasVersion One) }
     ensures fault { IsErrOf result ReadFault.DiskFault → Rose (D.faults disk.old) (D.faults disk.new) }
     ensures same { D.told disk.new ≡ D.told disk.old }
     ensures later { D.faults disk.old ≤ D.faults disk.new }
@@ -68,12 +70,13 @@ fn read_frames<D: Disk>(alloc: Global, disk: &mut D, issuer: &Nif) -> Result<Fil
     requires header { IsTrue D.tells → IsBegun issuer.now (D.told disk.old).content }
     ensures read { IfOk result (λ read. IsTrue D.tells → IsRead (D.told disk.old).content read) }
     ensures near { IfOk result HasNearGate }
+    ensures version { IfOk result (HasVersion One) }
     ensures fault { IsErrOf result ReadFault.DiskFault → Rose (D.faults disk.old) (D.faults disk.new) }
     ensures same { D.told disk.new ≡ D.told disk.old }
     ensures later { D.faults disk.old ≤ D.faults disk.new }
 {
     a_history_is_read_by_frames();
-    let mut state = State::empty(alloc, issuer);
+    let mut state = State::empty(alloc, issuer, Version::One);
     let mut body = FrameBuf::new();
     let mut at = 19;
     for _ in 0..2_000_001u32 {
@@ -110,9 +113,11 @@ fn read_frame<D: Disk>(
     at: u64,
     body: &mut FrameBuf,
 ) -> Result<AtGate, ReadFault>
+    requires version { state.old.version ≡ One }
     requires place { at ≤ furthest_gate state.old.entries }
     requires sound { IsTrue D.tells → IsSoundUpTo state.old.issuer state.old.entries at (D.told disk.old).content }
     ensures issuer { state.new.issuer ≡ state.old.issuer }
+    ensures version { state.new.version ≡ state.old.version }
     ensures grows { IfOk result (Grows state.old state.new) }
     ensures seen { IfOk result (λ seen. IsTrue D.tells → IsSeen (D.told disk.old).content at state.old state.new seen) }
     ensures fault { IsErrOf result ReadFault.DiskFault → Rose (D.faults disk.old) (D.faults disk.new) }
@@ -126,7 +131,7 @@ fn read_frame<D: Disk>(
         Ok(Step::Damaged) => Ok(AtGate::Broken { what: What::Frame }),
         Ok(Step::Closed) => Ok(AtGate::Closed),
         Ok(Step::Counted { next }) => {
-            let entry = match decode(alloc, state.issuer(), body.as_slice()) {
+            let entry = match decode(alloc, state.version(), state.issuer(), body.as_slice()) {
                 Ok(entry) => entry,
                 Err(BadEntry::NoMemory) => return Err(ReadFault::NoMemory),
                 Err(BadEntry::At { .. }) => return Ok(AtGate::Broken { what: What::Body }),
@@ -158,12 +163,13 @@ fn add_entry(
     entry: Entry,
     bytes: &[u8],
 ) -> Result<Option<Break>, NoMemory>
-    requires { bytes.now ≡ entry_bytes entry }
-    ensures added { IfOk result (λ found. IfNone found (Continues state.old.issuer state.old.entries entry
-        × (state.new.issuer ≡ state.old.issuer) × (state.new.entries ≡ state.old.entries ++ entry ∷ []))) }
+    requires { bytes.now ≡ entry_bytes state.old.version entry }
+    ensures added { IfOk result (λ found. IfNone found (Continues state.old.version state.old.issuer state.old.entries entry
+        × (state.new.issuer ≡ state.old.issuer) × (state.new.version ≡ state.old.version)
+        × (state.new.entries ≡ state.old.entries ++ entry ∷ []))) }
     ensures broken { IfOk result (λ found. IfSome found (λ why. (state.new ≡ state.old)
-        × (Continues state.old.issuer state.old.entries entry → ⊥)
-        × IsBreak state.old.issuer state.old.entries entry (Some why))) }
+        × (Continues state.old.version state.old.issuer state.old.entries entry → ⊥)
+        × IsBreak state.old.version state.old.issuer state.old.entries entry (Some why))) }
     ensures err { OnErr result (state.new ≡ state.old) }
 {
     if let Some(why) = next_fault(alloc, state, &entry)? {

@@ -9,7 +9,8 @@ use Rattle.chain_store.proofs.runs.a_run_ends.Goals as goal
 pub returns-clause-own : goal.returns-clause-own
 returns-clause-own g c = λ first asks replies along.
     let store = c.args.store.now in
-    let legal : Legal (state_of store).issuer (state_of store).entries = subst (λ (h : History). Legal h.issuer h.entries)
+    let legal : Legal (state_of store).version (state_of store).issuer (state_of store).entries =
+    subst (λ (h : History). Legal h.version h.issuer h.entries)
     c.state.ensures c.is_legal.ensures in
     run_ends g.D.Disk g.C.Clock first store asks replies along.run along.ready legal
     (record { linked = c.legal_is_chained.ensures.linked; rising = c.legal_is_chained.ensures.rising })

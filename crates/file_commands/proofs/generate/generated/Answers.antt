@@ -20,6 +20,7 @@ returns c =
     let replied : AllReplied replies = subst (λ (rs : Replies). AllReplied rs) c.deref-2.ensures.value
     (c.all_replied.ensures c.if-not-all_replied.false) in
     subst (λ (h : History). Generated c.args.n h.entries) (sym c.into_parts-state.ensures.0)
-    (ran c.args.n asks replies (state_of store).entries (state_of c.run_commands.new.store).entries (state_of store).issuer
-    (λ k. Some (counting (clock_of store).next (clock_of store).step k)) are begun.issuer begun.empty begun.clock
+    (ran c.args.n asks replies (state_of store).entries (state_of c.run_commands.new.store).entries (state_of store).version
+    (state_of store).issuer
+    (λ k. Some (counting (clock_of store).next (clock_of store).step k)) are begun.version begun.issuer begun.empty begun.clock
     c.run_commands.ensures.answers.run replied)

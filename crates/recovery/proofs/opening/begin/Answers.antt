@@ -1,4 +1,5 @@
 use Rattle.std.proofs.Common.{◌≡◌, List, [], sym, ◌∙◌, ap, subst}
+use Rattle.record_fields.specs.declared.versions.Version.TheVariants.{One}
 use Rattle.chain_disk.specs.OnDisk.{OnDisk, LeavesNow, LeavesOnly}
 use Rattle.journal.specs.Journal.{disk_of}
 use Rattle.record_codec.specs.declared.entry.Entry.{Entry}
@@ -16,7 +17,8 @@ pub returns-in-Ok-clause-every_crash : goal.returns-in-Ok-clause-every_crash
 returns-in-Ok-clause-every_crash g c tells =
     let issuer = c.args.issuer.now in
     let parts = c.of.ensures.parts in
-    let legal : Legal issuer [] = subst (λ (h : History). Legal h.issuer h.entries) c.empty-state.ensures c.is_legal.ensures in
+    let legal : Legal One issuer [] = subst (λ (h : History). Legal h.version h.issuer h.entries) c.empty-state.ensures
+    c.is_legal.ensures in
     let none : c.of.result.state.entries ≡ [] = ap (λ (h : History). h.entries) (parts.0 ∙ c.empty-state.ensures) in
     let told = ap (λ j. g.D.Disk.told (disk_of j)) parts.1 in
     subst (λ (t : OnDisk). LeavesNow t (StandsFor issuer c.of.result.state.entries)) (sym told)
@@ -29,7 +31,8 @@ returns-in-Ok-clause-any_moment g c tells =
     let parts = c.of.ensures.parts in
     let old = g.D.Disk.told c.args.disk in
     let now = g.D.Disk.told (disk_of c.in-Ok.journal) in
-    let legal : Legal issuer [] = subst (λ (h : History). Legal h.issuer h.entries) c.empty-state.ensures c.is_legal.ensures in
+    let legal : Legal One issuer [] = subst (λ (h : History). Legal h.version h.issuer h.entries) c.empty-state.ensures
+    c.is_legal.ensures in
     let none : c.of.result.state.entries ≡ [] = ap (λ (h : History). h.entries) (parts.0 ∙ c.empty-state.ensures) in
     let told = ap (λ j. g.D.Disk.told (disk_of j)) parts.1 in
     subst (λ (t : OnDisk). LeavesOnly old t (IsFound issuer c.of.result.state.entries)) (sym told)

@@ -55,7 +55,8 @@ of-requires-clause-ready g c =
     let parts = c.at.ensures.parts in
     subst (λ (d : _). IsReady g.D.Disk.tells c.args.state None (end_of c.at.result) (g.D.Disk.told d)) (sym parts.0)
     (subst (λ (n : ℕ). IsReady g.D.Disk.tells c.args.state None n (g.D.Disk.told c.args.disk)) (sym parts.1)
-    (ready_held g.D.Disk.tells c.args.state None c.args.end (g.D.Disk.told c.args.disk) c.requires.near c.requires.holds))
+    (ready_held g.D.Disk.tells c.args.state None c.args.end (g.D.Disk.told c.args.disk) c.requires.near c.requires.version
+    c.requires.holds))
 
 pub returns-clause-ready : goal.returns-clause-ready
 returns-clause-ready g c =
@@ -67,7 +68,8 @@ returns-clause-ready g c =
     (subst (λ (d : _). IsReady g.D.Disk.tells c.args.state (stopped_of c.at.result) (end_of c.at.result) (g.D.Disk.told d))
     (sym parts.0)
     (subst (λ (n : ℕ). IsReady g.D.Disk.tells c.args.state (stopped_of c.at.result) n (g.D.Disk.told c.args.disk)) (sym parts.1)
-    (ready_held g.D.Disk.tells c.args.state (stopped_of c.at.result) c.args.end (g.D.Disk.told c.args.disk) c.requires.near
+    (ready_held g.D.Disk.tells c.args.state (stopped_of c.at.result) c.args.end
+    (g.D.Disk.told c.args.disk) c.requires.near c.requires.version
     c.requires.holds))))
 
 pub returns-clause-same : goal.returns-clause-same

@@ -42,3 +42,6 @@ returns-in-Ok-NotBegun-clause-created g c =
     if_ok _ _ c.begin.result c.begin.ensures.created (λ store h tells not.
     subst (λ (t : OnDisk). IsCreation c.args.issuer.now t (g.D.Disk.told (disk_of (journal_of store))))
     (c.load.ensures.same ∙ c.in-Ok.ensures.ok tells) (h tells))
+
+pub open_held-requires-clause-version : goal.open_held-requires-clause-version
+open_held-requires-clause-version g c = rw c.in-Ok-Begun.field-0-is at c.in-Ok-Begun.ensures.version

@@ -15,7 +15,8 @@ returns-clause-answers g c =
     answers g.D.Disk.tells c.args.issuer.now (g.D.Disk.told c.args.disk).content (state_of old) (state_of new) c.args.sale.now
     (g.C.Clock.coming c.args.clock) (g.C.Clock.coming new.clock) (g.D.Disk.told (disk_of old.journal))
     (g.D.Disk.told (disk_of new.journal)) c.take.result c.in_ok-receipt.receipt c.in_ok-receipt.ensures
-    (rw c.in-Ok.ensures.clock at (c.take.ensures.takes c.in-Ok.ensures.going_on)) c.in-Ok.ensures.issuer c.in-Ok.ensures.found
+    (rw c.in-Ok.ensures.clock at (c.take.ensures.takes c.in-Ok.ensures.going_on)) c.in-Ok.ensures.issuer
+    c.in-Ok.ensures.version c.in-Ok.ensures.found
 
 pub returns-clause-kept : goal.returns-clause-kept
 returns-clause-kept g c =

@@ -41,6 +41,7 @@ returns-in-Ok g c =
     let h = c.run_opened.ensures in
     let span : Stores g.row.D.Denot g.row.C.Denot = record {
       issuer = (state_of store).issuer;
+      version = (state_of store).version;
       start = (state_of store).entries;
       end = h.0;
       tells = g.D.Disk.tells;
@@ -52,8 +53,8 @@ returns-in-Ok g c =
       clock = this_clock coming (clock_of store) after;
     } in
     let opened = c.in-Ok.ensures in
-    let run = store_ran issuer asks h.1.0 span sink disk c.run_opened.result.0 opened.issuer refl refl refl opened.later
-    opened.found opened.any_moment
+    let run = store_ran issuer asks h.1.0 span sink disk c.run_opened.result.0 opened.issuer opened.version refl refl refl
+    opened.later opened.found opened.any_moment
     (λ n es f. record {
       found = f.found;
       left = f.left;

@@ -76,8 +76,8 @@ returns-in-Err-begin g c =
     (agency_desk g.G.Agency y) in
     day_left (store_kind g.D.Disk g.C.Clock) c.args.issuer.now c.args.script.now out.disk then.disk
     out.clock then.clock (sleeper_in g.Z.Sleeper out then) (agency_in g.G.Agency out then) (parts_of o.store)
-    (this_sink g.K.Sink.taken g.K.Sink.faults c.args.sink.now c.args.sink.now) _ h.issuer_is h.clock_is h.found h.any_moment
-    h.every_crash h.later c.what_a_disk_reads_is_an_image.ensures c.who_keeps_the_rules_tells.ensures
+    (this_sink g.K.Sink.taken g.K.Sink.faults c.args.sink.now c.args.sink.now) _ h.issuer_is h.version_is h.clock_is h.found
+    h.any_moment h.every_crash h.later c.what_a_disk_reads_is_an_image.ensures c.who_keeps_the_rules_tells.ensures
     (record {
       ends = refl;
       wrote = took_nothing (g.K.Sink.taken c.args.sink.now);
@@ -125,8 +125,8 @@ returns-in-Ok-begin g c =
     (length (noted c.state.result.now.entries)) (length (recs c.state.result.now.entries)) (day_text asks (map told_in l)
     c.state.result.now.entries) sink end) c.deref-in-Ok-begin.ensures.value c.print_day-detail.ensures) in
     day_done (store_kind g.D.Disk g.C.Clock) c.args.issuer.now script out.disk then.disk out.clock then.clock
-    (sleeper_in g.Z.Sleeper out then) (agency_in g.G.Agency out then) p0 sink end h.issuer_is h.clock_is h.found h.any_moment
-    h.every_crash h.later c.what_a_disk_reads_is_an_image.ensures c.who_keeps_the_rules_tells.ensures
+    (sleeper_in g.Z.Sleeper out then) (agency_in g.G.Agency out then) p0 sink end h.issuer_is h.version_is h.clock_is h.found
+    h.any_moment h.every_crash h.later c.what_a_disk_reads_is_an_image.ensures c.who_keeps_the_rules_tells.ensures
     (agency_desk g.G.Agency b.agency) opens
     (record {
       new = new;
@@ -136,8 +136,8 @@ returns-in-Ok-begin g c =
       clock = c.close-in-Ok-begin.ensures.clock;
       tills_are = same_numbers days ∙ c.serve-opened.ensures.same ∙ c.in-Ok.ensures.tills ∙ ap tills_of same;
       run = run;
-      linked = c.legal_is_chained.ensures.linked issuer new.state.entries run.sound.legal;
-      rising = λ till. c.legal_is_chained.ensures.rising issuer new.state.entries till run.sound.legal;
+      linked = c.legal_is_chained.ensures.linked p0.state.version issuer new.state.entries run.sound.legal;
+      rising = λ till. c.legal_is_chained.ensures.rising p0.state.version issuer new.state.entries till run.sound.legal;
       ends = subst (λ (q : List Asked). DayRunEnds (all_replies tills) served.answer (length (noted new.state.entries))
           (length (recs new.state.entries)) (day_text q tills new.state.entries) sink end) same ends;
     })

@@ -62,8 +62,8 @@ own : (g : Over) (c : goal.Joined-sender g) → GainsOwnNotes (sight_by (box_kno
     (sight_by (box_knows c.drain-answer.new.outbox))
 own g c = gains _ _ _ _ _ _ (closed g c)
 
-new_sight : (g : Over) (c : goal.Joined-sender g) → sight_by (box_knows c.seat_box-outbox.result) ≡ plain_sight
-    (shop_root c.args.begun.started.shop).issuer (shop_root c.args.begun.started.shop).history []
+new_sight : (g : Over) (c : goal.Joined-sender g) → sight_by (box_knows c.seat_box-outbox.result) ≡
+    plain_sight (shop_root c.args.begun.started.shop).version (shop_root c.args.begun.started.shop).issuer (shop_root c.args.begun.started.shop).history []
 new_sight g c = sight_new (first_items c.args.begun.started.shop) (shop_root c.args.begun.started.shop) (box_knows c.seat_box-outbox.result)
     (closed g c).fresh c.requires.base
 
@@ -199,9 +199,9 @@ returns-clause-sends g c =
       careful = λ tells runs.
           let sight = sight_by (box_knows c.seat_box-outbox.result) in
           let said = (g.G.Agency.ledger c.args.begun.agency).messages in
-          let legal = subst (λ (n : List ℕ). Legal n (history_of sight)) (sym (ap (λ (s : Sight). s.issuer) (new_sight g c)))
-          (subst (λ (es : List Entry). Legal (shop_root c.args.begun.started.shop).issuer es) (sym (begun_at g c)) c.requires.legal)
-          in
+          let root = shop_root c.args.begun.started.shop in
+          let legal = subst (λ (s : Sight). Legal s.version s.issuer (history_of sight)) (sym (new_sight g c))
+          (subst (λ (es : List Entry). Legal root.version root.issuer es) (sym (begun_at g c)) c.requires.legal) in
           let there = subst (λ (es : List Entry). AreRunsBy (recs es) (length (noted es) + 1000) (batches_in said))
           (sym (begun_at g c)) runs in
           let start = c.a_session_begins.ensures.careful said sight legal there in
@@ -211,9 +211,9 @@ returns-clause-sends g c =
       runs = λ tells runs.
           let sight = sight_by (box_knows c.seat_box-outbox.result) in
           let said = (g.G.Agency.ledger c.args.begun.agency).messages in
-          let legal = subst (λ (n : List ℕ). Legal n (history_of sight)) (sym (ap (λ (s : Sight). s.issuer) (new_sight g c)))
-          (subst (λ (es : List Entry). Legal (shop_root c.args.begun.started.shop).issuer es) (sym (begun_at g c)) c.requires.legal)
-          in
+          let root = shop_root c.args.begun.started.shop in
+          let legal = subst (λ (s : Sight). Legal s.version s.issuer (history_of sight)) (sym (new_sight g c))
+          (subst (λ (es : List Entry). Legal root.version root.issuer es) (sym (begun_at g c)) c.requires.legal) in
           let there = subst (λ (es : List Entry). AreRunsBy (recs es) (length (noted es) + 1000) (batches_in said))
           (sym (begun_at g c)) runs in
           let start = c.a_session_begins.ensures.careful said sight legal there in

@@ -70,7 +70,7 @@ returns-in-Err-clause-drains g c =
     let sound = subst (λ (p : Parts g.row.D.Denot g.row.C.Denot). IsSound g.D.Disk.tells g.D.Disk.told g.D.Disk.faults
     g.C.Clock.coming (root_of g.D.Disk.told g.D.Disk.faults p0) p) (sym h.0)
     (sound_at_start g.D.Disk.tells g.D.Disk.told g.D.Disk.faults g.C.Clock.coming p0 c.requires.going_on c.requires.ready
-    (subst (λ (h : History). Legal h.issuer h.entries) c.state.ensures c.is_legal.ensures)) in
+    (subst (λ (h : History). Legal h.version h.issuer h.entries) c.state.ensures c.is_legal.ensures)) in
     let session : IsUnopened d ⊎ IsSession g.G.Agency.begun c.args.plan.now d = elim h.2 [
       | inl none ↦ inl (record {
         answer = refl;

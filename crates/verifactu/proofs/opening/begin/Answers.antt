@@ -8,14 +8,14 @@ pub returns-in-Ok-start-clause-shop : goal.returns-in-Ok-start-clause-shop
 returns-in-Ok-start-clause-shop g c =
     let h = c.in-Ok-start.ensures in
     let store = c.args.opened.store in
-    let legal : Legal store.state.issuer store.state.entries =
-    subst (λ (h : History). Legal h.issuer h.entries) c.state.ensures c.is_legal.ensures in
+    let legal : Legal store.state.version store.state.issuer store.state.entries =
+    subst (λ (h : History). Legal h.version h.issuer h.entries) c.state.ensures c.is_legal.ensures in
     record {
       started = record {
         own = h.own;
         new = h.new;
         whole = h.whole;
-        legal = subst (λ (r : Root g.row.C.Denot). Legal r.issuer r.history) (sym h.root.0) legal;
+        legal = subst (λ (r : Root g.row.C.Denot). Legal r.version r.issuer r.history) (sym h.root.0) legal;
         base = search rules;
       };
       root = h.root.0;

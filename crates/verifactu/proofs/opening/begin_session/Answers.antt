@@ -18,5 +18,6 @@ returns-clause-ok g c =
       ledger = new;
       faults = g.G.Agency.faults c.begin.new.self;
     }) c.deref.result.now (c.deref.ensures.value ∙ c.in_ok-pairs.ensures)
-    (c.a_history_notes_its_records.ensures c.args.state.now.issuer es c.is_legal.ensures) lists rules c.begin.ensures.same)
+    (c.a_history_notes_its_records.ensures c.args.state.now.version c.args.state.now.issuer es c.is_legal.ensures)
+    lists rules c.begin.ensures.same)
     c.begin.ensures.lists c.begin.ensures.rules

@@ -1,4 +1,7 @@
 use Rattle.std.proofs.Common.{rules, ◌≡◌, ℕ, ◌∷◌, [], ◌++◌, List, refl, sym, ◌∙◌, ap, subst, None, Err, IsTrue}
+use Rattle.record_fields.specs.declared.versions.Version.{Version}
+use Rattle.record_codec.specs.Validity.{AreFields}
+use Rattle.record_codec.specs.Writing.{entry_bytes}
 use Rattle.journal.specs.declared.journal.JournalFault.{JournalFault}
 use Rattle.frames.specs.Frames.{IsBody}
 use Rattle.journal.specs.Journal.{disk_of, end_of, stopped_of}
@@ -13,6 +16,7 @@ returns-in_default g c =
     record {
       ready = search rules;
       issuer = search rules;
+      version = search rules;
       clock = search rules;
       added = search rules;
       same = search rules;
@@ -32,6 +36,7 @@ returns-in_default-reserve g c =
     record {
       ready = search rules;
       issuer = search rules;
+      version = search rules;
       clock = search rules;
       added = search rules;
       same = search rules;
@@ -58,34 +63,41 @@ pub returns-in-Ok-append : goal.returns-in-Ok-append
 returns-in-Ok-append g c =
     let s = c.args.self.now.state in
     let entry = c.args.entry in
-    let is = c.as_slice.ensures ∙ c.in-Ok.ensures in
-    let new : c.apply_encoded.new.self ≡ record { issuer = s.issuer; entries = s.entries ++ entry ∷ []; room = None } =
-    c.apply_encoded.ensures ∙ ap (λ (h : History). record { issuer = h.issuer; entries = h.entries ++ entry ∷ []; room = None })
+    let is = c.as_slice.ensures ∙ c.in-Ok.ensures ∙ ap (λ (v : Version). entry_bytes v entry) c.version-version.ensures in
+    let new : c.apply_encoded.new.self
+    ≡ record { issuer = s.issuer; version = s.version; entries = s.entries ++ entry ∷ []; room = None } =
+    c.apply_encoded.ensures ∙
+    ap (λ (h : History). record { issuer = h.issuer; version = h.version; entries = h.entries ++ entry ∷ []; room = None })
     c.in-Ok-reserve.ensures.ok in
-    let body : IsBody c.as_slice.result.now = subst (λ (b : List ℕ). IsBody b) (sym is) (c.an_encoding_is_a_body.ensures entry
-    c.fields_are_valid.ensures) in
+    let fields = subst (λ (v : Version). AreFields v entry) c.version-version.ensures c.fields_are_valid.ensures in
+    let body : IsBody c.as_slice.result.now = subst (λ (b : List ℕ). IsBody b) (sym is)
+    (c.an_encoding_is_a_body.ensures s.version entry
+    fields) in
+    let at_one = λ (tells : IsTrue g.D.Disk.tells). is ∙ ap (λ (v : Version). entry_bytes v entry)
+    (c.requires.ready.holds refl tells).version in
     let around = λ (tells : IsTrue g.D.Disk.tells). adding s (end_of c.args.self.now.journal)
     (g.D.Disk.told (disk_of c.args.self.now.journal)) entry c.what_continues_fits_its_bytes.ensures
     c.a_legal_history_goes_on.ensures (c.requires.ready.holds refl tells) c.is_legal.ensures c.requires.continues
-    c.fields_are_valid.ensures in
+    fields in
     let ready = subst (λ (h : History). IsReady g.D.Disk.tells h (stopped_of c.append.new.self) (end_of c.append.new.self)
     (g.D.Disk.told (disk_of c.append.new.self))) (sym new)
     (record {
       place = gate_more s.entries entry (end_of c.args.self.now.journal) (end_of c.append.new.self) c.as_slice.result.now
           c.requires.ready.place c.in-Ok-append.ensures.place body;
-      holds = λ none tells. holds_more (around tells) is
+      holds = λ none tells. holds_more (around tells) (at_one tells)
           (c.in-Ok-append.ensures.acknowledged tells s.issuer _ (c.requires.ready.holds refl tells).file);
     }) in
-    let legal : Legal c.apply_encoded.new.self.issuer c.apply_encoded.new.self.entries =
-    subst (λ (h : History). Legal h.issuer h.entries) (sym new)
-    (c.a_legal_history_goes_on.ensures s.issuer s.entries entry c.is_legal.ensures c.requires.continues) in
+    let legal : Legal c.apply_encoded.new.self.version c.apply_encoded.new.self.issuer c.apply_encoded.new.self.entries =
+    subst (λ (h : History). Legal h.version h.issuer h.entries) (sym new)
+    (c.a_legal_history_goes_on.ensures s.version s.issuer s.entries entry c.is_legal.ensures c.requires.continues) in
     record {
       ready = ready;
       issuer = search rules;
+      version = search rules;
       clock = search rules;
       added = search rules;
       same = search rules;
-      any_moment = λ tells. appended (around tells) is
+      any_moment = λ tells. appended (around tells) (at_one tells)
           (c.append.ensures.any_moment c.requires.going_on tells s.issuer _ (c.requires.ready.holds refl tells).file);
       acknowledged = λ tells. on_disk c.apply_encoded.new.self (end_of c.append.new.self)
           (g.D.Disk.told (disk_of c.append.new.self)) (ready.holds c.in-Ok-append.ensures.going_on.1 tells) legal;
@@ -103,6 +115,7 @@ returns-in-Err-DiskFault g c =
     record {
       ready = search rules;
       issuer = search rules;
+      version = search rules;
       clock = search rules;
       added = search rules;
       same = search rules;
@@ -111,8 +124,11 @@ returns-in-Err-DiskFault g c =
           let a =
           adding s (end_of c.args.self.now.journal) (g.D.Disk.told (disk_of c.args.self.now.journal)) c.args.entry
           c.what_continues_fits_its_bytes.ensures c.a_legal_history_goes_on.ensures holds
-          c.is_legal.ensures c.requires.continues c.fields_are_valid.ensures in
-          appended a (c.as_slice.ensures ∙ c.in-Ok.ensures)
+          c.is_legal.ensures c.requires.continues
+          (subst (λ (v : Version). AreFields v c.args.entry) c.version-version.ensures c.fields_are_valid.ensures) in
+          appended a
+          (c.as_slice.ensures ∙ c.in-Ok.ensures ∙ ap (λ (v : Version). entry_bytes v c.args.entry)
+          (c.version-version.ensures ∙ holds.version))
           (c.append.ensures.any_moment c.requires.going_on tells s.issuer _ holds.file);
       acknowledged = search rules;
       no_memory = search rules;

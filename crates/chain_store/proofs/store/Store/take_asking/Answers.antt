@@ -35,7 +35,7 @@ returns-in-Ok-Again g c =
       ready = search rules;
       takes = λ going_on.
           let s = c.args.self.now.state in
-          let planned = answer s.issuer s.entries c.args.ask.now c.now-seconds.result in
+          let planned = answer s.version s.issuer s.entries c.args.ask.now c.now-seconds.result in
           not_made s c.args.ask.now _ _ g.D.Disk.tells _ (Ok (reply.Again c.in-Ok-Again.receipt)) c.now-seconds.result
           c.now-seconds.ensures.told c.now-seconds.ensures.moved
           (told_again s.issuer s.entries planned c.in-Ok-Again.receipt (sym c.in-Ok-Again.ensures.answer ∙ c.in-Ok-Again.field-0-is))
@@ -59,7 +59,7 @@ returns-in-Ok-Refused g c =
       ready = search rules;
       takes = λ going_on.
           let s = c.args.self.now.state in
-          let planned = answer s.issuer s.entries c.args.ask.now c.now-seconds.result in
+          let planned = answer s.version s.issuer s.entries c.args.ask.now c.now-seconds.result in
           not_made s c.args.ask.now _ _ g.D.Disk.tells _ (Ok (reply.Refused c.in-Ok-Refused.why)) c.now-seconds.result
           c.now-seconds.ensures.told c.now-seconds.ensures.moved
           (told_refused s.issuer s.entries planned c.in-Ok-Refused.why (sym c.in-Ok-Refused.ensures.answer ∙
@@ -90,7 +90,7 @@ returns-in-Ok-Made g c =
           c.now-seconds.ensures.told
           (subst (λ (k : g.row.C.Denot). MovedBy 1 (g.C.Clock.coming c.args.self.now.clock) (g.C.Clock.coming k)) (sym t.clock)
           c.now-seconds.ensures.moved)
-          t.issuer (sym c.in-Ok-Made.ensures.answer ∙ c.in-Ok-Made.field-0-is) c.take_made.ensures.reply
+          t.issuer t.version (sym c.in-Ok-Made.ensures.answer ∙ c.in-Ok-Made.field-0-is) c.take_made.ensures.reply
           (on_ok_weaker c.take_made.result (λ both. both.1) t.added) t.same t.any_moment;
       acknowledged = search rules;
       going_on = search rules;

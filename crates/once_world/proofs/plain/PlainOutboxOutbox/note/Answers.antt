@@ -11,25 +11,31 @@ pub returns-in-Ok-clause-grows : goal.returns-in-Ok-clause-grows
 returns-in-Ok-clause-grows g c =
     let old = c.args.self.now in
     let new = c.add_notes.new.self in
-    grows_by old.state.issuer new.state.issuer old.state.entries new.state.entries (Notes (length (noted old.state.entries))
+    grows_by old.state.version new.state.version old.state.issuer new.state.issuer old.state.entries new.state.entries
+    (Notes (length (noted old.state.entries))
     c.args.lines.now ∷ []) old.own.items new.own.items
-    c.in-Ok.ensures.issuer c.in-Ok.ensures.ok.0 c.is_legal.ensures
+    c.in-Ok.ensures.version c.in-Ok.ensures.issuer c.in-Ok.ensures.ok.0 c.is_legal.ensures
 
 pub returns-in-Ok-clause-noted : goal.returns-in-Ok-clause-noted
 returns-in-Ok-clause-noted g c =
     let old = c.args.self.now in
     let new = c.add_notes.new.self in
-    adds_notes old.state.issuer new.state.issuer old.state.entries new.state.entries old.own.items new.own.items c.args.lines.now
+    adds_notes old.state.version new.state.version old.state.issuer new.state.issuer old.state.entries new.state.entries
+    old.own.items new.own.items c.args.lines.now
     c.in-Ok.ensures.ok.0 c.in-Ok.ensures.ok.1
 
 pub returns-in-Err-clause-grows : goal.returns-in-Err-clause-grows
 returns-in-Err-clause-grows g c =
     let old = c.args.self.now in
     let new = c.add_notes.new.self in
-    grows_same old.state.issuer new.state.issuer old.state.entries new.state.entries old.own.items new.own.items
-    c.in-Err.ensures.issuer c.in-Err.ensures.err.0 c.is_legal-in-Err.ensures
+    grows_same old.state.version new.state.version old.state.issuer new.state.issuer old.state.entries new.state.entries
+    old.own.items new.own.items
+    c.in-Err.ensures.version c.in-Err.ensures.issuer c.in-Err.ensures.err.0 c.is_legal-in-Err.ensures
 
 pub returns-in-Err-clause-stopped : goal.returns-in-Err-clause-stopped
 returns-in-Err-clause-stopped g c = λ faults.
-    let new = c.add_notes.new.self in
-    ((λ told. absurd cc), (λ stopped. absurd (never_stopped _ new.state.issuer new.state.entries new.own.items faults stopped)))
+    let new = c.add_notes.new.self in (
+      (λ told. absurd cc),
+      (λ stopped. absurd (never_stopped _ new.state.version new.state.issuer new.state.entries new.own.items
+          faults stopped)),
+    )

@@ -6,7 +6,8 @@ use Rattle.once_world.proofs.world.World.next_batch.Goals as goal
 pub cut-requires : goal.cut-requires
 cut-requires c =
     let w = c.args.self.now in
-    next_linked c.a_run_of_a_history_is_linked.ensures w.state.issuer w.state.entries c.args.count c.deref.result.now
+    next_linked c.a_run_of_a_history_is_linked.ensures w.state.version w.state.issuer w.state.entries c.args.count
+    c.deref.result.now
     c.is_legal.ensures (c.deref.ensures.value ∙ c.in_ok-records.ensures)
 
 pub returns : goal.returns

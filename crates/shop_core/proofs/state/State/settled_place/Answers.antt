@@ -1,4 +1,4 @@
-use Rattle.std.proofs.Common.{◌≡◌, ◌∙◌, ap, sym, List}
+use Rattle.std.proofs.Common.{◌∙◌, ap, List}
 use Rattle.record_fields.specs.declared.lines.Line.{Line}
 use Rattle.shop_core.specs.Tables.ByNumber.{is_settled, place_in}
 use Rattle.shop_core.specs.History.{History, recs, noted}

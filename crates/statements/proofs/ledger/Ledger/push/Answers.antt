@@ -14,7 +14,8 @@ pub put_all-requires-clause-room : goal.put_all-requires-clause-room
 put_all-requires-clause-room c =
     let s = c.self.inside.state in
     subst (λ (ps : List Posting). HaveRoomFor (all_at ps) c.self.inside.months.items) (sym c.deref.ensures.value)
-    (plan_room s.issuer s.entries (s.entries ++ c.args.entry ∷ []) c.in_ok-plan.plan.put.items c.in_ok-plan.plan.drop.items
+    (plan_room s.version s.issuer s.entries (s.entries ++ c.args.entry ∷ []) c.in_ok-plan.plan.put.items
+    c.in_ok-plan.plan.drop.items
     c.self.inside.months.items c.is_bounded.ensures.legal c.is_bounded.ensures.few c.in_ok-plan.ensures c.self.invariant)
 
 pub invariant_of-self : goal.invariant_of-self
@@ -25,7 +26,8 @@ pub take_out_all-requires-clause-there : goal.take_out_all-requires-clause-there
 take_out_all-requires-clause-there c =
     let s = c.self.inside.state in
     subst (λ (ps : List Posting). HaveAll (all_at ps) c.put_all.new.months.items) (sym c.deref-in-Err.ensures.value)
-    (put_back s.issuer s.entries (s.entries ++ c.args.entry ∷ []) c.in_ok-plan.plan.put.items c.in_ok-plan.plan.drop.items
+    (put_back s.version s.issuer s.entries (s.entries ++ c.args.entry ∷ []) c.in_ok-plan.plan.put.items
+    c.in_ok-plan.plan.drop.items
     c.self.inside.months.items c.put_all.new.months.items c.is_bounded.ensures.legal c.is_bounded.ensures.few c.in_ok-plan.ensures
     c.self.invariant
     (λ f are. subst (λ (ps : List Posting). AreMonths (λ (i : ℕ). all_at ps i ++ f i) c.put_all.new.months.items)
@@ -43,10 +45,11 @@ pub take_out_all-requires-2-clause-there : goal.take_out_all-requires-2-clause-t
 take_out_all-requires-2-clause-there c =
     let s = c.self.inside.state in
     subst (λ (ps : List Posting). HaveAll (all_at ps) c.put_all.new.months.items) (sym c.deref-2.ensures.value)
-    (drop_there s.issuer s.entries c.args.entry c.in_ok-plan.plan.put.items c.in_ok-plan.plan.drop.items c.self.inside.months.items
+    (drop_there s.version s.issuer s.entries c.args.entry c.in_ok-plan.plan.put.items c.in_ok-plan.plan.drop.items
+    c.self.inside.months.items
     c.put_all.new.months.items
-    (c.a_legal_history_goes_on.ensures s.issuer s.entries c.args.entry c.is_bounded.ensures.legal
-    (subst (λ (h : History). Continues h.issuer h.entries c.args.entry) (sym c.self.view_is) c.requires))
+    (c.a_legal_history_goes_on.ensures s.version s.issuer s.entries c.args.entry c.is_bounded.ensures.legal
+    (subst (λ (h : History). Continues h.version h.issuer h.entries c.args.entry) (sym c.self.view_is) c.requires))
     c.is_bounded.ensures.few c.in_ok-plan.ensures c.self.invariant
     (λ f are. subst (λ (ps : List Posting). AreMonths (λ (i : ℕ). all_at ps i ++ f i) c.put_all.new.months.items)
     c.deref.ensures.value (c.in_ok-put_all.ensures.ok f are)))

@@ -8,7 +8,7 @@ use Rattle.till_calls.proofs.kept.Kept.new.Goals as goal
 pub invariant_of-result : goal.invariant_of-result
 invariant_of-result g c =
     let p = parts_of c.args.store in
-    let legal = subst (λ (h : History). Legal h.issuer h.entries) c.state.ensures c.is_legal.ensures in
+    let legal = subst (λ (h : History). Legal h.version h.issuer h.entries) c.state.ensures c.is_legal.ensures in
     let sound = sound_at_start g.D.Disk.tells g.D.Disk.told g.D.Disk.faults g.C.Clock.coming p c.requires.going_on
     c.requires.ready legal in
     rw c.of-start.ensures sound

@@ -14,8 +14,9 @@ facts g c =
     let e = c.note-told.ensures in
     record {
       ready = e.ready;
-      legal = subst (λ (h : History). Legal h.issuer h.entries) c.state-3.ensures c.is_legal.ensures;
+      legal = subst (λ (h : History). Legal h.version h.issuer h.entries) c.state-3.ensures c.is_legal.ensures;
       issuer = e.issuer;
+      version = e.version;
       added = e.noted;
       same = e.same;
       clock = e.clock;

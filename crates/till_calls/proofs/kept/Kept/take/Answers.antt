@@ -14,7 +14,7 @@ facts g c =
     let e = c.take_asking-reply.ensures in
     record {
       ready = e.ready;
-      legal = subst (λ (h : History). Legal h.issuer h.entries) c.state.ensures c.is_legal.ensures;
+      legal = subst (λ (h : History). Legal h.version h.issuer h.entries) c.state.ensures c.is_legal.ensures;
       takes = e.takes;
       torn = e.torn;
       acknowledged = e.acknowledged;

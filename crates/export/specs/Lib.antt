@@ -1,0 +1,5 @@
+pub mod Objects
+pub mod Lines
+pub mod Building
+pub mod Fields
+pub mod Laws

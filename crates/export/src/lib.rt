@@ -1,0 +1,20 @@
+//! A history as lines of JSON: one for the file's issuer and version, and one for each entry. Each is written, and read back.
+//! What a line says is the value that serde_json reads of it: blanks, the order of the keys and escapes in texts make no
+//! difference, and of a key that stands twice the last value counts. The objects are this project's own.
+#![tactic(auto)]
+
+mod elements;
+mod faults;
+mod fields;
+mod heads;
+mod laws;
+mod lines;
+mod objects;
+mod pairs;
+mod records;
+mod values;
+
+pub use faults::LineFault;
+pub use heads::Head;
+pub use laws::objects_are_apart;
+pub use lines::{entry_text, head_text, is_entry_line, is_head_line, read_entry, read_head};
