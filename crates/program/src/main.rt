@@ -2,6 +2,9 @@
 //! where it did.
 #![tactic(auto)]
 
+mod usage;
+
+use crate::usage::form_of;
 use agency_port::PracticeAgency;
 use chain_disk::FileDisk;
 use ports::{OpenGate, StdSink, StdSource, SystemClock, ThreadSleeper};
@@ -65,6 +68,19 @@ fn print_reasons(
     }
 }
 
+// What the command wants, where the first word is one; else where the commands stand.
+fn print_form(rt: &HostRuntime, words: &[String]) {
+    let form = match words.first() {
+        Some(name) => form_of(name.as_str()),
+        None => None,
+    };
+    let mut stderr = rt.stderr();
+    let _ = match form {
+        Some(form) => writeln!(stderr, "verifactu: the form is: verifactu {form}"),
+        None => writeln!(stderr, "verifactu: verifactu --help lists the commands"),
+    };
+}
+
 fn failed(rt: &HostRuntime, detail: Detail) -> ExitCode {
     print_fault(rt, &detail);
     ExitCode::from(status_of(&detail))
@@ -98,6 +114,9 @@ fn main(rt: HostRuntime) -> ExitCode {
     );
     if ended.status != 0 {
         print_fault(&rt, &ended.detail);
+    }
+    if matches!(ended.detail, Detail::Usage) {
+        print_form(&rt, &words);
     }
     let disk = outside.disk;
     print_reasons(

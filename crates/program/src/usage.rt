@@ -1,0 +1,15 @@
+// The forms of the commands, for whoever called one with other words.
+
+// The words that the command of this name wants.
+pub fn form_of(name: &str) -> Option<&'static str> {
+    match name {
+        "chain" => Some("chain FILE NIF"),
+        "day" => Some("day FILE NIF"),
+        "drain" => Some("drain FILE NIF"),
+        "audit" => Some("audit FILE"),
+        "link" => Some("link FILE NUM HOST, HOST being real or test"),
+        "check" => Some("check FILE WORKERS, WORKERS being 1 to 16"),
+        "generate" => Some("generate N, N being 1 to 100000"),
+        _ => None,
+    }
+}
