@@ -10,7 +10,7 @@ use Rattle.audit.specs.Laws.{IsSoundOrDamaged, VerdictTells}
 
 read_tells : BrokenIsDamaged → (file : List ℕ) (read : FileRead) → IsRead file read → IsSoundOrDamaged file (verdict_of read)
 read_tells damaged file NotBegun (not_begun none) = inl none
-read_tells damaged file (Sound history end) (stands _ _ is place) = inr (history.issuer, history.entries, is, refl)
+read_tells damaged file (Sound history end) (stands _ _ is place) = inr (history.version, history.issuer, history.entries, is, refl)
 read_tells damaged file (Broken place at what) is = damaged file place at what is
 
 pub tells : BrokenIsDamaged → VerdictTells

@@ -8,7 +8,8 @@ use Rattle.journal.specs.Laws.{OneHeader}
 use Rattle.journal.specs.declared.reading.Header.TheVariants as header
 use Rattle.record_codec.specs.Validity.{IsEncoding}
 use Rattle.record_codec.specs.Writing.{entry_bytes}
-use Rattle.record_fields.specs.declared.versions.Version.TheVariants.{One}
+use Rattle.record_fields.specs.Versions.{number_of}
+use Rattle.record_fields.specs.declared.versions.Version.{Version}
 use Rattle.record_codec.specs.Laws.{EncodingsAreApart}
 use Rattle.record_codec.specs.declared.entry.Entry.{Entry}
 use Rattle.record_codec.specs.declared.entry.Entry.TheVariants as entry_of
@@ -28,96 +29,99 @@ use Rattle.audit.specs.Auditing.{sound_end, verdict_of}
 use Rattle.audit.specs.Laws.{OneVerdict}
 
 -- the verdict of a stop, by what stands there
-data Ends (issuer : List ℕ) (entries : List Entry) (at : ℕ) (file : List ℕ) : AuditEnd → Type 0 where
-  at_closed : IsClosed (drop at file) → Ends issuer entries at file (sound_end entries)
-  at_frame : IsDamaged (drop at file) → Ends issuer entries at file (Broken (next_place entries) at what.Frame)
-  at_body : (bytes : List ℕ) → IsCounted (drop at file) bytes → ((entry : Entry) → IsEncoding One issuer entry bytes → ⊥) →
-      Ends issuer entries at file (Broken (next_place entries) at what.Body)
-  at_entry : (bytes : List ℕ) (entry : Entry) (why : Break) → IsCounted (drop at file) bytes → IsEncoding One issuer entry bytes →
-      IsBreak One issuer entries entry (Some why) →
-      Ends issuer entries at file (Broken (next_place entries) at (word_of why))
+data Ends (version : Version) (issuer : List ℕ) (entries : List Entry) (at : ℕ) (file : List ℕ) : AuditEnd → Type 0 where
+  at_closed : IsClosed (drop at file) → Ends version issuer entries at file (sound_end entries)
+  at_frame : IsDamaged (drop at file) → Ends version issuer entries at file (Broken (next_place entries) at what.Frame)
+  at_body : (bytes : List ℕ) → IsCounted (drop at file) bytes → ((entry : Entry) → IsEncoding version issuer entry bytes → ⊥) →
+      Ends version issuer entries at file (Broken (next_place entries) at what.Body)
+  at_entry : (bytes : List ℕ) (entry : Entry) (why : Break) → IsCounted (drop at file) bytes → IsEncoding version issuer entry bytes →
+      IsBreak version issuer entries entry (Some why) →
+      Ends version issuer entries at file (Broken (next_place entries) at (word_of why))
 
 record Stop (file : List ℕ) (end : AuditEnd) : Type 0 where
+  version : Version
   issuer : List ℕ
   entries : List Entry
   at : ℕ
-  stop : StopsAt issuer entries at file
-  ends : Ends issuer entries at file end
+  stop : StopsAt version issuer entries at file
+  ends : Ends version issuer entries at file end
 
 not_both : (bytes body : List ℕ) → IsClosed bytes → IsCounted bytes body → ⊥
 not_both bytes body closed counted = closed.shut (cc (sym closed.parts ∙ counted.parts))
 
-same_entry : EncodingsAreApart → (issuer : List ℕ) (a b : Entry) (x y : List ℕ) → IsEncoding One issuer a x →
-    IsEncoding One issuer b y →
+same_entry : EncodingsAreApart → (version : Version) (issuer : List ℕ) (a b : Entry) (x y : List ℕ) → IsEncoding version issuer a x →
+    IsEncoding version issuer b y →
     x ≡ y → a ≡ b
-same_entry apart issuer a b x y is is' same =
-    let bytes : entry_bytes One a ≡ entry_bytes One b = sym is.bytes ∙ same ∙ is'.bytes in
-    (apart One issuer a b [] [] is.issuer is'.issuer is.fields is'.fields (ap (λ (l : List ℕ). l ++ []) bytes)).0
+same_entry apart version issuer a b x y is is' same =
+    let bytes : entry_bytes version a ≡ entry_bytes version b = sym is.bytes ∙ same ∙ is'.bytes in
+    (apart version issuer a b [] [] is.issuer is'.issuer is.fields is'.fields (ap (λ (l : List ℕ). l ++ []) bytes)).0
 
 -- an entry breaks a history by one word
-one_break : (issuer : List ℕ) (entries : List Entry) (entry : Entry) (a b : Break) → IsBreak One issuer entries entry (Some a) →
-    IsBreak One issuer entries entry (Some b) → a ≡ b
-one_break issuer entries (entry_of.Rec till serial s) Notes b is is' = absurd is
-one_break issuer entries (entry_of.Rec till serial s) Link Notes is is' = absurd is'
-one_break issuer entries (entry_of.Rec till serial s) Link Link is is' = refl
-one_break issuer entries (entry_of.Rec till serial s) Link Seal is is' = absurd (is is'.0)
-one_break issuer entries (entry_of.Rec till serial s) Link Rule is is' = absurd (is is'.0)
-one_break issuer entries (entry_of.Rec till serial s) Seal Notes is is' = absurd is'
-one_break issuer entries (entry_of.Rec till serial s) Seal Link is is' = absurd (is' is.0)
-one_break issuer entries (entry_of.Rec till serial s) Seal Seal is is' = refl
-one_break issuer entries (entry_of.Rec till serial s) Seal Rule is is' = absurd (is.1 is'.1)
-one_break issuer entries (entry_of.Rec till serial s) Rule Notes is is' = absurd is'
-one_break issuer entries (entry_of.Rec till serial s) Rule Link is is' = absurd (is' is.0)
-one_break issuer entries (entry_of.Rec till serial s) Rule Seal is is' = absurd (is'.1 is.1)
-one_break issuer entries (entry_of.Rec till serial s) Rule Rule is is' = refl
-one_break issuer entries (entry_of.Notes first lines) Notes Notes is is' = refl
-one_break issuer entries (entry_of.Notes first lines) Notes Link is is' = absurd is'
-one_break issuer entries (entry_of.Notes first lines) Notes Seal is is' = absurd is'
-one_break issuer entries (entry_of.Notes first lines) Notes Rule is is' = absurd is'
-one_break issuer entries (entry_of.Notes first lines) Link b is is' = absurd is
-one_break issuer entries (entry_of.Notes first lines) Seal b is is' = absurd is
-one_break issuer entries (entry_of.Notes first lines) Rule b is is' = absurd is
+one_break : (version : Version) (issuer : List ℕ) (entries : List Entry) (entry : Entry) (a b : Break) → IsBreak version issuer entries entry (Some a) →
+    IsBreak version issuer entries entry (Some b) → a ≡ b
+one_break version issuer entries (entry_of.Rec till serial s) Notes b is is' = absurd is
+one_break version issuer entries (entry_of.Rec till serial s) Link Notes is is' = absurd is'
+one_break version issuer entries (entry_of.Rec till serial s) Link Link is is' = refl
+one_break version issuer entries (entry_of.Rec till serial s) Link Seal is is' = absurd (is is'.0)
+one_break version issuer entries (entry_of.Rec till serial s) Link Rule is is' = absurd (is is'.0)
+one_break version issuer entries (entry_of.Rec till serial s) Seal Notes is is' = absurd is'
+one_break version issuer entries (entry_of.Rec till serial s) Seal Link is is' = absurd (is' is.0)
+one_break version issuer entries (entry_of.Rec till serial s) Seal Seal is is' = refl
+one_break version issuer entries (entry_of.Rec till serial s) Seal Rule is is' = absurd (is.1 is'.1)
+one_break version issuer entries (entry_of.Rec till serial s) Rule Notes is is' = absurd is'
+one_break version issuer entries (entry_of.Rec till serial s) Rule Link is is' = absurd (is' is.0)
+one_break version issuer entries (entry_of.Rec till serial s) Rule Seal is is' = absurd (is'.1 is.1)
+one_break version issuer entries (entry_of.Rec till serial s) Rule Rule is is' = refl
+one_break version issuer entries (entry_of.Notes first lines) Notes Notes is is' = refl
+one_break version issuer entries (entry_of.Notes first lines) Notes Link is is' = absurd is'
+one_break version issuer entries (entry_of.Notes first lines) Notes Seal is is' = absurd is'
+one_break version issuer entries (entry_of.Notes first lines) Notes Rule is is' = absurd is'
+one_break version issuer entries (entry_of.Notes first lines) Link b is is' = absurd is
+one_break version issuer entries (entry_of.Notes first lines) Seal b is is' = absurd is
+one_break version issuer entries (entry_of.Notes first lines) Rule b is is' = absurd is
 
 module _ (one_frame : OneFrame) (apart : EncodingsAreApart) (headers : OneHeader) (stops : OneStop) (gates : StopsAtItsGate) where
   -- what follows is one thing
-  one_end : (issuer : List ℕ) (entries : List Entry) (at : ℕ) (file : List ℕ) (a b : AuditEnd) → Ends issuer entries at file a →
-      Ends issuer entries at file b → a ≡ b
-  one_end issuer entries at file a b (at_closed c) (at_closed c') = refl
-  one_end issuer entries at file a b (at_closed c) (at_frame d') = absurd (d'.not_closed c)
-  one_end issuer entries at file a b (at_closed c) (at_body x' n' none') = absurd (not_both (drop at file) x' c n')
-  one_end issuer entries at file a b (at_closed c) (at_entry x' e' why' n' is' br') = absurd (not_both (drop at file) x' c n')
-  one_end issuer entries at file a b (at_frame d) (at_closed c') = absurd (d.not_closed c')
-  one_end issuer entries at file a b (at_frame d) (at_frame d') = refl
-  one_end issuer entries at file a b (at_frame d) (at_body x' n' none') = absurd (d.not_counted x' n')
-  one_end issuer entries at file a b (at_frame d) (at_entry x' e' why' n' is' br') = absurd (d.not_counted x' n')
-  one_end issuer entries at file a b (at_body x n none) (at_closed c') = absurd (not_both (drop at file) x c' n)
-  one_end issuer entries at file a b (at_body x n none) (at_frame d') = absurd (d'.not_counted x n)
-  one_end issuer entries at file a b (at_body x n none) (at_body x' n' none') = refl
-  one_end issuer entries at file a b (at_body x n none) (at_entry x' e' why' n' is' br') =
-      absurd (none e' (subst (λ (l : List ℕ). IsEncoding One issuer e' l) (one_frame.1 (drop at file) x' x n' n) is'))
-  one_end issuer entries at file a b (at_entry x e why n is br) (at_closed c') = absurd (not_both (drop at file) x c' n)
-  one_end issuer entries at file a b (at_entry x e why n is br) (at_frame d') = absurd (d'.not_counted x n)
-  one_end issuer entries at file a b (at_entry x e why n is br) (at_body x' n' none') =
-      absurd (none' e (subst (λ (l : List ℕ). IsEncoding One issuer e l) (one_frame.1 (drop at file) x x' n n') is))
-  one_end issuer entries at file a b (at_entry x e why n is br) (at_entry x' e' why' n' is' br') =
-      let same : e' ≡ e = same_entry apart issuer e' e x' x is' is (one_frame.1 (drop at file) x' x n' n) in
-      let word : why ≡ why' = one_break issuer entries e why why' br (subst
-      (λ (f : Entry). IsBreak One issuer entries f (Some why'))
+  one_end : (version : Version) (issuer : List ℕ) (entries : List Entry) (at : ℕ) (file : List ℕ) (a b : AuditEnd) → Ends version issuer entries at file a →
+      Ends version issuer entries at file b → a ≡ b
+  one_end version issuer entries at file a b (at_closed c) (at_closed c') = refl
+  one_end version issuer entries at file a b (at_closed c) (at_frame d') = absurd (d'.not_closed c)
+  one_end version issuer entries at file a b (at_closed c) (at_body x' n' none') = absurd (not_both (drop at file) x' c n')
+  one_end version issuer entries at file a b (at_closed c) (at_entry x' e' why' n' is' br') = absurd (not_both (drop at file) x' c n')
+  one_end version issuer entries at file a b (at_frame d) (at_closed c') = absurd (d.not_closed c')
+  one_end version issuer entries at file a b (at_frame d) (at_frame d') = refl
+  one_end version issuer entries at file a b (at_frame d) (at_body x' n' none') = absurd (d.not_counted x' n')
+  one_end version issuer entries at file a b (at_frame d) (at_entry x' e' why' n' is' br') = absurd (d.not_counted x' n')
+  one_end version issuer entries at file a b (at_body x n none) (at_closed c') = absurd (not_both (drop at file) x c' n)
+  one_end version issuer entries at file a b (at_body x n none) (at_frame d') = absurd (d'.not_counted x n)
+  one_end version issuer entries at file a b (at_body x n none) (at_body x' n' none') = refl
+  one_end version issuer entries at file a b (at_body x n none) (at_entry x' e' why' n' is' br') =
+      absurd (none e' (subst (λ (l : List ℕ). IsEncoding version issuer e' l) (one_frame.1 (drop at file) x' x n' n) is'))
+  one_end version issuer entries at file a b (at_entry x e why n is br) (at_closed c') = absurd (not_both (drop at file) x c' n)
+  one_end version issuer entries at file a b (at_entry x e why n is br) (at_frame d') = absurd (d'.not_counted x n)
+  one_end version issuer entries at file a b (at_entry x e why n is br) (at_body x' n' none') =
+      absurd (none' e (subst (λ (l : List ℕ). IsEncoding version issuer e l) (one_frame.1 (drop at file) x x' n n') is))
+  one_end version issuer entries at file a b (at_entry x e why n is br) (at_entry x' e' why' n' is' br') =
+      let same : e' ≡ e = same_entry apart version issuer e' e x' x is' is (one_frame.1 (drop at file) x' x n' n) in
+      let word : why ≡ why' = one_break version issuer entries e why why' br (subst
+      (λ (f : Entry). IsBreak version issuer entries f (Some why'))
       same br') in
       ap (λ (w : Break). Broken (next_place entries) at (word_of w)) word
 
-  moved : (file : List ℕ) (end : AuditEnd) (issuer other : List ℕ) (entries others : List Entry) (at place : ℕ) → issuer ≡ other →
-      entries ≡ others → at ≡ place →
-      Ends other others place file end → Ends issuer entries at file end
-  moved file end issuer other entries others at place i e p ends =
-      subst (λ (n : List ℕ). Ends n entries at file end) (sym i) (subst (λ (es : List Entry). Ends other es at file end) (sym e)
-      (subst (λ (k : ℕ). Ends other others k file end) (sym p) ends))
+  moved : (file : List ℕ) (end : AuditEnd) (version another : Version) (issuer other : List ℕ) (entries others : List Entry)
+      (at place : ℕ) → version ≡ another → issuer ≡ other → entries ≡ others → at ≡ place →
+      Ends another other others place file end → Ends version issuer entries at file end
+  moved file end version another issuer other entries others at place v i e p ends =
+      subst (λ (w : Version). Ends w issuer entries at file end) (sym v) (subst
+      (λ (n : List ℕ). Ends another n entries at file end) (sym i) (subst
+      (λ (es : List Entry). Ends another other es at file end) (sym e) (subst
+      (λ (k : ℕ). Ends another other others k file end) (sym p) ends)))
 
   same_stop : (file : List ℕ) (a b : AuditEnd) → Stop file a → Stop file b → a ≡ b
   same_stop file a b x y =
-      let one = stops x.issuer y.issuer x.entries y.entries x.at y.at file x.stop y.stop in
-      one_end x.issuer x.entries x.at file a b x.ends (moved file b x.issuer y.issuer x.entries y.entries x.at y.at one.0 one.1
-      one.2 y.ends)
+      let one = stops x.version y.version x.issuer y.issuer x.entries y.entries x.at y.at file x.stop y.stop in
+      one_end x.version x.issuer x.entries x.at file a b x.ends (moved file b x.version y.version x.issuer y.issuer x.entries
+      y.entries x.at y.at one.0 one.1 one.2 one.3 y.ends)
 
   -- a reading speaks of a file that isn't begun, of its header, or of where it stops
   placed : (file : List ℕ) (read : FileRead) → IsRead file read →
@@ -125,54 +129,58 @@ module _ (one_frame : OneFrame) (apart : EncodingsAreApart) (headers : OneHeader
       (((at : ℕ) × IsHeaderDamaged file at × (verdict_of read ≡ Broken 1 at what.Header)) ⊎ Stop file (verdict_of read))
   placed file read (not_begun none) = inl (none, refl)
   placed file read (stands history _ is place) =
-      let gate = gates history.issuer history.entries file is in
+      let gate = gates history.version history.issuer history.entries file is in
       inr (inr (record {
+        version = history.version;
         issuer = history.issuer;
         entries = history.entries;
-        at = closing_gate (bodies_of history.entries);
+        at = closing_gate (bodies_of history.version history.entries);
         stop = gate.0;
         ends = at_closed gate.1;
       }))
   placed file read (in_header at damage) = inr (inl (at, damage, refl))
-  placed file read (no_frame issuer entries at sound damaged) = inr (inr (record {
+  placed file read (no_frame version issuer entries at sound damaged) = inr (inr (record {
+    version = version;
     issuer = issuer;
     entries = entries;
     at = at;
     stop = record { sound = sound; ends = λ entry bytes counted encoding cont. damaged.not_counted bytes counted };
     ends = at_frame damaged;
   }))
-  placed file read (no_entry issuer entries at bytes sound counted none) = inr (inr (record {
+  placed file read (no_entry version issuer entries at bytes sound counted none) = inr (inr (record {
+    version = version;
     issuer = issuer;
     entries = entries;
     at = at;
     stop = record {
       sound = sound;
-      ends = λ entry other counted' encoding cont. none entry (subst (λ (l : List ℕ). IsEncoding One issuer entry l)
+      ends = λ entry other counted' encoding cont. none entry (subst (λ (l : List ℕ). IsEncoding version issuer entry l)
           (one_frame.1 (drop at file) other bytes counted' counted) encoding);
     };
     ends = at_body bytes counted none;
   }))
-  placed file read (not_next issuer entries at bytes entry why sound counted encoding never broken) = inr (inr (record {
+  placed file read (not_next version issuer entries at bytes entry why sound counted encoding never broken) = inr (inr (record {
+    version = version;
     issuer = issuer;
     entries = entries;
     at = at;
     stop = record {
       sound = sound;
       ends = λ other others counted' encoding' cont.
-          let same : other ≡ entry = same_entry apart issuer other entry others bytes encoding' encoding
+          let same : other ≡ entry = same_entry apart version issuer other entry others bytes encoding' encoding
           (one_frame.1 (drop at file) others bytes counted' counted) in
-          never (subst (λ (e : Entry). Continues One issuer entries e) same cont);
+          never (subst (λ (e : Entry). Continues version issuer entries e) same cont);
     };
     ends = at_entry bytes entry why counted encoding broken;
   }))
 
-  begun_only : (file issuer : List ℕ) → IsBegun issuer file → IsNotBegun file → ⊥
-  begun_only file issuer begun none = absurd (let same : header.Begun issuer 1 ≡ header.NotBegun =
-      headers file (header.Begun issuer 1) header.NotBegun (begun, refl) none in cc)
+  begun_only : (version : Version) (file issuer : List ℕ) → IsBegun version issuer file → IsNotBegun file → ⊥
+  begun_only version file issuer begun none = absurd (let same : header.Begun issuer (number_of version) ≡ header.NotBegun =
+      headers file (header.Begun issuer (number_of version)) header.NotBegun (version, begun, refl) none in cc)
 
-  sound_only : (file issuer : List ℕ) (at : ℕ) → IsBegun issuer file → IsHeaderDamaged file at → ⊥
-  sound_only file issuer at begun damage = absurd (let same : header.Begun issuer 1 ≡ header.Damaged at =
-      headers file (header.Begun issuer 1) (header.Damaged at) (begun, refl) damage in cc)
+  sound_only : (version : Version) (file issuer : List ℕ) (at : ℕ) → IsBegun version issuer file → IsHeaderDamaged file at → ⊥
+  sound_only version file issuer at begun damage = absurd (let same : header.Begun issuer (number_of version) ≡ header.Damaged at =
+      headers file (header.Begun issuer (number_of version)) (header.Damaged at) (version, begun, refl) damage in cc)
 
   begun_or_damaged : (file : List ℕ) (at : ℕ) → IsNotBegun file → IsHeaderDamaged file at → ⊥
   begun_or_damaged file at none damage = absurd (let same : header.NotBegun ≡ header.Damaged at = headers file header.NotBegun
@@ -189,13 +197,13 @@ module _ (one_frame : OneFrame) (apart : EncodingsAreApart) (headers : OneHeader
       Stop file b) → a ≡ b
   one_place file a b (inl x) (inl y) = x.1 ∙ sym y.1
   one_place file a b (inl x) (inr (inl y)) = absurd (begun_or_damaged file y.0 x.0 y.1)
-  one_place file a b (inl x) (inr (inr y)) = absurd (begun_only file y.issuer y.stop.sound.header x.0)
+  one_place file a b (inl x) (inr (inr y)) = absurd (begun_only y.version file y.issuer y.stop.sound.header x.0)
   one_place file a b (inr (inl x)) (inl y) = absurd (begun_or_damaged file x.0 y.0 x.1)
   one_place file a b (inr (inl x)) (inr (inl y)) = x.2 ∙ ap (λ (k : ℕ). Broken 1 k what.Header) (one_damage file x.0 y.0 x.1 y.1)
       ∙ sym y.2
-  one_place file a b (inr (inl x)) (inr (inr y)) = absurd (sound_only file y.issuer x.0 y.stop.sound.header x.1)
-  one_place file a b (inr (inr x)) (inl y) = absurd (begun_only file x.issuer x.stop.sound.header y.0)
-  one_place file a b (inr (inr x)) (inr (inl y)) = absurd (sound_only file x.issuer y.0 x.stop.sound.header y.1)
+  one_place file a b (inr (inl x)) (inr (inr y)) = absurd (sound_only y.version file y.issuer x.0 y.stop.sound.header x.1)
+  one_place file a b (inr (inr x)) (inl y) = absurd (begun_only x.version file x.issuer x.stop.sound.header y.0)
+  one_place file a b (inr (inr x)) (inr (inl y)) = absurd (sound_only x.version file x.issuer y.0 x.stop.sound.header y.1)
   one_place file a b (inr (inr x)) (inr (inr y)) = same_stop file a b x y
 
   pub one_verdict : OneVerdict

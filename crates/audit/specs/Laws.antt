@@ -2,6 +2,7 @@
 use Rattle.std.specs.Prelude.{◌≡◌, ◌⊎◌, ℕ, List}
 use Rattle.journal.specs.File.{IsNotBegun}
 use Rattle.record_codec.specs.declared.entry.Entry.{Entry}
+use Rattle.record_fields.specs.declared.versions.Version.{Version}
 use Rattle.shop_core.specs.declared.file.audits.AuditEnd.{AuditEnd}
 use Rattle.shop_core.specs.declared.file.audits.AuditEnd.TheVariants.{Sound, Broken}
 use Rattle.shop_core.specs.File.Files.{StandsFor, IsDamagedFile}
@@ -13,7 +14,8 @@ OneVerdict = (file : List ℕ) (a b : AuditEnd) → IsVerdict file a → IsVerdi
 
 -- a file stands for a history of which this is the end
 abbrev pub StandsToEnd : List ℕ → AuditEnd → Type 0
-StandsToEnd file end = (issuer : List ℕ) × (entries : List Entry) × StandsFor issuer entries file × (end ≡ sound_end entries)
+StandsToEnd file end = (version : Version) × (issuer : List ℕ) × (entries : List Entry) × StandsFor version issuer entries file ×
+    (end ≡ sound_end entries)
 
 -- what a file is, by its verdict
 abbrev pub IsSoundOrDamaged : List ℕ → AuditEnd → Type 0

@@ -26,12 +26,17 @@ use Rattle.chain_store.specs.Progress.{Origin, Point, Progress, SoFar}
 -- a store that holds its history stands for it
 pub stands : (history : History) (gate : ℕ) (t : OnDisk) → Holds history gate t →
     Legal history.version history.issuer history.entries →
-    StandsFor history.issuer history.entries t.content
-stands history gate t h legal = record {
-  frames = h.file.file;
-  encoded = h.encoded;
-  legal = subst (λ (v : Version). Legal v history.issuer history.entries) h.version legal;
-}
+    StandsFor history.version history.issuer history.entries t.content
+stands history gate t h legal = record { frames = h.file.file; encoded = h.encoded; legal = legal }
+
+-- the same at the version and the issuer of the run
+stands_here : (o : Origin) (p : Point) (gate : ℕ) → p.history.issuer ≡ o.issuer → p.history.version ≡ o.version →
+    Legal p.history.version p.history.issuer p.history.entries → Holds p.history gate p.now →
+    StandsFor o.version o.issuer p.history.entries p.now.content
+stands_here o p gate issuer version legal holds =
+    subst (λ (v : Version). StandsFor v o.issuer p.history.entries p.now.content) version
+    (subst (λ (n : List ℕ). StandsFor p.history.version n p.history.entries p.now.content) issuer
+    (stands p.history gate p.now holds legal))
 
 pub begins : (o : Origin) (p : Point) (replies : List (Result Reply StoreFault)) (gate : ℕ) → replies ≡ [] →
     p.history.issuer ≡ o.issuer → p.history.version ≡ o.version → p.history.entries ≡ o.start → p.now ≡ o.since →
@@ -41,12 +46,11 @@ pub begins : (o : Origin) (p : Point) (replies : List (Result Reply StoreFault))
     SoFar o [] replies p
 begins o p replies gate none issuer version start since faults going next legal holds =
     let whole : IsPrefix o.start p.history.entries = record { rest = []; is = start ∙ sym (append-nil o.start) } in
-    let only : IsTrue o.tells → LeavesOnly o.since p.now (StandsUpTo o.issuer o.start p.history.entries []) = λ tells.
+    let only : IsTrue o.tells → LeavesOnly o.since p.now (StandsUpTo o.version o.issuer o.start p.history.entries []) = λ tells.
     let h = holds tells in
-    let here : StandsFor o.issuer p.history.entries p.now.content = subst (λ (n : List ℕ). StandsFor n p.history.entries
-    p.now.content) issuer (stands p.history gate p.now h legal) in
-    subst (λ (t : OnDisk). LeavesOnly t p.now (StandsUpTo o.issuer o.start p.history.entries [])) since
-    (started_settled p.now (StandsUpTo o.issuer o.start p.history.entries []) h.file.nothing_pending (record {
+    let here = stands_here o p gate issuer version legal h in
+    subst (λ (t : OnDisk). LeavesOnly t p.now (StandsUpTo o.version o.issuer o.start p.history.entries [])) since
+    (started_settled p.now (StandsUpTo o.version o.issuer o.start p.history.entries []) h.file.nothing_pending (record {
       history = p.history.entries;
       stands = here;
       begins = whole;
@@ -86,18 +90,17 @@ stops o asks replies p h = stops_by p.stopped o asks replies p h.progress
 
 -- what this run leaves up to this point
 abbrev KeptSoFar : Origin → List Asked → List (Result Reply StoreFault) → Point → Type 0
-KeptSoFar o asks replies p = KeptByRun (StandsUpTo o.issuer o.start p.history.entries)
-    (IsCutOff o.version o.issuer (IsComing o.coming) asks p.history.entries replies) o.issuer p.history.entries replies o.since
-    p.now
+KeptSoFar o asks replies p = KeptByRun (StandsUpTo o.version o.issuer o.start p.history.entries)
+    (IsCutOff o.version o.issuer (IsComing o.coming) asks p.history.entries replies) o.version o.issuer p.history.entries
+    replies o.since p.now
 
 kept_by : (stopped : Option ℕ) (o : Origin) (asks : List Asked) (replies : List (Result Reply StoreFault)) (p : Point) (gate : ℕ)
-    → p.history.issuer ≡ o.issuer → Progress o asks replies p stopped →
+    → p.history.issuer ≡ o.issuer → p.history.version ≡ o.version → Progress o asks replies p stopped →
     Legal p.history.version p.history.issuer p.history.entries → (stopped ≡ None → IsTrue o.tells → Holds p.history gate p.now) →
     IsImage p.now.now p.now.content → IsTrue o.tells → KeptSoFar o asks replies p
-kept_by None o asks replies p gate own g legal holds image tells =
+kept_by None o asks replies p gate own version g legal holds image tells =
     let h = holds refl tells in
-    let here : StandsFor o.issuer p.history.entries p.now.content = subst (λ (n : List ℕ). StandsFor n p.history.entries
-    p.now.content) own (stands p.history gate p.now h legal) in
+    let here = stands_here o p gate own version legal h in
     record {
       torn = [];
       at_most_one = omega arith;
@@ -105,11 +108,11 @@ kept_by None o asks replies p gate own g legal holds image tells =
       made = tt;
       kept = record {
         each_moment = g.only tells;
-        every_crash = leaves_now p.now (StandsForEnd o.issuer p.history.entries []) h.file.nothing_pending (inl here);
+        every_crash = leaves_now p.now (StandsForEnd o.version o.issuer p.history.entries []) h.file.nothing_pending (inl here);
         reads = inl here;
       };
     }
-kept_by (Some count) o asks replies p gate own g legal holds image tells =
+kept_by (Some count) o asks replies p gate own version g legal holds image tells =
     let left = g.left tells in
     record {
       torn = left.torn;
@@ -128,4 +131,4 @@ pub kept : (o : Origin) (asks : List Asked) (replies : List (Result Reply StoreF
     (p.stopped ≡ None → IsTrue o.tells → Holds p.history gate p.now) → IsImage p.now.now p.now.content → IsTrue o.tells →
     KeptSoFar o asks replies p
 kept o asks replies p gate h legal holds image tells =
-    kept_by p.stopped o asks replies p gate h.own h.progress legal holds image tells
+    kept_by p.stopped o asks replies p gate h.own h.version h.progress legal holds image tells

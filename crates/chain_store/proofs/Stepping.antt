@@ -70,9 +70,10 @@ prefix_all : (entries : List Entry) → IsPrefix entries entries
 prefix_all entries = record { rest = []; is = sym (append-nil entries) }
 
 -- what was left of a run is left of a longer one
-pub between_more : (issuer : List ℕ) (start entries gained torn whole : List Entry) → whole ≡ entries ++ gained → (c : List ℕ) →
-    StandsUpTo issuer start entries [] c → StandsUpTo issuer start whole torn c
-between_more issuer start entries gained torn whole is c h =
+pub between_more : (version : Version) (issuer : List ℕ) (start entries gained torn whole : List Entry) →
+    whole ≡ entries ++ gained → (c : List ℕ) →
+    StandsUpTo version issuer start entries [] c → StandsUpTo version issuer start whole torn c
+between_more version issuer start entries gained torn whole is c h =
     let within : IsPrefix h.history entries = subst (λ (es : List Entry). IsPrefix h.history es) (append-nil entries) h.within in
     record {
       history = h.history;
@@ -82,10 +83,10 @@ between_more issuer start entries gained torn whole is c h =
           append_assoc entries gained torn) within;
     }
 
-stands_between : (issuer : List ℕ) (start entries history rest : List Entry) (c : List ℕ) → IsPrefix start history →
-    entries ≡ history ++ rest → StandsFor issuer history c →
-    StandsUpTo issuer start entries [] c
-stands_between issuer start entries history rest c begins is stands = record {
+stands_between : (version : Version) (issuer : List ℕ) (start entries history rest : List Entry) (c : List ℕ) →
+    IsPrefix start history → entries ≡ history ++ rest → StandsFor version issuer history c →
+    StandsUpTo version issuer start entries [] c
+stands_between version issuer start entries history rest c begins is stands = record {
   history = history;
   stands = stands;
   begins = begins;
@@ -93,29 +94,29 @@ stands_between issuer start entries history rest c begins is stands = record {
 }
 
 -- what one answered ask leaves
-around_gained : (issuer : List ℕ) (start entries gained whole : List Entry) (planned : Planned) (told : Reply) (c : List ℕ) →
-    IsPrefix start entries → whole ≡ entries ++ gained →
-    Tells entries planned told gained → StandsAround issuer entries planned c → StandsUpTo issuer start whole [] c
-around_gained issuer start entries gained whole (Again receipt) told c begins is tells stands =
-    stands_between issuer start whole entries gained c begins is stands
-around_gained issuer start entries gained whole (Refused why) told c begins is tells stands =
-    stands_between issuer start whole entries gained c begins is stands
-around_gained issuer start entries gained whole (Made entry) told c begins is tells (inl before) =
-    stands_between issuer start whole entries gained c begins is before
-around_gained issuer start entries gained whole (Made entry) told c begins is tells (inr with_it) =
+around_gained : (version : Version) (issuer : List ℕ) (start entries gained whole : List Entry) (planned : Planned)
+    (told : Reply) (c : List ℕ) → IsPrefix start entries → whole ≡ entries ++ gained →
+    Tells entries planned told gained → StandsAround version issuer entries planned c → StandsUpTo version issuer start whole [] c
+around_gained version issuer start entries gained whole (Again receipt) told c begins is tells stands =
+    stands_between version issuer start whole entries gained c begins is stands
+around_gained version issuer start entries gained whole (Refused why) told c begins is tells stands =
+    stands_between version issuer start whole entries gained c begins is stands
+around_gained version issuer start entries gained whole (Made entry) told c begins is tells (inl before) =
+    stands_between version issuer start whole entries gained c begins is before
+around_gained version issuer start entries gained whole (Made entry) told c begins is tells (inr with_it) =
     let all : whole ≡ entries ++ entry ∷ [] = is ∙ ap (λ (es : List Entry). entries ++ es) tells.1 in
-    stands_between issuer start whole (entries ++ entry ∷ []) [] c (prefix_more start entries (entry ∷ []) _ refl begins)
+    stands_between version issuer start whole (entries ++ entry ∷ []) [] c (prefix_more start entries (entry ∷ []) _ refl begins)
     (all ∙ sym (append-nil (entries ++ entry ∷ []))) with_it
 
-end_between : (issuer : List ℕ) (start entries torn : List Entry) (c : List ℕ) → IsPrefix start entries →
-    StandsForEnd issuer entries torn c → StandsUpTo issuer start entries torn c
-end_between issuer start entries torn c begins (inl stands) = record {
+end_between : (version : Version) (issuer : List ℕ) (start entries torn : List Entry) (c : List ℕ) → IsPrefix start entries →
+    StandsForEnd version issuer entries torn c → StandsUpTo version issuer start entries torn c
+end_between version issuer start entries torn c begins (inl stands) = record {
   history = entries;
   stands = stands;
   begins = begins;
   within = record { rest = torn; is = refl };
 }
-end_between issuer start entries torn c begins (inr stands) = record {
+end_between version issuer start entries torn c begins (inr stands) = record {
   history = entries ++ torn;
   stands = stands;
   begins = prefix_more start entries torn _ refl begins;
@@ -148,7 +149,7 @@ pub record Taking (o : Origin) (p : Point) (ask : Asked) (told : Told_reply) (q 
   pub gained : List Entry
   pub entries : q.history.entries ≡ p.history.entries ++ gained
   pub reply : IsReply o.version o.issuer p.history.entries ask seconds told gained
-  pub any_moment : IsTrue o.tells → LeavesOnly p.now q.now (StandsAround o.issuer p.history.entries
+  pub any_moment : IsTrue o.tells → LeavesOnly p.now q.now (StandsAround o.version o.issuer p.history.entries
       (answer o.version o.issuer p.history.entries ask seconds))
 
 taking : (o : Origin) (p q : Point) (ask : Asked) (told : Told_reply) → p.history.issuer ≡ o.issuer →
@@ -165,9 +166,9 @@ taking o p q ask told own version t = record {
   reply = subst (λ (v : Version). IsReply v o.issuer p.history.entries ask t.seconds told t.gained) version
       (subst (λ (n : List ℕ). IsReply p.history.version n p.history.entries ask t.seconds told t.gained) own t.reply);
   any_moment = λ tells.
-      subst (λ (v : Version). LeavesOnly p.now q.now (StandsAround o.issuer p.history.entries (answer v o.issuer p.history.entries
-      ask t.seconds))) version
-      (subst (λ (n : List ℕ). LeavesOnly p.now q.now (StandsAround n p.history.entries
+      subst (λ (v : Version). LeavesOnly p.now q.now (StandsAround v o.issuer p.history.entries
+      (answer v o.issuer p.history.entries ask t.seconds))) version
+      (subst (λ (n : List ℕ). LeavesOnly p.now q.now (StandsAround p.history.version n p.history.entries
       (answer p.history.version n p.history.entries
       ask t.seconds))) own (t.any_moment tells));
 }
@@ -178,12 +179,12 @@ answered : (o : Origin) (p q : Point) (ask : Asked) (reply : Reply) (replies : L
 answered o p q ask reply replies begins g t = record {
   go_on = all_push IsGoingOn replies (Ok reply) tt g.go_on;
   only = λ tells. follows o.since p.now q.now
-      (StandsUpTo o.issuer o.start p.history.entries [])
-      (StandsAround o.issuer p.history.entries (answer o.version o.issuer p.history.entries ask t.seconds))
-      (StandsUpTo o.issuer o.start q.history.entries [])
+      (StandsUpTo o.version o.issuer o.start p.history.entries [])
+      (StandsAround o.version o.issuer p.history.entries (answer o.version o.issuer p.history.entries ask t.seconds))
+      (StandsUpTo o.version o.issuer o.start q.history.entries [])
       (g.only tells) (t.any_moment tells)
-      (between_more o.issuer o.start p.history.entries t.gained [] q.history.entries t.entries)
-      (λ c stands. around_gained o.issuer o.start p.history.entries t.gained q.history.entries
+      (between_more o.version o.issuer o.start p.history.entries t.gained [] q.history.entries t.entries)
+      (λ c stands. around_gained o.version o.issuer o.start p.history.entries t.gained q.history.entries
       (answer o.version o.issuer p.history.entries
       ask t.seconds) reply c begins t.entries t.reply stands);
 }
@@ -193,10 +194,11 @@ unanswered : (o : Origin) (p q : Point) (ask : Asked) (replies : List Told_reply
     GoingOn o (replies ++ Err NoMemory ∷ []) q
 unanswered o p q ask replies g t same = record {
   go_on = all_push IsGoingOn replies (Err NoMemory) tt g.go_on;
-  only = λ tells. subst (λ (u : OnDisk). LeavesOnly o.since u (StandsUpTo o.issuer o.start q.history.entries [])) (sym same)
-      (weaker o.since p.now (StandsUpTo o.issuer o.start p.history.entries []) (StandsUpTo o.issuer o.start
-      q.history.entries []) (g.only tells)
-      (between_more o.issuer o.start p.history.entries t.gained [] q.history.entries t.entries));
+  only = λ tells.
+      subst (λ (u : OnDisk). LeavesOnly o.since u (StandsUpTo o.version o.issuer o.start q.history.entries [])) (sym same)
+      (weaker o.since p.now (StandsUpTo o.version o.issuer o.start p.history.entries [])
+      (StandsUpTo o.version o.issuer o.start q.history.entries []) (g.only tells)
+      (between_more o.version o.issuer o.start p.history.entries t.gained [] q.history.entries t.entries));
 }
 
 -- what is said of an ask that was cut off, with the issuer of the run
@@ -205,7 +207,7 @@ pub record Tearing (o : Origin) (p : Point) (ask : Asked) (q : Point) : Type 0 w
   pub seconds : ℕ
   pub reading : IsTold (p.next 0) seconds
   pub made : answer o.version o.issuer p.history.entries ask seconds ≡ Made entry
-  pub any_moment : IsTrue o.tells → LeavesOnly p.now q.now (StandsBeforeOrWith o.issuer p.history.entries entry)
+  pub any_moment : IsTrue o.tells → LeavesOnly p.now q.now (StandsBeforeOrWith o.version o.issuer p.history.entries entry)
 
 tearing : (o : Origin) (p q : Point) (ask : Asked) (torn : Option Entry) → p.history.issuer ≡ o.issuer →
     p.history.version ≡ o.version →
@@ -216,8 +218,10 @@ tearing o p q ask torn own version t = record {
   reading = t.reading;
   made = subst (λ (v : Version). answer v o.issuer p.history.entries ask t.seconds ≡ Made t.entry) version
       (subst (λ (n : List ℕ). answer p.history.version n p.history.entries ask t.seconds ≡ Made t.entry) own t.made);
-  any_moment = λ tells. subst (λ (n : List ℕ). LeavesOnly p.now q.now (StandsBeforeOrWith n p.history.entries t.entry)) own
-      (t.any_moment tells);
+  any_moment = λ tells.
+      subst (λ (v : Version). LeavesOnly p.now q.now (StandsBeforeOrWith v o.issuer p.history.entries t.entry)) version
+      (subst (λ (n : List ℕ). LeavesOnly p.now q.now (StandsBeforeOrWith p.history.version n p.history.entries t.entry)) own
+      (t.any_moment tells));
 }
 
 -- a run has one reply an ask
@@ -288,14 +292,14 @@ torn : (o : Origin) (asks : List Asked) (replies : List Told_reply) (p q : Point
 torn o asks replies p q ask h g same t tells =
     let more = t.entry ∷ [] in
     let any = t.any_moment tells in
-    let only : LeavesOnly o.since q.now (StandsUpTo o.issuer o.start p.history.entries more) =
+    let only : LeavesOnly o.since q.now (StandsUpTo o.version o.issuer o.start p.history.entries more) =
     follows o.since p.now q.now
-    (StandsUpTo o.issuer o.start p.history.entries [])
-    (StandsBeforeOrWith o.issuer p.history.entries t.entry)
-    (StandsUpTo o.issuer o.start p.history.entries more)
+    (StandsUpTo o.version o.issuer o.start p.history.entries [])
+    (StandsBeforeOrWith o.version o.issuer p.history.entries t.entry)
+    (StandsUpTo o.version o.issuer o.start p.history.entries more)
     (g.only tells) any
-    (between_more o.issuer o.start p.history.entries [] more p.history.entries (sym (append-nil p.history.entries)))
-    (λ c stands. end_between o.issuer o.start p.history.entries more c h.begins stands) in
+    (between_more o.version o.issuer o.start p.history.entries [] more p.history.entries (sym (append-nil p.history.entries)))
+    (λ c stands. end_between o.version o.issuer o.start p.history.entries more c h.begins stands) in
     record {
       torn = more;
       at_most_one = omega arith;
@@ -305,8 +309,9 @@ torn o asks replies p q ask h g same t tells =
             t.entry) (sym same) (cut_off_here o asks replies p q ask h t),
         tt,
       );
-      only = subst (λ (es : List Entry). LeavesOnly o.since q.now (StandsUpTo o.issuer o.start es more)) (sym same) only;
-      here = subst (λ (es : List Entry). LeavesNow q.now (StandsForEnd o.issuer es more)) (sym same)
+      only = subst (λ (es : List Entry). LeavesOnly o.since q.now (StandsUpTo o.version o.issuer o.start es more)) (sym same)
+          only;
+      here = subst (λ (es : List Entry). LeavesNow q.now (StandsForEnd o.version o.issuer es more)) (sym same)
           (λ c left. any.each (moment q.now) c any.later left);
     }
 

@@ -176,7 +176,7 @@ module _ {D C : Type 0} (d : disk.Ghosts D) (c : clock.Ghosts C) where
       Legal (state_of now).version (state_of now).issuer (state_of now).entries → GoesOrFails d c first now asks replies →
       FailsOnce d c first now asks replies →
       AllGoOn replies ⊎ FailsIn (this_disk d.tells d.told d.faults (disk_of (journal_of first)) (disk_of (journal_of now)))
-      (state_of first).issuer (state_of now).entries
+      (state_of first).version (state_of first).issuer (state_of now).entries
   fails_in first now asks replies own run (inl all) = inl all
   fails_in first now asks replies own run (inr f) =
       let t = f.took.takes f.going_on in
@@ -185,6 +185,7 @@ module _ {D C : Type 0} (d : disk.Ghosts D) (c : clock.Ghosts C) where
       let same : (state_of now).entries ≡ found.entries =
       t.entries ∙ ap (λ (es : List Entry). found.entries ++ es) t.reply ∙ append-nil found.entries in
       let issuer : found.issuer ≡ (state_of first).issuer = f.run.so_far.own in
+      let version : found.version ≡ (state_of first).version = f.run.so_far.version in
       let legal : Legal found.version found.issuer found.entries =
       subst (λ (es : List Entry). Legal found.version found.issuer es) same
       (subst (λ (v : Version). Legal v found.issuer (state_of now).entries) t.version
@@ -194,10 +195,11 @@ module _ {D C : Type 0} (d : disk.Ghosts D) (c : clock.Ghosts C) where
         left = disk_of (journal_of now);
         held = λ says.
             let holds = f.ready.holds f.going_on says in
-            subst (λ (n : List ℕ). LeavesNow at (StandsFor n (state_of now).entries)) issuer
-            (subst (λ (es : List Entry). LeavesNow at (StandsFor found.issuer es)) (sym same)
-            (leaves_now at (StandsFor found.issuer found.entries) holds.file.nothing_pending
-            (stands found (end_of (journal_of f.found)) at holds legal)));
+            subst (λ (v : Version). LeavesNow at (StandsFor v (state_of first).issuer (state_of now).entries)) version
+            (subst (λ (n : List ℕ). LeavesNow at (StandsFor found.version n (state_of now).entries)) issuer
+            (subst (λ (es : List Entry). LeavesNow at (StandsFor found.version found.issuer es)) (sym same)
+            (leaves_now at (StandsFor found.version found.issuer found.entries) holds.file.nothing_pending
+            (stands found (end_of (journal_of f.found)) at holds legal))));
         early = f.run.so_far.later;
         risen = (f.took.fault refl).0;
         late = omega arith;

@@ -20,17 +20,17 @@ use Rattle.shop_core.specs.declared.answer.receipts.Receipt.{Receipt}
 use Rattle.chain_store.specs.Ready.{Takes}
 use Rattle.shop_core.specs.File.Files.{StandsFor, StandsAround, StandsBeforeOrWith}
 
-stands_around : (issuer : List ℕ) (entries : List Entry) (planned : Planned) (file : List ℕ) → StandsFor issuer entries file →
-    StandsAround issuer entries planned file
-stands_around issuer entries (Again receipt) file s = s
-stands_around issuer entries (Refused why) file s = s
-stands_around issuer entries (Made entry) file s = inl s
+stands_around : (version : Version) (issuer : List ℕ) (entries : List Entry) (planned : Planned) (file : List ℕ) →
+    StandsFor version issuer entries file → StandsAround version issuer entries planned file
+stands_around version issuer entries (Again receipt) file s = s
+stands_around version issuer entries (Refused why) file s = s
+stands_around version issuer entries (Made entry) file s = inl s
 
 -- where nothing is added and no call of the disk is made
 pub not_made : (old : History) (ask : Asked) (coming coming_after : ℕ → Option ℕ) (tells : Bool) (t : OnDisk)
     (told : Result Reply StoreFault) (seconds : ℕ) →
     IsTold (coming 0) seconds → MovedBy 1 coming coming_after → IsReply old.version old.issuer old.entries ask seconds told [] →
-    (IsTrue tells → LeavesOnly t t (StandsFor old.issuer old.entries)) → Takes (record {
+    (IsTrue tells → LeavesOnly t t (StandsFor old.version old.issuer old.entries)) → Takes (record {
       old = old;
       new = old;
       coming = coming;
@@ -48,9 +48,9 @@ not_made old ask coming coming_after tells t told seconds reading moved reply on
   gained = [];
   entries = sym (append-nil old.entries);
   reply = reply;
-  any_moment = λ says. weaker t t (StandsFor old.issuer old.entries) (StandsAround old.issuer old.entries
+  any_moment = λ says. weaker t t (StandsFor old.version old.issuer old.entries) (StandsAround old.version old.issuer old.entries
       (answer old.version old.issuer old.entries ask seconds)) (only says)
-      (λ c s. stands_around old.issuer old.entries (answer old.version old.issuer old.entries ask seconds) c s);
+      (λ c s. stands_around old.version old.issuer old.entries (answer old.version old.issuer old.entries ask seconds) c s);
 }
 
 -- the reply of an answer that makes nothing
@@ -90,7 +90,7 @@ pub made : (old new : History) (ask : Asked) (coming coming_after : ℕ → Opti
     seconds ≡ Made entry →
     IfOk told (λ reply. IsTaken old.entries entry reply) → IfOk told (λ _. new.entries ≡ old.entries ++ entry ∷ []) →
     OnErr told (new.entries ≡ old.entries) →
-    (IsTrue tells → LeavesOnly t u (StandsBeforeOrWith old.issuer old.entries entry)) → Takes (record {
+    (IsTrue tells → LeavesOnly t u (StandsBeforeOrWith old.version old.issuer old.entries entry)) → Takes (record {
       old = old;
       new = new;
       coming = coming;
@@ -109,5 +109,6 @@ made old new ask coming coming_after tells t u told seconds entry reading moved 
       gained = gained_by told entry;
       entries = entries_by old new entry told ok err;
       reply = reply_by old.version old.issuer old.entries ask seconds entry told planned taken;
-      any_moment = λ says. subst (λ (p : Planned). LeavesOnly t u (StandsAround old.issuer old.entries p)) (sym planned) (only says);
+      any_moment = λ says.
+          subst (λ (p : Planned). LeavesOnly t u (StandsAround old.version old.issuer old.entries p)) (sym planned) (only says);
     }

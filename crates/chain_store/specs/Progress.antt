@@ -43,15 +43,15 @@ pub record Point : Type 0 where
 -- the journal goes on
 pub record GoingOn (o : Origin) (replies : List (Result Reply StoreFault)) (p : Point) : Type 0 where
   pub go_on : AllGoOn replies
-  pub only : IsTrue o.tells → LeavesOnly o.since p.now (StandsUpTo o.issuer o.start p.history.entries [])
+  pub only : IsTrue o.tells → LeavesOnly o.since p.now (StandsUpTo o.version o.issuer o.start p.history.entries [])
 
 -- what a torn entry leaves
 pub record Torn (o : Origin) (asks : List Asked) (replies : List (Result Reply StoreFault)) (p : Point) : Type 0 where
   pub torn : List Entry
   pub at_most_one : length torn ≤ 1
   pub made : AllByRecursion (IsCutOff o.version o.issuer (IsComing o.coming) asks p.history.entries replies) torn
-  pub only : LeavesOnly o.since p.now (StandsUpTo o.issuer o.start p.history.entries torn)
-  pub here : LeavesNow p.now (StandsForEnd o.issuer p.history.entries torn)
+  pub only : LeavesOnly o.since p.now (StandsUpTo o.version o.issuer o.start p.history.entries torn)
+  pub here : LeavesNow p.now (StandsForEnd o.version o.issuer p.history.entries torn)
 
 -- the journal has stopped
 pub record Halted (o : Origin) (asks : List Asked) (replies : List (Result Reply StoreFault)) (p : Point) (count : ℕ) : Type 0

@@ -7,7 +7,6 @@ use Rattle.ports.specs.Readings.{IsTold, MovedBy}
 use Rattle.record_codec.specs.declared.entry.Entry.{Entry}
 use Rattle.record_codec.specs.declared.entry.Entry.TheVariants.{Notes}
 use Rattle.record_fields.specs.declared.lines.Line.{Line}
-use Rattle.record_fields.specs.declared.versions.Version.TheVariants.{One}
 use Rattle.shop_core.specs.Answer.Plans.{answer}
 use Rattle.shop_core.specs.Answer.Requests.{Asked}
 use Rattle.shop_core.specs.History.{History, noted}
@@ -18,12 +17,10 @@ use Rattle.shop_core.specs.Legal.{Continues}
 use Rattle.shop_core.specs.declared.answer.Planned.TheVariants.{Made}
 use Rattle.shop_core.specs.File.Files.{AreEncoded, bodies_of, furthest_gate, StandsAround, StandsBeforeOrWith}
 
--- the disk reads as this history's file, with nothing pending, and its closing gate is at this place; every file is of version
--- One
+-- the disk reads as this history's file, of its version, with nothing pending, and its closing gate is at this place
 pub record Holds (history : History) (gate : ℕ) (t : OnDisk) : Type 0 where
-  pub file : IsAt history.issuer (bodies_of history.entries) gate t
-  pub encoded : AreEncoded history.issuer history.entries
-  pub version : history.version ≡ One
+  pub file : IsAt history.version history.issuer (bodies_of history.version history.entries) gate t
+  pub encoded : AreEncoded history.version history.issuer history.entries
 
 -- where the journal isn't stopped and its disk tells what it holds, that is this history
 pub record IsReady (tells : Bool) (history : History) (stopped : Option ℕ) (gate : ℕ) (t : OnDisk) : Type 0 where
@@ -55,7 +52,7 @@ pub record Takes (k : StoreCall) (ask : Asked) (told : Result Reply StoreFault) 
   pub gained : List Entry
   pub entries : k.new.entries ≡ k.old.entries ++ gained
   pub reply : IsReply k.old.version k.old.issuer k.old.entries ask seconds told gained
-  pub any_moment : CrashesLeave k (StandsAround k.old.issuer k.old.entries
+  pub any_moment : CrashesLeave k (StandsAround k.old.version k.old.issuer k.old.entries
       (answer k.old.version k.old.issuer k.old.entries ask seconds))
 
 -- One ask that the disk's failure cut off. Its entry was made at the history and a reading of the clock, room was made for it,
@@ -68,7 +65,7 @@ pub record Tears (k : StoreCall) (ask : Asked) (torn : Option Entry) : Type 0 wh
   pub made : answer k.old.version k.old.issuer k.old.entries ask seconds ≡ Made entry
   pub continues : Continues k.old.version k.old.issuer k.old.entries entry
   pub room : k.new.room ≡ Some entry
-  pub any_moment : CrashesLeave k (StandsBeforeOrWith k.old.issuer k.old.entries entry)
+  pub any_moment : CrashesLeave k (StandsBeforeOrWith k.old.version k.old.issuer k.old.entries entry)
 
 -- these lines, as the next ones of a history
 abbrev pub noted_next : List Entry → List Line → Entry
@@ -79,7 +76,7 @@ pub record TearsLines (k : StoreCall) (lines : List Line) (torn : Option Entry) 
   pub entry_is : torn ≡ Some (noted_next k.old.entries lines)
   pub continues : Continues k.old.version k.old.issuer k.old.entries (noted_next k.old.entries lines)
   pub room : k.new.room ≡ Some (noted_next k.old.entries lines)
-  pub any_moment : CrashesLeave k (StandsBeforeOrWith k.old.issuer k.old.entries (noted_next k.old.entries lines))
+  pub any_moment : CrashesLeave k (StandsBeforeOrWith k.old.version k.old.issuer k.old.entries (noted_next k.old.entries lines))
 
 -- P, where the reply tells of no new record
 abbrev pub IfNothingTaken : Reply → Type 0 → Type 0

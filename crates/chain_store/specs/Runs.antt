@@ -60,9 +60,9 @@ pub record Answers {D C : Type 0} (asks : List Asked) (replies : Replies) (s : S
   pub rising : (till : ℕ) → SerialsRise s.end till
   pub stops : StopsOnce s.faults s.faults_after replies
   -- the first fault of the disk was told by a call in which its count of faults rose
-  pub fails : AllGoOn replies ⊎ FailsIn s.disk s.issuer s.end
+  pub fails : AllGoOn replies ⊎ FailsIn s.disk s.version s.issuer s.end
   pub kept : IsTrue s.tells →
-      KeptByRun (StandsUpTo s.issuer s.start s.end)
-      (IsCutOff s.version s.issuer (IsComing (s.clock.coming s.clock.clock)) asks s.end replies) s.issuer s.end replies s.since
-      s.now
+      KeptByRun (StandsUpTo s.version s.issuer s.start s.end)
+      (IsCutOff s.version s.issuer (IsComing (s.clock.coming s.clock.clock)) asks s.end replies) s.version s.issuer s.end
+      replies s.since s.now
   pub asked : IsAsked s.clock (readings replies)

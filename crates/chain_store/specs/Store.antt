@@ -50,7 +50,7 @@ this_call tells told coming old new = record {
 -- where its disk tells what it holds, every crash from now on leaves its whole history
 abbrev pub Acknowledged : {D C : Type 0} {g : Ghosts D} → Bool → (D → OnDisk) → Store D C g → Type 0
 Acknowledged tells told store = IsTrue tells →
-    LeavesNow (told (disk_of store.journal)) (StandsFor store.state.issuer store.state.entries)
+    LeavesNow (told (disk_of store.journal)) (StandsFor store.state.version store.state.issuer store.state.entries)
 
 -- its journal went on, and goes on
 abbrev pub GoesOn : {D C : Type 0} {g : Ghosts D} → Store D C g → Store D C g → Type 0
@@ -76,7 +76,7 @@ pub record Adds {D C X : Type 0} {g : Ghosts D} (tells : Bool) (told : D → OnD
   pub added : OnOk result ((stopped_of new.journal ≡ None) × (new.state.entries ≡ old.state.entries ++ entry ∷ []))
   pub same : OnErr result (new.state.entries ≡ old.state.entries)
   pub any_moment : IsTrue tells → LeavesOnly (told (disk_of old.journal)) (told (disk_of new.journal))
-      (StandsBeforeOrWith old.state.issuer old.state.entries entry)
+      (StandsBeforeOrWith old.state.version old.state.issuer old.state.entries entry)
   pub acknowledged : OnOk result (Acknowledged tells told new)
   pub no_memory : IsErrOf result StoreFault.NoMemory → new.journal ≡ old.journal
   pub fault : IsErrOf result StoreFault.DiskFault → IsStoppedByFault faults old new

@@ -1,9 +1,8 @@
 // The history that a file stands for.
 ghost use Rattle.std.specs.Prelude.{◌≡◌, ◌≤◌, ℕ, IsTrue, IfOk, IsErrOf};
 ghost use Rattle.ports.specs.Causes.{Rose};
-ghost use Rattle.record_fields.specs.declared.versions.Version.TheVariants.{One};
 ghost use Rattle.shop_core.specs.File.Files.{IsDamagedFile};
-ghost use Rattle.chain_store.specs.Loading.{HasNearGate, HasVersion, IsLoaded};
+ghost use Rattle.chain_store.specs.Loading.{HasNearGate, IsLoaded};
 
 use crate::LoadFault;
 use chain_disk::Disk;
@@ -15,8 +14,8 @@ use std::alloc::Global;
 pub enum Loaded {
     /// No header.
     NotBegun,
-    /// The legal history that the file stands for, with its issuer and its version, which is One. The closing gate is at the
-    /// byte `end`.
+    /// The legal history that the file stands for: its issuer and its version are the state's. The closing gate is at the byte
+    /// `end`.
     Begun { state: State, end: u64 },
 }
 
@@ -24,7 +23,6 @@ pub enum Loaded {
 pub fn load<D: Disk>(alloc: Global, disk: &mut D) -> Result<Loaded, LoadFault>
     ensures content { IfOk result (λ loaded. IsTrue D.tells → IsLoaded (D.told disk.old).content loaded) }
     ensures near { IfOk result HasNearGate }
-    ensures version { IfOk result (HasVersion One) }
     ensures damaged { (at : ℕ) → IsErrOf result (LoadFault.Damaged at) → IsTrue D.tells →
         IsDamagedFile (D.told disk.old).content at }
     ensures fault { IsErrOf result LoadFault.DiskFault → Rose (D.faults disk.old) (D.faults disk.new) }

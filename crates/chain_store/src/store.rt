@@ -140,7 +140,8 @@ impl<D: Disk, C: Clock> Store<D, C> {
         // A crash at any moment of the call leaves the history before it, or that with these lines.
         ensures any_moment { stopped_of self.old.journal ≡ None → IsTrue D.tells →
             LeavesOnly (D.told (disk_of self.old.journal)) (D.told (disk_of self.new.journal))
-            (StandsBeforeOrWith self.old.state.issuer self.old.state.entries (noted_next self.old.state.entries lines.now)) }
+            (StandsBeforeOrWith self.old.state.version self.old.state.issuer self.old.state.entries
+            (noted_next self.old.state.entries lines.now)) }
         ensures acknowledged { OnOk result (Acknowledged D.tells D.told self.new) }
         ensures going_on { OnOk result (GoesOn self.old self.new) }
         ensures no_memory { IsErrOf result StoreFault.NoMemory → self.new.journal ≡ self.old.journal }

@@ -6,6 +6,7 @@ use Rattle.std.proofs.lemmas.Bool.{cases_eq}
 use Rattle.chain_disk.specs.OnDisk.{OnDisk, LeavesOnly, IsImage, moment, IsSettled, settled, pasted, written, synced, wider}
 use Rattle.chain_disk.specs.Runs.{Reached, started, on_write, on_sync, follows, settled_image, range_image}
 use Rattle.parties.specs.Nif.{IsNif}
+use Rattle.record_fields.specs.declared.versions.Version.{Version}
 use Rattle.journal.specs.Commit.{gated, IsCommitImage, IsCommitted, IsShut}
 use Rattle.journal.specs.File.{header, IsFile, IsNotBegun, IsNotBegunOrEmpty, IsAt}
 use Rattle.journal.specs.Written.{empty_file, CreationTakes}
@@ -69,21 +70,21 @@ module _ (t : OnDisk) (not : IsNotBegun t.content) (quiet : IsSettled t) where
         (sym r.content_is);
   }
 
-module _ (issuer bytes : List ℕ) (nif : IsNif issuer) (same : bytes ≡ header issuer ++ 0 ∷ []) where
+module _ (version : Version) (issuer bytes : List ℕ) (nif : IsNif issuer) (same : bytes ≡ header version issuer ++ 0 ∷ []) where
   long : length bytes ≡ 19
-  long = omega (arith, ap length same, length-append (header issuer) (0 ∷ []), nif.nine)
+  long = omega (arith, ap length same, length-append (header version issuer) (0 ∷ []), nif.nine)
 
   -- all is written, and the first byte may be any
-  gated_is : (t : OnDisk) (x : ℕ) → IsShut t → gated t.content 0 x bytes ≡ x ∷ (header issuer ++ 0 ∷ [])
+  gated_is : (t : OnDisk) (x : ℕ) → IsShut t → gated t.content 0 x bytes ≡ x ∷ (header version issuer ++ 0 ∷ [])
   gated_is t x shut = ap (λ (l : List ℕ). x ∷ l) (ap (λ (l : List ℕ). bytes ++ l) (drop_all (0 + 1 + length bytes) t.content
       (omega (arith, ap length shut.content, shut.short, long))) ∙ append-nil bytes ∙ same)
 
-  is_empty : IsFile issuer [] (1 ∷ (header issuer ++ 0 ∷ []))
+  is_empty : IsFile version issuer [] (1 ∷ (header version issuer ++ 0 ∷ []))
   is_empty = record { gate = 0; rest = []; nif = nif; sizes = tt; shut = λ is. omega (arith, is); parts = refl }
 
-  any_first : (x : ℕ) → IsNotBegunOrEmpty issuer (x ∷ (header issuer ++ 0 ∷ []))
+  any_first : (x : ℕ) → IsNotBegunOrEmpty version issuer (x ∷ (header version issuer ++ 0 ∷ []))
   any_first x = elim (cases_eq x 1) [
-    | inl is ↦ inr (subst (λ (y : ℕ). IsFile issuer [] (y ∷ (header issuer ++ 0 ∷ []))) (sym is) is_empty)
+    | inl is ↦ inr (subst (λ (y : ℕ). IsFile version issuer [] (y ∷ (header version issuer ++ 0 ∷ []))) (sym is) is_empty)
     | inr other ↦ inl (inr (other, omega (arith, ap length same, long)))
   ]
 
@@ -95,24 +96,24 @@ module _ (issuer bytes : List ℕ) (nif : IsNif issuer) (same : bytes ≡ header
       let first : x ≡ gate = cc fronts in
       inr ((λ one. shut (sym first ∙ one)), omega arith)
 
-  pub image : (t : OnDisk) (c : List ℕ) → IsShut t → IsCommitImage t.content 0 bytes c → IsNotBegunOrEmpty issuer c
+  pub image : (t : OnDisk) (c : List ℕ) → IsShut t → IsCommitImage t.content 0 bytes c → IsNotBegunOrEmpty version issuer c
   image t c shut (inl up) = inl (up_to t.content c shut.gate shut.rest shut.content shut.shut up.same
       (omega (arith, up.no_longer, ap length shut.content, shut.short, long)))
-  image t c shut (inr is) = subst (IsNotBegunOrEmpty issuer) (sym (is.1 ∙ gated_is t is.0 shut)) (any_first is.0)
+  image t c shut (inr is) = subst (IsNotBegunOrEmpty version issuer) (sym (is.1 ∙ gated_is t is.0 shut)) (any_first is.0)
 
-  pub created : (t u : OnDisk) → IsShut t → IsCommitted t 0 bytes u → IsAt issuer [] 19 u
+  pub created : (t u : OnDisk) → IsShut t → IsCommitted t 0 bytes u → IsAt version issuer [] 19 u
   created t u shut now = record {
-    file = subst (IsFile issuer []) (sym (now.content ∙ gated_is t 1 shut)) is_empty;
+    file = subst (IsFile version issuer []) (sym (now.content ∙ gated_is t 1 shut)) is_empty;
     place = refl;
     nothing_pending = now.nothing_pending;
   }
 
-  pub empty_content : (t u : OnDisk) → IsShut t → IsCommitted t 0 bytes u → u.content ≡ empty_file issuer
+  pub empty_content : (t u : OnDisk) → IsShut t → IsCommitted t 0 bytes u → u.content ≡ empty_file version issuer
   empty_content t u shut now = now.content ∙ gated_is t 1 shut
 
   pub creating : (t u v : OnDisk) → LeavesOnly t u IsNotBegun → IsShut u → LeavesOnly u v (IsCommitImage u.content 0 bytes) →
-      LeavesOnly t v (IsNotBegunOrEmpty issuer)
-  creating t u v first shut second = follows t u v IsNotBegun _ (IsNotBegunOrEmpty issuer) first second (λ c not. inl not)
+      LeavesOnly t v (IsNotBegunOrEmpty version issuer)
+  creating t u v first shut second = follows t u v IsNotBegun _ (IsNotBegunOrEmpty version issuer) first second (λ c not. inl not)
       (λ c left. image u c shut left)
 
 -- what is there is closed first, or is closed already, and then committed behind

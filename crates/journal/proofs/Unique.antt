@@ -2,6 +2,9 @@
 use Rattle.std.proofs.Common.{◌≡◌, ℕ, List, [], ◌∷◌, ◌++◌, length, refl, sym, ◌∙◌, arith, append_assoc}
 use Rattle.frames.specs.Frames.{length_bytes}
 use Rattle.frames.specs.Lengths.{length-length_bytes, same_length, same_front}
+use Rattle.record_fields.specs.declared.versions.Version.{Version}
+use Rattle.record_fields.specs.Versions.{number_of}
+use Rattle.record_fields.specs.declared.versions.Version.TheVariants.{One, Two}
 use Rattle.journal.specs.File.{header, framed, AreBodies}
 use Rattle.journal.specs.Laws.{OneChain}
 
@@ -22,10 +25,19 @@ frames_unique (x ∷ a) (y ∷ b) g h r s are are' shut shut' same =
     let rest = frames_unique a b g h r s are.1 are'.1 shut shut' bodies.1 in
     cc (bodies.0, rest)
 
+pub same_version : (version version' : Version) → number_of version ≡ number_of version' → version ≡ version'
+same_version One One same = refl
+same_version One Two same = absurd (omega (arith, same))
+same_version Two One same = absurd (omega (arith, same))
+same_version Two Two same = refl
+
 pub one_chain : OneChain
-one_chain issuer issuer' bodies bodies' file is is' =
-    let same : (1 ∷ header issuer) ++ (framed bodies ++ (is.gate ∷ is.rest)) ≡ (1 ∷ header issuer') ++
+one_chain version version' issuer issuer' bodies bodies' file is is' =
+    let same : (1 ∷ header version issuer) ++ (framed bodies ++ (is.gate ∷ is.rest)) ≡ (1 ∷ header version' issuer') ++
     (framed bodies' ++ (is'.gate ∷ is'.rest)) = sym is.parts ∙ is'.parts in
-    let heads = same_front (1 ∷ header issuer) (1 ∷ header issuer') _ _ (omega (arith, is.nif.nine, is'.nif.nine)) same in
+    let heads = same_front (1 ∷ header version issuer) (1 ∷ header version' issuer') _ _
+    (omega (arith, is.nif.nine, is'.nif.nine)) same in
+    let versions : number_of version ≡ number_of version' = cc heads.0 in
     let issuers : issuer ≡ issuer' = cc heads.0 in
-    (issuers, frames_unique bodies bodies' is.gate is'.gate is.rest is'.rest is.sizes is'.sizes is.shut is'.shut heads.1)
+    let frames = frames_unique bodies bodies' is.gate is'.gate is.rest is'.rest is.sizes is'.sizes is.shut is'.shut heads.1 in
+    (same_version version version' versions, issuers, frames)

@@ -5,6 +5,8 @@ use Rattle.std.proofs.lemmas.List.{drop-drop, drop_at, drop_more, take_at, lengt
 use Rattle.frames.specs.Frames.{length_bytes, IsBody, IsCounted, IsClosed}
 use Rattle.frames.specs.Lengths.{length-length_bytes, same_length, same_front}
 use Rattle.parties.specs.Nif.{IsNif}
+use Rattle.record_fields.specs.declared.versions.Version.{Version}
+use Rattle.record_fields.specs.Versions.{number_of}
 use Rattle.journal.specs.File.{header, framed, AreBodies, IsFile, closing_gate}
 use Rattle.journal.specs.Framed.{framed-push, length-framed-push, AreBodies-push}
 use Rattle.journal.specs.Header.{IsBegun}
@@ -33,11 +35,11 @@ walk_goes_on file bodies at body are counted =
     }
 
 -- a file whose bytes begin so has a sound header
-begun : (issuer rest : List ℕ) → IsNif issuer → IsBegun issuer ((1 ∷ header issuer) ++ rest)
-begun issuer rest nif = record {
+begun : (version : Version) (issuer rest : List ℕ) → IsNif issuer → IsBegun version issuer ((1 ∷ header version issuer) ++ rest)
+begun version issuer rest nif = record {
   versioned = record {
     marked = record { long = omega (arith, nif.nine, length-append issuer rest); first = refl; mark = refl };
-    version = refl;
+    number = refl;
   };
   long = omega (arith, nif.nine, length-append issuer rest);
   issuer_is = take_at issuer rest 9 nif.nine;
@@ -45,24 +47,26 @@ begun issuer rest nif = record {
 }
 
 -- and a file with a sound header begins so
-header_split : (issuer file : List ℕ) → IsBegun issuer file → file ≡ (1 ∷ header issuer) ++ drop 19 file
-header_split issuer file is =
+header_split : (version : Version) (issuer file : List ℕ) → IsBegun version issuer file →
+    file ≡ (1 ∷ header version issuer) ++ drop 19 file
+header_split version issuer file is =
     let first : file ≡ get_or file 0 0 ∷ drop 1 file = drop_more file 0 0 (omega (arith, is.long)) in
     let mark : drop 1 file ≡ take 8 (drop 1 file) ++ drop 9 file = sym (take-append-drop 8 (drop 1 file)) ∙
     ap (λ (l : List ℕ). take 8 (drop 1 file) ++ l) (drop-drop 8 1 file) in
-    let version : drop 9 file ≡ get_or file 9 0 ∷ drop 10 file = drop_more file 9 0 (omega (arith, is.long)) in
+    let number : drop 9 file ≡ get_or file 9 0 ∷ drop 10 file = drop_more file 9 0 (omega (arith, is.long)) in
     let nif : drop 10 file ≡ take 9 (drop 10 file) ++ drop 19 file = sym (take-append-drop 9 (drop 10 file)) ∙
     ap (λ (l : List ℕ). take 9 (drop 10 file) ++ l) (drop-drop 9 10 file) in
-    let behind : drop 9 file ≡ 1 ∷ (issuer ++ drop 19 file) = version ∙ ap (λ (x : ℕ). x ∷ drop 10 file) is.versioned.version ∙
-    ap (λ (l : List ℕ). 1 ∷ l) (nif ∙ ap (λ (l : List ℕ). l ++ drop 19 file) is.issuer_is) in
+    let behind : drop 9 file ≡ number_of version ∷ (issuer ++ drop 19 file) = number ∙
+    ap (λ (x : ℕ). x ∷ drop 10 file) is.versioned.number ∙
+    ap (λ (l : List ℕ). number_of version ∷ l) (nif ∙ ap (λ (l : List ℕ). l ++ drop 19 file) is.issuer_is) in
     first ∙ ap (λ (x : ℕ). x ∷ drop 1 file) is.versioned.marked.first
     ∙ ap (λ (l : List ℕ). 1 ∷ l) (mark ∙ ap (λ (l : List ℕ). l ++ drop 9 file) is.versioned.marked.mark ∙
     ap (λ (l : List ℕ). codes "VFCHAIN1" ++ l) behind)
 
-walk_to : (issuer : List ℕ) (bodies : List (List ℕ)) (file : List ℕ) → IsFile issuer bodies file → IsBegun issuer file ×
-    AreFrames file bodies (closing_gate bodies) × IsClosed (drop (closing_gate bodies) file)
-walk_to issuer bodies file is =
-    let head = 1 ∷ header issuer in
+walk_to : (version : Version) (issuer : List ℕ) (bodies : List (List ℕ)) (file : List ℕ) → IsFile version issuer bodies file →
+    IsBegun version issuer file × AreFrames file bodies (closing_gate bodies) × IsClosed (drop (closing_gate bodies) file)
+walk_to version issuer bodies file is =
+    let head = 1 ∷ header version issuer in
     let tail = is.gate ∷ is.rest in
     let split : file ≡ (head ++ framed bodies) ++ tail = is.parts ∙ sym (append_assoc head (framed bodies) tail) in
     let long : length (head ++ framed bodies) ≡ closing_gate bodies =
@@ -72,7 +76,7 @@ walk_to issuer bodies file is =
     let nineteen : length head ≡ 19 = omega (arith, is.nif.nine) in
     let behind : drop 19 file ≡ framed bodies ++ tail = ap (λ (l : List ℕ). drop 19 l) is.parts ∙
     drop_at head (framed bodies ++ tail) 19 nineteen in (
-      subst (IsBegun issuer) (sym is.parts) (begun issuer (framed bodies ++ tail) is.nif),
+      subst (IsBegun version issuer) (sym is.parts) (begun version issuer (framed bodies ++ tail) is.nif),
       record {
         sizes = is.sizes;
         place = refl;
@@ -82,20 +86,23 @@ walk_to issuer bodies file is =
       record { gate = is.gate; rest = is.rest; parts = at_gate; shut = is.shut },
     )
 
-walk_from : (issuer : List ℕ) (bodies : List (List ℕ)) (file : List ℕ) → IsBegun issuer file →
-    AreFrames file bodies (closing_gate bodies) → IsClosed (drop (closing_gate bodies) file) → IsFile issuer bodies file
-walk_from issuer bodies file begun are closed = record {
+walk_from : (version : Version) (issuer : List ℕ) (bodies : List (List ℕ)) (file : List ℕ) → IsBegun version issuer file →
+    AreFrames file bodies (closing_gate bodies) → IsClosed (drop (closing_gate bodies) file) → IsFile version issuer bodies file
+walk_from version issuer bodies file begun are closed = record {
   gate = closed.gate;
   rest = closed.rest;
   nif = begun.nif;
   sizes = are.sizes;
   shut = closed.shut;
-  parts = header_split issuer file begun ∙ ap (λ (l : List ℕ). (1 ∷ header issuer) ++ l)
+  parts = header_split version issuer file begun ∙ ap (λ (l : List ℕ). (1 ∷ header version issuer) ++ l)
       (are.bytes ∙ ap (λ (l : List ℕ). framed bodies ++ l) closed.parts);
 }
 
 pub walk_ends : WalkEnds
-walk_ends issuer bodies file = (λ is. walk_to issuer bodies file is, λ all. walk_from issuer bodies file all.0 all.1 all.2)
+walk_ends version issuer bodies file = (
+  λ is. walk_to version issuer bodies file is,
+  λ all. walk_from version issuer bodies file all.0 all.1 all.2,
+)
 
 -- a counted frame at the front
 counted_front : (body : List ℕ) (bodies : List (List ℕ)) (r s : List ℕ) → IsBody body → 1 ≤ length s → r ≡ framed (body ∷ bodies)

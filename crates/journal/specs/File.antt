@@ -3,11 +3,13 @@ use Rattle.std.specs.Prelude.{◌≡◌, ◌⊎◌, ◌≤◌, ◌+◌, ℕ, Lis
 use Rattle.chain_disk.specs.OnDisk.{OnDisk, IsSettled}
 use Rattle.frames.specs.Frames.{length_bytes, IsBody}
 use Rattle.parties.specs.Nif.{IsNif}
+use Rattle.record_fields.specs.declared.versions.Version.{Version}
+use Rattle.record_fields.specs.Versions.{number_of}
 use Rattle.journal.specs.declared.TheConstants.{HEADER}
 
 -- the bytes 1 to 18: a mark, the version and the issuer's NIF
-abbrev pub header : List ℕ → List ℕ
-header issuer = codes "VFCHAIN1" ++ (1 ∷ issuer)
+abbrev pub header : Version → List ℕ → List ℕ
+header version issuer = codes "VFCHAIN1" ++ (number_of version ∷ issuer)
 
 -- counted frames of these bodies
 abbrev pub framed : List (List ℕ) → List ℕ
@@ -18,14 +20,14 @@ abbrev pub AreBodies : List (List ℕ) → Type 0
 AreBodies [] = Unit {0}
 AreBodies (body ∷ bodies) = IsBody body × AreBodies bodies
 
--- a begun file of this issuer: its header, counted frames of these bodies, and a closed gate with anything behind it
-pub record IsFile (issuer : List ℕ) (bodies : List (List ℕ)) (file : List ℕ) : Type 0 where
+-- a begun file of this version and issuer: its header, counted frames of these bodies, and a closed gate with anything behind it
+pub record IsFile (version : Version) (issuer : List ℕ) (bodies : List (List ℕ)) (file : List ℕ) : Type 0 where
   pub gate : ℕ
   pub rest : List ℕ
   pub nif : IsNif issuer
   pub sizes : AreBodies bodies
   pub shut : gate ≡ 1 → ⊥
-  pub parts : file ≡ (1 ∷ header issuer) ++ (framed bodies ++ (gate ∷ rest))
+  pub parts : file ≡ (1 ∷ header version issuer) ++ (framed bodies ++ (gate ∷ rest))
 
 -- a file that isn't begun
 abbrev pub IsNotBegun : List ℕ → Type 0
@@ -33,23 +35,24 @@ IsNotBegun [] = Unit {0}
 IsNotBegun (first ∷ rest) = (length rest ≡ 0) ⊎ ((first ≡ 1 → ⊥) × (length rest ≤ HEADER))
 
 -- the file as before the append, or with this body
-abbrev pub IsBeforeOrAfter : List ℕ → List (List ℕ) → List ℕ → List ℕ → Type 0
-IsBeforeOrAfter issuer bodies body file = IsFile issuer bodies file ⊎ IsFile issuer (bodies ++ body ∷ []) file
+abbrev pub IsBeforeOrAfter : Version → List ℕ → List (List ℕ) → List ℕ → List ℕ → Type 0
+IsBeforeOrAfter version issuer bodies body file =
+    IsFile version issuer bodies file ⊎ IsFile version issuer (bodies ++ body ∷ []) file
 
 -- not begun, or begun and empty
-abbrev pub IsNotBegunOrEmpty : List ℕ → List ℕ → Type 0
-IsNotBegunOrEmpty issuer file = IsNotBegun file ⊎ IsFile issuer [] file
+abbrev pub IsNotBegunOrEmpty : Version → List ℕ → List ℕ → Type 0
+IsNotBegunOrEmpty version issuer file = IsNotBegun file ⊎ IsFile version issuer [] file
 
 -- the place of the closing gate
 abbrev pub closing_gate : List (List ℕ) → ℕ
 closing_gate bodies = HEADER + length (framed bodies)
 
 -- the disk reads as such a file, nothing is pending, and the closing gate is at this place
-pub record IsAt (issuer : List ℕ) (bodies : List (List ℕ)) (gate : ℕ) (t : OnDisk) : Type 0 where
-  pub file : IsFile issuer bodies t.content
+pub record IsAt (version : Version) (issuer : List ℕ) (bodies : List (List ℕ)) (gate : ℕ) (t : OnDisk) : Type 0 where
+  pub file : IsFile version issuer bodies t.content
   pub place : gate ≡ closing_gate bodies
   pub nothing_pending : IsSettled t
 
--- the file of some issuer and some bodies, and its closing gate is at this place
+-- the file of some version, some issuer and some bodies, and its closing gate is at this place
 abbrev pub IsAtSome : ℕ → OnDisk → Type 0
-IsAtSome gate t = ∥ ((issuer : List ℕ) × (bodies : List (List ℕ)) × IsAt issuer bodies gate t) ∥₁
+IsAtSome gate t = ∥ ((version : Version) × (issuer : List ℕ) × (bodies : List (List ℕ)) × IsAt version issuer bodies gate t) ∥₁

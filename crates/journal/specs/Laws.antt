@@ -1,25 +1,33 @@
 -- Laws of the journal's file.
 use Rattle.std.specs.Prelude.{◌≡◌, ◌+◌, ◌⊎◌, ◌↔◌, ℕ, List, [], ◌∷◌, ◌++◌, length, drop}
 use Rattle.frames.specs.Frames.{IsCounted, IsClosed}
+use Rattle.record_fields.specs.declared.versions.Version.{Version}
 use Rattle.journal.specs.declared.TheConstants.{HEADER}
 use Rattle.journal.specs.File.{IsFile, IsNotBegun, closing_gate}
-use Rattle.journal.specs.Header.{IsBegun, IsHeader}
+use Rattle.journal.specs.Header.{HasVersion, IsBegun, IsHeader}
 use Rattle.journal.specs.Walk.{AreFrames, GoOn}
 use Rattle.journal.specs.declared.reading.Header.{Header}
 
 -- a file stands for at most one chain
 abbrev pub OneChain : Type 0
 OneChain =
-    (issuer other : List ℕ) (bodies others : List (List ℕ)) (file : List ℕ) →
-    IsFile issuer bodies file → IsFile other others file → (issuer ≡ other) × (bodies ≡ others)
+    (version another : Version) (issuer other : List ℕ) (bodies others : List (List ℕ)) (file : List ℕ) →
+    IsFile version issuer bodies file → IsFile another other others file →
+    (version ≡ another) × (issuer ≡ other) × (bodies ≡ others)
 
 -- a file that isn't begun stands for no chain
 abbrev pub NoChain : Type 0
-NoChain = (issuer : List ℕ) (bodies : List (List ℕ)) (file : List ℕ) → IsNotBegun file → IsFile issuer bodies file → ⊥
+NoChain =
+    (version : Version) (issuer : List ℕ) (bodies : List (List ℕ)) (file : List ℕ) →
+    IsNotBegun file → IsFile version issuer bodies file → ⊥
 
 -- a file has one header
 abbrev pub OneHeader : Type 0
 OneHeader = (file : List ℕ) (a b : Header) → IsHeader file a → IsHeader file b → a ≡ b
+
+-- and one version
+abbrev pub OneVersion : Type 0
+OneVersion = (file : List ℕ) (version another : Version) → HasVersion version file → HasVersion another file → version ≡ another
 
 -- a walk over the frames begins behind the header with none
 abbrev pub WalkBegins : Type 0
@@ -34,9 +42,9 @@ WalkGoesOn =
 -- a file is a sound header, and a walk over its frames to a gate that is closed
 abbrev pub WalkEnds : Type 0
 WalkEnds =
-    (issuer : List ℕ) (bodies : List (List ℕ)) (file : List ℕ) →
-    IsFile issuer bodies file
-    ↔ (IsBegun issuer file × AreFrames file bodies (closing_gate bodies) × IsClosed (drop (closing_gate bodies) file))
+    (version : Version) (issuer : List ℕ) (bodies : List (List ℕ)) (file : List ℕ) →
+    IsFile version issuer bodies file
+    ↔ (IsBegun version issuer file × AreFrames file bodies (closing_gate bodies) × IsClosed (drop (closing_gate bodies) file))
 
 -- two walks that can't go on have come to the same place, by the same bodies
 abbrev pub OneWalk : Type 0

@@ -2,6 +2,7 @@
 use Rattle.std.specs.Prelude.{◌≡◌, ◌<◌, ◌≤◌, ◌+◌, ℕ, List, [], ◌∷◌, ◌++◌, length, take, drop}
 use Rattle.chain_disk.specs.OnDisk.{OnDisk, moment}
 use Rattle.frames.specs.Frames.{frame}
+use Rattle.record_fields.specs.declared.versions.Version.{Version}
 use Rattle.journal.specs.File.{header}
 
 -- a frame more at this gate: the bytes up to it, the gate as 1, the frame with its closed gate, and what stood behind that
@@ -9,8 +10,8 @@ abbrev pub with_frame : List ℕ → ℕ → List ℕ → List ℕ
 with_frame file gate body = take gate file ++ (1 ∷ (frame body ++ drop (gate + 1 + length (frame body)) file))
 
 -- a file that is begun and empty: the gate as 1, the header, and a closed gate
-abbrev pub empty_file : List ℕ → List ℕ
-empty_file issuer = 1 ∷ (header issuer ++ 0 ∷ [])
+abbrev pub empty_file : Version → List ℕ → List ℕ
+empty_file version issuer = 1 ∷ (header version issuer ++ 0 ∷ [])
 
 -- The header and the gate take a write and a sync each. Where at most one byte was there, so does a closed byte 0 before them.
 pub record CreationTakes (old new : OnDisk) : Type 0 where

@@ -8,19 +8,21 @@ ghost use Rattle.journal.specs.declared.TheConstants.{HEADER};
 ghost use Rattle.journal.specs.File.{header, IsNotBegun, IsNotBegunOrEmpty, IsAt};
 ghost use Rattle.journal.specs.Written.{empty_file, CreationTakes};
 
+use crate::HEADER;
 use crate::commit::commit;
-use crate::{HEADER, VERSION};
 use chain_disk::Disk;
 use parties::Nif;
 use ports::Failed;
+use record_fields::Version;
 
 // The header and a closed gate.
-fn header_bytes(issuer: &Nif) -> [u8; HEADER]
-    ensures bytes { result ≡ header issuer.now ++ 0 ∷ [] }
+fn header_bytes(issuer: &Nif, version: Version) -> [u8; HEADER]
+    ensures bytes { result ≡ header version issuer.now ++ 0 ∷ [] }
     ensures nif { IsNif issuer.now }
 {
     let mut bytes = [0; HEADER];
-    bytes[..9].copy_from_slice(&[b'V', b'F', b'C', b'H', b'A', b'I', b'N', b'1', VERSION]);
+    bytes[..8].copy_from_slice(b"VFCHAIN1");
+    bytes[8] = version.number();
     bytes[9..18].copy_from_slice(&issuer.bytes());
     bytes
 }
@@ -44,17 +46,17 @@ fn shut_first<D: Disk>(disk: &mut D) -> Result<(), Failed>
     Ok(())
 }
 
-pub(crate) fn set_up<D: Disk>(disk: &mut D, issuer: &Nif) -> Result<(), Failed>
+pub(crate) fn set_up<D: Disk>(disk: &mut D, issuer: &Nif, version: Version) -> Result<(), Failed>
     requires { IsTrue D.tells → IsNotBegun (D.told disk.old).content × IsSettled (D.told disk.old) }
-    ensures ok { OnOk result (IsTrue D.tells → IsAt issuer.now [] HEADER (D.told disk.new)) }
-    ensures content { OnOk result (IsTrue D.tells → (D.told disk.new).content ≡ empty_file issuer.now) }
+    ensures ok { OnOk result (IsTrue D.tells → IsAt version issuer.now [] HEADER (D.told disk.new)) }
+    ensures content { OnOk result (IsTrue D.tells → (D.told disk.new).content ≡ empty_file version issuer.now) }
     ensures moments { OnOk result (IsTrue D.tells → CreationTakes (D.told disk.old) (D.told disk.new)) }
     ensures any_moment { IsTrue D.tells →
-        LeavesOnly (D.told disk.old) (D.told disk.new) (IsNotBegunOrEmpty issuer.now) }
+        LeavesOnly (D.told disk.old) (D.told disk.new) (IsNotBegunOrEmpty version issuer.now) }
     ensures cause { HasCause (D.faults disk.old) (D.faults disk.new) result }
 {
     shut_first(disk)?;
-    let bytes = header_bytes(issuer);
+    let bytes = header_bytes(issuer, version);
     commit(disk, 0, &bytes)?;
     Ok(())
 }

@@ -4,6 +4,7 @@ ghost use Rattle.std.specs.Prelude.{IsErrOf, IsSome, IsTrue, None, Some};
 ghost use Rattle.ports.specs.Causes.{Rose};
 ghost use Rattle.chain_disk.specs.OnDisk.{LeavesOnly, LeavesNow, IsSettled, moment};
 ghost use Rattle.frames.specs.Frames.{IsBody, frame};
+ghost use Rattle.record_fields.specs.declared.versions.Version.{Version as AnyVersion};
 ghost use Rattle.journal.specs.File.{IsAt, IsAtSome, IsFile, IsBeforeOrAfter, IsNotBegun, IsNotBegunOrEmpty};
 ghost use Rattle.journal.specs.Written.{with_frame, empty_file, CreationTakes};
 
@@ -13,6 +14,7 @@ use crate::creation::set_up;
 use chain_disk::Disk;
 use frames::{FrameBuf, frame_bytes};
 use parties::Nif;
+use record_fields::Version;
 
 /// Why a body could not be appended.
 #[derive(Clone, Copy, Debug, PartialEq, Eq)]
@@ -45,17 +47,17 @@ impl<D: Disk> Journal<D> {
     ghost use Rattle.journal.specs.declared.TheConstants.{HEADER};
     ghost use Rattle.journal.specs.Journal.{disk_of, end_of, stopped_of};
 
-    /// A journal of this issuer on a file that isn't begun. First a closed byte 0 is made sure of, then
+    /// A journal of this issuer and version on a file that isn't begun. First a closed byte 0 is made sure of, then
     /// the header is written behind it, and then byte 0 is opened, with a sync after each.
-    pub fn create(disk: D, issuer: &Nif) -> Result<Journal<D>, Lost<D>>
+    pub fn create(disk: D, issuer: &Nif, version: Version) -> Result<Journal<D>, Lost<D>>
         requires { IsTrue D.tells → IsNotBegun (D.told disk).content × IsSettled (D.told disk) }
 
         ensures empty { IfOk result (λ journal. IsTrue D.tells →
-            IsAt issuer.now [] (end_of journal) (D.told (disk_of journal))) }
+            IsAt version issuer.now [] (end_of journal) (D.told (disk_of journal))) }
         ensures every_crash { IfOk result (λ journal. IsTrue D.tells →
-            LeavesNow (D.told (disk_of journal)) (IsFile issuer.now [])) }
+            LeavesNow (D.told (disk_of journal)) (IsFile version issuer.now [])) }
         ensures content { IfOk result (λ journal. IsTrue D.tells →
-            (D.told (disk_of journal)).content ≡ empty_file issuer.now) }
+            (D.told (disk_of journal)).content ≡ empty_file version issuer.now) }
         ensures moments { IfOk result (λ journal. IsTrue D.tells →
             CreationTakes (D.told disk) (D.told (disk_of journal))) }
         ensures place { IfOk result (λ journal. end_of journal ≡ HEADER) }
@@ -63,18 +65,18 @@ impl<D: Disk> Journal<D> {
 
         // A crash at any moment of the call leaves a file that isn't begun, or is begun and empty.
         ensures any_moment { IfOk result (λ journal. IsTrue D.tells →
-            LeavesOnly (D.told disk) (D.told (disk_of journal)) (IsNotBegunOrEmpty issuer.now)) }
+            LeavesOnly (D.told disk) (D.told (disk_of journal)) (IsNotBegunOrEmpty version issuer.now)) }
         ensures any_moment_err { IfErr result (λ lost. IsTrue D.tells →
-            LeavesOnly (D.told disk) (D.told lost.disk) (IsNotBegunOrEmpty issuer.now)) }
+            LeavesOnly (D.told disk) (D.told lost.disk) (IsNotBegunOrEmpty version issuer.now)) }
         ensures content_err { IfErr result (λ lost. IsTrue D.tells →
-            IsNotBegunOrEmpty issuer.now (D.told lost.disk).content) }
+            IsNotBegunOrEmpty version issuer.now (D.told lost.disk).content) }
 
         ensures lost { IfErr result (λ lost. Rose (D.faults disk) (D.faults lost.disk)) }
         ensures later { IfOk result (λ journal. D.faults disk ≤ D.faults (disk_of journal)) }
         ensures later_err { IfErr result (λ lost. D.faults disk ≤ D.faults lost.disk) }
     {
         let mut disk = disk;
-        match set_up(&mut disk, issuer) {
+        match set_up(&mut disk, issuer, version) {
             Ok(()) => Ok(Journal {
                 disk,
                 end: HEADER as u64,
@@ -126,12 +128,12 @@ impl<D: Disk> Journal<D> {
         requires place { end_of self.old < 2 ^ 63 }
 
         // After Ok every crash leaves this body too.
-        ensures acknowledged { OnOk result (IsTrue D.tells → (issuer : List ℕ) (bodies : List (List ℕ)) →
-            IsAt issuer bodies (end_of self.old) (D.told (disk_of self.old)) →
-            IsAt issuer (bodies ++ body.now ∷ []) (end_of self.new) (D.told (disk_of self.new))) }
-        ensures every_crash { OnOk result (IsTrue D.tells → (issuer : List ℕ) (bodies : List (List ℕ)) →
-            IsAt issuer bodies (end_of self.old) (D.told (disk_of self.old)) →
-            LeavesNow (D.told (disk_of self.new)) (IsFile issuer (bodies ++ body.now ∷ []))) }
+        ensures acknowledged { OnOk result (IsTrue D.tells → (version : AnyVersion) (issuer : List ℕ) (bodies : List (List ℕ)) →
+            IsAt version issuer bodies (end_of self.old) (D.told (disk_of self.old)) →
+            IsAt version issuer (bodies ++ body.now ∷ []) (end_of self.new) (D.told (disk_of self.new))) }
+        ensures every_crash { OnOk result (IsTrue D.tells → (version : AnyVersion) (issuer : List ℕ) (bodies : List (List ℕ)) →
+            IsAt version issuer bodies (end_of self.old) (D.told (disk_of self.old)) →
+            LeavesNow (D.told (disk_of self.new)) (IsFile version issuer (bodies ++ body.now ∷ []))) }
         ensures content { OnOk result (IsTrue D.tells → (D.told (disk_of self.new)).content
             ≡ with_frame (D.told (disk_of self.old)).content (end_of self.old) body.now) }
         // Two writes, with a sync after each.
@@ -143,10 +145,10 @@ impl<D: Disk> Journal<D> {
 
         // A crash at any moment of the call leaves the bodies from before it, or those and this one.
         ensures any_moment { stopped_of self.old ≡ None → IsTrue D.tells →
-            (issuer : List ℕ) (bodies : List (List ℕ)) →
-            IsAt issuer bodies (end_of self.old) (D.told (disk_of self.old)) →
+            (version : AnyVersion) (issuer : List ℕ) (bodies : List (List ℕ)) →
+            IsAt version issuer bodies (end_of self.old) (D.told (disk_of self.old)) →
             LeavesOnly (D.told (disk_of self.old)) (D.told (disk_of self.new))
-            (IsBeforeOrAfter issuer bodies body.now) }
+            (IsBeforeOrAfter version issuer bodies body.now) }
 
         // A fault of the disk stops the journal for good. From then on no call of the disk is made.
         ensures fault { IsErrOf result JournalFault.DiskFault →

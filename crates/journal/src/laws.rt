@@ -1,5 +1,6 @@
 // What holds of the file's definitions alone.
-ghost use Rattle.journal.specs.Laws.{OneChain, NoChain, OneHeader, WalkBegins, WalkGoesOn, WalkEnds, OneWalk, WalksAgree};
+ghost use Rattle.journal.specs.Laws.{OneChain, NoChain, OneHeader, OneVersion};
+ghost use Rattle.journal.specs.Laws.{WalkBegins, WalkGoesOn, WalkEnds, OneWalk, WalksAgree};
 
 /// A file stands for at most one chain.
 pub fn a_file_stands_for_one_chain()
@@ -11,9 +12,10 @@ pub fn a_file_not_begun_is_no_chain()
     ensures { NoChain }
 {}
 
-/// A file has one header.
+/// A file has one header, of one version.
 pub fn a_file_has_one_header()
-    ensures { OneHeader }
+    ensures header { OneHeader }
+    ensures version { OneVersion }
 {}
 
 /// How a file is read frame by frame: where that begins, goes on and ends.

@@ -6,16 +6,13 @@
 //! |---|---|
 //! | 0 | 1 once the file is begun |
 //! | 1 to 8 | `VFCHAIN1` |
-//! | 9 | `VERSION` |
+//! | 9 | the version, 1 or 2 |
 //! | 10 to 18 | the issuer's NIF |
 //! | 19 on | frames, up to the first whose gate byte isn't 1 |
 #![tactic(auto)]
 
 /// How many bytes a file begins with, up to its first frame's gate.
 pub const HEADER: usize = 19;
-
-/// The version of a file's form, its byte 9.
-pub const VERSION: u8 = 1;
 
 mod commit;
 mod creation;

@@ -4,13 +4,14 @@ ghost use Rattle.std.specs.Prelude.{MatchResult};
 ghost use Rattle.ports.specs.Causes.{HasCause};
 ghost use Rattle.parties.specs.Nif.{IsNif};
 ghost use Rattle.journal.specs.Step.{IsStep, IsNext, KeepsBuffer};
-ghost use Rattle.journal.specs.Header.{IsHeader};
+ghost use Rattle.journal.specs.Header.{IsHeader, SaysAVersion};
 
-use crate::{HEADER, VERSION};
+use crate::HEADER;
 use chain_disk::Disk;
 use frames::{Frame, FrameBuf, WINDOW, read_frame};
 use parties::Nif;
 use ports::Failed;
+use record_fields::Version;
 use std::str;
 
 /// What stands at a gate of the file.
@@ -29,7 +30,7 @@ pub enum Step {
 pub enum Header {
     /// The file stands for the empty history of any issuer.
     NotBegun,
-    /// A sound header.
+    /// A sound header, of version 1 or 2.
     Begun { issuer: Nif, version: u8 },
     /// The first row of the header's table that is wrong is at this byte.
     Damaged { at: u64 },
@@ -41,6 +42,7 @@ const LOOK: usize = HEADER + 2;
 /// What the first bytes of the file stand for. It reads at most 21 of them.
 pub fn read_header<D: Disk>(disk: &mut D) -> Result<Header, Failed>
     ensures header { IfOk result (λ header. IsTrue D.tells → IsHeader (D.told disk.old).content header) }
+    ensures version { IfOk result SaysAVersion }
     ensures same { D.told disk.new ≡ D.told disk.old }
     ensures cause { HasCause (D.faults disk.old) (D.faults disk.new) result }
 {
@@ -98,9 +100,9 @@ fn header_behind(file: &[u8]) -> Header
     if !is_mark(&file[1..9]) {
         return Header::Damaged { at: 1 };
     }
-    if file[9] != VERSION {
+    let Some(version) = Version::of_number(file[9]) else {
         return Header::Damaged { at: 9 };
-    }
+    };
     if file.len() < HEADER {
         return Header::Damaged {
             at: file.len() as u64,
@@ -109,7 +111,7 @@ fn header_behind(file: &[u8]) -> Header
     match issuer_in(&file[10..HEADER]) {
         Some(issuer) => Header::Begun {
             issuer,
-            version: VERSION,
+            version: version.number(),
         },
         None => Header::Damaged { at: 10 },
     }

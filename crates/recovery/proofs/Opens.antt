@@ -1,6 +1,7 @@
 -- A file that was opened.
 use Rattle.std.proofs.Common.{◌≡◌, ℕ, List, [], refl, sym, ◌∙◌, subst, inl, inr, Result, Ok, Err, IfOk}
-use Rattle.record_fields.specs.declared.versions.Version.TheVariants.{One}
+use Rattle.record_fields.specs.declared.versions.Version.{Version}
+use Rattle.record_fields.specs.declared.versions.Version.TheVariants.{Two}
 use Rattle.recovery.specs.Opening.{IsFound}
 use Rattle.chain_disk.specs.OnDisk.{OnDisk, IsSettled, LeavesNow, LeavesOnly, synced}
 use Rattle.chain_disk.specs.Runs.{leaves_now, started_settled, weaker}
@@ -12,15 +13,16 @@ use Rattle.chain_store.specs.declared.loading.Loaded.{Loaded}
 use Rattle.shop_core.specs.File.Files.{StandsFor, bodies_of}
 
 -- a file that was begun stands for the empty history
-pub begun : (issuer : List ℕ) (t : OnDisk) → Legal One issuer [] → LeavesNow t (IsFile issuer []) →
-    LeavesNow t (StandsFor issuer [])
+pub begun : (issuer : List ℕ) (t : OnDisk) → Legal Two issuer [] → LeavesNow t (IsFile Two issuer []) →
+    LeavesNow t (StandsFor Two issuer [])
 begun issuer t legal only = λ c left. record { frames = only c left; encoded = tt; legal = legal }
 
-pub at_some : (issuer : List ℕ) (entries : List Entry) (end : ℕ) (t : OnDisk) → StandsFor issuer entries t.content →
-    end ≡ closing_gate (bodies_of entries) → IsSettled t → IsAtSome end t
-at_some issuer entries end t stands place quiet = ∣ (
+pub at_some : (version : Version) (issuer : List ℕ) (entries : List Entry) (end : ℕ) (t : OnDisk) →
+    StandsFor version issuer entries t.content → end ≡ closing_gate (bodies_of version entries) → IsSettled t → IsAtSome end t
+at_some version issuer entries end t stands place quiet = ∣ (
+  version,
   issuer,
-  bodies_of entries,
+  bodies_of version entries,
   record {
     file = stands.frames;
     place = place;
@@ -28,23 +30,23 @@ at_some issuer entries end t stands place quiet = ∣ (
   },
 ) ∣₁
 
-pub stays : (issuer : List ℕ) (entries : List Entry) (t : OnDisk) → StandsFor issuer entries t.content → IsSettled t →
-    LeavesNow t (StandsFor issuer entries)
-stays issuer entries t stands quiet = leaves_now t (StandsFor issuer entries) quiet stands
+pub stays : (version : Version) (issuer : List ℕ) (entries : List Entry) (t : OnDisk) →
+    StandsFor version issuer entries t.content → IsSettled t → LeavesNow t (StandsFor version issuer entries)
+stays version issuer entries t stands quiet = leaves_now t (StandsFor version issuer entries) quiet stands
 
-found_empty : (issuer c : List ℕ) → Legal One issuer [] → IsNotBegunOrEmpty issuer c → IsFound issuer [] c
-found_empty issuer c legal (inl not_begun) = inl (not_begun, refl)
+found_empty : (issuer c : List ℕ) → Legal Two issuer [] → IsNotBegunOrEmpty Two issuer c → IsFound Two issuer [] c
+found_empty issuer c legal (inl not_begun) = inl (not_begun, refl, refl)
 found_empty issuer c legal (inr file) = inr (record { frames = file; encoded = tt; legal = legal })
 
 -- while a file is begun, each crash leaves the empty history
-pub begins : (issuer : List ℕ) (t u : OnDisk) → Legal One issuer [] → LeavesOnly t u (IsNotBegunOrEmpty issuer) →
-    LeavesOnly t u (IsFound issuer [])
-begins issuer t u legal only = weaker t u (IsNotBegunOrEmpty issuer) (IsFound issuer []) only (λ c left. found_empty issuer c
-    legal left)
+pub begins : (issuer : List ℕ) (t u : OnDisk) → Legal Two issuer [] → LeavesOnly t u (IsNotBegunOrEmpty Two issuer) →
+    LeavesOnly t u (IsFound Two issuer [])
+begins issuer t u legal only = weaker t u (IsNotBegunOrEmpty Two issuer) (IsFound Two issuer []) only
+    (λ c left. found_empty issuer c legal left)
 
-pub holds_on : (issuer : List ℕ) (entries : List Entry) (t : OnDisk) → StandsFor issuer entries t.content → IsSettled t →
-    LeavesOnly t t (IsFound issuer entries)
-holds_on issuer entries t stands quiet = started_settled t (IsFound issuer entries) quiet (inr stands)
+pub holds_on : (version : Version) (issuer : List ℕ) (entries : List Entry) (t : OnDisk) →
+    StandsFor version issuer entries t.content → IsSettled t → LeavesOnly t t (IsFound version issuer entries)
+holds_on version issuer entries t stands quiet = started_settled t (IsFound version issuer entries) quiet (inr stands)
 
 -- what was loaded behind a sync, which the loading left
 pub loaded_settled : (t u v : OnDisk) (loaded : Loaded) → u ≡ synced t → v ≡ u → IsLoaded u.content loaded →

@@ -1,6 +1,6 @@
 -- A store is ready at the history that its file was found to stand for.
-use Rattle.std.proofs.Common.{◌≡◌, ℕ, ◌≤◌, List, [], refl, sym, subst, arith, Bool, IsTrue, Option, None}
-use Rattle.record_fields.specs.declared.versions.Version.TheVariants.{One}
+use Rattle.std.proofs.Common.{◌≡◌, ℕ, ◌≤◌, List, [], sym, subst, arith, Bool, IsTrue, Option, None}
+use Rattle.record_fields.specs.declared.versions.Version.TheVariants.{Two}
 use Rattle.chain_disk.specs.OnDisk.{OnDisk, IsSettled}
 use Rattle.journal.specs.File.{IsAt, closing_gate}
 use Rattle.shop_core.specs.File.Files.{StandsFor, bodies_of, furthest_gate}
@@ -9,22 +9,23 @@ use Rattle.chain_store.specs.Ready.{IsReady}
 
 -- of a file that was begun
 pub ready_empty : (tells : Bool) (issuer : List ℕ) (history : History) (stopped : Option ℕ) (gate : ℕ) (t : OnDisk) →
-    history ≡ record { issuer = issuer; version = One; entries = []; room = None } →
-    gate ≡ 19 → (IsTrue tells → IsAt issuer [] gate t) → IsReady tells history stopped gate t
+    history ≡ record { issuer = issuer; version = Two; entries = []; room = None } →
+    gate ≡ 19 → (IsTrue tells → IsAt Two issuer [] gate t) → IsReady tells history stopped gate t
 ready_empty tells issuer history stopped gate t made at file = subst (λ (h : History). IsReady tells h stopped gate t) (sym made)
     (record {
       place = omega arith;
-      holds = λ going told. record { file = file told; encoded = tt; version = refl };
+      holds = λ going told. record { file = file told; encoded = tt };
     })
 
 -- of a file that was read
 pub ready_held : (tells : Bool) (history : History) (stopped : Option ℕ) (gate : ℕ) (t : OnDisk) →
-    gate ≤ furthest_gate history.entries → history.version ≡ One →
-    (IsTrue tells → (StandsFor history.issuer history.entries t.content × (gate ≡ closing_gate (bodies_of history.entries))) ×
+    gate ≤ furthest_gate history.entries →
+    (IsTrue tells → (StandsFor history.version history.issuer history.entries t.content
+    × (gate ≡ closing_gate (bodies_of history.version history.entries))) ×
     IsSettled t) → IsReady tells history stopped gate t
-ready_held tells history stopped gate t place version found = record {
+ready_held tells history stopped gate t place found = record {
   place = place;
   holds = λ going told.
       let h = found told in
-      record { file = record { file = h.0.0.frames; place = h.0.1; nothing_pending = h.1 }; encoded = h.0.0.encoded; version = version };
+      record { file = record { file = h.0.0.frames; place = h.0.1; nothing_pending = h.1 }; encoded = h.0.0.encoded };
 }

@@ -1,1 +1,4 @@
 pub mod Opening
+pub mod Moving
+pub mod Causes
+pub mod Held

@@ -3,20 +3,25 @@ use Rattle.std.specs.Prelude.{◌≡◌, ◌≢◌, ◌⊎◌, ℕ, List, []}
 use Rattle.chain_disk.specs.OnDisk.{OnDisk, IsSyncFailed, LeavesOnly, synced}
 use Rattle.journal.specs.File.{IsNotBegun, IsNotBegunOrEmpty}
 use Rattle.journal.specs.Written.{CreationTakes, empty_file}
+use Rattle.record_fields.specs.declared.versions.Version.{Version}
+use Rattle.record_fields.specs.declared.versions.Version.TheVariants.{Two}
 use Rattle.record_codec.specs.declared.entry.Entry.{Entry}
 use Rattle.shop_core.specs.File.Files.{IsDamagedFile, StandsFor}
 use Rattle.chain_store.specs.declared.causes.OpenCause.{OpenCause}
 use Rattle.chain_store.specs.declared.causes.OpenCause.TheVariants.{DiskFault, Damaged, OtherIssuer, NoMemory}
 
--- the file isn't begun, and then the history is empty; or it stands for this history of this issuer
-abbrev pub IsFound : List ℕ → List Entry → List ℕ → Type 0
-IsFound issuer entries file = (IsNotBegun file × (entries ≡ [])) ⊎ StandsFor issuer entries file
+-- the file isn't begun, and then the history is empty and of version Two; or it stands for this history of this version and
+-- issuer
+abbrev pub IsFound : Version → List ℕ → List Entry → List ℕ → Type 0
+IsFound version issuer entries file =
+    (IsNotBegun file × (entries ≡ []) × (version ≡ Two)) ⊎ StandsFor version issuer entries file
 
--- a file that wasn't begun is still none, or is begun and empty; so is each that a crash since this moment may leave
+-- a file that wasn't begun is still none, or is begun in version Two and empty; so is each that a crash since this moment may
+-- leave
 pub record IsBegunInPart (issuer : List ℕ) (settled new : OnDisk) : Type 0 where
   pub not_begun : IsNotBegun settled.content
-  pub reads : IsNotBegunOrEmpty issuer new.content
-  pub any_moment : LeavesOnly settled new (IsNotBegunOrEmpty issuer)
+  pub reads : IsNotBegunOrEmpty Two issuer new.content
+  pub any_moment : LeavesOnly settled new (IsNotBegunOrEmpty Two issuer)
 
 -- nothing was written of a file that was begun already: what the disk tells is what a sync leaves
 abbrev pub IsOnlySynced : OnDisk → OnDisk → Type 0
@@ -26,16 +31,17 @@ IsOnlySynced old new = (IsNotBegun old.content → ⊥) → new ≡ synced old
 abbrev pub IsAtMostSynced : OnDisk → OnDisk → Type 0
 IsAtMostSynced old new = (IsNotBegun old.content → ⊥) → (new ≡ synced old) ⊎ IsSyncFailed old new
 
--- a file that wasn't begun has its twenty bytes, and was written for that alone
+-- a file that wasn't begun has its twenty bytes, of version Two, and was written for that alone
 pub record IsCreation (issuer : List ℕ) (settled new : OnDisk) : Type 0 where
-  pub content : new.content ≡ empty_file issuer
+  pub content : new.content ≡ empty_file Two issuer
   pub takes : CreationTakes settled new
 
 -- the file stands for a chain of another issuer
 pub record IsOthers (issuer held file : List ℕ) : Type 0 where
   pub other : held ≢ issuer
+  pub version : Version
   pub entries : List Entry
-  pub stands : StandsFor held entries file
+  pub stands : StandsFor version held entries file
 
 -- What is left where the disk failed: by the sync at the start, which then did nothing or left all pending; by a reading,
 -- after that sync; or while the file was begun.

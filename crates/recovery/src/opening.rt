@@ -1,6 +1,6 @@
 // Opens a file for an issuer.
-ghost use Rattle.std.specs.Prelude.{◌≡◌, ◌≢◌, ◌≤◌, [], ℕ, IsTrue, IfOk, IfErr, None};
-ghost use Rattle.record_fields.specs.declared.versions.Version.TheVariants.{One};
+ghost use Rattle.std.specs.Prelude.{◌≡◌, ◌≢◌, ◌≤◌, [], IsTrue, IfOk, IfErr, None};
+ghost use Rattle.record_fields.specs.declared.versions.Version.TheVariants.{Two};
 ghost use Rattle.ports.specs.Causes.{Rose};
 ghost use Rattle.chain_disk.specs.OnDisk.{IsSettled, LeavesNow, LeavesOnly, synced};
 ghost use Rattle.journal.specs.File.{IsNotBegun};
@@ -30,7 +30,8 @@ pub struct OpenFault<D: Disk, C: Clock> {
 }
 
 /// Opens the file of an issuer's chain, and begins it where it isn't begun. The clock isn't read. First the file is synced, so
-/// that a crash leaves what is read. Every file is of version One. A damaged file and one of another issuer are left as they are.
+/// that a crash leaves what is read. A new file is of version Two, and one of version One goes on as One. A damaged file and one
+/// of another issuer are left as they are.
 pub fn open_store<D: Disk, C: Clock>(
     alloc: Global,
     disk: D,
@@ -41,14 +42,16 @@ pub fn open_store<D: Disk, C: Clock>(
     ensures going_on { IfOk result (λ store. stopped_of (journal_of store) ≡ None) }
     ensures no_torn { IfOk result (λ store. torn_of store ≡ None) }
     ensures issuer { IfOk result (λ store. (state_of store).issuer ≡ issuer.now) }
-    ensures version { IfOk result (λ store. (state_of store).version ≡ One) }
-    ensures found { IfOk result (λ store. IsTrue D.tells → IsFound issuer.now (state_of store).entries (D.told disk).content) }
+    ensures found { IfOk result (λ store. IsTrue D.tells →
+        IsFound (state_of store).version issuer.now (state_of store).entries (D.told disk).content) }
     ensures every_crash { IfOk result (λ store. IsTrue D.tells →
-        LeavesNow (D.told (disk_of (journal_of store))) (StandsFor issuer.now (state_of store).entries)) }
+        LeavesNow (D.told (disk_of (journal_of store)))
+        (StandsFor (state_of store).version issuer.now (state_of store).entries)) }
 
     // From its first sync on, a crash at any moment of the call leaves what was found.
     ensures any_moment { IfOk result (λ store. IsTrue D.tells →
-        LeavesOnly (synced (D.told disk)) (D.told (disk_of (journal_of store))) (IsFound issuer.now (state_of store).entries)) }
+        LeavesOnly (synced (D.told disk)) (D.told (disk_of (journal_of store)))
+        (IsFound (state_of store).version issuer.now (state_of store).entries)) }
 
     // Nothing is written but a file's creation: of a file that is begun already the sync is all that is told.
     ensures unwritten { IfOk result (λ store. IsTrue D.tells →
@@ -95,7 +98,6 @@ fn open_held<D: Disk, C: Clock>(
     end: u64,
 ) -> Result<Store<D, C>, OpenFault<D, C>>
     requires near { end ≤ furthest_gate state.entries }
-    requires version { state.version ≡ One }
     requires holds { IsTrue D.tells → IsLoaded (D.told disk).content (Begun state end) × IsSettled (D.told disk) }
     ensures ready { IfOk result (λ store. Ready D.tells D.told store) }
     ensures going_on { IfOk result (λ store. stopped_of (journal_of store) ≡ None) }
@@ -103,9 +105,11 @@ fn open_held<D: Disk, C: Clock>(
     ensures same { IfOk result (λ store. (state.issuer ≡ issuer.now) × (state_of store ≡ state) × (clock_of store ≡ clock)
         × (disk_of (journal_of store) ≡ disk)) }
     ensures every_crash { IfOk result (λ store. IsTrue D.tells →
-        LeavesNow (D.told (disk_of (journal_of store))) (StandsFor issuer.now (state_of store).entries)) }
+        LeavesNow (D.told (disk_of (journal_of store)))
+        (StandsFor (state_of store).version issuer.now (state_of store).entries)) }
     ensures any_moment { IfOk result (λ store. IsTrue D.tells →
-        LeavesOnly (D.told disk) (D.told (disk_of (journal_of store))) (IsFound issuer.now (state_of store).entries)) }
+        LeavesOnly (D.told disk) (D.told (disk_of (journal_of store)))
+        (IsFound (state_of store).version issuer.now (state_of store).entries)) }
     ensures other { IfErr result (λ fault. (fault.cause ≡ cause.OtherIssuer state.issuer) × (state.issuer ≢ issuer.now)
         × (fault.disk ≡ disk) × (fault.clock ≡ clock)) }
 {
@@ -121,7 +125,7 @@ fn open_held<D: Disk, C: Clock>(
     Ok(Store::of(state, Journal::at(disk, end), clock))
 }
 
-// The store of a file that isn't begun, which begins it.
+// The store of a file that isn't begun, which begins it in version Two.
 fn begin<D: Disk, C: Clock>(
     alloc: Global,
     disk: D,
@@ -132,13 +136,15 @@ fn begin<D: Disk, C: Clock>(
     ensures ready { IfOk result (λ store. Ready D.tells D.told store) }
     ensures going_on { IfOk result (λ store. stopped_of (journal_of store) ≡ None) }
     ensures no_torn { IfOk result (λ store. torn_of store ≡ None) }
-    ensures empty { IfOk result (λ store. ((state_of store).issuer ≡ issuer.now) × ((state_of store).version ≡ One)
+    ensures empty { IfOk result (λ store. ((state_of store).issuer ≡ issuer.now) × ((state_of store).version ≡ Two)
         × ((state_of store).entries ≡ [])
         × (clock_of store ≡ clock)) }
     ensures every_crash { IfOk result (λ store. IsTrue D.tells →
-        LeavesNow (D.told (disk_of (journal_of store))) (StandsFor issuer.now (state_of store).entries)) }
+        LeavesNow (D.told (disk_of (journal_of store)))
+        (StandsFor (state_of store).version issuer.now (state_of store).entries)) }
     ensures any_moment { IfOk result (λ store. IsTrue D.tells →
-        LeavesOnly (D.told disk) (D.told (disk_of (journal_of store))) (IsFound issuer.now (state_of store).entries)) }
+        LeavesOnly (D.told disk) (D.told (disk_of (journal_of store)))
+        (IsFound (state_of store).version issuer.now (state_of store).entries)) }
     ensures created { IfOk result (λ store. IsTrue D.tells →
         IsCreation issuer.now (D.told disk) (D.told (disk_of (journal_of store)))) }
     ensures in_part { IfErr result (λ fault. IsTrue D.tells → IsBegunInPart issuer.now (D.told disk) (D.told fault.disk)) }
@@ -147,9 +153,9 @@ fn begin<D: Disk, C: Clock>(
     ensures later { IfOk result (λ store. D.faults disk ≤ D.faults (disk_of (journal_of store))) }
     ensures later_err { IfErr result (λ fault. D.faults disk ≤ D.faults fault.disk) }
 {
-    let state = State::empty(alloc, issuer, Version::One);
+    let state = State::empty(alloc, issuer, Version::Two);
     state.is_legal();
-    match Journal::create(disk, issuer) {
+    match Journal::create(disk, issuer, Version::Two) {
         Ok(journal) => Ok(Store::of(state, journal, clock)),
         Err(Lost { disk }) => Err(OpenFault {
             cause: OpenCause::DiskFault,

@@ -12,7 +12,7 @@ use Rattle.journal.specs.Header.{HasMark, HasVersion, IsBegun, IsHeaderDamaged}
 use Rattle.journal.specs.Header.IsHeaderDamaged.{cut_in_mark, cut_in_issuer}
 use Rattle.journal.specs.Laws.{WalkEnds}
 use Rattle.record_codec.specs.Writing.{entry_bytes}
-use Rattle.record_fields.specs.declared.versions.Version.TheVariants.{One}
+use Rattle.record_fields.specs.declared.versions.Version.{Version}
 use Rattle.record_codec.specs.declared.entry.Entry.{Entry}
 use Rattle.shop_core.specs.File.Laws.{CutIsDamaged, IsCutAt, SoundBegins, SoundGoesOn}
 use Rattle.shop_core.specs.File.Laws.IsCutAt.{in_frame, in_header as in_the_header}
@@ -30,25 +30,26 @@ module _ (front rest : List ℕ) where
         take-append-le 8 (drop 1 front) rest (omega (arith, long, length-drop 1 front))) ∙ has.mark;
   }
 
-  versioned : 10 ≤ length front → HasVersion (front ++ rest) → HasVersion front
-  versioned long has = record {
+  versioned : (version : Version) → 10 ≤ length front → HasVersion version (front ++ rest) → HasVersion version front
+  versioned version long has = record {
     marked = marked long has.marked;
-    version = sym (get_or_append_left front rest 0 9 (omega (arith, long))) ∙ has.version;
+    number = sym (get_or_append_left front rest 0 9 (omega (arith, long))) ∙ has.number;
   }
 
-  begun : (issuer : List ℕ) → 19 ≤ length front → IsBegun issuer (front ++ rest) → IsBegun issuer front
-  begun issuer long is = record {
-    versioned = versioned (omega (arith, long)) is.versioned;
+  begun : (version : Version) (issuer : List ℕ) → 19 ≤ length front →
+      IsBegun version issuer (front ++ rest) → IsBegun version issuer front
+  begun version issuer long is = record {
+    versioned = versioned version (omega (arith, long)) is.versioned;
     long = long;
     issuer_is = sym (ap (λ (l : List ℕ). take 9 l) (drop-append-le 10 front rest (omega (arith, long))) ∙
         take-append-le 9 (drop 10 front) rest (omega (arith, long, length-drop 10 front))) ∙ is.issuer_is;
     nif = is.nif;
   }
 
-  cut_header : (issuer : List ℕ) → 2 ≤ length front → length front < 19 → IsBegun issuer (front ++ rest) →
-      IsHeaderDamaged front (length front)
-  cut_header issuer some short is = elim (cases_lt 9 (length front)) [
-    | inl marked ↦ cut_in_issuer (versioned (omega (arith, marked)) is.versioned) short
+  cut_header : (version : Version) (issuer : List ℕ) → 2 ≤ length front → length front < 19 →
+      IsBegun version issuer (front ++ rest) → IsHeaderDamaged front (length front)
+  cut_header version issuer some short is = elim (cases_lt 9 (length front)) [
+    | inl marked ↦ cut_in_issuer version (versioned version (omega (arith, marked)) is.versioned) short
     | inr few ↦ cut_in_mark (sym (get_or_append_left front rest 0 0 (omega (arith, some))) ∙ is.versioned.marked.first) some few
   ]
 
@@ -127,32 +128,34 @@ cut_frame one r s body bodies tail size some same short =
     }
 
 -- where a front is damaged
-abbrev Broken : List Entry → List ℕ → Type 0
-Broken entries front = (at : ℕ) × IsCutAt entries (length front) at × IsDamagedFile front at
+abbrev Broken : Version → List Entry → List ℕ → Type 0
+Broken version entries front = (at : ℕ) × IsCutAt version entries (length front) at × IsDamagedFile front at
 
-walked : OneFrame → SoundGoesOn → (issuer : List ℕ) (entries before after : List Entry) (at : ℕ) (front rest tail : List ℕ) →
-    entries ≡ before ++ after → Legal One issuer entries → AreEncoded issuer after → AreBodies (bodies_of after) →
-    IsSoundUpTo issuer before at front → at < length front → drop at front ++ rest ≡ framed (bodies_of after) ++ tail →
-    length tail ≡ 1 → 1 ≤ length rest → Broken entries front
-walked one goes_on issuer entries before [] at front rest tail is legal encoded sizes sound inside bytes closes cut =
+walked : OneFrame → SoundGoesOn → (version : Version) (issuer : List ℕ) (entries before after : List Entry) (at : ℕ)
+    (front rest tail : List ℕ) → entries ≡ before ++ after → Legal version issuer entries → AreEncoded version issuer after →
+    AreBodies (bodies_of version after) → IsSoundUpTo version issuer before at front → at < length front →
+    drop at front ++ rest ≡ framed (bodies_of version after) ++ tail → length tail ≡ 1 → 1 ≤ length rest →
+    Broken version entries front
+walked one goes_on version issuer entries before [] at front rest tail is legal encoded sizes sound inside bytes closes cut =
     absurd (omega (arith, inside, closes, cut, ap length bytes, length-append (drop at front) rest, length-drop at front))
-walked one goes_on issuer entries before (e ∷ after) at front rest tail is legal encoded sizes sound inside bytes closes cut =
-    let body = entry_bytes One e in
+walked one goes_on version issuer entries before (e ∷ after) at front rest tail is legal encoded sizes sound inside bytes
+    closes cut =
+    let body = entry_bytes version e in
     elim (cases_lt (at + 5 + length body) (length front)) [
       | inl further ↦
-          let w = whole (drop at front) rest body (bodies_of after) tail sizes.0 bytes
+          let w = whole (drop at front) rest body (bodies_of version after) tail sizes.0 bytes
           (omega (arith, further, length-drop at front)) in
-          let next = goes_on issuer before at front body e sound w.counted encoded.0 (legal before after e is) in
+          let next = goes_on version issuer before at front body e sound w.counted encoded.0 (legal before after e is) in
           let far : at + (5 + length body) ≡ at + 5 + length body = omega arith in
           let place : drop (5 + length body) (drop at front) ≡ drop (at + 5 + length body) front =
           drop-drop (5 + length body) at front ∙ ap (λ (k : ℕ). drop k front) far in
-          walked one goes_on issuer entries (before ++ e ∷ []) after (at + 5 + length body) front rest tail
+          walked one goes_on version issuer entries (before ++ e ∷ []) after (at + 5 + length body) front rest tail
           (is ∙ sym (append_assoc before (e ∷ []) after)) legal encoded.1 sizes.1 next further
           (ap (λ (l : List ℕ). l ++ rest) (sym place) ∙ w.behind) closes cut
       | inr short ↦ (
         at,
         in_frame before after e at is sound.frames.place inside short,
-        no_frame issuer before at sound (cut_frame one (drop at front) rest body (bodies_of after) tail sizes.0
+        no_frame version issuer before at sound (cut_frame one (drop at front) rest body (bodies_of version after) tail sizes.0
             (omega (arith, closes)) bytes (omega (arith, short, length-drop at front))),
       )
     ]
@@ -165,27 +168,27 @@ nothing_left r none = record {
 }
 
 pub cut_is_damaged : OneFrame → WalkEnds → SoundBegins → SoundGoesOn → CutIsDamaged
-cut_is_damaged one ends begins goes_on issuer entries front rest stands closes some cut =
+cut_is_damaged one ends begins goes_on version issuer entries front rest stands closes some cut =
     let file = front ++ rest in
-    let gate = closing_gate (bodies_of entries) in
-    let walk = (ends issuer (bodies_of entries) file).0 stands.frames in
+    let gate = closing_gate (bodies_of version entries) in
+    let walk = (ends version issuer (bodies_of version entries) file).0 stands.frames in
     elim (cases_lt (length front) 19) [
       | inl few ↦ (
         length front,
         in_the_header (omega (arith, few)),
-        in_header (length front) (cut_header front rest issuer some few walk.0),
+        in_header (length front) (cut_header front rest version issuer some few walk.0),
       )
       | inr long ↦
-          let sound = begins issuer front (begun front rest issuer long walk.0) in
+          let sound = begins version issuer front (begun front rest version issuer long walk.0) in
           elim (cases_lt 19 (length front)) [
-            | inl more ↦ walked one goes_on issuer entries [] entries 19 front rest (drop gate file) refl stands.legal
+            | inl more ↦ walked one goes_on version issuer entries [] entries 19 front rest (drop gate file) refl stands.legal
                 stands.encoded stands.frames.sizes sound more (sym (drop-append-le 19 front rest long) ∙ walk.1.bytes)
                 (omega (arith, closes, length-drop gate file)) cut
             | inr all ↦
                 let is : length front ≡ 19 = omega (arith, long, all) in (
                   length front,
                   in_the_header (omega (arith, all)),
-                  subst (λ (k : ℕ). IsDamagedFile front k) (sym is) (no_frame issuer [] 19 sound
+                  subst (λ (k : ℕ). IsDamagedFile front k) (sym is) (no_frame version issuer [] 19 sound
                       (nothing_left (drop 19 front) (drop_all 19 front all))),
                 )
           ]

@@ -27,8 +27,9 @@ unread fault at e h = absurd cc
 
 pub broken_is_damaged : BrokenIsDamaged
 broken_is_damaged file place at what (in_header _ damage) = damaged_header at damage
-broken_is_damaged file place at what (no_frame issuer entries _ sound shape) = damaged_frame issuer entries at sound shape
-broken_is_damaged file place at what (no_entry issuer entries _ body sound counted none) = damaged_body issuer entries at body
-    sound counted none
-broken_is_damaged file place at what (not_next issuer entries _ body entry why sound counted encoding never broken) =
-    damaged_entry issuer entries at body entry sound counted encoding never
+broken_is_damaged file place at what (no_frame version issuer entries _ sound shape) =
+    damaged_frame version issuer entries at sound shape
+broken_is_damaged file place at what (no_entry version issuer entries _ body sound counted none) =
+    damaged_body version issuer entries at body sound counted none
+broken_is_damaged file place at what (not_next version issuer entries _ body entry why sound counted encoding never broken) =
+    damaged_entry version issuer entries at body entry sound counted encoding never

@@ -103,7 +103,7 @@ module _ {D C : Type 0} (tells : Bool) (told : D → OnDisk) (faults : D → ℕ
     pub legal : Legal q.state.version q.state.issuer q.state.entries
     pub takes : p.stopped ≡ None → Takes (call_of tells told coming p q) ask r
     pub torn : r ≡ Err DiskFault → StoreTears (call_of tells told coming p q) ask q.torn
-    pub acknowledged : OnOk r (IsTrue tells → LeavesNow (told q.disk) (StandsFor q.state.issuer q.state.entries))
+    pub acknowledged : OnOk r (IsTrue tells → LeavesNow (told q.disk) (StandsFor q.state.version q.state.issuer q.state.entries))
     pub going_on : OnOk r ((p.stopped ≡ None) × (q.stopped ≡ None))
     pub no_memory : r ≡ Err NoMemory → (q.disk ≡ p.disk) × (q.stopped ≡ p.stopped)
     pub fault : r ≡ Err DiskFault → Rose (faults p.disk) (faults q.disk) × (q.stopped ≡ Some (faults q.disk))
@@ -137,10 +137,11 @@ module _ {D C : Type 0} (tells : Bool) (told : D → OnDisk) (faults : D → ℕ
       let takes = t.takes going in
       let planned = answer p.state.version p.state.issuer p.state.entries ask takes.seconds in
       let clock : IsLater coming root.clock q.clock = later_more coming root.clock p.clock q.clock 1 s.clock takes.moved in
-      let sound = sound_gains tells told faults coming root p q takes.gained (StandsAround p.state.issuer p.state.entries planned)
+      let sound = sound_gains tells told faults coming root p q takes.gained (StandsAround p.state.version p.state.issuer p.state.entries planned)
       s going t.going_on.1 t.ready takes.issuer takes.version t.legal takes.entries clock
-      takes.any_moment (λ c h. between_around root.issuer root.history p.state.entries takes.gained planned reply c s.begins
-      takes.reply (subst (λ (n : List ℕ). StandsAround n p.state.entries planned c) s.issuer h))
+      takes.any_moment (λ c h. between_around root.version root.issuer root.history p.state.entries takes.gained planned reply c s.begins
+      takes.reply (subst (λ (v : Version). StandsAround v root.issuer p.state.entries planned c) s.version
+      (subst (λ (n : List ℕ). StandsAround p.state.version n p.state.entries planned c) s.issuer h)))
       t.acknowledged t.later in
       outcome p q ask (Ok reply) sound (record {
         history = p.state.entries;

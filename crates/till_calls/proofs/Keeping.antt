@@ -46,48 +46,48 @@ front_all entries = ([], sym (append-nil entries))
 prefix_all : (entries : List Entry) → IsPrefix entries entries
 prefix_all entries = record { rest = []; is = sym (append-nil entries) }
 
-between_more : (issuer : List ℕ) (start end gained : List Entry) (c : List ℕ) → StandsBetween issuer start end c →
-    StandsBetween issuer start (end ++ gained) c
-between_more issuer start end gained c h = record {
+between_more : (version : Version) (issuer : List ℕ) (start end gained : List Entry) (c : List ℕ) → StandsBetween version issuer start end c →
+    StandsBetween version issuer start (end ++ gained) c
+between_more version issuer start end gained c h = record {
   history = h.history;
   stands = h.stands;
   begins = h.begins;
   within = prefix_more h.history end gained h.within;
 }
 
-between_all : (issuer : List ℕ) (start entries gained : List Entry) (c : List ℕ) → StartsWith entries start →
-    StandsFor issuer entries c → StandsBetween issuer start (entries ++ gained) c
-between_all issuer start entries gained c begins stands = record {
+between_all : (version : Version) (issuer : List ℕ) (start entries gained : List Entry) (c : List ℕ) → StartsWith entries start →
+    StandsFor version issuer entries c → StandsBetween version issuer start (entries ++ gained) c
+between_all version issuer start entries gained c begins stands = record {
   history = entries;
   stands = stands;
   begins = record { rest = begins.0; is = begins.1 };
   within = prefix_more entries entries gained (prefix_all entries);
 }
 
-between_whole : (issuer : List ℕ) (start entries gained : List Entry) (c : List ℕ) → StartsWith entries start →
-    StandsFor issuer (entries ++ gained) c → StandsBetween issuer start (entries ++ gained) c
-between_whole issuer start entries gained c begins stands = record {
+between_whole : (version : Version) (issuer : List ℕ) (start entries gained : List Entry) (c : List ℕ) → StartsWith entries start →
+    StandsFor version issuer (entries ++ gained) c → StandsBetween version issuer start (entries ++ gained) c
+between_whole version issuer start entries gained c begins stands = record {
   history = entries ++ gained;
   stands = stands;
   begins = prefix_more start entries gained (record { rest = begins.0; is = begins.1 });
   within = prefix_all (entries ++ gained);
 }
 
-pub between_with : (issuer : List ℕ) (start entries : List Entry) (entry : Entry) (c : List ℕ) → StartsWith entries start →
-    StandsBeforeOrWith issuer entries entry c →
-    StandsBetween issuer start (entries ++ entry ∷ []) c
-between_with issuer start entries entry c begins (inl before) = between_all issuer start entries (entry ∷ []) c begins before
-between_with issuer start entries entry c begins (inr with_it) = between_whole issuer start entries (entry ∷ []) c begins with_it
+pub between_with : (version : Version) (issuer : List ℕ) (start entries : List Entry) (entry : Entry) (c : List ℕ) → StartsWith entries start →
+    StandsBeforeOrWith version issuer entries entry c →
+    StandsBetween version issuer start (entries ++ entry ∷ []) c
+between_with version issuer start entries entry c begins (inl before) = between_all version issuer start entries (entry ∷ []) c begins before
+between_with version issuer start entries entry c begins (inr with_it) = between_whole version issuer start entries (entry ∷ []) c begins with_it
 
-pub between_around : (issuer : List ℕ) (start entries gained : List Entry) (planned : Planned) (reply : Reply) (c : List ℕ) →
+pub between_around : (version : Version) (issuer : List ℕ) (start entries gained : List Entry) (planned : Planned) (reply : Reply) (c : List ℕ) →
     StartsWith entries start → Tells entries planned reply gained →
-    StandsAround issuer entries planned c → StandsBetween issuer start (entries ++ gained) c
-between_around issuer start entries gained (Again receipt) reply c begins tells stands = between_all issuer start entries gained c
+    StandsAround version issuer entries planned c → StandsBetween version issuer start (entries ++ gained) c
+between_around version issuer start entries gained (Again receipt) reply c begins tells stands = between_all version issuer start entries gained c
     begins stands
-between_around issuer start entries gained (Refused why) reply c begins tells stands = between_all issuer start entries gained c
+between_around version issuer start entries gained (Refused why) reply c begins tells stands = between_all version issuer start entries gained c
     begins stands
-between_around issuer start entries gained (Made entry) reply c begins tells stands =
-    subst (λ (es : List Entry). StandsBetween issuer start (entries ++ es) c) (sym tells.1) (between_with issuer start entries
+between_around version issuer start entries gained (Made entry) reply c begins tells stands =
+    subst (λ (es : List Entry). StandsBetween version issuer start (entries ++ es) c) (sym tells.1) (between_with version issuer start entries
     entry c begins stands)
 
 pub later_more : {C : Type 0} (coming : C → ℕ → Option ℕ) (start now next : C) (n : ℕ) → IsLater coming start now →
@@ -113,8 +113,8 @@ module _ {D C : Type 0} (tells : Bool) (told : D → OnDisk) (faults : D → ℕ
       q.state.version ≡ p.state.version → Legal q.state.version q.state.issuer q.state.entries →
       q.state.entries ≡ p.state.entries ++ gained →
       IsLater coming root.clock q.clock → (IsTrue tells → LeavesOnly (told p.disk) (told q.disk) P) →
-      ((c : List ℕ) → P c → StandsBetween root.issuer root.history (p.state.entries ++ gained) c) →
-      (IsTrue tells → LeavesNow (told q.disk) (StandsFor q.state.issuer q.state.entries)) → faults p.disk ≤ faults q.disk →
+      ((c : List ℕ) → P c → StandsBetween root.version root.issuer root.history (p.state.entries ++ gained) c) →
+      (IsTrue tells → LeavesNow (told q.disk) (StandsFor q.state.version q.state.issuer q.state.entries)) → faults p.disk ≤ faults q.disk →
       Sound q
   sound_gains p q gained P s going goes ready issuer version legal entries clock only between now later = record {
     ready = ready;
@@ -127,10 +127,11 @@ module _ {D C : Type 0} (tells : Bool) (told : D → OnDisk) (faults : D → ℕ
     clock = clock;
     crashes = λ says. subst (λ (es : List Entry). Leaves root q.state.entries es (told q.disk))
         (sym (none_torn q.state.entries q.stopped q.torn goes)) (record {
-          since = subst (λ (es : List Entry). LeavesOnly root.told (told q.disk) (StandsBetween root.issuer root.history es))
+          since = subst (λ (es : List Entry). LeavesOnly root.told (told q.disk) (StandsBetween root.version root.issuer root.history es))
               (sym entries)
               (follows root.told (told p.disk) (told q.disk) _ P _ (s.crashes says).since (only says) (λ c h. older c h) between);
-          whole = λ c left. inl (subst (λ (n : List ℕ). StandsFor n q.state.entries c) own (now says c left));
+          whole = λ c left. inl (subst (λ (v : Version). StandsFor v root.issuer q.state.entries c) (version ∙ s.version)
+              (subst (λ (n : List ℕ). StandsFor q.state.version n q.state.entries c) own (now says c left)));
         });
     stop = λ count e. absurd (let x : ◌≡◌ {A = Option ℕ} None (Some count) = sym goes ∙ e in cc);
     later = omega (arith, s.later, later);
@@ -139,10 +140,10 @@ module _ {D C : Type 0} (tells : Bool) (told : D → OnDisk) (faults : D → ℕ
       own : q.state.issuer ≡ root.issuer
       own = issuer ∙ s.issuer
 
-      older : (c : List ℕ) → StandsBetween root.issuer root.history (with_torn p.state.entries p.stopped p.torn) c →
-          StandsBetween root.issuer root.history (p.state.entries ++ gained) c
-      older c h = between_more root.issuer root.history p.state.entries gained c
-          (subst (λ (es : List Entry). StandsBetween root.issuer root.history es c) (none_torn p.state.entries p.stopped p.torn
+      older : (c : List ℕ) → StandsBetween root.version root.issuer root.history (with_torn p.state.entries p.stopped p.torn) c →
+          StandsBetween root.version root.issuer root.history (p.state.entries ++ gained) c
+      older c h = between_more root.version root.issuer root.history p.state.entries gained c
+          (subst (λ (es : List Entry). StandsBetween root.version root.issuer root.history es c) (none_torn p.state.entries p.stopped p.torn
           going) h)
 
   -- the disk was not called
@@ -175,7 +176,7 @@ module _ {D C : Type 0} (tells : Bool) (told : D → OnDisk) (faults : D → ℕ
       q.state.version ≡ p.state.version → q.state.entries ≡ p.state.entries →
       Continues p.state.version p.state.issuer p.state.entries entry →
       IsLater coming root.clock q.clock → (IsTrue tells → LeavesOnly (told p.disk) (told q.disk)
-      (StandsBeforeOrWith p.state.issuer p.state.entries entry)) →
+      (StandsBeforeOrWith p.state.version p.state.issuer p.state.entries entry)) →
       Rose (faults p.disk) (faults q.disk) → faults p.disk ≤ faults q.disk → Sound q
   sound_stops p q entry count s going stopped torn count_is ready issuer version entries continues clock only rose later =
       record {
@@ -193,7 +194,7 @@ module _ {D C : Type 0} (tells : Bool) (told : D → OnDisk) (faults : D → ℕ
             subst (λ (es : List Entry). Leaves root q.state.entries es (told q.disk)) (sym whole)
             (subst (λ (es : List Entry). Leaves root es (p.state.entries ++ entry ∷ []) (told q.disk)) (sym entries) (record {
               since = follows root.told (told p.disk) (told q.disk) _ _ _ (s.crashes says).since here (λ c h. older c h)
-                  (λ c h. between_with root.issuer root.history p.state.entries entry c s.begins (own c h));
+                  (λ c h. between_with root.version root.issuer root.history p.state.entries entry c s.begins (own c h));
               whole = λ c left. own c (here.each (moment (told q.disk)) c here.later left);
             }));
         stop = λ other e. record {
@@ -210,14 +211,15 @@ module _ {D C : Type 0} (tells : Bool) (told : D → OnDisk) (faults : D → ℕ
         later = omega (arith, s.later, later);
       }
     where
-      own : (c : List ℕ) → StandsBeforeOrWith p.state.issuer p.state.entries entry c → StandsBeforeOrWith root.issuer
+      own : (c : List ℕ) → StandsBeforeOrWith p.state.version p.state.issuer p.state.entries entry c → StandsBeforeOrWith root.version root.issuer
           p.state.entries entry c
-      own c h = subst (λ (n : List ℕ). StandsBeforeOrWith n p.state.entries entry c) s.issuer h
+      own c h = subst (λ (v : Version). StandsBeforeOrWith v root.issuer p.state.entries entry c) s.version
+          (subst (λ (n : List ℕ). StandsBeforeOrWith p.state.version n p.state.entries entry c) s.issuer h)
 
-      older : (c : List ℕ) → StandsBetween root.issuer root.history (with_torn p.state.entries p.stopped p.torn) c →
-          StandsBetween root.issuer root.history (p.state.entries ++ entry ∷ []) c
-      older c h = between_more root.issuer root.history p.state.entries (entry ∷ []) c
-          (subst (λ (es : List Entry). StandsBetween root.issuer root.history es c) (none_torn p.state.entries p.stopped p.torn
+      older : (c : List ℕ) → StandsBetween root.version root.issuer root.history (with_torn p.state.entries p.stopped p.torn) c →
+          StandsBetween root.version root.issuer root.history (p.state.entries ++ entry ∷ []) c
+      older c h = between_more root.version root.issuer root.history p.state.entries (entry ∷ []) c
+          (subst (λ (es : List Entry). StandsBetween root.version root.issuer root.history es c) (none_torn p.state.entries p.stopped p.torn
           going) h)
 
       rose_of : (other : ℕ) → other ≡ count → Rose root.faults other
@@ -243,22 +245,22 @@ module _ {D C : Type 0} (tells : Bool) (told : D → OnDisk) (faults : D → ℕ
     clock = record { number = 0; moved = λ k. ap (coming p.clock) (sym (zero-add k)) };
     crashes = λ says.
         let holds : Holds p.state p.gate (told p.disk) = ready.holds going says in
-        let stands : StandsFor p.state.issuer p.state.entries (told p.disk).content = record {
+        let stands : StandsFor p.state.version p.state.issuer p.state.entries (told p.disk).content = record {
           frames = holds.file.file;
           encoded = holds.encoded;
-          legal = subst (λ (v : Version). Legal v p.state.issuer p.state.entries) holds.version legal;
+          legal = legal;
         } in
         subst (λ (es : List Entry). Leaves (root_of told faults p) p.state.entries es (told p.disk))
         (sym (none_torn p.state.entries p.stopped p.torn going)) (record {
-          since = weaker (told p.disk) (told p.disk) (StandsFor p.state.issuer p.state.entries) _ (started_settled (told p.disk)
-              (StandsFor p.state.issuer p.state.entries) holds.file.nothing_pending stands)
+          since = weaker (told p.disk) (told p.disk) (StandsFor p.state.version p.state.issuer p.state.entries) _ (started_settled (told p.disk)
+              (StandsFor p.state.version p.state.issuer p.state.entries) holds.file.nothing_pending stands)
               (λ c h. record {
                 history = p.state.entries;
                 stands = h;
                 begins = prefix_all p.state.entries;
                 within = prefix_all p.state.entries;
               });
-          whole = λ c left. inl (leaves_now (told p.disk) (StandsFor p.state.issuer p.state.entries) holds.file.nothing_pending
+          whole = λ c left. inl (leaves_now (told p.disk) (StandsFor p.state.version p.state.issuer p.state.entries) holds.file.nothing_pending
               stands c left);
         });
     stop = λ count e. absurd (let x : ◌≡◌ {A = Option ℕ} None (Some count) = sym going ∙ e in cc);

@@ -10,6 +10,7 @@ use Rattle.shop_core.specs.File.Files.{StandsFor, StandsBeforeOrWith}
 use Rattle.journal.specs.declared.faults.StoreFault.{StoreFault}
 use Rattle.journal.specs.declared.faults.StoreFault.TheVariants.{DiskFault, Stopped, NoMemory}
 use Rattle.ports.specs.Causes.{Rose}
+use Rattle.record_fields.specs.declared.versions.Version.{Version}
 use Rattle.record_codec.specs.declared.entry.Entry.{Entry}
 use Rattle.record_codec.specs.declared.entry.Entry.TheVariants.{Notes}
 use Rattle.record_fields.specs.declared.lines.Line.{Line}
@@ -41,9 +42,9 @@ module _ {D C : Type 0} (tells : Bool) (told : D → OnDisk) (faults : D → ℕ
     pub added : OnOk r (q.state.entries ≡ p.state.entries ++ Notes (length (noted p.state.entries)) lines ∷ [])
     pub same : OnErr r (q.state.entries ≡ p.state.entries)
     pub clock : q.clock ≡ p.clock
-    pub any_moment : IsTrue tells → LeavesOnly (told p.disk) (told q.disk) (StandsBeforeOrWith p.state.issuer p.state.entries
+    pub any_moment : IsTrue tells → LeavesOnly (told p.disk) (told q.disk) (StandsBeforeOrWith p.state.version p.state.issuer p.state.entries
         (Notes (length (noted p.state.entries)) lines))
-    pub acknowledged : OnOk r (IsTrue tells → LeavesNow (told q.disk) (StandsFor q.state.issuer q.state.entries))
+    pub acknowledged : OnOk r (IsTrue tells → LeavesNow (told q.disk) (StandsFor q.state.version q.state.issuer q.state.entries))
     pub going_on : OnOk r ((p.stopped ≡ None) × (q.stopped ≡ None))
     pub no_memory : r ≡ Err NoMemory → (q.disk ≡ p.disk) × (q.stopped ≡ p.stopped)
     pub fault : r ≡ Err DiskFault → Rose (faults p.disk) (faults q.disk) × (q.stopped ≡ Some (faults q.disk))
@@ -60,10 +61,11 @@ module _ {D C : Type 0} (tells : Bool) (told : D → OnDisk) (faults : D → ℕ
   notes p q lines (Ok done) s going t =
       let e = Notes (length (noted p.state.entries)) lines in
       let clock : IsLater coming root.clock q.clock = later_same coming root.clock p.clock q.clock s.clock t.clock in
-      let sound = sound_gains tells told faults coming root p q (e ∷ []) (StandsBeforeOrWith p.state.issuer p.state.entries e) s
+      let sound = sound_gains tells told faults coming root p q (e ∷ []) (StandsBeforeOrWith p.state.version p.state.issuer p.state.entries e) s
       going t.going_on.1 t.ready t.issuer t.version t.legal t.added clock t.any_moment
-      (λ c h. between_with root.issuer root.history p.state.entries e c s.begins
-      (subst (λ (n : List ℕ). StandsBeforeOrWith n p.state.entries e c) s.issuer h)) t.acknowledged t.later in (
+      (λ c h. between_with root.version root.issuer root.history p.state.entries e c s.begins
+      (subst (λ (v : Version). StandsBeforeOrWith v root.issuer p.state.entries e c) s.version
+      (subst (λ (n : List ℕ). StandsBeforeOrWith p.state.version n p.state.entries e c) s.issuer h))) t.acknowledged t.later in (
         sound,
         record {
           list = list_of tells told faults coming root q sound;

@@ -8,17 +8,18 @@ use Rattle.shop_core.specs.File.Files.{StandsFor}
 use Rattle.ports.specs.Causes.{Rose}
 use Rattle.ports.specs.Readings.{MovedBy}
 use Rattle.record_codec.specs.declared.entry.Entry.{Entry}
+use Rattle.record_fields.specs.declared.versions.Version.{Version}
 use Rattle.shop_core.specs.Legal.{Legal, Continues}
 use Rattle.till_calls.specs.Root.{Root, Parts, with_torn}
 
 -- the file stands for the one history or for the other
-abbrev pub StandsForEither : List ℕ → List Entry → List Entry → List ℕ → Type 0
-StandsForEither issuer history longer file = StandsFor issuer history file ⊎ StandsFor issuer longer file
+abbrev pub StandsForEither : Version → List ℕ → List Entry → List Entry → List ℕ → Type 0
+StandsForEither version issuer history longer file = StandsFor version issuer history file ⊎ StandsFor version issuer longer file
 
 -- each crash since the start leaves a front of the history, or of that with the torn entry; now it leaves the whole
 pub record Leaves {C : Type 0} (root : Root C) (history longer : List Entry) (now : OnDisk) : Type 0 where
-  pub since : LeavesOnly root.told now (StandsBetween root.issuer root.history longer)
-  pub whole : LeavesNow now (StandsForEither root.issuer history longer)
+  pub since : LeavesOnly root.told now (StandsBetween root.version root.issuer root.history longer)
+  pub whole : LeavesNow now (StandsForEither root.version root.issuer history longer)
 
 -- a stop: its count, and the entry whose append failed
 pub record HasStopped {D C : Type 0} (faults : D → ℕ) (root : Root C) (p : Parts D C) (count : ℕ) : Type 0 where

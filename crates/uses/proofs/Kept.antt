@@ -10,7 +10,6 @@ use Rattle.std.proofs.lemmas.List.{append-nil, length-map}
 use Rattle.std.proofs.lemmas.List.Elements.{filter_map-append}
 use Rattle.std.proofs.lemmas.Option.{slice_get-map}
 use Rattle.record_fields.specs.declared.versions.Version.{Version}
-use Rattle.record_fields.specs.declared.versions.Version.TheVariants.{One}
 use Rattle.chain_disk.specs.OnDisk.{OnDisk}
 use Rattle.chain_store.specs.Ready.{StoreCall, Takes}
 use Rattle.journal.specs.declared.faults.StoreFault.{StoreFault}
@@ -201,23 +200,23 @@ if_told told receipt P (inr e) h = subst (λ (r : Result Reply StoreFault). OnOk
 -- an ask that was answered so at what was found
 pub answers : (tells : Bool) (issuer file : List ℕ) (old new : History) (ask : Asked) (coming after : ℕ → Option ℕ) (t u : OnDisk)
     (told : Result Reply StoreFault) (receipt : Receipt) → (told ≡ Ok (Taken receipt)) ⊎ (told ≡ Ok (Again receipt)) →
-    Takes (call_of old new coming after tells t u) ask told → old.issuer ≡ issuer → old.version ≡ One →
-    (IsTrue tells → IsFound issuer old.entries file) →
+    Takes (call_of old new coming after tells t u) ask told → old.issuer ≡ issuer →
+    (IsTrue tells → IsFound old.version issuer old.entries file) →
     Answers tells issuer file coming ask new.entries
-answers tells issuer file old new ask coming after t u told receipt which k same version found = by which
+answers tells issuer file old new ask coming after t u told receipt which k same found = by which
   where
     with_reply : (reply : Reply) → told ≡ Ok reply → Answers tells issuer file coming ask new.entries
     with_reply reply e = record {
+      version = old.version;
       history = old.entries;
       found = found;
       seconds = k.seconds;
       reading = k.reading;
       reply = reply;
       gained = k.gained;
-      told = subst (λ (i : List ℕ). Tells old.entries (answer One i old.entries ask k.seconds) reply k.gained) same
-          (subst (λ (v : Version). Tells old.entries (answer v old.issuer old.entries ask k.seconds) reply k.gained) version
+      told = subst (λ (i : List ℕ). Tells old.entries (answer old.version i old.entries ask k.seconds) reply k.gained) same
           (subst (λ (r : Result Reply StoreFault). IsReply old.version old.issuer old.entries ask k.seconds r k.gained) e
-          k.reply));
+          k.reply);
       chain_is = k.entries;
     }
 

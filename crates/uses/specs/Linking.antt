@@ -1,5 +1,6 @@
 -- The link of an invoice of a chain.
 use Rattle.std.specs.Prelude.{◌≡◌, ◌⊎◌, ℕ, List, Option, Some, None}
+use Rattle.record_fields.specs.declared.versions.Version.{Version}
 use Rattle.journal.specs.File.{IsNotBegun}
 use Rattle.record_codec.specs.declared.entry.Entry.{Entry}
 use Rattle.record_fields.specs.declared.records.Record.{Record}
@@ -27,4 +28,5 @@ link_in entries num host = link_of_found host (last_alta entries num)
 -- the same in the history that a file stands for; a file that isn't begun has none
 abbrev pub IsLinkIn : List ℕ → List ℕ → Host → Option (List ℕ) → Type 0
 IsLinkIn file num host found = (IsNotBegun file × (found ≡ None)) ⊎
-    ((issuer : List ℕ) × (entries : List Entry) × StandsFor issuer entries file × (found ≡ link_in entries num host))
+    ((version : Version) × (issuer : List ℕ) × (entries : List Entry) × StandsFor version issuer entries file ×
+    (found ≡ link_in entries num host))

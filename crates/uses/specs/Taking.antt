@@ -1,6 +1,6 @@
 -- What a sale makes of a chain, and what its ticket shows.
 use Rattle.std.specs.Prelude.{◌≡◌, ◌++◌, ℕ, List, Bool, IsTrue, Option, Some}
-use Rattle.record_fields.specs.declared.versions.Version.TheVariants.{One}
+use Rattle.record_fields.specs.declared.versions.Version.{Version}
 use Rattle.huella.specs.Texts.{huella_text}
 use Rattle.ports.specs.Readings.{IsTold}
 use Rattle.record_codec.specs.declared.entry.Entry.{Entry}
@@ -20,13 +20,14 @@ use Rattle.verify_link.specs.declared.parts.Host.TheVariants.{Real}
 -- The ask was answered at what the file stands for and at the clock's next reading, and the chain is that history with what the
 -- answer adds: the record that was made, or nothing.
 pub record Answers (tells : Bool) (issuer file : List ℕ) (coming : ℕ → Option ℕ) (ask : Asked) (chain : List Entry) : Type 0 where
+  pub version : Version
   pub history : List Entry
-  pub found : IsTrue tells → IsFound issuer history file
+  pub found : IsTrue tells → IsFound version issuer history file
   pub seconds : ℕ
   pub reading : IsTold (coming 0) seconds
   pub reply : Reply
   pub gained : List Entry
-  pub told : Tells history (answer One issuer history ask seconds) reply gained
+  pub told : Tells history (answer version issuer history ask seconds) reply gained
   pub chain_is : chain ≡ history ++ gained
 
 -- the Huella and the link of this record, an alta

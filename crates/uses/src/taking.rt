@@ -85,7 +85,7 @@ pub fn open_and_take<D: Disk + Drop, C: Clock + Drop>(
     ensures answers { IfOk result (λ r. Answers D.tells issuer.now (D.told disk).content (C.coming clock) sale.now
         (state_of r.1).entries) }
     ensures kept { IfOk result (λ r. IsTrue D.tells →
-        LeavesNow (D.told (disk_of (journal_of r.1))) (StandsFor (state_of r.1).issuer (state_of r.1).entries)) }
+        LeavesNow (D.told (disk_of (journal_of r.1))) (StandsFor (state_of r.1).version (state_of r.1).issuer (state_of r.1).entries)) }
     ensures ticket { IfOk result (λ r. IsTicketOf (state_of r.1).entries sale.now r.0) }
     ensures ready { IfOk result (λ r. Ready D.tells D.told r.1) }
 {

@@ -47,7 +47,7 @@ pub fn note_lines<D: Disk, C: Clock>(
         ≡ (state_of store.old).entries ++ noted_next (state_of store.old).entries lines.now ∷ []) }
     ensures same { OnErr result ((state_of store.new).entries ≡ (state_of store.old).entries) }
     ensures kept { OnOk result (IsTrue D.tells → LeavesNow (D.told (disk_of (journal_of store.new)))
-        (StandsFor (state_of store.new).issuer (state_of store.new).entries)) }
+        (StandsFor (state_of store.new).version (state_of store.new).issuer (state_of store.new).entries)) }
 
     // Why lines were not noted.
     ensures count { IsErrOf result NotNoted.Count → IsInRange 1 BATCH (length lines.now) →

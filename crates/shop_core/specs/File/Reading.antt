@@ -5,7 +5,6 @@ use Rattle.journal.specs.File.{IsNotBegun, closing_gate}
 use Rattle.journal.specs.Header.{IsHeaderDamaged}
 use Rattle.record_codec.specs.Validity.{IsEncoding}
 use Rattle.record_fields.specs.declared.versions.Version.{Version}
-use Rattle.record_fields.specs.declared.versions.Version.TheVariants.{One}
 use Rattle.record_codec.specs.declared.entry.Entry.{Entry}
 use Rattle.shop_core.specs.Breaks.{IsBreak}
 use Rattle.shop_core.specs.File.Files.{StandsFor, IsSoundUpTo, IsDamagedFile, bodies_of, furthest_gate}
@@ -35,17 +34,19 @@ word_of break.Rule = what.Rule
 -- gate of the first frame that is none, whose body is no encoding of an entry, or whose entry doesn't continue the history.
 pub data IsRead (file : List ℕ) : FileRead → Type 0 where
   not_begun : IsNotBegun file → IsRead file NotBegun
-  stands : (history : History) (end : ℕ) → StandsFor history.issuer history.entries file →
-      end ≡ closing_gate (bodies_of history.entries) → IsRead file (Sound history end)
+  stands : (history : History) (end : ℕ) → StandsFor history.version history.issuer history.entries file →
+      end ≡ closing_gate (bodies_of history.version history.entries) → IsRead file (Sound history end)
   in_header : (at : ℕ) → IsHeaderDamaged file at → IsRead file (Broken 1 at what.Header)
-  no_frame : (issuer : List ℕ) (entries : List Entry) (at : ℕ) → IsSoundUpTo issuer entries at file → IsDamaged (drop at file) →
+  no_frame : (version : Version) (issuer : List ℕ) (entries : List Entry) (at : ℕ) →
+      IsSoundUpTo version issuer entries at file → IsDamaged (drop at file) →
       IsRead file (Broken (next_place entries) at what.Frame)
-  no_entry : (issuer : List ℕ) (entries : List Entry) (at : ℕ) (body : List ℕ) → IsSoundUpTo issuer entries at file →
-      IsCounted (drop at file) body → ((entry : Entry) → IsEncoding One issuer entry body → ⊥) →
+  no_entry : (version : Version) (issuer : List ℕ) (entries : List Entry) (at : ℕ) (body : List ℕ) →
+      IsSoundUpTo version issuer entries at file → IsCounted (drop at file) body →
+      ((entry : Entry) → IsEncoding version issuer entry body → ⊥) →
       IsRead file (Broken (next_place entries) at what.Body)
-  not_next : (issuer : List ℕ) (entries : List Entry) (at : ℕ) (body : List ℕ) (entry : Entry) (why : Break) →
-      IsSoundUpTo issuer entries at file → IsCounted (drop at file) body → IsEncoding One issuer entry body →
-      (Continues One issuer entries entry → ⊥) → IsBreak One issuer entries entry (Some why) →
+  not_next : (version : Version) (issuer : List ℕ) (entries : List Entry) (at : ℕ) (body : List ℕ) (entry : Entry) (why : Break) →
+      IsSoundUpTo version issuer entries at file → IsCounted (drop at file) body → IsEncoding version issuer entry body →
+      (Continues version issuer entries entry → ⊥) → IsBreak version issuer entries entry (Some why) →
       IsRead file (Broken (next_place entries) at (word_of why))
 
 -- a file that is read as broken is damaged at that byte
@@ -58,12 +59,6 @@ HasNearGate NotBegun = Unit {0}
 HasNearGate (Sound history end) = end ≤ furthest_gate history.entries
 HasNearGate (Broken place at what) = Unit {0}
 
--- a history that is read has this version
-abbrev pub HasVersion : Version → FileRead → Type 0
-HasVersion version NotBegun = Unit {0}
-HasVersion version (Sound history end) = history.version ≡ version
-HasVersion version (Broken place at what) = Unit {0}
-
 -- what a look at a gate makes of the state
 abbrev pub Grows : History → History → AtGate → Type 0
 Grows old new (gate.Entry next) = (length new.entries ≡ length old.entries + 1) × (next ≤ furthest_gate new.entries)
@@ -72,6 +67,6 @@ Grows old new (gate.Broken what) = new ≡ old
 
 -- what stands there, in this file
 abbrev pub IsSeen : List ℕ → ℕ → History → History → AtGate → Type 0
-IsSeen file at old new (gate.Entry next) = IsSoundUpTo new.issuer new.entries next file
+IsSeen file at old new (gate.Entry next) = IsSoundUpTo new.version new.issuer new.entries next file
 IsSeen file at old new gate.Closed = IsClosed (drop at file)
 IsSeen file at old new (gate.Broken what) = IsRead file (Broken (next_place old.entries) at what)

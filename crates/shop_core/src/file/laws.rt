@@ -7,8 +7,8 @@ use frames::bytes_begin_with_one_frame;
 use journal::{a_file_has_one_header, a_file_is_walked, walks_over_a_file_agree};
 use record_codec::encodings_are_apart;
 
-/// A file has one meaning: it stands for one history at most, is damaged at one byte at most, never both, and neither where it
-/// isn't begun.
+/// A file has one meaning: it stands for one history at most, at one version, is damaged at one byte at most, never both, and
+/// neither where it isn't begun.
 pub fn a_file_has_one_meaning()
     ensures history { OneHistory }
     ensures damage { OneDamage }
@@ -27,6 +27,7 @@ pub fn a_file_stops_at_one_place()
     ensures sound { StopsAtItsGate }
 {
     encodings_are_apart();
+    a_file_has_one_header();
     a_file_is_walked();
     walks_over_a_file_agree();
 }

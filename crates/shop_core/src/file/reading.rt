@@ -3,11 +3,10 @@ ghost use Rattle.std.specs.Prelude.{◌≡◌, ◌≤◌, ◌+◌, ◌++◌, ◌
 ghost use Rattle.ports.specs.Causes.{Rose};
 ghost use Rattle.journal.specs.Header.{IsBegun};
 ghost use Rattle.record_codec.specs.Writing.{entry_bytes};
-ghost use Rattle.record_fields.specs.declared.versions.Version.TheVariants.{One};
 ghost use Rattle.shop_core.specs.Breaks.{IsBreak};
 ghost use Rattle.shop_core.specs.File.Files.{IsSoundUpTo, furthest_gate};
 ghost use Rattle.shop_core.specs.Legal.{Continues};
-ghost use Rattle.shop_core.specs.File.Reading.{BrokenIsDamaged, Grows, HasNearGate, HasVersion, IsRead, IsSeen, word_of};
+ghost use Rattle.shop_core.specs.File.Reading.{BrokenIsDamaged, Grows, HasNearGate, IsRead, IsSeen, word_of};
 
 use crate::{Break, State, What, a_history_is_read_by_frames, next_fault};
 use chain_disk::Disk;
@@ -23,7 +22,7 @@ use std::alloc::Global;
 pub enum FileRead {
     /// No header.
     NotBegun,
-    /// A legal history of version One, with its issuer. The closing gate is at the byte `end`.
+    /// A legal history, with its issuer and version. The closing gate is at the byte `end`.
     Sound { state: State, end: u64 },
     /// A break at the byte `at`. `place` is one more than the records before it.
     Broken { place: u32, at: u64, what: What },
@@ -41,7 +40,6 @@ pub enum ReadFault {
 pub fn read_file<D: Disk>(alloc: Global, disk: &mut D) -> Result<FileRead, ReadFault>
     ensures read { IfOk result (λ read. IsTrue D.tells → IsRead (D.told disk.old).content read) }
     ensures near { IfOk result HasNearGate }
-    ensures version { IfOk result (HasVersion One) }
     ensures fault { IsErrOf result ReadFault.DiskFault → Rose (D.faults disk.old) (D.faults disk.new) }
     ensures same { D.told disk.new ≡ D.told disk.old }
     ensures later { D.faults disk.old ≤ D.faults disk.new }
@@ -56,7 +54,10 @@ pub fn read_file<D: Disk>(alloc: Global, disk: &mut D) -> Result<FileRead, ReadF
             what: What::Header,
         }),
         Header::NotBegun => Ok(FileRead::NotBegun),
-        Header::Begun { issuer, .. } => read_frames(alloc, disk, issuer),
+        Header::Begun { issuer, version } => match Version::of_number(*version) {
+            Some(version) => read_frames(alloc, disk, issuer, version),
+            None => unreachable!(),
+        },
     }
 }
 
@@ -65,18 +66,22 @@ pub fn a_broken_file_is_damaged()
     ensures { BrokenIsDamaged }
 {}
 
-// Reads the frames behind a sound header of this issuer.
-fn read_frames<D: Disk>(alloc: Global, disk: &mut D, issuer: &Nif) -> Result<FileRead, ReadFault>
-    requires header { IsTrue D.tells → IsBegun issuer.now (D.told disk.old).content }
+// Reads the frames behind a sound header of this version and issuer.
+fn read_frames<D: Disk>(
+    alloc: Global,
+    disk: &mut D,
+    issuer: &Nif,
+    version: Version,
+) -> Result<FileRead, ReadFault>
+    requires header { IsTrue D.tells → IsBegun version issuer.now (D.told disk.old).content }
     ensures read { IfOk result (λ read. IsTrue D.tells → IsRead (D.told disk.old).content read) }
     ensures near { IfOk result HasNearGate }
-    ensures version { IfOk result (HasVersion One) }
     ensures fault { IsErrOf result ReadFault.DiskFault → Rose (D.faults disk.old) (D.faults disk.new) }
     ensures same { D.told disk.new ≡ D.told disk.old }
     ensures later { D.faults disk.old ≤ D.faults disk.new }
 {
     a_history_is_read_by_frames();
-    let mut state = State::empty(alloc, issuer, Version::One);
+    let mut state = State::empty(alloc, issuer, version);
     let mut body = FrameBuf::new();
     let mut at = 19;
     for _ in 0..2_000_001u32 {
@@ -113,9 +118,9 @@ fn read_frame<D: Disk>(
     at: u64,
     body: &mut FrameBuf,
 ) -> Result<AtGate, ReadFault>
-    requires version { state.old.version ≡ One }
     requires place { at ≤ furthest_gate state.old.entries }
-    requires sound { IsTrue D.tells → IsSoundUpTo state.old.issuer state.old.entries at (D.told disk.old).content }
+    requires sound { IsTrue D.tells →
+        IsSoundUpTo state.old.version state.old.issuer state.old.entries at (D.told disk.old).content }
     ensures issuer { state.new.issuer ≡ state.old.issuer }
     ensures version { state.new.version ≡ state.old.version }
     ensures grows { IfOk result (Grows state.old state.new) }

@@ -4,28 +4,31 @@ use Rattle.journal.proofs.creation.set_up.Goals as goal
 pub returns-in_err-commit-clause-any_moment : goal.returns-in_err-commit-clause-any_moment
 returns-in_err-commit-clause-any_moment g c = λ tells.
     let shut = c.in_ok-shut_first.ensures.ok tells in
-    creating c.args.issuer.now c.header_bytes-bytes.result c.header_bytes-bytes.ensures.nif c.header_bytes-bytes.ensures.bytes
+    creating c.args.version c.args.issuer.now c.header_bytes-bytes.result c.header_bytes-bytes.ensures.nif
+    c.header_bytes-bytes.ensures.bytes
     (g.D.Disk.told c.args.disk.now) (g.D.Disk.told c.shut_first.new.disk) (g.D.Disk.told c.commit.new.disk)
     (c.shut_first.ensures.any_moment tells) shut (c.commit.ensures.any_moment tells shut.nothing_pending)
 
 pub returns-clause-any_moment : goal.returns-clause-any_moment
 returns-clause-any_moment g c = λ tells.
     let shut = c.in_ok-shut_first.ensures.ok tells in
-    creating c.args.issuer.now c.header_bytes-bytes.result c.header_bytes-bytes.ensures.nif c.header_bytes-bytes.ensures.bytes
+    creating c.args.version c.args.issuer.now c.header_bytes-bytes.result c.header_bytes-bytes.ensures.nif
+    c.header_bytes-bytes.ensures.bytes
     (g.D.Disk.told c.args.disk.now) (g.D.Disk.told c.shut_first.new.disk) (g.D.Disk.told c.commit.new.disk)
     (c.shut_first.ensures.any_moment tells) shut (c.commit.ensures.any_moment tells shut.nothing_pending)
 
 pub returns-clause-ok : goal.returns-clause-ok
 returns-clause-ok g c = λ tells.
     let shut = c.in_ok-shut_first.ensures.ok tells in
-    created c.args.issuer.now c.header_bytes-bytes.result c.header_bytes-bytes.ensures.nif c.header_bytes-bytes.ensures.bytes
+    created c.args.version c.args.issuer.now c.header_bytes-bytes.result c.header_bytes-bytes.ensures.nif
+    c.header_bytes-bytes.ensures.bytes
     (g.D.Disk.told c.shut_first.new.disk) (g.D.Disk.told c.commit.new.disk) shut (c.in_ok-commit.ensures.ok tells
     shut.nothing_pending)
 
 pub returns-clause-content : goal.returns-clause-content
 returns-clause-content g c = λ tells.
     let shut = c.in_ok-shut_first.ensures.ok tells in
-    empty_content c.args.issuer.now c.header_bytes-bytes.result c.header_bytes-bytes.ensures.nif
+    empty_content c.args.version c.args.issuer.now c.header_bytes-bytes.result c.header_bytes-bytes.ensures.nif
     c.header_bytes-bytes.ensures.bytes (g.D.Disk.told c.shut_first.new.disk) (g.D.Disk.told c.commit.new.disk) shut
     (c.in_ok-commit.ensures.ok tells shut.nothing_pending)
 

@@ -1,5 +1,6 @@
 use Rattle.std.proofs.Common.{◌≡◌, List, [], sym, ◌∙◌, ap, subst}
-use Rattle.record_fields.specs.declared.versions.Version.TheVariants.{One}
+use Rattle.record_fields.specs.declared.versions.Version.{Version}
+use Rattle.record_fields.specs.declared.versions.Version.TheVariants.{Two}
 use Rattle.chain_disk.specs.OnDisk.{OnDisk, LeavesNow, LeavesOnly}
 use Rattle.journal.specs.Journal.{disk_of}
 use Rattle.record_codec.specs.declared.entry.Entry.{Entry}
@@ -17,13 +18,16 @@ pub returns-in-Ok-clause-every_crash : goal.returns-in-Ok-clause-every_crash
 returns-in-Ok-clause-every_crash g c tells =
     let issuer = c.args.issuer.now in
     let parts = c.of.ensures.parts in
-    let legal : Legal One issuer [] = subst (λ (h : History). Legal h.version h.issuer h.entries) c.empty-state.ensures
+    let legal : Legal Two issuer [] = subst (λ (h : History). Legal h.version h.issuer h.entries) c.empty-state.ensures
     c.is_legal.ensures in
     let none : c.of.result.state.entries ≡ [] = ap (λ (h : History). h.entries) (parts.0 ∙ c.empty-state.ensures) in
+    let two : c.of.result.state.version ≡ Two = ap (λ (h : History). h.version) (parts.0 ∙ c.empty-state.ensures) in
     let told = ap (λ j. g.D.Disk.told (disk_of j)) parts.1 in
-    subst (λ (t : OnDisk). LeavesNow t (StandsFor issuer c.of.result.state.entries)) (sym told)
-    (subst (λ (es : List Entry). LeavesNow (g.D.Disk.told (disk_of c.in-Ok.journal)) (StandsFor issuer es)) (sym none)
-    (begun issuer (g.D.Disk.told (disk_of c.in-Ok.journal)) legal (c.in-Ok.ensures.every_crash tells)))
+    let now = g.D.Disk.told (disk_of c.in-Ok.journal) in
+    subst (λ (t : OnDisk). LeavesNow t (StandsFor c.of.result.state.version issuer c.of.result.state.entries)) (sym told)
+    (subst (λ (v : Version). LeavesNow now (StandsFor v issuer c.of.result.state.entries)) (sym two)
+    (subst (λ (es : List Entry). LeavesNow now (StandsFor Two issuer es)) (sym none)
+    (begun issuer now legal (c.in-Ok.ensures.every_crash tells))))
 
 pub returns-in-Ok-clause-any_moment : goal.returns-in-Ok-clause-any_moment
 returns-in-Ok-clause-any_moment g c tells =
@@ -31,13 +35,15 @@ returns-in-Ok-clause-any_moment g c tells =
     let parts = c.of.ensures.parts in
     let old = g.D.Disk.told c.args.disk in
     let now = g.D.Disk.told (disk_of c.in-Ok.journal) in
-    let legal : Legal One issuer [] = subst (λ (h : History). Legal h.version h.issuer h.entries) c.empty-state.ensures
+    let legal : Legal Two issuer [] = subst (λ (h : History). Legal h.version h.issuer h.entries) c.empty-state.ensures
     c.is_legal.ensures in
     let none : c.of.result.state.entries ≡ [] = ap (λ (h : History). h.entries) (parts.0 ∙ c.empty-state.ensures) in
+    let two : c.of.result.state.version ≡ Two = ap (λ (h : History). h.version) (parts.0 ∙ c.empty-state.ensures) in
     let told = ap (λ j. g.D.Disk.told (disk_of j)) parts.1 in
-    subst (λ (t : OnDisk). LeavesOnly old t (IsFound issuer c.of.result.state.entries)) (sym told)
-    (subst (λ (es : List Entry). LeavesOnly old now (IsFound issuer es)) (sym none)
-    (begins issuer old now legal (c.in-Ok.ensures.any_moment tells)))
+    subst (λ (t : OnDisk). LeavesOnly old t (IsFound c.of.result.state.version issuer c.of.result.state.entries)) (sym told)
+    (subst (λ (v : Version). LeavesOnly old now (IsFound v issuer c.of.result.state.entries)) (sym two)
+    (subst (λ (es : List Entry). LeavesOnly old now (IsFound Two issuer es)) (sym none)
+    (begins issuer old now legal (c.in-Ok.ensures.any_moment tells))))
 
 pub returns-in-Ok-clause-created : goal.returns-in-Ok-clause-created
 returns-in-Ok-clause-created g c tells =

@@ -1,7 +1,6 @@
 use Rattle.std.proofs.Common.{◌≡◌, List, ℕ, rules, sym, ◌∙◌, ap, subst}
 use Rattle.chain_disk.specs.OnDisk.{OnDisk, LeavesNow, LeavesOnly}
 use Rattle.journal.specs.Journal.{disk_of}
-use Rattle.record_codec.specs.declared.entry.Entry.{Entry}
 use Rattle.shop_core.specs.History.{History}
 use Rattle.shop_core.specs.File.Files.{StandsFor}
 use Rattle.recovery.specs.Opening.{IsFound}
@@ -16,20 +15,21 @@ use Rattle.recovery.proofs.opening.open_held.Goals as goal
 pub at-requires : goal.at-requires
 at-requires g c tells =
     let h = c.requires.holds tells in
-    at_some c.args.state.issuer c.args.state.entries c.args.end _ h.0.0 h.0.1 h.1
+    at_some c.args.state.version c.args.state.issuer c.args.state.entries c.args.end _ h.0.0 h.0.1 h.1
 
 pub returns-clause-every_crash : goal.returns-clause-every_crash
 returns-clause-every_crash g c tells =
     let h = c.requires.holds tells in
     let parts = c.of.ensures.parts in
     let own : c.args.state.issuer ≡ c.args.issuer.now = search rules in
-    let same : c.of.result.state.entries ≡ c.args.state.entries = ap (λ (s : History). s.entries) parts.0 in
     let disk = ap (λ j. disk_of j) parts.1 ∙ c.at.ensures.parts.0 in
     let told = ap (λ d. g.D.Disk.told d) disk in
-    subst (λ (t : OnDisk). LeavesNow t (StandsFor c.args.issuer.now c.of.result.state.entries)) (sym told)
-    (subst (λ (es : List Entry). LeavesNow (g.D.Disk.told c.args.disk) (StandsFor c.args.issuer.now es)) (sym same)
-    (subst (λ (n : List ℕ). LeavesNow (g.D.Disk.told c.args.disk) (StandsFor n c.args.state.entries)) own
-    (stays c.args.state.issuer c.args.state.entries (g.D.Disk.told c.args.disk) h.0.0 h.1)))
+    let old = g.D.Disk.told c.args.disk in
+    let new = c.of.result.state in
+    subst (λ (t : OnDisk). LeavesNow t (StandsFor new.version c.args.issuer.now new.entries)) (sym told)
+    (subst (λ (s : History). LeavesNow old (StandsFor s.version c.args.issuer.now s.entries)) (sym parts.0)
+    (subst (λ (n : List ℕ). LeavesNow old (StandsFor c.args.state.version n c.args.state.entries)) own
+    (stays c.args.state.version c.args.state.issuer c.args.state.entries old h.0.0 h.1)))
 
 pub returns-clause-any_moment : goal.returns-clause-any_moment
 returns-clause-any_moment g c tells =
@@ -37,13 +37,13 @@ returns-clause-any_moment g c tells =
     let parts = c.of.ensures.parts in
     let old = g.D.Disk.told c.args.disk in
     let own : c.args.state.issuer ≡ c.args.issuer.now = search rules in
-    let same : c.of.result.state.entries ≡ c.args.state.entries = ap (λ (s : History). s.entries) parts.0 in
     let disk = ap (λ j. disk_of j) parts.1 ∙ c.at.ensures.parts.0 in
     let told = ap (λ d. g.D.Disk.told d) disk in
-    subst (λ (t : OnDisk). LeavesOnly old t (IsFound c.args.issuer.now c.of.result.state.entries)) (sym told)
-    (subst (λ (es : List Entry). LeavesOnly old old (IsFound c.args.issuer.now es)) (sym same)
-    (subst (λ (n : List ℕ). LeavesOnly old old (IsFound n c.args.state.entries)) own
-    (holds_on c.args.state.issuer c.args.state.entries old h.0.0 h.1)))
+    let new = c.of.result.state in
+    subst (λ (t : OnDisk). LeavesOnly old t (IsFound new.version c.args.issuer.now new.entries)) (sym told)
+    (subst (λ (s : History). LeavesOnly old old (IsFound s.version c.args.issuer.now s.entries)) (sym parts.0)
+    (subst (λ (n : List ℕ). LeavesOnly old old (IsFound c.args.state.version n c.args.state.entries)) own
+    (holds_on c.args.state.version c.args.state.issuer c.args.state.entries old h.0.0 h.1)))
 
 pub returns-then-ne-clause-other : goal.returns-then-ne-clause-other
 returns-then-ne-clause-other g c =
@@ -55,7 +55,7 @@ of-requires-clause-ready g c =
     let parts = c.at.ensures.parts in
     subst (λ (d : _). IsReady g.D.Disk.tells c.args.state None (end_of c.at.result) (g.D.Disk.told d)) (sym parts.0)
     (subst (λ (n : ℕ). IsReady g.D.Disk.tells c.args.state None n (g.D.Disk.told c.args.disk)) (sym parts.1)
-    (ready_held g.D.Disk.tells c.args.state None c.args.end (g.D.Disk.told c.args.disk) c.requires.near c.requires.version
+    (ready_held g.D.Disk.tells c.args.state None c.args.end (g.D.Disk.told c.args.disk) c.requires.near
     c.requires.holds))
 
 pub returns-clause-ready : goal.returns-clause-ready
@@ -69,7 +69,7 @@ returns-clause-ready g c =
     (sym parts.0)
     (subst (λ (n : ℕ). IsReady g.D.Disk.tells c.args.state (stopped_of c.at.result) n (g.D.Disk.told c.args.disk)) (sym parts.1)
     (ready_held g.D.Disk.tells c.args.state (stopped_of c.at.result) c.args.end
-    (g.D.Disk.told c.args.disk) c.requires.near c.requires.version
+    (g.D.Disk.told c.args.disk) c.requires.near
     c.requires.holds))))
 
 pub returns-clause-same : goal.returns-clause-same

@@ -20,15 +20,15 @@ open_held-requires-clause-holds g c tells = loaded_settled _ _ _ (Begun c.in-Ok-
 pub returns-in-Ok-Begun-clause-any_moment : goal.returns-in-Ok-Begun-clause-any_moment
 returns-in-Ok-Begun-clause-any_moment g c =
     if_ok _ _ c.open_held.result c.open_held.ensures.any_moment (λ store h tells.
-    subst (λ (t : OnDisk). LeavesOnly t (g.D.Disk.told (disk_of (journal_of store))) (IsFound c.args.issuer.now
-    (state_of store).entries)) (c.load.ensures.same ∙ c.in-Ok.ensures.ok tells) (h tells))
+    subst (λ (t : OnDisk). LeavesOnly t (g.D.Disk.told (disk_of (journal_of store))) (IsFound (state_of store).version
+    c.args.issuer.now (state_of store).entries)) (c.load.ensures.same ∙ c.in-Ok.ensures.ok tells) (h tells))
 
 pub returns-in-Ok-Begun-clause-created : goal.returns-in-Ok-Begun-clause-created
 returns-in-Ok-Begun-clause-created g c =
     if_ok _ _ c.open_held.result c.open_held.ensures.same (λ store h tells not.
     let loaded = rw c.in-Ok-Begun.field-0-is at (c.in-Ok-Begun.ensures.content tells) in
     let content = ap (λ (t : OnDisk). t.content) (c.in-Ok.ensures.ok tells) in
-    absurd (c.a_file_not_begun_is_no_chain.ensures _ _ _ (subst IsNotBegun (sym content) not) loaded.0.frames))
+    absurd (c.a_file_not_begun_is_no_chain.ensures _ _ _ _ (subst IsNotBegun (sym content) not) loaded.0.frames))
 
 pub returns-in-Ok-NotBegun-clause-unwritten : goal.returns-in-Ok-NotBegun-clause-unwritten
 returns-in-Ok-NotBegun-clause-unwritten g c =
@@ -42,6 +42,3 @@ returns-in-Ok-NotBegun-clause-created g c =
     if_ok _ _ c.begin.result c.begin.ensures.created (λ store h tells not.
     subst (λ (t : OnDisk). IsCreation c.args.issuer.now t (g.D.Disk.told (disk_of (journal_of store))))
     (c.load.ensures.same ∙ c.in-Ok.ensures.ok tells) (h tells))
-
-pub open_held-requires-clause-version : goal.open_held-requires-clause-version
-open_held-requires-clause-version g c = rw c.in-Ok-Begun.field-0-is at c.in-Ok-Begun.ensures.version

@@ -7,4 +7,4 @@ pub returns-in-Ok-clause-link : goal.returns-in-Ok-clause-link
 returns-in-Ok-clause-link g c tells =
     let file = (g.D.Disk.told c.args.disk.now).content in
     let h = subst (λ (l : Loaded). IsLoaded file l) c.in-Begun.is (c.in_ok-load.ensures.content tells) in
-    inr (c.in-Begun.state.issuer, c.in-Begun.state.entries, h.0, c.in-Ok.ensures)
+    inr (c.in-Begun.state.version, c.in-Begun.state.issuer, c.in-Begun.state.entries, h.0, c.in-Ok.ensures)

@@ -16,13 +16,13 @@ returns-clause-answers g c =
     (g.C.Clock.coming c.args.clock) (g.C.Clock.coming new.clock) (g.D.Disk.told (disk_of old.journal))
     (g.D.Disk.told (disk_of new.journal)) c.take.result c.in_ok-receipt.receipt c.in_ok-receipt.ensures
     (rw c.in-Ok.ensures.clock at (c.take.ensures.takes c.in-Ok.ensures.going_on)) c.in-Ok.ensures.issuer
-    c.in-Ok.ensures.version c.in-Ok.ensures.found
+    c.in-Ok.ensures.found
 
 pub returns-clause-kept : goal.returns-clause-kept
 returns-clause-kept g c =
     let new = c.take.new.self in
     if_told c.take.result c.in_ok-receipt.receipt (IsTrue g.D.Disk.tells →
-    LeavesNow (g.D.Disk.told (disk_of new.journal)) (StandsFor (state_of new).issuer (state_of new).entries))
+    LeavesNow (g.D.Disk.told (disk_of new.journal)) (StandsFor (state_of new).version (state_of new).issuer (state_of new).entries))
     c.in_ok-receipt.ensures c.take.ensures.acknowledged
 
 pub returns-clause-ticket : goal.returns-clause-ticket

@@ -73,8 +73,6 @@ returns-in-Ok-append g c =
     let body : IsBody c.as_slice.result.now = subst (λ (b : List ℕ). IsBody b) (sym is)
     (c.an_encoding_is_a_body.ensures s.version entry
     fields) in
-    let at_one = λ (tells : IsTrue g.D.Disk.tells). is ∙ ap (λ (v : Version). entry_bytes v entry)
-    (c.requires.ready.holds refl tells).version in
     let around = λ (tells : IsTrue g.D.Disk.tells). adding s (end_of c.args.self.now.journal)
     (g.D.Disk.told (disk_of c.args.self.now.journal)) entry c.what_continues_fits_its_bytes.ensures
     c.a_legal_history_goes_on.ensures (c.requires.ready.holds refl tells) c.is_legal.ensures c.requires.continues
@@ -84,8 +82,8 @@ returns-in-Ok-append g c =
     (record {
       place = gate_more s.entries entry (end_of c.args.self.now.journal) (end_of c.append.new.self) c.as_slice.result.now
           c.requires.ready.place c.in-Ok-append.ensures.place body;
-      holds = λ none tells. holds_more (around tells) (at_one tells)
-          (c.in-Ok-append.ensures.acknowledged tells s.issuer _ (c.requires.ready.holds refl tells).file);
+      holds = λ none tells. holds_more (around tells) is
+          (c.in-Ok-append.ensures.acknowledged tells s.version s.issuer _ (c.requires.ready.holds refl tells).file);
     }) in
     let legal : Legal c.apply_encoded.new.self.version c.apply_encoded.new.self.issuer c.apply_encoded.new.self.entries =
     subst (λ (h : History). Legal h.version h.issuer h.entries) (sym new)
@@ -97,8 +95,8 @@ returns-in-Ok-append g c =
       clock = search rules;
       added = search rules;
       same = search rules;
-      any_moment = λ tells. appended (around tells) (at_one tells)
-          (c.append.ensures.any_moment c.requires.going_on tells s.issuer _ (c.requires.ready.holds refl tells).file);
+      any_moment = λ tells. appended (around tells) is
+          (c.append.ensures.any_moment c.requires.going_on tells s.version s.issuer _ (c.requires.ready.holds refl tells).file);
       acknowledged = λ tells. on_disk c.apply_encoded.new.self (end_of c.append.new.self)
           (g.D.Disk.told (disk_of c.append.new.self)) (ready.holds c.in-Ok-append.ensures.going_on.1 tells) legal;
       no_memory = search rules;
@@ -127,9 +125,8 @@ returns-in-Err-DiskFault g c =
           c.is_legal.ensures c.requires.continues
           (subst (λ (v : Version). AreFields v c.args.entry) c.version-version.ensures c.fields_are_valid.ensures) in
           appended a
-          (c.as_slice.ensures ∙ c.in-Ok.ensures ∙ ap (λ (v : Version). entry_bytes v c.args.entry)
-          (c.version-version.ensures ∙ holds.version))
-          (c.append.ensures.any_moment c.requires.going_on tells s.issuer _ holds.file);
+          (c.as_slice.ensures ∙ c.in-Ok.ensures ∙ ap (λ (v : Version). entry_bytes v c.args.entry) c.version-version.ensures)
+          (c.append.ensures.any_moment c.requires.going_on tells s.version s.issuer _ holds.file);
       acknowledged = search rules;
       no_memory = search rules;
       fault = search rules;

@@ -9,20 +9,20 @@ returns-in-Ok-clause-content g c = λ tells.
     (c.as_slice.ensures.value ∙ c.frame_bytes.ensures)
 
 pub returns-in-Ok-clause-acknowledged : goal.returns-in-Ok-clause-acknowledged
-returns-in-Ok-clause-acknowledged g c = λ tells issuer bodies at.
-    (acknowledged (g.D.Disk.told c.args.self.now.disk) (g.D.Disk.told c.commit.new.disk) issuer bodies c.args.body.now
+returns-in-Ok-clause-acknowledged g c = λ tells version issuer bodies at.
+    (acknowledged (g.D.Disk.told c.args.self.now.disk) (g.D.Disk.told c.commit.new.disk) version issuer bodies c.args.body.now
     c.as_slice.result.now c.args.self.now.end c.requires.size at (c.as_slice.ensures.value ∙ c.frame_bytes.ensures)
     (c.in-Ok.ensures.ok tells at.nothing_pending)).0
 
 pub returns-in-Ok-clause-every_crash : goal.returns-in-Ok-clause-every_crash
-returns-in-Ok-clause-every_crash g c = λ tells issuer bodies at.
-    (acknowledged (g.D.Disk.told c.args.self.now.disk) (g.D.Disk.told c.commit.new.disk) issuer bodies c.args.body.now
+returns-in-Ok-clause-every_crash g c = λ tells version issuer bodies at.
+    (acknowledged (g.D.Disk.told c.args.self.now.disk) (g.D.Disk.told c.commit.new.disk) version issuer bodies c.args.body.now
     c.as_slice.result.now c.args.self.now.end c.requires.size at (c.as_slice.ensures.value ∙ c.frame_bytes.ensures)
     (c.in-Ok.ensures.ok tells at.nothing_pending)).1
 
 pub returns-in-Ok-clause-any_moment : goal.returns-in-Ok-clause-any_moment
-returns-in-Ok-clause-any_moment g c = λ going tells issuer bodies at.
-    any_moment (g.D.Disk.told c.args.self.now.disk) (g.D.Disk.told c.commit.new.disk) issuer bodies c.args.body.now
+returns-in-Ok-clause-any_moment g c = λ going tells version issuer bodies at.
+    any_moment (g.D.Disk.told c.args.self.now.disk) (g.D.Disk.told c.commit.new.disk) version issuer bodies c.args.body.now
     c.as_slice.result.now c.args.self.now.end c.requires.size at (c.as_slice.ensures.value ∙ c.frame_bytes.ensures)
     (c.commit.ensures.any_moment tells at.nothing_pending)
 
@@ -39,7 +39,7 @@ commit-requires-clause-within g c = λ tells. within (g.D.Disk.told c.args.self.
     (c.args.self.now.ready c.in_default.is tells)
 
 pub returns-in-Err-clause-any_moment : goal.returns-in-Err-clause-any_moment
-returns-in-Err-clause-any_moment g c = λ going tells issuer bodies at.
-    any_moment (g.D.Disk.told c.args.self.now.disk) (g.D.Disk.told c.commit.new.disk) issuer bodies c.args.body.now
+returns-in-Err-clause-any_moment g c = λ going tells version issuer bodies at.
+    any_moment (g.D.Disk.told c.args.self.now.disk) (g.D.Disk.told c.commit.new.disk) version issuer bodies c.args.body.now
     c.as_slice.result.now c.args.self.now.end c.requires.size at (c.as_slice.ensures.value ∙ c.frame_bytes.ensures)
     (c.commit.ensures.any_moment tells at.nothing_pending)

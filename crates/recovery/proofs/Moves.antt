@@ -1,0 +1,71 @@
+-- A migration as one run.
+use Rattle.std.proofs.Common.{◌≡◌, inl, inr, ℕ, List, refl, sym, ◌∙◌, ap, subst}
+use Rattle.chain_disk.specs.OnDisk.{OnDisk, IsImage, IsSyncFailed, LeavesOnly, synced}
+use Rattle.chain_disk.specs.Runs.{Reached, started, on_sync, on_sync_failed, follows, weaker, settled_image}
+use Rattle.journal.specs.File.{IsFile}
+use Rattle.record_fields.specs.declared.versions.Version.TheVariants.{One, Two}
+use Rattle.record_codec.specs.declared.entry.Entry.{Entry}
+use Rattle.shop_core.specs.File.Files.{StandsFor, bodies_of}
+use Rattle.shop_core.specs.Newer.{LegalInTwo}
+use Rattle.recovery.specs.Moving.{IsMoveImage, IsMoveImageOf, IsSameOrShut, IsShutOrWhole, Moves}
+use Rattle.recovery.specs.Moving.IsMoveImage.{as_before, not_begun, unfinished, whole}
+use Rattle.recovery.specs.Moving.IsMoveImageOf.{untouched, of_history}
+use Rattle.recovery.proofs.Entries.{encoded_in_two}
+
+-- a file of these bodies stands in version Two for the history that another stands for in version One
+pub whole_file : (issuer : List ℕ) (entries : List Entry) (file c : List ℕ) → LegalInTwo → StandsFor One issuer entries file →
+    IsFile Two issuer (bodies_of Two entries) c → StandsFor Two issuer entries c
+whole_file issuer entries file c newer stands is = record {
+  frames = is;
+  encoded = encoded_in_two issuer entries stands.encoded;
+  legal = newer issuer entries stands.legal;
+}
+
+module _ (issuer : List ℕ) (entries : List Entry) (t : OnDisk) where
+  start : Reached t (IsMoveImage issuer entries t) t t.content t.now
+  start = record {
+    content_is = refl;
+    now_is = refl;
+    so_far = started t (IsMoveImage issuer entries t) (λ c image. as_before image);
+  }
+
+  pub sync_lost : (u : OnDisk) → IsSyncFailed t u → LeavesOnly t u (IsMoveImage issuer entries t)
+  sync_lost u err = on_sync_failed start err (λ c image. as_before image)
+
+  module _ (reads : IsImage t.now t.content) where
+    sync_done : (u : OnDisk) → u ≡ synced t → LeavesOnly t u (IsMoveImage issuer entries t)
+    sync_done u ok =
+        let r = on_sync start ok (λ c image. as_before (subst (λ (l : List ℕ). IsImage t.now l)
+        (sym (settled_image t.content c image)) reads)) in
+        r.so_far
+
+    of_prepared : (content c : List ℕ) → content ≡ t.content → IsSameOrShut issuer content c → IsMoveImage issuer entries t c
+    of_prepared content c same (inl is) = as_before (subst (λ (l : List ℕ). IsImage t.now l) (sym (is ∙ same)) reads)
+    of_prepared content c same (inr (inl none)) = not_begun none
+    of_prepared content c same (inr (inr part)) = unfinished part
+
+    pub prepared : (nif : List ℕ) (u v : OnDisk) → nif ≡ issuer → u ≡ synced t →
+        LeavesOnly u v (IsSameOrShut nif u.content) → LeavesOnly t v (IsMoveImage issuer entries t)
+    prepared nif u v own ok only = follows t u v (IsMoveImage issuer entries t) (IsSameOrShut issuer u.content)
+        (IsMoveImage issuer entries t) (sync_done u ok)
+        (subst (λ (n : List ℕ). LeavesOnly u v (IsSameOrShut n u.content)) own only) (λ c is. is)
+        (λ c is. of_prepared u.content c (ap (λ (d : OnDisk). d.content) ok) is)
+
+  module _ (newer : LegalInTwo) (file : List ℕ) (stands : StandsFor One issuer entries file) where
+    of_rewritten : (c : List ℕ) → IsShutOrWhole issuer (bodies_of Two entries) c → IsMoveImage issuer entries t c
+    of_rewritten c (inl (inl none)) = not_begun none
+    of_rewritten c (inl (inr part)) = unfinished part
+    of_rewritten c (inr is) = whole (whole_file issuer entries file c newer stands is)
+
+    pub rewritten : (v w : OnDisk) → LeavesOnly t v (IsMoveImage issuer entries t) →
+        LeavesOnly v w (IsShutOrWhole issuer (bodies_of Two entries)) → LeavesOnly t w (IsMoveImage issuer entries t)
+    rewritten v w first second = follows t v w (IsMoveImage issuer entries t) (IsShutOrWhole issuer (bodies_of Two entries))
+        (IsMoveImage issuer entries t) first second (λ c is. is) of_rewritten
+
+pub moves : (issuer : List ℕ) (entries : List Entry) (old : List ℕ) (t u : OnDisk) → StandsFor One issuer entries old →
+    LeavesOnly t u (IsMoveImage issuer entries t) → Moves old t u
+moves issuer entries old t u stands only = weaker t u (IsMoveImage issuer entries t) (IsMoveImageOf old t) only
+    (λ c is. of_history issuer entries stands is)
+
+pub not_moved : (old : List ℕ) (t : OnDisk) → Moves old t t
+not_moved old t = started t (IsMoveImageOf old t) (λ c image. untouched image)

@@ -1,0 +1,227 @@
+// Moves the history of a file of version One to a second disk, in version Two.
+ghost use Rattle.std.specs.Prelude.{◌≡◌, ◌≤◌, [], List, ℕ, IsTrue, IfOk, IfErr, OnOk};
+ghost use Rattle.chain_disk.specs.Disks.{this_disk};
+ghost use Rattle.chain_disk.specs.OnDisk.{IsSettled, LeavesNow, LeavesOnly};
+ghost use Rattle.journal.specs.File.{AreBodies, IsFile};
+ghost use Rattle.record_fields.specs.declared.versions.Version.TheVariants.{One, Two};
+ghost use Rattle.shop_core.specs.File.Files.{StandsFor, bodies_of};
+ghost use Rattle.recovery.specs.Causes.{IsMoveCause, IsMoveStateCause, IsPrepareCause, IsReadCause, IsWriteCause};
+ghost use Rattle.recovery.specs.Causes.{NoCause, OneCause};
+ghost use Rattle.recovery.specs.Moving.{HasCounts, IsHeldShut, IsMoved, IsMoveImage, IsSameOrShut, IsShutOrWhole, IsWriting};
+ghost use Rattle.recovery.specs.Moving.{MayBeMoved, Moves};
+ghost use Rattle.recovery.specs.declared.moving.MoveCause.TheVariants as cause_of;
+
+use crate::looking::{Held, look};
+use crate::rewriting::{begin_shut, open_up, write_entries};
+use chain_disk::Disk;
+use chain_store::{LoadFault, Loaded, load};
+use parties::Nif;
+use ports::{Failed, NoMemory};
+use record_codec::{Version, an_encoding_is_a_body};
+use shop_core::{State, a_file_has_one_meaning, a_legal_history_is_legal_in_version_two};
+use std::alloc::Global;
+
+/// Why a file was not moved.
+#[derive(Clone, Copy, Debug, PartialEq, Eq)]
+pub enum MoveCause {
+    /// The old file is damaged at this byte.
+    Damaged { at: u64 },
+    /// The old file isn't begun (0), or is of version Two (2).
+    NotOld { held: u8 },
+    /// The new file, of this length, is neither not begun nor an unfinished migration of the old issuer.
+    Occupied { length: u64 },
+    /// The old disk failed.
+    OldFault,
+    /// The new disk failed.
+    NewFault,
+    /// A growth was refused.
+    NoMemory,
+}
+
+// The old disk is only loaded: what fails otherwise is a call of the new one.
+impl From<Failed> for MoveCause {
+    ghost from_gives = { λ _ cause. cause ≡ cause_of.NewFault };
+
+    fn from(_: Failed) -> Self {
+        MoveCause::NewFault
+    }
+}
+
+impl From<NoMemory> for MoveCause {
+    ghost from_gives = { λ _ cause. cause ≡ cause_of.NoMemory };
+
+    fn from(_: NoMemory) -> Self {
+        MoveCause::NoMemory
+    }
+}
+
+// The history of the old file, where that is of version One.
+fn load_old<D: Disk>(alloc: Global, old: &mut D) -> Result<State, MoveCause>
+    ensures stands { IfOk result (λ state. IsTrue D.tells →
+        StandsFor One state.issuer state.entries (D.told old.old).content) }
+    ensures cause { IfErr result (IsReadCause (this_disk D.tells D.told D.faults old.old old.new)) }
+    ensures same { D.told old.new ≡ D.told old.old }
+    ensures later { D.faults old.old ≤ D.faults old.new }
+{
+    match load(alloc, old) {
+        Ok(Loaded::Begun { state, .. }) => match state.version() {
+            Version::One => Ok(state),
+            Version::Two => Err(MoveCause::NotOld { held: 2 }),
+        },
+        Ok(Loaded::NotBegun) => Err(MoveCause::NotOld { held: 0 }),
+        Err(LoadFault::Damaged { at }) => Err(MoveCause::Damaged { at }),
+        Err(LoadFault::DiskFault) => Err(MoveCause::OldFault),
+        Err(LoadFault::NoMemory) => Err(MoveCause::NoMemory),
+    }
+}
+
+// Makes sure of the header behind a closed byte 0, unless an unfinished migration has it already.
+fn prepare<M: Disk>(disk: &mut M, issuer: &Nif) -> Result<(), MoveCause>
+    requires { IsTrue M.tells → IsSettled (M.told disk.old) }
+    ensures ok { OnOk result (IsTrue M.tells → IsWriting issuer.now [] 19 (M.told disk.new)) }
+    ensures free { OnOk result (IsTrue M.tells → IsHeldShut issuer.now (M.told disk.old).content) }
+    ensures any_moment { IsTrue M.tells →
+        LeavesOnly (M.told disk.old) (M.told disk.new) (IsSameOrShut issuer.now (M.told disk.old).content) }
+    ensures cause { IfErr result (IsPrepareCause issuer.now (this_disk M.tells M.told M.faults disk.old disk.new)) }
+    ensures later { M.faults disk.old ≤ M.faults disk.new }
+{
+    let _nine = issuer.bytes();
+    let held = look(disk, issuer)?;
+    match held {
+        Held::Other { length } => Err(MoveCause::Occupied { length }),
+        Held::Unfinished => Ok(()),
+        Held::NotBegun => {
+            begin_shut(disk, issuer)?;
+            Ok(())
+        }
+    }
+}
+
+// Writes the history behind the header, and opens the file.
+fn rewrite<M: Disk>(alloc: Global, state: &State, disk: &mut M) -> Result<(), MoveCause>
+    requires { IsTrue M.tells → IsWriting state.now.issuer [] 19 (M.told disk.old) }
+    ensures ok { OnOk result (IsTrue M.tells → AreBodies (bodies_of Two state.now.entries) →
+        LeavesNow (M.told disk.new) (IsFile Two state.now.issuer (bodies_of Two state.now.entries))) }
+    ensures any_moment { IsTrue M.tells → AreBodies (bodies_of Two state.now.entries) →
+        LeavesOnly (M.told disk.old) (M.told disk.new) (IsShutOrWhole state.now.issuer (bodies_of Two state.now.entries)) }
+    ensures cause { IfErr result (IsWriteCause (this_disk M.tells M.told M.faults disk.old disk.new)) }
+    ensures later { M.faults disk.old ≤ M.faults disk.new }
+{
+    let at = write_entries(alloc, state, disk)?;
+    open_up(disk, at)?;
+    Ok(())
+}
+
+// Moves the history of a file of version One to a disk: first a sync, then the header, the frames, and byte 0.
+fn move_state<M: Disk>(alloc: Global, state: &State, disk: &mut M) -> Result<(), MoveCause>
+    ensures ok { OnOk result (IsTrue M.tells → (file : List ℕ) → StandsFor One state.now.issuer state.now.entries file →
+        LeavesNow (M.told disk.new) (StandsFor Two state.now.issuer state.now.entries)) }
+    ensures free { OnOk result (IsTrue M.tells → IsHeldShut state.now.issuer (M.told disk.old).content) }
+    ensures any_moment { IsTrue M.tells → (file : List ℕ) → StandsFor One state.now.issuer state.now.entries file →
+        LeavesOnly (M.told disk.old) (M.told disk.new)
+        (IsMoveImage state.now.issuer state.now.entries (M.told disk.old)) }
+    ensures cause { IfErr result (IsMoveStateCause state.now.issuer (this_disk M.tells M.told M.faults disk.old disk.new)) }
+    ensures later { M.faults disk.old ≤ M.faults disk.new }
+{
+    an_encoding_is_a_body();
+    a_legal_history_is_legal_in_version_two();
+    disk.sync()?;
+    prepare(disk, state.issuer())?;
+    rewrite(alloc, state, disk)?;
+    Ok(())
+}
+
+/// Why a file was not moved, with the new disk.
+#[derive(Drop)]
+pub struct MoveFault<M: Disk> {
+    pub cause: MoveCause,
+    pub new: M,
+}
+
+/// A file that was moved: its new disk, and how many records and noted lines its history has.
+#[derive(Drop)]
+pub struct Moved<M: Disk> {
+    pub new: M,
+    pub records: u32,
+    pub noted: u32,
+}
+
+/// Moves the history of a file of version One to a second disk, in version Two. The old disk is only read. The new file's header
+/// is made sure of behind a closed byte 0, and isn't written again over an unfinished migration of the same issuer. Then come the
+/// frames, a closed gate and a sync, and byte 0 last.
+pub fn migrate_counted<D: Disk, M: Disk>(
+    alloc: Global,
+    old: &mut D,
+    new: M,
+) -> Result<Moved<M>, MoveFault<M>>
+    // A crash at any moment leaves the new file as it was, not begun, an unfinished migration, or the whole history.
+    ensures any_moment { IfOk result (λ moved. IsTrue D.tells → IsTrue M.tells →
+        Moves (D.told old.old).content (M.told new) (M.told moved.new)) }
+    ensures any_moment_err { IfErr result (λ fault. IsTrue D.tells → IsTrue M.tells →
+        Moves (D.told old.old).content (M.told new) (M.told fault.new)) }
+    ensures every_crash { IfOk result (λ moved. IsTrue D.tells → IsTrue M.tells →
+        LeavesNow (M.told moved.new) (IsMoved (D.told old.old).content)) }
+    ensures reads { IfOk result (λ moved. IsTrue D.tells → IsTrue M.tells →
+        IsMoved (D.told old.old).content (M.told moved.new).content) }
+
+    // Only such files are moved, and what keeps one from being moved is the cause, unless a disk failed or memory ran out.
+    ensures free { IfOk result (λ moved. IsTrue D.tells → IsTrue M.tells →
+        MayBeMoved (D.told old.old).content (M.told new).content) }
+    ensures cause { IfErr result (λ fault. IsMoveCause (this_disk D.tells D.told D.faults old.old old.new)
+        (this_disk M.tells M.told M.faults new fault.new) fault.cause) }
+    ensures same { D.told old.new ≡ D.told old.old }
+    ensures later { D.faults old.old ≤ D.faults old.new }
+    ensures new_later { IfOk result (λ moved. M.faults new ≤ M.faults moved.new) }
+    ensures new_later_err { IfErr result (λ fault. M.faults new ≤ M.faults fault.new) }
+    ensures counts { IfOk result (λ moved. IsTrue D.tells → HasCounts (D.told old.old).content moved.records moved.noted) }
+{
+    let mut new = new;
+    match load_old(alloc, old) {
+        Err(cause) => Err(MoveFault { cause, new }),
+        Ok(state) => match move_state(alloc, &state, &mut new) {
+            Ok(()) => Ok(Moved {
+                records: state.records(),
+                noted: state.noted(),
+                new,
+            }),
+            Err(cause) => Err(MoveFault { cause, new }),
+        },
+    }
+}
+
+/// Moves a file as `migrate_counted` does, and gives the new disk alone.
+pub fn migrate<D: Disk, M: Disk>(alloc: Global, old: &mut D, new: M) -> Result<M, MoveFault<M>>
+    // A crash at any moment leaves the new file as it was, not begun, an unfinished migration, or the whole history.
+    ensures any_moment { IfOk result (λ disk. IsTrue D.tells → IsTrue M.tells →
+        Moves (D.told old.old).content (M.told new) (M.told disk)) }
+    ensures any_moment_err { IfErr result (λ fault. IsTrue D.tells → IsTrue M.tells →
+        Moves (D.told old.old).content (M.told new) (M.told fault.new)) }
+    ensures every_crash { IfOk result (λ disk. IsTrue D.tells → IsTrue M.tells →
+        LeavesNow (M.told disk) (IsMoved (D.told old.old).content)) }
+    ensures reads { IfOk result (λ disk. IsTrue D.tells → IsTrue M.tells →
+        IsMoved (D.told old.old).content (M.told disk).content) }
+
+    // Only such files are moved, and what keeps one from being moved is the cause, unless a disk failed or memory ran out.
+    ensures free { IfOk result (λ disk. IsTrue D.tells → IsTrue M.tells →
+        MayBeMoved (D.told old.old).content (M.told new).content) }
+    ensures cause { IfErr result (λ fault. IsMoveCause (this_disk D.tells D.told D.faults old.old old.new)
+        (this_disk M.tells M.told M.faults new fault.new) fault.cause) }
+    ensures same { D.told old.new ≡ D.told old.old }
+    ensures later { D.faults old.old ≤ D.faults old.new }
+    ensures new_later { IfOk result (λ disk. M.faults new ≤ M.faults disk) }
+    ensures new_later_err { IfErr result (λ fault. M.faults new ≤ M.faults fault.new) }
+{
+    match migrate_counted(alloc, old, new) {
+        Ok(Moved { new, .. }) => Ok(new),
+        Err(fault) => Err(fault),
+    }
+}
+
+/// What two files hold keeps the one from being moved onto the other for one cause at most: the old file is damaged, or isn't of
+/// version One, or the new one is occupied. Where it may be moved, there is none.
+pub fn a_migration_has_one_cause()
+    ensures one { OneCause }
+    ensures none { NoCause }
+{
+    a_file_has_one_meaning();
+}
