@@ -11,7 +11,9 @@ use Rattle.record_fields.specs.Records.{num_of}
 use Rattle.record_fields.specs.declared.records.Sealed.{Sealed}
 use Rattle.record_fields.specs.declared.lines.Line.{Line}
 use Rattle.record_fields.specs.declared.lines.TheConstants.{BATCH}
+use Rattle.record_codec.specs.Heads.{head_of}
 use Rattle.record_codec.specs.declared.entry.Entry.{Entry}
+use Rattle.record_codec.specs.declared.heads.Head.{Head}
 use Rattle.record_codec.specs.declared.entry.Entry.TheVariants.{Notes}
 use Rattle.shop_core.specs.Tables.ByNumber.{is_accepted_in}
 use Rattle.shop_core.specs.History.{recs, noted, at_place, sealed_at}
@@ -41,6 +43,15 @@ at_is xs k =
 
 pub at_some : {A : Type 0} (xs : List A) (k : ℕ) → k < length xs → (x : A) × (at_place xs (1 + k) ≡ Some x)
 at_some xs k lt = let s = slice_some xs k lt in (s.0, at_is xs k ∙ s.1)
+
+-- what look-ups read of a record has its number
+pub head_num : (o : Option Sealed) (head : Head) (s : Sealed) → Some head ≡ option_map head_of o → o ≡ Some s →
+    head.id.num ≡ num_of s.body
+head_num None head s e f = absurd cc
+head_num (Some t) head s e f =
+    let same : t ≡ s = cc in
+    let h : head ≡ head_of t = cc in
+    ap (λ (x : Head). x.id.num) h ∙ ap (λ (x : Sealed). num_of x.body) same
 
 -- ---- the last record that its line accepts, line by line
 

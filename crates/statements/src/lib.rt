@@ -9,7 +9,7 @@ mod plans;
 mod postings;
 mod rows;
 
-pub use laws::a_statement_is_one;
+pub use laws::{a_statement_is_of_invoices, a_statement_is_one};
 pub use ledger::Ledger;
 pub use months::Month;
 pub use rows::{Row, Rows};

@@ -76,13 +76,13 @@ fn is_settling(state: &State, place: u32, line: Line, num: &NumSerie) -> bool
     }
 }
 
-// Whether a line refuses the invoice's last record, which stands at this place.
-fn is_taken(state: &State, place: u32, line: Line, num: &NumSerie) -> bool
-    ensures { result ≡ (is_incorrecto line && is_place (last_place (recs state.now.entries) num.now) place) }
+// Whether the invoice's last record stands at this place.
+fn is_last(state: &State, place: u32, num: &NumSerie) -> bool
+    ensures { result ≡ is_place (last_place (recs state.now.entries) num.now) place }
 {
     match state.last_place(num) {
         None => false,
-        Some(last) => is_refusal(line) && last == place,
+        Some(last) => last == place,
     }
 }
 
@@ -129,7 +129,7 @@ fn push(postings: &mut Vec<Posting>, posting: Option<Posting>) -> Result<(), NoM
 }
 
 // What one line more changes, of the record behind those that have lines: one that refuses its invoice's last record takes it
-// out and brings back the last one that its line accepts.
+// out and brings back the last one that its line accepts. No other line has a record decoded.
 fn note(
     alloc: Global,
     state: &State,
@@ -142,18 +142,19 @@ fn note(
     ensures { OnOk result (AreNoted state.now.entries (before.now ++ line ∷ []) plan.new.put.items plan.new.drop.items) }
 {
     a_line_settles();
-    let _records = state.records();
-    let place = state.noted() + before.len() as u32 + 1;
-    let sealed = match state.sealed(alloc, place)? {
-        None => unreachable!(),
-        Some(sealed) => sealed,
-    };
-    let num = sealed.body.id().num;
-    let taken = is_taken(state, place, line, &num);
-    if !taken {
+    if !is_refusal(line) {
         return Ok(());
     }
-    let out = posting_of(alloc, &sealed.body)?;
+    let _records = state.records();
+    let place = state.noted() + before.len() as u32 + 1;
+    let num = match state.head(place) {
+        None => unreachable!(),
+        Some(head) => head.id.num,
+    };
+    if !is_last(state, place, &num) {
+        return Ok(());
+    }
+    let out = posting_at(alloc, state, Some(place))?;
     let back = posting_at(alloc, state, settled_with(state, before, &num))?;
     push(&mut plan.drop, out)?;
     push(&mut plan.put, back)
