@@ -40,7 +40,7 @@ members_low : (n : ℕ) (fields : List (List ℕ × Data)) → AllByRecursion (�
 members_low n [] h = omega arith
 members_low n (f ∷ fs) h = let rest = members_low n fs h.1 in let one = h.0.low in omega (arith, rest, one)
 
-object_is_plain : (n : ℕ) (fields : List (List ℕ × Data)) → AllByRecursion (λ (f : List ℕ × Data). IsPlain n f.1) fields
+pub object_is_plain : (n : ℕ) (fields : List (List ℕ × Data)) → AllByRecursion (λ (f : List ℕ × Data). IsPlain n f.1) fields
     → IsPlain (suc n) (object_from fields)
 object_is_plain n fields h =
     let low = members_low n fields h in record { exact = members_exact n fields h; low = omega (arith, low) }
@@ -53,47 +53,47 @@ items_low : {A : Type 0} (n : ℕ) (f : A → Data) (xs : List A) → ((x : A) �
 items_low n f [] h = omega arith
 items_low n f (x ∷ xs) h = let rest = items_low n f xs h in let one = (h x).low in omega (arith, rest, one)
 
-array_is_plain : {A : Type 0} (n : ℕ) (f : A → Data) (xs : List A) → ((x : A) → IsPlain n (f x)) → IsPlain (suc n) (array_from f xs)
+pub array_is_plain : {A : Type 0} (n : ℕ) (f : A → Data) (xs : List A) → ((x : A) → IsPlain n (f x)) → IsPlain (suc n) (array_from f xs)
 array_is_plain n f xs h =
     let low = items_low n f xs h in record { exact = items_exact n f xs h; low = omega (arith, low) }
 
-word_is_plain : (n : ℕ) (t : List ℕ) → IsPlain n (word t)
+pub word_is_plain : (n : ℕ) (t : List ℕ) → IsPlain n (word t)
 word_is_plain n t = record { exact = refl; low = omega arith }
 
-number_is_plain : (n m : ℕ) → IsPlain n (number_of m)
+pub number_is_plain : (n m : ℕ) → IsPlain n (number_of m)
 number_is_plain n m = record { exact = refl; low = omega arith }
 
-flag_is_plain : (n : ℕ) (b : Bool) → IsPlain n (boolean b)
+pub flag_is_plain : (n : ℕ) (b : Bool) → IsPlain n (boolean b)
 flag_is_plain n b = record { exact = refl; low = omega arith }
 
-integer_is_plain : (n : ℕ) (z : ℤ) → IsPlain n (number (of_integer z))
+pub integer_is_plain : (n : ℕ) (z : ℤ) → IsPlain n (number (of_integer z))
 integer_is_plain n (pos m) = record { exact = refl; low = omega arith }
 integer_is_plain n (negsuc m) = record { exact = refl; low = omega arith }
 
-id_is_plain : (id : InvoiceId) → IsPlain 1 (id_value id)
+pub id_is_plain : (id : InvoiceId) → IsPlain 1 (id_value id)
 id_is_plain id = record { exact = refl; low = omega arith }
 
-tax_line_is_plain : (line : TaxLine) → IsPlain 1 (tax_line_value line)
+pub tax_line_is_plain : (line : TaxLine) → IsPlain 1 (tax_line_value line)
 tax_line_is_plain line = record { exact = rw (integer_is_plain 0 line.base).exact refl; low = omega arith }
 
 line_is_plain : (line : Line) → IsPlain 1 (line_value line)
 line_is_plain line = record { exact = refl; low = omega arith }
 
-customer_is_plain : (customer : Option Party) → IsPlain 2 (customer_value customer)
+pub customer_is_plain : (customer : Option Party) → IsPlain 2 (customer_value customer)
 customer_is_plain None = record { exact = refl; low = omega arith }
 customer_is_plain (Some party) = record { exact = refl; low = omega arith }
 
-rect_is_plain : (kind : Option RectKind) → IsPlain 2 (rect_value kind)
+pub rect_is_plain : (kind : Option RectKind) → IsPlain 2 (rect_value kind)
 rect_is_plain None = record { exact = refl; low = omega arith }
 rect_is_plain (Some rect.S) = word_is_plain 2 _
 rect_is_plain (Some rect.I) = word_is_plain 2 _
 
-previo_is_plain : (before : Previo) → IsPlain 2 (previo_value before)
+pub previo_is_plain : (before : Previo) → IsPlain 2 (previo_value before)
 previo_is_plain previo.N = word_is_plain 2 _
 previo_is_plain previo.S = word_is_plain 2 _
 previo_is_plain previo.X = word_is_plain 2 _
 
-link_is_plain : (link : Link) → IsPlain 2 (link_value link)
+pub link_is_plain : (link : Link) → IsPlain 2 (link_value link)
 link_is_plain First = record { exact = refl; low = omega arith }
 link_is_plain (After id huella) = record { exact = refl; low = omega arith }
 

@@ -17,4 +17,8 @@ mod values;
 pub use faults::LineFault;
 pub use heads::Head;
 pub use laws::objects_are_apart;
-pub use lines::{entry_text, head_text, is_entry_line, is_head_line, read_entry, read_head};
+pub use lines::{
+    entry_text, head_text, is_entry_line, is_head_line, read_entry, read_head, value_of,
+};
+pub use objects::sealed_members;
+pub use values::{huella_value, nif_value, text_value};

@@ -37,8 +37,8 @@ fn text_of(alloc: Global, value: &Value) -> Result<Text, AllocError>
     Ok(Text::of(value.to_vec(alloc)?))
 }
 
-// The value that serde_json reads of a line.
-fn value_of(alloc: Global, line: &[u8]) -> Result<Value, LineFault>
+/// The value that serde_json reads of a line; `Json` where it reads none.
+pub fn value_of(alloc: Global, line: &[u8]) -> Result<Value, LineFault>
     ensures ok { IfOk result (λ v. value_read line.now ≡ Some (view v)) }
     ensures nests { IfOk result (λ v. depth (view v) ≤ max_depth) }
     ensures err { IfErr result (IsRefusal line.now) }

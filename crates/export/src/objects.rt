@@ -32,16 +32,13 @@ pub(crate) fn head_value(alloc: Global, issuer: &Nif, version: Version) -> Resul
     Ok(Value::Object(members))
 }
 
-// What every record's object has.
-fn put_record(
+// What every record's object has, its till and serial aside.
+fn put_sealed(
     members: &mut Map<String, Value>,
     alloc: Global,
-    till: u8,
-    serial: u32,
     sealed: &Sealed,
 ) -> Result<(), AllocError>
-    ensures { OnOk result (members_view members.new.entries
-        ≡ building.with_record till serial sealed.now (members_view members.old.entries)) }
+    ensures { OnOk result (members_view members.new.entries ≡ building.with_sealed sealed.now (members_view members.old.entries)) }
 {
     let id = sealed.body.id();
     let moment = sealed.body.moment();
@@ -54,9 +51,7 @@ fn put_record(
     put(members, alloc, "link", link)?;
     put(members, alloc, "num", num)?;
     put(members, alloc, "offset", Value::from(moment.offset_minutes))?;
-    put(members, alloc, "seconds", Value::from(moment.seconds))?;
-    put(members, alloc, "serial", Value::from(serial))?;
-    put(members, alloc, "till", Value::from(till))
+    put(members, alloc, "seconds", Value::from(moment.seconds))
 }
 
 // What an alta's has beside it.
@@ -113,12 +108,22 @@ fn put_body(
     }
 }
 
+/// The members of a record's object, without its till and serial.
+pub fn sealed_members(alloc: Global, sealed: &Sealed) -> Result<Map<String, Value>, AllocError>
+    ensures { IfOk result (λ members. members_view members.entries ≡ building.sealed_members sealed.now) }
+{
+    let mut members = Map::new(alloc);
+    put_sealed(&mut members, alloc, sealed)?;
+    put_body(&mut members, alloc, &sealed.body)?;
+    Ok(members)
+}
+
 fn record_value(alloc: Global, till: u8, serial: u32, sealed: &Sealed) -> Result<Value, AllocError>
     ensures { IfOk result (λ v. view v ≡ spec.body_object till serial sealed.now.body sealed.now.huella) }
 {
-    let mut members = Map::new(alloc);
-    put_record(&mut members, alloc, till, serial, sealed)?;
-    put_body(&mut members, alloc, &sealed.body)?;
+    let mut members = sealed_members(alloc, sealed)?;
+    put(&mut members, alloc, "serial", Value::from(serial))?;
+    put(&mut members, alloc, "till", Value::from(till))?;
     Ok(Value::Object(members))
 }
 

@@ -16,7 +16,8 @@ use std::alloc::{AllocError, Global};
 use std::str::from_utf8;
 use tax_lines::LineKey;
 
-pub(crate) fn text_value(alloc: Global, bytes: &[u8]) -> Result<Value, AllocError>
+/// The value of a text.
+pub fn text_value(alloc: Global, bytes: &[u8]) -> Result<Value, AllocError>
     requires { IsUtf8 bytes.now }
     ensures { IfOk result (λ v. view v ≡ string bytes.now) }
 {
@@ -26,7 +27,8 @@ pub(crate) fn text_value(alloc: Global, bytes: &[u8]) -> Result<Value, AllocErro
     Value::try_from_str(alloc, text)
 }
 
-pub(crate) fn nif_value(alloc: Global, nif: &Nif) -> Result<Value, AllocError>
+/// The value of a NIF.
+pub fn nif_value(alloc: Global, nif: &Nif) -> Result<Value, AllocError>
     ensures { IfOk result (λ v. view v ≡ spec.word nif.now) }
 {
     text_value(alloc, nif.bytes().as_slice())
@@ -45,7 +47,8 @@ pub(crate) fn day_value(alloc: Global, day: Day) -> Result<Value, AllocError>
     text_value(alloc, date_text(day).as_slice())
 }
 
-pub(crate) fn huella_value(alloc: Global, huella: &[u8; 32]) -> Result<Value, AllocError>
+/// The value of a Huella: its 64 capital hexadecimal digits.
+pub fn huella_value(alloc: Global, huella: &[u8; 32]) -> Result<Value, AllocError>
     ensures { IfOk result (λ v. view v ≡ spec.huella_value huella.now) }
 {
     text_value(alloc, huella_text(huella).as_slice())

@@ -1,0 +1,90 @@
+#!/bin/sh
+# Whether an adapter does what docs/ADAPTER.md asks of it: `drain` and `day` over it, faults of the link planned between the two, and
+# at the end it took each record of the chain once, in order, none was handed over again but where it had said that it held none, and
+# the file notes what it answered. Then how long `drain` takes over a file of so many waiting records, by the adapter alone.
+# Run by hand: bench/adapter.sh [RECORDS [ADAPTER..]]. ADAPTER is the adapter's command, which gets the two files behind its own
+# words; without it, it is the practice adapter. It is begun anew for each run, and must hold nothing of the issuer 89890001K then.
+set -eu
+
+root=$(CDPATH= cd -- "$(dirname -- "$0")/.." && pwd)
+records=${1:-10000}
+[ $# -eq 0 ] || shift
+[ $# -gt 0 ] || set -- python3 "$root/examples/agency/agency.py"
+work=$(mktemp -d /dev/shm/adapter.XXXXXX)
+nif=89890001K
+started=
+trap 'stop; rm -rf "$work"' EXIT
+
+: "${VERIFACTU:=$root/verifactu}"
+"$VERIFACTU" --version >/dev/null
+
+stop() {
+    for process in $started; do kill "$process" 2>/dev/null || true; done
+    started=
+}
+
+# The adapter behind new FIFOs, and with a plan a relay in front of it.
+start() {
+    plan=$1
+    shift
+    rm -f "$work"/to "$work"/from "$work"/adapter_to "$work"/adapter_from "$work/log"
+    mkfifo "$work/to" "$work/from" "$work/adapter_to" "$work/adapter_from"
+    if [ -n "$plan" ]; then
+        "$@" "$work/adapter_to" "$work/adapter_from" &
+        started=$!
+        python3 "$root/bench/adapter.py" relay "$work/to" "$work/from" "$work/adapter_to" "$work/adapter_from" "$work/log" "$plan" &
+    else
+        "$@" "$work/to" "$work/from" &
+    fi
+    started="$started $!"
+}
+
+# Whether the run that was told as its words ended so, and what came of it.
+run() {
+    name=$1
+    script=$2
+    shift 2
+    status=0
+    "$VERIFACTU" --agency "$work/to" "$work/from" "$@" <"$script" >"$work/text" 2>"$work/faults" || status=$?
+    [ $status -eq 0 ] || { echo "$name: status $status: $(cat "$work/faults")" >&2; exit 1; }
+    "$VERIFACTU" chain "$work/shop.chain" $nif </dev/null >"$work/listing"
+    if [ -f "$work/log" ]; then
+        printf '%s: ' "$name"
+        python3 "$root/bench/adapter.py" check "$work/log" "$work/listing"
+    fi
+}
+
+# A file of so many waiting sales.
+sales() {
+    rm -f "$work/shop.chain"
+    { echo "clock 1735722000 1"; seq "$1" | sed 's/.*/sale 1 & A F2 21:1000/'; } >"$work/script"
+    "$VERIFACTU" chain "$work/shop.chain" $nif <"$work/script" >/dev/null
+}
+
+echo "clock 1735900000 0" >"$work/empty"
+for plan in "1 none" "2 lost, 4 taken, 6 stale" "1 lost, 3 taken, 5 half, 7 twice" "2 half, 4 stale, 5 twice"; do
+    sales 1020
+    start "$plan" "$@"
+    run "drain, $plan" "$work/empty" drain "$work/shop.chain" $nif
+    stop
+done
+
+{
+    echo "clock 1735722000 1"
+    for till in 1 2 3 4; do seq 50 | sed "s/.*/sale $till & T$till F2 21:1000/"; done
+    for sale in 1 2 3 4 5 6 7 8 9 10; do echo "cancel 1 $((50 + sale)) T1-$sale"; done
+} >"$work/day"
+for plan in "2 taken, 3 lost, 5 twice" "1 half, 4 taken, 6 lost"; do
+    rm -f "$work/shop.chain"
+    start "$plan" "$@"
+    run "day, $plan" "$work/day" day "$work/shop.chain" $nif
+    stop
+done
+
+sales "$records"
+start "" "$@"
+begun=$(date +%s%N)
+run "drain" "$work/empty" drain "$work/shop.chain" $nif
+ended=$(date +%s%N)
+[ "$(tail -n 1 "$work/text")" = "chain $records noted $records" ] || { echo "not every record is noted" >&2; exit 1; }
+echo "$records records drained over the adapter in $(((ended - begun) / 1000000)) ms, the listing of the chain with them"

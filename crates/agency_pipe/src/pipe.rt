@@ -1,0 +1,302 @@
+// The agency behind a source and a sink.
+ghost use Rattle.std.specs.Prelude.{◌≡◌, ◌≤◌, vec_capacity};
+ghost use Rattle.ports.specs.Memory.{counted_up};
+ghost use Rattle.agency_pipe.specs.Speaking as spec;
+ghost use Rattle.agency_pipe.specs.declared.reader.TheConstants.{MAX_ANSWER};
+
+use crate::Unheard;
+use crate::answers::{reply_in, seen_in};
+use crate::exchange::{Quiet, exchange};
+use crate::hear::Deaf;
+use crate::messages::{begin_line, consult_line, submit_line};
+use crate::reader::MAX_ANSWER;
+use crate::reasons::told_in;
+use crate::said::{Said, is_told};
+use agency_port::{Agency, AgencyFault, Reply, SeenList};
+use agency_rules::Plan;
+use batches::{Batch, Huellas};
+use parties::Nif;
+use ports::{NoMemory, Sink, Source};
+use record_fields::{Line, Sealed};
+use serde_json::Value;
+use std::alloc::Global;
+use verify_link::Host;
+
+/// Speaks of one issuer's records to whoever reads the sink and writes the source. Nothing is assumed of that side.
+#[derive(Drop)]
+pub struct PipeAgency<S, K> {
+    source: S,
+    sink: K,
+    issuer: Nif,
+    host: Host,
+    // of the next message
+    number: u64,
+    // the count of noted records of the session, and whether its opening line was written
+    noted: u64,
+    is_open: bool,
+    text: Vec<u8>,
+    fault_count: u64,
+    last: Option<Quiet>,
+    told: Option<String>,
+    said: Said,
+    ghost room: { MAX_ANSWER ≤ vec_capacity text },
+}
+
+const OTHER_SHAPE: Quiet = Quiet::Deaf(Deaf::Line(Unheard::Shape));
+
+// Counts a message without an answer, and keeps why it has none. The count stands still at the greatest u64.
+fn missed(count: &mut u64, last: &mut Option<Quiet>, why: Quiet)
+    ensures { count.new ≡ counted_up count.old }
+{
+    *count = count.saturating_add(1);
+    *last = Some(why);
+}
+
+// Whether the session goes on behind a message without an answer: where the other side may have gone away it is opened anew.
+fn goes_on(why: Quiet) -> bool
+    ensures { result ≡ spec.stays_open why }
+{
+    match why {
+        Quiet::Sink | Quiet::Closed | Quiet::Deaf(Deaf::Source | Deaf::End) => false,
+        Quiet::Deaf(Deaf::TooLong | Deaf::Line(_) | Deaf::Earlier) => true,
+    }
+}
+
+impl<S: Source + Drop, K: Sink + Drop> PipeAgency<S, K> {
+    ghost use Rattle.std.specs.Prelude.{◌≡◌, ◌++◌, [], false, IfOk};
+    ghost use Rattle.batches.specs.Batches.{huellas_of};
+    ghost use Rattle.ports.specs.Sinks.{this_sink};
+    ghost use Rattle.ports.specs.Sources.{this_source};
+    ghost use Rattle.agency_port.specs.Ledger.{HasCause, counted};
+    ghost use Rattle.agency_pipe.specs.Answers.{GivesReply, GivesSeen};
+    ghost use Rattle.agency_pipe.specs.Messages.{consult_object, line_of, submit_object};
+    ghost use Rattle.agency_pipe.specs.Said.{said_in};
+    ghost use Rattle.agency_pipe.specs.Speaking.{Asks, Speaks, after, faults_by, kept, opening_of};
+
+    /// The agency behind these, whose first message has this number. It takes the memory for the longest answer.
+    pub fn new(
+        alloc: Global,
+        source: S,
+        sink: K,
+        issuer: Nif,
+        host: Host,
+        first: u64,
+    ) -> Result<PipeAgency<S, K>, NoMemory>
+        ensures said { IfOk result (λ agency. said_in agency.said ≡ []) }
+        ensures session { IfOk result (λ agency. agency.is_open ≡ false) }
+        ensures ends { IfOk result (λ agency. (agency.source ≡ source) × (agency.sink ≡ sink)) }
+        ensures keeps { IfOk result (λ agency. kept agency.number agency.issuer agency.host agency.noted agency.fault_count
+            ≡ kept first issuer host 0 0) }
+    {
+        let text = Vec::with_capacity(alloc, MAX_ANSWER)?;
+        Ok(PipeAgency {
+            source,
+            sink,
+            issuer,
+            host,
+            number: first,
+            noted: 0,
+            is_open: false,
+            text,
+            fault_count: 0,
+            last: None,
+            told: None,
+            said: Said::nothing(),
+        })
+    }
+
+    /// Why the last message that has no answer has none. Nothing is claimed of it.
+    pub fn trouble(&self) -> Option<Quiet> {
+        self.last
+    }
+
+    /// What the other side last told of a fault of its own, where there was memory to keep it. Nothing is claimed of it.
+    pub fn told(&self) -> Option<&str> {
+        match &self.told {
+            Some(told) => Some(told.as_str()),
+            None => None,
+        }
+    }
+
+    /// What it reads.
+    pub fn source(&self) -> &S
+        ensures { result.now ≡ self.now.source }
+    {
+        &self.source
+    }
+
+    /// What it writes to.
+    pub fn sink(&self) -> &K
+        ensures { result.now ≡ self.now.sink }
+    {
+        &self.sink
+    }
+
+    // The line that opens the session, where it wasn't written yet.
+    fn opening(&self, alloc: Global) -> Result<Vec<u8>, NoMemory>
+        ensures { IfOk result (λ text. text.items ≡ opening_of self.now.is_open self.now.issuer self.now.noted) }
+    {
+        if self.is_open {
+            Ok(Vec::new(alloc))
+        } else {
+            begin_line(alloc, &self.issuer, self.noted)
+        }
+    }
+
+    // Says a message, and hears its answer. Where there is none the failure is counted.
+    fn ask(&mut self, alloc: Global, number: u64, message: &[u8]) -> Result<Value, AgencyFault>
+        ensures said { said_in self.new.said ≡ said_in self.old.said }
+        ensures cause { HasCause (counted self.old.fault_count) (counted self.new.fault_count) result }
+        ensures asks { Asks (this_source S.left S.faults self.old.source self.new.source)
+            (this_sink K.taken K.faults self.old.sink self.new.sink) number
+            (opening_of self.old.is_open self.old.issuer self.old.noted ++ message.now) self.old.is_open self.new.is_open result }
+        ensures keeps { kept self.new.number self.new.issuer self.new.host self.new.noted self.new.fault_count
+            ≡ kept self.old.number self.old.issuer self.old.host self.old.noted (faults_by result self.old.fault_count) }
+    {
+        let ahead = self.opening(alloc)?;
+        match exchange(
+            alloc,
+            &mut self.source,
+            &mut self.sink,
+            &mut self.text,
+            number,
+            &ahead,
+            message,
+        ) {
+            Ok(value) => {
+                self.is_open = true;
+                Ok(value)
+            }
+            Err(Quiet::Deaf(Deaf::Line(Unheard::NoMemory))) => {
+                self.is_open = true;
+                Err(AgencyFault::NoMemory)
+            }
+            Err(why) => {
+                self.is_open = goes_on(why);
+                self.told = told_in(alloc, why, &self.text);
+                missed(&mut self.fault_count, &mut self.last, why);
+                Err(AgencyFault::Failed)
+            }
+        }
+    }
+
+    fn submission(&mut self, alloc: Global, batch: &Batch) -> Result<Reply, AgencyFault>
+        ensures said { said_in self.new.said ≡ said_in self.old.said }
+        ensures cause { HasCause (counted self.old.fault_count) (counted self.new.fault_count) result }
+        ensures named { IfOk result (λ reply. reply.huellas ≡ huellas_of batch.now) }
+        ensures row { Speaks (GivesReply (huellas_of batch.now)) self.old.number
+            (opening_of self.old.is_open self.old.issuer self.old.noted ++ line_of (submit_object self.old.number self.old.host batch.now))
+            (this_source S.left S.faults self.old.source self.new.source)
+            (this_sink K.taken K.faults self.old.sink self.new.sink) self.old.is_open self.new.is_open result }
+        ensures keeps { kept self.new.number self.new.issuer self.new.host self.new.noted self.new.fault_count
+            ≡ after (kept self.old.number self.old.issuer self.old.host self.old.noted self.old.fault_count) result }
+    {
+        let number = self.number;
+        self.number = number.saturating_add(1);
+        let line = submit_line(alloc, number, self.host, batch)?;
+        let huellas = Huellas::of(alloc, batch.as_slice())?;
+        let value = self.ask(alloc, number, &line)?;
+        match reply_in(alloc, &value, huellas)? {
+            Some(reply) => Ok(reply),
+            None => {
+                missed(&mut self.fault_count, &mut self.last, OTHER_SHAPE);
+                Err(AgencyFault::Failed)
+            }
+        }
+    }
+
+    fn consultation(&mut self, alloc: Global, huellas: &Huellas) -> Result<SeenList, AgencyFault>
+        ensures said { said_in self.new.said ≡ said_in self.old.said }
+        ensures cause { HasCause (counted self.old.fault_count) (counted self.new.fault_count) result }
+        ensures row { Speaks (GivesSeen huellas.now) self.old.number
+            (opening_of self.old.is_open self.old.issuer self.old.noted ++ line_of (consult_object self.old.number huellas.now))
+            (this_source S.left S.faults self.old.source self.new.source)
+            (this_sink K.taken K.faults self.old.sink self.new.sink) self.old.is_open self.new.is_open result }
+        ensures keeps { kept self.new.number self.new.issuer self.new.host self.new.noted self.new.fault_count
+            ≡ after (kept self.old.number self.old.issuer self.old.host self.old.noted self.old.fault_count) result }
+    {
+        let number = self.number;
+        self.number = number.saturating_add(1);
+        let line = consult_line(alloc, number, huellas)?;
+        let value = self.ask(alloc, number, &line)?;
+        match seen_in(alloc, &value, huellas)? {
+            Some(seen) => Ok(seen),
+            None => {
+                missed(&mut self.fault_count, &mut self.last, OTHER_SHAPE);
+                Err(AgencyFault::Failed)
+            }
+        }
+    }
+}
+
+impl<S: Source + Drop, K: Sink + Drop> Agency for PipeAgency<S, K> {
+    ghost use Rattle.std.specs.Prelude.{◌≡◌, ◌++◌, length, refl, false, true};
+    ghost use Rattle.std.proofs.Common.{rules, arith};
+    ghost use Rattle.batches.specs.Batches.{huellas_of};
+    ghost use Rattle.ports.specs.Sinks.{this_sink};
+    ghost use Rattle.ports.specs.Sources.{this_source};
+    ghost use Rattle.agency_port.specs.Ledger.{counted};
+    ghost use Rattle.agency_pipe.specs.Answers.{GivesReply, GivesSeen};
+    ghost use Rattle.agency_pipe.specs.Messages.{consult_object, line_of, submit_object};
+    ghost use Rattle.agency_pipe.specs.Said.{ledger_of, said_in};
+    ghost use Rattle.agency_pipe.specs.Speaking.{Speaks, after, kept, opening_of};
+
+    ghost tells = { true };
+
+    ghost keeps_rules = { false };
+
+    ghost ledger = { λ a. ledger_of (said_in a.said) };
+
+    ghost faults = { λ a. counted a.fault_count };
+
+    ghost begun = { λ processed _. processed };
+
+    ghost opening = { λ old new plan noted result. (new.is_open ≡ false) × (new.source ≡ old.source) × (new.sink ≡ old.sink)
+        × ((kept new.number new.issuer new.host new.noted new.fault_count)
+        ≡ kept old.number old.issuer old.host (length noted) old.fault_count) };
+
+    ghost submission = { λ old new batch result. Speaks (GivesReply (huellas_of batch)) old.number
+        (opening_of old.is_open old.issuer old.noted ++ line_of (submit_object old.number old.host batch))
+        (this_source S.left S.faults old.source new.source) (this_sink K.taken K.faults old.sink new.sink) old.is_open new.is_open result
+        × ((kept new.number new.issuer new.host new.noted new.fault_count)
+        ≡ after (kept old.number old.issuer old.host old.noted old.fault_count) result) };
+
+    ghost consultation = { λ old new huellas result. Speaks (GivesSeen huellas) old.number
+        (opening_of old.is_open old.issuer old.noted ++ line_of (consult_object old.number huellas))
+        (this_source S.left S.faults old.source new.source) (this_sink K.taken K.faults old.sink new.sink) old.is_open new.is_open result
+        × ((kept new.number new.issuer new.host new.noted new.fault_count)
+        ≡ after (kept old.number old.issuer old.host old.noted old.fault_count) result) };
+
+    ghost keeps_and_tells = { λ keeps. refl };
+
+    ghost few_faults = { Prim.search (rules, arith) };
+
+    ghost sent_is = { λ agency tells. refl };
+
+    fn begin(
+        &mut self,
+        _alloc: Global,
+        plan: &Plan,
+        noted: &[(Sealed, Line)],
+    ) -> Result<(), NoMemory> {
+        let pairs = noted.len() as u64;
+        self.noted = pairs;
+        self.is_open = false;
+        self.said.begun(plan, pairs);
+        Ok(())
+    }
+
+    fn submit(&mut self, alloc: Global, batch: &Batch) -> Result<Reply, AgencyFault> {
+        let answer = self.submission(alloc, batch);
+        self.said.submitted(batch, &answer);
+        answer
+    }
+
+    fn consult(&mut self, alloc: Global, huellas: &Huellas) -> Result<SeenList, AgencyFault> {
+        let answer = self.consultation(alloc, huellas);
+        if is_told(&answer) {
+            self.said.consulted(huellas, &answer);
+        }
+        answer
+    }
+}

@@ -1,0 +1,70 @@
+// A sale, and what is said of it.
+mod lines;
+mod streams;
+
+use amounts::Cents;
+use batches::{Batch, are_linked};
+use invoice_kinds::Kind;
+use parties::Nif;
+use record_fields::{Alta, Draft, Link, Previo, Record, Refs, Sealed};
+use series::{InvoiceId, NumSerie};
+use stamps::{Day, Stamp};
+use std::alloc::Global;
+use std::test::Fail;
+use tax_lines::{Breakdown, Class, LineKey, TaxLine};
+
+pub(crate) const SUBMISSION: &str =
+    "{\"n\":7,\"records\":[{\"cuota\":2100,\"customer\":null,\"day\":\"01-01-2025\",\"fix\":false,\"huella\":\"0A0A0A0A0A0A0A0A0A0A0A0A0A0A0A0A0A0A0A0A0A0A0A0A0A0A0A0A0A0A0A0A\",\"issuer\":\"89890001K\",\"kind\":\"F2\",\"lines\":[[\"21\",10000]],\"link\":null,\"num\":\"A-1\",\"offset\":60,\"qr\":\"https://www2.agenciatributaria.gob.es/wlpl/TIKE-CONT/ValidarQR?nif=89890001K&numserie=A-1&fecha=01-01-2025&importe=121.00\",\"rechazo\":\"N\",\"rect\":null,\"refs\":[],\"seconds\":1735722000,\"t\":\"alta\",\"total\":12100}],\"t\":\"submit\"}\n";
+
+pub(crate) const CONSULTATION: &str =
+    "{\"huellas\":[\"0A0A0A0A0A0A0A0A0A0A0A0A0A0A0A0A0A0A0A0A0A0A0A0A0A0A0A0A0A0A0A0A\"],\"n\":8,\"t\":\"consult\"}\n";
+
+pub(crate) const BEGIN: &str = "{\"issuer\":\"89890001K\",\"noted\":0,\"t\":\"begin\"}\n";
+
+pub(crate) fn nif() -> Result<Nif, Fail> {
+    Ok(Nif::read("89890001K")?)
+}
+
+fn sale(alloc: Global) -> Result<Sealed, Fail> {
+    let lines = [TaxLine {
+        key: LineKey::iva(Class::General),
+        base: Cents::new(10_000).ok_or("base")?,
+    }];
+    let alta = Alta {
+        issuer: nif()?,
+        id: InvoiceId {
+            num: NumSerie::read("A-1").ok_or("num")?,
+            day: Day::read("01-01-2025").ok_or("day")?,
+        },
+        draft: Draft {
+            kind: Kind::F2,
+            rect: None,
+            customer: None,
+            refs: Refs::of(Vec::new(alloc)),
+            lines: Breakdown::of(alloc, &lines)?,
+        },
+        subsanacion: false,
+        rechazo: Previo::N,
+        link: Link::First,
+        moment: Stamp::new(1_735_722_000, 60).ok_or("moment")?,
+    };
+    Ok(Sealed {
+        body: Record::Alta(alta),
+        huella: [10; 32],
+    })
+}
+
+pub(crate) fn batch(alloc: Global) -> Result<Batch, Fail> {
+    let mut records = Vec::new(alloc);
+    records.push(sale(alloc)?)?;
+    if !are_linked(&records) {
+        return Err(Fail::from("linked"));
+    }
+    Ok(Batch::cut(alloc, &records)?.ok_or("empty")?)
+}
+
+// The line with its H for the sale's Huella.
+pub(crate) fn with_huella(alloc: Global, line: &str) -> Result<String, Fail> {
+    let digits = "0A0A0A0A0A0A0A0A0A0A0A0A0A0A0A0A0A0A0A0A0A0A0A0A0A0A0A0A0A0A0A0A";
+    Ok(line.replace(alloc, "H", digits)?)
+}

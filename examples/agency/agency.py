@@ -1,0 +1,176 @@
+#!/usr/bin/env python3
+"""A practice adapter: an agency in memory behind two FIFOs, `agency.py TO FROM`. Standard library alone.
+
+It keeps the agency's rules: a batch is processed whole and in order, a record that came before is a duplicate with the state of
+its line and changes nothing, and a consultation tells what was processed. It refuses a batch that isn't linked, and a record whose
+Huella isn't that of its fields.
+
+What befalls its calls is planned, submissions and consultations counted together from 1: --plan "2 lost, 4 taken, 6 late 2".
+  lost      the call doesn't arrive            taken     it arrives, and its answer is lost
+  late D    it arrives D calls later           stale     it arrives, and is given the answer to the submission before it
+  again     all batches before it arrive once more, ahead of it
+  slow S    the answer comes S seconds later   twice     the answer is given twice
+  half      half the answer is given, and the adapter ends
+--verdicts "A-1 1 vet 3000, A-2 1 warn 200": what it finds wrong with the n-th record of an invoice.
+--state FILE keeps what was processed and handed over, so that it can be ended and started again.
+"""
+import argparse
+import json
+import os
+import sys
+import time
+
+from skeleton import Adapter, Fault, MOST_RECORDS
+
+
+def rows(text):
+    return [row.split() for row in text.split(",") if row.strip()]
+
+
+class Practice(Adapter):
+    def __init__(self, options):
+        self.options = options
+        self.fates = {int(row[0]): row[1:] for row in rows(options.plan)}
+        self.verdicts = {(row[0], int(row[1])): (row[2], int(row[3])) for row in rows(options.verdicts)}
+        # what was processed: the line of each Huella, and for each invoice how many records came and the last accepted one's sort
+        self.lines, self.pasts = {}, {}
+        self.sent, self.late = [], []  # the batches that were handed over, and those on their way with the calls that they wait for
+        self.issuer, self.complaint = None, "no session"
+        self.calls, self.fate, self.last_lines, self.due = 0, ["none"], [], 0.0
+        self.load()
+
+    # ---- what was processed
+
+    def load(self):
+        if self.options.state and os.path.exists(self.options.state):
+            with open(self.options.state, encoding="utf-8") as state:
+                for sort, content, line in map(json.loads, state):
+                    if sort == "processed":
+                        self.keep(content, line)
+                    else:
+                        self.sent.append(content)
+
+    def save(self, sort, content, line=None):
+        if self.options.state:
+            with open(self.options.state, "a", encoding="utf-8") as state:
+                state.write(json.dumps([sort, content, line]) + "\n")
+
+    def keep(self, record, line):
+        self.lines[record["huella"]] = line
+        name = (record["num"], record["day"])
+        count, last = self.pasts.get(name, (0, None))
+        accepted = line[0] in ("correcto", "con-errores")
+        self.pasts[name] = (count + 1, record["t"] if accepted else last)
+
+    def judge(self, record):
+        """The line of a new record: the first that holds."""
+        count, last = self.pasts.get((record["num"], record["day"]), (0, None))
+        verdict, code = self.verdicts.get((record["num"], count + 1), (None, 0))
+        if verdict == "vet":
+            return ["vet", code]
+        if last == "anulacion":
+            return ["gone", 0]
+        if record["t"] == "alta":
+            must_be_new = not record["fix"] or record["rechazo"] == "X"
+        else:
+            must_be_new = record["sin_registro"]
+        if must_be_new and last == "alta":
+            return ["held", 0]
+        if not must_be_new and last != "alta":
+            return ["not-held", 0]
+        return ["con-errores", code] if verdict == "warn" else ["correcto", 0]
+
+    def deliver(self, batch):
+        """All records of a batch, in order; an item for each."""
+        items = []
+        for record in batch:
+            huella = record["huella"]
+            if huella in self.lines:
+                word = self.lines[huella][0]
+                state = word if word in ("correcto", "con-errores") else "incorrecto"
+                items.append([huella, "duplicado-" + state, 0])
+            else:
+                line = self.judge(record)
+                self.keep(record, line)
+                self.save("processed", record, line)
+                items.append([huella] + line)
+        return items
+
+    def again(self):
+        for batch in list(self.sent):
+            self.deliver(batch)
+
+    # ---- the messages
+
+    def begin(self, issuer, noted):
+        """The file's noted lines are the first ones of what was processed here."""
+        if self.issuer not in (None, issuer):
+            self.complaint = "another issuer's session"
+        elif noted > len(self.lines):
+            self.complaint = "%d noted, %d processed" % (noted, len(self.lines))
+        else:
+            self.issuer, self.complaint = issuer, None
+
+    def answer(self, message):
+        self.calls += 1
+        self.fate = self.fates.get(self.calls, ["none"])
+        if self.complaint:
+            raise Fault(self.complaint)
+        for batch in [batch for at, batch in self.late if at <= self.calls]:
+            self.deliver(batch)
+        self.late = [(at, batch) for at, batch in self.late if at > self.calls]
+        return super().answer(message)
+
+    def submit(self, records):
+        now = time.monotonic()
+        if self.options.strict and len(records) < MOST_RECORDS and now < self.due:
+            raise Fault("too soon, by %d seconds" % (self.due - now + 1))
+        self.due = now + self.options.wait
+        fate = self.fate[0]
+        if fate == "again":
+            self.again()
+        self.sent.append(records)
+        self.save("sent", records)
+        if fate == "lost":
+            raise Fault("lost")
+        if fate == "late":
+            self.late.append((self.calls + max(int(self.fate[1]), 1), records))
+            raise Fault("late")
+        before, self.last_lines = self.last_lines, self.deliver(records)
+        if fate == "taken":
+            raise Fault("taken")
+        return (before if fate == "stale" else self.last_lines), self.options.wait
+
+    def consult(self, huellas):
+        if self.fate[0] == "again":
+            self.again()
+        elif self.fate[0] in ("lost", "taken", "late", "stale"):
+            raise Fault(self.fate[0])
+        return [[huella] + self.lines.get(huella, ["not-seen", 0]) for huella in huellas]
+
+    def write(self, out, text):
+        fate, self.fate = self.fate, ["none"]
+        if fate[0] == "slow":
+            time.sleep(float(fate[1]))
+        if fate[0] == "half":
+            super().write(out, text[: len(text) // 2])
+            sys.exit(3)
+        super().write(out, text * (2 if fate[0] == "twice" else 1))
+
+
+def main():
+    parser = argparse.ArgumentParser(description="A practice adapter for verifactu's --agency TO FROM.")
+    parser.add_argument("to")
+    parser.add_argument("from_", metavar="from")
+    parser.add_argument("--plan", default="", help="what befalls the calls, as '2 lost, 3 late 2'")
+    parser.add_argument("--verdicts", default="", help="as 'A-1 1 vet 3000'")
+    parser.add_argument("--state", default="", help="the file that keeps what was processed")
+    parser.add_argument("--wait", type=int, default=0, help="the seconds between submissions")
+    parser.add_argument("--strict", action="store_true", help="refuses a submission of fewer than 1000 that comes too soon")
+    parser.add_argument("--once", action="store_true", help="ends when the program closes TO, and serves no further run")
+    options = parser.parse_args()
+    Practice(options).serve(options.to, options.from_, options.once)
+
+
+if __name__ == "__main__":
+    main()
