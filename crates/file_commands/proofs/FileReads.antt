@@ -15,11 +15,11 @@ Holds file (Broken place at what) = Unit {0}
 
 pub holds : (file : List ℕ) (read : FileRead) → IsRead file read → Holds file read
 holds file read (not_begun none) = inl (none, refl)
-holds file read (stands history end h gate) = inr (history.issuer, h)
+holds file read (stands history end h gate) = inr (history.version, history.issuer, h)
 holds file read (in_header at h) = tt
-holds file read (no_frame issuer entries at sound damaged) = tt
-holds file read (no_entry issuer entries at body sound counted none) = tt
-holds file read (not_next issuer entries at body entry why sound counted encoding not broken) = tt
+holds file read (no_frame version issuer entries at sound damaged) = tt
+holds file read (no_entry version issuer entries at body sound counted none) = tt
+holds file read (not_next version issuer entries at body entry why sound counted encoding not broken) = tt
 
 -- What links are held against.
 abbrev pub Kept : List ℕ → FileRead → Type 0
@@ -29,8 +29,8 @@ Kept file (Broken place at what) = Unit {0}
 
 pub kept : (file : List ℕ) (read : FileRead) → IsRead file read → Kept file read
 kept file read (not_begun none) = none
-kept file read (stands history end h gate) = h
+kept file read (stands history end h gate) = (history.version, h)
 kept file read (in_header at h) = tt
-kept file read (no_frame issuer entries at sound damaged) = tt
-kept file read (no_entry issuer entries at body sound counted none) = tt
-kept file read (not_next issuer entries at body entry why sound counted encoding not broken) = tt
+kept file read (no_frame version issuer entries at sound damaged) = tt
+kept file read (no_entry version issuer entries at body sound counted none) = tt
+kept file read (not_next version issuer entries at body entry why sound counted encoding not broken) = tt

@@ -2,7 +2,7 @@
 use Rattle.std.proofs.Common.{◌≡◌, ◌⊎◌, inl, inr, ℕ, zero, suc, ◌+◌, ◌<◌, List, [], ◌∷◌, ◌++◌, length, length-append, refl, ◌∙◌}
 use Rattle.std.proofs.Common.{ap, subst, sym, arith, Option, Some, None, Err, IsTrue, true, slice_get}
 use Rattle.record_fields.specs.declared.versions.Version.{Version}
-use Rattle.record_fields.specs.declared.versions.Version.TheVariants.{One}
+use Rattle.record_fields.specs.declared.versions.Version.TheVariants.{Two}
 use Rattle.chain_disk.specs.OnDisk.{OnDisk}
 use Rattle.chain_store.specs.Ready.{IsReady}
 use Rattle.journal.specs.File.{IsAt}
@@ -52,29 +52,29 @@ not_refused Shape h = let shaped = h.1 in cc
 not_refused (Control wanted) h = let controlled = h.2 in cc
 
 pub ran : (n : ℕ) (asks : List Asked) (replies : Replies) (start entries : List Entry) (version : Version) (own : List ℕ)
-    (coming : ℕ → Option ℕ) → AreCommands n asks → version ≡ One → own ≡ issuer → start ≡ [] → ((k : ℕ) → coming k ≡ Some (counting START STEP k)) →
+    (coming : ℕ → Option ℕ) → AreCommands n asks → version ≡ Two → own ≡ issuer → start ≡ [] → ((k : ℕ) → coming k ≡ Some (counting START STEP k)) →
     ChainRun version own (IsComing coming) start asks replies entries → AllReplied replies → Generated n entries
 ran n asks replies start entries version own coming are is_one whose nothing told run replied =
     let at_one = subst (λ (v : Version). ChainRun v own (IsComing coming) start asks replies entries) is_one run in
-    let told_now = subst (λ (c : ℕ → Option ℕ). ChainRun One own (IsComing c) start asks replies entries) (fun_ext told) at_one in
-    let of_issuer = subst (λ (o : List ℕ). ChainRun One o (IsComing (λ k. Some (counting START STEP k))) start asks replies
+    let told_now = subst (λ (c : ℕ → Option ℕ). ChainRun Two own (IsComing c) start asks replies entries) (fun_ext told) at_one in
+    let of_issuer = subst (λ (o : List ℕ). ChainRun Two o (IsComing (λ k. Some (counting START STEP k))) start asks replies
     entries)
     whose told_now in
     record {
       asks = asks;
       are = are;
       replies = replies;
-      run = subst (λ (s : List Entry). ChainRun One issuer (IsComing (λ k. Some (counting START STEP k))) s asks replies entries)
+      run = subst (λ (s : List Entry). ChainRun Two issuer (IsComing (λ k. Some (counting START STEP k))) s asks replies entries)
           nothing of_issuer;
       replied = replied;
     }
 
 -- of a file that was begun, whose disk tells what it holds
 pub ready_empty : (own : List ℕ) (history : History) (stopped : Option ℕ) (gate : ℕ) (t : OnDisk) →
-    history ≡ record { issuer = own; version = One; entries = []; room = None } →
-    gate ≡ 19 → (IsTrue true → IsAt own [] gate t) → IsReady true history stopped gate t
+    history ≡ record { issuer = own; version = Two; entries = []; room = None } →
+    gate ≡ 19 → (IsTrue true → IsAt Two own [] gate t) → IsReady true history stopped gate t
 ready_empty own history stopped gate t made at file = subst (λ (h : History). IsReady true h stopped gate t) (sym made)
     (record {
       place = omega (arith, at);
-      holds = λ going told. record { file = file told; encoded = tt; version = refl };
+      holds = λ going told. record { file = file told; encoded = tt };
     })

@@ -3,3 +3,5 @@ pub mod Lasts
 pub mod FileReads
 mod Cutting
 mod Generating
+pub mod Exports
+pub mod Places

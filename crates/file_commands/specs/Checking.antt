@@ -4,6 +4,7 @@ use Rattle.chain_disk.specs.Disks.{Disks, DiskRose, LeftDisk}
 use Rattle.ports.specs.Sinks.{Sinks, WroteNothing}
 use Rattle.ports.specs.Sources.{Sources}
 use Rattle.journal.specs.File.{IsNotBegun}
+use Rattle.record_fields.specs.declared.versions.Version.{Version}
 use Rattle.shop_core.specs.File.Files.{StandsFor, IsDamagedFile}
 use Rattle.link_check.specs.Checking.{Chain, AreChecked}
 use Rattle.link_check.specs.Checking.Chain.{not_begun, begun}
@@ -18,7 +19,7 @@ use Rattle.file_commands.specs.Output.{PrintEnds}
 -- what links are held against: nothing where the file isn't begun, else the history that it stands for
 abbrev pub IsChainOf : Chain → List ℕ → Type 0
 IsChainOf not_begun file = IsNotBegun file
-IsChainOf (begun issuer entries) file = StandsFor issuer entries file
+IsChainOf (begun issuer entries) file = (version : Version) × StandsFor version issuer entries file
 
 -- these answers were printed, a line each, or there was no memory for their text
 pub data AreTold (answers : List Checked) (s : Sinks) : Detail → Type 0 where

@@ -1,6 +1,6 @@
 -- How `generate` ends.
 use Rattle.std.specs.Prelude.{◌≡◌, ℕ, List, [], codes, Some}
-use Rattle.record_fields.specs.declared.versions.Version.TheVariants.{One}
+use Rattle.record_fields.specs.declared.versions.Version.TheVariants.{Two}
 use Rattle.ports.specs.Counting.{counting}
 use Rattle.ports.specs.Sinks.{Sinks, WroteNothing}
 use Rattle.record_codec.specs.declared.entry.Entry.{Entry}
@@ -24,7 +24,7 @@ pub record Generated (n : ℕ) (entries : List Entry) : Type 0 where
   pub asks : List Asked
   pub are : AreCommands n asks
   pub replies : Replies
-  pub run : ChainRun One issuer (IsComing (λ k. Some (counting START STEP k))) [] asks replies entries
+  pub run : ChainRun Two issuer (IsComing (λ k. Some (counting START STEP k))) [] asks replies entries
   pub replied : AllReplied replies
 
 -- the summary of that run's chain

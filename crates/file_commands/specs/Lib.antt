@@ -6,3 +6,6 @@ pub mod Linking
 pub mod Checking
 pub mod Generated
 pub mod Generate
+pub mod Exporting
+pub mod Matching
+pub mod Statements

@@ -1,5 +1,6 @@
 -- How `link` ends.
 use Rattle.std.specs.Prelude.{◌≡◌, ◌⊎◌, ℕ, List, [], ◌∷◌, ◌++◌, IsTrue, Option, Some, None, option_map}
+use Rattle.record_fields.specs.declared.versions.Version.{Version}
 use Rattle.chain_disk.specs.Disks.{Disks, DiskRose}
 use Rattle.ports.specs.Sinks.{Sinks, WroteNothing}
 use Rattle.journal.specs.File.{IsNotBegun}
@@ -17,7 +18,8 @@ use Rattle.file_commands.specs.Output.{PrintEnds}
 
 -- the file isn't begun, and then the history is empty; or it stands for this history
 abbrev pub IsHistoryOf : List Entry → List ℕ → Type 0
-IsHistoryOf entries file = (IsNotBegun file × (entries ≡ [])) ⊎ ((issuer : List ℕ) × StandsFor issuer entries file)
+IsHistoryOf entries file = (IsNotBegun file × (entries ≡ [])) ⊎
+    ((version : Version) × (issuer : List ℕ) × StandsFor version issuer entries file)
 
 -- the record that is the last alta of a number, or none
 abbrev pub last_alta_of : List Entry → List ℕ → Option Record

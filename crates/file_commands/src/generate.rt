@@ -4,7 +4,7 @@ ghost use Rattle.ports.specs.Counting.{counting};
 ghost use Rattle.ports.specs.Sinks.{this_sink};
 ghost use Rattle.chain_disk.specs.MemDisk.{told_of};
 ghost use Rattle.journal.specs.Journal.{stopped_of};
-ghost use Rattle.record_fields.specs.declared.versions.Version.TheVariants.{One};
+ghost use Rattle.record_fields.specs.declared.versions.Version.TheVariants.{Two};
 ghost use Rattle.chain_store.specs.Store.{Ready, clock_of, journal_of, state_of};
 ghost use Rattle.report.specs.Status.{status_of};
 ghost use Rattle.file_commands.specs.Generate.{GenerateEnds, Generated, IsSummary};
@@ -46,7 +46,7 @@ fn begun(alloc: Global) -> Result<Store<MemDisk, CountingClock>, NoMemory>
     ensures ready { IfOk result (λ store. Ready true told_of store) }
     ensures going_on { IfOk result (λ store. stopped_of (journal_of store) ≡ None) }
     ensures issuer { IfOk result (λ store. (state_of store).issuer ≡ spec.issuer) }
-    ensures version { IfOk result (λ store. (state_of store).version ≡ One) }
+    ensures version { IfOk result (λ store. (state_of store).version ≡ Two) }
     ensures empty { IfOk result (λ store. (state_of store).entries ≡ []) }
     ensures clock { IfOk result (λ store. (k : ℕ) →
         ⟦<CountingClock as Clock>⟧.coming (clock_of store) k ≡ Some (counting START STEP k)) }
@@ -54,8 +54,8 @@ fn begun(alloc: Global) -> Result<Store<MemDisk, CountingClock>, NoMemory>
     let issuer = issuer();
     let disk = MemDisk::new(alloc, Vec::new(alloc), Vec::new(alloc));
     let clock = CountingClock::new(START, STEP);
-    let state = State::empty(alloc, &issuer, Version::One);
-    match Journal::create(disk, &issuer) {
+    let state = State::empty(alloc, &issuer, Version::Two);
+    match Journal::create(disk, &issuer, Version::Two) {
         Ok(journal) => Ok(Store::of(state, journal, clock)),
         Err(_) => Err(NoMemory),
     }

@@ -1,5 +1,5 @@
 // The lines of a source.
-ghost use Rattle.std.specs.Prelude.{◌≡◌, ◌≢◌, ◌<◌, ◌==◌, [], ◌∷◌, IfOk, length, position};
+ghost use Rattle.std.specs.Prelude.{◌≡◌, ◌≢◌, ◌<◌, ◌==◌, [], ◌∷◌, IfOk, MatchOption, length, position};
 ghost use Rattle.std.specs.Str.Lines.{strip_carriage_return};
 ghost use Rattle.file_commands.specs.Lines.{lines_of};
 
@@ -20,6 +20,18 @@ pub(crate) fn read_lines(alloc: Global, bytes: &[u8]) -> Result<ScannedLines, No
         rest = after;
     }
     Ok(ScannedLines::of(lines))
+}
+
+/// The first line, and what is left behind its LF; None where there is no line.
+pub(crate) fn next_line(text: &[u8]) -> Option<(&[u8], &[u8])>
+    ensures { MatchOption result
+        (lines_of text.now ≡ [])
+        (λ next. lines_of text.now ≡ next.0.now ∷ lines_of next.1.now) }
+{
+    if text.is_empty() {
+        return None;
+    }
+    Some(first_line(text))
 }
 
 // The first line, and what is left behind its LF.

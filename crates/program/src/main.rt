@@ -1,18 +1,28 @@
-//! The invoicing chain of a shop: hands the real devices and a practice agency to `verifactu::run`, and prints why it failed,
-//! where it did.
+//! The invoicing chain of a shop: hands the real devices and an agency, a practice one or that behind two files, to
+//! `verifactu::run`, and prints why it failed, where it did.
 #![tactic(auto)]
 
+ghost use Rattle.std.specs.Prelude.{◌≡◌, length, map, option_to_list, string_bytes};
+ghost use Rattle.verifactu.specs.CommandLine.{posts_needed};
+
+mod option;
 mod usage;
 
+use crate::option::{PipeFiles, split_option};
 use crate::usage::form_of;
-use agency_port::PracticeAgency;
+use agency_pipe::{PipeAgency, PipeSink, PipeSource};
+use agency_port::{Agency, PracticeAgency};
 use chain_disk::FileDisk;
-use ports::{OpenGate, StdSink, StdSource, SystemClock, ThreadSleeper};
+use parties::Nif;
+use ports::{Clock, NoMemory, OpenGate, StdSink, StdSource, SystemClock, ThreadSleeper};
 use report::{Detail, fault_text, status_of};
 use std::env;
 use std::io::{ErrorKind, Write};
 use std::process::ExitCode;
-use verifactu::{Outside, run};
+use std::sync::Wait;
+use std::thread::Threads;
+use verifactu::{Outside, Post, Posts, posts_needed, run};
+use verify_link::Host;
 
 // The words behind the program's name. One that isn't UTF-8 is no word of a command.
 fn words_of(rt: &HostRuntime) -> Result<Vec<String>, Detail> {
@@ -26,9 +36,9 @@ fn words_of(rt: &HostRuntime) -> Result<Vec<String>, Detail> {
     }
 }
 
-// FILE, the word behind the command's. Where there is none, no call touches the disk.
-fn file_of(words: &[String]) -> &str {
-    match words.get(1) {
+// FILE, the word behind the command's, or NEW, the one behind it. Where there is none, no call touches the disk.
+fn file_of(words: &[String], place: usize) -> &str {
+    match words.get(place) {
         Some(file) => file.as_str(),
         None => "",
     }
@@ -50,8 +60,8 @@ fn print_reason(rt: &HostRuntime, thing: &str, reason: Option<&str>) {
     }
 }
 
-// Why the parts failed, where they did. `audit`, `link` and `check` look at a file that they don't make: a mistyped name must not
-// look like a sound shop.
+// Why the parts failed, where they did. Commands that only look at a file don't make it: a mistyped name must not look like a
+// sound shop.
 fn print_reasons(
     rt: &HostRuntime,
     file: &str,
@@ -81,51 +91,150 @@ fn print_form(rt: &HostRuntime, words: &[String]) {
     };
 }
 
-fn failed(rt: &HostRuntime, detail: Detail) -> ExitCode {
-    print_fault(rt, &detail);
-    ExitCode::from(status_of(&detail))
+// NIF, the word behind FILE. Where there is none, no call asks an agency.
+fn issuer_of(words: &[String]) -> Option<Nif> {
+    match Nif::read(words.get(2)?.as_str()) {
+        Ok(issuer) => Some(issuer),
+        Err(_) => None,
+    }
 }
 
-fn main(rt: HostRuntime) -> ExitCode {
-    let words = match words_of(&rt) {
-        Ok(words) => words,
-        Err(detail) => return failed(&rt, detail),
-    };
-    let file = file_of(&words);
-    let Ok(path) = String::from_str(rt.alloc(), file) else {
-        return failed(&rt, Detail::NoMemory);
-    };
-    let mut source = StdSource::new(&rt);
-    let mut sink = StdSink::new(&rt);
+// Runs the command with this agency, which comes back, and prints why it failed, where it did. `spare` is that of the further file,
+// where the words name one. NoMemory: nothing was run.
+fn run_with<R: Threads + Wait + Sync, G: Agency + Send + Drop>(
+    handle: &R,
+    rt: &HostRuntime,
+    words: &[String],
+    agency: G,
+    spare: Option<G>,
+) -> Result<(u8, G), NoMemory>
+    requires { length (option_to_list spare) ≡ posts_needed (map string_bytes words.now) }
+{
+    let file = file_of(words, 1);
+    let new = file_of(words, 2);
+    let path = String::from_str(rt.alloc(), file)?;
+    let mut more = Vec::new(rt.alloc());
+    if let Some(agency) = spare {
+        more.push(Post {
+            disk: FileDisk::at(rt, String::from_str(rt.alloc(), new)?),
+            clock: SystemClock::new(rt),
+            sleeper: ThreadSleeper::new(rt),
+            agency,
+        })?;
+    }
+    let mut source = StdSource::new(rt);
+    let mut sink = StdSink::new(rt);
     let outside = Outside {
-        disk: FileDisk::at(&rt, path),
-        clock: SystemClock::new(&rt),
-        sleeper: ThreadSleeper::new(&rt),
-        agency: PracticeAgency::new(rt.alloc()),
+        disk: FileDisk::at(rt, path),
+        clock: SystemClock::new(rt),
+        sleeper: ThreadSleeper::new(rt),
+        agency,
+        more: Posts::of(more),
     };
     let (ended, outside) = run(
-        &rt,
+        handle,
         rt.alloc(),
-        &words,
+        words,
         &mut source,
         &mut sink,
         outside,
         &OpenGate,
     );
     if ended.status != 0 {
-        print_fault(&rt, &ended.detail);
+        print_fault(rt, &ended.detail);
     }
     if matches!(ended.detail, Detail::Usage) {
-        print_form(&rt, &words);
+        print_form(rt, words);
+    }
+    for post in outside.more.as_slice() {
+        print_reason(rt, new, post.disk.reason());
     }
     let disk = outside.disk;
     print_reasons(
-        &rt,
+        rt,
         file,
         source.reason(),
         disk.reason(),
         sink.reason(),
         disk.missing(),
     );
-    ExitCode::from(ended.status)
+    Ok((ended.status, outside.agency))
+}
+
+// The number of the first message rises from run to run: answers that an earlier run left are passed over.
+fn first_number(rt: &HostRuntime) -> u64 {
+    SystemClock::new(rt).now().saturating_mul(1_000_000)
+}
+
+// Runs the command, which names no further file, with the agency behind these files.
+fn run_by_pipe<R: Threads + Wait + Sync>(
+    handle: &R,
+    rt: &HostRuntime,
+    words: &[String],
+    files: PipeFiles<'_>,
+    issuer: Nif,
+) -> Result<u8, NoMemory>
+    requires { posts_needed (map string_bytes words.now) ≡ 0 }
+{
+    let alloc = rt.alloc();
+    let source = PipeSource::at(rt, String::from_str(alloc, files.from)?);
+    let sink = PipeSink::at(rt, String::from_str(alloc, files.to)?);
+    let agency = PipeAgency::new(alloc, source, sink, issuer, Host::Real, first_number(rt))?;
+    let (status, agency) = run_with(handle, rt, words, agency, None)?;
+    print_reason(rt, "the agency", agency.reason());
+    Ok(status)
+}
+
+// Runs the command with a practice agency.
+fn run_by_practice<R: Threads + Wait + Sync>(
+    handle: &R,
+    rt: &HostRuntime,
+    words: &[String],
+) -> Result<u8, NoMemory> {
+    let agency = PracticeAgency::new(rt.alloc());
+    let (status, _) = if posts_needed(words) == 0 {
+        run_with(handle, rt, words, agency, None)?
+    } else {
+        let spare = PracticeAgency::new(rt.alloc());
+        run_with(handle, rt, words, agency, Some(spare))?
+    };
+    Ok(status)
+}
+
+fn run_words<R: Threads + Wait + Sync>(
+    handle: &R,
+    rt: &HostRuntime,
+    words: &[String],
+) -> Result<u8, Detail> {
+    let (files, words) = split_option(words)?;
+    let status = match (files, issuer_of(words)) {
+        (Some(files), Some(issuer)) if posts_needed(words) == 0 => {
+            run_by_pipe(handle, rt, words, files, issuer)
+        }
+        _ => run_by_practice(handle, rt, words),
+    };
+    match status {
+        Ok(status) => Ok(status),
+        Err(NoMemory) => Err(Detail::NoMemory),
+    }
+}
+
+fn main(rt: HostRuntime) -> ExitCode {
+    let words = match words_of(&rt) {
+        Ok(words) => words,
+        Err(detail) => {
+            print_fault(&rt, &detail);
+            return ExitCode::from(status_of(&detail));
+        }
+    };
+    match run_words(&rt, &rt, &words) {
+        Ok(status) => ExitCode::from(status),
+        Err(detail) => {
+            print_fault(&rt, &detail);
+            if matches!(detail, Detail::Usage) {
+                print_form(&rt, &words);
+            }
+            ExitCode::from(status_of(&detail))
+        }
+    }
 }

@@ -9,7 +9,12 @@ pub fn form_of(name: &str) -> Option<&'static str> {
         "audit" => Some("audit FILE"),
         "link" => Some("link FILE NUM HOST, HOST being real or test"),
         "check" => Some("check FILE WORKERS, WORKERS being 1 to 16"),
+        "migrate" => Some("migrate FILE NEW"),
+        "statement" => Some("statement FILE MM-YYYY"),
+        "export" => Some("export FILE"),
+        "matches" => Some("matches FILE"),
         "generate" => Some("generate N, N being 1 to 100000"),
+        "--agency" => Some("--agency TO FROM COMMAND .., the command's words behind two files"),
         _ => None,
     }
 }

@@ -1,3 +1,4 @@
 pub mod Listed
 mod Totalled
 mod Cents
+mod Summed

@@ -59,6 +59,14 @@ break_text place what = decimal place ++ codes " " ++ what_text what ++ codes "\
 abbrev pub nif_line : List ℕ → List ℕ
 nif_line nif = nif ++ codes "\n"
 
+-- not old HELD
+abbrev pub held_text : ℕ → List ℕ
+held_text held = codes "verifactu: not old " ++ decimal held ++ codes "\n"
+
+-- line LINE
+abbrev pub difference_text : ℕ → List ℕ
+difference_text line = codes "line " ++ decimal line ++ codes "\n"
+
 -- what went wrong; nothing at Done
 abbrev pub fault_text : Detail → List ℕ
 fault_text detail.Done = []
@@ -75,3 +83,6 @@ fault_text (detail.Contradiction evidence) = codes "verifactu: contradiction at 
 fault_text detail.TooBig = codes "verifactu: input too big\n"
 fault_text (detail.OtherIssuer held) = codes "verifactu: file of " ++ nif_line held
 fault_text detail.Unknown = codes "verifactu: no such invoice\n"
+fault_text (detail.Occupied size) = codes "verifactu: occupied\n"
+fault_text (detail.NotOld held) = held_text held
+fault_text (detail.Differs line) = codes "verifactu: differs at " ++ difference_text line

@@ -7,3 +7,6 @@ pub mod Summary
 pub mod Status
 pub mod Faults
 pub mod Verdicts
+pub mod Moves
+pub mod Statements
+pub mod Matching

@@ -18,3 +18,6 @@ status_of (detail.Contradiction evidence) = 11
 status_of detail.TooBig = 12
 status_of (detail.OtherIssuer held) = 13
 status_of detail.Unknown = 14
+status_of (detail.Occupied size) = 15
+status_of (detail.NotOld held) = 16
+status_of (detail.Differs line) = 18

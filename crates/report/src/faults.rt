@@ -99,6 +99,20 @@ fn put_nif(text: &mut Vec<u8>, nif: &Nif) -> Result<(), AllocError>
     put(text, b"\n")
 }
 
+fn put_held(text: &mut Vec<u8>, held: u8) -> Result<(), AllocError>
+    ensures { OnOk result (text.new.items ≡ text.old.items ++ spec.held_text held) }
+{
+    put_counted(text, b"verifactu: not old ", u64::from(held))?;
+    put(text, b"\n")
+}
+
+fn put_difference(text: &mut Vec<u8>, line: u64) -> Result<(), AllocError>
+    ensures { OnOk result (text.new.items ≡ text.old.items ++ spec.difference_text line) }
+{
+    put_counted(text, b"line ", line)?;
+    put(text, b"\n")
+}
+
 fn put_fault(text: &mut Vec<u8>, detail: &Detail) -> Result<(), AllocError>
     ensures { OnOk result (text.new.items ≡ text.old.items ++ spec.fault_text detail.now) }
 {
@@ -132,6 +146,12 @@ fn put_fault(text: &mut Vec<u8>, detail: &Detail) -> Result<(), AllocError>
             put_nif(text, held)
         }
         Detail::Unknown => put(text, b"verifactu: no such invoice\n"),
+        Detail::Occupied { .. } => put(text, b"verifactu: occupied\n"),
+        Detail::NotOld { held } => put_held(text, *held),
+        Detail::Differs { line } => {
+            put(text, b"verifactu: differs at ")?;
+            put_difference(text, *line)
+        }
     }
 }
 

@@ -1,4 +1,4 @@
-//! The printed texts: answers, listing, turns, summary, verdict and chain line on standard output, faults on standard error.
+//! The printed texts: answers, listing, turns, summary, statement, verdict and chain line on standard output, faults on standard error.
 //! Nothing is printed here: each call gives a text of whole lines, or says that there was no memory for it. Fields are parted
 //! by one blank, each line ends with a line feed, and places are counted from 1.
 #![tactic(auto)]
@@ -6,8 +6,11 @@
 mod answers;
 mod faults;
 mod listing;
+mod matching;
+mod moves;
 mod pieces;
 mod records;
+mod statements;
 mod status;
 mod summary;
 mod turns;
@@ -16,6 +19,9 @@ mod verdicts;
 pub use answers::{AnswerLine, Answers, answers_text};
 pub use faults::fault_text;
 pub use listing::listing_text;
+pub use matching::matches_text;
+pub use moves::migrated_text;
+pub use statements::{StatementLine, statement_text};
 pub use status::{Detail, Ended, status_of};
 pub use summary::summary_text;
 pub use turns::turns_text;

@@ -22,6 +22,14 @@ pub fn put_number(text: &mut Vec<u8>, n: u64) -> Result<(), AllocError>
     text.extend_from_slice(buffer.format(n).as_bytes())
 }
 
+/// The same of a number that 64 bits may not hold.
+pub fn put_wide(text: &mut Vec<u8>, n: u128) -> Result<(), AllocError>
+    ensures { OnOk result (text.new.items ≡ text.old.items ++ decimal n) }
+{
+    let mut buffer = Buffer::new();
+    text.extend_from_slice(buffer.format(n).as_bytes())
+}
+
 /// A word that ends with a blank, and a number.
 pub fn put_counted(text: &mut Vec<u8>, word: &[u8], n: u64) -> Result<(), AllocError>
     ensures { OnOk result (text.new.items ≡ text.old.items ++ (word.now ++ decimal n)) }
@@ -54,16 +62,23 @@ fn put_pair(text: &mut Vec<u8>, n: u8) -> Result<(), AllocError>
 }
 
 /// So many cents in euros.
-fn put_cents(text: &mut Vec<u8>, cents: u64) -> Result<(), AllocError>
+fn put_cents(text: &mut Vec<u8>, cents: u128) -> Result<(), AllocError>
     ensures { OnOk result (text.new.items ≡ text.old.items ++ cents_text cents) }
 {
-    put_number(text, cents / 100)?;
+    put_wide(text, cents / 100)?;
     put(text, b".")?;
     put_pair(text, (cents % 100) as u8)
 }
 
 /// An amount, of any size.
 pub fn put_amount(text: &mut Vec<u8>, cents: i64) -> Result<(), AllocError>
+    ensures { OnOk result (text.new.items ≡ text.old.items ++ amount_text cents) }
+{
+    put_wide_amount(text, i128::from(cents))
+}
+
+/// The same of one that 64 bits may not hold.
+pub fn put_wide_amount(text: &mut Vec<u8>, cents: i128) -> Result<(), AllocError>
     ensures { OnOk result (text.new.items ≡ text.old.items ++ amount_text cents) }
 {
     if cents < 0 {

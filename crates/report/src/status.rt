@@ -37,6 +37,12 @@ pub enum Detail {
     OtherIssuer { held: Nif },
     /// The chain has no alta of this number.
     Unknown,
+    /// The new file of a migration has so many bytes, and is neither not begun nor what a migration of this chain left unfinished.
+    Occupied { length: u64 },
+    /// There is no file of version 1 to move: it isn't begun (0), or is of version 2 (2).
+    NotOld { held: u8 },
+    /// This line of an export, by its number from 1, isn't that of the file's history, is missing or is too many.
+    Differs { line: u64 },
 }
 
 /// What a call came to, with the status that the program ends with.
@@ -76,5 +82,8 @@ pub fn status_of(detail: &Detail) -> u8
         Detail::TooBig => 12,
         Detail::OtherIssuer { .. } => 13,
         Detail::Unknown => 14,
+        Detail::Occupied { .. } => 15,
+        Detail::NotOld { .. } => 16,
+        Detail::Differs { .. } => 18,
     }
 }

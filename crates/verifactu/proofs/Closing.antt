@@ -58,8 +58,8 @@ in_session begun plan d opened tells opens sends = record {
 
 module _ {D C : Type 0} (tells : Bool) (told : D → OnDisk) (faults : D → ℕ) (coming : C → ℕ → Option ℕ) (p0 p1 : Parts D C)
     (s : IsSound tells told faults coming (root_of told faults p0) p1) where
-  pub between : (c : List ℕ) → StandsBetween p0.state.issuer p0.state.entries (with_torn p1.state.entries p1.stopped
-      p1.torn) c → StandsUpTo p0.state.issuer p0.state.entries p1.state.entries (torn_in p1.stopped p1.torn) c
+  pub between : (c : List ℕ) → StandsBetween p0.state.version p0.state.issuer p0.state.entries (with_torn p1.state.entries p1.stopped
+      p1.torn) c → StandsUpTo p0.state.version p0.state.issuer p0.state.entries p1.state.entries (torn_in p1.stopped p1.torn) c
   between c h = record {
     history = h.history;
     stands = h.stands;
@@ -67,10 +67,10 @@ module _ {D C : Type 0} (tells : Bool) (told : D → OnDisk) (faults : D → ℕ
     within = record { rest = h.within.rest; is = sym (torn_is p1.state.entries p1.stopped p1.torn) ∙ h.within.is };
   }
 
-  pub either : (c : List ℕ) → sound.StandsForEither p0.state.issuer p1.state.entries (with_torn p1.state.entries p1.stopped
-      p1.torn) c → StandsForEnd p0.state.issuer p1.state.entries (torn_in p1.stopped p1.torn) c
+  pub either : (c : List ℕ) → sound.StandsForEither p0.state.version p0.state.issuer p1.state.entries (with_torn p1.state.entries p1.stopped
+      p1.torn) c → StandsForEnd p0.state.version p0.state.issuer p1.state.entries (torn_in p1.stopped p1.torn) c
   either c (inl h) = inl h
-  either c (inr h) = inr (subst (λ (es : List Entry). StandsFor p0.state.issuer es c) (torn_is p1.state.entries p1.stopped
+  either c (inr h) = inr (subst (λ (es : List Entry). StandsFor p0.state.version p0.state.issuer es c) (torn_is p1.state.entries p1.stopped
       p1.torn) h)
 
   risen_by : (o : Option ℕ) → p1.stopped ≡ o → IsSome o → Rose (faults p0.disk) (faults p1.disk)
@@ -90,7 +90,7 @@ module _ {D C : Type 0} (tells : Bool) (told : D → OnDisk) (faults : D → ℕ
       (IsDiskAnswer answer → IsSome p1.stopped) → (IsTrue tells → IsImage (told p1.disk).now (told p1.disk).content) →
       ((version : Version) (issuer : List ℕ) (entries : List Entry) → Legal version issuer entries →
       Linked issuer (recs entries)) →
-      StoreDrains (StandsUpTo p0.state.issuer) begun plan p0.state.version p0.state.issuer (record {
+      StoreDrains (StandsUpTo p0.state.version p0.state.issuer) begun plan p0.state.version p0.state.issuer (record {
         tells = tells;
         since = told p0.disk;
         now = told p1.disk;
@@ -99,7 +99,7 @@ module _ {D C : Type 0} (tells : Bool) (told : D → OnDisk) (faults : D → ℕ
       }) (spanning p0.state.entries kind old new
       exact at o)
   store_drains begun plan kind old new exact at turns answer o is session notes stopped image linked =
-      subst (λ (x : Outcome). StoreDrains (StandsUpTo p0.state.issuer) begun plan p0.state.version p0.state.issuer (record {
+      subst (λ (x : Outcome). StoreDrains (StandsUpTo p0.state.version p0.state.issuer) begun plan p0.state.version p0.state.issuer (record {
         tells = tells;
         since = told p0.disk;
         now = told p1.disk;
@@ -130,16 +130,16 @@ module _ {D C : Type 0} (tells : Bool) (told : D → OnDisk) (faults : D → ℕ
         turns = turns;
         answer = answer;
       }))) (c : List ℕ) →
-          StandsForEnd p0.state.issuer p1.state.entries (torn_in p1.stopped p1.torn) c → AgreesInFile p0.state.issuer new c
+          StandsForEnd p0.state.version p0.state.issuer p1.state.entries (torn_in p1.stopped p1.torn) c → AgreesInFile p0.state.version p0.state.issuer new c
       in_file agrees c (inl h) = (_, h, agrees.whole)
       in_file agrees c (inr h) = (_, h, agrees.torn)
 
 -- what a drain leaves, said since its file was opened
 pub since_opening : (begun : Beginning) (plan : Plan) (version : Version) (issuer : List ℕ) (k : DiskSpan) (d : Span)
     (first : OnDisk) (faults : ℕ) →
-    StoreDrains (StandsUpTo issuer) begun plan version issuer k d →
-    (IsTrue k.tells → LeavesOnly first k.since (IsFound issuer d.start)) →
-    faults ≤ k.faults → StoreDrains (StandsSince issuer) begun plan version issuer (record {
+    StoreDrains (StandsUpTo version issuer) begun plan version issuer k d →
+    (IsTrue k.tells → LeavesOnly first k.since (IsFound version issuer d.start)) →
+    faults ≤ k.faults → StoreDrains (StandsSince version issuer) begun plan version issuer (record {
       tells = k.tells;
       since = first;
       now = k.now;
@@ -152,9 +152,9 @@ since_opening begun plan version issuer k d first faults h found early = record 
   legal = h.legal;
   linked = h.linked;
   kept = λ says. let kept = h.kept says in record {
-    each_moment = follows first k.since k.now (IsFound issuer d.start) (StandsUpTo issuer d.start d.end d.torn)
-        (StandsSince issuer d.start d.end d.torn) (found says) kept.each_moment
-        (λ c here. since_found issuer d.start d.end d.torn c (record { rest = h.notes.more; is = h.notes.is }) here)
+    each_moment = follows first k.since k.now (IsFound version issuer d.start) (StandsUpTo version issuer d.start d.end d.torn)
+        (StandsSince version issuer d.start d.end d.torn) (found says) kept.each_moment
+        (λ c here. since_found version issuer d.start d.end d.torn c (record { rest = h.notes.more; is = h.notes.is }) here)
         (λ c here. inr here);
     every_crash = kept.every_crash;
     reads = kept.reads;

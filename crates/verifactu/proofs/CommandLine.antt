@@ -5,7 +5,8 @@ use Rattle.std.proofs.lemmas.Slice.Eq.{bytes_eq-Decides}
 use Rattle.parties.specs.Nif.{IsNif}
 use Rattle.verifactu.specs.CommandLine.{IsAskedFor, AsksFor, IsChain, IsDay, IsDrain, IsWithin}
 use Rattle.verifactu.specs.declared.command_line.Command.{Command}
-use Rattle.verifactu.specs.declared.command_line.Command.TheVariants.{Chain, Day, Drain, Audit, Link, Check, Generate, Help, Version}
+use Rattle.verifactu.specs.declared.command_line.Command.TheVariants.{Chain, Day, Drain, Audit, Link, Check, Migrate}
+use Rattle.verifactu.specs.declared.command_line.Command.TheVariants.{Statement, Export, Matches, Generate, Help, Version}
 
 length_map : {A B : Type 0} (f : A → B) (xs : List A) → length (map f xs) ≡ length xs
 length_map f [] = refl
@@ -20,6 +21,10 @@ not_asked words one two three four (Drain issuer) h = three (ap length h.words_a
 not_asked words one two three four Audit h = two (ap length h.words_are)
 not_asked words one two three four (Link num host) h = four (ap length h.words_are)
 not_asked words one two three four (Check workers) h = three (ap length h.words_are)
+not_asked words one two three four Migrate h = three (ap length h.words_are)
+not_asked words one two three four (Statement month) h = three (ap length h.words_are)
+not_asked words one two three four Export h = two (ap length h.words_are)
+not_asked words one two three four Matches h = two (ap length h.words_are)
 not_asked words one two three four (Generate n) h = two (ap length h.words_are)
 not_asked words one two three four Help h = one (ap length h)
 not_asked words one two three four Version h = one (ap length h)

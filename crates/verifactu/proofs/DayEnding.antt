@@ -5,7 +5,6 @@ use Rattle.std.specs.Prelude.{◌≢◌, IsErrOf}
 use Rattle.std.specs.List.{AllByRecursion, list_any, range_with_len}
 use Rattle.std.proofs.lemmas.List.{append-nil}
 use Rattle.std.proofs.lemmas.List.Elements.{filter_passes}
-use Rattle.record_fields.specs.declared.versions.Version.TheVariants.{One}
 use Rattle.record_fields.specs.declared.versions.Version.{Version}
 use Rattle.chain_disk.specs.OnDisk.{IsImage, LeavesNow, LeavesOnly, synced}
 use Rattle.chain_disk.specs.Runs.{follows, weaker}
@@ -129,10 +128,10 @@ pub record ShopRan {D C : Type 0} (h : StoreKind D C) (asks : List Asked) (kind 
 
 module _ {D C Z G : Type 0} (h : StoreKind D C) (issuer : List ℕ) (script : Script) (disk disk_after : D)
     (clock clock_after : C) (z : Sleepers Z) (a : Agencies G) (opened : Parts D C) (s : Sinks) (end : Detail)
-    (own : opened.state.issuer ≡ issuer) (one : opened.state.version ≡ One) (same_clock : opened.clock ≡ clock)
-    (found : IsTrue h.tells → IsFound issuer opened.state.entries (h.told disk).content)
-    (any_moment : IsTrue h.tells → LeavesOnly (synced (h.told disk)) (h.told opened.disk) (IsFound issuer opened.state.entries))
-    (every_crash : IsTrue h.tells → LeavesNow (h.told opened.disk) (StandsFor issuer opened.state.entries))
+    (own : opened.state.issuer ≡ issuer) (same_clock : opened.clock ≡ clock)
+    (found : IsTrue h.tells → IsFound opened.state.version issuer opened.state.entries (h.told disk).content)
+    (any_moment : IsTrue h.tells → LeavesOnly (synced (h.told disk)) (h.told opened.disk) (IsFound opened.state.version issuer opened.state.entries))
+    (every_crash : IsTrue h.tells → LeavesNow (h.told opened.disk) (StandsFor opened.state.version issuer opened.state.entries))
     (later : h.faults disk ≤ h.faults opened.disk) (reads : (d : D) → IsTrue h.tells → IsImage (h.told d).now (h.told d).content)
     (rules_tell : IsTrue a.kind.keeps_rules → IsTrue a.kind.tells) where
   abbrev call : Around D C Z G
@@ -155,14 +154,15 @@ module _ {D C Z G : Type 0} (h : StoreKind D C) (issuer : List ℕ) (script : Sc
       ⊎ OpensSession a.kind a.begun script.plan first a.before a.after → Ended
   day_left l begun = inr (inr (inl (record {
     ends = l.ends;
+    version = opened.state.version;
     start = first;
     found = found;
     kept = λ says.
         let begins : IsPrefix first first = record { rest = []; is = sym (append-nil first) } in
-        subst (λ (d : D). Kept (StandsSince issuer first first []) issuer first [] (synced (h.told disk)) (h.told d)) (sym l.disk)
+        subst (λ (d : D). Kept (StandsSince opened.state.version issuer first first []) opened.state.version issuer first [] (synced (h.told disk)) (h.told d)) (sym l.disk)
         (record {
-          each_moment = weaker (synced (h.told disk)) (h.told opened.disk) (IsFound issuer first) (StandsSince issuer first first
-              []) (any_moment says) (λ c here. since_found issuer first first [] c begins here);
+          each_moment = weaker (synced (h.told disk)) (h.told opened.disk) (IsFound opened.state.version issuer first) (StandsSince opened.state.version issuer first first
+              []) (any_moment says) (λ c here. since_found opened.state.version issuer first first [] c begins here);
           every_crash = λ c left. inl (every_crash says c left);
           reads = inl (every_crash says (h.told opened.disk).content (inl (refl, reads opened.disk says)));
         });
@@ -176,6 +176,7 @@ module _ {D C Z G : Type 0} (h : StoreKind D C) (issuer : List ℕ) (script : Sc
       (r : ShopRan h script.asks a.kind desk a.after opened disk_after clock_after s end) where
     abbrev outcome : Outcome
     outcome = record {
+      version = opened.state.version;
       start = first;
       end = r.new.state.entries;
       stop = stop_of r.new.stopped r.new.torn;
@@ -193,8 +194,8 @@ module _ {D C Z G : Type 0} (h : StoreKind D C) (issuer : List ℕ) (script : Sc
 
     -- what holds of the shop's day holds of the call's
     here : (P : Day → Type 0) → P (at opened.state.version opened.state.issuer opened.clock) → P day
-    here P shop = subst (λ (c : C). P (at One issuer c)) same_clock (subst (λ (n : List ℕ). P (at One n opened.clock)) own
-        (subst (λ (v : Version). P (at v opened.state.issuer opened.clock)) one shop))
+    here P shop = subst (λ (c : C). P (at opened.state.version issuer c)) same_clock (subst (λ (n : List ℕ). P (at opened.state.version n opened.clock)) own
+        shop)
 
     begins : IsPrefix first r.new.state.entries
     begins = record { rest = r.run.sound.begins.0; is = r.run.sound.begins.1 }
@@ -204,32 +205,32 @@ module _ {D C Z G : Type 0} (h : StoreKind D C) (issuer : List ℕ) (script : Sc
         (subst (λ (d : D). StopIs day (h.faults opened.disk) (h.faults d) day.stop) (sym r.disk)
         (here (λ (d : Day). StopIs d (h.faults opened.disk) (h.faults r.new.disk) d.stop) r.run.stop))
 
-    files : IsTrue h.tells → LeavesNow (h.told r.new.disk) (StandsForEnd issuer r.new.state.entries (torn_of day.stop))
+    files : IsTrue h.tells → LeavesNow (h.told r.new.disk) (StandsForEnd opened.state.version issuer r.new.state.entries (torn_of day.stop))
     files says = λ c left.
-        subst (λ (n : List ℕ). StandsForEnd n r.new.state.entries (torn_of day.stop) c) own
-        (subst (λ (es : List Entry). StandsForEnd opened.state.issuer r.new.state.entries es c) (torn_same r.new.stopped r.new.torn)
+        subst (λ (n : List ℕ). StandsForEnd opened.state.version n r.new.state.entries (torn_of day.stop) c) own
+        (subst (λ (es : List Entry). StandsForEnd opened.state.version opened.state.issuer r.new.state.entries es c) (torn_same r.new.stopped r.new.torn)
         (either h.tells h.told h.faults h.coming opened r.new r.run.sound c ((r.run.sound.crashes says).whole c left)))
 
     moments : IsTrue h.tells → LeavesOnly (synced (h.told disk)) (h.told r.new.disk)
-        (StandsSince issuer first r.new.state.entries (torn_of day.stop))
+        (StandsSince opened.state.version issuer first r.new.state.entries (torn_of day.stop))
     moments says =
-        subst (λ (n : List ℕ). LeavesOnly (synced (h.told disk)) (h.told r.new.disk) (StandsSince n first r.new.state.entries
+        subst (λ (n : List ℕ). LeavesOnly (synced (h.told disk)) (h.told r.new.disk) (StandsSince opened.state.version n first r.new.state.entries
         (torn_of day.stop))) own
-        (subst (λ (es : List Entry). LeavesOnly (synced (h.told disk)) (h.told r.new.disk) (StandsSince opened.state.issuer first
+        (subst (λ (es : List Entry). LeavesOnly (synced (h.told disk)) (h.told r.new.disk) (StandsSince opened.state.version opened.state.issuer first
         r.new.state.entries es)) (torn_same r.new.stopped r.new.torn) since)
       where
-        since : LeavesOnly (synced (h.told disk)) (h.told r.new.disk) (StandsSince opened.state.issuer first r.new.state.entries
+        since : LeavesOnly (synced (h.told disk)) (h.told r.new.disk) (StandsSince opened.state.version opened.state.issuer first r.new.state.entries
             (torn_in r.new.stopped r.new.torn))
         since = follows (synced (h.told disk)) (h.told opened.disk) (h.told r.new.disk)
-            (IsFound opened.state.issuer first) (StandsUpTo opened.state.issuer first r.new.state.entries
+            (IsFound opened.state.version opened.state.issuer first) (StandsUpTo opened.state.version opened.state.issuer first r.new.state.entries
             (torn_in r.new.stopped r.new.torn))
-            (StandsSince opened.state.issuer first r.new.state.entries (torn_in r.new.stopped r.new.torn))
-            (subst (λ (n : List ℕ). LeavesOnly (synced (h.told disk)) (h.told opened.disk) (IsFound n first)) (sym own)
+            (StandsSince opened.state.version opened.state.issuer first r.new.state.entries (torn_in r.new.stopped r.new.torn))
+            (subst (λ (n : List ℕ). LeavesOnly (synced (h.told disk)) (h.told opened.disk) (IsFound opened.state.version n first)) (sym own)
             (any_moment says))
-            (weaker (h.told opened.disk) (h.told r.new.disk) _ (StandsUpTo opened.state.issuer first r.new.state.entries
+            (weaker (h.told opened.disk) (h.told r.new.disk) _ (StandsUpTo opened.state.version opened.state.issuer first r.new.state.entries
             (torn_in r.new.stopped r.new.torn)) (r.run.sound.crashes says).since
             (between h.tells h.told h.faults h.coming opened r.new r.run.sound))
-            (λ c here. since_found opened.state.issuer first r.new.state.entries (torn_in r.new.stopped r.new.torn) c begins here)
+            (λ c here. since_found opened.state.version opened.state.issuer first r.new.state.entries (torn_in r.new.stopped r.new.torn) c begins here)
             (λ c here. inr here)
 
     crashes : EachCrash day call.disk
@@ -237,7 +238,7 @@ module _ {D C Z G : Type 0} (h : StoreKind D C) (issuer : List ℕ) (script : Sc
       found = found;
       stop = stop;
       kept = λ says.
-          subst (λ (d : D). Kept (StandsSince issuer first r.new.state.entries (torn_of day.stop)) issuer r.new.state.entries
+          subst (λ (d : D). Kept (StandsSince opened.state.version issuer first r.new.state.entries (torn_of day.stop)) opened.state.version issuer r.new.state.entries
           (torn_of day.stop) (synced (h.told disk)) (h.told d)) (sym r.disk) (record {
             each_moment = moments says;
             every_crash = files says;
@@ -255,8 +256,7 @@ module _ {D C Z G : Type 0} (h : StoreKind D C) (issuer : List ℕ) (script : Sc
     history : HistoryGoesOn day
     history = record {
       begins = begins;
-      legal = subst (λ (n : List ℕ). Legal One n r.new.state.entries) own
-          (subst (λ (v : Version). Legal v opened.state.issuer r.new.state.entries) one r.run.sound.legal);
+      legal = subst (λ (n : List ℕ). Legal opened.state.version n r.new.state.entries) own r.run.sound.legal;
       linked = subst (λ (n : List ℕ). Linked n (recs r.new.state.entries)) own r.linked;
       rising = r.rising;
     }
@@ -275,12 +275,12 @@ module _ {D C Z G : Type 0} (h : StoreKind D C) (issuer : List ℕ) (script : Sc
           (subst (λ (ss : List _). Agree first (a.begun a.before.ledger.processed (noted_pairs first)) ss)
           (sym sent) agree));
       images = λ says agrees.
-          subst (λ (d : D). LeavesNow (h.told d) (AgreesInFile issuer a.after)) (sym r.disk)
+          subst (λ (d : D). LeavesNow (h.told d) (AgreesInFile opened.state.version issuer a.after)) (sym r.disk)
           (λ c left. in_file c agrees (files says c left));
     }
       where
-        in_file : (c : List ℕ) → StaysAgreed day → StandsForEnd issuer r.new.state.entries (torn_of day.stop) c →
-            AgreesInFile issuer a.after c
+        in_file : (c : List ℕ) → StaysAgreed day → StandsForEnd opened.state.version issuer r.new.state.entries (torn_of day.stop) c →
+            AgreesInFile opened.state.version issuer a.after c
         in_file c agrees (inl x) = (_, x, agrees.whole)
         in_file c agrees (inr x) = (_, x, agrees.torn)
 
@@ -501,6 +501,7 @@ module _ {D C Z O P G : Type 0} (issuer : List ℕ) (script : Script) (line : �
   by_line (inr (inl h)) = inr (inl (not_opened_by all_left h))
   by_line (inr (inr (inl h))) = inr (inr (inl (record {
     ends = h.ends;
+    version = h.version;
     start = h.start;
     found = h.found;
     kept = h.kept;

@@ -7,7 +7,6 @@ use Rattle.journal.specs.declared.faults.StoreFault.TheVariants as store
 use Rattle.chain_disk.specs.Disks.{DiskRose, Disks}
 use Rattle.chain_disk.specs.OnDisk.{OnDisk, LeavesOnly, synced}
 use Rattle.record_fields.specs.declared.versions.Version.{Version}
-use Rattle.record_fields.specs.declared.versions.Version.TheVariants.{One}
 use Rattle.record_codec.specs.declared.entry.Entry.{Entry}
 use Rattle.agency_rules.specs.declared.plans.Plan.{Plan}
 use Rattle.till_calls.specs.Sound.{IsLater}
@@ -38,9 +37,9 @@ not_later coming start now same = record {
       (sym (zero-add k));
 }
 
-module _ {D G : Type 0} (issuer : List ℕ) (plan : Plan) (exact : Bool) (moment : ℕ) (s : Sinks) (k : Disks D) (a : Agencies G)
+module _ {D G : Type 0} (version : Version) (issuer : List ℕ) (plan : Plan) (exact : Bool) (moment : ℕ) (s : Sinks) (k : Disks D) (a : Agencies G)
     (start : List Entry) (o : Outcome)
-    (h : StoreDrains (StandsSince issuer) a.begun plan One issuer (file_span k) (spanning start a.kind a.before
+    (h : StoreDrains (StandsSince version issuer) a.begun plan version issuer (file_span k) (spanning start a.kind a.before
     a.after exact moment o)) where
   abbrev Failing : ℕ → ℕ → Type 0
   Failing n r = (n < r) × (a.after.faults < 2 ^ 64 - 1 → a.before.faults + MAX_LINK_FAULTS ≤ a.after.faults)
@@ -50,7 +49,7 @@ module _ {D G : Type 0} (issuer : List ℕ) (plan : Plan) (exact : Bool) (moment
   eight_failed end (undelivered m q e w) n r is =
       let first : m ≡ n = cc in
       let second : q ≡ r = cc in
-      let u : Failing m q = undelivered_by (StandsSince issuer) a.begun plan One issuer (file_span k)
+      let u : Failing m q = undelivered_by (StandsSince version issuer) a.begun plan version issuer (file_span k)
       (spanning start a.kind a.before a.after exact moment o) h m q e in
       subst (λ (x : ℕ). Failing x r) first (subst (λ (y : ℕ). Failing m y) second u)
   eight_failed end _ n r is = absurd cc
@@ -61,17 +60,18 @@ module _ {D G : Type 0} (issuer : List ℕ) (plan : Plan) (exact : Bool) (moment
   completed end (no_memory w) none keeps agree = inr refl
   completed end (write_fault e w) none keeps agree = absurd (none.sink w.risen)
   completed end (undelivered n r e w) none keeps agree =
-      let u = undelivered_by (StandsSince issuer) a.begun plan One issuer (file_span k)
+      let u = undelivered_by (StandsSince version issuer) a.begun plan version issuer (file_span k)
       (spanning start a.kind a.before a.after exact moment o) h n r e in
       absurd (none.agency (λ below. let more = u.1 below in omega (arith, more)))
   completed end (contradiction evidence e w) none keeps agree =
-      absurd (never_contrary (StandsSince issuer) a.begun plan One issuer (file_span k)
+      absurd (never_contrary (StandsSince version issuer) a.begun plan version issuer (file_span k)
       (spanning start a.kind a.before a.after exact moment o) h keeps agree evidence e)
   completed end (disk_fault e w) none keeps agree = absurd (none.disk (h.risen e))
 
-  pub file_drained : (end : Detail) → (IsTrue k.tells → IsFound issuer start (k.told k.disk).content) →
+  pub file_drained : (end : Detail) → (IsTrue k.tells → IsFound version issuer start (k.told k.disk).content) →
       DrainRunEnds o.answer (drain_text o) s end → FileDrained issuer plan exact moment s k a end
   file_drained end found ends = record {
+    version = version;
     start = start;
     found = found;
     outcome = o;
@@ -101,9 +101,9 @@ file_rose issuer left plan exact moment s k a end (inr h) is = drain_rose issuer
 
 -- the drain of a store whose file was opened
 pub opened_drained : {D G : Type 0} (issuer own : List ℕ) (version : Version) (plan : Plan) (exact : Bool) (moment : ℕ)
-    (s : Sinks) (k : Disks D) (a : Agencies G) (start : List Entry) (since : OnDisk) (between : ℕ) (end : Detail) → own ≡ issuer → version ≡ One →
-    (IsTrue k.tells → IsFound issuer start (k.told k.disk).content) → (IsTrue k.tells → LeavesOnly (synced (k.told k.disk)) since
-    (IsFound issuer start)) → k.faults k.disk ≤ between →
+    (s : Sinks) (k : Disks D) (a : Agencies G) (start : List Entry) (since : OnDisk) (between : ℕ) (end : Detail) → own ≡ issuer →
+    (IsTrue k.tells → IsFound version issuer start (k.told k.disk).content) → (IsTrue k.tells → LeavesOnly (synced (k.told k.disk)) since
+    (IsFound version issuer start)) → k.faults k.disk ≤ between →
     StoreDrainEnds a.begun plan version own start (record {
       tells = k.tells;
       since = since;
@@ -112,7 +112,7 @@ pub opened_drained : {D G : Type 0} (issuer own : List ℕ) (version : Version) 
       faults_after = k.faults k.disk_after;
     }) a.kind a.before a.after exact moment s end →
     FileDrained issuer plan exact moment s k a end
-opened_drained issuer own version plan exact moment s k a start since between end same one found any later h =
+opened_drained issuer own version plan exact moment s k a start since between end same found any later h =
     let at : DiskSpan = record {
       tells = k.tells;
       since = since;
@@ -120,10 +120,9 @@ opened_drained issuer own version plan exact moment s k a start since between en
       faults = between;
       faults_after = k.faults k.disk_after;
     } in
-    let e = subst (λ (n : List ℕ). StoreDrainEnds a.begun plan One n start at a.kind a.before a.after exact moment s end) same
-    (subst (λ (v : Version). StoreDrainEnds a.begun plan v own start at a.kind a.before a.after exact moment s end) one h) in
+    let e = subst (λ (n : List ℕ). StoreDrainEnds a.begun plan version n start at a.kind a.before a.after exact moment s end) same h in
     let d : Span = spanning start a.kind a.before a.after exact moment e.0 in
-    file_drained issuer plan exact moment s k a start e.0 (since_opening a.begun plan One issuer at d (synced (k.told k.disk))
+    file_drained version issuer plan exact moment s k a start e.0 (since_opening a.begun plan version issuer at d (synced (k.told k.disk))
     (k.faults k.disk) e.1 any later) end found e.2
 
 module _ {D C Z G : Type 0} (issuer : List ℕ) (script : Script) (s : Sinks) (k : Disks D) (t : Clocks C) (z : Sleepers Z)

@@ -6,7 +6,7 @@ use Rattle.std.specs.List.{AllByRecursion, range_with_len}
 use Rattle.std.specs.Option.{option_map_or}
 use Rattle.std.proofs.lemmas.List.{drop-append-le, drop_all, length-append}
 use Rattle.std.proofs.lemmas.List.Elements.{filter-append}
-use Rattle.record_fields.specs.declared.versions.Version.TheVariants.{One}
+use Rattle.record_fields.specs.declared.versions.Version.{Version}
 use Rattle.journal.specs.declared.faults.StoreFault.{StoreFault}
 use Rattle.shop_core.specs.Prefix.{IsPrefix}
 use Rattle.ports.specs.Sources.{Sources}
@@ -130,8 +130,8 @@ record Gained (start : List Entry) (till : ℕ) (asks : List Asked) (replies : R
   low : length start ≤ length end
   taken : AreAccepted (asks_of till asks) (replies_to till asks replies) (own_of till (drop (length start) end))
 
-module _ (issuer : List ℕ) (R : Replies → ℕ → Type 0) (start : List Entry) (till : ℕ) where
-  run_gains : {asks : List Asked} {replies : Replies} {end : List Entry} → ChainRun One issuer R start asks replies end →
+module _ (version : Version) (issuer : List ℕ) (R : Replies → ℕ → Type 0) (start : List Entry) (till : ℕ) where
+  run_gains : {asks : List Asked} {replies : Replies} {end : List Entry} → ChainRun version issuer R start asks replies end →
       Gained start till asks replies end
   unfolding replies_to
   run_gains begun = record {
@@ -157,7 +157,7 @@ module _ (issuer : List ℕ) (R : Replies → ℕ → Type 0) (start : List Entr
             (sym (filter-append (λ (a : Asked). a.till == till) asks (ask ∷ [])))
             (accepted_append (asks_of till asks) (asks_of till (ask ∷ [])) (replies_to till asks replies)
             (reply_to till ask told) (own_of till (drop (length start) entries)) (own_of till gained) so_far.taken
-            (by_reply One issuer entries ask seconds told gained till h))));
+            (by_reply version issuer entries ask seconds told gained till h))));
       }
 
 each_any : {A : Type 0} (P : A → Type 0) → ((x : A) → P x) → (xs : List A) → AllByRecursion P xs
@@ -170,10 +170,10 @@ firsts f [] = refl
 firsts f (till ∷ tills) = ap (λ (l : List ℕ). till ∷ l) (firsts f tills)
 
 -- a run of one thread
-pub gains_run : (s : Sources) (issuer : List ℕ) (R : Replies → ℕ → Type 0) (start : List Entry) (asks : List Asked)
-    (replies : Replies) (end : List Entry) → AreAskedIn s asks → ChainRun One issuer R start asks replies end →
+pub gains_run : (s : Sources) (version : Version) (issuer : List ℕ) (R : Replies → ℕ → Type 0) (start : List Entry) (asks : List Asked)
+    (replies : Replies) (end : List Entry) → AreAskedIn s asks → ChainRun version issuer R start asks replies end →
     TillsGain s start end
-gains_run s issuer R start asks replies end asked run =
+gains_run s version issuer R start asks replies end asked run =
     let Own : ℕ × Replies → Type 0 = λ t. AreAccepted (asks_of t.0 asks) t.1 (own_of t.0 (drop (length start) end)) in
     let row : ℕ → ℕ × Replies = λ till. (till, replies_to till asks replies) in
     record {
@@ -182,11 +182,11 @@ gains_run s issuer R start asks replies end asked run =
       told = map row (tills_of asks);
       tills = firsts (λ till. replies_to till asks replies) (tills_of asks);
       own = each_map row Own (tills_of asks) (each_any (λ (till : ℕ). Own (row till))
-          (λ till. (run_gains issuer R start till run).taken) (tills_of asks));
+          (λ till. (run_gains version issuer R start till run).taken) (tills_of asks));
       others = λ till none. subst (λ (rs : Replies). AreAccepted [] rs (own_of till (drop (length start) end)))
           (told_nothing till asks replies none)
           (subst (λ (l : List Asked). AreAccepted l (replies_to till asks replies) (own_of till (drop (length start) end)))
-          (no_asks till asks none) (run_gains issuer R start till run).taken);
+          (no_asks till asks none) (run_gains version issuer R start till run).taken);
     }
 
 rows_of : (tills : List TillReplies) →
@@ -226,21 +226,21 @@ no_lines entries ask sealed (Some old) r told gained h = ap (λ (es : List Entry
 no_lines entries ask sealed None (Some why) told gained h = ap (λ (es : List Entry). noted es) h.1
 no_lines entries ask sealed None None told gained h = ap (λ (es : List Entry). noted es) h.1
 
-none_noted : (issuer : List ℕ) (entries : List Entry) (ask : Asked) (seconds : ℕ) (told : Result Reply StoreFault)
-    (gained : List Entry) → IsReply One issuer entries ask seconds told gained → noted gained ≡ []
-none_noted issuer entries ask seconds (Ok told) gained h =
+none_noted : (version : Version) (issuer : List ℕ) (entries : List Entry) (ask : Asked) (seconds : ℕ) (told : Result Reply StoreFault)
+    (gained : List Entry) → IsReply version issuer entries ask seconds told gained → noted gained ≡ []
+none_noted version issuer entries ask seconds (Ok told) gained h =
     no_lines entries ask (made_sealed issuer entries ask.request seconds) (kept entries ask.till ask.serial)
-    (refusal One issuer entries ask seconds) told gained h
-none_noted issuer entries ask seconds (Err why) gained h = ap (λ (es : List Entry). noted es) h
+    (refusal version issuer entries ask seconds) told gained h
+none_noted version issuer entries ask seconds (Err why) gained h = ap (λ (es : List Entry). noted es) h
 
-module _ (issuer : List ℕ) (R : Replies → ℕ → Type 0) (start : List Entry) where
+module _ (version : Version) (issuer : List ℕ) (R : Replies → ℕ → Type 0) (start : List Entry) where
   -- nor does a run of one thread
   pub notes_nothing : {asks : List Asked} {replies : Replies} {end : List Entry} →
-      ChainRun One issuer R start asks replies end → noted end ≡ noted start
+      ChainRun version issuer R start asks replies end → noted end ≡ noted start
   notes_nothing begun = refl
   notes_nothing (replied asks replies entries ask told gained run seconds reading h) =
       noted_both entries gained
-      ∙ ap (λ (l : List Line). noted entries ++ l) (none_noted issuer entries ask seconds told gained h)
+      ∙ ap (λ (l : List Line). noted entries ++ l) (none_noted version issuer entries ask seconds told gained h)
       ∙ append-nil (noted entries) ∙ notes_nothing run
 
 -- tills beside each other

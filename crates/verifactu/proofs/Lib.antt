@@ -38,5 +38,6 @@ pub mod Accepted
 pub mod Gaining
 pub mod Sessions
 pub mod Promised
+pub mod OnePosts
 pub mod Promising
 pub mod Batches

@@ -2,7 +2,7 @@
 use Rattle.std.proofs.Common.{◌≡◌, ◌⊎◌, inl, inr, ◌<◌, ◌≤◌, ℕ, List, [], ◌∷◌, ◌++◌, append-nil, length, refl, sym, ◌∙◌, ap}
 use Rattle.std.proofs.Common.{subst, arith, IsTrue, Option, Some, None}
 use Rattle.std.proofs.lemmas.Bool.{cases_lt}
-use Rattle.record_fields.specs.declared.versions.Version.TheVariants.{One}
+use Rattle.record_fields.specs.declared.versions.Version.TheVariants.{Two}
 use Rattle.record_fields.specs.declared.versions.Version.{Version}
 use Rattle.chain_disk.specs.Disks.{DiskRose, Disks, LeftDisk}
 use Rattle.chain_disk.specs.OnDisk.{IsImage, IsLeft, IsSettled, LeavesNow, LeavesOnly, OnDisk, Pending, later, moment, synced}
@@ -36,37 +36,39 @@ use Rattle.verifactu.proofs.Finishing.{since_found}
 pub whole : (start : List Entry) → IsPrefix start start
 whole start = record { rest = []; is = sym (append-nil start) }
 
-none_legal : (issuer : List ℕ) → Legal One issuer []
-none_legal issuer [] after entry e = absurd (let x = e in cc)
-none_legal issuer (b ∷ before) after entry e = absurd (let x = e in cc)
+none_legal : (version : Version) (issuer : List ℕ) → Legal version issuer []
+none_legal version issuer [] after entry e = absurd (let x = e in cc)
+none_legal version issuer (b ∷ before) after entry e = absurd (let x = e in cc)
 
-pub legal_found : (issuer : List ℕ) (start : List Entry) (file : List ℕ) → IsFound issuer start file → Legal One issuer start
-legal_found issuer start file (inl none) = subst (λ (es : List Entry). Legal One issuer es) (sym none.1) (none_legal issuer)
-legal_found issuer start file (inr stands) = stands.legal
+pub legal_found : (version : Version) (issuer : List ℕ) (start : List Entry) (file : List ℕ) → IsFound version issuer start file →
+    Legal version issuer start
+legal_found version issuer start file (inl none) =
+    subst (λ (es : List Entry). Legal version issuer es) (sym none.1) (none_legal version issuer)
+legal_found version issuer start file (inr stands) = stands.legal
 
-empty_found : (issuer file : List ℕ) → IsNotBegunOrEmpty issuer file → IsFound issuer [] file
-empty_found issuer file (inl none) = inl (none, refl)
-empty_found issuer file (inr frames) = inr (record { frames = frames; encoded = tt; legal = none_legal issuer })
+empty_found : (issuer file : List ℕ) → IsNotBegunOrEmpty Two issuer file → IsFound Two issuer [] file
+empty_found issuer file (inl none) = inl (none, refl, refl)
+empty_found issuer file (inr frames) = inr (record { frames = frames; encoded = tt; legal = none_legal Two issuer })
 
 same_content : (old new : OnDisk) → IsUnwritten old new → new.content ≡ old.content
 same_content old new (inl (inl e)) = ap (λ (t : OnDisk). t.content) e
 same_content old new (inl (inr e)) = ap (λ (t : OnDisk). t.content) e
 same_content old new (inr e) = ap (λ (t : OnDisk). t.content) e
 
-either : (issuer : List ℕ) (end torn : List Entry) (file : List ℕ) → StandsForEnd issuer end torn file →
-    IsEither issuer end torn file
-either issuer end torn file (inl stands) = inl (inr stands)
-either issuer end torn file (inr stands) = inr (inr stands)
+either : (version : Version) (issuer : List ℕ) (end torn : List Entry) (file : List ℕ) → StandsForEnd version issuer end torn file →
+    IsEither version issuer end torn file
+either version issuer end torn file (inl stands) = inl (inr stands)
+either version issuer end torn file (inr stands) = inr (inr stands)
 
-same_crashes : (issuer : List ℕ) (start : List Entry) (old new : OnDisk) → IsUnwritten old new →
-    IsFound issuer start old.content → Crashes (StandsSince issuer start start []) (IsEither issuer start []) old new
-same_crashes issuer start old new (inl failed) found = unwritten failed
-same_crashes issuer start old new (inr e) found =
-    let Since : List ℕ → Type 0 = StandsSince issuer start start [] in
-    let Now : List ℕ → Type 0 = IsEither issuer start [] in
+same_crashes : (version : Version) (issuer : List ℕ) (start : List Entry) (old new : OnDisk) → IsUnwritten old new →
+    IsFound version issuer start old.content → Crashes (StandsSince version issuer start start []) (IsEither version issuer start []) old new
+same_crashes version issuer start old new (inl failed) found = unwritten failed
+same_crashes version issuer start old new (inr e) found =
+    let Since : List ℕ → Type 0 = StandsSince version issuer start start [] in
+    let Now : List ℕ → Type 0 = IsEither version issuer start [] in
     since_sync
     (subst (λ (t : OnDisk). LeavesOnly (synced old) t Since) (sym e)
-    (started_settled (synced old) Since refl (since_found issuer start start [] old.content (whole start) found)))
+    (started_settled (synced old) Since refl (since_found version issuer start start [] old.content (whole start) found)))
     (subst (λ (t : OnDisk). LeavesNow t Now) (sym e) (leaves_now (synced old) Now refl (inl found)))
 
 -- a crash at the last moment of a disk with nothing pending leaves its content
@@ -113,46 +115,51 @@ pub data Left {D : Type 0} (issuer : List ℕ) (k : Disks D) (T : List Entry →
   untouched : IsUnwritten (k.told k.disk) (k.told k.disk_after) → ((start : List Entry) → T start start []) → Left issuer k T
   begun_in_part : IsBegunInPart issuer (synced (k.told k.disk)) (k.told k.disk_after) →
       ((start : List Entry) → T start start []) → Left issuer k T
-  grown : (start end torn : List Entry) → IsFound issuer start (k.told k.disk).content →
-      ChainGoesOn issuer start end torn k → T start end torn → Left issuer k T
+  grown : (version : Version) (start end torn : List Entry) → IsFound version issuer start (k.told k.disk).content →
+      ChainGoesOn version issuer start end torn k → T start end torn → Left issuer k T
 
-pub record Grown {D : Type 0} (issuer : List ℕ) (k : Disks D) (T : List Entry → List Entry → List Entry → Type 0)
+pub record Grown {D : Type 0} (version : Version) (issuer : List ℕ) (k : Disks D) (T : List Entry → List Entry → List Entry → Type 0)
     (start : List Entry) : Type 0 where
   pub end : List Entry
   pub torn : List Entry
-  pub chain : ChainGoesOn issuer start end torn k
+  pub chain : ChainGoesOn version issuer start end torn k
   pub rest : T start end torn
 
 -- a file is found as one history of an issuer
-same_found : OneHistory → NotBegunIsNeither → (issuer : List ℕ) (start other : List Entry) (file : List ℕ) →
-    IsFound issuer start file → IsFound issuer other file → start ≡ other
-same_found one neither issuer start other file (inl none) (inl same) = none.1 ∙ sym same.1
-same_found one neither issuer start other file (inl none) (inr stands) =
-    absurd ((neither issuer other file 0 none.0).0 stands)
-same_found one neither issuer start other file (inr stands) (inl none) =
-    absurd ((neither issuer start file 0 none.0).0 stands)
-same_found one neither issuer start other file (inr stands) (inr same) = (one issuer issuer start other file stands same).1
+same_found : OneHistory → NotBegunIsNeither → (version another : Version) (issuer : List ℕ) (start other : List Entry)
+    (file : List ℕ) → IsFound version issuer start file → IsFound another issuer other file →
+    (version ≡ another) × (start ≡ other)
+same_found one neither version another issuer start other file (inl none) (inl same) = (none.2 ∙ sym same.2, none.1 ∙ sym same.1)
+same_found one neither version another issuer start other file (inl none) (inr stands) =
+    absurd ((neither another issuer other file 0 none.0).0 stands)
+same_found one neither version another issuer start other file (inr stands) (inl none) =
+    absurd ((neither version issuer start file 0 none.0).0 stands)
+same_found one neither version another issuer start other file (inr stands) (inr same) =
+    let both = one version another issuer issuer start other file stands same in
+    (both.0, both.2)
 
 pub found_again : OneHistory → NotBegunIsNeither → IsFoundAgain
-found_again one neither issuer end torn next file (inl here) found =
-    subst (λ (es : List Entry). IsPrefix end es) (same_found one neither issuer end next file here found) (whole end)
-found_again one neither issuer end torn next file (inr here) found =
-    record { rest = torn; is = sym (same_found one neither issuer (end ++ torn) next file here found) }
+found_again one neither version another issuer end torn next file (inl here) found =
+    let same = same_found one neither version another issuer end next file here found in
+    (sym same.0, subst (λ (es : List Entry). IsPrefix end es) same.1 (whole end))
+found_again one neither version another issuer end torn next file (inr here) found =
+    let same = same_found one neither version another issuer (end ++ torn) next file here found in
+    (sym same.0, record { rest = torn; is = sym same.1 })
 
 pub damaged_not_own : NotBegunIsNeither → SoundOrDamaged → DamagedIsNotOwn
 damaged_not_own neither sound None file at damage own = own
-damaged_not_own neither sound (Some issuer) file at damage own = by_found own.1
+damaged_not_own neither sound (Some issuer) file at damage own = by_found own.2
   where
-    by_found : IsFound issuer own.0 file → ⊥
-    by_found (inl none) = (neither issuer own.0 file at none.0).1 damage
-    by_found (inr stands) = sound issuer own.0 file at stands damage
+    by_found : IsFound own.0 issuer own.1 file → ⊥
+    by_found (inl none) = (neither own.0 issuer own.1 file at none.0).1 damage
+    by_found (inr stands) = sound own.0 issuer own.1 file at stands damage
 
 pub foreign_not_own : OneHistory → NotBegunIsNeither → ForeignIsNotOwn
-foreign_not_own one neither issuer held entries file stands other own = by_found own.1
+foreign_not_own one neither version issuer held entries file stands other own = by_found own.2
   where
-    by_found : IsFound issuer own.0 file → ⊥
-    by_found (inl none) = (neither held entries file 0 none.0).0 stands
-    by_found (inr mine) = other (one held issuer entries own.0 file stands mine).0
+    by_found : IsFound own.0 issuer own.1 file → ⊥
+    by_found (inl none) = (neither version held entries file 0 none.0).0 stands
+    by_found (inr mine) = other (one version own.0 held issuer entries own.1 file stands mine).1
 
 -- a legal history is linked
 abbrev pub AreLinked : Type 0
@@ -167,79 +174,87 @@ module _ {D : Type 0} (chained : AreLinked) (issuer : List ℕ) (k : Disks D) wh
   New = k.told k.disk_after
 
   -- a file that wasn't written
-  stays : (start : List Entry) → IsUnwritten Old New → IsFound issuer start Old.content → ChainGoesOn issuer start start [] k
-  stays start same found = record {
+  stays : (version : Version) (start : List Entry) → IsUnwritten Old New → IsFound version issuer start Old.content →
+      ChainGoesOn version issuer start start [] k
+  stays version start same found = record {
     begins = whole start;
-    legal = legal_found issuer start Old.content found;
-    linked = chained One issuer start (legal_found issuer start Old.content found);
+    legal = legal_found version issuer start Old.content found;
+    linked = chained version issuer start (legal_found version issuer start Old.content found);
     at_most_one = omega arith;
     by_a_fault = inl refl;
-    file = inl (subst (λ (c : List ℕ). IsFound issuer start c) (sym (same_content Old New same)) found);
-    each_crash = plainly (StandsSince issuer start start []) (IsEither issuer start []) Old New
-        (same_crashes issuer start Old New same found)
-        (since_found issuer start start [] Old.content (whole start) found);
-    crashes = same_crashes issuer start Old New same found;
+    file = inl (subst (λ (c : List ℕ). IsFound version issuer start c) (sym (same_content Old New same)) found);
+    each_crash = plainly (StandsSince version issuer start start []) (IsEither version issuer start []) Old New
+        (same_crashes version issuer start Old New same found)
+        (since_found version issuer start start [] Old.content (whole start) found);
+    crashes = same_crashes version issuer start Old New same found;
   }
 
   -- a file that was begun in part
   begun_crashes : IsBegunInPart issuer (synced Old) New →
-      Crashes (StandsSince issuer [] [] []) (IsEither issuer [] []) Old New
+      Crashes (StandsSince Two issuer [] [] []) (IsEither Two issuer [] []) Old New
   begun_crashes h = since_sync
-      (weaker (synced Old) New (IsNotBegunOrEmpty issuer) (StandsSince issuer [] [] []) h.any_moment
-      (λ c empty. since_found issuer [] [] [] c (whole []) (empty_found issuer c empty)))
+      (weaker (synced Old) New (IsNotBegunOrEmpty Two issuer) (StandsSince Two issuer [] [] []) h.any_moment
+      (λ c empty. since_found Two issuer [] [] [] c (whole []) (empty_found issuer c empty)))
       (λ c left. inl (empty_found issuer c (h.any_moment.each (moment New) c h.any_moment.later left)))
 
-  begins_file : IsBegunInPart issuer (synced Old) New → ChainGoesOn issuer [] [] [] k
+  begins_file : IsBegunInPart issuer (synced Old) New → ChainGoesOn Two issuer [] [] [] k
   begins_file h = record {
     begins = whole [];
-    legal = none_legal issuer;
-    linked = chained One issuer [] (none_legal issuer);
+    legal = none_legal Two issuer;
+    linked = chained Two issuer [] (none_legal Two issuer);
     at_most_one = omega arith;
     by_a_fault = inl refl;
     file = inl (empty_found issuer New.content h.reads);
-    each_crash = plainly (StandsSince issuer [] [] []) (IsEither issuer [] []) Old New (begun_crashes h)
-        (since_found issuer [] [] [] Old.content (whole []) (inl (h.not_begun, refl)));
+    each_crash = plainly (StandsSince Two issuer [] [] []) (IsEither Two issuer [] []) Old New (begun_crashes h)
+        (since_found Two issuer [] [] [] Old.content (whole []) (inl (h.not_begun, refl, refl)));
     crashes = begun_crashes h;
   }
 
   -- a file whose history went on
-  pub goes_on : (start end torn : List Entry) → IsFound issuer start Old.content → IsPrefix start end → Legal One issuer end →
-      length torn ≤ 1 → (torn ≡ []) ⊎ DiskRose k → LeavesOnly (synced Old) New (StandsSince issuer start end torn) →
-      LeavesNow New (StandsForEnd issuer end torn) → StandsForEnd issuer end torn New.content →
-      ChainGoesOn issuer start end torn k
-  goes_on start end torn found begins legal at_most_one by_a_fault moments crash reads =
-      let crashes : Crashes (StandsSince issuer start end torn) (IsEither issuer end torn) Old New =
-      since_sync moments (λ c left. either issuer end torn c (crash c left)) in
+  pub goes_on : (version : Version) (start end torn : List Entry) → IsFound version issuer start Old.content →
+      IsPrefix start end → Legal version issuer end →
+      length torn ≤ 1 → (torn ≡ []) ⊎ DiskRose k → LeavesOnly (synced Old) New (StandsSince version issuer start end torn) →
+      LeavesNow New (StandsForEnd version issuer end torn) → StandsForEnd version issuer end torn New.content →
+      ChainGoesOn version issuer start end torn k
+  goes_on version start end torn found begins legal at_most_one by_a_fault moments crash reads =
+      let crashes : Crashes (StandsSince version issuer start end torn) (IsEither version issuer end torn) Old New =
+      since_sync moments (λ c left. either version issuer end torn c (crash c left)) in
       record {
         begins = begins;
         legal = legal;
-        linked = chained One issuer end legal;
+        linked = chained version issuer end legal;
         at_most_one = at_most_one;
         by_a_fault = by_a_fault;
-        file = either issuer end torn New.content reads;
-        each_crash = plainly (StandsSince issuer start end torn) (IsEither issuer end torn) Old New crashes
-            (since_found issuer start end torn Old.content begins found);
+        file = either version issuer end torn New.content reads;
+        each_crash = plainly (StandsSince version issuer start end torn) (IsEither version issuer end torn) Old New crashes
+            (since_found version issuer start end torn Old.content begins found);
         crashes = crashes;
       }
 
   module _ (one : OneHistory) (neither : NotBegunIsNeither) where
-    pub own_of : (T : List Entry → List Entry → List Entry → Type 0) → Left issuer k T → (start : List Entry) →
-        IsFound issuer start Old.content → Grown issuer k T start
-    own_of T (untouched same rest) start found =
-        record { end = start; torn = []; chain = stays start same found; rest = rest start }
-    own_of T (begun_in_part h rest) start found =
-        subst (λ (es : List Entry). Grown issuer k T es)
-        (same_found one neither issuer [] start Old.content (inl (h.not_begun, refl)) found)
+    at_that : {T : List Entry → List Entry → List Entry → Type 0} (version another : Version) (start other : List Entry) →
+        (version ≡ another) × (start ≡ other) → Grown version issuer k T start → Grown another issuer k T other
+    at_that {T = T} version another start other same g =
+        subst (λ (v : Version). Grown v issuer k T other) same.0
+        (subst (λ (es : List Entry). Grown version issuer k T es) same.1 g)
+
+    pub own_of : (T : List Entry → List Entry → List Entry → Type 0) → Left issuer k T → (version : Version) (start : List Entry) →
+        IsFound version issuer start Old.content → Grown version issuer k T start
+    own_of T (untouched same rest) version start found =
+        record { end = start; torn = []; chain = stays version start same found; rest = rest start }
+    own_of T (begun_in_part h rest) version start found =
+        at_that Two version [] start (same_found one neither Two version issuer [] start Old.content
+        (inl (h.not_begun, refl, refl)) found)
         (record { end = []; torn = []; chain = begins_file h; rest = rest [] })
-    own_of T (grown first end torn from chain rest) start found =
-        subst (λ (es : List Entry). Grown issuer k T es) (same_found one neither issuer first start Old.content from found)
+    own_of T (grown here first end torn from chain rest) version start found =
+        at_that here version first start (same_found one neither here version issuer first start Old.content from found)
         (record { end = end; torn = torn; chain = chain; rest = rest })
 
   pub others_of : (T : List Entry → List Entry → List Entry → Type 0) → Left issuer k T →
       (IsOwn (Some issuer) Old.content → ⊥) → IsUnwritten Old New
   others_of T (untouched same rest) other = same
-  others_of T (begun_in_part h rest) other = absurd (other ([], inl (h.not_begun, refl)))
-  others_of T (grown start end torn found chain rest) other = absurd (other (start, found))
+  others_of T (begun_in_part h rest) other = absurd (other (Two, [], inl (h.not_begun, refl, refl)))
+  others_of T (grown version start end torn found chain rest) other = absurd (other (version, start, found))
 
   -- no call of the disk was made
   pub left_disk : (T : List Entry → List Entry → List Entry → Type 0) → LeftDisk k → ((start : List Entry) → T start start []) →
@@ -261,11 +276,12 @@ module _ {D : Type 0} (chained : AreLinked) (issuer : List ℕ) (k : Disks D) wh
   not_opened T says h rest = unopened T h.why (h.left_by says) rest
 
   -- a run of replies, and the entry that was cut off in it
-  pub by_kept : (P : Entry → Type 0) (start end : List Entry) (replies : Replies) → IsFound issuer start Old.content →
-      IsPrefix start end → Legal One issuer end → StopsOnce (k.faults k.disk) (k.faults k.disk_after) replies →
-      (h : KeptByRun (StandsSince issuer start end) P issuer end replies (synced Old) New) → ChainGoesOn issuer start end h.torn k
-  by_kept P start end replies found begins legal stops h =
-      goes_on start end h.torn found begins legal h.at_most_one (by_a_fault stops) h.kept.each_moment h.kept.every_crash
+  pub by_kept : (P : Entry → Type 0) (version : Version) (start end : List Entry) (replies : Replies) →
+      IsFound version issuer start Old.content → IsPrefix start end → Legal version issuer end → StopsOnce (k.faults k.disk) (k.faults k.disk_after) replies →
+      (h : KeptByRun (StandsSince version issuer start end) P version issuer end replies (synced Old) New) →
+      ChainGoesOn version issuer start end h.torn k
+  by_kept P version start end replies found begins legal stops h =
+      goes_on version start end h.torn found begins legal h.at_most_one (by_a_fault stops) h.kept.each_moment h.kept.every_crash
       h.kept.reads
     where
       by_a_fault : StopsOnce (k.faults k.disk) (k.faults k.disk_after) replies → (h.torn ≡ []) ⊎ DiskRose k
@@ -274,22 +290,23 @@ module _ {D : Type 0} (chained : AreLinked) (issuer : List ℕ) (k : Disks D) wh
 
 -- a file that wasn't written, whoever's history it stands for
 pub stands_still : {D : Type 0} (chained : AreLinked) (k : Disks D) (T : List Entry → List Entry → List Entry → Type 0)
-    (issuer : List ℕ) (start : List Entry) → IsUnwritten (k.told k.disk) (k.told k.disk_after) →
-    ((start : List Entry) → T start start []) → StandsFor issuer start (k.told k.disk).content → Grown issuer k T start
-stands_still chained k T issuer start same rest stands =
-    record { end = start; torn = []; chain = stays chained issuer k start same (inr stands); rest = rest start }
+    (version : Version) (issuer : List ℕ) (start : List Entry) → IsUnwritten (k.told k.disk) (k.told k.disk_after) →
+    ((start : List Entry) → T start start []) → StandsFor version issuer start (k.told k.disk).content → Grown version issuer k T start
+stands_still chained k T version issuer start same rest stands =
+    record { end = start; torn = []; chain = stays chained issuer k version start same (inr stands); rest = rest start }
 
 -- whoever's history the file stood for, it went on
 pub sound_of : {D : Type 0} (chained : AreLinked) (k : Disks D) (T : List Entry → List Entry → List Entry → Type 0) →
-    OneHistory → NotBegunIsNeither → (own issuer : List ℕ) (start : List Entry) → Left own k T →
-    StandsFor issuer start (k.told k.disk).content → Grown issuer k T start
-sound_of chained k T one neither own issuer start (untouched same rest) stands =
-    stands_still chained k T issuer start same rest stands
-sound_of chained k T one neither own issuer start (begun_in_part h rest) stands =
-    absurd ((neither issuer start (k.told k.disk).content 0 h.not_begun).0 stands)
-sound_of chained k T one neither own issuer start (grown first end torn (inl none) chain rest) stands =
-    absurd ((neither issuer start (k.told k.disk).content 0 none.0).0 stands)
-sound_of chained k T one neither own issuer start (grown first end torn (inr from) chain rest) stands =
-    let same = one own issuer first start (k.told k.disk).content from stands in
-    subst (λ (es : List Entry). Grown issuer k T es) same.1
-    (subst (λ (i : List ℕ). Grown i k T first) same.0 (record { end = end; torn = torn; chain = chain; rest = rest }))
+    OneHistory → NotBegunIsNeither → (own : List ℕ) (version : Version) (issuer : List ℕ) (start : List Entry) → Left own k T →
+    StandsFor version issuer start (k.told k.disk).content → Grown version issuer k T start
+sound_of chained k T one neither own version issuer start (untouched same rest) stands =
+    stands_still chained k T version issuer start same rest stands
+sound_of chained k T one neither own version issuer start (begun_in_part h rest) stands =
+    absurd ((neither version issuer start (k.told k.disk).content 0 h.not_begun).0 stands)
+sound_of chained k T one neither own version issuer start (grown here first end torn (inl none) chain rest) stands =
+    absurd ((neither version issuer start (k.told k.disk).content 0 none.0).0 stands)
+sound_of chained k T one neither own version issuer start (grown here first end torn (inr from) chain rest) stands =
+    let same = one here version own issuer first start (k.told k.disk).content from stands in
+    subst (λ (v : Version). Grown v issuer k T start) same.0
+    (subst (λ (es : List Entry). Grown here issuer k T es) same.2
+    (subst (λ (i : List ℕ). Grown here i k T first) same.1 (record { end = end; torn = torn; chain = chain; rest = rest })))

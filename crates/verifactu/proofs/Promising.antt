@@ -3,8 +3,10 @@ use Rattle.std.proofs.Common.{◌≡◌, ◌⊎◌, inl, inr, ◌≤◌, ℕ, Li
 use Rattle.std.proofs.Common.{Bool, IsTrue, Option, Some, None}
 use Rattle.agency_rules.specs.declared.plans.Plan.{Plan}
 use Rattle.chain_disk.specs.Disks.{LeftDisk}
+use Rattle.record_fields.specs.declared.versions.Version.TheVariants.{Two}
 use Rattle.shop_core.specs.Prefix.{IsPrefix}
 use Rattle.record_codec.specs.declared.entry.Entry.{Entry}
+use Rattle.record_fields.specs.declared.versions.Version.{Version as AnyVersion}
 use Rattle.report.specs.declared.status.Detail.{Detail}
 use Rattle.script.specs.declared.forms.Form.TheVariants.{Full}
 use Rattle.script.specs.declared.scripts.Script.{Script}
@@ -13,19 +15,20 @@ use Rattle.shop_core.specs.File.Laws.{NotBegunIsNeither, OneHistory}
 use Rattle.verifactu.specs.Chain.{ChainEnds, ScriptEnds}
 use Rattle.verifactu.specs.Day.{DayEnds, FileDay, day_of}
 use Rattle.verifactu.specs.Days.{torn_of}
-use Rattle.verifactu.specs.Devices.{AllDevices, LeftAgency, NobodyCalled, around}
+use Rattle.verifactu.specs.Devices.{AllDevices, Further, LeftAgency, LeftFurther, NobodyCalled, around}
 use Rattle.verifactu.specs.Drain.{AllLeft, DrainEnds, FileDrained, first_moment, tells_moment}
 use Rattle.verifactu.specs.Draining.{IsSession, IsUnopened, spanning}
 use Rattle.verifactu.specs.Opening.{NotOpened}
-use Rattle.verifactu.specs.Promise.{AgencyKept, BatchesKept, FileKept, Grows, Promise, TillsGain, writes_for}
+use Rattle.verifactu.specs.Promise.{AgencyKept, BatchesKept, FileKept, FurtherKept, Grows, Promise, TillsGain, writes_for}
 use Rattle.chain_store.specs.Replies.{Replies}
 use Rattle.chain_store.specs.Readings.{IsComing, LeavesClock, readings_of}
-use Rattle.verifactu.specs.Running.{CommandEnds}
+use Rattle.verifactu.specs.Running.{CommandEnds, OwnEnds}
 use Rattle.verifactu.specs.Scripts.{IsGoodScript}
 use Rattle.verifactu.specs.Scripts.ScriptedEnds.{ran, bad_line, read_fault, too_big, no_memory}
 use Rattle.verifactu.specs.CommandLine.{AsksFor, IsAskedFor}
 use Rattle.verifactu.specs.declared.command_line.Command.{Command}
-use Rattle.verifactu.specs.declared.command_line.Command.TheVariants.{Chain, Day, Drain, Audit, Link, Check, Generate, Help, Version}
+use Rattle.verifactu.specs.declared.command_line.Command.TheVariants.{Chain, Day, Drain, Audit, Link, Check, Migrate}
+use Rattle.verifactu.specs.declared.command_line.Command.TheVariants.{Statement, Export, Matches, Generate, Help, Version}
 use Rattle.verifactu.proofs.Sessions.{batches_not_served, batches_of_day, batches_of_drain, batches_silent, left_agency}
 use Rattle.verifactu.proofs.Sessions.{not_served, of_day, of_drain}
 use Rattle.verifactu.proofs.Gaining.{gains_day, gains_notes, gains_nothing, gains_run, notes_nothing}
@@ -66,11 +69,11 @@ module _ {D C Z G : Type 0} (chained : AreLinked) (a : AllDevices D C Z G)
     chain_script script coming Leaves end good nobody (inr (inr h)) =
         let p = h.0 in
         let kept = p.kept says in
-        grown p.start p.end kept.torn (p.found says)
-        (by_kept chained issuer a.devices.disk _ p.start p.end p.replies (p.found says) p.begins p.legal p.stops kept) (
-          gains_run a.devices.source issuer (IsComing coming) p.start script.asks p.replies p.end (inr (script, good, refl))
+        grown p.version p.start p.end kept.torn (p.found says)
+        (by_kept chained issuer a.devices.disk _ p.version p.start p.end p.replies (p.found says) p.begins p.legal p.stops kept) (
+          gains_run a.devices.source p.version issuer (IsComing coming) p.start script.asks p.replies p.end (inr (script, good, refl))
               p.run,
-          left_agency a.agency (desks nobody.agency) p.start p.end kept.torn (notes_nothing issuer (IsComing coming) p.start p.run),
+          left_agency a.agency (desks nobody.agency) p.start p.end kept.torn (notes_nothing p.version issuer (IsComing coming) p.start p.run),
           batches_silent a.agency p.start p.end p.begins
               (λ tells. ap (λ (desk : Desk). desk.ledger) (desks nobody.agency)),
         )
@@ -92,9 +95,9 @@ module _ {D C Z G : Type 0} (chained : AreLinked) (a : AllDevices D C Z G)
         not_opened chained issuer a.devices.disk Rest says h (nothing h.rest.agency)
     day_file rules script end good (inr (inr (inl h))) =
         let kept = h.kept says in
-        let legal = legal_found issuer h.start (a.devices.disk.told a.devices.disk.disk).content (h.found says) in
-        grown h.start h.start [] (h.found says)
-        (goes_on chained issuer a.devices.disk h.start h.start [] (h.found says) (whole h.start) legal (omega arith) (inl refl)
+        let legal = legal_found h.version issuer h.start (a.devices.disk.told a.devices.disk.disk).content (h.found says) in
+        grown h.version h.start h.start [] (h.found says)
+        (goes_on chained issuer a.devices.disk h.version h.start h.start [] (h.found says) (whole h.start) legal (omega arith) (inl refl)
         kept.each_moment kept.every_crash kept.reads) (
           gains_nothing a.devices.source h.start,
           not_served a.agency script.plan h.start rules h.begun,
@@ -104,8 +107,8 @@ module _ {D C Z G : Type 0} (chained : AreLinked) (a : AllDevices D C Z G)
         let o = h.outcome in
         let d = day_of issuer script script.clock (around a) o in
         let kept = h.crashes.kept says in
-        grown o.start o.end (torn_of o.stop) (h.crashes.found says)
-        (goes_on chained issuer a.devices.disk o.start o.end (torn_of o.stop) (h.crashes.found says) h.history.begins
+        grown o.version o.start o.end (torn_of o.stop) (h.crashes.found says)
+        (goes_on chained issuer a.devices.disk o.version o.start o.end (torn_of o.stop) (h.crashes.found says) h.history.begins
         h.history.legal (one_torn o.stop) (torn_risen d (a.devices.disk.faults a.devices.disk.disk)
         (a.devices.disk.faults a.devices.disk.disk_after) o.stop h.crashes.stop) kept.each_moment kept.every_crash kept.reads) (
           gains_day a.devices.source d (inr (script, good, refl)) h.history.begins h.tills,
@@ -128,8 +131,8 @@ module _ {D C Z G : Type 0} (chained : AreLinked) (a : AllDevices D C Z G)
         let o = h.outcome in
         let kept = d.kept says in
         let begins : IsPrefix h.start o.end = record { rest = d.notes.more; is = d.notes.is } in
-        grown h.start o.end o.torn (h.found says)
-        (goes_on chained issuer a.devices.disk h.start o.end o.torn (h.found says) begins d.legal (one_at_most d.session)
+        grown h.version h.start o.end o.torn (h.found says)
+        (goes_on chained issuer a.devices.disk h.version h.start o.end o.torn (h.found says) begins d.legal (one_at_most d.session)
         d.torn_risen kept.each_moment kept.every_crash kept.reads) (
           gains_notes a.devices.source h.start o.end d.notes,
           of_drain a.agency plan h.start exact moment o d.session,
@@ -157,15 +160,16 @@ module _ {D C Z G : Type 0} (chained : AreLinked) (a : AllDevices D C Z G)
     drain_left end (too_big past left) = uncalled left.disk left.agency
     drain_left end (no_memory left) = uncalled left.disk left.agency
 
-  grows : (issuer : List ℕ) (start : List Entry) → Grown issuer a.devices.disk Rest start → Grows issuer start a
-  grows issuer start g =
+  grows : (version : AnyVersion) (issuer : List ℕ) (start : List Entry) → Grown version issuer a.devices.disk Rest start →
+      Grows version issuer start a
+  grows version issuer start g =
       record { end = g.end; torn = g.torn; chain = g.chain; tills = g.rest.0; agency = g.rest.1; batches = g.rest.2 }
 
   -- a run that only reads
   by_reading : a.devices.disk.told a.devices.disk.disk_after ≡ a.devices.disk.told a.devices.disk.disk → NobodyCalled a →
       FileKept None a
   by_reading same nobody = record {
-    sound = λ says issuer start stands. grows issuer start (stands_still chained a.devices.disk Rest issuer start
+    sound = λ says version issuer start stands. grows version issuer start (stands_still chained a.devices.disk Rest version issuer start
         (inl (inl same)) (nothing nobody.agency) stands);
     fresh = λ says issuer writes none. absurd (let x = writes in cc);
     others = λ says other. inl (inl same);
@@ -176,36 +180,53 @@ module _ {D C Z G : Type 0} (chained : AreLinked) (a : AllDevices D C Z G)
   by_writing : OneHistory → NotBegunIsNeither → (issuer : List ℕ) → (IsTrue a.devices.disk.tells → LeftBy issuer) →
       FileKept (Some issuer) a
   by_writing one neither issuer left = record {
-    sound = λ says other start stands. grows other start (sound_of chained a.devices.disk Rest one neither issuer other start
+    sound = λ says version other start stands. grows version other start (sound_of chained a.devices.disk Rest one neither issuer version other start
         (left says) stands);
     fresh = λ says other named none.
         let same : issuer ≡ other = (let x = named in cc) in
-        subst (λ (i : List ℕ). Grows i [] a) same
-        (grows issuer [] (own_grown chained issuer a.devices.disk one neither Rest (left says) [] (inl (none, refl))));
+        subst (λ (i : List ℕ). Grows Two i [] a) same
+        (grows Two issuer [] (own_grown chained issuer a.devices.disk one neither Rest (left says) Two [] (inl (none, refl, refl))));
     others = λ says other. others_of chained issuer a.devices.disk Rest (left says) other;
     reads = λ none. absurd (let x = none in cc);
   }
 
-  file_kept : OneHistory → NotBegunIsNeither → (IsTrue a.agency.kind.keeps_rules → IsTrue a.agency.kind.tells) →
-      (command : Command) (end : Detail) → CommandEnds command a end → FileKept (writes_for (Some command)) a
-  file_kept one neither rules (Chain issuer) end h = by_writing one neither issuer (λ says. chain_left says issuer end h.0 h.1)
-  file_kept one neither rules (Day issuer) end h = by_writing one neither issuer (λ says. day_left says issuer rules end h)
-  file_kept one neither rules (Drain issuer) end h = by_writing one neither issuer (λ says. drain_left says issuer end h)
-  file_kept one neither rules Audit end h = by_reading h.1.disk h.2
-  file_kept one neither rules (Link num host) end h = by_reading h.1.disk h.2
-  file_kept one neither rules (Check workers) end h = by_reading h.1.disk h.2
-  file_kept one neither rules (Generate n) end h = by_reading (ap a.devices.disk.told h.1.disk) h.2
-  file_kept one neither rules Help end h = by_reading (ap a.devices.disk.told h.1.disk) h.2
-  file_kept one neither rules Version end h = by_reading (ap a.devices.disk.told h.1.disk) h.2
+  own_kept : OneHistory → NotBegunIsNeither → (IsTrue a.agency.kind.keeps_rules → IsTrue a.agency.kind.tells) →
+      (command : Command) (end : Detail) → OwnEnds command a end → FileKept (writes_for (Some command)) a
+  own_kept one neither rules (Chain issuer) end h = by_writing one neither issuer (λ says. chain_left says issuer end h.0 h.1)
+  own_kept one neither rules (Day issuer) end h = by_writing one neither issuer (λ says. day_left says issuer rules end h)
+  own_kept one neither rules (Drain issuer) end h = by_writing one neither issuer (λ says. drain_left says issuer end h)
+  own_kept one neither rules Audit end h = by_reading h.1.disk h.2
+  own_kept one neither rules (Link num host) end h = by_reading h.1.disk h.2
+  own_kept one neither rules (Check workers) end h = by_reading h.1.disk h.2
+  own_kept one neither rules Migrate end h = absurd h
+  own_kept one neither rules (Statement month) end h = by_reading h.1.disk h.2
+  own_kept one neither rules Export end h = by_reading h.1.disk h.2
+  own_kept one neither rules Matches end h = by_reading h.1.disk h.2
+  own_kept one neither rules (Generate n) end h = by_reading (ap a.devices.disk.told h.1.disk) h.2
+  own_kept one neither rules Help end h = by_reading (ap a.devices.disk.told h.1.disk) h.2
+  own_kept one neither rules Version end h = by_reading (ap a.devices.disk.told h.1.disk) h.2
+
+  -- a command of one file, which left the further ones alone
+  pub own_ends : (f : Further D C Z G) (command : Command) (end : Detail) → OwnEnds command a end → LeftFurther f →
+      CommandEnds command a f end
+  own_ends f Migrate end h left = absurd h
+  own_ends f command end h left = (h, left)
+
+  others : OneHistory → NotBegunIsNeither → (IsTrue a.agency.kind.keeps_rules → IsTrue a.agency.kind.tells) →
+      (words : List (List ℕ)) (f : Further D C Z G) (command : Command) (end : Detail) → AsksFor words command →
+      OwnEnds command a end → FurtherKept (Some command) a f → Promise words a f
+  others one neither rules words f command end asked h more =
+      record { command = Some command; asked = asked; file = own_kept one neither rules command end h; more = more }
 
   pub promised : OneHistory → NotBegunIsNeither → (IsTrue a.agency.kind.keeps_rules → IsTrue a.agency.kind.tells) →
-      (words : List (List ℕ)) (command : Command) (end : Detail) → AsksFor words command → CommandEnds command a end →
-      Promise words a
-  promised one neither rules words command end asked h =
-      record { command = Some command; asked = asked; file = file_kept one neither rules command end h }
+      (words : List (List ℕ)) (f : Further D C Z G) (command : Command) (end : Detail) → AsksFor words command →
+      CommandEnds command a f end → Promise words a f
+  promised one neither rules words f Migrate end asked h =
+      record { command = Some Migrate; asked = asked; file = by_reading h.reads.disk h.nobody; more = h.moves.only }
+  promised one neither rules words f command end asked h = others one neither rules words f command end asked h.0 h.1
 
-  pub promised_nothing : (words : List (List ℕ)) → IsAskedFor words None →
+  pub promised_nothing : (words : List (List ℕ)) (f : Further D C Z G) → IsAskedFor words None →
       a.devices.disk.told a.devices.disk.disk_after ≡ a.devices.disk.told a.devices.disk.disk → NobodyCalled a →
-      Promise words a
-  promised_nothing words asked same nobody =
-      record { command = None; asked = asked; file = by_reading same nobody }
+      LeftFurther f → Promise words a f
+  promised_nothing words f asked same nobody left =
+      record { command = None; asked = asked; file = by_reading same nobody; more = left }

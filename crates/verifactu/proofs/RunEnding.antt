@@ -2,7 +2,7 @@
 use Rattle.std.proofs.Common.{◌≡◌, inl, inr, ◌⊎◌, ℕ, ◌+◌, ◌≤◌, List, [], ◌∷◌, sym, ◌∙◌, ap, subst, refl, arith, Bool, true, false}
 use Rattle.std.proofs.Common.{IsTrue, Option, Result, Ok, Err}
 use Rattle.std.specs.List.{list_any}
-use Rattle.record_fields.specs.declared.versions.Version.TheVariants.{One}
+use Rattle.record_fields.specs.declared.versions.Version.TheVariants.{Two}
 use Rattle.record_fields.specs.declared.versions.Version.{Version}
 use Rattle.chain_disk.specs.Runs.{started_settled, weaker}
 use Rattle.chain_disk.specs.OnDisk.{OnDisk, LeavesOnly, synced}
@@ -83,15 +83,15 @@ written_either text s (Err e) h = inr h
 
 as_it_stood : (issuer : List ℕ) (old new : OnDisk) → new ≡ synced old → KeepsFile issuer old new
 as_it_stood issuer old new is =
-    let P : List ℕ → Type 0 = λ c. (c ≡ old.content) ⊎ (IsNotBegun old.content × IsNotBegunOrEmpty issuer c) in
+    let P : List ℕ → Type 0 = λ c. (c ≡ old.content) ⊎ (IsNotBegun old.content × IsNotBegunOrEmpty Two issuer c) in
     inr (subst (λ (t : OnDisk). LeavesOnly (synced old) t P) (sym is) (started_settled (synced old) P refl (inl refl)))
 
 disk_lost : (issuer : List ℕ) (old new : OnDisk) → IsDiskLost issuer old new → KeepsFile issuer old new
 disk_lost issuer old new (not_synced failed) = inl failed
 disk_lost issuer old new (not_read is) = as_it_stood issuer old new is
 disk_lost issuer old new (in_part h) =
-    inr (weaker (synced old) new (IsNotBegunOrEmpty issuer) (λ c. (c ≡ old.content) ⊎
-    (IsNotBegun old.content × IsNotBegunOrEmpty issuer c)) h.any_moment (λ c empty. inr (h.not_begun, empty)))
+    inr (weaker (synced old) new (IsNotBegunOrEmpty Two issuer) (λ c. (c ≡ old.content) ⊎
+    (IsNotBegun old.content × IsNotBegunOrEmpty Two issuer c)) h.any_moment (λ c empty. inr (h.not_begun, empty)))
 
 -- what an opening that failed leaves keeps the file
 pub keeps_file : (issuer : List ℕ) (why : OpenCause) (old new : OnDisk) → IsLeftUnopened issuer why old new →
@@ -157,39 +157,37 @@ or_so f (inr p) = inr (f p)
 
 -- a run of a store is one of its file, from its opening on
 pub store_ran : {D C : Type 0} (issuer : List ℕ) (asks : List Asked) (replies : List (Result Reply StoreFault)) (s : Stores D C)
-    (sink : Sinks) (k : Disks D) (end : Detail) → s.issuer ≡ issuer → s.version ≡ One →
+    (sink : Sinks) (k : Disks D) (end : Detail) → s.issuer ≡ issuer →
     s.tells ≡ k.tells → s.faults_after ≡ k.faults k.disk_after → s.now ≡ k.told k.disk_after → k.faults k.disk ≤ s.faults →
-    (IsTrue k.tells → IsFound issuer s.start (k.told k.disk).content) →
-    (IsTrue k.tells → LeavesOnly (synced (k.told k.disk)) s.since (IsFound issuer s.start)) →
-    ((n : List ℕ) (es : List Entry) → FailsIn s.disk n es → FailsIn k n es) → Answers asks replies s →
+    (IsTrue k.tells → IsFound s.version issuer s.start (k.told k.disk).content) →
+    (IsTrue k.tells → LeavesOnly (synced (k.told k.disk)) s.since (IsFound s.version issuer s.start)) →
+    ((v : Version) (n : List ℕ) (es : List Entry) → FailsIn s.disk v n es → FailsIn k v n es) → Answers asks replies s →
     RunEnds replies (printed asks replies s.end) sink end → ScriptEnds issuer asks (s.clock.coming s.clock.clock)
     (λ rs. IsAsked s.clock (readings rs)) sink k end
-store_ran issuer asks replies s sink k end own version tells faults_after now later found any widen h ends =
-    let Torn : List ℕ → Entry → Type 0 = λ n. IsCutOff One n (IsComing (s.clock.coming s.clock.clock)) asks s.end replies in
-    let kept_here : IsTrue k.tells → KeptByRun (StandsUpTo issuer s.start s.end) (Torn issuer) issuer s.end replies s.since
+store_ran issuer asks replies s sink k end own tells faults_after now later found any widen h ends =
+    let Torn : List ℕ → Entry → Type 0 = λ n. IsCutOff s.version n (IsComing (s.clock.coming s.clock.clock)) asks s.end replies in
+    let kept_here : IsTrue k.tells → KeptByRun (StandsUpTo s.version issuer s.start s.end) (Torn issuer) s.version issuer s.end replies s.since
     (k.told k.disk_after) = λ says.
-    subst (λ (t : OnDisk). KeptByRun (StandsUpTo issuer s.start s.end) (Torn issuer) issuer s.end replies s.since t) now
-    (subst (λ (n : List ℕ). KeptByRun (StandsUpTo n s.start s.end) (Torn n) n s.end replies s.since s.now) own
-    (subst (λ (v : Version). KeptByRun (StandsUpTo s.issuer s.start s.end) (IsCutOff v s.issuer (IsComing (s.clock.coming
-    s.clock.clock)) asks s.end replies) s.issuer s.end replies s.since s.now) version
-    (h.kept (subst (λ (b : Bool). IsTrue b) (sym tells) says)))) in
+    subst (λ (t : OnDisk). KeptByRun (StandsUpTo s.version issuer s.start s.end) (Torn issuer) s.version issuer s.end replies s.since t) now
+    (subst (λ (n : List ℕ). KeptByRun (StandsUpTo s.version n s.start s.end) (Torn n) s.version n s.end replies s.since s.now) own
+    (h.kept (subst (λ (b : Bool). IsTrue b) (sym tells) says))) in
     inr (inr (
       record {
+        version = s.version;
         start = s.start;
         replies = replies;
         end = s.end;
         found = found;
-        run = subst (λ (n : List ℕ). ChainRun One n (IsComing (s.clock.coming s.clock.clock)) s.start asks replies s.end) own
-            (subst (λ (v : Version). ChainRun v s.issuer (IsComing (s.clock.coming s.clock.clock)) s.start asks replies s.end)
-            version h.run);
+        run = subst (λ (n : List ℕ). ChainRun s.version n (IsComing (s.clock.coming s.clock.clock)) s.start asks replies s.end) own
+            h.run;
         begins = h.begins;
-        legal = subst (λ (n : List ℕ). Legal One n s.end) own (subst (λ (v : Version). Legal v s.issuer s.end) version h.legal);
+        legal = subst (λ (n : List ℕ). Legal s.version n s.end) own h.legal;
         linked = subst (λ (n : List ℕ). Linked n (recs s.end)) own h.linked;
         rising = h.rising;
         stops = subst (λ (n : ℕ). StopsOnce (k.faults k.disk) n replies) faults_after (stops_from (k.faults k.disk) s.faults
             s.faults_after replies later h.stops);
-        fails = or_so (λ f. widen issuer s.end (subst (λ (n : List ℕ). FailsIn s.disk n s.end) own f)) h.fails;
-        kept = λ says. kept_since (Torn issuer) issuer s.start s.end replies (synced (k.told k.disk)) s.since
+        fails = or_so (λ f. widen s.version issuer s.end (subst (λ (n : List ℕ). FailsIn s.disk s.version n s.end) own f)) h.fails;
+        kept = λ says. kept_since (Torn issuer) s.version issuer s.start s.end replies (synced (k.told k.disk)) s.since
             (k.told k.disk_after) h.begins (any says) (kept_here says);
         clock = h.asked;
       },
@@ -197,20 +195,20 @@ store_ran issuer asks replies s sink k end own version tells faults_after now la
     ))
 
 -- a run by readings of one kind is one by readings of another kind, where each of the first is one of the second
-run_by : (issuer : List ℕ) (R Q : List (Result Reply StoreFault) → ℕ → Type 0) (start : List Entry) →
+run_by : (version : Version) (issuer : List ℕ) (R Q : List (Result Reply StoreFault) → ℕ → Type 0) (start : List Entry) →
     ((replies : List (Result Reply StoreFault)) (seconds : ℕ) → R replies seconds → Q replies seconds) →
-    {asks : List Asked} {replies : List (Result Reply StoreFault)} {entries : List Entry} → ChainRun One issuer R start asks replies
-    entries → ChainRun One issuer Q start asks replies entries
-run_by issuer R Q start each begun = begun
-run_by issuer R Q start each (replied asks replies entries ask told gained run seconds reading h) =
-    replied asks replies entries ask told gained (run_by issuer R Q start each run) seconds (each replies seconds reading) h
+    {asks : List Asked} {replies : List (Result Reply StoreFault)} {entries : List Entry} → ChainRun version issuer R start asks replies
+    entries → ChainRun version issuer Q start asks replies entries
+run_by version issuer R Q start each begun = begun
+run_by version issuer R Q start each (replied asks replies entries ask told gained run seconds reading h) =
+    replied asks replies entries ask told gained (run_by version issuer R Q start each run) seconds (each replies seconds reading) h
 
 -- so is the entry that was cut off
-cut_off_by : (issuer : List ℕ) (R Q : List (Result Reply StoreFault) → ℕ → Type 0) (asks : List Asked) (history : List Entry)
+cut_off_by : (version : Version) (issuer : List ℕ) (R Q : List (Result Reply StoreFault) → ℕ → Type 0) (asks : List Asked) (history : List Entry)
     (replies : List (Result Reply StoreFault)) →
     ((replies : List (Result Reply StoreFault)) (seconds : ℕ) → R replies seconds → Q replies seconds) → (entry : Entry) →
-    IsCutOff One issuer R asks history replies entry → IsCutOff One issuer Q asks history replies entry
-cut_off_by issuer R Q asks history replies each entry h = record {
+    IsCutOff version issuer R asks history replies entry → IsCutOff version issuer Q asks history replies entry
+cut_off_by version issuer R Q asks history replies each entry h = record {
   before = h.before;
   behind = h.behind;
   told = h.told;
@@ -222,9 +220,9 @@ cut_off_by issuer R Q asks history replies each entry h = record {
 }
 
 -- what a run keeps, said of its torn entry in other words
-kept_with : {P : List Entry → List ℕ → Type 0} {issuer : List ℕ} {end : List Entry} {replies : List (Result Reply StoreFault)}
+kept_with : {P : List Entry → List ℕ → Type 0} {version : Version} {issuer : List ℕ} {end : List Entry} {replies : List (Result Reply StoreFault)}
     {since now : OnDisk} (IsTorn IsAlso : Entry → Type 0) → ((entry : Entry) → IsTorn entry → IsAlso entry) →
-    KeptByRun P IsTorn issuer end replies since now → KeptByRun P IsAlso issuer end replies since now
+    KeptByRun P IsTorn version issuer end replies since now → KeptByRun P IsAlso version issuer end replies since now
 kept_with IsTorn IsAlso each h = record {
   torn = h.torn;
   at_most_one = h.at_most_one;
@@ -246,11 +244,12 @@ script_by issuer asks old new Leaves Left s k end same leaves (inr (inr h)) =
     seconds = λ replies seconds. subst (λ (o : Option ℕ). IsTold o seconds) (same (readings replies)) in
     inr (inr (
       record {
+        version = p.version;
         start = p.start;
         replies = p.replies;
         end = p.end;
         found = p.found;
-        run = run_by issuer (IsComing old) (IsComing new) p.start told p.run;
+        run = run_by p.version issuer (IsComing old) (IsComing new) p.start told p.run;
         begins = p.begins;
         legal = p.legal;
         linked = p.linked;
@@ -258,7 +257,7 @@ script_by issuer asks old new Leaves Left s k end same leaves (inr (inr h)) =
         stops = p.stops;
         fails = p.fails;
         kept = λ says. kept_with _ _
-            (cut_off_by issuer (IsComing old) (IsComing new) asks p.end p.replies told) (p.kept says);
+            (cut_off_by p.version issuer (IsComing old) (IsComing new) asks p.end p.replies told) (p.kept says);
         clock = leaves p.replies p.clock;
       },
       h.1,

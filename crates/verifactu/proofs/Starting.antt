@@ -41,22 +41,22 @@ module _ {D C : Type 0} (tells : Bool) (told : D → OnDisk) (faults : D → ℕ
     clock = record { number = 0; moved = λ k. ap (coming p.clock) (sym (zero-add k)) };
     crashes = λ says.
         let holds : Holds p.state p.gate (told p.disk) = ready.holds going says in
-        let stands : StandsFor p.state.issuer p.state.entries (told p.disk).content = record {
+        let stands : StandsFor p.state.version p.state.issuer p.state.entries (told p.disk).content = record {
           frames = holds.file.file;
           encoded = holds.encoded;
-          legal = subst (λ (v : Version). Legal v p.state.issuer p.state.entries) holds.version legal;
+          legal = legal;
         } in
         subst (λ (es : List Entry). Leaves (root_of told faults p) p.state.entries es (told p.disk))
         (sym (none_torn p.state.entries p.stopped p.torn going)) (record {
-          since = weaker (told p.disk) (told p.disk) (StandsFor p.state.issuer p.state.entries) _ (started_settled (told p.disk)
-              (StandsFor p.state.issuer p.state.entries) holds.file.nothing_pending stands)
+          since = weaker (told p.disk) (told p.disk) (StandsFor p.state.version p.state.issuer p.state.entries) _ (started_settled (told p.disk)
+              (StandsFor p.state.version p.state.issuer p.state.entries) holds.file.nothing_pending stands)
               (λ c h. record {
                 history = p.state.entries;
                 stands = h;
                 begins = record { rest = []; is = sym (append-nil p.state.entries) };
                 within = record { rest = []; is = sym (append-nil p.state.entries) };
               });
-          whole = λ c left. inl (leaves_now (told p.disk) (StandsFor p.state.issuer p.state.entries) holds.file.nothing_pending
+          whole = λ c left. inl (leaves_now (told p.disk) (StandsFor p.state.version p.state.issuer p.state.entries) holds.file.nothing_pending
               stands c left);
         });
     stop = λ count e. absurd (let x : ◌≡◌ {A = Option ℕ} None (Some count) = sym going ∙ e in cc);

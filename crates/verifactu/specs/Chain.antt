@@ -1,6 +1,6 @@
 -- How `chain` ends.
 use Rattle.std.specs.Prelude.{◌≡◌, ◌⊎◌, ℕ, List, [], IsTrue, Option}
-use Rattle.record_fields.specs.declared.versions.Version.TheVariants.{One}
+use Rattle.record_fields.specs.declared.versions.Version.{Version}
 use Rattle.ports.specs.Sinks.{Sinks}
 use Rattle.chain_disk.specs.OnDisk.{synced}
 use Rattle.chain_disk.specs.Disks.{Disks, DiskRose}
@@ -33,19 +33,21 @@ use Rattle.verifactu.specs.Scripts.{ScriptedEnds}
 -- was cut off.
 pub record Played {D : Type 0} (issuer : List ℕ) (asks : List Asked) (coming : ℕ → Option ℕ) (Leaves : Replies → Type 0)
     (k : Disks D) : Type 0 where
+  pub version : Version
   pub start : List Entry
   pub replies : Replies
   pub end : List Entry
-  pub found : IsTrue k.tells → IsFound issuer start (k.told k.disk).content
-  pub run : ChainRun One issuer (IsComing coming) start asks replies end
+  pub found : IsTrue k.tells → IsFound version issuer start (k.told k.disk).content
+  pub run : ChainRun version issuer (IsComing coming) start asks replies end
   pub begins : IsPrefix start end
-  pub legal : Legal One issuer end
+  pub legal : Legal version issuer end
   pub linked : Linked issuer (recs end)
   pub rising : (till : ℕ) → SerialsRise end till
   pub stops : StopsOnce (k.faults k.disk) (k.faults k.disk_after) replies
-  pub fails : AllGoOn replies ⊎ FailsIn k issuer end
+  pub fails : AllGoOn replies ⊎ FailsIn k version issuer end
   pub kept : IsTrue k.tells →
-      KeptByRun (StandsSince issuer start end) (IsCutOff One issuer (IsComing coming) asks end replies) issuer end replies
+      KeptByRun (StandsSince version issuer start end) (IsCutOff version issuer (IsComing coming) asks end replies) version issuer
+      end replies
       (synced (k.told k.disk)) (k.told k.disk_after)
   pub clock : Leaves replies
 

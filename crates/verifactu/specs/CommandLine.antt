@@ -1,13 +1,15 @@
 -- What the words of the command line ask for. The commands are this project's own.
-use Rattle.std.specs.Prelude.{◌≡◌, ℕ, ◌<◌, ◌≤◌, List, [], ◌∷◌, length, codes, decimal, IsTrue, Option, Some, None}
+use Rattle.std.specs.Prelude.{◌≡◌, if◌then◌else◌, ℕ, ◌<◌, ◌≤◌, List, [], ◌∷◌, length, bytes_eq, codes, decimal, IsTrue, Option, Some, None}
 use Rattle.std.specs.Int.{IsInRange}
 use Rattle.parties.specs.Nif.{IsNif}
 use Rattle.series.specs.Numbers.{is_num_serie}
+use Rattle.statements.specs.Months.{IsMonth, YearMonth, month_text}
 use Rattle.verify_link.specs.declared.parts.Host.{Host}
 use Rattle.verify_link.specs.declared.parts.Host.TheVariants.{Real, Practice}
 use Rattle.link_check.specs.declared.all.TheConstants.{MAX_WORKERS}
 use Rattle.verifactu.specs.declared.command_line.Command.{Command}
-use Rattle.verifactu.specs.declared.command_line.Command.TheVariants.{Chain, Day, Drain, Audit, Link, Check, Generate, Help, Version}
+use Rattle.verifactu.specs.declared.command_line.Command.TheVariants.{Chain, Day, Drain, Audit, Link, Check, Migrate}
+use Rattle.verifactu.specs.declared.command_line.Command.TheVariants.{Statement, Export, Matches, Generate, Help, Version}
 use Rattle.file_commands.specs.declared.generated.TheConstants.{MOST}
 
 -- `chain FILE NIF`: a file's name, which isn't empty, and a tax number
@@ -87,6 +89,33 @@ pub record IsGenerate (words : List (List ℕ)) (n : ℕ) : Type 0 where
   pub words_are : words ≡ codes "generate" ∷ (count ∷ [])
   pub number : IsCountOf count n
 
+-- `migrate FILE NEW`: the names of two files
+pub record IsMigrate (words : List (List ℕ)) : Type 0 where
+  pub file : List ℕ
+  pub new : List ℕ
+  pub words_are : words ≡ codes "migrate" ∷ (file ∷ (new ∷ []))
+  pub named : 0 < length file
+  pub new_named : 0 < length new
+
+-- `statement FILE MM-YYYY`: a file's name, and a month
+pub record IsStatement (words : List (List ℕ)) (month : YearMonth) : Type 0 where
+  pub file : List ℕ
+  pub words_are : words ≡ codes "statement" ∷ (file ∷ (month_text month ∷ []))
+  pub named : 0 < length file
+  pub is_month : IsMonth month
+
+-- `export FILE`
+pub record IsExport (words : List (List ℕ)) : Type 0 where
+  pub file : List ℕ
+  pub words_are : words ≡ codes "export" ∷ (file ∷ [])
+  pub named : 0 < length file
+
+-- `matches FILE`
+pub record IsMatches (words : List (List ℕ)) : Type 0 where
+  pub file : List ℕ
+  pub words_are : words ≡ codes "matches" ∷ (file ∷ [])
+  pub named : 0 < length file
+
 -- the words of this command
 abbrev pub AsksFor : List (List ℕ) → Command → Type 0
 AsksFor words (Chain issuer) = IsChain words issuer
@@ -95,6 +124,10 @@ AsksFor words (Drain issuer) = IsDrain words issuer
 AsksFor words Audit = IsAudit words
 AsksFor words (Link num host) = IsLink words num host
 AsksFor words (Check workers) = IsCheck words workers
+AsksFor words Migrate = IsMigrate words
+AsksFor words (Statement month) = IsStatement words month
+AsksFor words Export = IsExport words
+AsksFor words Matches = IsMatches words
 AsksFor words (Generate n) = IsGenerate words n
 AsksFor words Help = words ≡ codes "--help" ∷ []
 AsksFor words Version = words ≡ codes "--version" ∷ []
@@ -103,6 +136,16 @@ AsksFor words Version = words ≡ codes "--version" ∷ []
 abbrev pub IsAskedFor : List (List ℕ) → Option Command → Type 0
 IsAskedFor words None = (command : Command) → AsksFor words command → ⊥
 IsAskedFor words (Some command) = AsksFor words command
+
+-- how many files these words name beside the first one
+abbrev pub posts_needed : List (List ℕ) → ℕ
+posts_needed (name ∷ (file ∷ (new ∷ []))) = if bytes_eq name (codes "migrate") then 1 else 0
+posts_needed _ = 0
+
+-- a command that works on one file
+abbrev pub IsOfOneFile : Command → Type 0
+IsOfOneFile Migrate = ⊥
+IsOfOneFile _ = Unit {0}
 
 -- a command that words can ask for
 abbrev pub IsWithin : Command → Type 0

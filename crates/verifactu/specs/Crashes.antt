@@ -4,15 +4,18 @@ use Rattle.chain_disk.specs.OnDisk.{OnDisk, IsSyncFailed, LeavesOnly, synced}
 use Rattle.chain_store.specs.Crashes.{StandsUpTo}
 use Rattle.journal.specs.File.{IsNotBegun, IsNotBegunOrEmpty}
 use Rattle.record_codec.specs.declared.entry.Entry.{Entry}
+use Rattle.record_fields.specs.declared.versions.Version.{Version}
+use Rattle.record_fields.specs.declared.versions.Version.TheVariants.{Two}
 
 -- The file stands for a legal history that begins with the one at the start, and is a front of the one at the end, or of
--- that with the torn entry. A file that isn't begun stands for the empty history.
-abbrev pub StandsSince : List ℕ → List Entry → List Entry → List Entry → List ℕ → Type 0
-StandsSince issuer start end torn file = (IsNotBegun file × (start ≡ [])) ⊎ StandsUpTo issuer start end torn file
+-- that with the torn entry. A file that isn't begun stands for the empty history, in version Two.
+abbrev pub StandsSince : Version → List ℕ → List Entry → List Entry → List Entry → List ℕ → Type 0
+StandsSince version issuer start end torn file =
+    (IsNotBegun file × (start ≡ []) × (version ≡ Two)) ⊎ StandsUpTo version issuer start end torn file
 
 -- What an opening that failed keeps of the file. The sync at the start failed; or since it each crash leaves the bytes that
 -- stood there, or, where they were no begun file, one that isn't begun or is begun and empty.
 abbrev pub KeepsFile : List ℕ → OnDisk → OnDisk → Type 0
 KeepsFile issuer old new =
     IsSyncFailed old new
-    ⊎ LeavesOnly (synced old) new (λ c. (c ≡ old.content) ⊎ (IsNotBegun old.content × IsNotBegunOrEmpty issuer c))
+    ⊎ LeavesOnly (synced old) new (λ c. (c ≡ old.content) ⊎ (IsNotBegun old.content × IsNotBegunOrEmpty Two issuer c))

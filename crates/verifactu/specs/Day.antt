@@ -2,7 +2,7 @@
 use Rattle.std.specs.Prelude.{◌≡◌, ◌⊎◌, ◌<◌, ◌≤◌, ◌+◌, ◌-◌, ◌^◌, ℕ, false, List, [], ◌∷◌, ◌++◌, drop, flat_map, length, map}
 use Rattle.std.specs.Prelude.{IsTrue, Option, Result}
 use Rattle.std.specs.List.{AllByRecursion}
-use Rattle.record_fields.specs.declared.versions.Version.TheVariants.{One}
+use Rattle.record_fields.specs.declared.versions.Version.{Version}
 use Rattle.ports.specs.Sinks.{WroteNothing}
 use Rattle.chain_disk.specs.OnDisk.{LeavesNow, synced}
 use Rattle.chain_disk.specs.Disks.{Disks, DiskRose}
@@ -51,6 +51,7 @@ day_text asks tills entries = answers_text (flat_map (till_lines asks) tills) ++
 
 -- what comes of a day
 pub record Outcome : Type 0 where
+  pub version : Version
   pub start : List Entry
   pub end : List Entry
   pub stop : Option Stop
@@ -62,7 +63,7 @@ pub record Outcome : Type 0 where
 abbrev pub day_of : {D C Z G : Type 0} → List ℕ → Script → Option (ℕ × ℕ) → Around D C Z G → Outcome → Day
 day_of issuer script line c o = record {
   issuer = issuer;
-  version = One;
+  version = o.version;
   asks = script.asks;
   coming = readings_of line (c.clock.coming c.clock.clock);
   start = o.start;
@@ -78,7 +79,7 @@ day_of issuer script line c o = record {
 -- the history: it goes on from the one at the start, and is legal
 pub record HistoryGoesOn (d : Day) : Type 0 where
   pub begins : IsPrefix d.start d.end
-  pub legal : Legal One d.issuer d.end
+  pub legal : Legal d.version d.issuer d.end
   pub linked : Linked d.issuer (recs d.end)
   pub rising : (till : ℕ) → SerialsRise d.end till
 
@@ -92,10 +93,10 @@ pub record EachTill (d : Day) : Type 0 where
 -- The file stood for the history at the start. Each crash since its opening began leaves a front of the history at the end, or of
 -- that with the entry of the stop.
 pub record EachCrash {D : Type 0} (d : Day) (k : Disks D) : Type 0 where
-  pub found : IsTrue k.tells → IsFound d.issuer d.start (k.told k.disk).content
+  pub found : IsTrue k.tells → IsFound d.version d.issuer d.start (k.told k.disk).content
   pub stop : StopIs d (k.faults k.disk) (k.faults k.disk_after) d.stop
   pub kept : IsTrue k.tells →
-      Kept (StandsSince d.issuer d.start d.end (torn_of d.stop)) d.issuer d.end (torn_of d.stop) (synced (k.told k.disk))
+      Kept (StandsSince d.version d.issuer d.start d.end (torn_of d.stop)) d.version d.issuer d.end (torn_of d.stop) (synced (k.told k.disk))
       (k.told k.disk_after)
 
 -- One session with the agency was opened, with the plan and the pairs noted in the history at the start, and in it one new sender
@@ -104,7 +105,7 @@ pub record ItsAgency {D G : Type 0} (d : Day) (plan : Plan) (a : Agencies G) (k 
   pub opens : OpensSession d.kind a.begun plan d.start a.before d.opened
   pub sends : SendsBeside d
   pub agreement : IsTrue d.kind.keeps_rules → AgreesAtStart a d.start → StaysAgreed d
-  pub images : IsTrue k.tells → StaysAgreed d → LeavesNow (k.told k.disk_after) (AgreesInFile d.issuer d.after)
+  pub images : IsTrue k.tells → StaysAgreed d → LeavesNow (k.told k.disk_after) (AgreesInFile d.version d.issuer d.after)
 
 -- how it ends
 pub record EndsAsServed {D C Z G : Type 0} (d : Day) (c : Around D C Z G) (end : Detail) : Type 0 where
@@ -140,10 +141,11 @@ pub record DayServed {D C Z G : Type 0} (issuer : List ℕ) (script : Script) (l
 -- crash since opening began leaves the history that the file stood for; the agency's session may have been opened
 pub record NotServed {D C Z G : Type 0} (issuer : List ℕ) (plan : Plan) (c : Around D C Z G) (end : Detail) : Type 0 where
   pub ends : end ≡ detail.NoMemory
+  pub version : Version
   pub start : List Entry
-  pub found : IsTrue c.disk.tells → IsFound issuer start (c.disk.told c.disk.disk).content
+  pub found : IsTrue c.disk.tells → IsFound version issuer start (c.disk.told c.disk.disk).content
   pub kept : IsTrue c.disk.tells →
-      Kept (StandsSince issuer start start []) issuer start [] (synced (c.disk.told c.disk.disk)) (c.disk.told c.disk.disk_after)
+      Kept (StandsSince version issuer start start []) version issuer start [] (synced (c.disk.told c.disk.disk)) (c.disk.told c.disk.disk_after)
   pub begun : IsUnbegun c.agency.kind c.agency.before c.agency.after
       ⊎ OpensSession c.agency.kind c.agency.begun plan start c.agency.before c.agency.after
   pub wrote : WroteNothing c.sink

@@ -13,6 +13,7 @@ use Rattle.record_fields.specs.declared.lines.Line.{Line}
 use Rattle.agency_port.specs.declared.agency.Agency as agency
 use Rattle.sender.specs.Turning.{Desk, AgencyKind}
 use Rattle.verifactu.specs.declared.outside.Outside.{Outside}
+use Rattle.verifactu.specs.declared.posts.Post.{Post}
 
 -- what contracts say of the store's devices: whether its disk tells, what it tells, its count of faults, and the clock's coming
 -- answers
@@ -119,15 +120,30 @@ around a = record {
   agency = a.agency;
 }
 
--- the parts of an outside in a call, before it and after it, by what their kinds tell
+-- what an outside has of the first file
+abbrev pub own_post : {D C Z G : Type 0} → Outside D C Z G → Post D C Z G
+own_post o = record { disk = o.disk; clock = o.clock; sleeper = o.sleeper; agency = o.agency }
+
+-- the further posts of a run, before it and after it
+pub record Further (D C Z G : Type 0) : Type 0 where
+  pub posts : List (Post D C Z G)
+  pub posts_after : List (Post D C Z G)
+
+abbrev pub LeftFurther : {D C Z G : Type 0} → Further D C Z G → Type 0
+LeftFurther f = f.posts_after ≡ f.posts
+
+abbrev pub further : {D C Z G : Type 0} → Outside D C Z G → Outside D C Z G → Further D C Z G
+further old new = record { posts = old.more; posts_after = new.more }
+
+-- the parts of a post in a call, before it and after it, by what their kinds tell
 module _ {D C Z G : Type 0} where
-  abbrev pub disk_in : disk.Ghosts D → Outside D C Z G → Outside D C Z G → Disks D
+  abbrev pub disk_in : disk.Ghosts D → Post D C Z G → Post D C Z G → Disks D
   disk_in kind old new = this_disk kind.tells kind.told kind.faults old.disk new.disk
 
-  abbrev pub clock_in : clock.Ghosts C → Outside D C Z G → Outside D C Z G → Clocks C
+  abbrev pub clock_in : clock.Ghosts C → Post D C Z G → Post D C Z G → Clocks C
   clock_in kind old new = this_clock kind.coming old.clock new.clock
 
-  abbrev pub sleeper_in : sleeper.Ghosts Z → Outside D C Z G → Outside D C Z G → Sleepers Z
+  abbrev pub sleeper_in : sleeper.Ghosts Z → Post D C Z G → Post D C Z G → Sleepers Z
   sleeper_in kind old new = record {
     tells = kind.tells;
     moment = kind.moment;
@@ -135,7 +151,7 @@ module _ {D C Z G : Type 0} where
     sleeper_after = new.sleeper;
   }
 
-  abbrev pub agency_in : agency.Ghosts G → Outside D C Z G → Outside D C Z G → Agencies G
+  abbrev pub agency_in : agency.Ghosts G → Post D C Z G → Post D C Z G → Agencies G
   agency_in kind old new = record {
     kind = agency_kind kind;
     begun = kind.begun;
@@ -146,8 +162,8 @@ module _ {D C Z G : Type 0} where
   }
 
   -- all of them, with the sink
-  abbrev pub around_in : Sinks → disk.Ghosts D → clock.Ghosts C → sleeper.Ghosts Z → agency.Ghosts G → Outside D C Z G →
-      Outside D C Z G → Around D C Z G
+  abbrev pub around_in : Sinks → disk.Ghosts D → clock.Ghosts C → sleeper.Ghosts Z → agency.Ghosts G → Post D C Z G →
+      Post D C Z G → Around D C Z G
   around_in sink d c z g old new = record {
     sink = sink;
     disk = disk_in d old new;
@@ -157,8 +173,8 @@ module _ {D C Z G : Type 0} where
   }
 
   -- and with the source
-  abbrev pub this_call : Sources → Sinks → disk.Ghosts D → clock.Ghosts C → sleeper.Ghosts Z → agency.Ghosts G → Outside D C Z G →
-      Outside D C Z G → AllDevices D C Z G
+  abbrev pub this_call : Sources → Sinks → disk.Ghosts D → clock.Ghosts C → sleeper.Ghosts Z → agency.Ghosts G → Post D C Z G →
+      Post D C Z G → AllDevices D C Z G
   this_call source sink d c z g old new = record {
     devices = record { source = source; sink = sink; disk = disk_in d old new; clock = clock_in c old new };
     sleeper = sleeper_in z old new;

@@ -1,6 +1,6 @@
 -- How `drain` ends.
 use Rattle.std.specs.Prelude.{◌≡◌, ◌⊎◌, ℕ, ◌+◌, ◌-◌, ◌^◌, ◌<◌, ◌≤◌, List, Bool, true, IsTrue, Option, Some, None}
-use Rattle.record_fields.specs.declared.versions.Version.TheVariants.{One}
+use Rattle.record_fields.specs.declared.versions.Version.{Version}
 use Rattle.ports.specs.Causes.{Rose}
 use Rattle.ports.specs.Sinks.{Sinks}
 use Rattle.chain_disk.specs.OnDisk.{synced}
@@ -46,11 +46,12 @@ pub record NothingRose {D G : Type 0} (s : Sinks) (k : Disks D) (a : Agencies G)
 -- The file was opened and drained, from the history that it stood for.
 pub record FileDrained {D G : Type 0} (issuer : List ℕ) (plan : Plan) (exact : Bool) (moment : ℕ) (s : Sinks) (k : Disks D)
     (a : Agencies G) (end : Detail) : Type 0 where
+  pub version : Version
   pub start : List Entry
-  pub found : IsTrue k.tells → IsFound issuer start (k.told k.disk).content
+  pub found : IsTrue k.tells → IsFound version issuer start (k.told k.disk).content
   pub outcome : Outcome
   -- what was said, noted and kept
-  pub drains : StoreDrains (StandsSince issuer) a.begun plan One issuer (file_span k)
+  pub drains : StoreDrains (StandsSince version issuer) a.begun plan version issuer (file_span k)
       (spanning start a.kind a.before a.after exact moment outcome)
   -- the text, and the end by the answer and the sink
   pub ends : DrainRunEnds outcome.answer (drain_text outcome) s end

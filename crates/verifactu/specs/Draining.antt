@@ -194,9 +194,9 @@ pub record IsSession (begun : Beginning) (plan : Plan) (d : Span) : Type 0 where
       Agree d.start (begun d.old.ledger.processed (noted_pairs d.start)) d.old.ledger.sent → StillAgrees d
 
 -- the file stands for a history that agrees
-abbrev pub AgreesInFile : List ℕ → Desk → List ℕ → Type 0
-AgreesInFile issuer desk file = (entries : List Entry)
-    × StandsFor issuer entries file × Agree entries desk.ledger.processed desk.ledger.sent
+abbrev pub AgreesInFile : Version → List ℕ → Desk → List ℕ → Type 0
+AgreesInFile version issuer desk file = (entries : List Entry)
+    × StandsFor version issuer entries file × Agree entries desk.ledger.processed desk.ledger.sent
 
 -- a disk that a store is on: whether its kind tells what it holds, and what it told and its count of faults before and after
 pub record DiskSpan : Type 0 where
@@ -223,9 +223,9 @@ pub record StoreDrains (P : List Entry → List Entry → List Entry → List �
   pub notes : AddsNotesAlone d.start d.end
   pub legal : Legal version issuer d.end
   pub linked : Linked issuer (recs d.end)
-  pub kept : IsTrue k.tells → Kept (P d.start d.end d.torn) issuer d.end d.torn k.since k.now
+  pub kept : IsTrue k.tells → Kept (P d.start d.end d.torn) version issuer d.end d.torn k.since k.now
   -- where the agency agrees it does with the history of each file that a crash now leaves
-  pub images : IsTrue k.tells → StillAgrees d → LeavesNow k.now (AgreesInFile issuer d.new)
+  pub images : IsTrue k.tells → StillAgrees d → LeavesNow k.now (AgreesInFile version issuer d.new)
   -- the disk's count of faults rose where it failed
   pub risen : IsDiskAnswer d.answer → Rose k.faults k.faults_after
   -- and wherever notes are torn
@@ -264,5 +264,5 @@ drain_text o = turns_text o.turns (length (recs o.end)) (length (noted o.end))
 abbrev pub StoreDrainEnds : Beginning → Plan → Version → List ℕ → List Entry → DiskSpan → AgencyKind → Desk → Desk → Bool → ℕ →
     Sinks → Detail → Type 0
 StoreDrainEnds begun plan version issuer start k kind old new exact moment s end = (o : Outcome)
-    × StoreDrains (StandsUpTo issuer) begun plan version issuer k (spanning start kind old new exact moment o)
+    × StoreDrains (StandsUpTo version issuer) begun plan version issuer k (spanning start kind old new exact moment o)
     × DrainRunEnds o.answer (drain_text o) s end

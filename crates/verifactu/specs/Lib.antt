@@ -19,5 +19,6 @@ pub mod Beside
 pub mod Tills
 pub mod Works
 pub mod Day
+pub mod Migrate
 pub mod Promise
 pub mod Running

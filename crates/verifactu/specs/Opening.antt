@@ -1,6 +1,5 @@
 -- A command whose file wasn't opened.
 use Rattle.std.specs.Prelude.{◌≡◌, ◌≤◌, ℕ, List, IsTrue}
-use Rattle.record_fields.specs.declared.versions.Version.TheVariants.{One}
 use Rattle.ports.specs.Sinks.{Sinks, WroteNothing}
 use Rattle.chain_disk.specs.Disks.{Disks, DiskRose, LeftDisk}
 use Rattle.chain_store.specs.declared.causes.OpenCause.{OpenCause}
@@ -38,16 +37,15 @@ pub record NotOpened {D : Type 0} (issuer : List ℕ) (left : Type 0) (s : Sinks
   pub wrote : WroteNothing s
   pub rest : left
 
--- The file was opened: its store is this issuer's and of version One, with the history that the file stood for, and the clock
+-- The file was opened: its store is this issuer's, with the history that the file stood for and its version, and the clock
 -- wasn't read. Each crash since the sync at the opening leaves what was found; now it leaves that history.
 pub record IsOpened {D C : Type 0} (issuer : List ℕ) (h : StoreKind D C) (disk : D) (clock : C) (store : Parts D C) : Type 0 where
   pub issuer_is : store.state.issuer ≡ issuer
-  pub version_is : store.state.version ≡ One
   pub clock_is : store.clock ≡ clock
-  pub found : IsTrue h.tells → IsFound issuer store.state.entries (h.told disk).content
+  pub found : IsTrue h.tells → IsFound store.state.version issuer store.state.entries (h.told disk).content
   pub any_moment : IsTrue h.tells →
-      LeavesOnly (synced (h.told disk)) (h.told store.disk) (IsFound issuer store.state.entries)
-  pub every_crash : IsTrue h.tells → LeavesNow (h.told store.disk) (StandsFor issuer store.state.entries)
+      LeavesOnly (synced (h.told disk)) (h.told store.disk) (IsFound store.state.version issuer store.state.entries)
+  pub every_crash : IsTrue h.tells → LeavesNow (h.told store.disk) (StandsFor store.state.version issuer store.state.entries)
   pub later : h.faults disk ≤ h.faults store.disk
 
 -- it wasn't, and this is what the opening left of it

@@ -2,7 +2,8 @@
 use Rattle.std.specs.Prelude.{◌≡◌, ◌⊎◌, ◌≤◌, ℕ, List, [], ◌∷◌, ◌++◌, drop, length, map, false, IsTrue}
 use Rattle.std.specs.Prelude.{Option, Some, None, Ok, Err}
 use Rattle.std.specs.List.{AllByRecursion}
-use Rattle.record_fields.specs.declared.versions.Version.TheVariants.{One}
+use Rattle.record_fields.specs.declared.versions.Version.{Version}
+use Rattle.record_fields.specs.declared.versions.Version.TheVariants.{Two}
 use Rattle.agency_port.specs.declared.messages.Message.{Message}
 use Rattle.chain_disk.specs.Disks.{DiskRose, Disks}
 use Rattle.chain_disk.specs.OnDisk.{IsLeft, IsSettled, IsSyncFailed, LeavesNow, LeavesOnly, OnDisk, moment, synced}
@@ -23,16 +24,17 @@ use Rattle.shop_core.specs.Legal.{Legal}
 use Rattle.shop_core.specs.Answer.Requests.{Asked}
 use Rattle.shop_core.specs.declared.answer.Reply.TheVariants.{Again, Refused, Taken}
 use Rattle.verifactu.specs.Crashes.{StandsSince}
-use Rattle.verifactu.specs.Devices.{Agencies, AllDevices, NobodyCalled}
+use Rattle.verifactu.specs.Devices.{Agencies, AllDevices, Further, LeftFurther, NobodyCalled}
 use Rattle.verifactu.specs.Drain.{AgreesAtStart}
 use Rattle.verifactu.specs.Draining.{AreOfChain, SaysNothingBlindly}
+use Rattle.verifactu.specs.Migrate.{OnlyMoves}
 use Rattle.verifactu.specs.Noting.{all_said}
 use Rattle.chain_store.specs.Replies.{Replies}
 use Rattle.verifactu.specs.Scripts.{IsGoodScript}
 use Rattle.verifactu.specs.Tills.{asks_of, has_asks, own_of, tills_of}
 use Rattle.verifactu.specs.CommandLine.{IsAskedFor}
 use Rattle.verifactu.specs.declared.command_line.Command.{Command}
-use Rattle.verifactu.specs.declared.command_line.Command.TheVariants.{Chain, Day, Drain}
+use Rattle.verifactu.specs.declared.command_line.Command.TheVariants.{Chain, Day, Drain, Migrate}
 
 -- the issuer whose file a command may write; the other commands write none
 abbrev pub writes_for : Option Command → Option (List ℕ)
@@ -44,15 +46,16 @@ writes_for _ = None
 -- a file that may be written for this issuer: it isn't begun, or it stands for a legal history of this issuer
 abbrev pub IsOwn : Option (List ℕ) → List ℕ → Type 0
 IsOwn None file = ⊥
-IsOwn (Some issuer) file = (entries : List Entry) × IsFound issuer entries file
+IsOwn (Some issuer) file = (version : Version) × (entries : List Entry) × IsFound version issuer entries file
 
 -- the disk was synced at most: nothing was written
 abbrev pub IsUnwritten : OnDisk → OnDisk → Type 0
 IsUnwritten old new = IsSyncFailed old new ⊎ (new ≡ synced old)
 
--- the file stands for the history at the end, or for that with the torn entry; one that isn't begun stands for the empty one
-abbrev pub IsEither : List ℕ → List Entry → List Entry → List ℕ → Type 0
-IsEither issuer end torn file = IsFound issuer end file ⊎ IsFound issuer (end ++ torn) file
+-- the file stands for the history at the end, or for that with the torn entry; one that isn't begun stands for the empty one, in
+-- version Two
+abbrev pub IsEither : Version → List ℕ → List Entry → List Entry → List ℕ → Type 0
+IsEither version issuer end torn file = IsFound version issuer end file ⊎ IsFound version issuer (end ++ torn) file
 
 -- What a crash may leave. Nothing was written, and what was pending at the start still is; or the disk was synced at the start,
 -- and since then each crash leaves a file with Since, and now one with Now.
@@ -64,16 +67,16 @@ pub data Crashes (Since Now : List ℕ → Type 0) (old new : OnDisk) : Type 0 w
 -- one at the start. The file stands for it, or for it with the one entry whose writing was under way when the disk failed. Each
 -- crash in the run leaves a front of that, no shorter than the history at the start: at every moment, where nothing was pending
 -- at the start, and otherwise since the first sync. Once the disk was synced each crash from now on leaves the whole history.
-pub record ChainGoesOn {D : Type 0} (issuer : List ℕ) (start end torn : List Entry) (k : Disks D) : Type 0 where
+pub record ChainGoesOn {D : Type 0} (version : Version) (issuer : List ℕ) (start end torn : List Entry) (k : Disks D) : Type 0 where
   pub begins : IsPrefix start end
-  pub legal : Legal One issuer end
+  pub legal : Legal version issuer end
   pub linked : Linked issuer (recs end)
   pub at_most_one : length torn ≤ 1
   pub by_a_fault : (torn ≡ []) ⊎ DiskRose k
-  pub file : IsEither issuer end torn (k.told k.disk_after).content
+  pub file : IsEither version issuer end torn (k.told k.disk_after).content
   pub each_crash : IsSettled (k.told k.disk) → (m : ℕ) (c : List ℕ) → moment (k.told k.disk) ≤ m →
-      IsLeft (k.told k.disk_after) m c → StandsSince issuer start end torn c
-  pub crashes : Crashes (StandsSince issuer start end torn) (IsEither issuer end torn) (k.told k.disk) (k.told k.disk_after)
+      IsLeft (k.told k.disk_after) m c → StandsSince version issuer start end torn c
+  pub crashes : Crashes (StandsSince version issuer start end torn) (IsEither version issuer end torn) (k.told k.disk) (k.told k.disk_after)
 
 -- These records are those of the commands that were answered as taken, each once and in this order: each has its command's till
 -- and serial, and the receipt that was told. Each command has one answer.
@@ -131,10 +134,10 @@ BatchesKept start end a = IsTrue a.kind.tells → AreOfChain start a.before.ledg
     AreOfChain end a.after.ledger.messages
 
 -- what a run made of the history that its file stood for: the history at the end, and the entry whose writing was under way
-pub record Grows {D C Z G : Type 0} (issuer : List ℕ) (start : List Entry) (a : AllDevices D C Z G) : Type 0 where
+pub record Grows {D C Z G : Type 0} (version : Version) (issuer : List ℕ) (start : List Entry) (a : AllDevices D C Z G) : Type 0 where
   pub end : List Entry
   pub torn : List Entry
-  pub chain : ChainGoesOn issuer start end torn a.devices.disk
+  pub chain : ChainGoesOn version issuer start end torn a.devices.disk
   pub tills : TillsGain a.devices.source start end
   pub agency : AgencyKept start end torn a.agency
   pub batches : BatchesKept start end a.agency
@@ -144,20 +147,27 @@ pub record Grows {D C Z G : Type 0} (issuer : List ℕ) (start : List Entry) (a 
 -- Every other file is as it was, a damaged one too; so is one of another issuer, and each file where the run may write for
 -- nobody, which then calls no agency either.
 pub record FileKept {D C Z G : Type 0} (writes : Option (List ℕ)) (a : AllDevices D C Z G) : Type 0 where
-  pub sound : IsTrue a.devices.disk.tells → (issuer : List ℕ) (start : List Entry) →
-      StandsFor issuer start (a.devices.disk.told a.devices.disk.disk).content → Grows issuer start a
+  pub sound : IsTrue a.devices.disk.tells → (version : Version) (issuer : List ℕ) (start : List Entry) →
+      StandsFor version issuer start (a.devices.disk.told a.devices.disk.disk).content → Grows version issuer start a
   pub fresh : IsTrue a.devices.disk.tells → (issuer : List ℕ) → writes ≡ Some issuer →
-      IsNotBegun (a.devices.disk.told a.devices.disk.disk).content → Grows issuer [] a
+      IsNotBegun (a.devices.disk.told a.devices.disk.disk).content → Grows Two issuer [] a
   pub others : IsTrue a.devices.disk.tells → (IsOwn writes (a.devices.disk.told a.devices.disk.disk).content → ⊥) →
       IsUnwritten (a.devices.disk.told a.devices.disk.disk) (a.devices.disk.told a.devices.disk.disk_after)
   pub reads : writes ≡ None →
       (a.devices.disk.told a.devices.disk.disk_after ≡ a.devices.disk.told a.devices.disk.disk) × NobodyCalled a
 
+-- The further files: `migrate` writes one. Each file that a crash may leave of it, at any moment of the run, is one that it was
+-- before, is not begun or an unfinished migration, or stands for the history of the file that is moved, which is only read.
+abbrev pub FurtherKept : {D C Z G : Type 0} → Option Command → AllDevices D C Z G → Further D C Z G → Type 0
+FurtherKept (Some Migrate) a f = OnlyMoves a.devices.disk f
+FurtherKept command a f = LeftFurther f
+
 -- the promise of a run: the command that the words ask for, or none, and what is kept by it
-pub record Promise {D C Z G : Type 0} (words : List (List ℕ)) (a : AllDevices D C Z G) : Type 0 where
+pub record Promise {D C Z G : Type 0} (words : List (List ℕ)) (a : AllDevices D C Z G) (f : Further D C Z G) : Type 0 where
   pub command : Option Command
   pub asked : IsAskedFor words command
   pub file : FileKept (writes_for command) a
+  pub more : FurtherKept command a f
 
 -- a damaged file may be written for nobody
 abbrev pub DamagedIsNotOwn : Type 0
@@ -165,14 +175,15 @@ DamagedIsNotOwn = (writes : Option (List ℕ)) (file : List ℕ) (at : ℕ) → 
 
 -- nor one of another issuer for this one
 abbrev pub ForeignIsNotOwn : Type 0
-ForeignIsNotOwn = (issuer held : List ℕ) (entries : List Entry) (file : List ℕ) → StandsFor held entries file →
+ForeignIsNotOwn = (version : Version) (issuer held : List ℕ) (entries : List Entry) (file : List ℕ) →
+    StandsFor version held entries file →
     (held ≡ issuer → ⊥) → IsOwn (Some issuer) file → ⊥
 
 -- What a run left is found again: the history that the next run finds begins with the one at the end, whether the torn entry
--- lasted or not. Both the file and each file that a crash leaves from now on are such.
+-- lasted or not, and is of its version. Both the file and each file that a crash leaves from now on are such.
 abbrev pub IsFoundAgain : Type 0
-IsFoundAgain = (issuer : List ℕ) (end torn next : List Entry) (file : List ℕ) → IsEither issuer end torn file →
-    IsFound issuer next file → IsPrefix end next
+IsFoundAgain = (version another : Version) (issuer : List ℕ) (end torn next : List Entry) (file : List ℕ) →
+    IsEither version issuer end torn file → IsFound another issuer next file → (another ≡ version) × IsPrefix end next
 
 -- and what is of the chain at the end is of the history that is found
 abbrev pub StaysOfChain : Type 0

@@ -7,46 +7,64 @@ use Rattle.report.specs.declared.status.Detail.TheVariants as detail
 use Rattle.report.specs.declared.status.Ended.{Ended}
 use Rattle.file_commands.specs.Auditing.{AuditEnds}
 use Rattle.file_commands.specs.Checking.{CheckEnds}
+use Rattle.file_commands.specs.Exporting.{ExportEnds}
 use Rattle.file_commands.specs.Linking.{LinkEnds}
+use Rattle.file_commands.specs.Matching.{MatchesEnds}
+use Rattle.file_commands.specs.Statements.{StatementEnds}
 use Rattle.file_commands.specs.Output.{PrintEnds}
 use Rattle.verifactu.specs.Chain.{ChainEnds}
 use Rattle.verifactu.specs.Day.{DayEnds}
-use Rattle.verifactu.specs.Devices.{AllDevices, NobodyCalled, OnlyPrints, OnlyReads, OnlyReadsFile}
+use Rattle.verifactu.specs.Devices.{AllDevices, Further, LeftFurther, NobodyCalled, OnlyPrints, OnlyReads, OnlyReadsFile}
 use Rattle.verifactu.specs.Drain.{DrainEnds}
 use Rattle.file_commands.specs.Generate.{GenerateEnds}
 use Rattle.verifactu.specs.Help.{help_text, version_text}
+use Rattle.verifactu.specs.Migrate.{MigrateRan}
 use Rattle.verifactu.specs.CommandLine.{IsAskedFor}
 use Rattle.verifactu.specs.declared.command_line.Command.{Command}
-use Rattle.verifactu.specs.declared.command_line.Command.TheVariants.{Chain, Day, Drain, Audit, Link, Check, Generate, Help, Version}
+use Rattle.verifactu.specs.declared.command_line.Command.TheVariants.{Chain, Day, Drain, Audit, Link, Check, Migrate}
+use Rattle.verifactu.specs.declared.command_line.Command.TheVariants.{Statement, Export, Matches, Generate, Help, Version}
 
--- when a command ends in this way
-abbrev pub CommandEnds : {D C Z G : Type 0} → Command → AllDevices D C Z G → Detail → Type 0
-CommandEnds (Chain issuer) a end = ChainEnds issuer a.devices end × NobodyCalled a
-CommandEnds (Day issuer) a end = DayEnds issuer a end
-CommandEnds (Drain issuer) a end = DrainEnds issuer a end
-CommandEnds Audit a end = AuditEnds a.devices.sink a.devices.disk end × OnlyReadsFile a.devices × NobodyCalled a
-CommandEnds (Link num host) a end = LinkEnds num host a.devices.sink a.devices.disk end × OnlyReadsFile a.devices × NobodyCalled a
-CommandEnds (Check workers) a end =
+-- when a command that works on one file ends in this way
+abbrev pub OwnEnds : {D C Z G : Type 0} → Command → AllDevices D C Z G → Detail → Type 0
+OwnEnds (Chain issuer) a end = ChainEnds issuer a.devices end × NobodyCalled a
+OwnEnds (Day issuer) a end = DayEnds issuer a end
+OwnEnds (Drain issuer) a end = DrainEnds issuer a end
+OwnEnds Audit a end = AuditEnds a.devices.sink a.devices.disk end × OnlyReadsFile a.devices × NobodyCalled a
+OwnEnds (Link num host) a end = LinkEnds num host a.devices.sink a.devices.disk end × OnlyReadsFile a.devices × NobodyCalled a
+OwnEnds (Check workers) a end =
     CheckEnds a.devices.source a.devices.sink a.devices.disk end × OnlyReads a.devices × NobodyCalled a
-CommandEnds (Generate n) a end = GenerateEnds n a.devices.sink end × OnlyPrints a.devices × NobodyCalled a
-CommandEnds Help a end = PrintEnds help_text detail.Done a.devices.sink end × OnlyPrints a.devices × NobodyCalled a
-CommandEnds Version a end = PrintEnds version_text detail.Done a.devices.sink end × OnlyPrints a.devices × NobodyCalled a
+OwnEnds Migrate a end = ⊥
+OwnEnds (Statement month) a end =
+    StatementEnds month a.devices.sink a.devices.disk end × OnlyReadsFile a.devices × NobodyCalled a
+OwnEnds Export a end = ExportEnds a.devices.sink a.devices.disk end × OnlyReadsFile a.devices × NobodyCalled a
+OwnEnds Matches a end =
+    MatchesEnds a.devices.source a.devices.sink a.devices.disk end × OnlyReads a.devices × NobodyCalled a
+OwnEnds (Generate n) a end = GenerateEnds n a.devices.sink end × OnlyPrints a.devices × NobodyCalled a
+OwnEnds Help a end = PrintEnds help_text detail.Done a.devices.sink end × OnlyPrints a.devices × NobodyCalled a
+OwnEnds Version a end = PrintEnds version_text detail.Done a.devices.sink end × OnlyPrints a.devices × NobodyCalled a
+
+-- when a command ends in this way; all but `migrate` leave the further files alone
+abbrev pub CommandEnds : {D C Z G : Type 0} → Command → AllDevices D C Z G → Further D C Z G → Detail → Type 0
+CommandEnds Migrate a f end = MigrateRan a f end
+CommandEnds command a f end = OwnEnds command a end × LeftFurther f
 
 -- words that are no command
-pub record NoCommand {D C Z G : Type 0} (a : AllDevices D C Z G) (end : Detail) : Type 0 where
+pub record NoCommand {D C Z G : Type 0} (a : AllDevices D C Z G) (f : Further D C Z G) (end : Detail) : Type 0 where
   pub usage : end ≡ detail.Usage
   pub wrote : WroteNothing a.devices.sink
   pub nothing : OnlyPrints a.devices
   pub nobody : NobodyCalled a
+  pub further : LeftFurther f
 
 -- how a call ends whose words ask for this command, or for none
-abbrev pub CallEnds : {D C Z G : Type 0} → Option Command → AllDevices D C Z G → Detail → Type 0
-CallEnds None a end = NoCommand a end
-CallEnds (Some command) a end = CommandEnds command a end
+abbrev pub CallEnds : {D C Z G : Type 0} → Option Command → AllDevices D C Z G → Further D C Z G → Detail → Type 0
+CallEnds None a f end = NoCommand a f end
+CallEnds (Some command) a f end = CommandEnds command a f end
 
 -- the status, with its cause: words that ask for no command, or the way that the command ended
-pub record EndsAs {D C Z G : Type 0} (words : List (List ℕ)) (a : AllDevices D C Z G) (ended : Ended) : Type 0 where
+pub record EndsAs {D C Z G : Type 0} (words : List (List ℕ)) (a : AllDevices D C Z G) (f : Further D C Z G)
+    (ended : Ended) : Type 0 where
   pub status : ended.status ≡ status_of ended.detail
   pub command : Option Command
   pub asked : IsAskedFor words command
-  pub cause : CallEnds command a ended.detail
+  pub cause : CallEnds command a f ended.detail

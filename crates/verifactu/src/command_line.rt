@@ -1,12 +1,14 @@
 // The words of the command line.
-ghost use Rattle.std.specs.Prelude.{◌≡◌, ◌<◌, ◌∷◌, [], map, string_bytes, bytes_eq, codes, false, length};
+ghost use Rattle.std.specs.Prelude.{◌≡◌, ◌<◌, ◌≤◌, ◌∷◌, [], map, string_bytes, bytes_eq, codes, false, length};
 ghost use Rattle.verifactu.specs.CommandLine.{IsAskedFor, IsCount, IsHost, IsWorkers};
+ghost use Rattle.verifactu.specs.CommandLine as spec;
 
 use amounts::read_whole;
 use file_commands::MOST;
 use link_check::MAX_WORKERS;
 use parties::Nif;
 use series::NumSerie;
+use statements::Month;
 use verify_link::Host;
 
 /// What the words ask for.
@@ -24,6 +26,14 @@ pub enum Command {
     Link(NumSerie, Host),
     /// `check FILE WORKERS`, by so many workers.
     Check(u8),
+    /// `migrate FILE NEW`.
+    Migrate,
+    /// `statement FILE MM-YYYY`, of this month.
+    Statement(Month),
+    /// `export FILE`.
+    Export,
+    /// `matches FILE`.
+    Matches,
     /// `generate N`, for the first N commands of the generator.
     Generate(u32),
     /// `--help`.
@@ -53,6 +63,8 @@ fn option_of(word: &str) -> Option<Command>
 fn of_issuer(name: &str, file: &str, nif: &str) -> Option<Command>
     requires file { 0 < length file.now }
     requires other { bytes_eq name.now (codes "check") ≡ false }
+    requires neither { bytes_eq name.now (codes "migrate") ≡ false }
+    requires nor { bytes_eq name.now (codes "statement") ≡ false }
     ensures { IsAskedFor (name.now ∷ (file.now ∷ (nif.now ∷ []))) result }
 {
     let Ok(issuer) = Nif::read(nif) else {
@@ -90,6 +102,26 @@ fn check_of(file: &str, workers: &str) -> Option<Command>
     }
 }
 
+fn migrate_of(file: &str, new: &str) -> Option<Command>
+    requires { 0 < length file.now }
+    ensures { IsAskedFor (codes "migrate" ∷ (file.now ∷ (new.now ∷ []))) result }
+{
+    if new.is_empty() {
+        return None;
+    }
+    Some(Command::Migrate)
+}
+
+fn statement_of(file: &str, month: &str) -> Option<Command>
+    requires { 0 < length file.now }
+    ensures { IsAskedFor (codes "statement" ∷ (file.now ∷ (month.now ∷ []))) result }
+{
+    match Month::read(month) {
+        Some(month) => Some(Command::Statement(month)),
+        None => None,
+    }
+}
+
 fn three_of(name: &str, file: &str, word: &str) -> Option<Command>
     ensures { IsAskedFor (name.now ∷ (file.now ∷ (word.now ∷ []))) result }
 {
@@ -98,6 +130,12 @@ fn three_of(name: &str, file: &str, word: &str) -> Option<Command>
     }
     if is_word(name, b"check") {
         return check_of(file, word);
+    }
+    if is_word(name, b"migrate") {
+        return migrate_of(file, word);
+    }
+    if is_word(name, b"statement") {
+        return statement_of(file, word);
     }
     of_issuer(name, file, word)
 }
@@ -109,6 +147,24 @@ fn audit_of(file: &str) -> Option<Command>
         return None;
     }
     Some(Command::Audit)
+}
+
+fn export_of(file: &str) -> Option<Command>
+    ensures { IsAskedFor (codes "export" ∷ (file.now ∷ [])) result }
+{
+    if file.is_empty() {
+        return None;
+    }
+    Some(Command::Export)
+}
+
+fn matches_of(file: &str) -> Option<Command>
+    ensures { IsAskedFor (codes "matches" ∷ (file.now ∷ [])) result }
+{
+    if file.is_empty() {
+        return None;
+    }
+    Some(Command::Matches)
 }
 
 fn count_of(word: &str) -> Option<u32>
@@ -138,6 +194,12 @@ fn two_of(name: &str, word: &str) -> Option<Command>
 {
     if is_word(name, b"audit") {
         return audit_of(word);
+    }
+    if is_word(name, b"export") {
+        return export_of(word);
+    }
+    if is_word(name, b"matches") {
+        return matches_of(word);
     }
     if is_word(name, b"generate") {
         return generate_of(word);
@@ -173,6 +235,17 @@ fn link_of(name: &str, file: &str, num: &str, host: &str) -> Option<Command>
         return None;
     };
     Some(Command::Link(num, host))
+}
+
+/// How many posts a run by these words needs beside the first one: 1 for those of `migrate`, whose file is NEW.
+pub fn posts_needed(words: &[String]) -> u16
+    ensures count { result ≡ spec.posts_needed (map string_bytes words.now) }
+    ensures few { result ≤ 1 }
+{
+    match words {
+        [name, _, _] if is_word(name.as_str(), b"migrate") => 1,
+        _ => 0,
+    }
 }
 
 /// The command that the words ask for, None exactly where they ask for none.

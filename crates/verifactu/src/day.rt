@@ -23,7 +23,7 @@ use crate::ending::{lacks_disk, lacks_memory};
 use crate::laws::{what_a_disk_reads_is_an_image, who_keeps_the_rules_tells};
 use crate::means::Means;
 use crate::opening::{begin, close, open, opening_end};
-use crate::outside::Outside;
+use crate::posts::Post;
 use crate::printed::RunText;
 use crate::scripts::read_source;
 use crate::serving::{Served, serve};
@@ -54,9 +54,9 @@ pub fn day_cmd<S, K, D, C, Z, G, T, R>(
     issuer: &Nif,
     source: &mut S,
     sink: &mut K,
-    outside: Outside<D, C, Z, G>,
+    post: Post<D, C, Z, G>,
     gate: &T,
-) -> (Ended, Outside<D, C, Z, G>)
+) -> (Ended, Post<D, C, Z, G>)
 where
     S: Source,
     K: Sink,
@@ -68,14 +68,14 @@ where
     R: Threads + Wait + Sync,
     ensures status { result.0.status ≡ status_of result.0.detail }
     ensures ends { DayEnds issuer.now (this_call (this_source S.left S.faults source.old source.new)
-        (this_sink K.taken K.faults sink.old sink.new) D.Disk C.Clock Z.Sleeper G.Agency outside result.1) result.0.detail }
+        (this_sink K.taken K.faults sink.old sink.new) D.Disk C.Clock Z.Sleeper G.Agency post result.1) result.0.detail }
 {
     match read_source(alloc, source, Form::Full) {
-        Err(fault) => (Ended::of(fault.detail()), outside),
+        Err(fault) => (Ended::of(fault.detail()), post),
         Ok(script) => {
             let means = Means { rt, alloc, gate };
-            let (detail, outside) = day_script(means, issuer, &script, sink, outside);
-            (Ended::of(detail), outside)
+            let (detail, post) = day_script(means, issuer, &script, sink, post);
+            (Ended::of(detail), post)
         }
     }
 }
@@ -86,8 +86,8 @@ fn day_script<K, D, C, Z, G, T, R>(
     issuer: &Nif,
     script: &Script,
     sink: &mut K,
-    outside: Outside<D, C, Z, G>,
-) -> (Detail, Outside<D, C, Z, G>)
+    post: Post<D, C, Z, G>,
+) -> (Detail, Post<D, C, Z, G>)
 where
     K: Sink,
     D: Disk + Send + Drop,
@@ -97,12 +97,12 @@ where
     T: Gate + Sync,
     R: Threads + Wait + Sync,
     ensures { FileDay issuer.now script.now script.now.clock (around_in (this_sink K.taken K.faults sink.old sink.new) D.Disk
-        C.Clock Z.Sleeper G.Agency outside result.1) result.0 }
+        C.Clock Z.Sleeper G.Agency post result.1) result.0 }
 {
     let Some((start, step)) = script.clock else {
-        return day_file(means, issuer, script, sink, outside);
+        return day_file(means, issuer, script, sink, post);
     };
-    let (own, clock, sleeper) = outside.with_own_time(start, step);
+    let (own, clock, sleeper) = post.with_own_time(start, step);
     let (detail, own) = day_file(means, issuer, script, sink, own);
     (detail, own.with_time(clock, sleeper))
 }
@@ -113,8 +113,8 @@ fn day_file<K, D, C, Z, G, T, R>(
     issuer: &Nif,
     script: &Script,
     sink: &mut K,
-    outside: Outside<D, C, Z, G>,
-) -> (Detail, Outside<D, C, Z, G>)
+    post: Post<D, C, Z, G>,
+) -> (Detail, Post<D, C, Z, G>)
 where
     K: Sink,
     D: Disk + Send + Drop,
@@ -124,17 +124,17 @@ where
     T: Gate + Sync,
     R: Threads + Wait + Sync,
     ensures { FileDay issuer.now script.now None (around_in (this_sink K.taken K.faults sink.old sink.new) D.Disk C.Clock Z.Sleeper
-        G.Agency outside result.1) result.0 }
+        G.Agency post result.1) result.0 }
 {
     let asks = script.asks.as_slice();
     let Ok(room) = room_for(means.alloc, asks) else {
-        return (Detail::NoMemory, outside);
+        return (Detail::NoMemory, post);
     };
     what_a_disk_reads_is_an_image::<D>();
     who_keeps_the_rules_tells::<G>();
     legal_is_chained();
-    match open(means.alloc, issuer, outside) {
-        Err(unopened) => (opening_end(&unopened.why), unopened.outside),
+    match open(means.alloc, issuer, post) {
+        Err(unopened) => (opening_end(&unopened.why), unopened.post),
         Ok(opened) => match begin(means.alloc, &script.plan, &room.numbers, opened) {
             Err(opened) => (Detail::NoMemory, close(opened)),
             Ok(begun) => {

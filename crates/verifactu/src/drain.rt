@@ -12,7 +12,7 @@ ghost use Rattle.verifactu.specs.Outcomes.{outcome_of};
 
 use crate::draining::{DrainEnd, drain_opened};
 use crate::opening::{close, open, opening_end};
-use crate::outside::Outside;
+use crate::posts::Post;
 use crate::scripts::read_source;
 use agency_port::Agency;
 use agency_rules::Plan;
@@ -86,8 +86,8 @@ fn drain_file<K, D, C, Z, G, R>(
     issuer: &Nif,
     plan: &Plan,
     sink: &mut K,
-    outside: Outside<D, C, Z, G>,
-) -> (Detail, Outside<D, C, Z, G>)
+    post: Post<D, C, Z, G>,
+) -> (Detail, Post<D, C, Z, G>)
 where
     K: Sink,
     D: Disk,
@@ -96,11 +96,11 @@ where
     G: Agency,
     R: Wait,
     ensures { FileDrainEnds issuer.now plan.now (this_sink K.taken K.faults sink.old sink.new)
-        (disk_in D.Disk outside result.1) (clock_in C.Clock outside result.1) (sleeper_in Z.Sleeper outside result.1)
-        (agency_in G.Agency outside result.1) result.0 }
+        (disk_in D.Disk post result.1) (clock_in C.Clock post result.1) (sleeper_in Z.Sleeper post result.1)
+        (agency_in G.Agency post result.1) result.0 }
 {
-    match open(alloc, issuer, outside) {
-        Err(unopened) => (opening_end(&unopened.why), unopened.outside),
+    match open(alloc, issuer, post) {
+        Err(unopened) => (opening_end(&unopened.why), unopened.post),
         Ok(opened) => {
             let end = drain_opened(rt, alloc, plan, opened);
             let detail = print_turns(alloc, &end, sink);
@@ -117,8 +117,8 @@ fn drain_script<K, D, C, Z, G, R>(
     issuer: &Nif,
     script: &Script,
     sink: &mut K,
-    outside: Outside<D, C, Z, G>,
-) -> (Detail, Outside<D, C, Z, G>)
+    post: Post<D, C, Z, G>,
+) -> (Detail, Post<D, C, Z, G>)
 where
     K: Sink,
     D: Disk,
@@ -127,13 +127,13 @@ where
     G: Agency,
     R: Wait,
     ensures { ScriptDrainEnds issuer.now script.now (this_sink K.taken K.faults sink.old sink.new)
-        (disk_in D.Disk outside result.1) (clock_in C.Clock outside result.1) (sleeper_in Z.Sleeper outside result.1)
-        (agency_in G.Agency outside result.1) result.0 }
+        (disk_in D.Disk post result.1) (clock_in C.Clock post result.1) (sleeper_in Z.Sleeper post result.1)
+        (agency_in G.Agency post result.1) result.0 }
 {
     let Some((start, step)) = script.clock else {
-        return drain_file(rt, alloc, issuer, &script.plan, sink, outside);
+        return drain_file(rt, alloc, issuer, &script.plan, sink, post);
     };
-    let (own, clock, sleeper) = outside.with_own_time(start, step);
+    let (own, clock, sleeper) = post.with_own_time(start, step);
     let (detail, own) = drain_file(rt, alloc, issuer, &script.plan, sink, own);
     (detail, own.with_time(clock, sleeper))
 }
@@ -147,8 +147,8 @@ pub fn drain_cmd<S, K, D, C, Z, G, R>(
     issuer: &Nif,
     source: &mut S,
     sink: &mut K,
-    outside: Outside<D, C, Z, G>,
-) -> (Ended, Outside<D, C, Z, G>)
+    post: Post<D, C, Z, G>,
+) -> (Ended, Post<D, C, Z, G>)
 where
     S: Source,
     K: Sink,
@@ -159,13 +159,13 @@ where
     R: Wait,
     ensures status { result.0.status ≡ status_of result.0.detail }
     ensures ends { DrainEnds issuer.now (this_call (this_source S.left S.faults source.old source.new)
-        (this_sink K.taken K.faults sink.old sink.new) D.Disk C.Clock Z.Sleeper G.Agency outside result.1) result.0.detail }
+        (this_sink K.taken K.faults sink.old sink.new) D.Disk C.Clock Z.Sleeper G.Agency post result.1) result.0.detail }
 {
     match read_source(alloc, source, Form::NoCommands) {
-        Err(fault) => (Ended::of(fault.detail()), outside),
+        Err(fault) => (Ended::of(fault.detail()), post),
         Ok(script) => {
-            let (detail, outside) = drain_script(rt, alloc, issuer, &script, sink, outside);
-            (Ended::of(detail), outside)
+            let (detail, post) = drain_script(rt, alloc, issuer, &script, sink, post);
+            (Ended::of(detail), post)
         }
     }
 }

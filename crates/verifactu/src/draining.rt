@@ -86,7 +86,7 @@ pub fn drain_opened<D: Disk, C: Clock, Z: Sleeper, G: Agency, R: Wait>(
 ) -> DrainEnd<D, C, Z, G>
     requires going_on { stopped_of (journal_of opened.store) ≡ None }
     requires ready { Ready D.tells D.told opened.store }
-    ensures drains { StoreDrains (StandsUpTo (state_of opened.store).issuer) G.begun plan.now
+    ensures drains { StoreDrains (StandsUpTo (state_of opened.store).version (state_of opened.store).issuer) G.begun plan.now
         (state_of opened.store).version (state_of opened.store).issuer
         (disk_span D.Disk (disk_of (journal_of opened.store)) (disk_of (journal_of result.opened.store)))
         (spanning (state_of opened.store).entries (agency_kind G.Agency) (agency_desk G.Agency opened.agency)

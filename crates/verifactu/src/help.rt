@@ -8,20 +8,30 @@ The invoicing chain of a shop with many tills, in VERI*FACTU mode.
 Usage:
   verifactu chain FILE NIF       answers the script on standard input
   verifactu day FILE NIF         answers it by many tills at once, and sends it
-  verifactu drain FILE NIF       sends the records that wait to a practice agency
+  verifactu drain FILE NIF       sends the records that wait to the agency
   verifactu audit FILE           prints whether the file is a sound chain
   verifactu link FILE NUM HOST   prints the link of an invoice's QR code
   verifactu check FILE WORKERS   answers scanned links on standard input, one a line
+  verifactu statement FILE MONTH prints a month's sums by tax, class and rate
+  verifactu export FILE          prints the chain as lines of JSON
+  verifactu matches FILE         holds such lines on standard input against FILE
+  verifactu migrate FILE NEW     moves a file of version 1 to one of version 2
   verifactu generate N           prints the sums of N made-up commands
   verifactu --help               prints this text
   verifactu --version            prints the version
+  verifactu --agency TO FROM ..  one of these, with the agency behind two files
 
 FILE is the file of the shop's chain. It is begun where it isn't there, and each
 record is on it before the next command is answered: run the same script again
 after a crash, and what was taken is answered again and not registered twice.
 NIF is the issuer's tax number, NUM the number of an invoice; HOST is real or
-test. audit, link and check only read the file; check works by 1 to 16 WORKERS
-beside each other. drain reads a script without sales, fixes and cancels.
+test; MONTH is MM-YYYY. audit, link, check, statement, export and matches only
+read the file; check works by 1 to 16 WORKERS beside each other. drain reads a
+script without sales, fixes and cancels.
+With --agency day and drain send to a program of your own, which reads TO and
+writes FROM; else to a practice agency. docs/ADAPTER.md has its messages.
+A new file is of version 2, an old one of version 1 goes on as it is: migrate
+reads FILE and writes its chain to NEW. Stopped, it is run again.
 N is 1 to 100000: generate runs so many sales and cancellations of a made-up
 shop in memory, and keeps no file.
 
@@ -44,7 +54,7 @@ KIND is F1, F2, F3 or R1 to R5. OPTION is to=KEY, rect=S, rect=I or
 ref=NUM@DD-MM-YYYY. LINE is CLASS:BASE, the base in cents; CLASS is 21, 10, 4,
 0, 21+, 10+, 4+, S2, N1, N2 or E1 to E6. Under IPSI it is 02/RATE, under IGIC
 03/RATE, RATE in hundredths of a percent up to 2500, or 02/ or 03/ in front of S2,
-N1, N2 or E1 to E6; a file of version 1, as every file is, refuses these lines.
+N1, N2 or E1 to E6; a file of version 1 refuses these lines.
 Empty lines and lines that begin with # are skipped. An example:
   clock 1735722000 0
   sale 1 1 A F2 21:10000
@@ -68,6 +78,9 @@ Status:
   12  standard input is longer than 16777216 bytes
   13  the file is the chain of another issuer, whom standard error names
   14  the file has no invoice of this number
+  15  something stands at NEW that migrate must not write over
+  16  FILE is no file of version 1
+  18  the lines that matches read differ from the file; standard error names one
 ";
 
 const VERSION: &[u8] = b"verifactu 0.1.0\n";

@@ -13,8 +13,10 @@ mod ending;
 mod help;
 mod laws;
 mod means;
+mod migrate;
 mod opening;
 mod outside;
+mod posts;
 mod printed;
 mod running;
 mod scripts;
@@ -23,6 +25,7 @@ mod serving;
 mod tills;
 
 pub use chain::chain_cmd;
+pub use command_line::posts_needed;
 pub use day::day_cmd;
 pub use drain::drain_cmd;
 pub use file_commands::generate_cmd;
@@ -30,5 +33,7 @@ pub use laws::{
     a_day_stops_once, a_strange_file_is_not_own, what_a_run_left_is_found_again,
     what_was_handed_over_stays_of_the_chain,
 };
+pub use migrate::migrate_cmd;
 pub use outside::Outside;
+pub use posts::{Post, Posts};
 pub use running::run;

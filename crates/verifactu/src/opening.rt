@@ -1,4 +1,4 @@
-// From the outside to an opened file, on to a shop that has begun over it, and back.
+// From a post to an opened file, on to a shop that has begun over it, and back.
 ghost use Rattle.std.specs.Prelude.{◌≡◌, ◌≤◌, ◌⊎◌, IsTrue, All, IfOk, IfErr, OnOk, OnErr, None, length};
 ghost use Rattle.std.specs.Int.{IsInRange};
 ghost use Rattle.chain_store.specs.Store.{Ready, journal_of};
@@ -13,7 +13,7 @@ ghost use Rattle.verifactu.specs.Opening as opening;
 ghost use Rattle.verifactu.specs.Opening.{IsOpened, IsUnopened};
 ghost use Rattle.verifactu.specs.Started.{IsBegun};
 
-use crate::outside::Outside;
+use crate::posts::Post;
 use agency_port::Agency;
 use agency_rules::Plan;
 use chain_disk::Disk;
@@ -27,7 +27,7 @@ use shop_core::{State, a_history_notes_its_records};
 use std::alloc::Global;
 use till_calls::{Shop, StartRefused, Started};
 
-/// An outside whose file was opened: a store stands for disk and clock.
+/// A post whose file was opened: a store stands for disk and clock.
 #[derive(Drop)]
 pub struct Opened<D: Disk, C: Clock, Z, G> {
     pub store: Store<D, C>,
@@ -35,11 +35,11 @@ pub struct Opened<D: Disk, C: Clock, Z, G> {
     pub agency: G,
 }
 
-/// Why a file wasn't opened, and the outside again.
+/// Why a file wasn't opened, and the post again.
 #[derive(Drop)]
 pub struct Unopened<D, C, Z, G> {
     pub why: OpenCause,
-    pub outside: Outside<D, C, Z, G>,
+    pub post: Post<D, C, Z, G>,
 }
 
 /// An opened file over which a shop has begun, with an agency whose session is open.
@@ -50,26 +50,26 @@ pub struct Begun<D: Disk, C: Clock, Z, G> {
     pub agency: G,
 }
 
-/// Opens the file of an outside for this issuer.
+/// Opens the file of a post for this issuer.
 pub fn open<D: Disk, C: Clock, Z, G>(
     alloc: Global,
     issuer: &Nif,
-    outside: Outside<D, C, Z, G>,
+    post: Post<D, C, Z, G>,
 ) -> Result<Opened<D, C, Z, G>, Unopened<D, C, Z, G>>
     ensures ready { IfOk result (λ o. Ready D.tells D.told o.store) }
     ensures going_on { IfOk result (λ o. stopped_of (journal_of o.store) ≡ None) }
-    ensures opened { IfOk result (λ o. IsOpened issuer.now (store_kind D.Disk C.Clock) outside.disk outside.clock (parts_of o.store)) }
-    ensures kept { IfOk result (λ o. (o.sleeper ≡ outside.sleeper) × (o.agency ≡ outside.agency)) }
-    ensures unopened { IfErr result (λ u. IsUnopened issuer.now u.why (disk_in D.Disk outside u.outside)) }
-    ensures left { IfErr result (λ u. (u.outside.clock ≡ outside.clock) × (u.outside.sleeper ≡ outside.sleeper)
-        × (u.outside.agency ≡ outside.agency)) }
+    ensures opened { IfOk result (λ o. IsOpened issuer.now (store_kind D.Disk C.Clock) post.disk post.clock (parts_of o.store)) }
+    ensures kept { IfOk result (λ o. (o.sleeper ≡ post.sleeper) × (o.agency ≡ post.agency)) }
+    ensures unopened { IfErr result (λ u. IsUnopened issuer.now u.why (disk_in D.Disk post u.post)) }
+    ensures left { IfErr result (λ u. (u.post.clock ≡ post.clock) × (u.post.sleeper ≡ post.sleeper)
+        × (u.post.agency ≡ post.agency)) }
 {
-    let Outside {
+    let Post {
         disk,
         clock,
         sleeper,
         agency,
-    } = outside;
+    } = post;
     match open_store(alloc, disk, clock, issuer) {
         Ok(store) => Ok(Opened {
             store,
@@ -78,7 +78,7 @@ pub fn open<D: Disk, C: Clock, Z, G>(
         }),
         Err(fault) => Err(Unopened {
             why: fault.cause,
-            outside: Outside {
+            post: Post {
                 disk: fault.disk,
                 clock: fault.clock,
                 sleeper,
@@ -100,8 +100,8 @@ pub fn opening_end(cause: &OpenCause) -> Detail
     }
 }
 
-/// Closes the file of an outside.
-pub fn close<D: Disk, C: Clock, Z, G>(opened: Opened<D, C, Z, G>) -> Outside<D, C, Z, G>
+/// Closes the file of a post.
+pub fn close<D: Disk, C: Clock, Z, G>(opened: Opened<D, C, Z, G>) -> Post<D, C, Z, G>
     ensures disk { result.disk ≡ (parts_of opened.store).disk }
     ensures clock { result.clock ≡ (parts_of opened.store).clock }
     ensures rest { (result.sleeper ≡ opened.sleeper) × (result.agency ≡ opened.agency) }
@@ -112,7 +112,7 @@ pub fn close<D: Disk, C: Clock, Z, G>(opened: Opened<D, C, Z, G>) -> Outside<D, 
         agency,
     } = opened;
     let (_, disk, clock) = store.into_parts();
-    Outside {
+    Post {
         disk,
         clock,
         sleeper,

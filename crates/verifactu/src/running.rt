@@ -1,14 +1,15 @@
 // The program: one call does all that it does.
-ghost use Rattle.std.specs.Prelude.{◌≡◌, map, string_bytes};
+ghost use Rattle.std.specs.Prelude.{◌≡◌, length, map, string_bytes};
 ghost use Rattle.ports.specs.Sinks.{this_sink};
 ghost use Rattle.ports.specs.Sources.{this_source};
-ghost use Rattle.verifactu.specs.Devices.{this_call};
+ghost use Rattle.verifactu.specs.Devices.{disk_in, further, own_post, this_call};
 ghost use Rattle.report.specs.Status.{status_of};
 ghost use Rattle.report.specs.declared.status.Detail.TheVariants as detail;
 ghost use Rattle.file_commands.specs.Output.{PrintEnds};
 ghost use Rattle.verifactu.specs.Promise.{Promise};
-ghost use Rattle.verifactu.specs.Running.{CommandEnds, EndsAs};
-ghost use Rattle.verifactu.specs.CommandLine.{IsWithin};
+ghost use Rattle.verifactu.specs.Migrate.{MovesPost};
+ghost use Rattle.verifactu.specs.Running.{EndsAs, OwnEnds};
+ghost use Rattle.verifactu.specs.CommandLine.{IsOfOneFile, IsWithin, posts_needed};
 
 use crate::chain::chain_cmd;
 use crate::command_line::{Command, command_of};
@@ -16,10 +17,14 @@ use crate::day::day_cmd;
 use crate::drain::drain_cmd;
 use crate::help::{help_text, version_text};
 use crate::laws::who_keeps_the_rules_tells;
+use crate::migrate::migrate_cmd;
 use crate::outside::Outside;
+use crate::posts::{Post, Posts};
 use agency_port::Agency;
 use chain_disk::Disk;
-use file_commands::{audit_cmd, check_cmd, generate_cmd, link_cmd, print};
+use file_commands::{
+    audit_cmd, check_cmd, export_cmd, generate_cmd, link_cmd, matches_cmd, print, statement_cmd,
+};
 use ports::{Clock, Gate, Sink, Sleeper, Source};
 use report::{Detail, Ended};
 use shop_core::{a_file_has_one_meaning, legal_is_chained};
@@ -28,10 +33,12 @@ use std::sync::Wait;
 use std::thread::Threads;
 
 /// Runs the command that the words are. `audit FILE` prints the verdict on the file, and `link FILE NUM HOST` the link of an
-/// invoice: both read the disk alone. `check FILE WORKERS` is `check_cmd`, which reads the source beside it. `chain FILE NIF` is
-/// `chain_cmd` for this issuer, `day FILE NIF` `day_cmd`, and `drain FILE NIF` `drain_cmd`; `generate N` is `generate_cmd`, whose
-/// disk is its own; `--help` and `--version` print their texts. FILE itself is the caller's: it names the disk. All parts of the
-/// outside come back. How each command ends is in `ends`; what every run keeps of the file, of its tills and of the agency, in
+/// invoice; `statement FILE MM-YYYY` prints the sums of a month and `export FILE` the chain as lines of JSON: these read the disk
+/// alone. `check FILE WORKERS` is `check_cmd` and `matches FILE` `matches_cmd`, which read the source beside it. `chain FILE NIF` is
+/// `chain_cmd` for this issuer, `day FILE NIF` `day_cmd`, and `drain FILE NIF` `drain_cmd`; `migrate FILE NEW` is `migrate_cmd`, whose
+/// new file is that of the one further post; `generate N` is `generate_cmd`, whose
+/// disk is its own; `--help` and `--version` print their texts. FILE itself is the caller's: it names the disk. The outside has as
+/// many further posts as `posts_needed` says of the words. All its parts come back. How each command ends is in `ends`; what every run keeps of the file, of its tills and of the agency, in
 /// `promise`.
 pub fn run<S, K, D, C, Z, G, T, R>(
     rt: &R,
@@ -51,18 +58,91 @@ where
     G: Agency + Send + Drop,
     T: Gate + Sync,
     R: Threads + Wait + Sync,
+    requires { length outside.more ≡ posts_needed (map string_bytes words.now) }
     ensures ends { EndsAs (map string_bytes words.now) (this_call (this_source S.left S.faults source.old source.new)
-        (this_sink K.taken K.faults sink.old sink.new) D.Disk C.Clock Z.Sleeper G.Agency outside result.1) result.0 }
+        (this_sink K.taken K.faults sink.old sink.new) D.Disk C.Clock Z.Sleeper G.Agency (own_post outside) (own_post result.1))
+        (further outside result.1) result.0 }
     ensures promise { Promise (map string_bytes words.now) (this_call (this_source S.left S.faults source.old source.new)
-        (this_sink K.taken K.faults sink.old sink.new) D.Disk C.Clock Z.Sleeper G.Agency outside result.1) }
+        (this_sink K.taken K.faults sink.old sink.new) D.Disk C.Clock Z.Sleeper G.Agency (own_post outside) (own_post result.1))
+        (further outside result.1) }
 {
     a_file_has_one_meaning();
     legal_is_chained();
     who_keeps_the_rules_tells::<G>();
     match command_of(words) {
         None => (Ended::of(Detail::Usage), outside),
-        Some(command) => obey(rt, alloc, command, source, sink, outside, gate),
+        Some(Command::Migrate) => move_to_further(alloc, sink, outside),
+        Some(command) => {
+            let Outside {
+                disk,
+                clock,
+                sleeper,
+                agency,
+                more,
+            } = outside;
+            let post = Post {
+                disk,
+                clock,
+                sleeper,
+                agency,
+            };
+            let (ended, post) = obey(rt, alloc, command, source, sink, post, gate);
+            let Post {
+                disk,
+                clock,
+                sleeper,
+                agency,
+            } = post;
+            (
+                ended,
+                Outside {
+                    disk,
+                    clock,
+                    sleeper,
+                    agency,
+                    more,
+                },
+            )
+        }
     }
+}
+
+// Moves the first file to the one further file.
+fn move_to_further<K: Sink, D: Disk + Drop, C: Drop, Z: Drop, G: Drop>(
+    alloc: Global,
+    sink: &mut K,
+    outside: Outside<D, C, Z, G>,
+) -> (Ended, Outside<D, C, Z, G>)
+    requires { length outside.more ≡ 1 }
+    ensures status { result.0.status ≡ status_of result.0.detail }
+    ensures moves { MovesPost (this_sink K.taken K.faults sink.old sink.new) (disk_in D.Disk (own_post outside) (own_post result.1))
+        (further outside result.1) result.0.detail }
+    ensures same { D.told result.1.disk ≡ D.told outside.disk }
+    ensures rest { (result.1.clock ≡ outside.clock) × (result.1.sleeper ≡ outside.sleeper) × (result.1.agency ≡ outside.agency) }
+{
+    let Outside {
+        disk,
+        clock,
+        sleeper,
+        agency,
+        more,
+    } = outside;
+    let mut posts = more.into_vec();
+    let Some(post) = posts.pop() else {
+        unreachable!()
+    };
+    let (ended, disk, new) = migrate_cmd(alloc, sink, disk, post.disk);
+    posts.push_reserved(Post { disk: new, ..post });
+    (
+        ended,
+        Outside {
+            disk,
+            clock,
+            sleeper,
+            agency,
+            more: Posts::of(posts),
+        },
+    )
 }
 
 fn obey<S, K, D, C, Z, G, T, R>(
@@ -71,9 +151,9 @@ fn obey<S, K, D, C, Z, G, T, R>(
     command: Command,
     source: &mut S,
     sink: &mut K,
-    outside: Outside<D, C, Z, G>,
+    post: Post<D, C, Z, G>,
     gate: &T,
-) -> (Ended, Outside<D, C, Z, G>)
+) -> (Ended, Post<D, C, Z, G>)
 where
     S: Source,
     K: Sink,
@@ -83,47 +163,56 @@ where
     G: Agency + Send + Drop,
     T: Gate + Sync,
     R: Threads + Wait + Sync,
-    requires { IsWithin command }
+    requires within { IsWithin command }
+    requires one { IsOfOneFile command }
     ensures status { result.0.status ≡ status_of result.0.detail }
-    ensures ends { CommandEnds command (this_call (this_source S.left S.faults source.old source.new)
-        (this_sink K.taken K.faults sink.old sink.new) D.Disk C.Clock Z.Sleeper G.Agency outside result.1) result.0.detail }
+    ensures ends { OwnEnds command (this_call (this_source S.left S.faults source.old source.new)
+        (this_sink K.taken K.faults sink.old sink.new) D.Disk C.Clock Z.Sleeper G.Agency post result.1) result.0.detail }
 {
     match command {
         Command::Chain(issuer) => {
             let (ended, disk, clock) = chain_cmd(
-                alloc,
-                &issuer,
-                source,
-                sink,
-                outside.disk,
-                outside.clock,
+                alloc, &issuer, source, sink, post.disk, post.clock,
             );
             (
                 ended,
-                Outside {
+                Post {
                     disk,
                     clock,
-                    ..outside
+                    ..post
                 },
             )
         }
-        Command::Day(issuer) => day_cmd(rt, alloc, &issuer, source, sink, outside, gate),
-        Command::Drain(issuer) => drain_cmd(rt, alloc, &issuer, source, sink, outside),
+        Command::Day(issuer) => day_cmd(rt, alloc, &issuer, source, sink, post, gate),
+        Command::Drain(issuer) => drain_cmd(rt, alloc, &issuer, source, sink, post),
         Command::Audit => {
-            let (ended, disk) = audit_cmd(alloc, sink, outside.disk);
-            (ended, Outside { disk, ..outside })
+            let (ended, disk) = audit_cmd(alloc, sink, post.disk);
+            (ended, Post { disk, ..post })
         }
         Command::Link(num, host) => {
-            let (ended, disk) = link_cmd(alloc, &num, host, sink, outside.disk);
-            (ended, Outside { disk, ..outside })
+            let (ended, disk) = link_cmd(alloc, &num, host, sink, post.disk);
+            (ended, Post { disk, ..post })
         }
         Command::Check(workers) => {
-            let (ended, disk) = check_cmd(rt, alloc, workers, source, sink, outside.disk);
-            (ended, Outside { disk, ..outside })
+            let (ended, disk) = check_cmd(rt, alloc, workers, source, sink, post.disk);
+            (ended, Post { disk, ..post })
         }
-        Command::Generate(n) => (generate_cmd(alloc, n, sink), outside),
-        Command::Help => (print_text(help_text(), sink), outside),
-        Command::Version => (print_text(version_text(), sink), outside),
+        Command::Migrate => unreachable!(),
+        Command::Statement(month) => {
+            let (ended, disk) = statement_cmd(alloc, month, sink, post.disk);
+            (ended, Post { disk, ..post })
+        }
+        Command::Export => {
+            let (ended, disk) = export_cmd(alloc, sink, post.disk);
+            (ended, Post { disk, ..post })
+        }
+        Command::Matches => {
+            let (ended, disk) = matches_cmd(alloc, source, sink, post.disk);
+            (ended, Post { disk, ..post })
+        }
+        Command::Generate(n) => (generate_cmd(alloc, n, sink), post),
+        Command::Help => (print_text(help_text(), sink), post),
+        Command::Version => (print_text(version_text(), sink), post),
     }
 }
 

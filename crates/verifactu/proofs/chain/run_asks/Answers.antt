@@ -53,9 +53,9 @@ returns-in-Ok g c =
       clock = this_clock coming (clock_of store) after;
     } in
     let opened = c.in-Ok.ensures in
-    let run = store_ran issuer asks h.1.0 span sink disk c.run_opened.result.0 opened.issuer opened.version refl refl refl
+    let run = store_ran issuer asks h.1.0 span sink disk c.run_opened.result.0 opened.issuer refl refl refl
     opened.later opened.found opened.any_moment
-    (λ n es f. record {
+    (λ v n es f. record {
       found = f.found;
       left = f.left;
       held = f.held;

@@ -15,14 +15,14 @@ returns-in-Ok-clause-ends g c =
     let run = c.day_script-detail in
     let all = this_call (this_source g.S.Source.left g.S.Source.faults c.args.source.now c.read_source.new.source)
     (this_sink g.K.Sink.taken g.K.Sink.faults c.args.sink.now run.new.sink) g.D.Disk g.C.Clock g.Z.Sleeper g.G.Agency
-    c.args.outside run.result.1 in
+    c.args.post run.result.1 in
     subst (λ (d : Detail). DayEnds issuer all d) (sym c.of-in-Ok.ensures.detail)
     (day_ran issuer all c.in-Ok.script run.result.0 c.in-Ok.ensures run.ensures)
 
 pub returns-in-Err-clause-ends : goal.returns-in-Err-clause-ends
 returns-in-Err-clause-ends g c =
     let issuer = c.args.issuer.now in
-    let out = c.args.outside in
+    let out = c.args.post in
     let all = this_call (this_source g.S.Source.left g.S.Source.faults c.args.source.now c.read_source.new.source)
     (this_sink g.K.Sink.taken g.K.Sink.faults c.args.sink.now c.args.sink.now) g.D.Disk g.C.Clock g.Z.Sleeper g.G.Agency out
     out in

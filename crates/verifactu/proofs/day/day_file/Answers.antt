@@ -64,7 +64,7 @@ returns-in-Err g c =
 
 pub returns-in-Err-begin : goal.returns-in-Err-begin
 returns-in-Err-begin g c =
-    let out = c.args.outside in
+    let out = c.args.post in
     let o = c.in-Ok-open.opened in
     let k = c.in-Ok-open.ensures in
     let h = k.opened in
@@ -76,7 +76,7 @@ returns-in-Err-begin g c =
     (agency_desk g.G.Agency y) in
     day_left (store_kind g.D.Disk g.C.Clock) c.args.issuer.now c.args.script.now out.disk then.disk
     out.clock then.clock (sleeper_in g.Z.Sleeper out then) (agency_in g.G.Agency out then) (parts_of o.store)
-    (this_sink g.K.Sink.taken g.K.Sink.faults c.args.sink.now c.args.sink.now) _ h.issuer_is h.version_is h.clock_is h.found
+    (this_sink g.K.Sink.taken g.K.Sink.faults c.args.sink.now c.args.sink.now) _ h.issuer_is h.clock_is h.found
     h.any_moment h.every_crash h.later c.what_a_disk_reads_is_an_image.ensures c.who_keeps_the_rules_tells.ensures
     (record {
       ends = refl;
@@ -90,7 +90,7 @@ returns-in-Err-begin g c =
 
 pub returns-in-Ok-begin : goal.returns-in-Ok-begin
 returns-in-Ok-begin g c =
-    let out = c.args.outside in
+    let out = c.args.post in
     let script = c.args.script.now in
     let asks = c.as_slice-asks.result.now in
     let o = c.in-Ok-open.opened in
@@ -125,7 +125,7 @@ returns-in-Ok-begin g c =
     (length (noted c.state.result.now.entries)) (length (recs c.state.result.now.entries)) (day_text asks (map told_in l)
     c.state.result.now.entries) sink end) c.deref-in-Ok-begin.ensures.value c.print_day-detail.ensures) in
     day_done (store_kind g.D.Disk g.C.Clock) c.args.issuer.now script out.disk then.disk out.clock then.clock
-    (sleeper_in g.Z.Sleeper out then) (agency_in g.G.Agency out then) p0 sink end h.issuer_is h.version_is h.clock_is h.found
+    (sleeper_in g.Z.Sleeper out then) (agency_in g.G.Agency out then) p0 sink end h.issuer_is h.clock_is h.found
     h.any_moment h.every_crash h.later c.what_a_disk_reads_is_an_image.ensures c.who_keeps_the_rules_tells.ensures
     (agency_desk g.G.Agency b.agency) opens
     (record {

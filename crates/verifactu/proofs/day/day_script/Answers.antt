@@ -15,11 +15,11 @@ returns-in_default g c =
     let run = c.day_file in
     subst (λ (l : Option (ℕ × ℕ)). FileDay c.args.issuer.now c.args.script.now l (around_in
     (this_sink g.K.Sink.taken g.K.Sink.faults c.args.sink.now run.new.sink) g.D.Disk g.C.Clock g.Z.Sleeper g.G.Agency
-    c.args.outside run.result.1) run.result.0) (sym c.in_default.is) run.ensures
+    c.args.post run.result.1) run.result.0) (sym c.in_default.is) run.ensures
 
 pub returns : goal.returns
 returns g c =
-    let out = c.args.outside in
+    let out = c.args.post in
     let own = c.with_own_time-own in
     let run = c.day_file-detail in
     let back = c.with_time in

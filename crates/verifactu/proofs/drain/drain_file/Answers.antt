@@ -24,12 +24,12 @@ returns-in-Err g c =
             sleeper = h.left.1;
             agency = h.left.2;
           }));
-      clock = not_later g.C.Clock.coming c.args.outside.clock u.outside.clock h.left.0;
+      clock = not_later g.C.Clock.coming c.args.post.clock u.post.clock h.left.0;
     }
 
 pub returns-in-Ok : goal.returns-in-Ok
 returns-in-Ok g c =
-    let out = c.args.outside in
+    let out = c.args.post in
     let o = c.in-Ok.opened in
     let k = c.in-Ok.ensures in
     let h = k.opened in
@@ -39,7 +39,7 @@ returns-in-Ok g c =
     let issuer = (state_of store).issuer in
     let version = (state_of store).version in
     let Drains : g.row.D.Denot → g.row.G.Denot → g.row.G.Denot → g.row.Z.Denot → Type 0 = λ d x y z.
-    StoreDrains (StandsUpTo issuer) g.G.Agency.begun c.args.plan.now version issuer
+    StoreDrains (StandsUpTo version issuer) g.G.Agency.begun c.args.plan.now version issuer
     (disk_span g.D.Disk (disk_of (journal_of store)) d) (spanning (state_of store).entries (agency_kind g.G.Agency) (agency_desk g.G.Agency x) (agency_desk g.G.Agency y)
     g.Z.Sleeper.tells (g.Z.Sleeper.moment z) (outcome_of end)) in
     let drains = subst (λ (d : g.row.D.Denot). Drains d out.agency then.agency out.sleeper) (sym c.close.ensures.disk)
@@ -52,7 +52,7 @@ returns-in-Ok g c =
       ends = inr (opened_drained c.args.issuer.now issuer version c.args.plan.now g.Z.Sleeper.tells
           (g.Z.Sleeper.moment out.sleeper) (this_sink g.K.Sink.taken g.K.Sink.faults c.args.sink.now c.print_turns-detail.new.sink) (disk_in g.D.Disk out then)
           (agency_in g.G.Agency out then) (state_of store).entries (g.D.Disk.told (disk_of (journal_of store)))
-          (g.D.Disk.faults (disk_of (journal_of store))) c.print_turns-detail.result h.issuer_is h.version_is h.found h.any_moment
+          (g.D.Disk.faults (disk_of (journal_of store))) c.print_turns-detail.result h.issuer_is h.found h.any_moment
           h.later (outcome_of end, drains, c.print_turns-detail.ensures));
       clock = subst (λ (x : g.row.C.Denot). IsLater g.C.Clock.coming x then.clock) h.clock_is
           (subst (λ (y : g.row.C.Denot). IsLater g.C.Clock.coming (parts_of store).clock y) (sym c.close.ensures.clock)

@@ -12,7 +12,7 @@ use Rattle.verifactu.proofs.drain.drain_script.Goals as goal
 
 pub returns-in_default : goal.returns-in_default
 returns-in_default g c =
-    let out = c.args.outside in
+    let out = c.args.post in
     let run = c.drain_file in
     script_plain c.args.issuer.now c.args.script.now
     (this_sink g.K.Sink.taken g.K.Sink.faults c.args.sink.now run.new.sink) (disk_in g.D.Disk out run.result.1)
@@ -21,7 +21,7 @@ returns-in_default g c =
 
 pub returns : goal.returns
 returns g c =
-    let out = c.args.outside in
+    let out = c.args.post in
     let own = c.with_own_time-own in
     let run = c.drain_file-detail in
     let back = c.with_time in

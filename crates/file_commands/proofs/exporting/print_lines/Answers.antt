@@ -1,0 +1,20 @@
+use Rattle.std.proofs.Common.{◌≡◌, ◌∙◌, List, ℕ, subst}
+use Rattle.ports.specs.Sinks.{this_sink}
+use Rattle.report.specs.declared.status.Detail.TheVariants as detail
+use Rattle.file_commands.specs.Exporting.{lines_text, objects_of}
+use Rattle.file_commands.specs.Exporting.Exported.{history}
+use Rattle.file_commands.specs.Exporting.LinesPrinted.{told, no_memory}
+use Rattle.file_commands.specs.Output.{PrintEnds}
+use Rattle.file_commands.proofs.Bytewise.{took_nothing}
+use Rattle.file_commands.proofs.exporting.print_lines.Goals as goal
+
+pub returns-in-Ok : goal.returns-in-Ok
+returns-in-Ok g c =
+    let s = this_sink g.K.Sink.taken g.K.Sink.faults c.args.sink.now c.print.new.sink in
+    let state = c.args.state.now in
+    let same : c.deref.result.now ≡ lines_text (objects_of (history state.version state.issuer state.entries))
+    = c.deref.ensures.value ∙ c.in-Ok.ensures in
+    told c.print.result (subst (λ (t : List ℕ). PrintEnds t detail.Done s c.print.result) same c.print.ensures)
+
+pub returns-in-Err : goal.returns-in-Err
+returns-in-Err g c = no_memory (took_nothing (g.K.Sink.taken c.args.sink.now))
