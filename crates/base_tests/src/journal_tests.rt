@@ -6,6 +6,7 @@ use frames::FrameBuf;
 use journal::{Header, Journal, JournalFault, Lost, Step, StoreFault, read_header, scan};
 use parties::Nif;
 use ports::Failed;
+use record_fields::Version;
 use std::alloc::Global;
 use std::test::Fail;
 
@@ -50,7 +51,7 @@ fn create(alloc: Global, failing: u64) -> Result<Result<Journal<MemDisk>, Lost<M
 {
     let disk = MemDisk::new(alloc, Vec::new(alloc), vec![in alloc; failing]?);
     match Nif::read("B12345674") {
-        Ok(issuer) => Ok(Journal::create(disk, &issuer)),
+        Ok(issuer) => Ok(Journal::create(disk, &issuer, Version::Two)),
         Err(_) => Err(Fail::from("no NIF")),
     }
 }
@@ -102,17 +103,8 @@ fn a_journal_is_created_written_and_read(rt: HostRuntime) -> Result<(), Fail> {
     assert_eq!(rt; append(&mut journal, b"def"), Ok(35));
     assert_eq!(rt; journal.stopped(), None);
     let mut disk = journal.into_disk();
-    let wanted = b"\x01VFCHAIN1\x01B12345674\x01\x00\x00\x00\x03abc\x01\x00\x00\x00\x03def\x00";
+    let wanted = b"\x01VFCHAIN1\x02B12345674\x01\x00\x00\x00\x03abc\x01\x00\x00\x00\x03def\x00";
     assert!(rt; holds(&mut disk, wanted)?);
-    assert!(rt;
-        matches!(
-            read_header(&mut disk)?,
-            Header::Begun {
-                issuer: _,
-                version: 1
-            }
-        )
-    );
     let mut body = FrameBuf::new();
     assert_eq!(rt; scan(&mut disk, 19, &mut body)?, Step::Counted { next: 27 });
     assert_eq!(rt; body.as_slice(), b"abc".as_slice());
@@ -122,27 +114,37 @@ fn a_journal_is_created_written_and_read(rt: HostRuntime) -> Result<(), Fail> {
     Ok(())
 }
 
+fn damaged(at: u64) -> Header {
+    Header::Damaged { at }
+}
+
 #[test]
 fn a_header_is_read_by_its_rows(rt: HostRuntime) -> Result<(), Fail> {
     let alloc = rt.alloc();
+    let issuer = Nif::read("B12345674").ok().ok_or("a tax number")?;
+    let old = Header::Begun { issuer, version: 1 };
+    let new = Header::Begun { issuer, version: 2 };
     let table = [
-        (b"".as_slice(), None),
-        (b"\x01".as_slice(), None),
-        (b"\x00VFCHAIN1\x01B12345674\x00".as_slice(), None),
-        (b"\x00VFCHAIN1\x01B12345674\x00\x00".as_slice(), Some(0)),
-        (b"\x01VFCHAIN".as_slice(), Some(8)),
-        (b"\x01VFCHAIN1".as_slice(), Some(9)),
-        (b"\x01VFCHAIN2\x01B12345674\x00".as_slice(), Some(1)),
-        (b"\x01VFCHAIN1\x02B12345674\x00".as_slice(), Some(9)),
-        (b"\x01VFCHAIN1\x01B1234567".as_slice(), Some(18)),
-        (b"\x01VFCHAIN1\x01B12345675\x00".as_slice(), Some(10)),
+        (b"".as_slice(), Header::NotBegun),
+        (b"\x01".as_slice(), Header::NotBegun),
+        (
+            b"\x00VFCHAIN1\x02B12345674\x00".as_slice(),
+            Header::NotBegun,
+        ),
+        (b"\x00VFCHAIN1\x02B12345674\x00\x00".as_slice(), damaged(0)),
+        (b"\x01VFCHAIN".as_slice(), damaged(8)),
+        (b"\x01VFCHAIN1".as_slice(), damaged(9)),
+        (b"\x01VFCHAIN2\x02B12345674\x00".as_slice(), damaged(1)),
+        (b"\x01VFCHAIN1\x00B12345674\x00".as_slice(), damaged(9)),
+        (b"\x01VFCHAIN1\x01B12345674\x00".as_slice(), old),
+        (b"\x01VFCHAIN1\x02B12345674\x00".as_slice(), new),
+        (b"\x01VFCHAIN1\x03B12345674\x00".as_slice(), damaged(9)),
+        (b"\x01VFCHAIN1\xffB12345674\x00".as_slice(), damaged(9)),
+        (b"\x01VFCHAIN1\x02B1234567".as_slice(), damaged(18)),
+        (b"\x01VFCHAIN1\x02B12345675\x00".as_slice(), damaged(10)),
     ];
-    for (file, damage) in table {
+    for (file, wanted) in table {
         let mut disk = MemDisk::new(alloc, file.to_vec(alloc)?, Vec::new(alloc));
-        let wanted = match damage {
-            None => Header::NotBegun,
-            Some(at) => Header::Damaged { at },
-        };
         assert!(rt; read_header(&mut disk)? == wanted, "{file:?}");
     }
     Ok(())

@@ -5,13 +5,13 @@ use shop_core::{AuditEnd, What};
 use std::alloc::Global;
 use std::test::Fail;
 
-// A header, a sale, the agency's line for it, a sale, and the closing gate; the gates are at the bytes 19, 97, 112 and 230.
-const FILE: &[u8; 231] = b"\
-\x01VFCHAIN1\x0189890001K\
-\x01\x00\x00\x00I\x01\x01\x00\x00\x00\x01\x03A-1\x00\x00Ny\x01\x00\x00\x00\x01\x00\x00\x00\x00\x00\x00\x00'\x10\x00\x00\x00\x00\x00\x00\x00gu\x04\x10\x00<\
+// A header, a sale, the agency's line for it, a sale, and the closing gate; the gates are at the bytes 19, 100, 115 and 236.
+const FILE: &[u8; 237] = b"\
+\x01VFCHAIN1\x0289890001K\
+\x01\x00\x00\x00L\x01\x01\x00\x00\x00\x01\x03A-1\x00\x00Ny\x01\x00\x00\x00\x01\x01\x00\x084\x00\x00\x00\x00\x00\x00'\x10\x00\x00\x00\x00\x00\x00\x00gu\x04\x10\x00<\
 \xd8\x8bB\xf8\xd1\x1cN\xa2\x11%\x02\xec\x99/\x05Z~\x94\xf7\x96\xd6p\x955\x9b\x94jJ[\x03\xe6\x16\
 \x01\x00\x00\x00\x0a\x03\x00\x00\x00\x00\x00\x01\x00\x00\x00\
-\x01\x00\x00\x00q\x01\x01\x00\x00\x00\x02\x03A-2\x00\x00Ny\x01\x00\x00\x00\x01\x00\x00\x00\x00\x00\x00\x00'\x10\x00\x00\x01\x03A-1\x00\x00Ny\
+\x01\x00\x00\x00t\x01\x01\x00\x00\x00\x02\x03A-2\x00\x00Ny\x01\x00\x00\x00\x01\x01\x00\x084\x00\x00\x00\x00\x00\x00'\x10\x00\x00\x01\x03A-1\x00\x00Ny\
 \xd8\x8bB\xf8\xd1\x1cN\xa2\x11%\x02\xec\x99/\x05Z~\x94\xf7\x96\xd6p\x955\x9b\x94jJ[\x03\xe6\x16\
 \x00\x00\x00\x00gu\x04\x10\x00<\
 M\xb9\xba7\xc0}D\xd4\xda\xfcyt+\xd4T\xae\x86\xd5\xc6\xa3T5'\x80W<\xf0o\xac\xad\xe48\
@@ -57,14 +57,17 @@ fn one_byte_breaks_a_file(rt: HostRuntime) -> Result<(), Fail> {
     // A byte of the file, its new value, and the verdict then.
     let rows = [
         (0usize, 0u8, broken(1, 0, What::Header)),
-        (9, 2, broken(1, 9, What::Header)),
+        (9, 0, broken(1, 9, What::Header)),
+        (9, 3, broken(1, 9, What::Header)),
+        (9, 255, broken(1, 9, What::Header)),
+        (9, 1, broken(1, 19, What::Body)),
         (24, 4, broken(1, 19, What::Body)),
-        (96, 0x17, broken(1, 19, What::Seal)),
-        (106, 1, broken(2, 97, What::Notes)),
-        (122, 1, broken(2, 112, What::Rule)),
-        (156, 0, broken(2, 112, What::Link)),
-        (230, 1, broken(3, 230, What::Frame)),
-        (112, 0, sound(1, 1, FIRST)),
+        (99, 0x17, broken(1, 19, What::Seal)),
+        (109, 1, broken(2, 100, What::Notes)),
+        (125, 1, broken(2, 115, What::Rule)),
+        (162, 0, broken(2, 115, What::Link)),
+        (236, 1, broken(3, 236, What::Frame)),
+        (115, 0, sound(1, 1, FIRST)),
         (19, 0, none),
     ];
     for (at, byte, end) in rows {

@@ -6,12 +6,12 @@ use shop_core::AuditEnd;
 use std::alloc::Global;
 use std::test::Fail;
 
-// A header, two sales and the closing gate; the gates are at the bytes 19, 97 and 215.
-const FILE: &[u8; 216] = b"\
-\x01VFCHAIN1\x0189890001K\
-\x01\x00\x00\x00I\x01\x01\x00\x00\x00\x01\x03A-1\x00\x00Ny\x01\x00\x00\x00\x01\x00\x00\x00\x00\x00\x00\x00'\x10\x00\x00\x00\x00\x00\x00\x00gu\x04\x10\x00<\
+// A header, two sales and the closing gate; the gates are at the bytes 19, 100 and 221.
+const FILE: &[u8; 222] = b"\
+\x01VFCHAIN1\x0289890001K\
+\x01\x00\x00\x00L\x01\x01\x00\x00\x00\x01\x03A-1\x00\x00Ny\x01\x00\x00\x00\x01\x01\x00\x084\x00\x00\x00\x00\x00\x00'\x10\x00\x00\x00\x00\x00\x00\x00gu\x04\x10\x00<\
 \xd8\x8bB\xf8\xd1\x1cN\xa2\x11%\x02\xec\x99/\x05Z~\x94\xf7\x96\xd6p\x955\x9b\x94jJ[\x03\xe6\x16\
-\x01\x00\x00\x00q\x01\x01\x00\x00\x00\x02\x03A-2\x00\x00Ny\x01\x00\x00\x00\x01\x01\x00\x00\x00\x00\x00\x00\x03\xe8\x00\x00\x01\x03A-1\x00\x00Ny\
+\x01\x00\x00\x00t\x01\x01\x00\x00\x00\x02\x03A-2\x00\x00Ny\x01\x00\x00\x00\x01\x01\x01\x03\xe8\x00\x00\x00\x00\x00\x00\x03\xe8\x00\x00\x01\x03A-1\x00\x00Ny\
 \xd8\x8bB\xf8\xd1\x1cN\xa2\x11%\x02\xec\x99/\x05Z~\x94\xf7\x96\xd6p\x955\x9b\x94jJ[\x03\xe6\x16\
 \x00\x00\x00\x00gu\x04\x10\x00<\
 C\xabz\x8di\x98\xf4\x96-\x87\xf4\xc4\xf3\xc7\xa7\x1f\xa9\x10\xca\xb9\x82\xcd\xb1\xe0\x8a\xe6\xbf\x91\x8b\xaewc\
@@ -56,15 +56,15 @@ fn changed(at: usize, byte: u8) -> Found {
         9 => Found::Damage(9),
         10..=18 => Found::Damage(10),
         19 => Found::Records(0),
-        26..=28 => Found::Damage(97),
-        29 => Found::Damage(if byte == 0 { 19 } else { 97 }),
-        20..=96 => Found::Damage(19),
-        97 => Found::Records(1),
-        104..=107 => Found::Records(2),
-        98..=214 => Found::Damage(97),
+        26..=28 => Found::Damage(100),
+        29 => Found::Damage(if byte == 0 { 19 } else { 100 }),
+        20..=99 => Found::Damage(19),
+        100 => Found::Records(1),
+        107..=110 => Found::Records(2),
+        101..=220 => Found::Damage(100),
         _ => {
             if byte == 1 {
-                Found::Damage(215)
+                Found::Damage(221)
             } else {
                 Found::Records(2)
             }
@@ -78,7 +78,7 @@ fn is_found(alloc: Global, bytes: &[u8], wanted: Found) -> Result<bool, Fail> {
 }
 
 // The file with these bits of the byte at this place flipped.
-fn flipped(at: usize, bits: u8) -> Result<([u8; 216], u8), Fail> {
+fn flipped(at: usize, bits: u8) -> Result<([u8; 222], u8), Fail> {
     let mut file = *FILE;
     let place = file.get_mut(at).ok_or("a byte of the file")?;
     *place ^= bits;
@@ -90,7 +90,7 @@ fn flipped(at: usize, bits: u8) -> Result<([u8; 216], u8), Fail> {
 fn each_byte_of_a_file_changes_in_turn(rt: HostRuntime) -> Result<(), Fail> {
     let alloc = rt.alloc();
     for bits in [1u8, 0x80, 0xff] {
-        for at in 0..216usize {
+        for at in 0..222usize {
             let (file, byte) = flipped(at, bits)?;
             assert!(rt;
                 is_found(alloc, &file, changed(at, byte))?,
@@ -106,8 +106,8 @@ fn cut_to(left: usize) -> Found {
     match left {
         0..=1 => Found::Records(0),
         2..=19 => Found::Damage(left as u64),
-        20..=97 => Found::Damage(19),
-        98..=215 => Found::Damage(97),
+        20..=100 => Found::Damage(19),
+        101..=221 => Found::Damage(100),
         _ => Found::Records(2),
     }
 }
@@ -115,7 +115,7 @@ fn cut_to(left: usize) -> Found {
 #[test]
 fn a_file_is_cut_at_each_byte(rt: HostRuntime) -> Result<(), Fail> {
     let alloc = rt.alloc();
-    for left in 0..217usize {
+    for left in 0..223usize {
         let front = FILE.get(..left).ok_or("a front of the file")?;
         assert!(rt; is_found(alloc, front, cut_to(left))?, "{left} bytes");
     }

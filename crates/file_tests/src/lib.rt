@@ -1,16 +1,16 @@
-//! No program's: tests of files that are cut, changed in one byte, or written while a device fails, and of
-//! scanned links.
+//! No program's: tests of files of both versions, cut or changed in one byte, of those that are moved while a device fails, and
+//! of scanned links.
 #![tactic(auto)]
 
 #[cfg(test)]
 mod audits;
-#[cfg(test)]
-mod faults;
 #[cfg(test)]
 mod files;
 #[cfg(test)]
 mod links;
 #[cfg(test)]
 mod loads;
+#[cfg(test)]
+mod moves;
 #[cfg(test)]
 mod openings;

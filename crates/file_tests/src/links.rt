@@ -343,18 +343,6 @@ fn each_line_has_its_answer_whatever_the_workers(rt: HostRuntime) -> Result<(), 
 }
 
 #[test]
-fn one_worker_and_sixteen_give_equal_lists(rt: HostRuntime) -> Result<(), Fail> {
-    let alloc = rt.alloc();
-    let state = shop(alloc)?;
-    let lines = lines(alloc)?;
-    let one = check_all(&rt, alloc, &state, &lines, 1)?;
-    let sixteen = check_all(&rt, alloc, &state, &lines, 16)?;
-    assert_eq!(rt; one.len(), 26);
-    assert!(rt; one.as_slice() == sixteen.as_slice());
-    Ok(())
-}
-
-#[test]
 fn no_lines_have_no_answers(rt: HostRuntime) -> Result<(), Fail> {
     let alloc = rt.alloc();
     let state = shop(alloc)?;

@@ -1,30 +1,44 @@
 ghost use Rattle.std.specs.Prelude.{IfOk};
 ghost use Rattle.chain_store.specs.Store.{Ready};
 
-use crate::loads::FILE;
+use crate::loads::{FILE, OLD};
 use amounts::Cents;
+use audit::audit;
 use chain_disk::{Disk, MemDisk};
 use chain_store::{OpenCause, Store};
 use huella::huella_text;
 use invoice_kinds::Kind;
-use journal::StoreFault;
+use journal::{Journal, StoreFault};
 use parties::Nif;
 use ports::{Clock, CountingClock};
+use record_codec::Version;
 use record_fields::{Cause, Draft, Line, Refs};
-use recovery::{OpenFault, open_store};
+use recovery::open_store;
+use report::verdict_text;
 use series::SeriesName;
-use shop_core::{Ask, Reply, Request};
+use shop_core::{Ask, Refusal, Reply, Request};
 use std::alloc::Global;
 use std::test::Fail;
-use tax_lines::{Breakdown, Class, LineKey, TaxLine};
+use tax_lines::{Breakdown, LineKey, TaxLine};
 
-// 2025-01-01, 10:00 on the peninsular clock.
-const TEN: u64 = 1_735_722_000;
+/// 2025-01-01, 10:00 on the peninsular clock.
+pub const TEN: u64 = 1_735_722_000;
 
 // The Huellas of the first two sales, made by another SHA-256 of their field texts.
 const FIRST: [u8; 64] = *b"D88B42F8D11C4EA2112502EC992F055A7E94F796D67095359B946A4A5B03E616";
 
 const SECOND: [u8; 64] = *b"4DB9BA37C07D44D4DAFC79742BD454AE86D5C6A354352780573CF06FACADE438";
+
+// The frame of the second sale in a file of version 1, and the closing gate behind it.
+const SECOND_FRAME: &[u8; 119] = b"\
+\x01\x00\x00\x00q\x01\x01\x00\x00\x00\x02\x03A-2\x00\x00Ny\x01\x00\x00\x00\x01\x00\x00\x00\x00\x00\x00\x00'\x10\x00\x00\x01\x03A-1\x00\x00Ny\
+\xd8\x8bB\xf8\xd1\x1cN\xa2\x11%\x02\xec\x99/\x05Z~\x94\xf7\x96\xd6p\x955\x9b\x94jJ[\x03\xe6\x16\
+\x00\x00\x00\x00gu\x04\x10\x00<\
+M\xb9\xba7\xc0}D\xd4\xda\xfcyt+\xd4T\xae\x86\xd5\xc6\xa3T5'\x80W<\xf0o\xac\xad\xe48\
+\x00";
+
+const VERDICT: &[u8] =
+    b"sound 1 noted 0 last D88B42F8D11C4EA2112502EC992F055A7E94F796D67095359B946A4A5B03E616\n";
 
 fn issuer(text: &str) -> Result<Nif, Fail> {
     match Nif::read(text) {
@@ -37,7 +51,8 @@ fn empty_disk(alloc: Global) -> MemDisk {
     MemDisk::new(alloc, Vec::new(alloc), Vec::new(alloc))
 }
 
-fn opened<D: Disk + Drop, C: Clock + Drop>(
+/// The store of a file.
+pub fn opened<D: Disk + Drop, C: Clock + Drop>(
     alloc: Global,
     disk: D,
     clock: C,
@@ -53,15 +68,14 @@ fn opened<D: Disk + Drop, C: Clock + Drop>(
     }
 }
 
-fn sale(alloc: Global, serial: u32) -> Result<Ask, Fail> {
+// A sale of 100 euros, whose line has this word.
+fn sale(alloc: Global, serial: u32, word: &str) -> Result<Ask, Fail> {
     if serial < 1 {
         return Err(Fail::from("a serial"));
     }
     let base = Cents::new(10_000).ok_or("a base")?;
-    let line = TaxLine {
-        key: LineKey::iva(Class::General),
-        base,
-    };
+    let key = LineKey::read(word).ok_or("a key")?;
+    let line = TaxLine { key, base };
     let Ok(lines) = Breakdown::of(alloc, &[line]) else {
         return Err(Fail::from("lines"));
     };
@@ -82,7 +96,7 @@ enum Sold {
     Taken { place: u32, huella: [u8; 64] },
     Again { place: u32, huella: [u8; 64] },
     Fault(StoreFault),
-    Refused,
+    Refused(Refusal),
 }
 
 fn told(reply: Result<Reply, StoreFault>) -> Sold {
@@ -95,7 +109,7 @@ fn told(reply: Result<Reply, StoreFault>) -> Sold {
             place: receipt.place,
             huella: huella_text(&receipt.huella),
         },
-        Ok(Reply::Refused(_)) => Sold::Refused,
+        Ok(Reply::Refused(why)) => Sold::Refused(why),
         Err(fault) => Sold::Fault(fault),
     }
 }
@@ -104,11 +118,12 @@ fn sell<D: Disk, C: Clock>(
     alloc: Global,
     store: &mut Store<D, C>,
     serial: u32,
+    word: &str,
 ) -> Result<Sold, Fail>
     requires { Ready D.tells D.told store.old }
     ensures { Ready D.tells D.told store.new }
 {
-    let ask = sale(alloc, serial)?;
+    let ask = sale(alloc, serial, word)?;
     Ok(told(store.take(alloc, &ask)))
 }
 
@@ -128,12 +143,6 @@ fn noted<D: Disk, C: Clock>(
         return Err(Fail::from("lines past the records"));
     }
     Ok(store.note(alloc, lines))
-}
-
-// How many records the file of a disk has once it is opened.
-fn records_on(alloc: Global, disk: MemDisk) -> Result<u32, OpenCause> {
-    let store = opened(alloc, disk, CountingClock::new(TEN, 0))?;
-    Ok(store.state().records())
 }
 
 fn open_again<D: Disk + Drop, C: Clock + Drop>(
@@ -164,7 +173,7 @@ fn with_first<D: Disk + Drop, C: Clock + Drop>(
         place: 1,
         huella: FIRST,
     };
-    if sell(alloc, &mut store, 1)? != first {
+    if sell(alloc, &mut store, 1, "21")? != first {
         return Err(Fail::from("the first sale"));
     }
     open_again(alloc, store)
@@ -178,12 +187,12 @@ fn a_shop_goes_on_from_its_file(rt: HostRuntime) -> Result<(), Fail> {
         place: 1,
         huella: FIRST,
     };
-    assert_eq!(rt; sell(rt.alloc(), &mut store, 1)?, again);
+    assert_eq!(rt; sell(rt.alloc(), &mut store, 1, "21")?, again);
     let second = Sold::Taken {
         place: 2,
         huella: SECOND,
     };
-    assert_eq!(rt; sell(rt.alloc(), &mut store, 2)?, second);
+    assert_eq!(rt; sell(rt.alloc(), &mut store, 2, "21")?, second);
     let waiting = store.waiting(rt.alloc(), 1)?;
     assert_eq!(rt; (waiting.noted, waiting.records), (0, 2));
     assert_eq!(rt; waiting.list.as_slice().len(), 1);
@@ -202,51 +211,89 @@ fn a_noted_line_is_read_back(rt: HostRuntime) -> Result<(), Fail> {
     Ok(())
 }
 
+/// Whether a disk holds these bytes, and those behind them.
+pub fn holds(disk: &mut MemDisk, front: &[u8], back: &[u8]) -> Result<bool, Fail> {
+    let mut room = [0; 256];
+    let n = disk.read_at(0, &mut room)?;
+    let bytes = room.get(..n).ok_or("a file of 256 bytes at most")?;
+    Ok(bytes.strip_prefix(front) == Some(back))
+}
+
 #[test]
-fn a_first_sale_makes_a_file_of_98_bytes(rt: HostRuntime) -> Result<(), Fail> {
+fn a_first_sale_makes_a_file_of_101_bytes(rt: HostRuntime) -> Result<(), Fail> {
     let disk = empty_disk(rt.alloc());
     let store = with_first(rt.alloc(), disk, CountingClock::new(TEN, 0))?;
     let (_, mut disk, _) = store.into_parts();
-    let mut room = [0; 128];
-    assert_eq!(rt; disk.read_at(0, &mut room)?, 98);
-    assert!(rt; room.starts_with(FILE));
+    assert!(rt; holds(&mut disk, FILE, b"")?);
     Ok(())
 }
 
-#[test]
-fn a_file_is_opened_or_damaged(rt: HostRuntime) -> Result<(), Fail> {
-    assert_eq!(rt; cause_of(rt.alloc(), FILE)?, None);
-    assert_eq!(rt; cause_of(rt.alloc(), &[0; 20])?, None);
-    let mut file = *FILE;
-    file[90] ^= 1;
-    let damaged = OpenCause::Damaged { at: 19 };
-    assert_eq!(rt; cause_of(rt.alloc(), &file)?, Some(damaged));
-    Ok(())
+// The disk of a file of version 1 without entries.
+fn old_disk(alloc: Global) -> Result<MemDisk, Fail> {
+    let issuer = issuer("89890001K")?;
+    let disk = MemDisk::new(alloc, Vec::new(alloc), Vec::new(alloc));
+    match Journal::create(disk, &issuer, Version::One) {
+        Ok(journal) => Ok(journal.into_disk()),
+        Err(_) => Err(Fail::from("an old file")),
+    }
 }
 
 #[test]
-fn the_file_of_another_issuer_is_not_opened(rt: HostRuntime) -> Result<(), Fail> {
+fn a_file_of_version_one_goes_on_as_one(rt: HostRuntime) -> Result<(), Fail> {
+    let alloc = rt.alloc();
+    let clock = CountingClock::new(TEN, 0);
+    let mut store = opened(alloc, old_disk(alloc)?, clock)
+        .ok()
+        .ok_or("an old file")?;
+    sell(alloc, &mut store, 1, "21")?;
+    let (_, mut disk, clock) = store.into_parts();
+    assert!(rt; holds(&mut disk, OLD, b"")?);
+    let end = audit(alloc, &mut disk).ok().ok_or("a verdict")?;
+    assert!(rt; verdict_text(alloc, &end)?.as_slice() == VERDICT);
+    let mut store = opened(alloc, disk, clock).ok().ok_or("an old file")?;
+    let refused = Sold::Refused(Refusal::OldFile { index: 0 });
+    assert_eq!(rt; sell(alloc, &mut store, 2, "03/700")?, refused);
+    sell(alloc, &mut store, 2, "21")?;
+    let (_, mut disk, _) = store.into_parts();
+    let front = OLD.get(..97).ok_or("an old file")?;
+    assert!(rt; holds(&mut disk, front, SECOND_FRAME)?);
+    Ok(())
+}
+
+// Why a file of these bytes isn't opened for this issuer; None where it is.
+fn why_not(alloc: Global, bytes: &[u8], issuer: &Nif) -> Result<Option<OpenCause>, Fail> {
+    let disk = MemDisk::new(alloc, Vec::from_slice(alloc, bytes)?, Vec::new(alloc));
+    match open_store(alloc, disk, CountingClock::new(TEN, 0), issuer) {
+        Ok(_) => Ok(None),
+        Err(fault) => Ok(Some(fault.cause)),
+    }
+}
+
+fn damaged(at: u64) -> Option<OpenCause> {
+    Some(OpenCause::Damaged { at })
+}
+
+#[test]
+fn a_file_is_opened_or_says_why_not(rt: HostRuntime) -> Result<(), Fail> {
+    let alloc = rt.alloc();
     let held = issuer("89890001K")?;
     let other = issuer("12345678Z")?;
-    let bytes = FILE.to_vec(rt.alloc())?;
-    let disk = MemDisk::new(rt.alloc(), bytes, Vec::new(rt.alloc()));
-    let opened = open_store(rt.alloc(), disk, CountingClock::new(TEN, 0), &other);
-    assert_eq!(rt; why_not(&opened), Some(OpenCause::OtherIssuer { held }));
+    assert_eq!(rt; why_not(alloc, &[0; 20], &other)?, None);
+    // Who opens the file, a byte of it, its new value, and why it isn't opened.
+    let rows = [
+        (held, 0usize, 1u8, None),
+        (other, 0, 1, Some(OpenCause::OtherIssuer { held })),
+        (held, 9, 0, damaged(9)),
+        (held, 9, 1, damaged(19)),
+        (held, 9, 3, damaged(9)),
+        (held, 9, 255, damaged(9)),
+        (held, 93, 0, damaged(19)),
+    ];
+    for (who, at, byte, why) in rows {
+        let mut file = *FILE;
+        let place = file.get_mut(at).ok_or("a byte of the file")?;
+        *place = byte;
+        assert_eq!(rt; why_not(alloc, &file, &who)?, why, "byte {at} is {byte}");
+    }
     Ok(())
-}
-
-fn why_not<D: Disk, C: Clock>(opened: &Result<Store<D, C>, OpenFault<D, C>>) -> Option<OpenCause> {
-    match opened {
-        Ok(_) => None,
-        Err(fault) => Some(fault.cause),
-    }
-}
-
-// Why a file of these bytes isn't opened; None where it is.
-fn cause_of(alloc: Global, bytes: &[u8]) -> Result<Option<OpenCause>, Fail> {
-    let disk = MemDisk::new(alloc, Vec::from_slice(alloc, bytes)?, Vec::new(alloc));
-    match records_on(alloc, disk) {
-        Ok(_) => Ok(None),
-        Err(cause) => Ok(Some(cause)),
-    }
 }

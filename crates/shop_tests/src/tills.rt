@@ -54,8 +54,8 @@ fn begun<D: Disk + Drop, C: Clock + Drop>(alloc: Global, disk: D, clock: C) -> O
     let Ok(issuer) = Nif::read("89890001K") else {
         return None;
     };
-    let state = State::empty(alloc, &issuer, Version::One);
-    match Journal::create(disk, &issuer) {
+    let state = State::empty(alloc, &issuer, Version::Two);
+    match Journal::create(disk, &issuer, Version::Two) {
         Ok(journal) => Some(Store::of(state, journal, clock)),
         Err(_) => None,
     }

@@ -133,8 +133,8 @@ fn a_changed_byte_is_named(rt: HostRuntime) -> Result<(), Fail> {
     let alloc = rt.alloc();
     let mut disk = file_of_one(alloc)?;
     assert_eq!(rt; audit_a_file(alloc, &mut disk), Ok(None));
-    let mut bytes = [0; 98];
-    assert_eq!(rt; disk.read_at(0, &mut bytes), Ok(98));
+    let mut bytes = [0; 101];
+    assert_eq!(rt; disk.read_at(0, &mut bytes), Ok(101));
     bytes[90] ^= 1;
     let changed = Vec::from_slice(alloc, &bytes)?;
     let mut broken = MemDisk::new(alloc, changed, Vec::new(alloc));

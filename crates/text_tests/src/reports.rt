@@ -7,8 +7,8 @@ use parties::Nif;
 use record_codec::{Entry, Version};
 use record_fields::{Cause, Draft, DraftFault, Line, Lines, Refs};
 use report::{
-    AnswerLine, Answers, Detail, answers_text, fault_text, listing_text, status_of, summary_text,
-    turns_text, verdict_text,
+    AnswerLine, Answers, Detail, answers_text, fault_text, listing_text, matches_text,
+    migrated_text, status_of, summary_text, turns_text, verdict_text,
 };
 use series::{InvoiceId, NumSerie, SeriesName};
 use shop_core::{
@@ -338,12 +338,27 @@ fn ends_have_texts(rt: HostRuntime) -> Result<(), Fail> {
             "verifactu: file of 89890001K\n",
         ),
         (Detail::Unknown, 14, "verifactu: no such invoice\n"),
+        (
+            Detail::Occupied { length: u64::MAX },
+            15,
+            "verifactu: occupied\n",
+        ),
+        (Detail::NotOld { held: 2 }, 16, "verifactu: not old 2\n"),
+        (
+            Detail::Differs { line: u64::MAX },
+            18,
+            "verifactu: differs at line 18446744073709551615\n",
+        ),
     ];
     for (detail, status, text) in rows {
         assert_eq!(rt; status_of(&detail), status, "at {text}");
         let printed = fault_text(rt.alloc(), &detail)?;
         assert_eq!(rt; printed.as_slice(), text.as_bytes());
     }
+    let moved = migrated_text(rt.alloc(), 1_000_000, 7)?;
+    assert_eq!(rt; moved.as_slice(), b"migrated 1000000 noted 7\n".as_slice());
+    let matched = matches_text(rt.alloc(), 2_000_000)?;
+    assert_eq!(rt; matched.as_slice(), b"matches 2000000\n".as_slice());
     Ok(())
 }
 

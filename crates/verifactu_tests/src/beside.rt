@@ -14,7 +14,7 @@ use std::sync::Wait;
 use std::sync::atomic::{AtomicU64, Ordering};
 use std::test::Fail;
 use std::thread::Threads;
-use verifactu::Outside;
+use verifactu::{Outside, Posts};
 
 // What a day left.
 #[derive(Drop)]
@@ -39,6 +39,7 @@ fn run_with<G: Agency + Send + Drop, T: Gate + Sync>(
         clock: CountingClock::new(NEXT_DAY, 0),
         sleeper: LeapSleeper::new(NEXT_DAY),
         agency,
+        more: Posts::of(Vec::new(rt.alloc())),
     };
     let (ended, sink, outside) = ends_in(rt, words, script.as_bytes(), (0, 0), outside, gate)?;
     let text = Vec::from_slice(rt.alloc(), sink.bytes())?;

@@ -18,7 +18,7 @@ use std::sync::atomic::{AtomicU64, Ordering};
 use std::test::Fail;
 use std::thread::Threads;
 use till_calls::{Shop, Started};
-use verifactu::Outside;
+use verifactu::{Outside, Posts};
 
 // Holds one till ahead of each command until another was answered, for so many looks at most.
 #[derive(Drop)]
@@ -75,6 +75,7 @@ fn day_on<T: Gate + Sync>(
         clock: CountingClock::new(0, 0),
         sleeper: LeapSleeper::new(0),
         agency: PracticeAgency::new(rt.alloc()),
+        more: Posts::of(Vec::new(rt.alloc())),
     };
     let (ended, sink, outside) = ends_in(rt, DAY, script, (0, 0), outside, gate)?;
     let Outside { disk, .. } = outside;

@@ -54,6 +54,21 @@ fn a_failing_sink_leaves_the_record(rt: HostRuntime) -> Result<(), Fail> {
     Ok(())
 }
 
+#[test]
+fn a_new_file_is_of_version_two(rt: HostRuntime) -> Result<(), Fail> {
+    let script = b"clock 1735722000 0\nsale 1 1 A F2 03/700:10000\n";
+    for words in [CHAIN, DAY] {
+        let disk = disk_of(rt.alloc(), &[], 0)?;
+        let clock = CountingClock::new(0, 0);
+        let (ended, _, mut disk, _) = ends(&rt, words, script, (0, 0), disk, clock)?;
+        assert_eq!(rt; ended, done(), "at {words}");
+        let mut front = [0; 10];
+        assert_eq!(rt; disk.read_at(0, &mut front)?, 10, "at {words}");
+        assert!(rt; front == *b"\x01VFCHAIN1\x02", "at {words}");
+    }
+    Ok(())
+}
+
 // How many records a file has: its run prints the listing of that many of the two, and the chain line.
 fn records_on(rt: &(impl AllocGlobal + Threads + Wait + Sync), disk: MemDisk) -> Result<u32, Fail> {
     let (ended, text, _) = runs(rt, "", disk)?;

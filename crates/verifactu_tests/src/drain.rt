@@ -16,7 +16,7 @@ use std::alloc::Global;
 use std::sync::Wait;
 use std::test::Fail;
 use std::thread::Threads;
-use verifactu::Outside;
+use verifactu::{Outside, Posts};
 
 pub const DRAIN: &str = "drain shop.chain 89890001K";
 
@@ -77,6 +77,7 @@ fn drained_by<G: Agency + Send + Drop>(
         clock: CountingClock::new(0, 0),
         sleeper: LeapSleeper::new(NEXT_DAY),
         agency,
+        more: Posts::of(Vec::new(rt.alloc())),
     };
     let (ended, sink, outside) = ends_in(
         rt,

@@ -9,7 +9,7 @@ use std::alloc::Global;
 use std::sync::Wait;
 use std::test::Fail;
 use std::thread::Threads;
-use verifactu::{Outside, run};
+use verifactu::{Outside, Posts, posts_needed, run};
 
 pub const CHAIN: &str = "chain shop.chain 89890001K";
 
@@ -46,6 +46,9 @@ pub fn ends_in<
     for word in words.split(' ') {
         list.push(String::from_str(alloc, word)?)?;
     }
+    if outside.more.len() != usize::from(posts_needed(&list)) {
+        return Err(Fail::from("another count of files"));
+    }
     let mut source = MemSource::new(
         alloc,
         Vec::from_slice(alloc, script)?,
@@ -70,6 +73,7 @@ pub fn ends<D: Disk + Send + Drop, C: Clock + Send + Drop>(
         clock,
         sleeper: LeapSleeper::new(0),
         agency: PracticeAgency::new(rt.alloc()),
+        more: Posts::of(Vec::new(rt.alloc())),
     };
     let (ended, sink, outside) = ends_in(rt, words, script, failing, outside, &OpenGate)?;
     let Outside { disk, clock, .. } = outside;

@@ -2,18 +2,18 @@ use Rattle.std.proofs.Common.{◌≡◌, ℕ, List, [], refl, sym, ◌∙◌, su
 use Rattle.chain_disk.specs.OnDisk.{OnDisk}
 use Rattle.journal.specs.File.{IsAt}
 use Rattle.journal.specs.Journal.{disk_of, end_of, stopped_of}
-use Rattle.record_fields.specs.declared.versions.Version.TheVariants.{One}
+use Rattle.record_fields.specs.declared.versions.Version.TheVariants.{Two}
 use Rattle.shop_core.specs.History.{History}
 use Rattle.chain_store.specs.Ready.{IsReady}
 use Rattle.shop_tests.proofs.tills.begun.Goals as goal
 
 ready_empty : (tells : Bool) (issuer : List ℕ) (history : History) (stopped : Option ℕ) (gate : ℕ) (t : OnDisk) →
-    history ≡ record { issuer = issuer; version = One; entries = []; room = None } →
-    gate ≡ 19 → (IsTrue tells → IsAt issuer [] gate t) → IsReady tells history stopped gate t
+    history ≡ record { issuer = issuer; version = Two; entries = []; room = None } →
+    gate ≡ 19 → (IsTrue tells → IsAt Two issuer [] gate t) → IsReady tells history stopped gate t
 ready_empty tells issuer history stopped gate t made at file = subst (λ (h : History). IsReady tells h stopped gate t) (sym made)
     (record {
       place = omega arith;
-      holds = λ going told. record { file = file told; encoded = tt; version = refl };
+      holds = λ going told. record { file = file told; encoded = tt };
     })
 
 pub of-requires-clause-ready : goal.of-requires-clause-ready
