@@ -9,15 +9,8 @@ batches=${1:-1000}
 work=$(mktemp -d)
 trap 'rm -rf "$work"' EXIT
 mkdir -p "$work/crates/agency_bench/src"
-cp "$top/HANDLES" "$work/HANDLES"
-for crate in ports amounts parties stamps invoice_kinds series tax_lines record_fields huella agency_rules batches agency_port; do
-    mkdir "$work/crates/$crate"
-    for part in src specs proofs; do
-        if [ -d "$top/crates/$crate/$part" ]; then cp -r "$top/crates/$crate/$part" "$work/crates/$crate/$part"; fi
-    done
-    grep "^$crate:" "$top/crates.txt" >>"$work/crates.txt"
-done
-echo 'agency_bench: agency_port batches huella record_fields tax_lines series invoice_kinds stamps parties amounts ports' >>"$work/crates.txt"
+names=$("$top/bench/copy.sh" "$work" agency_port huella)
+echo "agency_bench: $names" >>"$work/crates.txt"
 cat >"$work/crates/agency_bench/src/main.rt" <<PROGRAM
 #![tactic(auto)]
 
@@ -34,7 +27,7 @@ use std::alloc::Global;
 use std::io;
 use std::rt::Clock;
 use std::time::Instant;
-use tax_lines::{Breakdown, LineKey, TaxLine};
+use tax_lines::{Breakdown, Class, LineKey, TaxLine};
 
 fn sale(alloc: Global, id: InvoiceId, link: Link) -> Option<Sealed> {
     let Ok(issuer) = Nif::read("89890001K") else {
@@ -44,7 +37,7 @@ fn sale(alloc: Global, id: InvoiceId, link: Link) -> Option<Sealed> {
         return None;
     };
     let line = TaxLine {
-        key: LineKey::General,
+        key: LineKey::iva(Class::General),
         base: Cents::new(10_000)?,
     };
     let Ok(lines) = Breakdown::of(alloc, &[line]) else {

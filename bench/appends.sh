@@ -12,15 +12,8 @@ turns=${3:-30}
 trap 'rm -rf "$folder"' EXIT
 
 mkdir -p "$folder/crates/appends/src" "$folder/crates/appends/proofs/append_all"
-for crate in ports parties chain_disk frames journal; do
-    cp -r "$here/crates/$crate" "$folder/crates/"
-    rm -rf "$folder/crates/$crate/out"
-done
-cp "$here/HANDLES" "$folder/"
-{
-    grep -E '^(ports|parties|chain_disk|frames|journal):' "$here/crates.txt"
-    echo 'appends: ports parties chain_disk frames journal anyhow'
-} > "$folder/crates.txt"
+names=$("$here/bench/copy.sh" "$folder" journal)
+echo "appends: $names anyhow" >> "$folder/crates.txt"
 
 cat > "$folder/crates/appends/src/main.rt" <<RT
 //! Appends bodies of 200 bytes to a journal on a real file, and prints the microseconds that it took.
@@ -33,6 +26,7 @@ use anyhow::{Result, bail};
 use chain_disk::{Disk, FileDisk};
 use journal::{Journal, JournalFault};
 use parties::Nif;
+use record_fields::Version;
 use std::time::Instant;
 
 const COUNT: u32 = $count;
@@ -53,7 +47,7 @@ fn main(rt: HostRuntime) -> Result<()> {
         bail!("no NIF");
     };
     let path = String::from_str(rt.alloc(), "$folder/journal")?;
-    let Ok(mut journal) = Journal::create(FileDisk::at(&rt, path), &issuer) else {
+    let Ok(mut journal) = Journal::create(FileDisk::at(&rt, path), &issuer, Version::Two) else {
         bail!("not created");
     };
     let start = Instant::now(&rt)?;

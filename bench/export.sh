@@ -12,8 +12,8 @@ limit=16777216
 work=$(mktemp -d /dev/shm/export.XXXXXX)
 trap 'rm -rf "$work"' EXIT
 
-"$root/verifactu" --version >/dev/null
-program=$root/crates/program/out/program
+[ -n "${VERIFACTU:-}" ] || "$root/verifactu" --version >/dev/null
+program=${VERIFACTU:-$root/crates/program/out/program}
 
 # A file of so many records, by several calls: a script has 100,000 commands at most.
 make_file() {

@@ -5,9 +5,8 @@ root=$(cd "$(dirname "$0")/.." && pwd)
 work=$(mktemp -d)
 trap 'rm -rf "$work"' EXIT
 mkdir -p "$work/crates/moment_texts/src"
-cp -r "$root/crates/stamps" "$work/crates/"
-grep '^stamps:' "$root/crates.txt" >"$work/crates.txt"
-echo 'moment_texts: stamps' >>"$work/crates.txt"
+names=$("$root/bench/copy.sh" "$work" stamps)
+echo "moment_texts: $names" >>"$work/crates.txt"
 cat >"$work/crates/moment_texts/src/main.rt" <<'PROGRAM'
 //! One million moments, a minute or so apart, each made and written.
 #![tactic(auto)]

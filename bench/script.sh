@@ -6,15 +6,8 @@ top=$(cd "$(dirname "$0")/.." && pwd)
 work=$(mktemp -d)
 trap 'rm -rf "$work"' EXIT
 mkdir -p "$work/crates/script_bench/src"
-cp "$top/HANDLES" "$work/HANDLES"
-for crate in ports amounts parties stamps invoice_kinds series tax_lines record_fields huella record_codec shop_core agency_rules script; do
-    mkdir "$work/crates/$crate"
-    for part in src specs proofs; do
-        if [ -d "$top/crates/$crate/$part" ]; then cp -r "$top/crates/$crate/$part" "$work/crates/$crate/$part"; fi
-    done
-    grep "^$crate:" "$top/crates.txt" >>"$work/crates.txt"
-done
-echo 'script_bench: script' >>"$work/crates.txt"
+names=$("$top/bench/copy.sh" "$work" script)
+echo "script_bench: $names" >>"$work/crates.txt"
 cat >"$work/crates/script_bench/src/main.rt" <<'PROGRAM'
 #![tactic(auto)]
 

@@ -13,37 +13,29 @@ runs=${2:-3}
 work=$(mktemp -d)
 trap 'rm -rf "$work"' EXIT
 mkdir -p "$work/crates/state_bench/src"
-cp "$root/HANDLES" "$work/HANDLES"
-below="ports amounts tax_lines parties stamps invoice_kinds series frames chain_disk journal record_fields huella record_codec pages"
-for crate in $below shop_core; do
-    mkdir "$work/crates/$crate"
-    for part in src specs proofs; do
-        if [ -d "$root/crates/$crate/$part" ]; then cp -r "$root/crates/$crate/$part" "$work/crates/$crate/$part"; fi
-    done
-    grep -E "^$crate( |:)" "$root/crates.txt" >>"$work/crates.txt"
-done
-echo "state_bench: $below shop_core indexmap" >>"$work/crates.txt"
+names=$("$root/bench/copy.sh" "$work" shop_core)
+echo "state_bench: $names indexmap" >>"$work/crates.txt"
 cat >"$work/crates/state_bench/src/main.rt" <<PROGRAM
 #![tactic(auto)]
 
 use amounts::Cents;
 use invoice_kinds::Kind;
 use parties::Nif;
-use record_fields::{Draft, Refs};
+use record_fields::{Draft, Refs, Version};
 use series::SeriesName;
 use shop_core::{Ask, Reply, Request, State, reply_to};
 use std::alloc::Global;
 use std::io;
 use std::rt::Clock;
 use std::time::Instant;
-use tax_lines::{Breakdown, LineKey, TaxLine};
+use tax_lines::{Breakdown, Class, LineKey, TaxLine};
 
 const PART: u32 = 10_000;
 const RECORDS: u32 = $records;
 
 fn sale(alloc: Global, serial: u32) -> Option<Ask> {
     let line = TaxLine {
-        key: LineKey::General,
+        key: LineKey::iva(Class::General),
         base: Cents::new(10_000)?,
     };
     let Ok(lines) = Breakdown::of(alloc, &[line]) else {
@@ -94,7 +86,7 @@ fn main(rt: HostRuntime) -> io::Result<()> {
     let Ok(issuer) = Nif::read("89890001K") else {
         return Ok(());
     };
-    let mut state = State::empty(rt.alloc(), &issuer);
+    let mut state = State::empty(rt.alloc(), &issuer, Version::Two);
     let begun = sell(&rt, rt.alloc(), &mut state, 1, 1 + PART)?;
     let early = sell(&rt, rt.alloc(), &mut state, 1 + PART, 1 + 2 * PART)?;
     let between = sell(&rt, rt.alloc(), &mut state, 1 + 2 * PART, RECORDS - PART + 1)?;
