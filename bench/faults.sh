@@ -1,9 +1,10 @@
 #!/bin/sh
-# Each system call of a run on a real file fails in turn, by strace's injection: `chain`, `drain`, `audit` and `link`, with EIO, ENOSPC
-# and EINTR, and a write that moves nothing; and each write moves half of its bytes (refuse.c). Then the file is opened again. Wanted:
+# Each system call of a run on a real file fails in turn, by strace's injection: `chain`, `drain`, `audit`, `link`, `statement`, `export`,
+# `matches` and `migrate`, with EIO, ENOSPC and EINTR, and a write that moves nothing; and each write moves half of its bytes (refuse.c). Then the file is opened again. Wanted:
 # a status that the call can have; what a run told as taken, with its place and Huella, stands in the file; the file holds a front of
-# the whole chain; and once the script is run again the file is, byte for byte, that of a run without a fault.
-# Run by hand: bench/faults.sh [FOLDER ON THE DISK] [SALES]. It needs strace and a C compiler (CC).
+# the whole chain; and once the script is run again the file is, byte for byte, that of a run without a fault; a migration's old file is as
+# it was, and its new one is finished by another migration.
+# Run by hand: bench/faults.sh [FOLDER ON THE DISK] [SALES]. It needs strace, a C compiler (CC) and Python (old_file.py).
 set -eu
 
 root=$(CDPATH= cd -- "$(dirname -- "$0")/.." && pwd)
@@ -11,8 +12,8 @@ folder=$(mktemp -d "${1:-/var/tmp}/faults.XXXXXX")
 sales=${2:-3}
 trap 'rm -rf "$folder"' EXIT
 
-"$root/verifactu" --version >/dev/null
-program=$root/crates/program/out/program
+[ -n "${VERIFACTU:-}" ] || "$root/verifactu" --version >/dev/null
+program=${VERIFACTU:-$root/crates/program/out/program}
 "${CC:-cc}" -O2 -shared -fPIC -o "$folder/refuse.so" "$root/bench/refuse.c"
 cd "$folder"
 nif=89890001K
@@ -35,6 +36,9 @@ cp sold.chain drained.chain
 "$program" drain drained.chain $nif <plan >/dev/null
 "$program" chain drained.chain $nif <nothing >drained.list
 sed -n '/^[0-9]/p' told >sold.list
+"$program" export sold.chain >lines
+python3 "$root/bench/old_file.py" sold.chain old.chain
+"$program" migrate old.chain moved.chain >/dev/null
 
 # Sets the words, the script, the file from before and the whole file of a command.
 choose() {
@@ -44,18 +48,24 @@ choose() {
         drain) words="drain shop.chain $nif" script=plan before=sold.chain whole=drained.chain ;;
         audit) words="audit shop.chain" before=sold.chain whole=sold.chain ;;
         link) words="link shop.chain A-1 test" before=sold.chain whole=sold.chain ;;
+        statement) words="statement shop.chain 01-2025" before=sold.chain whole=sold.chain ;;
+        export) words="export shop.chain" before=sold.chain whole=sold.chain ;;
+        matches) words="matches shop.chain" script=lines before=sold.chain whole=sold.chain ;;
+        migrate) words="migrate shop.chain new.chain" before=old.chain whole=old.chain ;;
     esac
 }
 
 begin() {
-    rm -f shop.chain
+    rm -f shop.chain new.chain
     [ -z "$before" ] || cp "$before" shop.chain
 }
 
 # What a run with a fault left: its status is $1.
 judge() {
     case $command:$1 in
-        chain:[0456] | chain:10 | drain:[04568] | drain:10 | audit:[056] | audit:10 | link:[056] | link:10) ;;
+        chain:[0456] | chain:10 | drain:[04568] | drain:10 | matches:[0456] | matches:10) ;;
+        audit:[056] | audit:10 | link:[056] | link:10 | statement:[056] | statement:10 | export:[056] | export:10) ;;
+        migrate:[056] | migrate:10) ;;
         *) wrong "status $1: $(cat why)" ;;
     esac
     echo "$command $1" >>statuses
@@ -71,8 +81,15 @@ judge() {
     cut -d ' ' -f 1-10 records >front
     cut -d ' ' -f 1-10 sold.list | head -n "$(wc -l <front)" | cmp -s - front || wrong "no front of the whole chain"
     [ -z "$before" ] || [ "$(wc -l <front)" -eq "$sales" ] || wrong "a record is gone"
+    again=0
     # shellcheck disable=SC2086
-    "$program" $words <"$script" >again 2>why || wrong "the command doesn't end well afterwards: $(cat why)"
+    "$program" $words <"$script" >again 2>why || again=$?
+    # A migration that had come to its end is told as such.
+    case $command:$again in
+        *:0 | migrate:15) ;;
+        *) wrong "the command doesn't end well afterwards: $(cat why)" ;;
+    esac
+    [ $command != migrate ] || cmp -s new.chain moved.chain || wrong "another new file"
     cmp -s shop.chain "$whole" || wrong "another file once the command is run again"
     runs=$((runs + 1))
 }
@@ -85,14 +102,14 @@ calls() {
     strace -f -qq -o trace "$program" $words <"$script" >text 2>why || wrong "no plain run"
     sed 's/^[0-9]* *//; s/(/ (/' trace | awk '
         { seen[$1]++ }
-        /shop\.chain/ && $1 != "execve" { on = 1 }
+        /(shop|new)\.chain/ && $1 != "execve" { on = 1 }
         $1 == "read" && $2 ~ /^\(0,/ { on = 1 }
         on && $1 !~ /^(mmap|munmap|mremap|mprotect|brk|madvise|exit_group|exit|\+\+\+|futex|rt_sig.*|sigaltstack)$/ { print $1, seen[$1] }'
 }
 
 runs=0
 : >statuses
-for command in chain drain audit link; do
+for command in chain drain audit link statement export matches migrate; do
     choose $command
     what="without a fault"
     calls >"calls.$command"

@@ -1,17 +1,18 @@
 #!/bin/sh
 # Refuses each growth of memory in turn, by refuse.c, in runs over real files: `chain` with a sale on a new file, `drain` of two
-# records with a reply that doesn't come, `day` with two tills on a new file, and `audit` and `link` of two records. Wanted: status 0
-# or 10, or 4, 5 or 6 where it was a device's own growth (standard input's, standard output's or the file's); what was told as taken
-# stands in the file; the file opens; and once the command is run again it ends well, with each sale once.
-# Run by hand: bench/memory.sh. It needs a C compiler (CC).
+# records with a reply that doesn't come, `day` with two tills on a new file, `audit`, `link`, `statement`, `export` and `matches` of two
+# records, and `migrate` of them. Wanted: status 0 or 10, or 4, 5 or 6 where it was a device's own growth (standard input's, standard output's or the file's); what was told as taken
+# stands in the file; the file opens; and once the command is run again it ends well, with each sale once; what `statement`, `export` and
+# `matches` print is whole or nothing.
+# Run by hand: bench/memory.sh. It needs a C compiler (CC) and Python, which writes a file of version 1 (old_file.py).
 set -eu
 
 root=$(CDPATH= cd -- "$(dirname -- "$0")/.." && pwd)
 folder=$(mktemp -d /dev/shm/memory.XXXXXX)
 trap 'rm -rf "$folder"' EXIT
 
-"$root/verifactu" --version >/dev/null
-program=$root/crates/program/out/program
+[ -n "${VERIFACTU:-}" ] || "$root/verifactu" --version >/dev/null
+program=${VERIFACTU:-$root/crates/program/out/program}
 "${CC:-cc}" -O2 -shared -fPIC -o "$folder/refuse.so" "$root/bench/refuse.c"
 cd "$folder"
 nif=89890001K
@@ -27,6 +28,9 @@ printf 'clock 1735722000 0\nsale 1 1 A F2 21:10000\nsale 2 1 B F2 21:10000\n' >t
 printf 'clock 1735800000 0\nlink 2 taken\n' >plan
 : >nothing
 "$program" chain two.chain $nif <two >told
+"$program" export two.chain >lines
+python3 "$root/bench/old_file.py" two.chain old.chain
+"$program" audit old.chain >verdict
 
 # Sets the words, the script, the file from before and the last line of a whole listing.
 choose() {
@@ -37,7 +41,26 @@ choose() {
         day) words="day shop.chain $nif" script=tills before='' end='chain 2 noted 2' ;;
         audit) words="audit shop.chain" ;;
         link) words="link shop.chain A-1 test" ;;
+        statement) words="statement shop.chain 01-2025" ;;
+        export) words="export shop.chain" ;;
+        matches) words="matches shop.chain" script=lines ;;
+        migrate) words="migrate shop.chain new.chain" before=old.chain ;;
     esac
+    rm -f whole
+    # shellcheck disable=SC2086
+    case $command in
+        statement | export | matches) cp "$before" shop.chain && "$program" $words <"$script" >whole ;;
+    esac
+}
+
+# A migration that was cut off is finished by another; one that was whole is told as such.
+judge_move() {
+    again=0
+    # shellcheck disable=SC2086
+    "$program" $words <"$script" >again 2>why || again=$?
+    [ $again -eq 0 ] || [ $again -eq 15 ] || wrong "the migration doesn't end afterwards: $(cat why)"
+    "$program" audit new.chain | cmp -s - verdict || wrong "another new file"
+    cmp -s shop.chain old.chain || wrong "another old file"
 }
 
 # The file opens, and what was told as taken stands there.
@@ -57,12 +80,12 @@ judge() {
 }
 
 : >statuses
-for command in chain drain day audit link; do
+for command in chain drain day audit link statement export matches migrate; do
     choose $command
     number=0
     while :; do
         number=$((number + 1))
-        rm -f shop.chain
+        rm -f shop.chain new.chain
         [ -z "$before" ] || cp "$before" shop.chain
         status=0
         # shellcheck disable=SC2086
@@ -74,7 +97,8 @@ for command in chain drain day audit link; do
         esac
         echo "$command $status" >>statuses
         [ $status -eq 0 ] || [ $status -eq 10 ] || echo "$command: growth $number: $(tail -n 1 why)" >>devices
-        judge
+        [ ! -e whole ] || [ ! -s text ] || [ $status -eq 5 ] || cmp -s text whole || wrong "a part is printed"
+        if [ $command = migrate ]; then judge_move; else judge; fi
     done
     echo "$command: $((number - 1)) growths refused in turn"
 done
