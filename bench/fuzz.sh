@@ -1,8 +1,9 @@
 #!/bin/sh
 # Tries the program on what nobody should hand it, a bounded number of times, from a number that makes it the same again: random
 # scripts (`chain`, `day`, `drain` on a file that grows), files with bytes changed, cut off, added or put in, and random words.
-# Wanted: no crash and no status but 0 and 2 to 14; a file that was written is sound; `audit` and an opening of a changed file
-# agree on its records or on the byte of its damage, `link` reads it or names the same byte, and `audit` and `link` change nothing.
+# Wanted: no crash and no status but 0, 2 to 16 and 18; a file that was written is sound; `audit` and an opening of a changed file
+# agree on its records or on the byte of its damage, `link`, `statement`, `export` and `migrate` read it or name the same byte, `matches`
+# finds an export to be the file's, and none of these changes it.
 # Run by hand: bench/fuzz.sh [ROUNDS] [SEED]
 set -eu
 
@@ -12,8 +13,8 @@ seed=${2:-1}
 folder=$(mktemp -d /dev/shm/fuzz.XXXXXX)
 trap 'rm -rf "$folder"' EXIT
 
-"$root/verifactu" --version >/dev/null
-program=$root/crates/program/out/program
+[ -n "${VERIFACTU:-}" ] || "$root/verifactu" --version >/dev/null
+program=${VERIFACTU:-$root/crates/program/out/program}
 cd "$folder"
 nif=89890001K
 
@@ -28,12 +29,12 @@ try() {
     status=0
     timeout 60 "$program" "$@" <input >text 2>why || status=$?
     case $status in
-        0 | [2-9] | 1[0-4]) ;;
+        0 | [2-9] | 1[0-68]) ;;
         *) wrong "status $status of: $*" ;;
     esac
     [ $status -ne 10 ] || wrong "no memory for: $*"
     case ${1-} in
-        chain | day | drain | audit | link | generate) echo "$1 $status" >>statuses ;;
+        chain | day | drain | audit | link | statement | export | matches | migrate | generate) echo "$1 $status" >>statuses ;;
         *) echo "words $status" >>statuses ;;
     esac
 }
@@ -86,7 +87,26 @@ compare() {
         7:damaged*) [ "$(cat why)" = "verifactu: $verdict" ] || wrong "link: $(cat why), audit: $verdict" ;;
         *) wrong "link: status $status, audit: $verdict" ;;
     esac
-    cmp -s changed.chain as_it_was || wrong "audit or link changed the file"
+    for reader in statement export migrate; do
+        case $reader in
+            statement) try statement changed.chain 01-2025 ;;
+            export) try export changed.chain && cp text lines ;;
+            migrate) rm -f new.chain && try migrate changed.chain new.chain ;;
+        esac
+        case $reader:$status:$verdict in
+            statement:0:chain* | export:0:chain* | migrate:0:chain* | migrate:16:chain*) ;;
+            *:7:damaged*) [ "$(cat why)" = "verifactu: $verdict" ] || wrong "$reader: $(cat why), audit: $verdict" ;;
+            *) wrong "$reader: status $status, audit: $verdict" ;;
+        esac
+    done
+    cp lines input
+    try matches changed.chain
+    case $status:$verdict in
+        0:chain* | 7:damaged*) ;;
+        *) wrong "matches: status $status, audit: $verdict" ;;
+    esac
+    : >input
+    cmp -s changed.chain as_it_was || wrong "a command that reads changed the file"
     try chain changed.chain $nif
     case $status:$verdict in
         0:chain*) [ "$(tail -n 1 text)" = "$verdict" ] || wrong "chain: $(tail -n 1 text), audit: $verdict" ;;
@@ -101,13 +121,13 @@ compare() {
 words() {
     awk -v seed="$1" 'BEGIN {
         srand(seed)
-        n = split("chain day drain audit link generate --help --version shop.chain none.chain . /dev/null 89890001K 12345678Z A-1 A-2 real test 1 10 0 x -", known, " ")
+        n = split("chain day drain audit link statement export matches migrate generate 01-2025 13-2025 --agency --help --version shop.chain none.chain . /dev/null 89890001K 12345678Z A-1 A-2 real test 1 10 0 x -", known, " ")
         known[++n] = ""
         known[++n] = "\377\376"
         known[++n] = "a b"
-        split("chain 2 day 2 drain 2 audit 1 link 3 generate 1", command, " ")
+        split("chain 2 day 2 drain 2 audit 1 link 3 generate 1 statement 2 export 1 matches 1 migrate 2", command, " ")
         if (rand() < 0.6) {
-            i = 2 * int(rand() * 6)
+            i = 2 * int(rand() * 10)
             print command[i + 1]
             count = command[i + 2]
             if (count > 1 || rand() < 0.5) { print rand() < 0.7 ? "shop.chain" : known[1 + int(rand() * n)]; count-- }
