@@ -242,15 +242,17 @@ fn old_disk(alloc: Global) -> Result<MemDisk, Fail> {
 fn a_file_of_version_one_goes_on_as_one(rt: HostRuntime) -> Result<(), Fail> {
     let alloc = rt.alloc();
     let clock = CountingClock::new(TEN, 0);
-    let mut store = opened(alloc, old_disk(alloc)?, clock)
-        .ok()
-        .ok_or("an old file")?;
+    let Ok(mut store) = opened(alloc, old_disk(alloc)?, clock) else {
+        return Err(Fail::from("a file of version 1"));
+    };
     sell(alloc, &mut store, 1, "21")?;
     let (_, mut disk, clock) = store.into_parts();
     assert!(rt; holds(&mut disk, OLD, b"")?);
     let end = audit(alloc, &mut disk).ok().ok_or("a verdict")?;
     assert!(rt; verdict_text(alloc, &end)?.as_slice() == VERDICT);
-    let mut store = opened(alloc, disk, clock).ok().ok_or("an old file")?;
+    let Ok(mut store) = opened(alloc, disk, clock) else {
+        return Err(Fail::from("the file again"));
+    };
     let refused = Sold::Refused(Refusal::OldFile { index: 0 });
     assert_eq!(rt; sell(alloc, &mut store, 2, "03/700")?, refused);
     sell(alloc, &mut store, 2, "21")?;

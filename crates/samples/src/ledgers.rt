@@ -29,7 +29,7 @@ fn line(key: LineKey, base: i64) -> Result<TaxLine, Fail> {
     Ok(TaxLine { key, base })
 }
 
-fn push(alloc: Global, ledger: &mut Ledger, entry: Entry) -> Result<(), Fail> {
+pub fn push(alloc: Global, ledger: &mut Ledger, entry: Entry) -> Result<(), Fail> {
     let fault = next_fault(alloc, ledger.state(), &entry)?;
     if fault.is_some() {
         return Err(Fail::from("a break"));

@@ -19,6 +19,8 @@ mod judgements;
 #[cfg(test)]
 mod ledgers;
 #[cfg(test)]
+mod months;
+#[cfg(test)]
 mod plain;
 #[cfg(test)]
 mod records;

@@ -14,12 +14,12 @@ use std::test::Fail;
 
 // A row of numbers that looks like chance.
 #[derive(Drop)]
-struct Dice {
-    seed: u64,
+pub struct Dice {
+    pub seed: u64,
 }
 
 impl Dice {
-    fn roll(&mut self, sides: u64) -> u64
+    pub fn roll(&mut self, sides: u64) -> u64
         ensures { 0 < sides → result < sides }
     {
         let mixed = (self.seed % 2_147_483_648) * 1_103_515_245 + 12_345;
@@ -32,7 +32,7 @@ impl Dice {
 }
 
 // A number among the first of a series.
-fn some_number(dice: &mut Dice) -> Result<NumSerie, Fail> {
+pub fn some_number(dice: &mut Dice) -> Result<NumSerie, Fail> {
     let series = SeriesName::read("A").ok_or("a series")?;
     Ok(number(&series, dice.roll(12) as u32 + 1))
 }
@@ -105,7 +105,7 @@ fn some_ask(alloc: Global, dice: &mut Dice, step: u32) -> Result<Ask, Fail> {
     Ok(Ask::new(till, serial, some_request(alloc, dice)?))
 }
 
-fn some_line(dice: &mut Dice) -> Line {
+pub fn some_line(dice: &mut Dice) -> Line {
     match dice.roll(6) {
         0 => Line::Incorrecto(Cause::Vet(4100)),
         1 => Line::Incorrecto(Cause::NotHeld),
