@@ -96,7 +96,8 @@ enum Sold {
     Taken { place: u32, huella: [u8; 64] },
     Again { place: u32, huella: [u8; 64] },
     Fault(StoreFault),
-    Refused(Refusal),
+    OldFile { index: u8 },
+    Refused,
 }
 
 fn told(reply: Result<Reply, StoreFault>) -> Sold {
@@ -109,7 +110,8 @@ fn told(reply: Result<Reply, StoreFault>) -> Sold {
             place: receipt.place,
             huella: huella_text(&receipt.huella),
         },
-        Ok(Reply::Refused(why)) => Sold::Refused(why),
+        Ok(Reply::Refused(Refusal::OldFile { index })) => Sold::OldFile { index },
+        Ok(Reply::Refused(_)) => Sold::Refused,
         Err(fault) => Sold::Fault(fault),
     }
 }
@@ -253,8 +255,10 @@ fn a_file_of_version_one_goes_on_as_one(rt: HostRuntime) -> Result<(), Fail> {
     let Ok(mut store) = opened(alloc, disk, clock) else {
         return Err(Fail::from("the file again"));
     };
-    let refused = Sold::Refused(Refusal::OldFile { index: 0 });
-    assert_eq!(rt; sell(alloc, &mut store, 2, "03/700")?, refused);
+    assert_eq!(rt;
+        sell(alloc, &mut store, 2, "03/700")?,
+        Sold::OldFile { index: 0 }
+    );
     sell(alloc, &mut store, 2, "21")?;
     let (_, mut disk, _) = store.into_parts();
     let front = OLD.get(..97).ok_or("an old file")?;
