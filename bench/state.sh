@@ -14,7 +14,7 @@ work=$(mktemp -d)
 trap 'rm -rf "$work"' EXIT
 mkdir -p "$work/crates/state_bench/src"
 names=$("$root/bench/copy.sh" "$work" shop_core)
-echo "state_bench: $names indexmap" >>"$work/crates.txt"
+echo "state_bench: $names" >>"$work/crates.txt"
 cat >"$work/crates/state_bench/src/main.rt" <<PROGRAM
 #![tactic(auto)]
 
