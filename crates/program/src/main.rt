@@ -15,7 +15,7 @@ use agency_port::{Agency, PracticeAgency};
 use chain_disk::FileDisk;
 use parties::Nif;
 use ports::{Clock, NoMemory, OpenGate, StdSink, StdSource, SystemClock, ThreadSleeper};
-use report::{Detail, fault_text, status_of};
+use report::{Detail, Ended, fault_text, status_of};
 use std::env;
 use std::io::{ErrorKind, Write};
 use std::process::ExitCode;
@@ -57,6 +57,16 @@ fn print_fault(rt: &HostRuntime, detail: &Detail) {
 fn print_reason(rt: &HostRuntime, thing: &str, reason: Option<&str>) {
     if let Some(reason) = reason {
         let _ = eprintln!(rt; "verifactu: {thing}: {reason}");
+    }
+}
+
+// How a run ended, where it didn't end well.
+fn print_end(rt: &HostRuntime, words: &[String], ended: &Ended) {
+    if ended.status != 0 {
+        print_fault(rt, &ended.detail);
+    }
+    if matches!(ended.detail, Detail::Usage) {
+        print_form(rt, words);
     }
 }
 
@@ -140,12 +150,7 @@ fn run_with<R: Threads + Wait + Sync, G: Agency + Send + Drop>(
         outside,
         &OpenGate,
     );
-    if ended.status != 0 {
-        print_fault(rt, &ended.detail);
-    }
-    if matches!(ended.detail, Detail::Usage) {
-        print_form(rt, words);
-    }
+    print_end(rt, words, &ended);
     for post in outside.more.as_slice() {
         print_reason(rt, new, post.disk.reason());
     }
