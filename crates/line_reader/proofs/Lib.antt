@@ -1,0 +1,4 @@
+mod Cutting
+mod Underway
+mod ReadOn
+mod OneList

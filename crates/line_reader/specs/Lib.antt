@@ -1,0 +1,4 @@
+pub mod Reading
+pub mod Lines
+pub mod Lists
+pub mod Read
