@@ -8,3 +8,4 @@ pub mod Drafting
 pub mod Gathering
 pub mod Parties
 pub mod Tabling
+mod OneByOne

@@ -122,12 +122,12 @@ said_sound : (form : Form) (above : Above) (text : List ℕ) (meaning : Meaning)
 said_sound form above text meaning e s =
     line_gives form above (λ (m : Meaning). IsSound (with_line above m)) (record {
       skip = unplanned above.verdicts above.wait above.fates s;
-      clock = λ start step first. unplanned above.verdicts above.wait above.fates s;
+      clock = λ start step clocks first. unplanned above.verdicts above.wait above.fates s;
       customer = λ key party first. unplanned above.verdicts above.wait above.fates s;
       command = λ ask full few. unplanned above.verdicts above.wait above.fates s;
-      verdict = λ verdict fits first. more_verdict above.verdicts above.wait above.fates verdict s fits first;
-      wait = λ seconds few first. more_wait above.verdicts above.wait above.fates seconds s few first;
-      link = λ fate fits first. more_fate above.verdicts above.wait above.fates fate s fits first;
+      verdict = λ verdict plans fits first. more_verdict above.verdicts above.wait above.fates verdict s fits first;
+      wait = λ seconds plans few first. more_wait above.verdicts above.wait above.fates seconds s few first;
+      link = λ fate plans fits first. more_fate above.verdicts above.wait above.fates fate s fits first;
     }) text meaning e
 
 all_sound : (form : Form) (before : List Meaning) (lines : List (List ℕ)) (meanings : List Meaning) → EachSays form before lines

@@ -31,13 +31,15 @@ use Rattle.shop_core.specs.declared.answer.requests.Request.{Request}
 use Rattle.shop_core.specs.declared.words.Word.{Word}
 use Rattle.shop_core.specs.declared.words.Word.TheVariants as word
 use Rattle.script.specs.Fields.{fields_of, and_then, word_or, unless_any, first_field, field_at, past, is_left, such}
+use Rattle.script.specs.Forms.{has_clock, has_commands, has_plans}
+use Rattle.script.specs.Heard.{IsIn}
 use Rattle.script.specs.Numbers.{number_in}
 use Rattle.series.specs.Numbers.{is_num_serie}
 use Rattle.script.specs.Planned.{IsPlannedVerdict, IsPlannedFate, IsPlannedCall}
 use Rattle.script.specs.Readings.{is_key, is_nif, fate_of}
 use Rattle.script.specs.SoFar.{IsSaid, IsNew, IsSoFar, known, party_of}
 use Rattle.script.specs.Lines.{Above, above_of, said, line_said, fields_said, form_said, clock_said, customer_said, command_said}
-use Rattle.script.specs.Lines.{request_said, name_said, has_commands, is_skipped, verdict_of, verdict_said, wait_said, late_said}
+use Rattle.script.specs.Lines.{request_said, name_said, is_skipped, verdict_of, verdict_said, wait_said, late_said}
 use Rattle.script.specs.Lines.{fate_said, link_said, planned_said, clock_in, ask_in, party_in, verdict_in, wait_in, fate_in}
 use Rattle.script.specs.Lines.{is_command, is_customer}
 use Rattle.script.specs.Script.{EachSays, IsFirstBad}
@@ -101,13 +103,14 @@ worded_gives P (Some w) answer h = tt
 -- what holds of each line that may stand below these
 pub record Gives (form : Form) (above : Above) (P : Meaning → Type 0) : Type 0 where
   pub skip : P line.Skip
-  pub clock : (start step : ℕ) → above.clock ≡ None → P (line.Clock start step)
+  pub clock : (start step : ℕ) → has_clock form ≡ true → above.clock ≡ None → P (line.Clock start step)
   pub customer : (key : List ℕ) (party : Party) → above.party key ≡ None → P (line.Customer key party)
   pub command : (ask : Asked) → has_commands form ≡ true → above.commands < MAX_COMMANDS → P (line.Command ask)
-  pub verdict : (verdict : PlannedVerdict) → IsPlannedVerdict verdict → verdict_for above.verdicts verdict.num verdict.n ≡ None →
-      P (line.Verdict verdict)
-  pub wait : (seconds : ℕ) → seconds ≤ MAX_WAIT → above.wait ≡ None → P (line.Wait seconds)
-  pub link : (fate : PlannedFate) → IsPlannedCall fate → fate_at above.fates fate.call ≡ None → P (line.Link fate)
+  pub verdict : (verdict : PlannedVerdict) → has_plans form ≡ true → IsPlannedVerdict verdict →
+      verdict_for above.verdicts verdict.num verdict.n ≡ None → P (line.Verdict verdict)
+  pub wait : (seconds : ℕ) → has_plans form ≡ true → seconds ≤ MAX_WAIT → above.wait ≡ None → P (line.Wait seconds)
+  pub link : (fate : PlannedFate) → has_plans form ≡ true → IsPlannedCall fate → fate_at above.fates fate.call ≡ None →
+      P (line.Link fate)
 
 clock_shape : (P : Meaning → Type 0) (above : Above) (a b : Result ℕ Word) (o : Option Word) →
     ((start step : ℕ) → above.clock ≡ None → P (line.Clock start step))
@@ -253,37 +256,44 @@ command_gives form above P g command fields =
     (field_at 1 fields (number_in 1 4_294_967_295) word.Number)
     (request_said command above.party (past 2 fields)) (λ ask full few. g.command ask full (room above.commands few))
 
-verdict_gives : (form : Form) (above : Above) (P : Meaning → Type 0) → Gives form above P →
+verdict_gives : (form : Form) (above : Above) (P : Meaning → Type 0) → Gives form above P → has_plans form ≡ true →
     (judging : Judging) (fields : List (List ℕ)) → IfOk (verdict_said judging above fields) P
-verdict_gives form above P g judging fields =
+verdict_gives form above P g plans judging fields =
     verdict_shape P judging above (field_at 0 fields (such is_num_serie) word.Num) (field_at 1 fields (number_in 1 MAX_NTH)
     word.Number)
     (field_at 2 fields (number_in 1 MAX_CODE) word.Number) (first_of (when (is_left (past 3 fields)) word.Fields ∷ []))
-    (first_range 1 MAX_NTH (past 1 fields) word.Number) (first_range 1 MAX_CODE (past 2 fields) word.Number) g.verdict
+    (first_range 1 MAX_NTH (past 1 fields) word.Number) (first_range 1 MAX_CODE (past 2 fields) word.Number)
+    (λ verdict fits none. g.verdict verdict plans fits none)
 
 choice : (P : Meaning → Type 0) (b : Bool) (one other : Result Meaning Word) → IfOk one P → IfOk other P →
     IfOk (if b then one else other) P
 choice P true one other h k = h
 choice P false one other h k = k
 
+-- what stands in some forms alone
+in_form : (P : Meaning → Type 0) (b : Bool) (one : Result Meaning Word) → (b ≡ true → IfOk one P) →
+    IfOk (if b then one else Err word.Verb) P
+in_form P true one h = h refl
+in_form P false one h = tt
+
 planned_gives : (form : Form) (above : Above) (P : Meaning → Type 0) → Gives form above P → (verb : List ℕ)
-    (fields : List (List ℕ))
-    → IfOk (planned_said above verb fields) P
-planned_gives form above P g verb fields =
+    (fields : List (List ℕ)) → has_plans form ≡ true → IfOk (planned_said above verb fields) P
+planned_gives form above P g verb fields plans =
     let linked = if bytes_eq verb (codes "link") then link_said above fields else Err word.Verb in
     let waited = if bytes_eq verb (codes "wait") then wait_said above fields else linked in
     let warned = if bytes_eq verb (codes "warn") then verdict_said judging.Warn above fields else waited in
     choice P (bytes_eq verb (codes "vet")) (verdict_said judging.Vet above fields) warned
-    (verdict_gives form above P g judging.Vet fields)
+    (verdict_gives form above P g plans judging.Vet fields)
     (choice P (bytes_eq verb (codes "warn")) (verdict_said judging.Warn above fields) waited
-    (verdict_gives form above P g judging.Warn fields)
+    (verdict_gives form above P g plans judging.Warn fields)
     (choice P (bytes_eq verb (codes "wait")) (wait_said above fields) linked
     (wait_shape P above (field_at 0 fields (number_in 0 MAX_WAIT) word.Number)
     (first_of (when (is_left (past 1 fields)) word.Fields ∷ []))
-    (first_range 0 MAX_WAIT fields word.Number) g.wait)
+    (first_range 0 MAX_WAIT fields word.Number) (λ seconds few none. g.wait seconds plans few none))
     (choice P (bytes_eq verb (codes "link")) (link_said above fields) (Err word.Verb)
     (link_shape P above (field_at 0 fields (number_in 1 MAX_CALL) word.Number) (fate_said (past 1 fields))
-    (first_range 1 MAX_CALL fields word.Number) (fate_fits (past 1 fields)) g.link) tt)))
+    (first_range 1 MAX_CALL fields word.Number) (fate_fits (past 1 fields))
+    (λ fate fits none. g.link fate plans fits none)) tt)))
 
 form_gives : (form : Form) (above : Above) (P : Meaning → Type 0) → Gives form above P → (text verb : List ℕ)
     (fields : List (List ℕ)) →
@@ -292,15 +302,17 @@ form_gives form above P g text verb fields =
     let cancelled = command_said form above command.Cancel fields in
     let fixed = command_said form above command.Fix fields in
     let sold = command_said form above command.Sale fields in
-    let planned = planned_said above verb fields in
+    let planned = if has_plans form then planned_said above verb fields else Err word.Verb in
+    let clocked = clock_said above fields in
     let last = if bytes_eq verb (codes "cancel") then cancelled else planned in
     let third = if bytes_eq verb (codes "fix") then fixed else last in
     let second = if bytes_eq verb (codes "sale") then sold else third in
     let first = if bytes_eq verb (codes "customer") then customer_said above text fields else second in
-    choice P (bytes_eq verb (codes "clock")) (clock_said above fields) first
-    (clock_shape P above (field_at 0 fields (number_in 0 MAX_START) word.Number) (field_at 1 fields (number_in 0 MAX_STEP)
+    choice P (bytes_eq verb (codes "clock")) (if has_clock form then clocked else Err word.Verb) first
+    (in_form P (has_clock form) clocked (λ clocks. clock_shape P above (field_at 0 fields (number_in 0 MAX_START) word.Number) (field_at 1 fields (number_in 0 MAX_STEP)
     word.Number)
-    (first_of (when (is_left (past 2 fields)) word.Fields ∷ [])) g.clock)
+    (first_of (when (is_left (past 2 fields)) word.Fields ∷ []))
+    (λ start step none. g.clock start step clocks none)))
     (choice P (bytes_eq verb (codes "customer")) (customer_said above text fields) second
     (customer_shape P above (first_of (when (nat_le MAX_CUSTOMERS above.customers) word.TooMany ∷ []))
     (field_at 0 fields (such is_key) word.Customer)
@@ -308,7 +320,7 @@ form_gives form above P g text verb fields =
     (choice P (bytes_eq verb (codes "sale")) sold third (command_gives form above P g command.Sale fields)
     (choice P (bytes_eq verb (codes "fix")) fixed last (command_gives form above P g command.Fix fields)
     (choice P (bytes_eq verb (codes "cancel")) cancelled planned (command_gives form above P g command.Cancel fields)
-    (planned_gives form above P g verb fields)))))
+    (in_form P (has_plans form) (planned_said above verb fields) (planned_gives form above P g verb fields))))))
 
 fields_give : (form : Form) (above : Above) (P : Meaning → Type 0) → Gives form above P → (text : List ℕ)
     (fields : List (List ℕ)) →
@@ -330,12 +342,25 @@ pub said_is_new : (form : Form) (above : Above) (text : List ℕ) (meaning : Mea
 said_is_new form above text meaning e =
     line_gives form above (IsNew above) (record {
       skip = tt;
-      clock = λ start step none. none;
+      clock = λ start step clocks none. none;
       customer = λ key party none. none;
       command = λ ask full few. few;
-      verdict = λ verdict fits none. tt;
-      wait = λ seconds few none. none;
-      link = λ fate fits none. tt;
+      verdict = λ verdict plans fits none. tt;
+      wait = λ seconds plans few none. none;
+      link = λ fate plans fits none. tt;
+    }) text meaning e
+
+pub said_is_in : (form : Form) (above : Above) (text : List ℕ) (meaning : Meaning) → line_said form above text ≡ Ok meaning →
+    IsIn form meaning
+said_is_in form above text meaning e =
+    line_gives form above (IsIn form) (record {
+      skip = tt;
+      clock = λ start step clocks none. clocks;
+      customer = λ key party none. tt;
+      command = λ ask full few. full;
+      verdict = λ verdict plans fits none. plans;
+      wait = λ seconds plans few none. plans;
+      link = λ fate plans fits none. plans;
     }) text meaning e
 
 -- without commands no line asks for anything
@@ -346,12 +371,12 @@ no_ask : (form : Form) (above : Above) (text : List ℕ) (meaning : Meaning) →
 no_ask form above text meaning none e =
     line_gives form above (λ (m : Meaning). ask_in m ≡ None) (record {
       skip = refl;
-      clock = λ start step first. refl;
+      clock = λ start step clocks first. refl;
       customer = λ key party first. refl;
       command = λ ask full few. absurd (both_ways _ none full);
-      verdict = λ verdict fits first. refl;
-      wait = λ seconds few first. refl;
-      link = λ fate fits first. refl;
+      verdict = λ verdict plans fits first. refl;
+      wait = λ seconds plans few first. refl;
+      link = λ fate plans fits first. refl;
     }) text meaning e
 
 skipped : (meaning : Meaning) (meanings : List Meaning) → ask_in meaning ≡ None → filter_map ask_in meanings ≡ [] →

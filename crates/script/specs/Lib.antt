@@ -9,3 +9,5 @@ pub mod SoFar
 pub mod Gathered
 pub mod Tables
 pub mod Planned
+pub mod Forms
+pub mod Heard

@@ -22,11 +22,11 @@ use Rattle.shop_core.specs.declared.answer.requests.Request.TheVariants.{Sale, F
 use Rattle.shop_core.specs.declared.words.Word.{Word}
 use Rattle.shop_core.specs.declared.words.Word.TheVariants as word
 use Rattle.script.specs.Fields.{fields_of, behind_third_blank, and_then, unless_any, such, past, field_at, ends_at}
+use Rattle.script.specs.Forms.{has_clock, has_commands, has_plans}
 use Rattle.script.specs.Options.{draft_said}
 use Rattle.script.specs.Numbers.{number_in}
 use Rattle.script.specs.Readings.{kind_of, fate_of, is_key, is_nif, is_name}
 use Rattle.script.specs.declared.forms.Form.{Form}
-use Rattle.script.specs.declared.forms.Form.TheVariants.{Full, NoCommands}
 use Rattle.script.specs.declared.planning.Judging.{Judging}
 use Rattle.script.specs.declared.planning.Judging.TheVariants as judging
 use Rattle.script.specs.declared.requests.Command.{Command}
@@ -35,11 +35,6 @@ use Rattle.script.specs.declared.limits.TheConstants.{MAX_START, MAX_STEP, MAX_C
 use Rattle.script.specs.declared.limits.TheConstants.{MAX_WAIT, MAX_CALL, MAX_LATE}
 use Rattle.script.specs.declared.lines.Meaning.{Meaning}
 use Rattle.script.specs.declared.lines.Meaning.TheVariants as line
-
--- commands may stand in the script
-abbrev pub has_commands : Form → Bool
-has_commands Full = true
-has_commands NoCommands = false
 
 abbrev pub clock_in : Meaning → Option (ℕ × ℕ)
 clock_in (line.Clock start step) = Some (start, step)
@@ -202,12 +197,13 @@ planned_said above verb fields =
 -- the form that a line's first field begins
 abbrev pub form_said : Form → Above → List ℕ → List ℕ → List (List ℕ) → Result Meaning Word
 form_said form above text verb fields =
-    if bytes_eq verb (codes "clock") then clock_said above fields
+    if bytes_eq verb (codes "clock") then (if has_clock form then clock_said above fields else Err word.Verb)
     else if bytes_eq verb (codes "customer") then customer_said above text fields
     else if bytes_eq verb (codes "sale") then command_said form above command.Sale fields
     else if bytes_eq verb (codes "fix") then command_said form above command.Fix fields
     else if bytes_eq verb (codes "cancel") then command_said form above command.Cancel fields
-    else planned_said above verb fields
+    else if has_plans form then planned_said above verb fields
+    else Err word.Verb
 
 -- what a line of this text and these fields says
 abbrev pub fields_said : Form → Above → List ℕ → List (List ℕ) → Result Meaning Word

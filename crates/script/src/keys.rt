@@ -33,6 +33,13 @@ impl Key {
         })
     }
 
+    /// Its bytes.
+    pub fn as_slice(&self) -> &[u8]
+        ensures { result.now ≡ self.now }
+    {
+        self.text.as_bytes()
+    }
+
     /// Its text.
     pub fn into_text(self) -> String
         ensures { string_bytes result ≡ self }

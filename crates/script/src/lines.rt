@@ -1,4 +1,6 @@
 // What a line of a script says.
+ghost use Rattle.std.specs.Prelude.{◌≡◌};
+ghost use Rattle.script.specs.Lines as spec;
 
 use crate::keys::Key;
 use agency_rules::{PlannedFate, PlannedVerdict};
@@ -22,4 +24,15 @@ pub enum Meaning {
     Wait { seconds: u32 },
     /// `link CALL FATE`.
     Link(PlannedFate),
+}
+
+impl Meaning {
+    pub(crate) fn is_command(&self) -> bool
+        ensures { result ≡ spec.is_command self.now }
+    {
+        match self {
+            Meaning::Command(_) => true,
+            _ => false,
+        }
+    }
 }

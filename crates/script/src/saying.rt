@@ -1,5 +1,7 @@
 // What a line of a script says, below those that were read.
-ghost use Rattle.std.specs.Prelude.{◌≡◌, ◌+◌, Ok, Err};
+ghost use Rattle.std.specs.Prelude.{◌≡◌, ◌+◌, Ok, Err, if◌then◌else◌};
+ghost use Rattle.shop_core.specs.declared.words.Word.TheVariants as word;
+ghost use Rattle.script.specs.Forms.{has_clock};
 ghost use Rattle.script.specs.Fields.{fields_of};
 ghost use Rattle.script.specs.SoFar.{IsSaid, known};
 ghost use Rattle.script.specs.Lines as spec;
@@ -30,6 +32,16 @@ fn clock(read: &SoFar, fields: &mut Fields) -> Result<Meaning, Word>
         return Err(Word::Twice);
     }
     Ok(Meaning::Clock { start, step })
+}
+
+// The same, where the form has it.
+fn clock_line(form: Form, read: &SoFar, fields: &mut Fields) -> Result<Meaning, Word>
+    ensures { result ≡ (if has_clock form then spec.clock_said (known read.now) fields.old else Err word.Verb) }
+{
+    if !form.has_clock() {
+        return Err(Word::Verb);
+    }
+    clock(read, fields)
 }
 
 // The name of a party, behind the third blank of its line.
@@ -104,7 +116,7 @@ fn form_line(
     ensures { IsSaid (spec.form_said form (known read.now) line.now verb.now fields.old) result }
 {
     if is_word(verb, "clock") {
-        return worded(clock(read, fields));
+        return worded(clock_line(form, read, fields));
     }
     if is_word(verb, "customer") {
         return customer(alloc, read, line, fields);
@@ -117,6 +129,9 @@ fn form_line(
     }
     if is_word(verb, "cancel") {
         return command(alloc, form, read, Command::Cancel, fields);
+    }
+    if !form.has_plans() {
+        return Err(Fault::Bad(Word::Verb));
     }
     worded(planned_line(read, verb, fields))
 }

@@ -1,7 +1,8 @@
 // Scripts: what their lines say, or the first bad line.
-ghost use Rattle.std.specs.Prelude.{◌≡◌, ◌≤◌, ◌<◌, IfOk, ◌++◌, ◌∷◌, [], List, length};
+ghost use Rattle.std.specs.Prelude.{◌≡◌, ◌≤◌, ◌<◌, IfOk, ◌++◌, ◌∷◌, [], List, length, false};
 ghost use Rattle.script.specs.SoFar.{IsSoFar, IsNew, Reads, known, script_kept};
 ghost use Rattle.script.specs.Planned.{IsPlanned};
+ghost use Rattle.script.specs.Lines.{is_command};
 ghost use Rattle.script.specs.Script.{IsScript};
 ghost use Rattle.script.specs.declared.forms.Form.TheVariants.{NoCommands};
 ghost use Rattle.script.specs.declared.limits.TheConstants.{MAX_COMMANDS};
@@ -64,7 +65,7 @@ pub struct SoFar {
 }
 
 impl SoFar {
-    fn nothing(alloc: Global) -> SoFar
+    pub(crate) fn nothing(alloc: Global) -> SoFar
         ensures { IsSoFar [] result }
     {
         SoFar {
@@ -78,9 +79,10 @@ impl SoFar {
     }
 
     // One more line that says something below the others.
-    fn add(&mut self, line: Meaning) -> Result<(), NoMemory>
+    pub(crate) fn add(&mut self, line: Meaning) -> Result<(), NoMemory>
         requires { IsNew (known self.old) line }
-        ensures { (lines : List AnyMeaning) → IsSoFar lines self.old → Reads (lines ++ line ∷ []) self.new result }
+        ensures reads { (lines : List AnyMeaning) → IsSoFar lines self.old → Reads (lines ++ line ∷ []) self.new result }
+        ensures asks { is_command line ≡ false → self.new.asks ≡ self.old.asks }
     {
         match line {
             Meaning::Skip => Ok(()),

@@ -6,7 +6,8 @@ use Rattle.agency_rules.specs.declared.plans.Plan.{Plan}
 use Rattle.pacing.specs.declared.pace.TheConstants.{FIRST_WAIT}
 use Rattle.script.specs.Cuts.{lines_of}
 use Rattle.script.specs.SoFar.{known}
-use Rattle.script.specs.Lines.{Above, has_commands}
+use Rattle.script.specs.Forms.{has_commands}
+use Rattle.script.specs.Lines.{Above}
 use Rattle.script.specs.Script.{EachSays, plan_of}
 use Rattle.script.specs.declared.scripts.Script.{Script}
 use Rattle.script.specs.Planned.{IsPlanned}
@@ -48,7 +49,7 @@ loop-text-preserved c =
           c.without_return.result.now c.in-Some.text.now
           c.in-Ok.line c.loop-text.number c.loop-text.read c.add.new.self inv.partway c.in-Some.ensures c.without_return.ensures
           c.in-Ok.ensures
-          (c.in_ok-add-in-Ok.ensures inv.meanings inv.partway.good);
+          (c.in_ok-add-in-Ok.ensures.reads inv.meanings inv.partway.good);
       size = let fewer = ap length c.in-Some.ensures in omega (arith, inv.size, fewer);
     }
 
