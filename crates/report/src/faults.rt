@@ -12,7 +12,7 @@ use record_fields::Text;
 use shop_core::{What, Word};
 use std::alloc::{AllocError, Global};
 
-fn word_text(word: Word) -> &'static [u8]
+pub fn word_text(word: Word) -> &'static [u8]
     ensures { result.now ≡ spec.word_text word }
 {
     match word {

@@ -17,7 +17,7 @@ mod turns;
 mod verdicts;
 
 pub use answers::{AnswerLine, Answers, answers_text};
-pub use faults::fault_text;
+pub use faults::{fault_text, word_text};
 pub use listing::listing_text;
 pub use matching::matches_text;
 pub use moves::migrated_text;
