@@ -128,3 +128,15 @@ pub on_disk : (history : History) (gate : ℕ) (t : OnDisk) → Holds history ga
     LeavesNow t (StandsFor history.version history.issuer history.entries)
 on_disk history gate t h legal = leaves_now t (StandsFor history.version history.issuer history.entries) h.file.nothing_pending
     (stands history gate t h legal)
+
+-- room that is made changes nothing of it
+pub holds_roomy : (old new : History) (gate : ℕ) (t : OnDisk) → new.issuer ≡ old.issuer → new.version ≡ old.version →
+    new.entries ≡ old.entries → Holds old gate t → Holds new gate t
+holds_roomy old new gate t issuer version entries h = record {
+  file = subst (λ (v : Version). IsAt v new.issuer (bodies_of v new.entries) gate t) (sym version)
+      (subst (λ (n : List ℕ). IsAt old.version n (bodies_of old.version new.entries) gate t) (sym issuer)
+      (subst (λ (es : List Entry). IsAt old.version old.issuer (bodies_of old.version es) gate t) (sym entries) h.file));
+  encoded = subst (λ (v : Version). AreEncoded v new.issuer new.entries) (sym version)
+      (subst (λ (n : List ℕ). AreEncoded old.version n new.entries) (sym issuer)
+      (subst (λ (es : List Entry). AreEncoded old.version old.issuer es) (sym entries) h.encoded));
+}

@@ -1,6 +1,7 @@
 // A history on disk: the state, the journal that keeps it, and the clock that dates its records.
 ghost use Rattle.std.specs.Prelude.{◌≡◌, ◌≤◌, ◌+◌, ◌++◌, ◌∷◌, [], ◌↔◌, true, ℕ, length, take, drop};
 ghost use Rattle.std.specs.Prelude.{IsTrue, IfOk, OnOk, OnErr, IsErrOf, IsSome, None, Some};
+ghost use Rattle.record_codec.specs.Writing.{entry_bytes};
 ghost use Rattle.chain_disk.specs.OnDisk.{LeavesOnly};
 ghost use Rattle.shop_core.specs.History.{recs, noted, is_record};
 ghost use Rattle.shop_core.specs.Answer.Replies.{IsTaken};
@@ -10,14 +11,14 @@ ghost use Rattle.shop_core.specs.File.Files.{StandsBeforeOrWith};
 ghost use Rattle.chain_store.specs.Ready.{IsReady, TearsLines, noted_next};
 ghost use Rattle.record_fields.specs.declared.lines.TheConstants.{BATCH};
 
+use crate::keeping::{keep, prepare};
 use chain_disk::Disk;
-use journal::{Journal, JournalFault, StoreFault};
+use journal::{Journal, StoreFault};
 use ports::{Clock, NoMemory};
-use record_codec::{Entry, an_encoding_is_a_body, encode, fields_are_valid};
-use record_fields::{Line, Lines, SealedList};
+use record_codec::Entry;
+use record_fields::{Bytes, Line, Lines, SealedList};
 use shop_core::{
-    Ask, Asking, Planned, Reply, State, Waiting, a_legal_history_goes_on, plan_asking, taken,
-    what_continues_fits_its_bytes, what_is_made_is_a_record,
+    Ask, Asking, Planned, Reply, State, Waiting, plan_asking, taken, what_is_made_is_a_record,
 };
 use std::alloc::Global;
 use std::snapshot::Snapshot;
@@ -184,6 +185,47 @@ impl<D: Disk, C: Clock> Store<D, C> {
         })
     }
 
+    /// Makes room for an entry that continues the history, and gives its bytes. Then `keep` takes no memory. Neither the disk
+    /// nor the clock is called.
+    pub fn prepare(&mut self, alloc: Global, entry: &Entry) -> Result<Bytes, NoMemory>
+        requires ready { Ready D.tells D.told self.old }
+        requires continues { Continues self.old.state.version self.old.state.issuer self.old.state.entries entry.now }
+        ensures ready { Ready D.tells D.told self.new }
+        ensures bytes { IfOk result (λ bytes. bytes ≡ entry_bytes self.old.state.version entry.now) }
+        ensures room { OnOk result (self.new.state ≡ record {
+          issuer = self.old.state.issuer;
+          version = self.old.state.version;
+          entries = self.old.state.entries;
+          room = Some entry.now;
+        }) }
+        ensures err { OnErr result (self.new.state ≡ self.old.state) }
+        ensures same { (self.new.journal ≡ self.old.journal) × (self.new.clock ≡ self.old.clock)
+            × (self.new.torn ≡ self.old.torn) }
+    {
+        prepare(alloc, &mut self.state, entry)
+    }
+
+    /// Keeps an entry that continues the history, in the journal and then in the state, in the room that was made for it. The
+    /// bytes are its encoding. It takes no memory.
+    pub fn keep(&mut self, entry: Entry, bytes: &[u8]) -> Result<(), StoreFault>
+        requires going_on { stopped_of self.old.journal ≡ None }
+        requires ready { Ready D.tells D.told self.old }
+        requires continues { Continues self.old.state.version self.old.state.issuer self.old.state.entries entry }
+        requires room { self.old.state.room ≡ Some entry }
+        requires encoding { bytes.now ≡ entry_bytes self.old.state.version entry }
+        ensures adds { Adds D.tells D.told D.faults self.old self.new entry result }
+        ensures memory { IsErrOf result StoreFault.NoMemory → ⊥ }
+    {
+        let torn = Snapshot::of(&entry);
+        match keep(&mut self.state, &mut self.journal, entry, bytes) {
+            Ok(()) => Ok(()),
+            Err(_) => {
+                self.torn = Some(torn);
+                Err(StoreFault::DiskFault)
+            }
+        }
+    }
+
     // Adds an entry that continues the history, to the journal and then to the state. What needs memory is done before the
     // first call of the disk.
     fn add(&mut self, alloc: Global, entry: Entry) -> Result<(), StoreFault>
@@ -192,29 +234,10 @@ impl<D: Disk, C: Clock> Store<D, C> {
         requires continues { Continues self.old.state.version self.old.state.issuer self.old.state.entries entry }
         ensures { Adds D.tells D.told D.faults self.old self.new entry result }
     {
-        a_legal_history_goes_on();
-        what_continues_fits_its_bytes();
-        an_encoding_is_a_body();
-        let version = self.state.version();
-        fields_are_valid(version, &entry);
-        let _few = self.state.entries();
         self.state.is_legal();
-        let Ok(bytes) = encode(alloc, version, &entry) else {
+        let Ok(bytes) = self.prepare(alloc, &entry) else {
             return Err(StoreFault::NoMemory);
         };
-        let Ok(()) = self.state.reserve(&entry) else {
-            return Err(StoreFault::NoMemory);
-        };
-        match self.journal.append(bytes.as_slice()) {
-            Ok(_) => {
-                self.state.apply_encoded(entry, bytes.as_slice());
-                Ok(())
-            }
-            Err(JournalFault::DiskFault) => {
-                self.torn = Some(Snapshot::of(&entry));
-                Err(StoreFault::DiskFault)
-            }
-            Err(JournalFault::Stopped { .. }) => unreachable!(),
-        }
+        self.keep(entry, bytes.as_slice())
     }
 }

@@ -1,132 +1,25 @@
-use Rattle.std.proofs.Common.{rules, ◌≡◌, ℕ, ◌∷◌, [], ◌++◌, List, refl, sym, ◌∙◌, ap, subst, None, Err, IsTrue}
-use Rattle.record_fields.specs.declared.versions.Version.{Version}
-use Rattle.record_codec.specs.Validity.{AreFields}
-use Rattle.record_codec.specs.Writing.{entry_bytes}
-use Rattle.journal.specs.declared.journal.JournalFault.{JournalFault}
-use Rattle.frames.specs.Frames.{IsBody}
-use Rattle.journal.specs.Journal.{disk_of, end_of, stopped_of}
+use Rattle.std.proofs.Common.{rules, ap, refl, subst, sym}
+use Rattle.chain_disk.specs.OnDisk.{LeavesOnly}
+use Rattle.journal.specs.Journal.{disk_of}
+use Rattle.shop_core.specs.File.Files.{StandsBeforeOrWith}
 use Rattle.shop_core.specs.History.{History}
-use Rattle.shop_core.specs.Legal.{Legal}
-use Rattle.chain_store.specs.Ready.{IsReady}
-use Rattle.chain_store.proofs.Stores.{adding, appended, gate_more, holds_more, on_disk, untouched_around}
+use Rattle.chain_store.proofs.Stores.{untouched_around}
 use Rattle.chain_store.proofs.store.Store.add.Goals as goal
 
 pub returns-in_default : goal.returns-in_default
 returns-in_default g c =
-    record {
-      ready = search rules;
-      issuer = search rules;
-      version = search rules;
-      clock = search rules;
-      added = search rules;
-      same = search rules;
-      any_moment = λ tells. untouched_around c.args.self.now.state _ _ c.args.entry (c.requires.ready.holds refl tells)
-          c.is_legal.ensures;
-      acknowledged = search rules;
-      no_memory = search rules;
-      fault = search rules;
-      torn = search rules;
-      room = search rules;
-      not_stopped = search rules;
-      later = search rules;
-    }
-
-pub returns-in_default-reserve : goal.returns-in_default-reserve
-returns-in_default-reserve g c =
-    record {
-      ready = search rules;
-      issuer = search rules;
-      version = search rules;
-      clock = search rules;
-      added = search rules;
-      same = search rules;
-      any_moment = λ tells. untouched_around c.args.self.now.state _ _ c.args.entry (c.requires.ready.holds refl tells)
-          c.is_legal.ensures;
-      acknowledged = search rules;
-      no_memory = search rules;
-      fault = search rules;
-      torn = search rules;
-      room = search rules;
-      not_stopped = search rules;
-      later = search rules;
-    }
-
-pub unreachable-requires : goal.unreachable-requires
-unreachable-requires g c =
-    let faults = c.in-Err-Stopped.field-0-0 in
-    let stopped = (c.append.ensures.stopped faults).0 (c.in-Err-Stopped.is ∙ ap (λ (e : JournalFault). Err e)
-    c.in-Err-Stopped.field-0-is) in
-    let going_on = c.requires.going_on in
-    absurd cc
-
-pub returns-in-Ok-append : goal.returns-in-Ok-append
-returns-in-Ok-append g c =
     let s = c.args.self.now.state in
-    let entry = c.args.entry in
-    let is = c.as_slice.ensures ∙ c.in-Ok.ensures ∙ ap (λ (v : Version). entry_bytes v entry) c.version-version.ensures in
-    let new : c.apply_encoded.new.self
-    ≡ record { issuer = s.issuer; version = s.version; entries = s.entries ++ entry ∷ []; room = None } =
-    c.apply_encoded.ensures ∙
-    ap (λ (h : History). record { issuer = h.issuer; version = h.version; entries = h.entries ++ entry ∷ []; room = None })
-    c.in-Ok-reserve.ensures.ok in
-    let fields = subst (λ (v : Version). AreFields v entry) c.version-version.ensures c.fields_are_valid.ensures in
-    let body : IsBody c.as_slice.result.now = subst (λ (b : List ℕ). IsBody b) (sym is)
-    (c.an_encoding_is_a_body.ensures s.version entry
-    fields) in
-    let around = λ (tells : IsTrue g.D.Disk.tells). adding s (end_of c.args.self.now.journal)
-    (g.D.Disk.told (disk_of c.args.self.now.journal)) entry c.what_continues_fits_its_bytes.ensures
-    c.a_legal_history_goes_on.ensures (c.requires.ready.holds refl tells) c.is_legal.ensures c.requires.continues
-    fields in
-    let ready = subst (λ (h : History). IsReady g.D.Disk.tells h (stopped_of c.append.new.self) (end_of c.append.new.self)
-    (g.D.Disk.told (disk_of c.append.new.self))) (sym new)
-    (record {
-      place = gate_more s.entries entry (end_of c.args.self.now.journal) (end_of c.append.new.self) c.as_slice.result.now
-          c.requires.ready.place c.in-Ok-append.ensures.place body;
-      holds = λ none tells. holds_more (around tells) is
-          (c.in-Ok-append.ensures.acknowledged tells s.version s.issuer _ (c.requires.ready.holds refl tells).file);
-    }) in
-    let legal : Legal c.apply_encoded.new.self.version c.apply_encoded.new.self.issuer c.apply_encoded.new.self.entries =
-    subst (λ (h : History). Legal h.version h.issuer h.entries) (sym new)
-    (c.a_legal_history_goes_on.ensures s.version s.issuer s.entries entry c.is_legal.ensures c.requires.continues) in
+    let same = c.prepare.ensures.same in
     record {
-      ready = ready;
-      issuer = search rules;
-      version = search rules;
-      clock = search rules;
+      ready = c.prepare.ensures.ready;
+      issuer = ap (λ (h : History). h.issuer) c.in_default.ensures.err;
+      version = ap (λ (h : History). h.version) c.in_default.ensures.err;
+      clock = same.1;
       added = search rules;
-      same = search rules;
-      any_moment = λ tells. appended (around tells) is
-          (c.append.ensures.any_moment c.requires.going_on tells s.version s.issuer _ (c.requires.ready.holds refl tells).file);
-      acknowledged = λ tells. on_disk c.apply_encoded.new.self (end_of c.append.new.self)
-          (g.D.Disk.told (disk_of c.append.new.self)) (ready.holds c.in-Ok-append.ensures.going_on.1 tells) legal;
-      no_memory = search rules;
-      fault = search rules;
-      torn = search rules;
-      room = search rules;
-      not_stopped = search rules;
-      later = search rules;
-    }
-
-pub returns-in-Err-DiskFault : goal.returns-in-Err-DiskFault
-returns-in-Err-DiskFault g c =
-    let s = c.args.self.now.state in
-    record {
-      ready = search rules;
-      issuer = search rules;
-      version = search rules;
-      clock = search rules;
-      added = search rules;
-      same = search rules;
-      any_moment = λ tells.
-          let holds = c.requires.ready.holds refl tells in
-          let a =
-          adding s (end_of c.args.self.now.journal) (g.D.Disk.told (disk_of c.args.self.now.journal)) c.args.entry
-          c.what_continues_fits_its_bytes.ensures c.a_legal_history_goes_on.ensures holds
-          c.is_legal.ensures c.requires.continues
-          (subst (λ (v : Version). AreFields v c.args.entry) c.version-version.ensures c.fields_are_valid.ensures) in
-          appended a
-          (c.as_slice.ensures ∙ c.in-Ok.ensures ∙ ap (λ (v : Version). entry_bytes v c.args.entry) c.version-version.ensures)
-          (c.append.ensures.any_moment c.requires.going_on tells s.version s.issuer _ holds.file);
+      same = ap (λ (h : History). h.entries) c.in_default.ensures.err;
+      any_moment = λ tells. subst (λ (j : _). LeavesOnly (g.D.Disk.told (disk_of c.args.self.now.journal))
+          (g.D.Disk.told (disk_of j)) (StandsBeforeOrWith s.version s.issuer s.entries c.args.entry)) (sym same.0)
+          (untouched_around s _ _ c.args.entry (c.requires.ready.holds refl tells) c.is_legal.ensures);
       acknowledged = search rules;
       no_memory = search rules;
       fault = search rules;
