@@ -15,6 +15,8 @@ mod invoice_kinds_tests;
 #[cfg(test)]
 mod journal_tests;
 #[cfg(test)]
+mod line_reader_tests;
+#[cfg(test)]
 mod pacing_tests;
 #[cfg(test)]
 mod pages_tests;

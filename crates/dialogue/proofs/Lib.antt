@@ -1,0 +1,2 @@
+mod Talking
+pub mod Views
