@@ -9,3 +9,4 @@ pub mod Gathering
 pub mod Parties
 pub mod Tabling
 mod OneByOne
+pub mod Numbering

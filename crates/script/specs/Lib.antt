@@ -11,3 +11,4 @@ pub mod Tables
 pub mod Planned
 pub mod Forms
 pub mod Heard
+pub mod Numbered

@@ -11,6 +11,7 @@ mod hearing;
 mod keys;
 mod limits;
 mod lines;
+mod numbered;
 mod numbers;
 mod options;
 mod planned;
@@ -20,7 +21,9 @@ mod requests;
 mod saying;
 mod scripts;
 
+pub use cuts::{Cuts, without_return};
 pub use faults::Fault;
+pub use fields::Fields;
 pub use forms::Form;
 pub use hearing::Heard;
 pub use keys::Key;
@@ -29,4 +32,5 @@ pub use limits::{
     MAX_STEP, MAX_WAIT,
 };
 pub use lines::Meaning;
-pub use scripts::{Asks, Script, ScriptFault, read_script};
+pub use numbered::LineNumbers;
+pub use scripts::{Asks, Script, ScriptFault, read_numbered, read_script};

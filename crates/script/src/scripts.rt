@@ -7,12 +7,14 @@ ghost use Rattle.script.specs.Script.{IsScript};
 ghost use Rattle.script.specs.declared.forms.Form.TheVariants.{NoCommands};
 ghost use Rattle.script.specs.declared.limits.TheConstants.{MAX_COMMANDS};
 ghost use Rattle.script.specs.declared.lines.Meaning.{Meaning as AnyMeaning};
+ghost use Rattle.script.specs.Numbered.{IsNumberedScript, Rising};
 
 use crate::customers::Customers;
 use crate::cuts::{Cuts, without_return};
 use crate::faults::Fault;
 use crate::forms::Form;
 use crate::lines::Meaning;
+use crate::numbered::{LineNumbers, number_line};
 use crate::planned::{FateLines, VerdictLines};
 use crate::saying::line;
 use agency_rules::Plan;
@@ -130,8 +132,8 @@ impl SoFar {
 }
 
 /// The script of these bytes, or its first bad line: its number from 1, and the first thing that is wrong in it. It walks
-/// the bytes once, and keeps the customers and the asks alone. Line numbers are u32, so there are fewer bytes than that. The
-/// grammar is this project's own: each single space or tab parts two fields of a line.
+/// the bytes once, and keeps the customers, the asks and the numbers of their lines alone. Line numbers are u32, so there are
+/// fewer bytes than that. The grammar is this project's own: each single space or tab parts two fields of a line.
 pub fn read_script(alloc: Global, bytes: &[u8], form: Form) -> Result<Script, ScriptFault>
     requires { length bytes.now < 4_294_967_295 }
     ensures script { IsScript form bytes.now result }
@@ -139,13 +141,35 @@ pub fn read_script(alloc: Global, bytes: &[u8], form: Form) -> Result<Script, Sc
     ensures plan { IfOk result (λ script. IsPlanned script.plan) }
     ensures commands { form ≡ NoCommands → IfOk result (λ script. script.asks ≡ []) }
 {
+    let (script, _) = read_numbered(alloc, bytes, form)?;
+    Ok(script)
+}
+
+/// The same, and the line of each ask.
+pub fn read_numbered(
+    alloc: Global,
+    bytes: &[u8],
+    form: Form,
+) -> Result<(Script, LineNumbers), ScriptFault>
+    requires { length bytes.now < 4_294_967_295 }
+    ensures script { IsNumberedScript form bytes.now result }
+    ensures few { IfOk result (λ read. length read.0.asks ≤ MAX_COMMANDS) }
+    ensures plan { IfOk result (λ read. IsPlanned read.0.plan) }
+    ensures commands { form ≡ NoCommands → IfOk result (λ read. read.0.asks ≡ []) }
+    ensures one_each { IfOk result (λ read. length read.1 ≡ length read.0.asks) }
+    ensures rising { IfOk result (λ read. Rising read.1) }
+{
     let mut lines = Cuts::of(bytes, b'\n');
     let mut read = SoFar::nothing(alloc);
+    let mut numbers = Vec::new(alloc);
     let mut number = 0u32;
     while let Some(text) = lines.next() {
         number += 1;
         match line(alloc, form, &read, without_return(text)) {
-            Ok(line) => read.add(line)?,
+            Ok(line) => {
+                number_line(&mut numbers, number, &line)?;
+                read.add(line)?;
+            }
             Err(Fault::Bad(fault)) => {
                 return Err(ScriptFault::BadLine {
                     line: number,
@@ -155,5 +179,5 @@ pub fn read_script(alloc: Global, bytes: &[u8], form: Form) -> Result<Script, Sc
             Err(Fault::NoMemory) => return Err(ScriptFault::NoMemory),
         }
     }
-    Ok(read.into_script())
+    Ok((read.into_script(), LineNumbers::of(numbers)))
 }

@@ -1,4 +1,4 @@
-use Rattle.std.proofs.Common.{◌∙◌, ◌++◌, ◌∷◌, ◌≤◌, refl, sym, ap, subst, arith, length, List, ◌≡◌, ℕ, [], ◌==◌, unwrap_or}
+use Rattle.std.proofs.Common.{◌∙◌, ◌++◌, ◌∷◌, ◌≤◌, ◌+◌, refl, sym, ap, subst, arith, length, List, ◌≡◌, ℕ, [], ◌==◌, unwrap_or, filter_map}
 use Rattle.std.proofs.lemmas.List.Splits.{length-slice_split}
 use Rattle.std.proofs.lemmas.List.Sums.{count_by-le-length}
 use Rattle.std.specs.Str.Lines.{strip_carriage_return}
@@ -11,9 +11,11 @@ use Rattle.script.specs.Lines.{Above}
 use Rattle.script.specs.Script.{EachSays, plan_of}
 use Rattle.script.specs.declared.scripts.Script.{Script}
 use Rattle.script.specs.Planned.{IsPlanned}
+use Rattle.script.specs.Numbered.{Rising, command_line}
+use Rattle.script.proofs.Numbering.{each_length, lines_more, one_each, rise}
 use Rattle.script.proofs.Plans.{plan_sound}
 use Rattle.script.proofs.Reading.{to_come, said_is_new, next_line, all_read, no_asks}
-use Rattle.script.proofs.scripts.read_script.Goals as goal
+use Rattle.script.proofs.scripts.read_numbered.Goals as goal
 
 -- what the lines above plan
 abbrev planned_above : Above → Plan
@@ -33,6 +35,7 @@ loop-text-init c =
         numbered = refl;
         good = c.nothing-read.ensures;
       };
+      numbers_are = c.new-numbers.ensures.items;
       size = omega (arith, few);
     }
 
@@ -50,6 +53,10 @@ loop-text-preserved c =
           c.in-Ok.line c.loop-text.number c.loop-text.read c.add.new.self inv.partway c.in-Some.ensures c.without_return.ensures
           c.in-Ok.ensures
           (c.in_ok-add-in-Ok.ensures.reads inv.meanings inv.partway.good);
+      numbers_are = c.in_ok-number_line-in-Ok.ensures
+          ∙ ap (λ (l : List ℕ). l ++ filter_map command_line ((c.loop-text.number + 1, c.in-Ok.line) ∷ [])) inv.numbers_are
+          ∙ sym (lines_more inv.meanings c.in-Ok.line c.loop-text.number (inv.partway.numbered
+          ∙ sym (each_length c.args.form [] inv.front inv.meanings inv.partway.each)));
       size = let fewer = ap length c.in-Some.ensures in omega (arith, inv.size, fewer);
     }
 
@@ -57,15 +64,29 @@ pub returns-clause-script : goal.returns-clause-script
 returns-clause-script c =
     let inv = c.loop-text.invariant in
     record {
-      meanings = inv.meanings;
-      each = subst (λ (lines : List (List ℕ)). EachSays c.args.form [] lines inv.meanings)
-          (all_read (lines_of c.args.bytes.now) inv.front c.loop-text.lines inv.partway.split c.in_default.ensures)
-          inv.partway.each;
-      clock = ap (λ (script : Script). script.clock) c.into_script.ensures ∙ ap (λ (above : Above). above.clock)
-          inv.partway.good.above;
-      asks = ap (λ (script : Script). script.asks) c.into_script.ensures ∙ inv.partway.good.asks;
-      plan = ap (λ (script : Script). script.plan) c.into_script.ensures ∙ ap planned_above inv.partway.good.above;
+      whole = record {
+        meanings = inv.meanings;
+        each = subst (λ (lines : List (List ℕ)). EachSays c.args.form [] lines inv.meanings)
+            (all_read (lines_of c.args.bytes.now) inv.front c.loop-text.lines inv.partway.split c.in_default.ensures)
+            inv.partway.each;
+        clock = ap (λ (script : Script). script.clock) c.into_script.ensures ∙ ap (λ (above : Above). above.clock)
+            inv.partway.good.above;
+        asks = ap (λ (script : Script). script.asks) c.into_script.ensures ∙ inv.partway.good.asks;
+        plan = ap (λ (script : Script). script.plan) c.into_script.ensures ∙ ap planned_above inv.partway.good.above;
+      };
+      numbers_are = c.of.ensures ∙ inv.numbers_are;
     }
+
+pub returns-clause-one_each : goal.returns-clause-one_each
+returns-clause-one_each c =
+    let inv = c.loop-text.invariant in
+    ap length (c.of.ensures ∙ inv.numbers_are) ∙ one_each 1 inv.meanings
+    ∙ sym (ap length (ap (λ (script : Script). script.asks) c.into_script.ensures ∙ inv.partway.good.asks))
+
+pub returns-clause-rising : goal.returns-clause-rising
+returns-clause-rising c =
+    let inv = c.loop-text.invariant in
+    subst Rising (sym (c.of.ensures ∙ inv.numbers_are)) (rise inv.meanings)
 
 pub returns-clause-few : goal.returns-clause-few
 returns-clause-few c = rw c.into_script.ensures c.loop-text.invariant.partway.good.few
