@@ -41,7 +41,11 @@ impl Source for Trickle<'_> {
             self.bytes = &self.bytes[1..];
             return Ok(0);
         }
-        let ahead = self.bytes.iter().position(|b| *b == END).unwrap_or(self.bytes.len());
+        let ahead = self
+            .bytes
+            .iter()
+            .position(|b| *b == END)
+            .unwrap_or(self.bytes.len());
         let count = ahead.min(self.bytes.len()).min(buf.len()).min(self.room);
         buf[..count].copy_from_slice(&self.bytes[..count]);
         self.bytes = &self.bytes[count..];
@@ -126,7 +130,11 @@ fn a_line_of_65536_bytes_is_the_longest(rt: HostRuntime) -> Result<(), Fail> {
         let bytes = run_of(alloc, count, tail.as_bytes())?;
         let mut source = MemSource::new(alloc, bytes, Vec::new(alloc));
         let told = all_told(&rt, alloc, &mut source)?;
-        assert_eq!(rt; told.as_slice(), lines.as_bytes(), "of {count} and {tail:?}");
+        assert_eq!(rt;
+            told.as_slice(),
+            lines.as_bytes(),
+            "of {count} and {tail:?}"
+        );
     }
     Ok(())
 }
@@ -145,7 +153,11 @@ fn a_line_goes_on_behind_a_fault(rt: HostRuntime) -> Result<(), Fail> {
         let bytes = run_of(alloc, count, b"\nb")?;
         let mut source = MemSource::new(alloc, bytes, Vec::from_slice(alloc, &[failing])?);
         let told = all_told(&rt, alloc, &mut source)?;
-        assert_eq!(rt; told.as_slice(), lines.as_bytes(), "of {count}, read {failing} fails");
+        assert_eq!(rt;
+            told.as_slice(),
+            lines.as_bytes(),
+            "of {count}, read {failing} fails"
+        );
     }
     Ok(())
 }

@@ -1,9 +1,7 @@
-//! Tests of the crates that read and write texts: scripts, dialogues, the printed texts, the link of an invoice. There is nothing
-//! here that a program calls.
+//! Tests of the crates that read and write texts: scripts, the printed texts, the link of an invoice. There is nothing here that
+//! a program calls.
 #![tactic(auto)]
 
-#[cfg(test)]
-mod dialogues;
 #[cfg(test)]
 mod links;
 #[cfg(test)]
