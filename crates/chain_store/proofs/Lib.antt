@@ -1,6 +1,4 @@
 mod Loads
-mod Opens
-mod Readies
 mod Stores
 mod Taking
 mod Each
