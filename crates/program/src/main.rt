@@ -6,15 +6,16 @@ ghost use Rattle.std.specs.Prelude.{◌≡◌, length, map, option_to_list, stri
 ghost use Rattle.verifactu.specs.CommandLine.{posts_needed};
 
 mod option;
+mod showing;
 mod usage;
 
 use crate::option::{PipeFiles, split_option};
+use crate::showing::{ShownDisk, ShownSleeper};
 use crate::usage::form_of;
 use agency_pipe::{PipeAgency, PipeSink, PipeSource};
 use agency_port::{Agency, PracticeAgency};
-use chain_disk::FileDisk;
 use parties::Nif;
-use ports::{Clock, NoMemory, OpenGate, StdSink, StdSource, SystemClock, ThreadSleeper};
+use ports::{Clock, NoMemory, OpenGate, StdSink, StdSource, SystemClock};
 use report::{Detail, Ended, fault_text, status_of};
 use std::env;
 use std::io::{ErrorKind, Write};
@@ -109,6 +110,13 @@ fn issuer_of(words: &[String]) -> Option<Nif> {
     }
 }
 
+// The file of this name.
+fn shown_disk<'a>(rt: &'a HostRuntime, file: &str) -> Result<ShownDisk<'a>, NoMemory> {
+    let path = String::from_str(rt.alloc(), file)?;
+    let name = String::from_str(rt.alloc(), file)?;
+    Ok(ShownDisk::at(rt, path, name))
+}
+
 // Runs the command with this agency, which comes back, and prints why it failed, where it did. `spare` is that of the further file,
 // where the words name one. NoMemory: nothing was run.
 fn run_with<R: Threads + Wait + Sync, G: Agency + Send + Drop>(
@@ -122,22 +130,21 @@ fn run_with<R: Threads + Wait + Sync, G: Agency + Send + Drop>(
 {
     let file = file_of(words, 1);
     let new = file_of(words, 2);
-    let path = String::from_str(rt.alloc(), file)?;
     let mut more = Vec::new(rt.alloc());
     if let Some(agency) = spare {
         more.push(Post {
-            disk: FileDisk::at(rt, String::from_str(rt.alloc(), new)?),
+            disk: shown_disk(rt, new)?,
             clock: SystemClock::new(rt),
-            sleeper: ThreadSleeper::new(rt),
+            sleeper: ShownSleeper::new(rt),
             agency,
         })?;
     }
     let mut source = StdSource::new(rt);
     let mut sink = StdSink::new(rt);
     let outside = Outside {
-        disk: FileDisk::at(rt, path),
+        disk: shown_disk(rt, file)?,
         clock: SystemClock::new(rt),
-        sleeper: ThreadSleeper::new(rt),
+        sleeper: ShownSleeper::new(rt),
         agency,
         more: Posts::of(more),
     };
