@@ -16,8 +16,6 @@ mod reader;
 mod reasons;
 mod said;
 mod standing;
-#[cfg(test)]
-mod tests;
 mod words;
 mod write;
 

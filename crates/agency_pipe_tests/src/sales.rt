@@ -1,7 +1,4 @@
 // A sale, and what is said of it.
-mod lines;
-mod streams;
-
 use amounts::Cents;
 use batches::{Batch, are_linked};
 use invoice_kinds::Kind;

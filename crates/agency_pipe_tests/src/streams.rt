@@ -1,6 +1,6 @@
 // An agency over streams in memory.
-use super::{BEGIN, CONSULTATION, SUBMISSION, batch, nif, with_huella};
-use crate::{
+use crate::sales::{BEGIN, CONSULTATION, SUBMISSION, batch, nif, with_huella};
+use agency_pipe::{
     Deaf, MAX_ANSWER, PASSED_OVER, PipeAgency, PipeSink, PipeSource, Quiet, Unheard,
     may_cross_threads,
 };

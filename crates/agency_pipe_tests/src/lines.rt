@@ -1,6 +1,6 @@
 // Messages and answers, a line each.
-use super::{BEGIN, CONSULTATION, SUBMISSION, batch, nif, with_huella};
-use crate::{Unheard, begin_line, consult_line, read_reply, read_seen, submit_line};
+use crate::sales::{BEGIN, CONSULTATION, SUBMISSION, batch, nif, with_huella};
+use agency_pipe::{Unheard, begin_line, consult_line, read_reply, read_seen, submit_line};
 use agency_port::{ReplyLine, Seen, State3};
 use batches::Huellas;
 use record_fields::{Cause, Line};

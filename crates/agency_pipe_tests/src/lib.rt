@@ -1,0 +1,9 @@
+//! Tests of the agency behind two streams of bytes, as whoever hands it streams meets it. There is nothing here that a program calls.
+#![tactic(auto)]
+
+#[cfg(test)]
+mod lines;
+#[cfg(test)]
+mod sales;
+#[cfg(test)]
+mod streams;
