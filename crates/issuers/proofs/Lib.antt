@@ -1,0 +1,9 @@
+mod Each
+mod Going
+mod Orders
+mod Choosing
+mod Rounds
+mod Agreeing
+mod Sections
+mod Distinct
+mod Heads
