@@ -1,4 +1,6 @@
 mod Loads
+mod Opens
+mod Readies
 mod Stores
 mod Taking
 mod Each

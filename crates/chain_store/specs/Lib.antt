@@ -1,6 +1,7 @@
 pub mod Loading
 pub mod Ready
 pub mod Keeping
+pub mod Opening
 pub mod Store
 pub mod Clocks
 pub mod Replies

@@ -5,11 +5,13 @@
 mod causes;
 mod keeping;
 mod loading;
+mod opening;
 mod runs;
 mod store;
 
 pub use causes::{LoadFault, OpenCause};
 pub use keeping::{keep, prepare};
 pub use loading::{Loaded, load};
+pub use opening::{NotOpened, Opened, open_journal};
 pub use runs::{a_run_begins, a_run_ends, run_commands, take_next};
 pub use store::Store;

@@ -37,6 +37,7 @@ impl<D: Disk, C: Clock> Store<D, C> {
     ghost use Rattle.journal.specs.Journal.{disk_of, end_of, stopped_of};
     ghost use Rattle.chain_store.specs.Took.{Took};
     ghost use Rattle.chain_store.specs.Store.{Acknowledged, Adds, GoesOn, IsLater, IsStoppedByFault, Ready, this_call, torn_of};
+    ghost use Rattle.chain_store.specs.Store.{clock_of, journal_of, state_of};
 
     /// The store of a journal that goes on and keeps this history.
     pub fn of(state: State, journal: Journal<D>, clock: C) -> Store<D, C>
@@ -76,6 +77,27 @@ impl<D: Disk, C: Clock> Store<D, C> {
             torn: _,
         } = self;
         (state, journal.into_disk(), clock)
+    }
+
+    /// The same store by another clock, and the clock that it had.
+    pub fn with_clock<B: Clock>(self, clock: B) -> (Store<D, B>, C)
+        ensures same { (state_of result.0 ≡ state_of self) × (journal_of result.0 ≡ journal_of self)
+            × (torn_of result.0 ≡ torn_of self) }
+        ensures clocks { (clock_of result.0 ≡ clock) × (result.1 ≡ clock_of self) }
+    {
+        let Store {
+            state,
+            journal,
+            clock: before,
+            torn,
+        } = self;
+        let store = Store {
+            state,
+            journal,
+            clock,
+            torn,
+        };
+        (store, before)
     }
 
     /// Answers an ask at the history and one reading of the clock, and keeps the record that is made, in the journal first.

@@ -1,0 +1,31 @@
+use Rattle.std.proofs.Common.{◌∙◌, sym, ap, subst}
+use Rattle.chain_disk.specs.OnDisk.{OnDisk, LeavesOnly}
+use Rattle.journal.specs.File.{IsNotBegun}
+use Rattle.journal.specs.Journal.{disk_of}
+use Rattle.chain_store.specs.Opening.{IsFound}
+use Rattle.chain_store.specs.declared.loading.Loaded.TheVariants.{Begun}
+use Rattle.chain_store.proofs.Opens.{if_ok, loaded_settled}
+use Rattle.chain_store.proofs.opening.open_journal.Goals as goal
+
+pub open_held-requires-clause-holds : goal.open_held-requires-clause-holds
+open_held-requires-clause-holds g c tells = loaded_settled _ _ _ (Begun c.in-Ok-Begun.state c.in-Ok-Begun.end)
+    (c.in-Ok.ensures.ok tells) c.load.ensures.same (rw c.in-Ok-Begun.field-0-is at (c.in-Ok-Begun.ensures.content tells))
+
+pub returns-in-Ok-Begun-clause-any_moment : goal.returns-in-Ok-Begun-clause-any_moment
+returns-in-Ok-Begun-clause-any_moment g c =
+    if_ok _ _ c.open_held.result c.open_held.ensures.any_moment (λ opened h tells.
+    subst (λ (t : OnDisk). LeavesOnly t (g.D.Disk.told (disk_of opened.journal))
+    (IsFound c.args.created opened.state.version c.args.issuer.now opened.state.entries))
+    (c.load.ensures.same ∙ c.in-Ok.ensures.ok tells) (h tells))
+
+pub returns-in-Ok-Begun-clause-unwritten : goal.returns-in-Ok-Begun-clause-unwritten
+returns-in-Ok-Begun-clause-unwritten g c =
+    if_ok _ _ c.open_held.result c.open_held.ensures.same (λ opened h tells begun.
+    ap (λ d. g.D.Disk.told d) h.2 ∙ c.load.ensures.same ∙ c.in-Ok.ensures.ok tells)
+
+pub returns-in-Ok-NotBegun-clause-unwritten : goal.returns-in-Ok-NotBegun-clause-unwritten
+returns-in-Ok-NotBegun-clause-unwritten g c =
+    if_ok _ _ c.begin.result c.begin.ensures.going_on (λ opened h tells begun.
+    let not = rw c.in-Ok-NotBegun.field-0-is at (c.in-Ok-NotBegun.ensures.content tells) in
+    let content = ap (λ (t : OnDisk). t.content) (c.in-Ok.ensures.ok tells) in
+    absurd (begun (subst IsNotBegun content not)))

@@ -1,0 +1,9 @@
+mod CaughtUp
+mod Chained
+mod Followed
+mod Fronts
+mod Pairing
+mod Receiving
+mod Sights
+mod Splitting
+mod Starting

@@ -1,0 +1,7 @@
+pub mod Arriving
+pub mod Catching
+pub mod Chains
+pub mod Following
+pub mod Pairs
+pub mod Pieces
+pub mod Starting
