@@ -1,0 +1,4 @@
+mod Lists
+mod InARow
+mod Bytewise
+mod Talking
