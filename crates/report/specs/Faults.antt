@@ -63,9 +63,17 @@ nif_line nif = nif ++ codes "\n"
 abbrev pub held_text : ℕ → List ℕ
 held_text held = codes "verifactu: not old " ++ decimal held ++ codes "\n"
 
+-- parted at ENTRY
+abbrev pub parting_text : ℕ → List ℕ
+parting_text entry = codes "verifactu: parted at " ++ decimal entry ++ codes "\n"
+
 -- line LINE
 abbrev pub difference_text : ℕ → List ℕ
 difference_text line = codes "line " ++ decimal line ++ codes "\n"
+
+-- issuer INDEX
+abbrev pub index_text : ℕ → List ℕ
+index_text index = codes "verifactu: issuer " ++ decimal index ++ codes "\n"
 
 -- what went wrong; nothing at Done
 abbrev pub fault_text : Detail → List ℕ
@@ -85,4 +93,6 @@ fault_text (detail.OtherIssuer held) = codes "verifactu: file of " ++ nif_line h
 fault_text detail.Unknown = codes "verifactu: no such invoice\n"
 fault_text (detail.Occupied size) = codes "verifactu: occupied\n"
 fault_text (detail.NotOld held) = held_text held
+fault_text (detail.Parted entry) = parting_text entry
 fault_text (detail.Differs line) = codes "verifactu: differs at " ++ difference_text line
+fault_text (detail.Issuer index status) = index_text index

@@ -8,5 +8,7 @@ pub mod Status
 pub mod Faults
 pub mod Verdicts
 pub mod Moves
+pub mod Follows
 pub mod Statements
 pub mod Matching
+pub mod Posts

@@ -20,4 +20,6 @@ status_of (detail.OtherIssuer held) = 13
 status_of detail.Unknown = 14
 status_of (detail.Occupied size) = 15
 status_of (detail.NotOld held) = 16
+status_of (detail.Parted entry) = 17
 status_of (detail.Differs line) = 18
+status_of (detail.Issuer index status) = status

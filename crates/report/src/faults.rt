@@ -106,10 +106,24 @@ fn put_held(text: &mut Vec<u8>, held: u8) -> Result<(), AllocError>
     put(text, b"\n")
 }
 
+fn put_parting(text: &mut Vec<u8>, entry: u64) -> Result<(), AllocError>
+    ensures { OnOk result (text.new.items ≡ text.old.items ++ spec.parting_text entry) }
+{
+    put_counted(text, b"verifactu: parted at ", entry)?;
+    put(text, b"\n")
+}
+
 fn put_difference(text: &mut Vec<u8>, line: u64) -> Result<(), AllocError>
     ensures { OnOk result (text.new.items ≡ text.old.items ++ spec.difference_text line) }
 {
     put_counted(text, b"line ", line)?;
+    put(text, b"\n")
+}
+
+fn put_index(text: &mut Vec<u8>, index: u16) -> Result<(), AllocError>
+    ensures { OnOk result (text.new.items ≡ text.old.items ++ spec.index_text index) }
+{
+    put_counted(text, b"verifactu: issuer ", u64::from(index))?;
     put(text, b"\n")
 }
 
@@ -148,10 +162,12 @@ fn put_fault(text: &mut Vec<u8>, detail: &Detail) -> Result<(), AllocError>
         Detail::Unknown => put(text, b"verifactu: no such invoice\n"),
         Detail::Occupied { .. } => put(text, b"verifactu: occupied\n"),
         Detail::NotOld { held } => put_held(text, *held),
+        Detail::Parted { entry } => put_parting(text, *entry),
         Detail::Differs { line } => {
             put(text, b"verifactu: differs at ")?;
             put_difference(text, *line)
         }
+        Detail::Issuer { index, .. } => put_index(text, *index),
     }
 }
 

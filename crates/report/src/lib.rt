@@ -5,10 +5,12 @@
 
 mod answers;
 mod faults;
+mod follows;
 mod listing;
 mod matching;
 mod moves;
 mod pieces;
+mod posts;
 mod records;
 mod statements;
 mod status;
@@ -18,9 +20,11 @@ mod verdicts;
 
 pub use answers::{AnswerLine, Answers, answers_text};
 pub use faults::{fault_text, word_text};
+pub use follows::followed_text;
 pub use listing::listing_text;
 pub use matching::matches_text;
 pub use moves::migrated_text;
+pub use posts::{Closed, closed_text, ended_text, issuer_text};
 pub use statements::{StatementLine, statement_text};
 pub use status::{Detail, Ended, status_of};
 pub use summary::summary_text;

@@ -41,8 +41,12 @@ pub enum Detail {
     Occupied { length: u64 },
     /// There is no file of version 1 to move: it isn't begun (0), or is of version 2 (2).
     NotOld { held: u8 },
+    /// The copy isn't of the file: it has another issuer or version (0), or this entry of it, from 1, isn't the file's.
+    Parted { entry: u64 },
     /// This line of an export, by its number from 1, isn't that of the file's history, is missing or is too many.
     Differs { line: u64 },
+    /// The issuer of this index, counted from 0, is the first that ended with a status other than 0, this one.
+    Issuer { index: u16, status: u8 },
 }
 
 /// What a call came to, with the status that the program ends with.
@@ -84,6 +88,8 @@ pub fn status_of(detail: &Detail) -> u8
         Detail::Unknown => 14,
         Detail::Occupied { .. } => 15,
         Detail::NotOld { .. } => 16,
+        Detail::Parted { .. } => 17,
         Detail::Differs { .. } => 18,
+        Detail::Issuer { status, .. } => *status,
     }
 }

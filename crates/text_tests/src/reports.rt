@@ -7,8 +7,9 @@ use parties::Nif;
 use record_codec::{Entry, Version};
 use record_fields::{Cause, Draft, DraftFault, Line, Lines, Refs};
 use report::{
-    AnswerLine, Answers, Detail, answers_text, fault_text, listing_text, matches_text,
-    migrated_text, status_of, summary_text, turns_text, verdict_text,
+    AnswerLine, Answers, Closed, Detail, answers_text, closed_text, ended_text, fault_text,
+    followed_text, issuer_text, listing_text, matches_text, migrated_text, status_of, summary_text,
+    turns_text, verdict_text,
 };
 use series::{InvoiceId, NumSerie, SeriesName};
 use shop_core::{
@@ -345,9 +346,22 @@ fn ends_have_texts(rt: HostRuntime) -> Result<(), Fail> {
         ),
         (Detail::NotOld { held: 2 }, 16, "verifactu: not old 2\n"),
         (
+            Detail::Parted { entry: 1_000_000 },
+            17,
+            "verifactu: parted at 1000000\n",
+        ),
+        (
             Detail::Differs { line: u64::MAX },
             18,
             "verifactu: differs at line 18446744073709551615\n",
+        ),
+        (
+            Detail::Issuer {
+                index: 7,
+                status: 13,
+            },
+            13,
+            "verifactu: issuer 7\n",
         ),
     ];
     for (detail, status, text) in rows {
@@ -357,8 +371,36 @@ fn ends_have_texts(rt: HostRuntime) -> Result<(), Fail> {
     }
     let moved = migrated_text(rt.alloc(), 1_000_000, 7)?;
     assert_eq!(rt; moved.as_slice(), b"migrated 1000000 noted 7\n".as_slice());
+    let followed = followed_text(rt.alloc(), 2, 2_000_000)?;
+    assert_eq!(rt;
+        followed.as_slice(),
+        b"followed 2 entries 2000000\n".as_slice()
+    );
     let matched = matches_text(rt.alloc(), 2_000_000)?;
     assert_eq!(rt; matched.as_slice(), b"matches 2000000\n".as_slice());
+    Ok(())
+}
+
+#[test]
+fn a_block_has_its_lines(rt: HostRuntime) -> Result<(), Fail> {
+    let held = issuer()?;
+    let rows = [
+        (
+            Closed::Damaged { at: u64::MAX },
+            "closed damaged 18446744073709551615\n",
+        ),
+        (Closed::FileOf { held }, "closed file-of 89890001K\n"),
+        (Closed::Disk, "closed disk\n"),
+        (Closed::Memory, "closed memory\n"),
+    ];
+    for (closed, text) in rows {
+        let line = closed_text(rt.alloc(), &closed)?;
+        assert_eq!(rt; line.as_slice(), text.as_bytes());
+    }
+    let head = issuer_text(rt.alloc(), &held)?;
+    assert_eq!(rt; head.as_slice(), b"issuer 89890001K\n".as_slice());
+    let end = ended_text(rt.alloc(), 255)?;
+    assert_eq!(rt; end.as_slice(), b"ended 255\n".as_slice());
     Ok(())
 }
 
