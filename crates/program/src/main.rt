@@ -2,7 +2,7 @@
 //! `verifactu::run`, and prints why it failed, where it did.
 #![tactic(auto)]
 
-ghost use Rattle.std.specs.Prelude.{◌≡◌, length, map, option_to_list, string_bytes};
+ghost use Rattle.std.specs.Prelude.{◌≡◌, IfOk, length, map, option_to_list, string_bytes};
 ghost use Rattle.verifactu.specs.CommandLine.{posts_needed};
 
 mod option;
@@ -37,11 +37,19 @@ fn words_of(rt: &HostRuntime) -> Result<Vec<String>, Detail> {
     }
 }
 
-// FILE, the word behind the command's, or NEW, the one behind it. Where there is none, no call touches the disk.
+// FILE, the word behind the command's, or the one behind it. Where there is none, no call touches the disk.
 fn file_of(words: &[String], place: usize) -> &str {
     match words.get(place) {
         Some(file) => file.as_str(),
         None => "",
+    }
+}
+
+// NEW, the word behind FILE; in `guard` the one behind NIF.
+fn new_of(words: &[String]) -> &str {
+    match words.first() {
+        Some(name) if name.as_str() == "guard" => file_of(words, 3),
+        _ => file_of(words, 2),
     }
 }
 
@@ -129,7 +137,7 @@ fn run_with<R: Threads + Wait + Sync, G: Agency + Send + Drop>(
     requires { length (option_to_list spare) ≡ posts_needed (map string_bytes words.now) }
 {
     let file = file_of(words, 1);
-    let new = file_of(words, 2);
+    let new = new_of(words);
     let mut more = Vec::new(rt.alloc());
     if let Some(agency) = spare {
         more.push(Post {
@@ -178,21 +186,47 @@ fn first_number(rt: &HostRuntime) -> u64 {
     SystemClock::new(rt).now().saturating_mul(1_000_000)
 }
 
-// Runs the command, which names no further file, with the agency behind these files.
+// The agency behind these files. Nothing is opened yet.
+fn agency_behind<'a>(
+    rt: &'a HostRuntime,
+    files: PipeFiles<'_>,
+    issuer: Nif,
+) -> Result<PipeAgency<PipeSource<'a, HostRuntime>, PipeSink<'a, HostRuntime>>, NoMemory> {
+    let alloc = rt.alloc();
+    let source = PipeSource::at(rt, String::from_str(alloc, files.from)?);
+    let sink = PipeSink::at(rt, String::from_str(alloc, files.to)?);
+    PipeAgency::new(alloc, source, sink, issuer, Host::Real, first_number(rt))
+}
+
+// The same for the further file, where the words name one. It is never asked.
+fn spare_behind<'a>(
+    rt: &'a HostRuntime,
+    words: &[String],
+    files: PipeFiles<'_>,
+    issuer: Nif,
+) -> Result<Option<PipeAgency<PipeSource<'a, HostRuntime>, PipeSink<'a, HostRuntime>>>, NoMemory>
+    ensures { IfOk result (λ spare. length (option_to_list spare) ≡ posts_needed (map string_bytes words.now)) }
+{
+    if posts_needed(words) == 0 {
+        return Ok(None);
+    }
+    match agency_behind(rt, files, issuer) {
+        Ok(agency) => Ok(Some(agency)),
+        Err(NoMemory) => Err(NoMemory),
+    }
+}
+
+// Runs the command with the agency behind these files.
 fn run_by_pipe<R: Threads + Wait + Sync>(
     handle: &R,
     rt: &HostRuntime,
     words: &[String],
     files: PipeFiles<'_>,
     issuer: Nif,
-) -> Result<u8, NoMemory>
-    requires { posts_needed (map string_bytes words.now) ≡ 0 }
-{
-    let alloc = rt.alloc();
-    let source = PipeSource::at(rt, String::from_str(alloc, files.from)?);
-    let sink = PipeSink::at(rt, String::from_str(alloc, files.to)?);
-    let agency = PipeAgency::new(alloc, source, sink, issuer, Host::Real, first_number(rt))?;
-    let (status, agency) = run_with(handle, rt, words, agency, None)?;
+) -> Result<u8, NoMemory> {
+    let agency = agency_behind(rt, files, issuer)?;
+    let spare = spare_behind(rt, words, files, issuer)?;
+    let (status, agency) = run_with(handle, rt, words, agency, spare)?;
     print_reason(rt, "the agency", agency.reason());
     Ok(status)
 }
@@ -220,9 +254,7 @@ fn run_words<R: Threads + Wait + Sync>(
 ) -> Result<u8, Detail> {
     let (files, words) = split_option(words)?;
     let status = match (files, issuer_of(words)) {
-        (Some(files), Some(issuer)) if posts_needed(words) == 0 => {
-            run_by_pipe(handle, rt, words, files, issuer)
-        }
+        (Some(files), Some(issuer)) => run_by_pipe(handle, rt, words, files, issuer),
         _ => run_by_practice(handle, rt, words),
     };
     match status {

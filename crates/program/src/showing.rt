@@ -6,6 +6,7 @@ ghost use Rattle.chain_disk.specs.File.{untold, untold_reads};
 use chain_disk::{Disk, FileDisk};
 use ports::{Failed, Sleeper, ThreadSleeper};
 use stamps::{moment_text, stamp_at};
+use std::fs;
 use std::io::{IsTerminal, Write};
 use std::sync::Wait;
 use std::time::{Duration, Instant};
@@ -83,6 +84,14 @@ impl<'a> Line<'a> {
     }
 }
 
+// The file's length. 0 where it can't be told: then its reading isn't shown.
+fn length_of(rt: &HostRuntime, path: &str) -> u64 {
+    match fs::metadata(rt, path) {
+        Ok(found) => found.len(),
+        Err(_) => 0,
+    }
+}
+
 /// A file whose reading and writing are shown.
 #[derive(Drop)]
 pub struct ShownDisk<'a> {
@@ -95,11 +104,12 @@ pub struct ShownDisk<'a> {
 impl<'a> ShownDisk<'a> {
     /// The file at this path, which is shown under this name.
     pub fn at(rt: &'a HostRuntime, path: String, name: String) -> ShownDisk<'a> {
+        let length = length_of(rt, path.as_str());
         ShownDisk {
             disk: FileDisk::at(rt, path),
             name,
             line: Line::new(rt),
-            length: 0,
+            length,
         }
     }
 
@@ -126,11 +136,7 @@ impl<'a> Disk for ShownDisk<'a> {
     ghost few_faults = { λ d. d.disk.faults.few };
 
     fn len(&mut self) -> Result<u64, Failed> {
-        let answer = self.disk.len();
-        if let Ok(length) = answer {
-            self.length = length;
-        }
-        answer
+        self.disk.len()
     }
 
     fn read_at(&mut self, at: u64, buf: &mut [u8]) -> Result<usize, Failed> {

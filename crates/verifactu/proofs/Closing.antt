@@ -193,11 +193,10 @@ undelivered_steps tells exact records from to at old new turns answer steps n r 
     )
 
 -- the agency failed eight times in a drain that is undelivered
-pub undelivered_by : (P : List Entry → List Entry → List Entry → List ℕ → Type 0) (begun : Beginning) (plan : Plan)
-    (version : Version) (issuer : List ℕ) (k : DiskSpan) (d : Span) → StoreDrains P begun plan version issuer k d → (n r : ℕ) →
+pub undelivered_in : (begun : Beginning) (plan : Plan) (d : Span) → IsUnopened d ⊎ IsSession begun plan d → (n r : ℕ) →
     d.answer ≡ Err (drain.Undelivered n r) →
     (n < r) × (d.new.faults < 2 ^ 64 - 1 → d.old.faults + MAX_LINK_FAULTS ≤ d.new.faults)
-undelivered_by P begun plan version issuer k d h n r is = elim h.session [
+undelivered_in begun plan d session n r is = elim session [
   | inl u ↦ absurd (let e = sym u.answer ∙ is in cc)
   | inr s ↦ (let u = undelivered_steps d.kind.tells d.exact (recs d.start) _ _ d.moment s.opened d.new d.turns d.answer
       s.sends.steps n r is in
@@ -205,16 +204,28 @@ undelivered_by P begun plan version issuer k d h n r is = elim h.session [
       (u.0, λ below. let more = u.1 below in omega (arith, same, more)))
 ]
 
+pub undelivered_by : (P : List Entry → List Entry → List Entry → List ℕ → Type 0) (begun : Beginning) (plan : Plan)
+    (version : Version) (issuer : List ℕ) (k : DiskSpan) (d : Span) → StoreDrains P begun plan version issuer k d → (n r : ℕ) →
+    d.answer ≡ Err (drain.Undelivered n r) →
+    (n < r) × (d.new.faults < 2 ^ 64 - 1 → d.old.faults + MAX_LINK_FAULTS ≤ d.new.faults)
+undelivered_by P begun plan version issuer k d h n r is = undelivered_in begun plan d h.session n r is
+
 -- an agency that keeps its rules and agreed doesn't contradict itself
+pub never_in : (begun : Beginning) (plan : Plan) (d : Span) → IsUnopened d ⊎ IsSession begun plan d → IsTrue d.kind.keeps_rules →
+    Agree d.start (begun d.old.ledger.processed (noted_pairs d.start)) d.old.ledger.sent → (evidence : Evidence) →
+    d.answer ≡ Err (drain.Contradiction evidence) → ⊥
+never_in begun plan d session keeps agree evidence is = elim session [
+  | inl u ↦ (let e = sym u.answer ∙ is in cc)
+  | inr s ↦ (s.agreement keeps agree).no_contradiction evidence is
+]
+
 pub never_contrary : (P : List Entry → List Entry → List Entry → List ℕ → Type 0) (begun : Beginning) (plan : Plan)
     (version : Version) (issuer : List ℕ) (k : DiskSpan) (d : Span) → StoreDrains P begun plan version issuer k d →
     IsTrue d.kind.keeps_rules →
     Agree d.start (begun d.old.ledger.processed (noted_pairs d.start)) d.old.ledger.sent → (evidence : Evidence) →
     d.answer ≡ Err (drain.Contradiction evidence) → ⊥
-never_contrary P begun plan version issuer k d h keeps agree evidence is = elim h.session [
-  | inl u ↦ (let e = sym u.answer ∙ is in cc)
-  | inr s ↦ (s.agreement keeps agree).no_contradiction evidence is
-]
+never_contrary P begun plan version issuer k d h keeps agree evidence is =
+    never_in begun plan d h.session keeps agree evidence is
 
 -- what follows from two facts at Ok
 pub both_ok : {T E : Type 0} (r : Result T E) (P Q R : Type 0) → (P → Q → R) → OnOk r P → OnOk r Q → OnOk r R

@@ -1,7 +1,7 @@
 -- A day of tills, from their rows to the history at its end.
 use Rattle.std.proofs.Common.{◌≡◌, ◌⊎◌, inl, inr, ℕ, zero, suc, ◌<◌, ◌≤◌, Bool, true, false, List, [], ◌∷◌, ◌++◌, length, drop}
 use Rattle.std.proofs.Common.{map, All, Option, Some, None, Result, Ok, Err, slice_get, refl, ap, sym, ◌∙◌, subst, arith}
-use Rattle.std.specs.Prelude.{◌≢◌, AllPairs, Contains, IsSome, OnOk}
+use Rattle.std.specs.Prelude.{◌≢◌, Contains, IsSome, OnOk}
 use Rattle.std.specs.List.{AllByRecursion, count_by, flat_map}
 use Rattle.std.proofs.lemmas.List.{append-nil, get_or-map, length-append, length-map}
 use Rattle.std.proofs.lemmas.List.Elements.{All-weaker}
@@ -39,11 +39,10 @@ use Rattle.chain_store.specs.Replies.{IsGoingOn, Replies}
 use Rattle.verifactu.specs.Tills.{AreTaken, DayRun, IsCutOffBy, RecordedBy, StopIs, TellsStop, TillServed, asks_of, is_from}
 use Rattle.verifactu.specs.Tills.{is_own_fault, own_of, stops_in}
 use Rattle.verifactu.specs.Tills.RecordedBy.{sender, till as by_till}
-use Rattle.verifactu.specs.Works.{Ran, Row, Worked, told_in}
-use Rattle.verifactu.specs.declared.tills.TillDay.{TillDay}
+use Rattle.verifactu.specs.Works.{Ran, Row, Worked}
 use Rattle.verifactu.proofs.Closing.{both_ok}
 use Rattle.verifactu.proofs.Each.{each_both, each_front, each_map, each_of_all, each_piece, each_unmap, each_weaker}
-use Rattle.verifactu.proofs.Rows.{AreDistinct, after_all, distinct_of, none_else, own as rows_own, still_held, stop_whose, told}
+use Rattle.verifactu.proofs.Rows.{AreDistinct, after_all, none_else, own as rows_own, still_held, stop_whose, told}
 use Rattle.verifactu.proofs.Rows.{own_asks, Told as RowTold}
 use Rattle.verifactu.proofs.SeenAll.{seen_whole}
 use Rattle.verifactu.proofs.Theirs.{Theirs, run_of_till}
@@ -143,25 +142,16 @@ stop_size (Some count) (Some torn) = refl
 stop_size (Some count) None = refl
 stop_size None torn = refl
 
-same_tills : {C : Type 0} (coming : C → ℕ → Option ℕ) (asks : List Asked) (rows : List (Row C)) →
-    AllByRecursion (λ (r : Row C). Worked coming asks r) rows → map (λ (r : Row C). r.done.till) rows ≡ map
-    (λ (d : TillDay). d.till) (map (λ (r : Row C). r.day) rows)
-same_tills coming asks [] h = refl
-same_tills coming asks (r ∷ rs) h = let e = h.0.till in let f = same_tills coming asks rs h.1 in
-    ap (λ (n : ℕ). n ∷ map (λ (s : Row _). s.done.till) rs) e ∙ ap (λ (l : List ℕ). r.day.till ∷ l) f
-
-tills_of_rows : {C : Type 0} (rows : List (Row C)) → map (λ (d : TillDay). d.till) (map (λ (r : Row C). r.done) rows) ≡ map
-    (λ (r : Row C). r.done.till) rows
+tills_of_rows : {C : Type 0} (rows : List (Row C)) → map (λ (t : TillReplies). t.till) (map (λ (r : Row C). r.part) rows) ≡ map
+    (λ (r : Row C). r.part.till) rows
 tills_of_rows [] = refl
-tills_of_rows (r ∷ rs) = ap (λ (l : List ℕ). r.done.till ∷ l) (tills_of_rows rs)
+tills_of_rows (r ∷ rs) = ap (λ (l : List ℕ). r.part.till ∷ l) (tills_of_rows rs)
 
 -- the same tills come back
-pub same_days : {C : Type 0} (coming : C → ℕ → Option ℕ) (asks : List Asked) (days done : List TillDay)
-    (old new : List (Known Item (Root C))) → Ran coming asks days old done new → map (λ (d : TillDay). d.till) done ≡ map
-    (λ (d : TillDay). d.till) days
-same_days coming asks days done old new ran =
-    ap (λ (l : List TillDay). map (λ (d : TillDay). d.till) l) ran.done_are ∙ tills_of_rows ran.rows ∙ same_tills coming asks
-    ran.rows ran.worked ∙ sym (ap (λ (l : List TillDay). map (λ (d : TillDay). d.till) l) ran.days_are)
+pub same_tills : {C : Type 0} (coming : C → ℕ → Option ℕ) (asks : List Asked) (tills : List ℕ) (parts : List TillReplies)
+    (old new : List (Known Item (Root C))) → Ran coming asks tills old parts new → map (λ (t : TillReplies). t.till) parts ≡ tills
+same_tills coming asks tills parts old new ran =
+    ap (λ (l : List TillReplies). map (λ (t : TillReplies). t.till) l) ran.parts_are ∙ tills_of_rows ran.rows ∙ sym ran.tills_are
 
 -- where a store goes on, its items are its entries
 pub no_stop_yet : {D C : Type 0} (p : Parts D C) → p.stopped ≡ None → length (items_in p) ≡ length p.state.entries
@@ -187,13 +177,13 @@ module _ {D C : Type 0} (tells : Bool) (tell : D → OnDisk) (faults : D → ℕ
       ∙ records p.stopped p.torn till (drop (length root.history) p.state.entries)
 
   abbrev RowDone : List Item → Row C → Type 0
-  RowDone base r = AreTaken r.done.answers.items (own_of r.done.till (drop (length root.history) p.state.entries))
+  RowDone base r = AreTaken r.part.replies (own_of r.part.till (drop (length root.history) p.state.entries))
 
   served : (base : List Item) → length base ≡ length root.history → Sound → (r : Row C) → RowTold coming asks base root p.stopped
       p.torn p.state.entries for_no_other what_is_taken r →
-      TakenItems r.done.answers.items (records_of r.done.till (drop (length base) (items_in p))) →
+      TakenItems r.part.replies (records_of r.part.till (drop (length base) (items_in p))) →
       (tills : List TillReplies) (kind : AgencyKind) (opened after : Desk) (answer : Result (Unit {0}) DrainFault) →
-      TillServed (shop_day coming asks root p tills kind opened after answer) (told_in r.done)
+      TillServed (shop_day coming asks root p tills kind opened after answer) (r.part)
   served base size sound r t own_items tills kind opened after answer =
       let total = length-append (map item.Entry p.state.entries) (stop_in p.stopped p.torn) in
       let entries = length-map p.state.entries (λ (x : Entry). item.Entry x) in
@@ -202,15 +192,15 @@ module _ {D C : Type 0} (tells : Bool) (tell : D → OnDisk) (faults : D → ℕ
         last = t.told.seen;
         told = t.told.told;
         run = t.told.run;
-        own = taken r.done.answers.items (own_of r.done.till (drop (length root.history) p.state.entries))
-            (subst (λ (l : List Item). TakenItems r.done.answers.items l) (since_start base size sound r.done.till) own_items);
+        own = taken r.part.replies (own_of r.part.till (drop (length root.history) p.state.entries))
+            (subst (λ (l : List Item). TakenItems r.part.replies l) (since_start base size sound r.part.till) own_items);
         at_least = (let a = t.told.within in let b = t.told.least in let c = t.least in omega (arith, a, b, c));
         at_most = (let s = t.saw in omega (arith, s, total, entries, stops));
       }
 
   -- the day of all rows
   module _ (base : List Item) (size : length base ≡ length root.history) (rows : List (Row C)) (seat : Known Item (Root C))
-      (distinct : AreDistinct (map (λ (r : Row C). r.done.till) rows))
+      (distinct : AreDistinct (map (λ (r : Row C). r.part.till) rows))
       (news : AllByRecursion (λ (r : Row C). IsNew base root r.from) rows)
       (first : Known Item (Root C)) (first_new : IsNew base root first) (kind : AgencyKind) (opened after : Desk)
       (answer : Result (Unit {0}) DrainFault)
@@ -230,25 +220,24 @@ module _ {D C : Type 0} (tells : Bool) (tell : D → OnDisk) (faults : D → ℕ
         bare worked fits starts since
 
     abbrev tills : List TillReplies
-    tills = map told_in (map (λ (r : Row C). r.done) rows)
+    tills = map (λ (r : Row C). r.part) rows
 
     abbrev day : Day
     day = shop_day coming asks root p tills kind opened after answer
 
-    all_served : AllByRecursion (λ (r : Row C). TillServed day (told_in r.done)) rows
-    all_served = each_both RTold (λ (r : Row C). TakenItems r.done.answers.items
-        (records_of r.done.till (drop (length base) (items_in p)))) (λ (r : Row C). TillServed day (told_in r.done)) rows
+    all_served : AllByRecursion (λ (r : Row C). TillServed day (r.part)) rows
+    all_served = each_both RTold (λ (r : Row C). TakenItems r.part.replies
+        (records_of r.part.till (drop (length base) (items_in p)))) (λ (r : Row C). TillServed day (r.part)) rows
         (λ r t own_items. served base size sound r t own_items tills kind opened after answer) all_told
         (rows_own coming asks base root p.stopped p.torn p.state.entries for_no_other
         what_is_taken size rows seat distinct news bare worked fits starts since)
 
-    replies_are : all_replies tills ≡ flat_map (λ (r : Row C). r.done.answers.items) rows
-    replies_are = flat_map-map (λ (t : TillReplies). t.replies) told_in (map (λ (r : Row C). r.done) rows) ∙
-        flat_map-map (λ (d : TillDay). d.answers.items) (λ (r : Row C). r.done) rows
+    replies_are : all_replies tills ≡ flat_map (λ (r : Row C). r.part.replies) rows
+    replies_are = flat_map-map (λ (t : TillReplies). t.replies) (λ (r : Row C). r.part) rows
 
-    stops_told : AllByRecursion (StopTold p.stopped) (flat_map (λ (r : Row C). r.done.answers.items) rows)
-    stops_told = each_piece (λ (r : Row C). r.done.answers.items) (StopTold p.stopped) rows
-        (each_weaker RTold (λ (r : Row C). AllByRecursion (StopTold p.stopped) r.done.answers.items) rows (λ r t. t.told.stops)
+    stops_told : AllByRecursion (StopTold p.stopped) (flat_map (λ (r : Row C). r.part.replies) rows)
+    stops_told = each_piece (λ (r : Row C). r.part.replies) (StopTold p.stopped) rows
+        (each_weaker RTold (λ (r : Row C). AllByRecursion (StopTold p.stopped) r.part.replies) rows (λ r t. t.told.stops)
         all_told)
 
     -- the entry of the stop is what a till's ask made, or the seat's notes
@@ -272,11 +261,9 @@ module _ {D C : Type 0} (tells : Bool) (tell : D → OnDisk) (faults : D → ℕ
               (let one = by.0 in
               let same : Some one.cut.entry ≡ Some e = sym one.cut.is ∙ torn_is in
               let entry_is : one.cut.entry ≡ e = (let s = same in cc) in
-              by_till (told_in one.row.done)
-              (in_map told_in (map (λ (r : Row C). r.done) rows) one.row.done
-              (in_map (λ (r : Row C). r.done) rows one.row one.among))
+              by_till one.row.part (in_map (λ (r : Row C). r.part) rows one.row one.among)
               (subst (λ (x : Entry). IsCutOffBy root.version root.issuer (coming root.clock) p.state.entries
-              (asks_of one.row.done.till asks) one.row.done.answers.items x) entry_is one.cut.by)
+              (asks_of one.row.part.till asks) one.row.part.replies x) entry_is one.cut.by)
               (ap (λ (rs : Replies). count_by is_own_fault rs) replies_are ∙ by.1))
           | inr mine ↦ sender mine.0.0 (elim fails [ inl untorn ↦ absurd (mine.0.1 untorn) | inr is ↦ is ])
               (ap (λ (rs : Replies). count_by is_own_fault rs) replies_are ∙ mine.1)
@@ -305,23 +292,21 @@ module _ {D C : Type 0} (tells : Bool) (tell : D → OnDisk) (faults : D → ℕ
     pub whole : SendsBeside day → DayRun (record { tells = tells; told = tell; faults = faults; coming = coming }) root p day
     whole sends = record {
       sound = sound;
-      served = each_map told_in (TillServed day) (map (λ (r : Row C). r.done) rows)
-          (each_map (λ (r : Row C). r.done) (λ (d : TillDay). TillServed day (told_in d)) rows all_served);
+      served = each_map (λ (r : Row C). r.part) (TillServed day) rows all_served;
       others = λ till other. no_entries (own_of till (drop (length root.history) p.state.entries))
           (sym (since_start base size sound till) ∙ none_else coming asks base root p.stopped p.torn p.state.entries for_no_other
           what_is_taken size rows seat distinct news bare worked fits starts since first first_new till
-          (each_unmap (λ (r : Row C). r.done) (λ (d : TillDay). d.till ≢ till) rows
-          (each_unmap told_in (λ (t : TillReplies). t.till ≢ till) (map (λ (r : Row C). r.done) rows) other)));
+          (each_unmap (λ (r : Row C). r.part) (λ (t : TillReplies). t.till ≢ till) rows other));
       stop = stop_at p.stopped p.torn refl refl;
       sends = sends;
       all_noted = counted;
     }
 
 -- each number is held again
-pub held_again : {C : Type 0} (coming : C → ℕ → Option ℕ) (asks : List Asked) (days done : List TillDay)
-    (old new : List (Known Item (Root C))) (seat then : Known Item (Root C)) → Ran coming asks days old done new →
+pub held_again : {C : Type 0} (coming : C → ℕ → Option ℕ) (asks : List Asked) (tills : List ℕ) (parts : List TillReplies)
+    (old new : List (Known Item (Root C))) (seat then : Known Item (Root C)) → Ran coming asks tills old parts new →
     then.numbers ≡ seat.numbers → (n : ℕ) → holders n (new ++ then ∷ []) ≡ holders n (old ++ seat ∷ [])
-held_again coming asks days done old new seat then ran same n =
+held_again coming asks tills parts old new seat then ran same n =
     let e : times_held n then ≡ times_held n seat = ap (λ (ns : List ℕ). times_held n (record seat { numbers = ns })) same in
     let a = sum_by_push (times_held n) new seat in
     let b = sum_by_push (times_held n) new then in
@@ -336,15 +321,16 @@ own_rows : {C : Type 0} (coming : C → ℕ → Option ℕ) (asks : List Asked) 
     AllByRecursion (λ (k : Known Item (Root C)). Theirs k) (after_all coming asks rows)
 own_rows coming asks base root [] owns news worked = tt
 own_rows coming asks base root (r ∷ rs) owns news worked = (
-  run_of_till coming r.done.till root base r.from r.last (asks_of r.done.till asks) r.done.answers.items owns news.0 worked.0.run
-      (own_asks r.done.till asks),
+  run_of_till coming r.part.till root base r.from r.last (asks_of r.part.till asks) r.part.replies owns news.0 worked.0.run
+      (own_asks r.part.till asks),
   own_rows coming asks base root rs owns news.1 worked.1,
 )
 
 module _ {D C : Type 0} (tells : Bool) (tell : D → OnDisk) (faults : D → ℕ) (coming : C → ℕ → Option ℕ) (asks : List Asked)
-    (p : Parts D C) (root : Root C) (base : List Item) (days done : List TillDay) (old new : List (Known Item (Root C)))
+    (p : Parts D C) (root : Root C) (base : List Item) (tills : List ℕ) (parts : List TillReplies)
+    (old new : List (Known Item (Root C)))
     (seat then : Known Item (Root C))
-    (ran : Ran coming asks days old done new) (fresh : All (IsNew base root) (old ++ seat ∷ [])) where
+    (ran : Ran coming asks tills old parts new) (fresh : All (IsNew base root) (old ++ seat ∷ [])) where
   news : AllByRecursion (λ (r : Row C). IsNew base root r.from) ran.rows × IsNew base root seat
   news =
       let all : AllByRecursion (IsNew base root) (map (λ (r : Row C). r.from) ran.rows ++ seat ∷ []) =
@@ -390,19 +376,17 @@ module _ {D C : Type 0} (tells : Bool) (tell : D → OnDisk) (faults : D → ℕ
 
   -- the day of the tills that ran and of the sender beside them, once their shop is closed
   pub ended : (kind : AgencyKind) (opened after : Desk) (answer : Result (Unit {0}) DrainFault) → AddsForNoOther coming → AddsWhatIsTaken coming →
-      length base ≡ length root.history → AllPairs (λ (a b : TillDay). a.till ≢ b.till) days → Shared base (items_in p) root new
+      length base ≡ length root.history → AreDistinct tills → Shared base (items_in p) root new
       seat then →
       Adds AreNotes (sight_by seat) (sight_by then) ⊎ FailsAtNotes kind opened after answer → (IsDiskAnswer answer → IsSome p.stopped) →
       IsSound tells tell faults coming root p →
       OnOk answer (length (noted_in p.state.entries) ≡ length (recs p.state.entries)) →
-      SendsBeside (shop_day coming asks root p (map told_in done) kind opened after answer) →
+      SendsBeside (shop_day coming asks root p parts kind opened after answer) →
       DayRun (record { tells = tells; told = tell; faults = faults; coming = coming }) root p
-      (shop_day coming asks root p (map told_in done) kind opened after answer)
+      (shop_day coming asks root p parts kind opened after answer)
   ended kind opened after answer for_no_other what_is_taken size distinct h notes disk sound counted sends =
-      let distinct' : AreDistinct (map (λ (r : Row C). r.done.till) ran.rows) =
-      subst (λ (l : List ℕ). AreDistinct l) (sym (same_tills coming asks ran.rows ran.worked))
-      (subst (λ (l : List TillDay). AreDistinct (map (λ (d : TillDay). d.till) l)) ran.days_are
-      (distinct_of (λ (d : TillDay). d.till) days distinct)) in
+      let distinct' : AreDistinct (map (λ (r : Row C). r.part.till) ran.rows) =
+      subst (λ (l : List ℕ). AreDistinct l) ran.tills_are distinct in
       let fits' : AllByRecursion (Fits (items_in p)) (after_all coming asks ran.rows ++ then ∷ []) =
       subst (λ (l : List (Known Item (Root C))). AllByRecursion (Fits (items_in p)) (l ++ then ∷ [])) ran.new_are
       (each_of_all (Fits (items_in p)) (new ++ then ∷ []) h.fits) in
@@ -410,10 +394,10 @@ module _ {D C : Type 0} (tells : Bool) (tell : D → OnDisk) (faults : D → ℕ
       1 =
       subst (λ (l : List (Known Item (Root C))). (n : ℕ) → length base ≤ n → n < length (items_in p) → owners n (l ++ then ∷ []) ≡
       1) ran.new_are h.since in
-      let Told : List TillDay → Day = λ l. shop_day coming asks root p (map told_in l) kind opened after answer in
-      subst (λ (l : List TillDay). DayRun (record { tells = tells; told = tell; faults = faults; coming = coming }) root p (Told l))
-      (sym ran.done_are)
+      let Told : List TillReplies → Day = λ l. shop_day coming asks root p l kind opened after answer in
+      subst (λ (l : List TillReplies). DayRun (record { tells = tells; told = tell; faults = faults; coming = coming }) root p (Told l))
+      (sym ran.parts_are)
       (whole tells tell faults coming asks root p for_no_other what_is_taken base size ran.rows then distinct' news.0 seat news.1 kind opened after
       answer (bare base (items_in p) root new seat then h) (Adds AreNotes (sight_by seat) (sight_by then))
       (all_noted base (items_in p) root new seat then h (Adds AreNotes (sight_by seat) (sight_by then)) (λ added. added)) notes
-      disk ran.worked fits' h.starts since' sound counted (subst (λ (l : List TillDay). SendsBeside (Told l)) ran.done_are sends))
+      disk ran.worked fits' h.starts since' sound counted (subst (λ (l : List TillReplies). SendsBeside (Told l)) ran.parts_are sends))

@@ -26,7 +26,7 @@ use Rattle.shop_core.specs.declared.answer.Planned.TheVariants.{Again, Refused, 
 use Rattle.shop_core.specs.declared.answer.refusals.Refusal.{Refusal}
 use Rattle.shop_core.specs.declared.answer.Reply.{Reply}
 use Rattle.shop_core.specs.declared.answer.receipts.Receipt.{Receipt}
-use Rattle.verifactu.specs.Day.{EachTill}
+use Rattle.verifactu.specs.Day.{EachTill, EachTillOf}
 use Rattle.verifactu.specs.Days.{Day, TillReplies}
 use Rattle.verifactu.specs.Draining.{AddsNotesAlone, AreNotesEntry}
 use Rattle.verifactu.specs.Promise.{AreAccepted, AreAskedIn, TillsGain}
@@ -34,6 +34,7 @@ use Rattle.chain_store.specs.Replies.{Replies}
 use Rattle.verifactu.specs.Tills.{TillServed, asks_of, has_asks, is_from, own_of, tills_of}
 use Rattle.verifactu.proofs.Accepted.{accepted_append, all_accepted, by_reply}
 use Rattle.verifactu.proofs.Each.{each_map, each_weaker}
+use Rattle.verifactu.proofs.TillDays.{each_filtered}
 
 -- no till asked
 filter_none : (p : ℕ → Bool) (xs : List ℕ) → ((x : ℕ) → p x ≡ false) → [] ≡ filter p xs
@@ -256,5 +257,35 @@ gains_day s d asked begins each =
       tills = rows_of d.tills ∙ each.are;
       own = each_map row Own d.tills (each_weaker (TillServed d) (λ (t : TillReplies). Own (row t)) d.tills
           (served_accepted d begins) each.served);
+      others = each.others;
+    }
+
+-- the numbers that pass a test, of what is numbered
+filter_numbers : (p : ℕ → Bool) (tills : List TillReplies) → map (λ (t : TillReplies). t.till) (filter (λ (t : TillReplies). p t.till) tills)
+    ≡ filter p (map (λ (t : TillReplies). t.till) tills)
+filter_numbers p [] = refl
+filter_numbers p (t ∷ tills) = by_test (p t.till) refl (filter_numbers p tills)
+  where
+    by_test : (b : Bool) → p t.till ≡ b → map (λ (x : TillReplies). x.till) (filter (λ (x : TillReplies). p x.till) tills) ≡ filter p
+        (map (λ (x : TillReplies). x.till) tills) → map (λ (x : TillReplies). x.till) (filter (λ (x : TillReplies). p x.till)
+        (t ∷ tills)) ≡ filter p (map (λ (x : TillReplies). x.till) (t ∷ tills))
+    by_test true e same = rw e (ap (λ (l : List ℕ). t.till ∷ l) same)
+    by_test false e same = rw e same
+
+-- all tills of a shop, of which some ask
+pub gains_all : (s : Sources) (d : Day) → AreAskedIn s d.asks → IsPrefix d.start d.end →
+    EachTillOf (range_with_len 1 LAST_TILL) d → TillsGain s d.start d.end
+gains_all s d asked begins each =
+    let Own : ℕ × Replies → Type 0 = λ t. AreAccepted (asks_of t.0 d.asks) t.1 (own_of t.0 (drop (length d.start) d.end)) in
+    let row : TillReplies → ℕ × Replies = λ t. (t.till, t.replies) in
+    let own : TillReplies → Bool = λ t. has_asks d.asks t.till in
+    record {
+      asks = d.asks;
+      asked = asked;
+      told = map row (filter own d.tills);
+      tills = rows_of (filter own d.tills) ∙ filter_numbers (has_asks d.asks) d.tills ∙
+          ap (λ (l : List ℕ). filter (has_asks d.asks) l) each.are;
+      own = each_map row Own (filter own d.tills) (each_filtered (λ (t : TillReplies). Own (row t)) own d.tills
+          (each_weaker (TillServed d) (λ (t : TillReplies). Own (row t)) d.tills (served_accepted d begins) each.served));
       others = each.others;
     }

@@ -1,5 +1,5 @@
 -- Jobs before a run and after it, as the rows of a day.
-use Rattle.std.proofs.Common.{◌≡◌, ℕ, suc, ◌<◌, List, [], ◌∷◌, ◌++◌, length, get_or, take, drop, map, Option, Some, refl, ap, sym}
+use Rattle.std.proofs.Common.{◌≡◌, ℕ, suc, ◌<◌, ◌≤◌, List, [], ◌∷◌, ◌++◌, length, get_or, take, drop, map, Option, Some, refl, ap, sym}
 use Rattle.std.proofs.Common.{◌∙◌, subst, arith, append_assoc, All}
 use Rattle.std.specs.Prelude.{reverse}
 use Rattle.std.specs.List.{AllByRecursion}
@@ -12,10 +12,11 @@ use Rattle.shop_core.specs.declared.items.Item.{Item}
 use Rattle.till_calls.specs.Root.{Root}
 use Rattle.till_calls.specs.Shop.{till_knows, till_number, till_shop}
 use Rattle.verifactu.specs.Tills.{asks_of}
-use Rattle.verifactu.specs.Works.{Ran, Row, Worked, Works, day_of, job_knows, known_after}
+use Rattle.verifactu.specs.Days.{TillReplies}
+use Rattle.verifactu.specs.Works.{Ran, Row, Worked, Works, day_of, job_knows, known_after, tills_in, told_in}
 use Rattle.verifactu.specs.declared.tills.Job.{Job}
 use Rattle.verifactu.specs.declared.tills.TillDay.{TillDay}
-use Rattle.verifactu.proofs.Each.{all_of_each, each_of_all, each_reverse, each_unmap, map_reverse}
+use Rattle.verifactu.proofs.Each.{all_of_each, each_of_all, each_reverse, each_snoc, each_unmap, each_weaker, map_reverse}
 
 -- what a slice of all of a vector leaves in it
 pub written_back : {X : Type 0} (new old : List X) (len : ℕ) → length new ≡ len → length old ≡ len →
@@ -50,6 +51,14 @@ all_turned {X} {Y} f P xs ys e h =
     (each_reverse P (reverse (map f xs)) each) in
     all_of_each (λ (x : X). P (f x)) xs (each_unmap f P xs back)
 
+-- each of these knew of no more items than the seat does now
+pub told_more : {R : Type 0} (old new : ℕ) (ks : List (Known Item R)) (k : Known Item R) → old ≤ new → k.least ≤ new →
+    All (λ (j : Known Item R). j.least ≤ old) ks → All (λ (j : Known Item R). j.least ≤ new) (ks ++ k ∷ [])
+told_more {R} old new ks k more least h =
+    all_of_each (λ (j : Known Item R). j.least ≤ new) (ks ++ k ∷ []) (each_snoc (λ (j : Known Item R). j.least ≤ new) ks k
+    (each_weaker (λ (j : Known Item R). j.least ≤ old) (λ (j : Known Item R). j.least ≤ new) ks (λ j e. omega (arith, more, e))
+    (each_of_all (λ (j : Known Item R). j.least ≤ old) ks h)) least)
+
 pub all_front : {X : Type 0} (P : X → Type 0) (all xs : List X) (x : X) → all ≡ xs ++ x ∷ [] → All P all → All P xs
 all_front P all xs x e h = (All-pop P all xs (Some x) e h).0
 
@@ -59,25 +68,25 @@ module _ {D C : Type 0} (coming : C → ℕ → Option ℕ) (asks : List Asked) 
       × Works coming (till_knows a.till) (asks_of (till_number a.till) asks) b.answers.items b.saw (till_knows b.till)
 
   row_of : (a b : Job D C) → Does a b → Row C
-  row_of a b h = record { day = day_of a; done = day_of b; from = job_knows a; last = h.1.last }
+  row_of a b h = record { part = told_in (day_of b); from = job_knows a; last = h.1.last }
 
   worked_of : (a b : Job D C) (h : Does a b) → Worked coming asks (row_of a b h)
   unfolding row_of
-  worked_of a b h = record { till = h.0.1; run = rw (h.0.1) h.1.run; at_least = h.1.at_least }
+  worked_of a b h = record { run = rw (h.0.1) h.1.run; at_least = h.1.at_least }
 
   -- the rows of two lists of jobs, one of each at a place
   record Rows (xs ys : List (Job D C)) : Type 0 where
     rows : List (Row C)
-    days_are : map (λ (j : Job D C). day_of j) xs ≡ map (λ (r : Row C). r.day) rows
+    tills_are : tills_in (map (λ (j : Job D C). day_of j) xs) ≡ map (λ (r : Row C). r.part.till) rows
     old_are : map (λ (j : Job D C). job_knows j) xs ≡ map (λ (r : Row C). r.from) rows
-    done_are : map (λ (j : Job D C). day_of j) ys ≡ map (λ (r : Row C). r.done) rows
+    parts_are : map told_in (map (λ (j : Job D C). day_of j) ys) ≡ map (λ (r : Row C). r.part) rows
     new_are : map (λ (j : Job D C). job_knows j) ys ≡ map (λ (r : Row C). known_after r) rows
     worked : AllByRecursion (λ (r : Row C). Worked coming asks r) rows
 
   by_index : (xs ys : List (Job D C)) → length ys ≡ length xs → ((i : ℕ) (d : Job D C) → i < length xs →
       Does (get_or xs i d) (get_or ys i d)) → Rows xs ys
   unfolding row_of
-  by_index [] [] e h = record { rows = []; days_are = refl; old_are = refl; done_are = refl; new_are = refl; worked = tt }
+  by_index [] [] e h = record { rows = []; tills_are = refl; old_are = refl; parts_are = refl; new_are = refl; worked = tt }
   by_index [] (y ∷ ys) e h = absurd (omega (arith, e))
   by_index (x ∷ xs) [] e h = absurd (omega (arith, e))
   by_index (x ∷ xs) (y ∷ ys) e h =
@@ -85,9 +94,10 @@ module _ {D C : Type 0} (coming : C → ℕ → Option ℕ) (asks : List Asked) 
       let does = h 0 x (omega arith) in
       record {
         rows = row_of x y does ∷ more.rows;
-        days_are = ap (λ (l : List TillDay). day_of x ∷ l) more.days_are;
+        tills_are = ap (λ (n : ℕ). n ∷ tills_in (map (λ (j : Job D C). day_of j) xs)) (sym does.0.1) ∙
+            ap (λ (l : List ℕ). till_number y.till ∷ l) more.tills_are;
         old_are = ap (λ (l : List (Known Item (Root C))). job_knows x ∷ l) more.old_are;
-        done_are = ap (λ (l : List TillDay). day_of y ∷ l) more.done_are;
+        parts_are = ap (λ (l : List TillReplies). told_in (day_of y) ∷ l) more.parts_are;
         new_are = ap (λ (k : Known Item (Root C)). k ∷ map (λ (j : Job D C). job_knows j) ys) does.1.new_is ∙
             ap (λ (l : List (Known Item (Root C))). known_after (row_of x y does) ∷ l) more.new_are;
         worked = (worked_of x y does, more.worked);
@@ -95,15 +105,17 @@ module _ {D C : Type 0} (coming : C → ℕ → Option ℕ) (asks : List Asked) 
 
   pub ran_of : (xs ys : List (Job D C)) → length ys ≡ length xs → ((i : ℕ) (d : Job D C) → i < length xs →
       Does (get_or xs i d) (get_or ys i d)) →
-      Ran coming asks (reverse (map (λ (j : Job D C). day_of j) xs)) (reverse (map (λ (j : Job D C). job_knows j) xs))
-      (reverse (map (λ (j : Job D C). day_of j) ys)) (reverse (map (λ (j : Job D C). job_knows j) ys))
+      Ran coming asks (tills_in (reverse (map (λ (j : Job D C). day_of j) xs))) (reverse (map (λ (j : Job D C). job_knows j) xs))
+      (map told_in (reverse (map (λ (j : Job D C). day_of j) ys))) (reverse (map (λ (j : Job D C). job_knows j) ys))
   ran_of xs ys e h =
       let r = by_index xs ys e h in
       record {
         rows = reverse r.rows;
-        days_are = ap (λ (l : List TillDay). reverse l) r.days_are ∙ sym (map_reverse (λ (x : Row C). x.day) r.rows);
+        tills_are = map_reverse (λ (d : TillDay). d.till) (map (λ (j : Job D C). day_of j) xs) ∙
+            ap (λ (l : List ℕ). reverse l) r.tills_are ∙ sym (map_reverse (λ (x : Row C). x.part.till) r.rows);
         old_are = ap (λ (l : List (Known Item (Root C))). reverse l) r.old_are ∙ sym (map_reverse (λ (x : Row C). x.from) r.rows);
-        done_are = ap (λ (l : List TillDay). reverse l) r.done_are ∙ sym (map_reverse (λ (x : Row C). x.done) r.rows);
+        parts_are = map_reverse told_in (map (λ (j : Job D C). day_of j) ys) ∙
+            ap (λ (l : List TillReplies). reverse l) r.parts_are ∙ sym (map_reverse (λ (x : Row C). x.part) r.rows);
         new_are = ap (λ (l : List (Known Item (Root C))). reverse l) r.new_are ∙ sym (map_reverse (λ (x : Row C). known_after x)
             r.rows);
         worked = each_reverse (λ (x : Row C). Worked coming asks x) r.rows r.worked;
@@ -114,14 +126,14 @@ module _ {D C : Type 0} (coming : C → ℕ → Option ℕ) (asks : List Asked) 
       All (λ (j : Job D C). till_shop j.till ≡ t) ys
   own_after xs ys t e h does = λ i d l. let within : i < length xs = omega (arith, l, e) in (does i d within).0.0 ∙ h i d within
 
-pub ran_as : {C : Type 0} (coming : C → ℕ → Option ℕ) (asks : List Asked) (days days' done done' : List TillDay)
-    (old old' new new' : List (Known Item (Root C))) → days ≡ days' → old ≡ old' → done ≡ done' → new ≡ new' →
-    Ran coming asks days old done new → Ran coming asks days' old' done' new'
-ran_as coming asks days days' done done' old old' new new' e f g h r = record {
+pub ran_as : {C : Type 0} (coming : C → ℕ → Option ℕ) (asks : List Asked) (tills tills' : List ℕ)
+    (parts parts' : List TillReplies) (old old' new new' : List (Known Item (Root C))) → tills ≡ tills' → old ≡ old' →
+    parts ≡ parts' → new ≡ new' → Ran coming asks tills old parts new → Ran coming asks tills' old' parts' new'
+ran_as coming asks tills tills' parts parts' old old' new new' e f g h r = record {
   rows = r.rows;
-  days_are = sym e ∙ r.days_are;
+  tills_are = sym e ∙ r.tills_are;
   old_are = sym f ∙ r.old_are;
-  done_are = sym g ∙ r.done_are;
+  parts_are = sym g ∙ r.parts_are;
   new_are = sym h ∙ r.new_are;
   worked = r.worked;
 }

@@ -21,8 +21,13 @@ pub mod TillRuns
 pub mod Rows
 pub mod DayRuns
 pub mod TillDays
+pub mod ShopDays
 pub mod DayEnding
 pub mod DayTexts
+pub mod AllTills
+pub mod Speeches
+pub mod SpeechTexts
+pub mod ServeEnding
 pub mod Contrary
 pub mod Noting
 pub mod Noted
@@ -41,3 +46,12 @@ pub mod Promised
 pub mod OnePosts
 pub mod Promising
 pub mod Batches
+pub mod NewSender
+pub mod Placed
+pub mod Paired
+pub mod Guarded
+pub mod GuardEnding
+pub mod Copied
+pub mod Follows
+pub mod GuardSaying
+pub mod GuardPromised

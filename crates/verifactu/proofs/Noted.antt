@@ -191,19 +191,26 @@ module _ (quiet : CameQuietly) (beside : CameBesideOwn) (kind : AgencyKind) (exa
       (turn_notes quiet beside kind mid.desk then.desk mid.sight then.sight mid.sending then.sending turn.now answer turn.turned
       tells each.1))
 
-  -- so what a drain notes are the lines that its messages say
-  pub drained_notes : (start then : Scene) (old new : List Told) (result : Result (Unit {0}) DrainFault) →
-      Drained kind exact start then old new result → GainsOwnNotes start.sight then.sight → Notes start then result
-  drained_notes start then old new result d gains =
+  -- so what a drain notes are the lines that its messages say, by its last turn's answer
+  pub drained_said : (start then : Scene) (old new : List Told) (result : Result (Unit {0}) DrainFault) →
+      (d : Drained kind exact start then old new result) → GainsOwnNotes start.sight then.sight →
+      Notes start then (sending_end d.answer)
+  drained_said start then old new result d gains =
       let first = turns_growth kind exact start d.answers d.links d.scene d.made in
       let next = is_turn_growth kind exact d.scene then d.answer d.turn in
       let each = gains_each start.sight d.scene.sight then.sight first next gains in
       let last = turn_notes quiet beside kind d.scene.desk then.desk d.scene.sight then.sight d.scene.sending then.sending
       d.turn.now d.answer d.turn.turned tells each.1 in
-      let all = notes_then (history_of start.sight) (history_of d.scene.sight) (history_of then.sight)
+      notes_then (history_of start.sight) (history_of d.scene.sight) (history_of then.sight)
       start.desk.ledger.messages d.scene.desk.ledger.messages then.desk.ledger.messages (sending_end d.answer)
       (recs (entries_of next.items)) (grown_records d.scene.sight then.sight next.items next.items_is)
-      (turns_note start d.answers d.links d.scene d.made each.0) last in
+      (turns_note start d.answers d.links d.scene d.made each.0) last
+
+  -- and by its own
+  pub drained_notes : (start then : Scene) (old new : List Told) (result : Result (Unit {0}) DrainFault) →
+      Drained kind exact start then old new result → GainsOwnNotes start.sight then.sight → Notes start then result
+  drained_notes start then old new result d gains =
+      let all = drained_said start then old new result d gains in
       let a = noted (history_of start.sight) in
       let c = noted (history_of then.sight) in
       elim d.ends [

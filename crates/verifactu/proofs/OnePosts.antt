@@ -1,5 +1,5 @@
 -- A list of one post.
-use Rattle.std.proofs.Common.{◌≡◌, ℕ, List, [], ◌∷◌, ◌++◌, length, length-append, refl, ap, arith}
+use Rattle.std.proofs.Common.{◌≡◌, List, [], ◌∷◌, ◌++◌, length, length-append, refl, ap, arith}
 
 -- a list of one that ends in this has nothing in front of it
 pub only_one : {A : Type 0} (whole rest : List A) (last : A) → length whole ≡ 1 → whole ≡ rest ++ last ∷ [] →

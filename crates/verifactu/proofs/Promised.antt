@@ -126,7 +126,7 @@ pub record Grown {D : Type 0} (version : Version) (issuer : List ℕ) (k : Disks
   pub rest : T start end torn
 
 -- a file is found as one history of an issuer
-same_found : OneHistory → NotBegunIsNeither → (version another : Version) (issuer : List ℕ) (start other : List Entry)
+pub same_found : OneHistory → NotBegunIsNeither → (version another : Version) (issuer : List ℕ) (start other : List Entry)
     (file : List ℕ) → IsFound version issuer start file → IsFound another issuer other file →
     (version ≡ another) × (start ≡ other)
 same_found one neither version another issuer start other file (inl none) (inl same) = (none.2 ∙ sym same.2, none.1 ∙ sym same.1)

@@ -3,6 +3,7 @@ use Rattle.std.proofs.Common.{◌≡◌, ◌⊎◌, inl, inr, ◌≤◌, ℕ, Li
 use Rattle.std.proofs.Common.{Bool, IsTrue, Option, Some, None}
 use Rattle.agency_rules.specs.declared.plans.Plan.{Plan}
 use Rattle.chain_disk.specs.Disks.{LeftDisk}
+use Rattle.chain_disk.specs.OnDisk.{IsImage}
 use Rattle.record_fields.specs.declared.versions.Version.TheVariants.{Two}
 use Rattle.shop_core.specs.Prefix.{IsPrefix}
 use Rattle.record_codec.specs.declared.entry.Entry.{Entry}
@@ -13,11 +14,15 @@ use Rattle.script.specs.declared.scripts.Script.{Script}
 use Rattle.sender.specs.Turning.{Desk}
 use Rattle.shop_core.specs.File.Laws.{NotBegunIsNeither, OneHistory}
 use Rattle.verifactu.specs.Chain.{ChainEnds, ScriptEnds}
-use Rattle.verifactu.specs.Day.{DayEnds, FileDay, day_of}
+use Rattle.verifactu.specs.Day.{DayEnds, EachCrash, FileDay, HistoryGoesOn, ItsAgency, NotServed, Outcome, day_of, day_with}
+use Rattle.verifactu.specs.Serve.{ServeWays}
+use Rattle.agency_rules.specs.Plans.{plain}
+use Rattle.shop_core.specs.Answer.Requests.{Asked}
 use Rattle.verifactu.specs.Days.{torn_of}
 use Rattle.verifactu.specs.Devices.{AllDevices, Further, LeftAgency, LeftFurther, NobodyCalled, around}
 use Rattle.verifactu.specs.Drain.{AllLeft, DrainEnds, FileDrained, first_moment, tells_moment}
 use Rattle.verifactu.specs.Draining.{IsSession, IsUnopened, spanning}
+use Rattle.verifactu.specs.Migrate.{disk_of_post}
 use Rattle.verifactu.specs.Opening.{NotOpened}
 use Rattle.verifactu.specs.Promise.{AgencyKept, BatchesKept, FileKept, FurtherKept, Grows, Promise, TillsGain, writes_for}
 use Rattle.chain_store.specs.Replies.{Replies}
@@ -27,11 +32,11 @@ use Rattle.verifactu.specs.Scripts.{IsGoodScript}
 use Rattle.verifactu.specs.Scripts.ScriptedEnds.{ran, bad_line, read_fault, too_big, no_memory}
 use Rattle.verifactu.specs.CommandLine.{AsksFor, IsAskedFor}
 use Rattle.verifactu.specs.declared.command_line.Command.{Command}
-use Rattle.verifactu.specs.declared.command_line.Command.TheVariants.{Chain, Day, Drain, Audit, Link, Check, Migrate}
+use Rattle.verifactu.specs.declared.command_line.Command.TheVariants.{Chain, Day, Drain, Serve, Audit, Link, Check, Migrate, Follow, Guard}
 use Rattle.verifactu.specs.declared.command_line.Command.TheVariants.{Statement, Export, Matches, Generate, Help, Version}
-use Rattle.verifactu.proofs.Sessions.{batches_not_served, batches_of_day, batches_of_drain, batches_silent, left_agency}
-use Rattle.verifactu.proofs.Sessions.{not_served, of_day, of_drain}
-use Rattle.verifactu.proofs.Gaining.{gains_day, gains_notes, gains_nothing, gains_run, notes_nothing}
+use Rattle.verifactu.proofs.Sessions.{batches_not_served, batches_of_day, batches_of_drain, batches_silent, left_agency, not_served, of_day, of_drain}
+use Rattle.verifactu.proofs.Gaining.{gains_all, gains_day, gains_notes, gains_nothing, gains_run, notes_nothing}
+use Rattle.verifactu.proofs.GuardPromised.{guard_left, only_guarded}
 use Rattle.verifactu.proofs.Promised.{AreLinked, Grown, Left, by_kept, goes_on, left_disk, legal_found, not_opened, others_of}
 use Rattle.verifactu.proofs.Promised.{own_of as own_grown, one_torn, sound_of, stands_still, torn_risen, whole}
 use Rattle.verifactu.proofs.Promised.Left.{grown}
@@ -71,7 +76,7 @@ module _ {D C Z G : Type 0} (chained : AreLinked) (a : AllDevices D C Z G)
         let kept = p.kept says in
         grown p.version p.start p.end kept.torn (p.found says)
         (by_kept chained issuer a.devices.disk _ p.version p.start p.end p.replies (p.found says) p.begins p.legal p.stops kept) (
-          gains_run a.devices.source p.version issuer (IsComing coming) p.start script.asks p.replies p.end (inr (script, good, refl))
+          gains_run a.devices.source p.version issuer (IsComing coming) p.start script.asks p.replies p.end (inr (inl (script, good, refl)))
               p.run,
           left_agency a.agency (desks nobody.agency) p.start p.end kept.torn (notes_nothing p.version issuer (IsComing coming) p.start p.run),
           batches_silent a.agency p.start p.end p.begins
@@ -87,34 +92,67 @@ module _ {D C Z G : Type 0} (chained : AreLinked) (a : AllDevices D C Z G)
     chain_left end (too_big past left) nobody = uncalled left.disk nobody.agency
     chain_left end (no_memory left) nobody = uncalled left.disk nobody.agency
 
-    day_file : (rules : IsTrue a.agency.kind.keeps_rules → IsTrue a.agency.kind.tells) (script : Script) (end : Detail) →
-        IsGoodScript Full a.devices.source script → FileDay issuer script script.clock (around a) end → LeftBy issuer
-    day_file rules script end good (inl h) =
-        uncalled h.1.disk h.1.agency
-    day_file rules script end good (inr (inl h)) =
-        not_opened chained issuer a.devices.disk Rest says h (nothing h.rest.agency)
-    day_file rules script end good (inr (inr (inl h))) =
+    -- a file was opened, and there was no memory for its day
+    no_day : (rules : IsTrue a.agency.kind.keeps_rules → IsTrue a.agency.kind.tells) (plan : Plan) (end : Detail) →
+        NotServed issuer plan (around a) end → LeftBy issuer
+    no_day rules plan end h =
         let kept = h.kept says in
         let legal = legal_found h.version issuer h.start (a.devices.disk.told a.devices.disk.disk).content (h.found says) in
         grown h.version h.start h.start [] (h.found says)
         (goes_on chained issuer a.devices.disk h.version h.start h.start [] (h.found says) (whole h.start) legal (omega arith) (inl refl)
         kept.each_moment kept.every_crash kept.reads) (
           gains_nothing a.devices.source h.start,
-          not_served a.agency script.plan h.start rules h.begun,
-          batches_not_served a.agency script.plan h.start h.begun,
+          not_served a.agency plan h.start rules h.begun,
+          batches_not_served a.agency plan h.start h.begun,
         )
+
+    -- it had a day
+    a_day : (asks : List Asked) (plan : Plan) (line : Option (ℕ × ℕ)) (o : Outcome) →
+        TillsGain a.devices.source o.start o.end → HistoryGoesOn (day_with issuer asks line (around a) o) →
+        EachCrash (day_with issuer asks line (around a) o) a.devices.disk →
+        ItsAgency (day_with issuer asks line (around a) o) plan a.agency a.devices.disk → LeftBy issuer
+    a_day asks plan line o gains history crashes agency =
+        let d = day_with issuer asks line (around a) o in
+        let kept = crashes.kept says in
+        grown o.version o.start o.end (torn_of o.stop) (crashes.found says)
+        (goes_on chained issuer a.devices.disk o.version o.start o.end (torn_of o.stop) (crashes.found says) history.begins
+        history.legal (one_torn o.stop) (torn_risen d (a.devices.disk.faults a.devices.disk.disk)
+        (a.devices.disk.faults a.devices.disk.disk_after) o.stop crashes.stop) kept.each_moment kept.every_crash kept.reads) (
+          gains,
+          of_day issuer asks plan line (around a) o agency,
+          batches_of_day issuer asks plan line (around a) o agency,
+        )
+
+    day_file : (rules : IsTrue a.agency.kind.keeps_rules → IsTrue a.agency.kind.tells) (script : Script) (end : Detail) →
+        IsGoodScript Full a.devices.source script → FileDay issuer script script.clock (around a) end → LeftBy issuer
+    day_file rules script end good (inl h) =
+        uncalled h.1.disk h.1.agency
+    day_file rules script end good (inr (inl h)) =
+        not_opened chained issuer a.devices.disk Rest says h (nothing h.rest.agency)
+    day_file rules script end good (inr (inr (inl h))) = no_day rules script.plan end h
     day_file rules script end good (inr (inr (inr h))) =
-        let o = h.outcome in
-        let d = day_of issuer script script.clock (around a) o in
-        let kept = h.crashes.kept says in
-        grown o.version o.start o.end (torn_of o.stop) (h.crashes.found says)
-        (goes_on chained issuer a.devices.disk o.version o.start o.end (torn_of o.stop) (h.crashes.found says) h.history.begins
-        h.history.legal (one_torn o.stop) (torn_risen d (a.devices.disk.faults a.devices.disk.disk)
-        (a.devices.disk.faults a.devices.disk.disk_after) o.stop h.crashes.stop) kept.each_moment kept.every_crash kept.reads) (
-          gains_day a.devices.source d (inr (script, good, refl)) h.history.begins h.tills,
-          of_day issuer script script.clock (around a) o h.agency,
-          batches_of_day issuer script script.clock (around a) o h.agency,
-        )
+        a_day script.asks script.plan script.clock h.outcome
+        (gains_day a.devices.source (day_of issuer script script.clock (around a) h.outcome) (inr (inl (script, good, refl)))
+        h.history.begins h.tills) h.history h.crashes h.agency
+
+    serve_left : (rules : IsTrue a.agency.kind.keeps_rules → IsTrue a.agency.kind.tells) (end : Detail) → ServeWays issuer a end →
+        LeftBy issuer
+    serve_left rules end (inl h) = uncalled h.2.disk h.2.agency
+    serve_left rules end (inr (inl h)) = not_opened chained issuer a.devices.disk Rest says h.1 (nothing h.1.rest.agency)
+    serve_left rules end (inr (inr (line, inl h))) = no_day rules plain end h.shop
+    serve_left rules end (inr (inr (line, inr h))) =
+        let x = h.speech in
+        a_day x.asks plain line h.outcome
+        (gains_all a.devices.source (day_with issuer x.asks line (around a) h.outcome) (inr (inr (record {
+          lines = x.lines;
+          form = x.form;
+          before = x.before;
+          replies = x.replies;
+          text = x.text;
+          how = x.how;
+          dialogue = h.spoken.dialogue;
+          read = h.spoken.read;
+        }))) h.history.begins h.tills) h.history h.crashes h.agency
 
     day_left : (rules : IsTrue a.agency.kind.keeps_rules → IsTrue a.agency.kind.tells) (end : Detail) → DayEnds issuer a end →
         LeftBy issuer
@@ -195,10 +233,13 @@ module _ {D C Z G : Type 0} (chained : AreLinked) (a : AllDevices D C Z G)
   own_kept one neither rules (Chain issuer) end h = by_writing one neither issuer (λ says. chain_left says issuer end h.0 h.1)
   own_kept one neither rules (Day issuer) end h = by_writing one neither issuer (λ says. day_left says issuer rules end h)
   own_kept one neither rules (Drain issuer) end h = by_writing one neither issuer (λ says. drain_left says issuer end h)
+  own_kept one neither rules (Serve issuer) end h = by_writing one neither issuer (λ says. serve_left says issuer rules end h.ends)
   own_kept one neither rules Audit end h = by_reading h.1.disk h.2
   own_kept one neither rules (Link num host) end h = by_reading h.1.disk h.2
   own_kept one neither rules (Check workers) end h = by_reading h.1.disk h.2
   own_kept one neither rules Migrate end h = absurd h
+  own_kept one neither rules Follow end h = absurd h
+  own_kept one neither rules (Guard issuer) end h = absurd h
   own_kept one neither rules (Statement month) end h = by_reading h.1.disk h.2
   own_kept one neither rules Export end h = by_reading h.1.disk h.2
   own_kept one neither rules Matches end h = by_reading h.1.disk h.2
@@ -210,6 +251,8 @@ module _ {D C Z G : Type 0} (chained : AreLinked) (a : AllDevices D C Z G)
   pub own_ends : (f : Further D C Z G) (command : Command) (end : Detail) → OwnEnds command a end → LeftFurther f →
       CommandEnds command a f end
   own_ends f Migrate end h left = absurd h
+  own_ends f Follow end h left = absurd h
+  own_ends f (Guard issuer) end h left = absurd h
   own_ends f command end h left = (h, left)
 
   others : OneHistory → NotBegunIsNeither → (IsTrue a.agency.kind.keeps_rules → IsTrue a.agency.kind.tells) →
@@ -218,12 +261,32 @@ module _ {D C Z G : Type 0} (chained : AreLinked) (a : AllDevices D C Z G)
   others one neither rules words f command end asked h more =
       record { command = Some command; asked = asked; file = own_kept one neither rules command end h; more = more }
 
-  pub promised : OneHistory → NotBegunIsNeither → (IsTrue a.agency.kind.keeps_rules → IsTrue a.agency.kind.tells) →
+  -- a disk reads as a crash may leave it
+  abbrev ReadsAnImage : Type 0
+  ReadsAnImage = (d : D) → IsTrue a.devices.disk.tells → IsImage (a.devices.disk.told d).now (a.devices.disk.told d).content
+
+  pub promised : ReadsAnImage → OneHistory → NotBegunIsNeither → (IsTrue a.agency.kind.keeps_rules → IsTrue a.agency.kind.tells) →
       (words : List (List ℕ)) (f : Further D C Z G) (command : Command) (end : Detail) → AsksFor words command →
       CommandEnds command a f end → Promise words a f
-  promised one neither rules words f Migrate end asked h =
+  promised image one neither rules words f Migrate end asked h =
       record { command = Some Migrate; asked = asked; file = by_reading h.reads.disk h.nobody; more = h.moves.only }
-  promised one neither rules words f command end asked h = others one neither rules words f command end asked h.0 h.1
+  promised image one neither rules words f Follow end asked h =
+      record { command = Some Follow; asked = asked; file = by_reading h.reads.disk h.nobody; more = h.follows.only }
+  promised image one neither rules words f (Guard issuer) end asked h =
+      let l = disk_of_post a.devices.disk h.post h.after in
+      record {
+        command = Some (Guard issuer);
+        asked = asked;
+        file = by_writing one neither issuer (λ says. guard_left chained a desks l (image h.post.disk) one neither issuer says end
+            h.ends);
+        more = record {
+          post = h.post;
+          after = h.after;
+          posts = h.posts;
+          guards = only_guarded chained a desks l (image h.post.disk) one neither issuer end h.ends;
+        };
+      }
+  promised image one neither rules words f command end asked h = others one neither rules words f command end asked h.0 h.1
 
   pub promised_nothing : (words : List (List ℕ)) (f : Further D C Z G) → IsAskedFor words None →
       a.devices.disk.told a.devices.disk.disk_after ≡ a.devices.disk.told a.devices.disk.disk → NobodyCalled a →

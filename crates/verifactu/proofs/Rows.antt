@@ -143,7 +143,7 @@ module _ {C : Type 0} (coming : C → ℕ → Option ℕ) (asks : List Asked) wh
   still_held n seat (r ∷ rs) h =
       let p : times_held n (known_after r) ≡ times_held n r.from =
       ap (λ (ns : List ℕ). times_held n (record r.from { numbers = ns })) (run_numbers coming r.from r.last
-      (asks_of r.done.till asks) r.done.answers.items h.0.run) in
+      (asks_of r.part.till asks) r.part.replies h.0.run) in
       let q = still_held n seat rs h.1 in
       let x = sum_by-cons (times_held n) (known_after r) (after_all rs ++ seat ∷ []) in
       let y = sum_by-cons (times_held n) r.from (before_all rs ++ seat ∷ []) in
@@ -156,11 +156,11 @@ module _ {C : Type 0} (coming : C → ℕ → Option ℕ) (asks : List Asked) wh
 
     -- a till's row, once the list at the end is known
     pub record Told (r : Row C) : Type 0 where
-      pub least : r.last.least ≤ r.done.saw
-      pub told : SoFar coming root stopped torn end (asks_of r.done.till asks) r.done.answers.items r.last
+      pub least : r.last.least ≤ r.part.saw
+      pub told : SoFar coming root stopped torn end (asks_of r.part.till asks) r.part.replies r.last
       pub fits : Fits log r.last
-      pub apart : (till : ℕ) → till ≢ r.done.till → OwnsNone till r.last
-      pub saw : r.done.saw ≤ length log
+      pub apart : (till : ℕ) → till ≢ r.part.till → OwnsNone till r.last
+      pub saw : r.part.saw ≤ length log
 
     low : length base ≡ length root.history → (k : Known Item (Root C)) → IsNew base root k → length root.history ≤ length k.seen
     low size k new = let e = ap (λ (l : List Item). length l) new.seen in omega (arith, e, size)
@@ -173,16 +173,16 @@ module _ {C : Type 0} (coming : C → ℕ → Option ℕ) (asks : List Asked) wh
         let least = new.least ∙ ap (λ (l : List Item). length l) (sym new.seen) in
         record {
           least = w.at_least;
-          told = so_far coming root stopped torn end r.from r.last (asks_of r.done.till asks) r.done.answers.items
+          told = so_far coming root stopped torn end r.from r.last (asks_of r.part.till asks) r.part.replies
               (low size r.from new) new.root_is least new.own f.begins w.run;
           fits = record { begins = f.begins; at_least = omega (arith, f.at_least, w.at_least); own = f.own };
-          apart = λ till other. for_no_other r.done.till till root base r.from r.last (asks_of r.done.till asks)
-              r.done.answers.items new w.run (own_asks r.done.till asks) other;
+          apart = λ till other. for_no_other r.part.till till root base r.from r.last (asks_of r.part.till asks)
+              r.part.replies new w.run (own_asks r.part.till asks) other;
           saw = f.at_least;
         }
 
     module _ (size : length base ≡ length root.history) (rows : List (Row C)) (seat : Known Item (Root C))
-        (distinct : AreDistinct (map (λ (r : Row C). r.done.till) rows))
+        (distinct : AreDistinct (map (λ (r : Row C). r.part.till) rows))
         (news : AllByRecursion (λ (r : Row C). IsNew base root r.from) rows)
         (bare : (till : ℕ) → OwnsNone till seat) (worked : AllByRecursion (Worked coming asks) rows)
         (fits : AllByRecursion (Fits log) (after_all rows ++ seat ∷ [])) (starts : StartsWith log base)
@@ -212,29 +212,29 @@ module _ {C : Type 0} (coming : C → ℕ → Option ℕ) (asks : List Asked) wh
       abbrev Apart : ℕ → Known Item (Root C) → Known Item (Root C) → Type 0
       Apart till new k = (k ≡ new) ⊎ OwnsNone till k
 
-      row_apart : (r s : Row C) → Same (λ (x : Row C). x.done.till) r s → Told s → Apart r.done.till r.last s.last
+      row_apart : (r s : Row C) → Same (λ (x : Row C). x.part.till) r s → Told s → Apart r.part.till r.last s.last
       row_apart r s (inl same) t = inl (ap (λ (x : Row C). x.last) same)
-      row_apart r s (inr other) t = inr (t.apart r.done.till (λ e. other (sym e)))
+      row_apart r s (inr other) t = inr (t.apart r.part.till (λ e. other (sym e)))
 
       -- the records of a till since the start are those it was told as taken
-      taken : (r : Row C) → AllByRecursion (Same (λ (x : Row C). x.done.till) r) rows × IsNew base root r.from →
-          Worked coming asks r × Told r → AreTaken r.done.answers.items (records_of r.done.till (drop (length base) log))
+      taken : (r : Row C) → AllByRecursion (Same (λ (x : Row C). x.part.till) r) rows × IsNew base root r.from →
+          Worked coming asks r × Told r → AreTaken r.part.replies (records_of r.part.till (drop (length base) log))
       taken r a b =
-          let apart = all_of_each (Apart r.done.till r.last) passes (each_snoc (Apart r.done.till r.last) (lasts rows) seat
-          (each_map (λ (x : Row C). x.last) (Apart r.done.till r.last) rows
-          (each_both (Same (λ (x : Row C). x.done.till) r) Told (λ (x : Row C). Apart r.done.till r.last x.last) rows
-          (row_apart r) a.0 told)) (inr (bare r.done.till))) in
-          what_is_taken r.done.till root base log r.from r.last (asks_of r.done.till asks) r.done.answers.items passes a.1 b.0.run
-          (own_asks r.done.till asks) starts b.1.fits passes_fit apart since_last
+          let apart = all_of_each (Apart r.part.till r.last) passes (each_snoc (Apart r.part.till r.last) (lasts rows) seat
+          (each_map (λ (x : Row C). x.last) (Apart r.part.till r.last) rows
+          (each_both (Same (λ (x : Row C). x.part.till) r) Told (λ (x : Row C). Apart r.part.till r.last x.last) rows
+          (row_apart r) a.0 told)) (inr (bare r.part.till))) in
+          what_is_taken r.part.till root base log r.from r.last (asks_of r.part.till asks) r.part.replies passes a.1 b.0.run
+          (own_asks r.part.till asks) starts b.1.fits passes_fit apart since_last
 
-      pub own : AllByRecursion (λ (r : Row C). AreTaken r.done.answers.items (records_of r.done.till (drop (length base) log)))
+      pub own : AllByRecursion (λ (r : Row C). AreTaken r.part.replies (records_of r.part.till (drop (length base) log)))
           rows
-      own = each_both (λ (r : Row C). AllByRecursion (Same (λ (x : Row C). x.done.till) r) rows × IsNew base root r.from)
-          (λ (r : Row C). Worked coming asks r × Told r) (λ (r : Row C). AreTaken r.done.answers.items
-          (records_of r.done.till (drop (length base) log))) rows taken
-          (each_both (λ (r : Row C). AllByRecursion (Same (λ (x : Row C). x.done.till) r) rows) (λ (r : Row C). IsNew base root
-          r.from) (λ (r : Row C). AllByRecursion (Same (λ (x : Row C). x.done.till) r) rows × IsNew base root r.from) rows
-          (λ r s n. (s, n)) (apart_all (λ (x : Row C). x.done.till) rows distinct) news)
+      own = each_both (λ (r : Row C). AllByRecursion (Same (λ (x : Row C). x.part.till) r) rows × IsNew base root r.from)
+          (λ (r : Row C). Worked coming asks r × Told r) (λ (r : Row C). AreTaken r.part.replies
+          (records_of r.part.till (drop (length base) log))) rows taken
+          (each_both (λ (r : Row C). AllByRecursion (Same (λ (x : Row C). x.part.till) r) rows) (λ (r : Row C). IsNew base root
+          r.from) (λ (r : Row C). AllByRecursion (Same (λ (x : Row C). x.part.till) r) rows × IsNew base root r.from) rows
+          (λ r s n. (s, n)) (apart_all (λ (x : Row C). x.part.till) rows distinct) news)
           (each_both (Worked coming asks) Told (λ (r : Row C). Worked coming asks r × Told r) rows (λ r w t. (w, t)) worked told)
 
       -- a pass that is new fits
@@ -249,11 +249,11 @@ module _ {C : Type 0} (coming : C → ℕ → Option ℕ) (asks : List Asked) wh
 
       -- no other till has a record since the start: a new pass has asked for nothing, and no pass owns one
       pub none_else : (first : Known Item (Root C)) → IsNew base root first → (till : ℕ) →
-          AllByRecursion (λ (r : Row C). r.done.till ≢ till) rows → records_of till (drop (length base) log) ≡ []
+          AllByRecursion (λ (r : Row C). r.part.till ≢ till) rows → records_of till (drop (length base) log) ≡ []
       none_else first new till other =
           let apart = all_of_each (Apart till first) passes (each_snoc (Apart till first) (lasts rows) seat
           (each_map (λ (x : Row C). x.last) (Apart till first) rows
-          (each_both (λ (r : Row C). r.done.till ≢ till) Told (λ (x : Row C). Apart till first x.last) rows
+          (each_both (λ (r : Row C). r.part.till ≢ till) Told (λ (x : Row C). Apart till first x.last) rows
           (λ r o t. inr (t.apart till (λ e. o (sym e)))) other told)) (inr (bare till))) in
           what_is_taken till root base log first first [] [] passes new begun (λ i d l. absurd (omega (arith, l))) starts
           (new_fits first new) passes_fit apart since_last
@@ -262,7 +262,7 @@ module _ {C : Type 0} (coming : C → ℕ → Option ℕ) (asks : List Asked) wh
       pub record CutByOne (rs : List (Row C)) : Type 0 where
         pub row : Row C
         pub among : Contains rs row
-        pub cut : CutOff coming root stopped torn end (asks_of row.done.till asks) row.done.answers.items
+        pub cut : CutOff coming root stopped torn end (asks_of row.part.till asks) row.part.replies
 
       clean_or_cut : (rs : List (Row C)) → AllByRecursion Told rs →
           AllByRecursion (λ (r : Row C). AllByRecursion (λ (z : ℕ × Item). is_stop z.1 ≡ false) r.last.own) rs ⊎ CutByOne rs
@@ -270,7 +270,7 @@ module _ {C : Type 0} (coming : C → ℕ → Option ℕ) (asks : List Asked) wh
       clean_or_cut (r ∷ rs) t = both t.0.told.clean (clean_or_cut rs t.1)
         where
           both : AllByRecursion (λ (z : ℕ × Item). is_stop z.1 ≡ false) r.last.own ⊎
-              CutOff coming root stopped torn end (asks_of r.done.till asks) r.done.answers.items →
+              CutOff coming root stopped torn end (asks_of r.part.till asks) r.part.replies →
               AllByRecursion (λ (s : Row C). AllByRecursion (λ (z : ℕ × Item). is_stop z.1 ≡ false) s.last.own) rs ⊎ CutByOne rs
               → AllByRecursion (λ (s : Row C). AllByRecursion (λ (z : ℕ × Item). is_stop z.1 ≡ false) s.last.own) (r ∷ rs) ⊎
               CutByOne (r ∷ rs)
@@ -281,7 +281,7 @@ module _ {C : Type 0} (coming : C → ℕ → Option ℕ) (asks : List Asked) wh
 
       -- how many of the tills' asks were answered with a fault of their own
       abbrev faults_told : List (Row C) → ℕ
-      faults_told rs = count_by is_own_fault (flat_map (λ (r : Row C). r.done.answers.items) rs)
+      faults_told rs = count_by is_own_fault (flat_map (λ (r : Row C). r.part.replies) rs)
 
       -- it is how often they own the place of the only stop
       faults_own : (n : ℕ) (x : Item) → slice_get log n ≡ Some x → is_stop x ≡ true →
@@ -290,8 +290,8 @@ module _ {C : Type 0} (coming : C → ℕ → Option ℕ) (asks : List Asked) wh
       faults_own n x there stops only [] t = refl
       faults_own n x there stops only (r ∷ rs) t =
           let more = faults_own n x there stops only rs t.1 in
-          let split = sum_by-append (λ (a : Result Reply StoreFault). cond (is_own_fault a) 1 0) r.done.answers.items
-          (flat_map (λ (s : Row C). s.done.answers.items) rs) in
+          let split = sum_by-append (λ (a : Result Reply StoreFault). cond (is_own_fault a) 1 0) r.part.replies
+          (flat_map (λ (s : Row C). s.part.replies) rs) in
           let here = t.0.told.faults in
           let at : stops_owned r.last.own ≡ times_owned n r.last = stops_at log n x there stops only r.last.own
           (each_of_all (λ (z : ℕ × Item). slice_get log z.0 ≡ Some z.1) r.last.own t.0.fits.own) in

@@ -61,7 +61,7 @@ all_replied (Err DiskFault ∷ replies) memory disk = absurd cc
 all_replied (Err (Stopped count) ∷ replies) memory disk = absurd cc
 
 -- where the journal went on, no reply is a fault of the disk
-went_on : (replies : List (Result Reply StoreFault)) → AllGoOn replies → list_any is_disk_fault replies ≡ false
+pub went_on : (replies : List (Result Reply StoreFault)) → AllGoOn replies → list_any is_disk_fault replies ≡ false
 went_on [] all = refl
 went_on (Ok reply ∷ replies) all = went_on replies all.1
 went_on (Err NoMemory ∷ replies) all = went_on replies all.1

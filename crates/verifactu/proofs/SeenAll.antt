@@ -21,12 +21,12 @@ module _ {D C : Type 0} (tell : D → OnDisk) (faults : D → ℕ) (coming : C �
     (root : Root C) (base : List Item) (within : OwnsWithinKnown coming)
     (sees : SeesAll (items_in {D = D} {C = C}) (root_of tell faults)) where
   -- what a till owns stands below the count at its end
-  row_below : (n : ℕ) (r : Row C) → IsNew base root r.from → Worked coming asks r → r.done.saw ≤ n → OwnsBelow n (known_after r)
+  row_below : (n : ℕ) (r : Row C) → IsNew base root r.from → Worked coming asks r → r.part.saw ≤ n → OwnsBelow n (known_after r)
   row_below n r new w most =
       All-weaker (λ (x : ℕ × Item). x.0 < r.last.least) (λ (x : ℕ × Item). x.0 < n)
       (λ x l. let a = w.at_least in omega (arith, l, a, most)) r.last.own
-      (within r.done.till root base r.from r.last (asks_of r.done.till asks) r.done.answers.items new w.run
-      (own_asks r.done.till asks))
+      (within r.part.till root base r.from r.last (asks_of r.part.till asks) r.part.replies new w.run
+      (own_asks r.part.till asks))
 
   rows_below : (n : ℕ) (rows : List (Row C)) → AllByRecursion (λ (r : Row C). IsNew base root r.from) rows →
       AllByRecursion (Worked coming asks) rows →

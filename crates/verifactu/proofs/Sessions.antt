@@ -18,14 +18,14 @@ use Rattle.sender.specs.Turning.{Desk}
 use Rattle.sender.specs.declared.answers.DrainFault.{DrainFault}
 use Rattle.sender.specs.declared.answers.DrainFault.TheVariants as drain
 use Rattle.shop_core.specs.History.{noted, recs}
-use Rattle.script.specs.declared.scripts.Script.{Script}
 use Rattle.verifactu.specs.Beside.{IsUnbegun}
-use Rattle.verifactu.specs.Day.{ItsAgency, Outcome as DayOutcome, day_of}
+use Rattle.shop_core.specs.Answer.Requests.{Asked}
+use Rattle.verifactu.specs.Day.{ItsAgency, Outcome as DayOutcome, day_with}
 use Rattle.verifactu.specs.Days.{torn_of}
 use Rattle.verifactu.specs.Devices.{Agencies, Around}
 use Rattle.verifactu.specs.Draining.{AreOfChain, IsSession, IsUnopened, OpensSession, Outcome, SaysNothingBlindly, spanning}
-use Rattle.verifactu.specs.Noting.{AreNoted, MissesLast, NotesSaid, all_said, lines_said}
-use Rattle.verifactu.specs.Promise.{AgencyKept, BatchesKept, NotesWhatIsSaid, StaysOfChain}
+use Rattle.verifactu.specs.Noting.{AreNoted, MissesLast, NotesSaid, NotesWhatIsSaid, all_said, lines_said}
+use Rattle.verifactu.specs.Promise.{AgencyKept, BatchesKept, StaysOfChain}
 use Rattle.verifactu.specs.Promise.AgencyKept.{silent, in_session}
 use Rattle.verifactu.proofs.Batches.{runs_more}
 use Rattle.verifactu.proofs.Contrary.{recs_both}
@@ -35,7 +35,7 @@ use Rattle.verifactu.proofs.Gaining.{noted_both}
 no_batch : (plan : Plan) (count : ℕ) (old : List Message) → batches_in (old ++ Begun plan count ∷ []) ≡ batches_in old
 no_batch plan count old = filter_map-append batch_in old (Begun plan count ∷ []) ∙ append-nil (batches_in old)
 
-said_both : (xs ys : List Message) → all_said (xs ++ ys) ≡ all_said xs ++ all_said ys
+pub said_both : (xs ys : List Message) → all_said (xs ++ ys) ≡ all_said xs ++ all_said ys
 said_both [] ys = refl
 said_both (m ∷ xs) ys = ap (λ (l : List Line). lines_said m ++ l) (said_both xs ys)
     ∙ sym (append_assoc (lines_said m) (all_said xs) (all_said ys))
@@ -55,7 +55,7 @@ last_missing before after messages h = record {
 }
 
 -- however the sending ended, the lines that were noted are the first of those that were said
-first_said : (before after : List Line) (messages : List Message) (answer : Result (Unit {0}) DrainFault) →
+pub first_said : (before after : List Line) (messages : List Message) (answer : Result (Unit {0}) DrainFault) →
     AreNoted before after messages answer → IsPrefix after (before ++ all_said messages)
 first_said before after messages (Ok done) h = all_noted before after messages h
 first_said before after messages (Err (drain.Undelivered n r)) h = all_noted before after messages h
@@ -117,7 +117,7 @@ module _ {G : Type 0} (a : Agencies G) where
       (of_opened plan start h.opened h.opens tells runs)
 
   -- said since the session was opened is said since before
-  since_opening : (plan : Plan) (start : List Entry) (opened : Desk) →
+  pub since_opening : (plan : Plan) (start : List Entry) (opened : Desk) →
       OpensSession a.kind a.begun plan start a.before opened →
       (IsTrue a.kind.tells → AreOfChain start opened.ledger.messages →
       SaysNothingBlindly opened.ledger.messages New.messages) →
@@ -189,14 +189,14 @@ module _ {G : Type 0} (a : Agencies G) where
   })
 
 -- a day's session
-module _ {D C Z G : Type 0} (issuer : List ℕ) (script : Script) (line : Option (ℕ × ℕ)) (c : Around D C Z G) (o : DayOutcome)
-    (h : ItsAgency (day_of issuer script line c o) script.plan c.agency c.disk) where
+module _ {D C Z G : Type 0} (issuer : List ℕ) (asks : List Asked) (plan : Plan) (line : Option (ℕ × ℕ)) (c : Around D C Z G)
+    (o : DayOutcome) (h : ItsAgency (day_with issuer asks line c o) plan c.agency c.disk) where
   pub of_day : AgencyKept o.start o.end (torn_of o.stop) c.agency
   of_day = in_session (record {
-    careful = since_opening c.agency script.plan o.start o.opened h.opens h.sends.careful;
-    said = said_since c.agency script.plan o.start o.end o.opened o.answer h.opens h.sends.lines;
+    careful = since_opening c.agency plan o.start o.opened h.opens h.sends.careful;
+    said = said_since c.agency plan o.start o.end o.opened o.answer h.opens h.sends.lines;
     agrees = λ keeps agree. let still = h.agreement keeps agree in (still.whole, still.torn);
   })
 
   pub batches_of_day : BatchesKept o.start o.end c.agency
-  batches_of_day tells runs = h.sends.runs tells (of_opened c.agency script.plan o.start o.opened h.opens tells runs)
+  batches_of_day tells runs = h.sends.runs tells (of_opened c.agency plan o.start o.opened h.opens tells runs)

@@ -2,7 +2,6 @@
 use Rattle.std.proofs.Common.{◌≡◌, ◌∙◌, refl, inl, List, [], ◌++◌, length, append-nil, sym, ap, subst, arith, zero-add, Bool, ℕ}
 use Rattle.std.proofs.Common.{Option, Some, None, Result, Err, OnOk}
 use Rattle.std.specs.List.{AllByRecursion}
-use Rattle.record_fields.specs.declared.versions.Version.{Version}
 use Rattle.chain_disk.specs.OnDisk.{OnDisk}
 use Rattle.chain_disk.specs.Runs.{weaker, started_settled, leaves_now}
 use Rattle.chain_lock.specs.Lists.{StartsWith}

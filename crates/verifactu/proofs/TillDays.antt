@@ -24,7 +24,7 @@ pub filter_next : (p : ℕ → Bool) (n : ℕ) → filter p (range_with_len 1 (n
 filter_next p n = ap (λ (l : List ℕ). filter p l) (range_more 1 n) ∙ filter-append p (range_with_len 1 n) ((1 + n) ∷ []) ∙
     ap (λ (k : ℕ). filter p (range_with_len 1 n) ++ filter p (k ∷ [])) (let e : 1 + n ≡ n + 1 = omega arith in e)
 
-each_filtered : {X : Type 0} (P : X → Type 0) (p : X → Bool) (xs : List X) → AllByRecursion P xs → AllByRecursion P (filter p xs)
+pub each_filtered : {X : Type 0} (P : X → Type 0) (p : X → Bool) (xs : List X) → AllByRecursion P xs → AllByRecursion P (filter p xs)
 each_filtered P p [] h = tt
 each_filtered {X} P p (x ∷ xs) h = by_test (p x) (each_filtered P p xs h.1)
   where

@@ -8,7 +8,7 @@ use Rattle.verify_link.specs.declared.parts.Host.{Host}
 use Rattle.verify_link.specs.declared.parts.Host.TheVariants.{Real, Practice}
 use Rattle.link_check.specs.declared.all.TheConstants.{MAX_WORKERS}
 use Rattle.verifactu.specs.declared.command_line.Command.{Command}
-use Rattle.verifactu.specs.declared.command_line.Command.TheVariants.{Chain, Day, Drain, Audit, Link, Check, Migrate}
+use Rattle.verifactu.specs.declared.command_line.Command.TheVariants.{Chain, Day, Drain, Serve, Audit, Link, Check, Migrate, Follow, Guard}
 use Rattle.verifactu.specs.declared.command_line.Command.TheVariants.{Statement, Export, Matches, Generate, Help, Version}
 use Rattle.file_commands.specs.declared.generated.TheConstants.{MOST}
 
@@ -30,6 +30,13 @@ pub record IsDay (words : List (List ℕ)) (issuer : List ℕ) : Type 0 where
 pub record IsDrain (words : List (List ℕ)) (issuer : List ℕ) : Type 0 where
   pub file : List ℕ
   pub words_are : words ≡ codes "drain" ∷ (file ∷ (issuer ∷ []))
+  pub named : 0 < length file
+  pub nif : IsNif issuer
+
+-- `serve FILE NIF`, the same
+pub record IsServe (words : List (List ℕ)) (issuer : List ℕ) : Type 0 where
+  pub file : List ℕ
+  pub words_are : words ≡ codes "serve" ∷ (file ∷ (issuer ∷ []))
   pub named : 0 < length file
   pub nif : IsNif issuer
 
@@ -97,6 +104,25 @@ pub record IsMigrate (words : List (List ℕ)) : Type 0 where
   pub named : 0 < length file
   pub new_named : 0 < length new
 
+-- `follow FILE NEW`: the names of two files, which differ
+pub record IsFollow (words : List (List ℕ)) : Type 0 where
+  pub file : List ℕ
+  pub new : List ℕ
+  pub words_are : words ≡ codes "follow" ∷ (file ∷ (new ∷ []))
+  pub named : 0 < length file
+  pub new_named : 0 < length new
+  pub apart : new ≡ file → ⊥
+
+-- `guard FILE NIF NEW`: the names of two files, which differ, and an issuer
+pub record IsGuard (words : List (List ℕ)) (issuer : List ℕ) : Type 0 where
+  pub file : List ℕ
+  pub new : List ℕ
+  pub words_are : words ≡ codes "guard" ∷ (file ∷ (issuer ∷ (new ∷ [])))
+  pub named : 0 < length file
+  pub nif : IsNif issuer
+  pub new_named : 0 < length new
+  pub apart : new ≡ file → ⊥
+
 -- `statement FILE MM-YYYY`: a file's name, and a month
 pub record IsStatement (words : List (List ℕ)) (month : YearMonth) : Type 0 where
   pub file : List ℕ
@@ -121,10 +147,13 @@ abbrev pub AsksFor : List (List ℕ) → Command → Type 0
 AsksFor words (Chain issuer) = IsChain words issuer
 AsksFor words (Day issuer) = IsDay words issuer
 AsksFor words (Drain issuer) = IsDrain words issuer
+AsksFor words (Serve issuer) = IsServe words issuer
 AsksFor words Audit = IsAudit words
 AsksFor words (Link num host) = IsLink words num host
 AsksFor words (Check workers) = IsCheck words workers
 AsksFor words Migrate = IsMigrate words
+AsksFor words Follow = IsFollow words
+AsksFor words (Guard issuer) = IsGuard words issuer
 AsksFor words (Statement month) = IsStatement words month
 AsksFor words Export = IsExport words
 AsksFor words Matches = IsMatches words
@@ -139,13 +168,28 @@ IsAskedFor words (Some command) = AsksFor words command
 
 -- how many files these words name beside the first one
 abbrev pub posts_needed : List (List ℕ) → ℕ
-posts_needed (name ∷ (file ∷ (new ∷ []))) = if bytes_eq name (codes "migrate") then 1 else 0
+posts_needed (name ∷ (file ∷ (new ∷ []))) =
+    if bytes_eq name (codes "migrate") then 1 else (if bytes_eq name (codes "follow") then 1 else 0)
+posts_needed (name ∷ (file ∷ (nif ∷ (new ∷ [])))) = if bytes_eq name (codes "guard") then 1 else 0
 posts_needed _ = 0
 
 -- a command that works on one file
 abbrev pub IsOfOneFile : Command → Type 0
 IsOfOneFile Migrate = ⊥
+IsOfOneFile Follow = ⊥
+IsOfOneFile (Guard issuer) = ⊥
 IsOfOneFile _ = Unit {0}
+
+-- a command that isn't `migrate` or `follow`
+abbrev pub IsForIssuerOrOneFile : Command → Type 0
+IsForIssuerOrOneFile Migrate = ⊥
+IsForIssuerOrOneFile Follow = ⊥
+IsForIssuerOrOneFile _ = Unit {0}
+
+-- `guard`
+abbrev pub IsGuarding : Command → Type 0
+IsGuarding (Guard issuer) = Unit {0}
+IsGuarding _ = ⊥
 
 -- a command that words can ask for
 abbrev pub IsWithin : Command → Type 0

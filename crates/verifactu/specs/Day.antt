@@ -59,12 +59,12 @@ pub record Outcome : Type 0 where
   pub opened : Desk
   pub answer : Result (Unit {0}) DrainFault
 
--- the day of a script for this issuer, by this clock line, of which this came
-abbrev pub day_of : {D C Z G : Type 0} → List ℕ → Script → Option (ℕ × ℕ) → Around D C Z G → Outcome → Day
-day_of issuer script line c o = record {
+-- a day with these asks for this issuer, by this clock line, of which this came
+abbrev pub day_with : {D C Z G : Type 0} → List ℕ → List Asked → Option (ℕ × ℕ) → Around D C Z G → Outcome → Day
+day_with issuer asks line c o = record {
   issuer = issuer;
   version = o.version;
-  asks = script.asks;
+  asks = asks;
   coming = readings_of line (c.clock.coming c.clock.clock);
   start = o.start;
   end = o.end;
@@ -76,6 +76,10 @@ day_of issuer script line c o = record {
   answer = o.answer;
 }
 
+-- the day of a script
+abbrev pub day_of : {D C Z G : Type 0} → List ℕ → Script → Option (ℕ × ℕ) → Around D C Z G → Outcome → Day
+day_of issuer script line c o = day_with issuer script.asks line c o
+
 -- the history: it goes on from the one at the start, and is legal
 pub record HistoryGoesOn (d : Day) : Type 0 where
   pub begins : IsPrefix d.start d.end
@@ -83,12 +87,16 @@ pub record HistoryGoesOn (d : Day) : Type 0 where
   pub linked : Linked d.issuer (recs d.end)
   pub rising : (till : ℕ) → SerialsRise d.end till
 
--- Each till of the script has a till run of its own asks in line order, and its records since the start are those that it was
--- told as taken. No other till has a record since the start.
-pub record EachTill (d : Day) : Type 0 where
-  pub are : map (λ (t : TillReplies). t.till) d.tills ≡ tills_of d.asks
+-- Each till of these numbers has a till run of its own asks in line order, and its records since the start are those that it was
+-- told as taken. A till that asked for nothing has no record since the start.
+pub record EachTillOf (numbers : List ℕ) (d : Day) : Type 0 where
+  pub are : map (λ (t : TillReplies). t.till) d.tills ≡ numbers
   pub served : AllByRecursion (TillServed d) d.tills
   pub others : (till : ℕ) → has_asks d.asks till ≡ false → own_of till (drop (length d.start) d.end) ≡ []
+
+-- the tills are those that ask for anything
+abbrev pub EachTill : Day → Type 0
+EachTill d = EachTillOf (tills_of d.asks) d
 
 -- The file stood for the history at the start. Each crash since its opening began leaves a front of the history at the end, or of
 -- that with the entry of the stop.
@@ -107,14 +115,11 @@ pub record ItsAgency {D G : Type 0} (d : Day) (plan : Plan) (a : Agencies G) (k 
   pub agreement : IsTrue d.kind.keeps_rules → AgreesAtStart a d.start → StaysAgreed d
   pub images : IsTrue k.tells → StaysAgreed d → LeavesNow (k.told k.disk_after) (AgreesInFile d.version d.issuer d.after)
 
--- how it ends
-pub record EndsAsServed {D C Z G : Type 0} (d : Day) (c : Around D C Z G) (end : Detail) : Type 0 where
-  pub cause : DayRunEnds (all_replies d.tills) d.answer (length (noted d.end)) (length (recs d.end)) (day_text d.asks d.tills d.end)
-      c.sink end
+-- what an end tells of the sender, whose agency was at this desk before the call
+pub record TellsOfSender (d : Day) (before : Desk) (end : Detail) : Type 0 where
   -- it is undelivered only where lines are missing and the agency failed eight times
   pub undelivered : (noted_count records_count : ℕ) → end ≡ detail.Undelivered noted_count records_count →
-      (noted_count < records_count) × (d.after.faults < 2 ^ 64 - 1 →
-      c.agency.before.faults + MAX_LINK_FAULTS ≤ d.after.faults)
+      (noted_count < records_count) × (d.after.faults < 2 ^ 64 - 1 → before.faults + MAX_LINK_FAULTS ≤ d.after.faults)
   -- where the agency tells its messages it is a contradiction exactly where this call's last one is a consultation that shows it,
   -- unless memory was wanting or the disk failed
   pub contrary : IsTrue d.kind.tells → (evidence : Evidence) → end ≡ detail.Contradiction evidence →
@@ -122,6 +127,12 @@ pub record EndsAsServed {D C Z G : Type 0} (d : Day) (c : Around D C Z G) (end :
   pub shown : IsTrue d.kind.tells → (evidence : Evidence) →
       ShowsLast d.end d.opened.ledger.messages d.after.ledger.messages evidence →
       (end ≡ detail.Contradiction evidence) ⊎ (end ≡ detail.NoMemory) ⊎ (end ≡ detail.DiskFault)
+
+-- how it ends
+pub record EndsAsServed {D C Z G : Type 0} (d : Day) (c : Around D C Z G) (end : Detail) : Type 0 where
+  pub cause : DayRunEnds (all_replies d.tills) d.answer (length (noted d.end)) (length (recs d.end)) (day_text d.asks d.tills d.end)
+      c.sink end
+  pub sender : TellsOfSender d c.agency.before end
   -- where no device fails and the agency keeps its rules and agrees, it is done, or memory was wanting
   pub complete : NothingRose c.sink c.disk c.agency → IsTrue d.kind.keeps_rules → AgreesAtStart c.agency d.start →
       (end ≡ detail.Done) ⊎ (end ≡ detail.NoMemory)

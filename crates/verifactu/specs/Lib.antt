@@ -11,6 +11,7 @@ pub mod Steps
 pub mod Stopping
 pub mod Noting
 pub mod Draining
+pub mod Guarding
 pub mod Outcomes
 pub mod Started
 pub mod Drain
@@ -19,6 +20,9 @@ pub mod Beside
 pub mod Tills
 pub mod Works
 pub mod Day
+pub mod Serve
 pub mod Migrate
+pub mod Follow
+pub mod Guard
 pub mod Promise
 pub mod Running

@@ -1,5 +1,5 @@
 -- How `migrate` ends.
-use Rattle.std.specs.Prelude.{◌≡◌, ℕ, List, [], ◌∷◌, IsTrue}
+use Rattle.std.specs.Prelude.{◌≡◌, ℕ, [], ◌∷◌, IsTrue}
 use Rattle.chain_disk.specs.Disks.{Disks, this_disk}
 use Rattle.chain_disk.specs.OnDisk.{LeavesNow}
 use Rattle.ports.specs.Sinks.{Sinks, WroteNothing}

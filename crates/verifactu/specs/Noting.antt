@@ -90,3 +90,9 @@ pub record TornSaid (after : List Entry) (messages : List Message) (torn : Entry
   pub last : Message
   pub is : messages ≡ front ++ last ∷ []
   pub torn_is : torn ≡ Notes (length (noted after)) (lines_said last)
+
+-- the lines that were noted are those that the messages since say, in their order, or the first of them
+pub record NotesWhatIsSaid (start end : List Entry) (old new : List Message) : Type 0 where
+  pub since : List Message
+  pub is : new ≡ old ++ since
+  pub lines : IsPrefix (noted end) (noted start ++ all_said since)

@@ -5,8 +5,11 @@ use Rattle.std.specs.List.{AllByRecursion}
 use Rattle.record_fields.specs.declared.versions.Version.{Version}
 use Rattle.record_fields.specs.declared.versions.Version.TheVariants.{Two}
 use Rattle.agency_port.specs.declared.messages.Message.{Message}
-use Rattle.chain_disk.specs.Disks.{DiskRose, Disks}
+use Rattle.chain_disk.specs.Disks.{DiskRose, Disks, LeftDisk}
 use Rattle.chain_disk.specs.OnDisk.{IsLeft, IsSettled, IsSyncFailed, LeavesNow, LeavesOnly, OnDisk, moment, synced}
+use Rattle.counter.specs.Speech.{IsRead}
+use Rattle.counter.specs.declared.speaking.SpeechEnd.{SpeechEnd}
+use Rattle.dialogue.specs.Protocol.{Dialogue}
 use Rattle.huella.specs.Linked.{Linked}
 use Rattle.journal.specs.File.{IsNotBegun}
 use Rattle.shop_core.specs.Prefix.{IsPrefix}
@@ -16,7 +19,9 @@ use Rattle.record_codec.specs.declared.entry.Entry.{Entry}
 use Rattle.record_codec.specs.declared.entry.Entry.TheVariants.{Rec}
 use Rattle.record_fields.specs.declared.records.Sealed.{Sealed}
 use Rattle.recovery.specs.Opening.{IsFound}
+use Rattle.script.specs.declared.forms.Form.{Form}
 use Rattle.script.specs.declared.forms.Form.TheVariants.{Full}
+use Rattle.script.specs.declared.lines.Meaning.{Meaning}
 use Rattle.script.specs.declared.scripts.Script.{Script}
 use Rattle.shop_core.specs.File.Files.{IsDamagedFile, StandsFor}
 use Rattle.shop_core.specs.History.{noted, receipt, recs}
@@ -27,20 +32,24 @@ use Rattle.verifactu.specs.Crashes.{StandsSince}
 use Rattle.verifactu.specs.Devices.{Agencies, AllDevices, Further, LeftFurther, NobodyCalled}
 use Rattle.verifactu.specs.Drain.{AgreesAtStart}
 use Rattle.verifactu.specs.Draining.{AreOfChain, SaysNothingBlindly}
-use Rattle.verifactu.specs.Migrate.{OnlyMoves}
-use Rattle.verifactu.specs.Noting.{all_said}
+use Rattle.verifactu.specs.Follow.{IsFollowImage, OnlyFollows}
+use Rattle.verifactu.specs.Migrate.{OnePost, OnlyMoves, disk_of_post}
+use Rattle.verifactu.specs.Noting.{NotesWhatIsSaid}
 use Rattle.chain_store.specs.Replies.{Replies}
 use Rattle.verifactu.specs.Scripts.{IsGoodScript}
 use Rattle.verifactu.specs.Tills.{asks_of, has_asks, own_of, tills_of}
 use Rattle.verifactu.specs.CommandLine.{IsAskedFor}
 use Rattle.verifactu.specs.declared.command_line.Command.{Command}
-use Rattle.verifactu.specs.declared.command_line.Command.TheVariants.{Chain, Day, Drain, Migrate}
+use Rattle.verifactu.specs.declared.command_line.Command.TheVariants.{Chain, Day, Drain, Serve, Migrate, Follow, Guard}
+use Rattle.verifactu.specs.declared.posts.Post.{Post}
 
 -- the issuer whose file a command may write; the other commands write none
 abbrev pub writes_for : Option Command → Option (List ℕ)
 writes_for (Some (Chain issuer)) = Some issuer
 writes_for (Some (Day issuer)) = Some issuer
 writes_for (Some (Drain issuer)) = Some issuer
+writes_for (Some (Serve issuer)) = Some issuer
+writes_for (Some (Guard issuer)) = Some issuer
 writes_for _ = None
 
 -- a file that may be written for this issuer: it isn't begun, or it stands for a legal history of this issuer
@@ -89,9 +98,20 @@ AreAccepted (ask ∷ asks) (Ok (Refused why) ∷ replies) gained = AreAccepted a
 AreAccepted (ask ∷ asks) (Err fault ∷ replies) gained = AreAccepted asks replies gained
 AreAccepted _ _ gained = ⊥
 
--- the commands that the tills asked: none, or those of the script that the source gave
+-- the commands among lines that were read of the source, each after those before it
+pub record AreAskedByLine (s : Sources) (asks : List Asked) : Type 0 where
+  pub lines : List (List ℕ)
+  pub form : Form
+  pub before : List Meaning
+  pub replies : Replies
+  pub text : List ℕ
+  pub how : SpeechEnd
+  pub dialogue : Dialogue lines form before asks replies text
+  pub read : IsRead how s.left s.left_after lines
+
+-- the commands that the tills asked: none, those of the script that the source gave, or those among its lines
 abbrev pub AreAskedIn : Sources → List Asked → Type 0
-AreAskedIn s asks = (asks ≡ []) ⊎ ((script : Script) × IsGoodScript Full s script × (asks ≡ script.asks))
+AreAskedIn s asks = (asks ≡ []) ⊎ ((script : Script) × IsGoodScript Full s script × (asks ≡ script.asks)) ⊎ AreAskedByLine s asks
 
 -- Each till. The records that the history gained are, till by till, those of its commands that were answered as taken, each
 -- once, in its order; no other till gained one.
@@ -103,12 +123,6 @@ pub record TillsGain (s : Sources) (start end : List Entry) : Type 0 where
   pub own : AllByRecursion (λ (t : ℕ × Replies). AreAccepted (asks_of t.0 asks) t.1
       (own_of t.0 (drop (length start) end))) told
   pub others : (till : ℕ) → has_asks asks till ≡ false → own_of till (drop (length start) end) ≡ []
-
--- the lines that were noted are those that the messages since say, in their order, or the first of them
-pub record NotesWhatIsSaid (start end : List Entry) (old new : List Message) : Type 0 where
-  pub since : List Message
-  pub is : new ≡ old ++ since
-  pub lines : IsPrefix (noted end) (noted start ++ all_said since)
 
 -- The agency in a session. No record was handed over again, unless a consultation since had answered that it wasn't seen. What
 -- was noted is what it said. One that keeps its rules and agreed at the start still agrees: it has processed the first records,
@@ -156,10 +170,35 @@ pub record FileKept {D C Z G : Type 0} (writes : Option (List ℕ)) (a : AllDevi
   pub reads : writes ≡ None →
       (a.devices.disk.told a.devices.disk.disk_after ≡ a.devices.disk.told a.devices.disk.disk) × NobodyCalled a
 
+-- The copy of a file that stood for this history. Each crash since the start leaves what it left then, or a file that stands for
+-- what begins with the copy that was found and is a front of the history of the file at the end, with the entry whose writing was
+-- under way.
+pub record CopyGoesOn {D : Type 0} (version : Version) (issuer : List ℕ) (start : List Entry) (k l : Disks D) : Type 0 where
+  pub end : List Entry
+  pub torn : List Entry
+  pub chain : ChainGoesOn version issuer start end torn k
+  pub images : IsTrue l.tells →
+      LeavesOnly (l.told l.disk) (l.told l.disk_after) (IsFollowImage version issuer (end ++ torn) (l.told l.disk))
+
+-- A copy that is written beside a file of this issuer. Where the file is no such one no call of the copy's disk is made.
+pub record OnlyGuarded {D : Type 0} (issuer : List ℕ) (k l : Disks D) : Type 0 where
+  pub own : IsTrue k.tells → (version : Version) (start : List Entry) → IsFound version issuer start (k.told k.disk).content →
+      CopyGoesOn version issuer start k l
+  pub others : IsTrue k.tells → (IsOwn (Some issuer) (k.told k.disk).content → ⊥) → LeftDisk l
+
+pub record OnlyGuards {D C Z G : Type 0} (issuer : List ℕ) (k : Disks D) (f : Further D C Z G) : Type 0 where
+  pub post : Post D C Z G
+  pub after : Post D C Z G
+  pub posts : OnePost f post after
+  pub guards : OnlyGuarded issuer k (disk_of_post k post after)
+
 -- The further files: `migrate` writes one. Each file that a crash may leave of it, at any moment of the run, is one that it was
 -- before, is not begun or an unfinished migration, or stands for the history of the file that is moved, which is only read.
+-- `follow` and `guard` write a copy.
 abbrev pub FurtherKept : {D C Z G : Type 0} → Option Command → AllDevices D C Z G → Further D C Z G → Type 0
 FurtherKept (Some Migrate) a f = OnlyMoves a.devices.disk f
+FurtherKept (Some Follow) a f = OnlyFollows a.devices.disk f
+FurtherKept (Some (Guard issuer)) a f = OnlyGuards issuer a.devices.disk f
 FurtherKept command a f = LeftFurther f
 
 -- the promise of a run: the command that the words ask for, or none, and what is kept by it

@@ -18,10 +18,13 @@ use Rattle.verifactu.specs.Devices.{AllDevices, Further, LeftFurther, NobodyCall
 use Rattle.verifactu.specs.Drain.{DrainEnds}
 use Rattle.file_commands.specs.Generate.{GenerateEnds}
 use Rattle.verifactu.specs.Help.{help_text, version_text}
+use Rattle.verifactu.specs.Follow.{FollowRan}
+use Rattle.verifactu.specs.Guard.{GuardRan}
 use Rattle.verifactu.specs.Migrate.{MigrateRan}
+use Rattle.verifactu.specs.Serve.{ServeEnds}
 use Rattle.verifactu.specs.CommandLine.{IsAskedFor}
 use Rattle.verifactu.specs.declared.command_line.Command.{Command}
-use Rattle.verifactu.specs.declared.command_line.Command.TheVariants.{Chain, Day, Drain, Audit, Link, Check, Migrate}
+use Rattle.verifactu.specs.declared.command_line.Command.TheVariants.{Chain, Day, Drain, Serve, Audit, Link, Check, Migrate, Follow, Guard}
 use Rattle.verifactu.specs.declared.command_line.Command.TheVariants.{Statement, Export, Matches, Generate, Help, Version}
 
 -- when a command that works on one file ends in this way
@@ -29,11 +32,14 @@ abbrev pub OwnEnds : {D C Z G : Type 0} → Command → AllDevices D C Z G → D
 OwnEnds (Chain issuer) a end = ChainEnds issuer a.devices end × NobodyCalled a
 OwnEnds (Day issuer) a end = DayEnds issuer a end
 OwnEnds (Drain issuer) a end = DrainEnds issuer a end
+OwnEnds (Serve issuer) a end = ServeEnds issuer a end
 OwnEnds Audit a end = AuditEnds a.devices.sink a.devices.disk end × OnlyReadsFile a.devices × NobodyCalled a
 OwnEnds (Link num host) a end = LinkEnds num host a.devices.sink a.devices.disk end × OnlyReadsFile a.devices × NobodyCalled a
 OwnEnds (Check workers) a end =
     CheckEnds a.devices.source a.devices.sink a.devices.disk end × OnlyReads a.devices × NobodyCalled a
 OwnEnds Migrate a end = ⊥
+OwnEnds Follow a end = ⊥
+OwnEnds (Guard issuer) a end = ⊥
 OwnEnds (Statement month) a end =
     StatementEnds month a.devices.sink a.devices.disk end × OnlyReadsFile a.devices × NobodyCalled a
 OwnEnds Export a end = ExportEnds a.devices.sink a.devices.disk end × OnlyReadsFile a.devices × NobodyCalled a
@@ -43,9 +49,11 @@ OwnEnds (Generate n) a end = GenerateEnds n a.devices.sink end × OnlyPrints a.d
 OwnEnds Help a end = PrintEnds help_text detail.Done a.devices.sink end × OnlyPrints a.devices × NobodyCalled a
 OwnEnds Version a end = PrintEnds version_text detail.Done a.devices.sink end × OnlyPrints a.devices × NobodyCalled a
 
--- when a command ends in this way; all but `migrate` leave the further files alone
+-- when a command ends in this way; all but `migrate`, `follow` and `guard` leave the further files alone
 abbrev pub CommandEnds : {D C Z G : Type 0} → Command → AllDevices D C Z G → Further D C Z G → Detail → Type 0
 CommandEnds Migrate a f end = MigrateRan a f end
+CommandEnds Follow a f end = FollowRan a f end
+CommandEnds (Guard issuer) a f end = GuardRan issuer a f end
 CommandEnds command a f end = OwnEnds command a end × LeftFurther f
 
 -- words that are no command

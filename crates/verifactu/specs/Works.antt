@@ -29,6 +29,10 @@ pub record Works {C : Type 0} (coming : C → ℕ → Option ℕ) (old : Known I
   pub at_least : last.least ≤ saw
   pub new_is : new ≡ record last { least = saw }
 
+-- the numbers of these tills
+abbrev pub tills_in : List TillDay → List ℕ
+tills_in days = map (λ (d : TillDay). d.till) days
+
 -- a job as the day of its till
 abbrev pub day_of : {D C : Type 0} → Job D C → TillDay
 day_of job = record { till = till_number job.till; answers = job.answers; saw = job.saw }
@@ -37,29 +41,27 @@ day_of job = record { till = till_number job.till; answers = job.answers; saw = 
 abbrev pub job_knows : {D C : Type 0} → Job D C → Known Item (Root C)
 job_knows job = till_knows job.till
 
--- a till's part of the day, before it and after it, and what the till knew at first and at its last answer
+-- a till's part of the work, and what the till knew at first and at its last answer
 pub record Row (C : Type 0) : Type 0 where
-  pub day : TillDay
-  pub done : TillDay
+  pub part : TillReplies
   pub from : Known Item (Root C)
   pub last : Known Item (Root C)
 
 -- what it knows once it has looked at the count
 abbrev pub known_after : {C : Type 0} → Row C → Known Item (Root C)
-known_after r = record r.last { least = r.done.saw }
+known_after r = record r.last { least = r.part.saw }
 
--- the same till did its own asks of these
+-- it did its own asks of these
 pub record Worked {C : Type 0} (coming : C → ℕ → Option ℕ) (asks : List Asked) (r : Row C) : Type 0 where
-  pub till : r.done.till ≡ r.day.till
-  pub run : TillRun coming r.from (asks_of r.done.till asks) r.done.answers.items r.last
-  pub at_least : r.last.least ≤ r.done.saw
+  pub run : TillRun coming r.from (asks_of r.part.till asks) r.part.replies r.last
+  pub at_least : r.last.least ≤ r.part.saw
 
--- these tills worked, each from what it knew to what it knows
-pub record Ran {C : Type 0} (coming : C → ℕ → Option ℕ) (asks : List Asked) (days : List TillDay)
-    (old : List (Known Item (Root C))) (done : List TillDay) (new : List (Known Item (Root C))) : Type 0 where
+-- the tills of these numbers worked, each from what it knew to what it knows
+pub record Ran {C : Type 0} (coming : C → ℕ → Option ℕ) (asks : List Asked) (tills : List ℕ)
+    (old : List (Known Item (Root C))) (parts : List TillReplies) (new : List (Known Item (Root C))) : Type 0 where
   pub rows : List (Row C)
-  pub days_are : days ≡ map (λ (r : Row C). r.day) rows
+  pub tills_are : tills ≡ map (λ (r : Row C). r.part.till) rows
   pub old_are : old ≡ map (λ (r : Row C). r.from) rows
-  pub done_are : done ≡ map (λ (r : Row C). r.done) rows
+  pub parts_are : parts ≡ map (λ (r : Row C). r.part) rows
   pub new_are : new ≡ map (λ (r : Row C). known_after r) rows
   pub worked : AllByRecursion (λ (r : Row C). Worked coming asks r) rows

@@ -20,6 +20,8 @@ pub enum Command {
     Day(Nif),
     /// `drain FILE NIF`, for the issuer with this NIF.
     Drain(Nif),
+    /// `serve FILE NIF`, for the issuer with this NIF.
+    Serve(Nif),
     /// `audit FILE`.
     Audit,
     /// `link FILE NUM HOST`, for the invoice of this number.
@@ -28,6 +30,10 @@ pub enum Command {
     Check(u8),
     /// `migrate FILE NEW`.
     Migrate,
+    /// `follow FILE NEW`.
+    Follow,
+    /// `guard FILE NIF NEW`, for the issuer with this NIF.
+    Guard(Nif),
     /// `statement FILE MM-YYYY`, of this month.
     Statement(Month),
     /// `export FILE`.
@@ -64,6 +70,7 @@ fn of_issuer(name: &str, file: &str, nif: &str) -> Option<Command>
     requires file { 0 < length file.now }
     requires other { bytes_eq name.now (codes "check") ≡ false }
     requires neither { bytes_eq name.now (codes "migrate") ≡ false }
+    requires no_copy { bytes_eq name.now (codes "follow") ≡ false }
     requires nor { bytes_eq name.now (codes "statement") ≡ false }
     ensures { IsAskedFor (name.now ∷ (file.now ∷ (nif.now ∷ []))) result }
 {
@@ -78,6 +85,9 @@ fn of_issuer(name: &str, file: &str, nif: &str) -> Option<Command>
     }
     if is_word(name, b"drain") {
         return Some(Command::Drain(issuer));
+    }
+    if is_word(name, b"serve") {
+        return Some(Command::Serve(issuer));
     }
     None
 }
@@ -112,6 +122,16 @@ fn migrate_of(file: &str, new: &str) -> Option<Command>
     Some(Command::Migrate)
 }
 
+fn follow_of(file: &str, new: &str) -> Option<Command>
+    requires { 0 < length file.now }
+    ensures { IsAskedFor (codes "follow" ∷ (file.now ∷ (new.now ∷ []))) result }
+{
+    if new.is_empty() || is_word(new, file.as_bytes()) {
+        return None;
+    }
+    Some(Command::Follow)
+}
+
 fn statement_of(file: &str, month: &str) -> Option<Command>
     requires { 0 < length file.now }
     ensures { IsAskedFor (codes "statement" ∷ (file.now ∷ (month.now ∷ []))) result }
@@ -133,6 +153,9 @@ fn three_of(name: &str, file: &str, word: &str) -> Option<Command>
     }
     if is_word(name, b"migrate") {
         return migrate_of(file, word);
+    }
+    if is_word(name, b"follow") {
+        return follow_of(file, word);
     }
     if is_word(name, b"statement") {
         return statement_of(file, word);
@@ -219,15 +242,10 @@ fn host_of(word: &str) -> Option<Host>
     None
 }
 
-fn link_of(name: &str, file: &str, num: &str, host: &str) -> Option<Command>
-    ensures { IsAskedFor (name.now ∷ (file.now ∷ (num.now ∷ (host.now ∷ [])))) result }
+fn link_of(file: &str, num: &str, host: &str) -> Option<Command>
+    requires { 0 < length file.now }
+    ensures { IsAskedFor (codes "link" ∷ (file.now ∷ (num.now ∷ (host.now ∷ [])))) result }
 {
-    if !is_word(name, b"link") {
-        return None;
-    }
-    if file.is_empty() {
-        return None;
-    }
     let Some(num) = NumSerie::read(num) else {
         return None;
     };
@@ -237,13 +255,44 @@ fn link_of(name: &str, file: &str, num: &str, host: &str) -> Option<Command>
     Some(Command::Link(num, host))
 }
 
-/// How many posts a run by these words needs beside the first one: 1 for those of `migrate`, whose file is NEW.
+fn guard_of(file: &str, nif: &str, new: &str) -> Option<Command>
+    requires { 0 < length file.now }
+    ensures { IsAskedFor (codes "guard" ∷ (file.now ∷ (nif.now ∷ (new.now ∷ [])))) result }
+{
+    if new.is_empty() || is_word(new, file.as_bytes()) {
+        return None;
+    }
+    match Nif::read(nif) {
+        Ok(issuer) => Some(Command::Guard(issuer)),
+        Err(_) => None,
+    }
+}
+
+fn four_of(name: &str, file: &str, word: &str, last: &str) -> Option<Command>
+    ensures { IsAskedFor (name.now ∷ (file.now ∷ (word.now ∷ (last.now ∷ [])))) result }
+{
+    if file.is_empty() {
+        return None;
+    }
+    if is_word(name, b"link") {
+        return link_of(file, word, last);
+    }
+    if is_word(name, b"guard") {
+        return guard_of(file, word, last);
+    }
+    None
+}
+
+/// How many posts a run by these words needs beside the first one: 1 for those of `migrate`, `follow`
+/// and `guard`, whose file is NEW.
 pub fn posts_needed(words: &[String]) -> u16
     ensures count { result ≡ spec.posts_needed (map string_bytes words.now) }
     ensures few { result ≤ 1 }
 {
     match words {
         [name, _, _] if is_word(name.as_str(), b"migrate") => 1,
+        [name, _, _] if is_word(name.as_str(), b"follow") => 1,
+        [name, _, _, _] if is_word(name.as_str(), b"guard") => 1,
         _ => 0,
     }
 }
@@ -257,7 +306,7 @@ pub fn command_of(words: &[String]) -> Option<Command>
         [name, word] => two_of(name.as_str(), word.as_str()),
         [name, file, word] => three_of(name.as_str(), file.as_str(), word.as_str()),
         [name, file, num, host] => {
-            link_of(name.as_str(), file.as_str(), num.as_str(), host.as_str())
+            four_of(name.as_str(), file.as_str(), num.as_str(), host.as_str())
         }
         _ => None,
     }

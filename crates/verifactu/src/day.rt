@@ -259,8 +259,8 @@ fn one_lacks_disk(days: &[TillDay]) -> bool
     days.iter().any(|day| lacks_disk(&day.answers))
 }
 
-// Whether the sender found no memory.
-fn sender_lacks_memory(answer: &Result<(), DrainFault>) -> bool
+/// Whether the sender found no memory.
+pub(crate) fn sender_lacks_memory(answer: &Result<(), DrainFault>) -> bool
     ensures { result ≡ beside.sender_lacks_memory answer.now }
 {
     match answer {
@@ -269,8 +269,8 @@ fn sender_lacks_memory(answer: &Result<(), DrainFault>) -> bool
     }
 }
 
-// The end of a day whose sender failed so. One that gave up tells these two counts.
-fn sender_end(fault: DrainFault, noted: u32, records: u32) -> Detail
+/// The end of a day whose sender failed so. One that gave up tells these two counts.
+pub(crate) fn sender_end(fault: DrainFault, noted: u32, records: u32) -> Detail
     ensures { result ≡ beside.sender_end noted records fault }
 {
     match fault {

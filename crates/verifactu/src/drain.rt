@@ -51,7 +51,7 @@ pub fn fault_end(fault: DrainFault) -> Detail
 }
 
 // The end of a drain with this answer, whose text was written or not.
-fn end_by(answer: &Result<(), DrainFault>, written: Result<(), Failed>) -> Detail
+pub fn end_by(answer: &Result<(), DrainFault>, written: Result<(), Failed>) -> Detail
     ensures { (text : List ℕ) (s : Sinks) → OutputIs s text written → DrainRunEnds answer.now text s result }
 {
     match answer {

@@ -8,6 +8,7 @@ The invoicing chain of a shop with many tills, in VERI*FACTU mode.
 Usage:
   verifactu chain FILE NIF       answers the script on standard input
   verifactu day FILE NIF         answers it by many tills at once, and sends it
+  verifactu serve FILE NIF       answers standard input line by line, and sends
   verifactu drain FILE NIF       sends the records that wait to the agency
   verifactu audit FILE           prints whether the file is a sound chain
   verifactu link FILE NUM HOST   prints the link of an invoice's QR code
@@ -16,6 +17,8 @@ Usage:
   verifactu export FILE          prints the chain as lines of JSON
   verifactu matches FILE         holds such lines on standard input against FILE
   verifactu migrate FILE NEW     moves a file of version 1 to one of version 2
+  verifactu follow FILE NEW      brings the copy NEW up to FILE
+  verifactu guard FILE NIF NEW   drain that notes each line in the copy NEW too
   verifactu generate N           prints the sums of N made-up commands
   verifactu --help               prints this text
   verifactu --version            prints the version
@@ -28,10 +31,11 @@ NIF is the issuer's tax number, NUM the number of an invoice; HOST is real or
 test; MONTH is MM-YYYY. audit, link, check, statement, export and matches only
 read the file; check works by 1 to 16 WORKERS beside each other. drain reads a
 script without sales, fixes and cancels.
-With --agency day and drain send to a program of your own, which reads TO and
+With --agency day, serve and drain send to a program of yours, which reads TO and
 writes FROM; else to a practice agency. docs/ADAPTER.md has its messages.
 A new file is of version 2, an old one of version 1 goes on as it is: migrate
-reads FILE and writes its chain to NEW. Stopped, it is run again.
+reads FILE and writes its chain to NEW. Stopped, it is run again. follow brings a
+copy at NEW up to FILE, which it only reads; guard does so, and then what drain does.
 N is 1 to 100000: generate runs so many sales and cancellations of a made-up
 shop in memory, and keeps no file.
 
@@ -62,6 +66,8 @@ Empty lines and lines that begin with # are skipped. An example:
 chain prints an answer for each command, a line for each record and the chain
 line; day prints the answers till by till, each with the count of entries that
 the till saw; drain prints a line for each turn of its sender and the chain line.
+serve answers each line before it reads the next, and prints the chain line behind
+the last. A line that it can't read is answered by its number and what is wrong.
 
 Status:
    0  done
@@ -71,7 +77,7 @@ Status:
    5  standard output could not be written; the file keeps the records
    6  the file could not be read or written
    7  the file is damaged; standard error names the byte
-   8  day or drain gave up after eight faults of the link
+   8  day, serve or drain gave up after eight faults of the link
    9  audit found the file broken; it printed where
   10  no memory
   11  the agency contradicts itself; standard error names the place
@@ -80,6 +86,7 @@ Status:
   14  the file has no invoice of this number
   15  something stands at NEW that migrate must not write over
   16  FILE is no file of version 1
+  17  NEW is no copy of FILE; standard error names its entry
   18  the lines that matches read differ from the file; standard error names one
 ";
 

@@ -10,6 +10,9 @@ mod day;
 mod drain;
 mod draining;
 mod ending;
+mod follow;
+mod guard;
+mod guarding;
 mod help;
 mod laws;
 mod means;
@@ -21,7 +24,9 @@ mod printed;
 mod running;
 mod scripts;
 mod sending;
+mod serve;
 mod serving;
+mod talking;
 mod tills;
 
 pub use chain::chain_cmd;
@@ -29,6 +34,8 @@ pub use command_line::posts_needed;
 pub use day::day_cmd;
 pub use drain::drain_cmd;
 pub use file_commands::generate_cmd;
+pub use follow::follow_cmd;
+pub use guard::guard_cmd;
 pub use laws::{
     a_day_stops_once, a_strange_file_is_not_own, what_a_run_left_is_found_again,
     what_was_handed_over_stays_of_the_chain,
@@ -37,3 +44,4 @@ pub use migrate::migrate_cmd;
 pub use outside::Outside;
 pub use posts::{Post, Posts};
 pub use running::run;
+pub use serve::serve_cmd;

@@ -19,7 +19,7 @@ use agency_rules::Plan;
 use chain_disk::Disk;
 use chain_store::{OpenCause, Store};
 use parties::Nif;
-use ports::{Clock, NoMemory};
+use ports::{Clock, CountingClock, LeapSleeper, NoMemory, Sleeper};
 use record_fields::{Line, Sealed};
 use recovery::open_store;
 use report::Detail;
@@ -33,6 +33,60 @@ pub struct Opened<D: Disk, C: Clock, Z, G> {
     pub store: Store<D, C>,
     pub sleeper: Z,
     pub agency: G,
+}
+
+impl<D: Disk, C: Clock, Z, G> Opened<D, C, Z, G> {
+    ghost use Rattle.std.specs.Prelude.{◌≡◌, ℕ, Some};
+    ghost use Rattle.chain_store.specs.Store.{clock_of, journal_of, state_of, torn_of};
+    ghost use Rattle.ports.specs.Counting.{counting};
+
+    // The clock and the sleeper of a clock line in their places, and those that it replaces.
+    pub(crate) fn with_own_time(
+        self,
+        start: u64,
+        step: u64,
+    ) -> (Opened<D, CountingClock, LeapSleeper, G>, C, Z)
+        ensures store { (state_of result.0.store ≡ state_of self.store) × (journal_of result.0.store ≡ journal_of self.store)
+            × (torn_of result.0.store ≡ torn_of self.store) }
+        ensures clock { (k : ℕ) → ⟦<CountingClock as Clock>⟧.coming (clock_of result.0.store) k ≡ Some (counting start step k) }
+        ensures sleeper { ⟦<LeapSleeper as Sleeper>⟧.moment result.0.sleeper ≡ start }
+        ensures agency { result.0.agency ≡ self.agency }
+        ensures replaced { (result.1 ≡ clock_of self.store) × (result.2 ≡ self.sleeper) }
+    {
+        let Opened {
+            store,
+            sleeper,
+            agency,
+        } = self;
+        let (store, clock) = store.with_clock(CountingClock::new(start, step));
+        let own = Opened {
+            store,
+            sleeper: LeapSleeper::new(start),
+            agency,
+        };
+        (own, clock, sleeper)
+    }
+}
+
+impl<D: Disk, G> Opened<D, CountingClock, LeapSleeper, G> {
+    ghost use Rattle.std.specs.Prelude.{◌≡◌};
+    ghost use Rattle.chain_store.specs.Store.{clock_of, journal_of, state_of, torn_of};
+
+    // This clock and this sleeper in place of a clock line's.
+    pub(crate) fn with_time<C: Clock, Z>(self, clock: C, sleeper: Z) -> Opened<D, C, Z, G>
+        ensures store { (state_of result.store ≡ state_of self.store) × (journal_of result.store ≡ journal_of self.store)
+            × (torn_of result.store ≡ torn_of self.store) }
+        ensures agency { result.agency ≡ self.agency }
+        ensures time { (clock_of result.store ≡ clock) × (result.sleeper ≡ sleeper) }
+    {
+        let Opened { store, agency, .. } = self;
+        let (store, _) = store.with_clock(clock);
+        Opened {
+            store,
+            sleeper,
+            agency,
+        }
+    }
 }
 
 /// Why a file wasn't opened, and the post again.

@@ -7,19 +7,23 @@ ghost use Rattle.report.specs.Status.{status_of};
 ghost use Rattle.report.specs.declared.status.Detail.TheVariants as detail;
 ghost use Rattle.file_commands.specs.Output.{PrintEnds};
 ghost use Rattle.verifactu.specs.Promise.{Promise};
+ghost use Rattle.verifactu.specs.Follow.{FollowsPost};
 ghost use Rattle.verifactu.specs.Migrate.{MovesPost};
-ghost use Rattle.verifactu.specs.Running.{EndsAs, OwnEnds};
-ghost use Rattle.verifactu.specs.CommandLine.{IsOfOneFile, IsWithin, posts_needed};
+ghost use Rattle.verifactu.specs.Running.{CommandEnds, EndsAs, OwnEnds};
+ghost use Rattle.verifactu.specs.CommandLine.{IsForIssuerOrOneFile, IsGuarding, IsOfOneFile, IsWithin, posts_needed};
 
 use crate::chain::chain_cmd;
 use crate::command_line::{Command, command_of};
 use crate::day::day_cmd;
 use crate::drain::drain_cmd;
+use crate::follow::follow_cmd;
+use crate::guard::guard_cmd;
 use crate::help::{help_text, version_text};
-use crate::laws::who_keeps_the_rules_tells;
+use crate::laws::{what_a_disk_reads_is_an_image, who_keeps_the_rules_tells};
 use crate::migrate::migrate_cmd;
 use crate::outside::Outside;
 use crate::posts::{Post, Posts};
+use crate::serve::serve_cmd;
 use agency_port::Agency;
 use chain_disk::Disk;
 use file_commands::{
@@ -35,8 +39,9 @@ use std::thread::Threads;
 /// Runs the command that the words are. `audit FILE` prints the verdict on the file, and `link FILE NUM HOST` the link of an
 /// invoice; `statement FILE MM-YYYY` prints the sums of a month and `export FILE` the chain as lines of JSON: these read the disk
 /// alone. `check FILE WORKERS` is `check_cmd` and `matches FILE` `matches_cmd`, which read the source beside it. `chain FILE NIF` is
-/// `chain_cmd` for this issuer, `day FILE NIF` `day_cmd`, and `drain FILE NIF` `drain_cmd`; `migrate FILE NEW` is `migrate_cmd`, whose
-/// new file is that of the one further post; `generate N` is `generate_cmd`, whose
+/// `chain_cmd` for this issuer, `day FILE NIF` `day_cmd`, `drain FILE NIF` `drain_cmd`, and `serve FILE NIF` `serve_cmd`;
+/// `migrate FILE NEW` is `migrate_cmd`, `follow FILE NEW` `follow_cmd`, and `guard FILE NIF NEW` `guard_cmd`, whose new file is that
+/// of the one further post; `generate N` is `generate_cmd`, whose
 /// disk is its own; `--help` and `--version` print their texts. FILE itself is the caller's: it names the disk. The outside has as
 /// many further posts as `posts_needed` says of the words. All its parts come back. How each command ends is in `ends`; what every run keeps of the file, of its tills and of the agency, in
 /// `promise`.
@@ -69,42 +74,75 @@ where
     a_file_has_one_meaning();
     legal_is_chained();
     who_keeps_the_rules_tells::<G>();
+    what_a_disk_reads_is_an_image::<D>();
     match command_of(words) {
         None => (Ended::of(Detail::Usage), outside),
         Some(Command::Migrate) => move_to_further(alloc, sink, outside),
-        Some(command) => {
-            let Outside {
-                disk,
-                clock,
-                sleeper,
-                agency,
-                more,
-            } = outside;
-            let post = Post {
-                disk,
-                clock,
-                sleeper,
-                agency,
-            };
-            let (ended, post) = obey(rt, alloc, command, source, sink, post, gate);
-            let Post {
-                disk,
-                clock,
-                sleeper,
-                agency,
-            } = post;
-            (
-                ended,
-                Outside {
-                    disk,
-                    clock,
-                    sleeper,
-                    agency,
-                    more,
-                },
-            )
-        }
+        Some(Command::Follow) => follow_by_further(alloc, sink, outside),
+        Some(command) => obey_first(rt, alloc, command, source, sink, outside, gate),
     }
+}
+
+// A command that isn't `migrate` or `follow`.
+fn obey_first<S, K, D, C, Z, G, T, R>(
+    rt: &R,
+    alloc: Global,
+    command: Command,
+    source: &mut S,
+    sink: &mut K,
+    outside: Outside<D, C, Z, G>,
+    gate: &T,
+) -> (Ended, Outside<D, C, Z, G>)
+where
+    S: Source,
+    K: Sink,
+    D: Disk + Send + Drop,
+    C: Clock + Send + Drop,
+    Z: Sleeper + Send + Drop,
+    G: Agency + Send + Drop,
+    T: Gate + Sync,
+    R: Threads + Wait + Sync,
+    requires within { IsWithin command }
+    requires first { IsForIssuerOrOneFile command }
+    requires further { IsGuarding command → length outside.more ≡ 1 }
+    ensures status { result.0.status ≡ status_of result.0.detail }
+    ensures ends { CommandEnds command (this_call (this_source S.left S.faults source.old source.new)
+        (this_sink K.taken K.faults sink.old sink.new) D.Disk C.Clock Z.Sleeper G.Agency (own_post outside) (own_post result.1))
+        (further outside result.1) result.0.detail }
+{
+    if let Command::Guard(issuer) = command {
+        return guard_cmd(rt, alloc, &issuer, source, sink, outside);
+    }
+    let Outside {
+        disk,
+        clock,
+        sleeper,
+        agency,
+        more,
+    } = outside;
+    let post = Post {
+        disk,
+        clock,
+        sleeper,
+        agency,
+    };
+    let (ended, post) = obey(rt, alloc, command, source, sink, post, gate);
+    let Post {
+        disk,
+        clock,
+        sleeper,
+        agency,
+    } = post;
+    (
+        ended,
+        Outside {
+            disk,
+            clock,
+            sleeper,
+            agency,
+            more,
+        },
+    )
 }
 
 // Moves the first file to the one further file.
@@ -133,6 +171,44 @@ fn move_to_further<K: Sink, D: Disk + Drop, C: Drop, Z: Drop, G: Drop>(
     };
     let (ended, disk, new) = migrate_cmd(alloc, sink, disk, post.disk);
     posts.push_reserved(Post { disk: new, ..post });
+    (
+        ended,
+        Outside {
+            disk,
+            clock,
+            sleeper,
+            agency,
+            more: Posts::of(posts),
+        },
+    )
+}
+
+// Brings the one further file up to the first one.
+fn follow_by_further<K: Sink, D: Disk + Drop, C: Drop, Z: Drop, G: Drop>(
+    alloc: Global,
+    sink: &mut K,
+    outside: Outside<D, C, Z, G>,
+) -> (Ended, Outside<D, C, Z, G>)
+    requires { length outside.more ≡ 1 }
+    ensures status { result.0.status ≡ status_of result.0.detail }
+    ensures follows { FollowsPost (this_sink K.taken K.faults sink.old sink.new)
+        (disk_in D.Disk (own_post outside) (own_post result.1)) (further outside result.1) result.0.detail }
+    ensures same { D.told result.1.disk ≡ D.told outside.disk }
+    ensures rest { (result.1.clock ≡ outside.clock) × (result.1.sleeper ≡ outside.sleeper) × (result.1.agency ≡ outside.agency) }
+{
+    let Outside {
+        disk,
+        clock,
+        sleeper,
+        agency,
+        more,
+    } = outside;
+    let mut posts = more.into_vec();
+    let Some(post) = posts.pop() else {
+        unreachable!()
+    };
+    let (ended, disk, copy) = follow_cmd(alloc, sink, disk, post.disk);
+    posts.push_reserved(Post { disk: copy, ..post });
     (
         ended,
         Outside {
@@ -185,6 +261,7 @@ where
         }
         Command::Day(issuer) => day_cmd(rt, alloc, &issuer, source, sink, post, gate),
         Command::Drain(issuer) => drain_cmd(rt, alloc, &issuer, source, sink, post),
+        Command::Serve(issuer) => serve_cmd(rt, alloc, &issuer, source, sink, post, gate),
         Command::Audit => {
             let (ended, disk) = audit_cmd(alloc, sink, post.disk);
             (ended, Post { disk, ..post })
@@ -197,7 +274,7 @@ where
             let (ended, disk) = check_cmd(rt, alloc, workers, source, sink, post.disk);
             (ended, Post { disk, ..post })
         }
-        Command::Migrate => unreachable!(),
+        Command::Migrate | Command::Follow | Command::Guard(_) => unreachable!(),
         Command::Statement(month) => {
             let (ended, disk) = statement_cmd(alloc, month, sink, post.disk);
             (ended, Post { disk, ..post })

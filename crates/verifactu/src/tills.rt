@@ -7,7 +7,7 @@ ghost use Rattle.till_calls.specs.Shop.{seat_knows, seat_shop};
 ghost use Rattle.till_calls.specs.Shop.{made_tills, numbers, shop_id, till_knows, till_number, till_shop, tills_know, tills_shop};
 ghost use Rattle.verifactu.specs.Tills as spec;
 ghost use Rattle.verifactu.specs.Tills.{asks_of, tills_of};
-ghost use Rattle.verifactu.specs.Works.{HasRoom, Ran, Works, day_of, job_knows};
+ghost use Rattle.verifactu.specs.Works.{HasRoom, Ran, Works, day_of, job_knows, told_in, tills_in};
 
 use crate::means::Means;
 use chain_disk::Disk;
@@ -17,7 +17,6 @@ use record_codec::LAST_TILL;
 use shop_core::{Ask, Reply};
 use std::alloc::Global;
 use std::sync::Wait;
-use std::sync::atomic::{AtomicBool, Ordering};
 use std::thread::{Threads, for_each_mut};
 use till_calls::{SenderSeat, Shop, Till, Tills};
 
@@ -179,30 +178,28 @@ fn work<D: Disk, C: Clock, T: Gate, R: Wait>(
     job.saw = shop.count_now(&mut job.till);
 }
 
-/// Runs the tills beside each other, each in a thread of its own, and once they have ended tells their sender to stop.
+/// Runs the tills beside each other, each in a thread of its own.
 pub(crate) fn work_all<D: Disk + Send, C: Clock + Send, T: Gate + Sync, R: Threads + Wait + Sync>(
     means: Means<'_, R, T>,
     shop: &Shop<D, C>,
     asks: &[Ask],
-    mut jobs: Vec<Job<D, C>>,
-    stop: &AtomicBool,
-) -> Vec<Job<D, C>>
-    requires own { All (λ j. till_shop j.till ≡ shop_id shop.now) jobs.items }
-    requires room { All (λ j. HasRoom asks.now (day_of j)) jobs.items }
-    ensures ran { Ran C.coming asks.now (reverse (map day_of jobs.items)) (reverse (map job_knows jobs.items))
-        (reverse (map day_of result.items)) (reverse (map job_knows result.items)) }
-    ensures own { All (λ j. till_shop j.till ≡ shop_id shop.now) result.items }
-    ensures len { vec_len result ≡ vec_len jobs }
+    jobs: &mut Vec<Job<D, C>>,
+)
+    requires own { All (λ j. till_shop j.till ≡ shop_id shop.now) jobs.old.items }
+    requires room { All (λ j. HasRoom asks.now (day_of j)) jobs.old.items }
+    ensures ran { Ran C.coming asks.now (tills_in (reverse (map day_of jobs.old.items)))
+        (reverse (map job_knows jobs.old.items)) (map told_in (reverse (map day_of jobs.new.items)))
+        (reverse (map job_knows jobs.new.items)) }
+    ensures own { All (λ j. till_shop j.till ≡ shop_id shop.now) jobs.new.items }
+    ensures len { vec_len jobs.new ≡ vec_len jobs.old }
 {
     let threads = jobs.len().max(1);
     for_each_mut(
         means.rt,
-        &mut jobs,
+        jobs,
         threads,
         &move |_, job| work(means, shop, asks, job),
     );
-    stop.store(true, Ordering::SeqCst);
-    jobs
 }
 
 /// Gives each till its work, the last till first.

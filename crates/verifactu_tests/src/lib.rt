@@ -11,4 +11,8 @@ mod disk;
 #[cfg(test)]
 mod drain;
 #[cfg(test)]
+mod follow;
+#[cfg(test)]
+mod guard;
+#[cfg(test)]
 mod runs;

@@ -34,5 +34,5 @@ returns-in-len4 c =
       c.as_str-in-len4-2.ensures.value,
       c.as_str-in-len4-3.ensures.value,
       c.as_str-in-len4-4.ensures.value,
-    ) at c.link_of.ensures in
-    subst (λ (ws : List (String Global)). IsAskedFor (map (string_bytes {Z = Global}) ws) c.link_of.result) (sym is) asked
+    ) at c.four_of.ensures in
+    subst (λ (ws : List (String Global)). IsAskedFor (map (string_bytes {Z = Global}) ws) c.four_of.result) (sym is) asked

@@ -1,5 +1,5 @@
 use Rattle.std.proofs.Common.{◌∙◌, sym}
-use Rattle.verifactu.proofs.CommandLine.{is_chain, is_day, is_drain}
+use Rattle.verifactu.proofs.CommandLine.{is_chain, is_day, is_drain, is_serve}
 use Rattle.verifactu.proofs.command_line.of_issuer.Goals as goal
 
 pub returns-then-is_word : goal.returns-then-is_word
@@ -15,4 +15,9 @@ returns-then-is_word-2 c =
 pub returns-then-is_word-3 : goal.returns-then-is_word-3
 returns-then-is_word-3 c =
     is_drain c.args.name.now c.args.file.now c.args.nif.now c.in-Ok.issuer (sym c.is_word-3.ensures ∙ c.if-is_word-3.true)
+    c.requires.file c.in-Ok.ensures
+
+pub returns-then-is_word-4 : goal.returns-then-is_word-4
+returns-then-is_word-4 c =
+    is_serve c.args.name.now c.args.file.now c.args.nif.now c.in-Ok.issuer (sym c.is_word-4.ensures ∙ c.if-is_word-4.true)
     c.requires.file c.in-Ok.ensures

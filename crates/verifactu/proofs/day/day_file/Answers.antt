@@ -17,7 +17,8 @@ use Rattle.verifactu.specs.Draining.{OpensSession}
 use Rattle.verifactu.specs.Tills.{DayRun, has_asks, tills_of}
 use Rattle.verifactu.specs.Works.{told_in}
 use Rattle.verifactu.specs.declared.tills.TillDay.{TillDay}
-use Rattle.verifactu.proofs.DayEnding.{day_done, day_left}
+use Rattle.verifactu.proofs.DayEnding.{day_done}
+use Rattle.verifactu.proofs.ShopDays.{ShopDid, day_facts, not_asked}
 use Rattle.verifactu.proofs.DayTexts.{same_numbers}
 use Rattle.verifactu.proofs.RunEnding.{not_opened}
 use Rattle.verifactu.proofs.TillDays.{distinct, filter_at_most, pairs_of, within}
@@ -74,10 +75,10 @@ returns-in-Err-begin g c =
     let Begins : g.row.G.Denot → g.row.G.Denot → Type 0 = λ x y. IsUnbegun kind (agency_desk g.G.Agency x) (agency_desk g.G.Agency y)
     ⊎ OpensSession kind g.G.Agency.begun c.args.script.now.plan (parts_of o.store).state.entries (agency_desk g.G.Agency x)
     (agency_desk g.G.Agency y) in
-    day_left (store_kind g.D.Disk g.C.Clock) c.args.issuer.now c.args.script.now out.disk then.disk
-    out.clock then.clock (sleeper_in g.Z.Sleeper out then) (agency_in g.G.Agency out then) (parts_of o.store)
-    (this_sink g.K.Sink.taken g.K.Sink.faults c.args.sink.now c.args.sink.now) _ h.issuer_is h.clock_is h.found
-    h.any_moment h.every_crash h.later c.what_a_disk_reads_is_an_image.ensures c.who_keeps_the_rules_tells.ensures
+    inr (inr (inl (not_asked (store_kind g.D.Disk g.C.Clock) c.args.issuer.now c.args.script.now.asks c.args.script.now.plan
+    out.disk then.disk out.clock then.clock (sleeper_in g.Z.Sleeper out then) (agency_in g.G.Agency out then) (parts_of o.store)
+    (this_sink g.K.Sink.taken g.K.Sink.faults c.args.sink.now c.args.sink.now) h
+    c.what_a_disk_reads_is_an_image.ensures c.who_keeps_the_rules_tells.ensures _
     (record {
       ends = refl;
       wrote = took_nothing (g.K.Sink.taken c.args.sink.now);
@@ -86,7 +87,7 @@ returns-in-Err-begin g c =
       rest = c.close.ensures.rest.0 ∙ left.1 ∙ k.kept.0;
     })
     (subst (λ (x : g.row.G.Denot). Begins x then.agency) k.kept.1
-    (subst (λ (y : g.row.G.Denot). Begins o.agency y) (sym c.close.ensures.rest.1) left.2))
+    (subst (λ (y : g.row.G.Denot). Begins o.agency y) (sym c.close.ensures.rest.1) left.2)))))
 
 pub returns-in-Ok-begin : goal.returns-in-Ok-begin
 returns-in-Ok-begin g c =
@@ -124,20 +125,21 @@ returns-in-Ok-begin g c =
     (subst (λ (l : List TillDay). DayRunEnds (all_replies (map told_in l)) served.answer
     (length (noted c.state.result.now.entries)) (length (recs c.state.result.now.entries)) (day_text asks (map told_in l)
     c.state.result.now.entries) sink end) c.deref-in-Ok-begin.ensures.value c.print_day-detail.ensures) in
-    day_done (store_kind g.D.Disk g.C.Clock) c.args.issuer.now script out.disk then.disk out.clock then.clock
-    (sleeper_in g.Z.Sleeper out then) (agency_in g.G.Agency out then) p0 sink end h.issuer_is h.clock_is h.found
-    h.any_moment h.every_crash h.later c.what_a_disk_reads_is_an_image.ensures c.who_keeps_the_rules_tells.ensures
-    (agency_desk g.G.Agency b.agency) opens
-    (record {
+    let did : ShopDid (store_kind g.D.Disk g.C.Clock) script.asks kind (agency_desk g.G.Agency b.agency)
+    (agency_desk g.G.Agency then.agency) p0 then.disk then.clock = record {
       new = new;
       tills = tills;
       answer = served.answer;
       disk = c.close-in-Ok-begin.ensures.disk;
       clock = c.close-in-Ok-begin.ensures.clock;
-      tills_are = same_numbers days ∙ c.serve-opened.ensures.same ∙ c.in-Ok.ensures.tills ∙ ap tills_of same;
       run = run;
       linked = c.legal_is_chained.ensures.linked p0.state.version issuer new.state.entries run.sound.legal;
       rising = λ till. c.legal_is_chained.ensures.rising p0.state.version issuer new.state.entries till run.sound.legal;
-      ends = subst (λ (q : List Asked). DayRunEnds (all_replies tills) served.answer (length (noted new.state.entries))
-          (length (recs new.state.entries)) (day_text q tills new.state.entries) sink end) same ends;
-    })
+    } in
+    let facts = day_facts (store_kind g.D.Disk g.C.Clock) c.args.issuer.now script.asks script.plan out.disk then.disk out.clock
+    then.clock (sleeper_in g.Z.Sleeper out then) (agency_in g.G.Agency out then) p0 sink h
+    c.what_a_disk_reads_is_an_image.ensures c.who_keeps_the_rules_tells.ensures (agency_desk g.G.Agency b.agency) opens did in
+    inr (inr (inr (day_done c.args.issuer.now script _ _ facts end
+    (same_numbers days ∙ c.serve-opened.ensures.same ∙ c.in-Ok.ensures.tills ∙ ap tills_of same)
+    (subst (λ (q : List Asked). DayRunEnds (all_replies tills) served.answer (length (noted new.state.entries))
+    (length (recs new.state.entries)) (day_text q tills new.state.entries) sink end) same ends))))

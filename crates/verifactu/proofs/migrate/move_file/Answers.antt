@@ -1,4 +1,4 @@
-use Rattle.std.proofs.Common.{rules, ◌≡◌, ◌∙◌, List, ℕ, subst, sym}
+use Rattle.std.proofs.Common.{◌≡◌, ◌∙◌, List, ℕ, subst, sym}
 use Rattle.chain_disk.specs.Disks.{this_disk}
 use Rattle.ports.specs.Sinks.{this_sink}
 use Rattle.report.specs.Moves.{migrated_text}

@@ -1,29 +1,29 @@
-use Rattle.std.proofs.Common.{Global, map, rules, string_bytes, ap, refl, subst}
+use Rattle.std.proofs.Common.{◌∙◌, Global, map, rules, string_bytes, ap, refl, subst}
 use Rattle.ports.specs.Sinks.{this_sink}
 use Rattle.ports.specs.Sources.{this_source}
 use Rattle.verifactu.specs.CommandLine.{AsksFor}
 use Rattle.verifactu.specs.Devices.{Further, agency_desk, further, own_post, this_call}
 use Rattle.verifactu.specs.declared.command_line.Command.{Command}
-use Rattle.verifactu.specs.declared.command_line.Command.TheVariants.{Migrate}
-use Rattle.verifactu.proofs.CommandLine.{within}
-use Rattle.verifactu.proofs.Promising.{own_ends, promised, promised_nothing}
+use Rattle.verifactu.specs.declared.command_line.Command.TheVariants.{Follow, Migrate}
+use Rattle.verifactu.proofs.CommandLine.{guard_posts, within}
+use Rattle.verifactu.proofs.Promising.{promised, promised_nothing}
 use Rattle.verifactu.proofs.running.run.Goals as goal
+
+pub obey_first-requires-clause-further : goal.obey_first-requires-clause-further
+obey_first-requires-clause-further g c = λ lifetimes live is.
+    c.requires ∙ guard_posts (map (string_bytes {Z = Global}) c.args.words.now) c.in-Some.command c.in-Some.ensures is
 
 pub returns-in-Some-clause-promise : goal.returns-in-Some-clause-promise
 returns-in-Some-clause-promise g c =
-    let a = this_call (this_source g.S.Source.left g.S.Source.faults c.args.source.now c.obey-ended.new.source)
-    (this_sink g.K.Sink.taken g.K.Sink.faults c.args.sink.now c.obey-ended.new.sink) g.D.Disk g.C.Clock g.Z.Sleeper g.G.Agency
-    (own_post c.args.outside) c.obey-ended.result.1 in
-    let f : Further g.row.D.Denot g.row.C.Denot g.row.Z.Denot g.row.G.Denot = record {
-      posts = c.args.outside.more;
-      posts_after = c.args.outside.more;
-    } in
-    let end = c.obey-ended.result.0.detail in
+    let after = c.obey_first.result.1 in
+    let a = this_call (this_source g.S.Source.left g.S.Source.faults c.args.source.now c.obey_first.new.source)
+    (this_sink g.K.Sink.taken g.K.Sink.faults c.args.sink.now c.obey_first.new.sink) g.D.Disk g.C.Clock g.Z.Sleeper g.G.Agency
+    (own_post c.args.outside) (own_post after) in
     promised c.legal_is_chained.ensures.linked a (λ same. ap (λ (x : g.row.G.Denot). agency_desk g.G.Agency x) same)
+    c.what_a_disk_reads_is_an_image.ensures
     c.a_file_has_one_meaning.ensures.history c.a_file_has_one_meaning.ensures.not_begun c.who_keeps_the_rules_tells.ensures
-    (map (string_bytes {Z = Global}) c.args.words.now) f c.in-Some.command end c.in-Some.ensures
-    (own_ends c.legal_is_chained.ensures.linked a (λ same. ap (λ (x : g.row.G.Denot). agency_desk g.G.Agency x) same) f
-    c.in-Some.command end c.obey-ended.ensures.ends refl)
+    (map (string_bytes {Z = Global}) c.args.words.now) (further c.args.outside after) c.in-Some.command
+    c.obey_first.result.0.detail c.in-Some.ensures c.obey_first.ensures.ends
 
 pub returns-in-Some-Migrate-clause-promise : goal.returns-in-Some-Migrate-clause-promise
 returns-in-Some-Migrate-clause-promise g c =
@@ -34,11 +34,31 @@ returns-in-Some-Migrate-clause-promise g c =
     (this_sink g.K.Sink.taken g.K.Sink.faults c.args.sink.now c.move_to_further.new.sink) g.D.Disk g.C.Clock g.Z.Sleeper
     g.G.Agency (own_post c.args.outside) (own_post after) in
     promised c.legal_is_chained.ensures.linked a (λ same. ap (λ (x : g.row.G.Denot). agency_desk g.G.Agency x) same)
+    c.what_a_disk_reads_is_an_image.ensures
     c.a_file_has_one_meaning.ensures.history c.a_file_has_one_meaning.ensures.not_begun c.who_keeps_the_rules_tells.ensures
     words (further c.args.outside after) Migrate c.move_to_further.result.0.detail
     (subst (λ (k : Command). AsksFor words k) c.in-Some-Migrate.field-0-is c.in-Some-Migrate.ensures)
     (record {
       moves = e.moves;
+      reads = record { read = record { left = refl; faults = refl }; disk = e.same; clock = e.rest.0 };
+      nobody = record { sleeper = e.rest.1; agency = e.rest.2 };
+    })
+
+pub returns-in-Some-Follow-clause-promise : goal.returns-in-Some-Follow-clause-promise
+returns-in-Some-Follow-clause-promise g c =
+    let words = map (string_bytes {Z = Global}) c.args.words.now in
+    let after = c.follow_by_further.result.1 in
+    let e = c.follow_by_further.ensures in
+    let a = this_call (this_source g.S.Source.left g.S.Source.faults c.args.source.now c.args.source.now)
+    (this_sink g.K.Sink.taken g.K.Sink.faults c.args.sink.now c.follow_by_further.new.sink) g.D.Disk g.C.Clock g.Z.Sleeper
+    g.G.Agency (own_post c.args.outside) (own_post after) in
+    promised c.legal_is_chained.ensures.linked a (λ same. ap (λ (x : g.row.G.Denot). agency_desk g.G.Agency x) same)
+    c.what_a_disk_reads_is_an_image.ensures
+    c.a_file_has_one_meaning.ensures.history c.a_file_has_one_meaning.ensures.not_begun c.who_keeps_the_rules_tells.ensures
+    words (further c.args.outside after) Follow c.follow_by_further.result.0.detail
+    (subst (λ (k : Command). AsksFor words k) c.in-Some-Follow.field-0-is c.in-Some-Follow.ensures)
+    (record {
+      follows = e.follows;
       reads = record { read = record { left = refl; faults = refl }; disk = e.same; clock = e.rest.0 };
       nobody = record { sleeper = e.rest.1; agency = e.rest.2 };
     })

@@ -13,22 +13,24 @@ use Rattle.till_calls.specs.Shop.{first_items, seat_knows, seat_shop, shop_root,
 use Rattle.verifactu.specs.Beside.{SendsOn}
 use Rattle.verifactu.specs.Devices.{agency_desk, agency_kind}
 use Rattle.verifactu.specs.Tills.{asks_of}
-use Rattle.verifactu.specs.Works.{day_of, told_in}
+use Rattle.verifactu.specs.Works.{day_of, tills_in, told_in}
 use Rattle.verifactu.specs.declared.tills.TillDay.{TillDay}
-use Rattle.verifactu.proofs.DayRuns.{counts, ended, held_again, same_days, shared}
+use Rattle.verifactu.proofs.DayRuns.{counts, ended, held_again, same_tills, shared}
+use Rattle.verifactu.proofs.DayTexts.{same_numbers}
 use Rattle.verifactu.proofs.Jobs.{all_turned, ran_as}
 use Rattle.verifactu.proofs.Joined.{sends_beside}
+use Rattle.verifactu.proofs.Rows.{distinct_of}
 use Rattle.verifactu.proofs.Whole.{is_stopped}
 use Rattle.verifactu.proofs.serving.serve.Goals as goal
 
-pub beside-jobs-requires-clause-room : goal.beside-jobs-requires-clause-room
-beside-jobs-requires-clause-room g c κs within =
+pub tills_beside-sent-requires-clause-room : goal.tills_beside-sent-requires-clause-room
+tills_beside-sent-requires-clause-room g c κs within =
     all_turned day_of (λ (d : TillDay). (length (asks_of d.till c.args.asks.now) ≤ vec_capacity d.answers) ×
     (d.answers.items ≡ [])) c.hand_out.new.jobs.items c.args.room.days.items c.hand_out.ensures.days c.requires.room
 
 pub hand_in-requires-clause-room : goal.hand_in-requires-clause-room
 hand_in-requires-clause-room g c =
-    let e = c.beside-jobs.ensures.len in
+    let e = c.tills_beside-sent.ensures.len in
     let f : length c.hand_out.new.jobs.items ≡ length c.args.room.days.items =
     sym (length-map c.hand_out.new.jobs.items day_of) ∙ sym (length-reverse (map day_of c.hand_out.new.jobs.items)) ∙
     ap (λ (l : List TillDay). length l) c.hand_out.ensures.days in
@@ -39,15 +41,16 @@ hand_in-requires-clause-room g c =
 
 pub close-requires-clause-whole : goal.close-requires-clause-whole
 close-requires-clause-whole g c = λ n l.
-    let ran = ran_as g.C.Clock.coming c.args.asks.now _ _ _ _ _ _ _ _ c.hand_out.ensures.days c.hand_out.ensures.knows
-    (sym c.hand_in.ensures.days) (sym c.hand_in.ensures.knows) c.beside-jobs.ensures.ran in
-    let old = c.beside-jobs.result.1.seat in
+    let ran = ran_as g.C.Clock.coming c.args.asks.now _ _ _ _ _ _ _ _ (ap tills_in c.hand_out.ensures.days)
+    c.hand_out.ensures.knows (sym (ap (λ (l : List TillDay). map told_in l) c.hand_in.ensures.days)) (sym c.hand_in.ensures.knows)
+    c.tills_beside-sent.ensures.ran in
+    let old = c.tills_beside-sent.result.seat in
     let new = c.hand_in.new.seat in
     let shown : mark_by (seat_shop new) (seat_knows new) ≡ mark_by (seat_shop old) (seat_knows old) =
     ap (λ (k : Known Item (Root g.row.C.Denot)). mark_by (seat_shop new) k) c.hand_in.ensures.seat.1
     ∙ ap (λ (s : TableId). mark_by s (seat_knows old)) c.hand_in.ensures.seat.0 in
-    let marks = c.drain_rest-rest.ensures.mark ∙ shown ∙ c.beside-jobs.ensures.mark in
-    let again = held_again g.C.Clock.coming c.args.asks.now c.args.room.days.items c.hand_in.new.days.items
+    let marks = c.drain_rest-rest.ensures.mark ∙ shown ∙ c.tills_beside-sent.ensures.mark in
+    let again = held_again g.C.Clock.coming c.args.asks.now (tills_in c.args.room.days.items) (map told_in c.hand_in.new.days.items)
     (tills_know c.args.begun.started.tills) (tills_know c.hand_in.new.tills) (seat_knows c.args.begun.started.seat)
     (seat_knows c.drain_rest-rest.result.seat) ran
     (ap (λ (m : Mark g.row.C.Denot). m.numbers) marks) n in
@@ -56,8 +59,9 @@ close-requires-clause-whole g c = λ n l.
 
 pub returns-clause-day : goal.returns-clause-day
 returns-clause-day g c =
-    let ran = ran_as g.C.Clock.coming c.args.asks.now _ _ _ _ _ _ _ _ c.hand_out.ensures.days c.hand_out.ensures.knows
-    (sym c.hand_in.ensures.days) (sym c.hand_in.ensures.knows) c.beside-jobs.ensures.ran in
+    let ran = ran_as g.C.Clock.coming c.args.asks.now _ _ _ _ _ _ _ _ (ap tills_in c.hand_out.ensures.days)
+    c.hand_out.ensures.knows (sym (ap (λ (l : List TillDay). map told_in l) c.hand_in.ensures.days)) (sym c.hand_in.ensures.knows)
+    c.tills_beside-sent.ensures.ran in
     let p = parts_of c.close.result in
     let shop = c.args.begun.started.shop in
     let seat = seat_knows c.args.begun.started.seat in
@@ -68,18 +72,18 @@ returns-clause-day g c =
     let answer = c.drain_rest-rest.result.answer in
     let told = map told_in c.hand_in.new.days.items in
     let sends = c.drain_rest-rest.ensures.sends _ _ _ (subst (λ (s : Sight). SendsOn kind (sight_by seat) s opened
-    (agency_desk g.G.Agency c.beside-jobs.result.1.agency) fresh c.beside-jobs.result.1.sender c.beside-jobs.result.1.answer)
-    (sym (ap (λ (k : Known Item (Root g.row.C.Denot)). sight_by k) c.hand_in.ensures.seat.1)) c.beside-jobs.ensures.sends) in
+    (agency_desk g.G.Agency c.tills_beside-sent.result.agency) fresh c.tills_beside-sent.result.sender c.tills_beside-sent.result.answer)
+    (sym (ap (λ (k : Known Item (Root g.row.C.Denot)). sight_by k) c.hand_in.ensures.seat.1)) c.tills_beside-sent.ensures.sends) in
     let h = shared g.D.Disk.tells g.D.Disk.told g.D.Disk.faults g.C.Clock.coming c.args.asks.now p (shop_root shop)
-    (first_items shop) c.args.room.days.items c.hand_in.new.days.items (tills_know c.args.begun.started.tills)
+    (first_items shop) (tills_in c.args.room.days.items) told (tills_know c.args.begun.started.tills)
     (tills_know c.hand_in.new.tills) seat then ran c.requires.begun.new
     c.a_till_owns_records_and_stops.ensures c.close.ensures.each c.close.ensures.begins c.close.ensures.since sends.adds in
     ended g.D.Disk.tells g.D.Disk.told g.D.Disk.faults g.C.Clock.coming c.args.asks.now p (shop_root shop) (first_items shop)
-    c.args.room.days.items c.hand_in.new.days.items (tills_know c.args.begun.started.tills) (tills_know c.hand_in.new.tills) seat then
+    (tills_in c.args.room.days.items) told (tills_know c.args.begun.started.tills) (tills_know c.hand_in.new.tills) seat then
     ran c.requires.begun.new kind opened after answer
     c.a_till_adds_for_no_other.ensures c.a_till_adds_what_is_taken.ensures
     (ap (λ (l : List Item). length l) c.requires.begun.base ∙ length-map (shop_root shop).history (λ (e : Entry). item.Entry e))
-    c.requires.distinct h sends.notes
+    (distinct_of (λ (d : TillDay). d.till) c.args.room.days.items c.requires.distinct) h sends.notes
     (λ disk. is_stopped (first_items shop) (items_in p) (shop_root shop) (tills_know c.hand_in.new.tills) seat then h
     (shop_root shop).history p.state.entries p.stopped p.torn (record {
       base_is = c.requires.begun.base;
@@ -88,7 +92,7 @@ returns-clause-day g c =
     }) (sends.stopped disk))
     c.close.ensures.sound
     (counts g.D.Disk.tells g.D.Disk.told g.D.Disk.faults g.C.Clock.coming c.args.asks.now p (shop_root shop) (first_items shop)
-    c.args.room.days.items c.hand_in.new.days.items (tills_know c.args.begun.started.tills) (tills_know c.hand_in.new.tills) seat then
+    (tills_in c.args.room.days.items) told (tills_know c.args.begun.started.tills) (tills_know c.hand_in.new.tills) seat then
     ran c.requires.begun.new answer c.a_till_owns_within_what_it_knows.ensures c.who_sees_all_that_is_owned_sees_all.ensures h
     (seat_knows c.hand_in.new.seat).least c.hand_in.ensures.told c.drain_rest-rest.ensures.covers
     c.drain_rest-rest.ensures.delivered)
@@ -99,7 +103,8 @@ returns-clause-day g c =
 
 pub returns-clause-same : goal.returns-clause-same
 returns-clause-same g c =
-    let ran = ran_as g.C.Clock.coming c.args.asks.now _ _ _ _ _ _ _ _ c.hand_out.ensures.days c.hand_out.ensures.knows
-    (sym c.hand_in.ensures.days) (sym c.hand_in.ensures.knows) c.beside-jobs.ensures.ran in
-    same_days g.C.Clock.coming c.args.asks.now c.args.room.days.items c.hand_in.new.days.items (tills_know c.args.begun.started.tills)
-    (tills_know c.hand_in.new.tills) ran
+    let ran = ran_as g.C.Clock.coming c.args.asks.now _ _ _ _ _ _ _ _ (ap tills_in c.hand_out.ensures.days)
+    c.hand_out.ensures.knows (sym (ap (λ (l : List TillDay). map told_in l) c.hand_in.ensures.days)) (sym c.hand_in.ensures.knows)
+    c.tills_beside-sent.ensures.ran in
+    sym (same_numbers c.hand_in.new.days.items) ∙ same_tills g.C.Clock.coming c.args.asks.now (tills_in c.args.room.days.items)
+    (map told_in c.hand_in.new.days.items) (tills_know c.args.begun.started.tills) (tills_know c.hand_in.new.tills) ran

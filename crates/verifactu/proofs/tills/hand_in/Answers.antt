@@ -8,16 +8,8 @@ use Rattle.till_calls.specs.Shop.{numbers, seat_knows, till_knows, till_number, 
 use Rattle.verifactu.specs.Works.{day_of, job_knows}
 use Rattle.verifactu.specs.declared.tills.Job.{Job}
 use Rattle.verifactu.specs.declared.tills.TillDay.{TillDay}
-use Rattle.verifactu.proofs.Each.{all_of_each, each_of_all, each_snoc, each_weaker}
-use Rattle.verifactu.proofs.Jobs.{all_front, take_back}
+use Rattle.verifactu.proofs.Jobs.{all_front, take_back, told_more}
 use Rattle.verifactu.proofs.tills.hand_in.Goals as goal
-
-told_more : {R : Type 0} (old new : ℕ) (ks : List (Known Item R)) (k : Known Item R) → old ≤ new → k.least ≤ new →
-    All (λ (j : Known Item R). j.least ≤ old) ks → All (λ (j : Known Item R). j.least ≤ new) (ks ++ k ∷ [])
-told_more {R} old new ks k more least h =
-    all_of_each (λ (j : Known Item R). j.least ≤ new) (ks ++ k ∷ []) (each_snoc (λ (j : Known Item R). j.least ≤ new) ks k
-    (each_weaker (λ (j : Known Item R). j.least ≤ old) (λ (j : Known Item R). j.least ≤ new) ks (λ j e. omega (arith, more, e))
-    (each_of_all (λ (j : Known Item R). j.least ≤ old) ks h)) least)
 
 pub loop-job-preserved : goal.loop-job-preserved
 loop-job-preserved g c =

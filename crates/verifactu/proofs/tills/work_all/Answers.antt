@@ -1,6 +1,6 @@
 use Rattle.std.proofs.Common.{rules, ◌≡◌, List, length, map, ap, sym, ◌∙◌}
 use Rattle.std.specs.Prelude.{reverse, vec_len}
-use Rattle.verifactu.specs.Works.{day_of, job_knows}
+use Rattle.verifactu.specs.Works.{day_of, job_knows, tills_in, told_in}
 use Rattle.verifactu.specs.declared.tills.Job.{Job}
 use Rattle.verifactu.proofs.Jobs.{ran_as, ran_of, written_back}
 use mir.Syntax.{erased, of_param}
@@ -31,16 +31,16 @@ pub returns-clause-ran : goal.returns-clause-ran
 returns-clause-ran g c =
     let xs = c.deref_mut.result.now in
     let ys = c.for_each_mut.new.s in
-    let all = c.args.jobs.items in
+    let all = c.args.jobs.now.items in
     let long : length all ≡ length xs = ap (λ (l : List (Job g.row.D.Denot g.row.C.Denot)). length l)
     (sym c.deref_mut.ensures.value) in
-    let written = written_back ys all (vec_len c.args.jobs) (c.for_each_mut.auto.s ∙ c.deref_mut.ensures.len)
+    let written = written_back ys all (vec_len c.args.jobs.now) (c.for_each_mut.auto.s ∙ c.deref_mut.ensures.len)
     (long ∙ c.deref_mut.ensures.len) in
     let went : xs ≡ all = c.deref_mut.ensures.value in
     ran_as g.C.Clock.coming c.args.asks.now _ _ _ _ _ _ _ _
-    (ap (λ (l : List (Job g.row.D.Denot g.row.C.Denot)). reverse (map day_of l)) went)
+    (ap (λ (l : List (Job g.row.D.Denot g.row.C.Denot)). tills_in (reverse (map day_of l))) went)
     (ap (λ (l : List (Job g.row.D.Denot g.row.C.Denot)). reverse (map job_knows l)) went)
-    (sym (ap (λ (l : List (Job g.row.D.Denot g.row.C.Denot)). reverse (map day_of l)) written))
+    (sym (ap (λ (l : List (Job g.row.D.Denot g.row.C.Denot)). map told_in (reverse (map day_of l))) written))
     (sym (ap (λ (l : List (Job g.row.D.Denot g.row.C.Denot)). reverse (map job_knows l)) written))
     (ran_of g.C.Clock.coming c.args.asks.now xs ys c.for_each_mut.auto.s
     (λ i d l. let h = c.for_each_mut.ensures i d l in (search rules, search rules)))

@@ -3,16 +3,16 @@ use denote.Exit.{no}
 use denote.Param.Send.{Quiet-if}
 use Rattle.till_calls.proofs.Sent.{seat_send, shop_sync}
 use Rattle.verifactu.proofs.Sent.{flag_sync, means_send, sent_send}
-use Rattle.verifactu.proofs.beside.beside.Goals as goal
+use Rattle.verifactu.proofs.beside.run_beside.Goals as goal
 
-pub join-sent-requires-send-A : goal.join-sent-requires-send-A
-join-sent-requires-send-A g c κs within =
+pub join-requires-send-A : goal.join-requires-send-A
+join-requires-send-A g c κs within =
     let b = c.type_bounds in
     let a = sent_send _ _ _ _ g.D.Disk g.C.Clock b.send-D b.send-C b.send-G b.send-Z in
     record { owned = a.owned; leaving = λ k. Quiet-if (k (of_param 3)) _ _ (a.leaving no) (λ x w. tt) }
 
-pub join-sent-requires-send-F : goal.join-sent-requires-send-F
-join-sent-requires-send-F g c κs within =
+pub join-requires-send-F : goal.join-requires-send-F
+join-requires-send-F g c κs within =
     let b = c.type_bounds in
     let m = means_send (record { mir = erased; lft = κs.1.1.1.1.1.1.0 }) _ _ b.sync-R b.sync-T in
     let seat = seat_send _ _ g.D.Disk g.C.Clock b.send-D b.send-C in
