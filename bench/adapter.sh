@@ -1,5 +1,5 @@
 #!/bin/sh
-# Whether an adapter does what docs/ADAPTER.md asks of it: `drain` and `day` over it, faults of the link planned between the two, and
+# Whether an adapter does what docs/ADAPTER.md asks of it: `drain`, `day` and `serve` over it, faults of the link planned between the two, and
 # at the end it took each record of the chain once, in order, none was handed over again but where it had said that it held none, and
 # the file notes what it answered. Then how long `drain` takes over a file of so many waiting records, by the adapter alone.
 # Run by hand: bench/adapter.sh [RECORDS [ADAPTER..]]. ADAPTER is the adapter's command, which gets the two files behind its own
@@ -74,11 +74,13 @@ done
     for till in 1 2 3 4; do seq 50 | sed "s/.*/sale $till & T$till F2 21:1000/"; done
     for sale in 1 2 3 4 5 6 7 8 9 10; do echo "cancel 1 $((50 + sale)) T1-$sale"; done
 } >"$work/day"
-for plan in "2 taken, 3 lost, 5 twice" "1 half, 4 taken, 6 lost"; do
-    rm -f "$work/shop.chain"
-    start "$plan" "$@"
-    run "day, $plan" "$work/day" day "$work/shop.chain" $nif
-    stop
+for command in day serve; do
+    for plan in "2 taken, 3 lost, 5 twice" "1 half, 4 taken, 6 lost"; do
+        rm -f "$work/shop.chain"
+        start "$plan" "$@"
+        run "$command, $plan" "$work/day" $command "$work/shop.chain" $nif
+        stop
+    done
 done
 
 sales "$records"

@@ -104,6 +104,7 @@ class Build:
                 say(f"proved {name}, {len(self.done)} of {len(self.order)}, {self.clock()}")
             else:
                 self.failed.append(name)
+                say(f"{name} wasn't proved, {self.clock()}; no other crate is begun")
             self.turn.notify_all()
 
     def work(self):
@@ -137,7 +138,7 @@ def main():
         say("stopped; the next build goes on from here")
         return 130
     if build.failed:
-        say(f"{build.failed[0]} wasn't proved; see {os.path.relpath(LOG)}")
+        say(f"not built; see {os.path.relpath(LOG)}")
         return 1
     say("proving and linking the program")
     with open(LOG, "ab") as log:
