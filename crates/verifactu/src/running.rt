@@ -2,35 +2,30 @@
 ghost use Rattle.std.specs.Prelude.{◌≡◌, length, map, string_bytes};
 ghost use Rattle.ports.specs.Sinks.{this_sink};
 ghost use Rattle.ports.specs.Sources.{this_source};
-ghost use Rattle.verifactu.specs.Devices.{disk_in, further, own_post, this_call};
+ghost use Rattle.open_shop.specs.Devices.{disk_in, this_call};
+ghost use Rattle.shop_commands.specs.Further.{further, own_post};
 ghost use Rattle.report.specs.Status.{status_of};
 ghost use Rattle.report.specs.declared.status.Detail.TheVariants as detail;
 ghost use Rattle.file_commands.specs.Output.{PrintEnds};
 ghost use Rattle.verifactu.specs.Promise.{Promise};
-ghost use Rattle.verifactu.specs.Follow.{FollowsPost};
-ghost use Rattle.verifactu.specs.Migrate.{MovesPost};
+ghost use Rattle.shop_commands.specs.Follow.{FollowsPost};
+ghost use Rattle.shop_commands.specs.Migrate.{MovesPost};
 ghost use Rattle.verifactu.specs.Running.{CommandEnds, EndsAs, OwnEnds};
 ghost use Rattle.verifactu.specs.CommandLine.{IsForIssuerOrOneFile, IsGuarding, IsOfOneFile, IsWithin, posts_needed};
 
-use crate::chain::chain_cmd;
 use crate::command_line::{Command, command_of};
-use crate::day::day_cmd;
-use crate::drain::drain_cmd;
-use crate::follow::follow_cmd;
-use crate::guard::guard_cmd;
 use crate::help::{help_text, version_text};
-use crate::laws::{what_a_disk_reads_is_an_image, who_keeps_the_rules_tells};
-use crate::migrate::migrate_cmd;
-use crate::outside::Outside;
-use crate::posts::{Post, Posts};
-use crate::serve::serve_cmd;
 use agency_port::Agency;
 use chain_disk::Disk;
 use file_commands::{
     audit_cmd, check_cmd, export_cmd, generate_cmd, link_cmd, matches_cmd, print, statement_cmd,
 };
+use open_shop::{Post, Posts, what_a_disk_reads_is_an_image, who_keeps_the_rules_tells};
 use ports::{Clock, Gate, Sink, Sleeper, Source};
 use report::{Detail, Ended};
+use shop_commands::{
+    Outside, chain_cmd, day_cmd, drain_cmd, follow_cmd, guard_cmd, migrate_cmd, serve_cmd,
+};
 use shop_core::{a_file_has_one_meaning, legal_is_chained};
 use std::alloc::Global;
 use std::sync::Wait;

@@ -1,6 +1,6 @@
 use Rattle.std.proofs.Common.{◌∙◌, ◌∷◌, ◌++◌, [], List, ap, refl, sym}
-use Rattle.verifactu.specs.declared.posts.Post.{Post}
-use Rattle.verifactu.proofs.OnePosts.{only_one}
+use Rattle.open_shop.specs.declared.posts.Post.{Post}
+use Rattle.shop_commands.proofs.OnePosts.{only_one}
 use Rattle.verifactu.proofs.running.follow_by_further.Goals as goal
 
 pub returns-clause-follows : goal.returns-clause-follows
