@@ -1,9 +1,11 @@
 -- What is said at a shop's counter, and what it makes of the shop.
 use Rattle.std.specs.Prelude.{◌≡◌, ◌≤◌, ℕ, Bool, List, length, map, Option, Result}
 use Rattle.std.specs.List.{AllByRecursion, list_any, range_with_len}
+use Rattle.chain_lock.specs.Known.{Known}
 use Rattle.chain_store.specs.Replies.{Replies, is_no_memory}
 use Rattle.counter.specs.InARow.{IsOfTill, replies_of}
-use Rattle.counter.specs.Speech.{AreRepliesOf, ComesFirst, IsCause, IsRead, IsWritten, Moment, sink_since}
+use Rattle.counter.specs.Speech.{AreRepliesOf, ComesFirst, IsCause, IsRead, IsWritten, Moment, Spoken, clock_first}
+use Rattle.counter.specs.Speech.{moment_since, sink_since}
 use Rattle.counter.specs.declared.listener.Listener.{Listener}
 use Rattle.counter.specs.declared.speaking.SpeechEnd.{SpeechEnd}
 use Rattle.counter.specs.declared.speaking.SpeechEnd.TheVariants as speech
@@ -16,6 +18,7 @@ use Rattle.script.specs.declared.lines.Meaning.{Meaning}
 use Rattle.sender.specs.Turning.{AgencyKind, Desk}
 use Rattle.sender.specs.declared.answers.DrainFault.{DrainFault}
 use Rattle.shop_core.specs.Answer.Requests.{Asked}
+use Rattle.shop_core.specs.declared.items.Item.{Item}
 use Rattle.till_calls.specs.Root.{Parts, Root}
 use Rattle.open_shop.specs.Days.{TillReplies, shop_day}
 use Rattle.open_shop.specs.Devices.{StoreKind}
@@ -52,6 +55,14 @@ pub record HasCome (left_now : Option (List ℕ)) (faults_now : ℕ) (l : Listen
   pub comes : ComesFirst left left_now l first
   pub later : faults ≤ faults_now
   pub cause : IsCause faults faults_now first
+
+-- What is spoken from this first line on, whatever its source had to give before that line: the tills knew so much before, and now.
+abbrev pub SpeaksOn : {C : Type 0} → (C → ℕ → Option ℕ) → Listener → Result Task SpeechEnd → Moment → Moment → Bool →
+    List (Known Item (Root C)) → List (Known Item (Root C)) → SpeechEnd → Type 0
+SpeaksOn coming listener first from now lacked olds news how =
+    (left : Option (List ℕ)) (faults : ℕ) → ComesFirst left from.left listener first → faults ≤ from.source_faults →
+    IsCause faults from.source_faults first →
+    Spoken coming (clock_first first) (moment_since left faults from.taken from.sink_faults) now lacked olds news how
 
 -- A dialogue at the counter of a shop, which was this at its start, beside its sender: what was said, and what it made of the shop.
 pub record CounterRun {D C : Type 0} (h : StoreKind D C) (root : Root C) (new : Parts D C) (clock : Option (ℕ × ℕ))

@@ -1,7 +1,7 @@
 // A dialogue at the counter of a shop, and the sender beside it.
 ghost use Rattle.std.specs.Prelude.{◌≡◌, ◌≤◌, [], ℕ, List, Option, false, map, reverse, All, vec_capacity};
 ghost use Rattle.std.specs.List.{range_with_len};
-ghost use Rattle.counter.specs.Speech.{ComesFirst, IsCause, Spoken, clock_first, moment_of, moment_since};
+ghost use Rattle.counter.specs.Speech.{ComesFirst, IsCause, clock_first, moment_of, moment_since};
 ghost use Rattle.record_codec.specs.declared.entry.TheConstants.{LAST_TILL};
 ghost use Rattle.sender.specs.Sending.{fresh};
 ghost use Rattle.till_calls.specs.Mark.{mark_by, sight_by};
@@ -10,7 +10,7 @@ ghost use Rattle.till_calls.specs.Shop.{made_tills, numbers, seat_knows, seat_sh
 ghost use Rattle.till_calls.specs.Shop.{till_shop};
 ghost use Rattle.open_shop.specs.Beside.{SendsOn};
 ghost use Rattle.open_shop.specs.Devices.{agency_desk, agency_kind, store_kind};
-ghost use Rattle.open_shop.specs.Talking.{CounterRun, HasCome};
+ghost use Rattle.open_shop.specs.Talking.{CounterRun, HasCome, SpeaksOn};
 ghost use Rattle.open_shop.specs.Started.{IsStarted};
 
 use crate::beside::beside;
@@ -58,9 +58,8 @@ fn converse_to<S: Source, K: Sink, D: Disk, C: Clock, T: Gate, R: Wait>(
     requires lacked { counter.old.lacked ≡ false }
     ensures own { All (λ t. till_shop t ≡ shop_id shop.now) counter.new.held.items }
     ensures numbers { map till_number counter.new.held.items ≡ map till_number counter.old.held.items }
-    ensures spoken { (left : Option (List ℕ)) (faults : ℕ) → ComesFirst left (S.left source.old) counter.old.listener first.now →
-        faults ≤ S.faults source.old → IsCause faults (S.faults source.old) first.now →
-        Spoken C.coming (clock_first first.now) (moment_since left faults (K.taken sink.old) (K.faults sink.old))
+    ensures spoken { SpeaksOn C.coming counter.old.listener first.now
+        (moment_of S.left S.faults K.taken K.faults source.old sink.old)
         (moment_of S.left S.faults K.taken K.faults source.new sink.new) counter.new.lacked
         (map till_knows counter.old.held.items) (map till_knows counter.new.held.items) how.new }
 {
@@ -104,9 +103,8 @@ where
     requires seat { seat_shop seat ≡ shop_id shop.now }
     ensures own { All (λ t. till_shop t ≡ shop_id shop.now) counter.new.held.items }
     ensures numbers { map till_number counter.new.held.items ≡ map till_number counter.old.held.items }
-    ensures spoken { (left : Option (List ℕ)) (faults : ℕ) → ComesFirst left (S.left source.old) counter.old.listener first.now →
-        faults ≤ S.faults source.old → IsCause faults (S.faults source.old) first.now →
-        Spoken C.coming (clock_first first.now) (moment_since left faults (K.taken sink.old) (K.faults sink.old))
+    ensures spoken { SpeaksOn C.coming counter.old.listener first.now
+        (moment_of S.left S.faults K.taken K.faults source.old sink.old)
         (moment_of S.left S.faults K.taken K.faults source.new sink.new) counter.new.lacked
         (map till_knows counter.old.held.items) (map till_knows counter.new.held.items) how.new }
     ensures mark { mark_by (seat_shop result.seat) (seat_knows result.seat) ≡ mark_by (seat_shop seat) (seat_knows seat) }
@@ -125,13 +123,10 @@ where
                 × (counter.now.lacked ≡ false) }
             ensures { All (λ t. till_shop t ≡ shop_id shop.entry.now) counter.exit.now.held.items
                 × (map till_number counter.exit.now.held.items ≡ map till_number counter.entry.now.held.items)
-                × ((left : Option (List ℕ)) (faults : ℕ) →
-                ComesFirst left (S.left source.entry.now) counter.entry.now.listener first.entry.now →
-                faults ≤ S.faults source.entry.now → IsCause faults (S.faults source.entry.now) first.entry.now →
-                Spoken C.coming (clock_first first.entry.now) (moment_since left faults (K.taken sink.entry.now)
-                (K.faults sink.entry.now)) (moment_of S.left S.faults K.taken K.faults source.exit.now sink.exit.now)
-                counter.exit.now.lacked (map till_knows counter.entry.now.held.items)
-                (map till_knows counter.exit.now.held.items) how.exit.now) }
+                × SpeaksOn C.coming counter.entry.now.listener first.entry.now
+                (moment_of S.left S.faults K.taken K.faults source.entry.now sink.entry.now)
+                (moment_of S.left S.faults K.taken K.faults source.exit.now sink.exit.now) counter.exit.now.lacked
+                (map till_knows counter.entry.now.held.items) (map till_knows counter.exit.now.held.items) how.exit.now }
         { converse_to(means, shop, counter, first, source, sink, how) },
     )
 }

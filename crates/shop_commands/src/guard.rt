@@ -16,13 +16,13 @@ ghost use Rattle.open_shop.specs.Guarding.{held_by};
 
 use crate::drain::end_by;
 use crate::follow::{fault_end, start_end};
-use crate::outside::Outside;
+use crate::outside::{Outside, put_further, take_further};
 use crate::scripts::read_source;
 use agency_port::Agency;
 use agency_rules::Plan;
 use chain_disk::Disk;
 use file_commands::write_texts;
-use open_shop::{GuardEnd, Opened, Post, Posts, close, guard_opened, open, opening_end};
+use open_shop::{GuardEnd, Opened, Post, close, guard_opened, open, opening_end};
 use parties::Nif;
 use ports::{Clock, Sink, Sleeper, Source};
 use report::{Detail, Ended, turns_text};
@@ -252,15 +252,15 @@ where
         sleeper,
         agency,
     };
-    let mut posts = more.into_vec();
-    let Some(other) = posts.pop() else {
-        unreachable!()
-    };
+    let (other, room) = take_further(more);
     let (ended, post, copy) = guard_source(rt, alloc, issuer, source, sink, post, other.disk);
-    posts.push_reserved(Post {
-        disk: copy,
-        ..other
-    });
+    let more = put_further(
+        Post {
+            disk: copy,
+            ..other
+        },
+        room,
+    );
     let Post {
         disk,
         clock,
@@ -274,7 +274,7 @@ where
             clock,
             sleeper,
             agency,
-            more: Posts::of(posts),
+            more,
         },
     )
 }

@@ -20,5 +20,5 @@ pub use drain::drain_cmd;
 pub use follow::follow_cmd;
 pub use guard::guard_cmd;
 pub use migrate::migrate_cmd;
-pub use outside::Outside;
+pub use outside::{Outside, put_further, take_further};
 pub use serve::serve_cmd;
