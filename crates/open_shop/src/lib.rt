@@ -19,7 +19,7 @@ pub use draining::{DrainEnd, drain_opened};
 pub use guarding::{GuardEnd, guard_opened};
 pub use kinds::{what_a_disk_reads_is_an_image, who_keeps_the_rules_tells};
 pub use means::Means;
-pub use opening::{Begun, Opened, Unopened, begin, close, open, opening_end};
+pub use opening::{Begun, Opened, Unopened, begin, begin_session, close, open, opening_end};
 pub use posts::{Post, Posts};
 pub use serving::{Served, serve};
 pub use talking::{Talked, talk};

@@ -16,9 +16,12 @@ mod serve;
 
 pub use chain::chain_cmd;
 pub use day::day_cmd;
-pub use drain::drain_cmd;
+pub use drain::{drain_cmd, fault_end};
+pub use ending::{lacks_disk, lacks_memory};
 pub use follow::follow_cmd;
 pub use guard::guard_cmd;
 pub use migrate::migrate_cmd;
 pub use outside::{Outside, put_further, take_further};
+pub use printed::{RunText, told_of};
+pub use scripts::NoScript;
 pub use serve::serve_cmd;

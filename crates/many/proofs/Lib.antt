@@ -1,0 +1,16 @@
+mod Pairwise
+mod Reading
+mod Unread
+mod NoNotes
+mod Opening
+mod Serving
+mod Tasks
+mod Jobs
+mod Sent
+mod Kept
+mod Causes
+mod Rows
+mod Dones
+mod Times
+mod Run
+mod GivenBack

@@ -1,0 +1,13 @@
+pub mod OwnClock
+pub mod Pairwise
+pub mod Scripts
+pub mod Desks
+pub mod Served
+pub mod Blocks
+pub mod Work
+pub mod Jobs
+pub mod Tasks
+pub mod Dones
+pub mod Kept
+pub mod Ends
+pub mod Times

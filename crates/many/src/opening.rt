@@ -1,0 +1,152 @@
+// The files of several issuers, opened one after another.
+ghost use Rattle.std.specs.Prelude.{◌≡◌, ◌≤◌, ◌+◌, ◌∷◌, [], ℕ, List, IfOk, length, reverse, vec_capacity};
+ghost use Rattle.many.specs.Desks.{AreOpened, AreOpenedOf, HasRoom, Start};
+
+use chain_disk::Disk;
+use chain_store::Store;
+use issuers::Part;
+use open_shop::{Opened, Post, Unopened, open};
+use parties::Nif;
+use ports::{Clock, NoMemory};
+use std::alloc::Global;
+
+/// What an issuer has besides its store.
+#[derive(Drop)]
+pub(crate) enum Side<D, C, Z, G> {
+    /// Its file wasn't opened.
+    Closed {
+        issuer: Nif,
+        unopened: Unopened<D, C, Z, G>,
+    },
+    /// Its file was opened.
+    Open {
+        issuer: Nif,
+        sleeper: Z,
+        agency: G,
+    },
+}
+
+/// The issuers of an installation: a side for each, and in their order the stores and the parts of those whose files were opened.
+#[derive(Drop)]
+pub(crate) struct Desks<D: Disk, C: Clock, Z, G> {
+    pub(crate) sides: Vec<Side<D, C, Z, G>>,
+    pub(crate) stores: Vec<Store<D, C>>,
+    pub(crate) parts: Vec<Part>,
+}
+
+impl<D: Disk + Drop, C: Clock + Drop, Z: Drop, G: Drop> Desks<D, C, Z, G> {
+    /// Room for so many issuers.
+    pub(crate) fn with_room(alloc: Global, count: usize) -> Result<Desks<D, C, Z, G>, NoMemory>
+        ensures none { IfOk result (λ d. (d.sides.items ≡ []) × (d.stores.items ≡ []) × (d.parts.items ≡ [])) }
+        ensures room { IfOk result (HasRoom count) }
+    {
+        let sides = Vec::with_capacity(alloc, count)?;
+        let stores = Vec::with_capacity(alloc, count)?;
+        let parts = Vec::with_capacity(alloc, count)?;
+        Ok(Desks {
+            sides,
+            stores,
+            parts,
+        })
+    }
+}
+
+// Opens the file of the issuer in front of those so far, which stand from the last to the first.
+fn open_next<D: Disk, C: Clock, Z, G>(
+    alloc: Global,
+    issuer: &Nif,
+    part: Part,
+    post: Post<D, C, Z, G>,
+    desks: &mut Desks<D, C, Z, G>,
+)
+    requires room { HasRoom 1 desks.old }
+    ensures room { (more : ℕ) → HasRoom (more + 1) desks.old → HasRoom more desks.new }
+    ensures opened { (starts : List (Start D C Z G)) →
+        AreOpened D.Disk C.Clock starts (reverse desks.old.sides.items) (reverse desks.old.stores.items)
+        (reverse desks.old.parts.items) →
+        AreOpened D.Disk C.Clock (record { issuer = issuer.now; part = part; post = post } ∷ starts)
+        (reverse desks.new.sides.items) (reverse desks.new.stores.items) (reverse desks.new.parts.items) }
+{
+    let issuer = *issuer;
+    match open(alloc, &issuer, post) {
+        Err(unopened) => desks.sides.push_reserved(Side::Closed { issuer, unopened }),
+        Ok(opened) => {
+            let Opened {
+                store,
+                sleeper,
+                agency,
+            } = opened;
+            desks.sides.push_reserved(Side::Open {
+                issuer,
+                sleeper,
+                agency,
+            });
+            desks.stores.push_reserved(store);
+            desks.parts.push_reserved(part);
+        }
+    }
+}
+
+/// The list the other way round.
+pub(crate) fn turned<T>(list: Vec<T>) -> Vec<T>
+    ensures { result.items ≡ reverse list.items }
+{
+    let mut list = list;
+    list.reverse();
+    list
+}
+
+// Opens the file of each of these issuers, from the last to the first.
+fn open_back<D: Disk, C: Clock, Z, G>(
+    alloc: Global,
+    issuers: &[Nif],
+    parts: &mut Vec<Part>,
+    posts: &mut Vec<Post<D, C, Z, G>>,
+    desks: &mut Desks<D, C, Z, G>,
+)
+    requires one_each { length posts.old.items ≡ length issuers.now }
+    requires each { length parts.old.items ≡ length issuers.now }
+    requires none { (desks.old.sides.items ≡ []) × (desks.old.stores.items ≡ []) × (desks.old.parts.items ≡ []) }
+    requires room { HasRoom (length issuers.now) desks.old }
+    ensures opened { AreOpenedOf D.Disk C.Clock issuers.now parts.old.items posts.old.items (reverse desks.new.sides.items)
+        (reverse desks.new.stores.items) (reverse desks.new.parts.items) }
+    ensures posts { (posts.new.items ≡ []) × (vec_capacity posts.new ≡ vec_capacity posts.old) }
+{
+    while let Some(post) = posts.pop() {
+        let Some(part) = parts.pop() else {
+            unreachable!()
+        };
+        open_next(alloc, &issuers[posts.len()], part, post, desks);
+    }
+}
+
+/// Opens the file of each of these issuers.
+pub(crate) fn open_all<D: Disk, C: Clock, Z, G>(
+    alloc: Global,
+    issuers: &[Nif],
+    parts: Vec<Part>,
+    posts: &mut Vec<Post<D, C, Z, G>>,
+    desks: Desks<D, C, Z, G>,
+) -> Desks<D, C, Z, G>
+    requires one_each { length posts.old.items ≡ length issuers.now }
+    requires each { length parts.items ≡ length issuers.now }
+    requires none { (desks.sides.items ≡ []) × (desks.stores.items ≡ []) × (desks.parts.items ≡ []) }
+    requires room { HasRoom (length issuers.now) desks }
+    ensures opened { AreOpenedOf D.Disk C.Clock issuers.now parts.items posts.old.items result.sides.items result.stores.items
+        result.parts.items }
+    ensures posts { (posts.new.items ≡ []) × (vec_capacity posts.new ≡ vec_capacity posts.old) }
+{
+    let mut parts = parts;
+    let mut desks = desks;
+    open_back(alloc, issuers, &mut parts, posts, &mut desks);
+    let Desks {
+        sides,
+        stores,
+        parts,
+    } = desks;
+    Desks {
+        sides: turned(sides),
+        stores: turned(stores),
+        parts: turned(parts),
+    }
+}
