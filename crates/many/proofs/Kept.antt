@@ -155,7 +155,7 @@ no_lines entries ask sealed None (Some why) entry e = absurd cc
 no_lines entries ask sealed None None entry e =
     let same : Rec ask.till ask.serial sealed ≡ entry = (let x = e in cc) in ap (λ (n : Entry). noted (n ∷ [])) (sym same)
 
-none_torn_noted : (version : Version) (issuer : List ℕ) (R : Replies → ℕ → Type 0) (asks : List Asked) (history : List Entry)
+pub none_torn_noted : (version : Version) (issuer : List ℕ) (R : Replies → ℕ → Type 0) (asks : List Asked) (history : List Entry)
     (replies : Replies) (torn : List Entry) → AllByRecursion (IsCutOff version issuer R asks history replies) torn → noted torn ≡ []
 none_torn_noted version issuer R asks history replies [] each = refl
 none_torn_noted version issuer R asks history replies (entry ∷ torn) each =

@@ -1,13 +1,13 @@
 mod Pairwise
 mod Reading
 mod Unread
-mod NoNotes
+pub mod NoNotes
 mod Opening
 mod Serving
 mod Tasks
 mod Jobs
 mod Sent
-mod Kept
+pub mod Kept
 mod Causes
 mod Rows
 mod Dones

@@ -411,6 +411,7 @@ module _ {D C Z G : Type 0} (d : disk.Ghosts D) (c : clock.Ghosts C) (z : sleepe
           asked = a.served.asked;
           front = subst (λ (p : Part). IsPrefix a.served.asked p.script.asks) a.part_is a.served.front;
           middle = disk_of (journal_of now);
+          later = early;
           played = played;
           outcome = outcome;
           behind = f.behind;

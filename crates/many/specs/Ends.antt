@@ -103,6 +103,7 @@ pub record Works {D Z G : Type 0} (issuer : List ℕ) (script : Script) (coming 
   pub asked : List Asked
   pub front : IsPrefix asked script.asks
   pub middle : D
+  pub later : k.faults k.disk ≤ k.faults middle
   pub played : Played issuer asked coming (λ (replies : Replies). Unit {0}) (up_to k middle)
   pub outcome : Outcome
   pub behind : IsDrained script played.version issuer played.end played.replies k middle s a outcome

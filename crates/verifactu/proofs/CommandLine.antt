@@ -1,11 +1,14 @@
 -- Words that are no command.
 use Rattle.std.proofs.Common.{◌≡◌, ℕ, zero, suc, ◌==◌, false, ◌<◌, ◌≤◌, List, [], ◌∷◌, length, get_or, map, refl, sym, ◌∙◌, ap, subst, arith, None}
-use Rattle.std.proofs.Common.{true, codes, bytes_eq}
+use Rattle.std.proofs.Common.{Bool, true, codes, bytes_eq, nat_lt, if◌then◌else◌, ◌+◌, ◌-◌, ◌/◌}
+use Rattle.std.proofs.lemmas.Bool.Decides.{nat_tests}
 use Rattle.std.proofs.lemmas.Slice.Eq.{bytes_eq-Decides}
 use Rattle.parties.specs.Nif.{IsNif}
-use Rattle.verifactu.specs.CommandLine.{IsAskedFor, AsksFor, IsChain, IsDay, IsDrain, IsServe, IsWithin, IsGuard, IsGuarding, posts_needed}
+use Rattle.verifactu.specs.CommandLine.{IsAskedFor, AsksFor, IsChain, IsDay, IsDrain, IsServe, IsWithin, IsGuard, IsGuarding, IsMany, further_pairs, posts_needed}
+use Rattle.file_pairs.specs.Pairs.{ArePairs, AreApart, IsPairs}
+use Rattle.issuers.specs.Office.{AreOwn}
 use Rattle.verifactu.specs.declared.command_line.Command.{Command}
-use Rattle.verifactu.specs.declared.command_line.Command.TheVariants.{Chain, Day, Drain, Serve, Audit, Link, Check, Migrate, Follow, Guard}
+use Rattle.verifactu.specs.declared.command_line.Command.TheVariants.{Chain, Day, Drain, Serve, Audit, Link, Check, Migrate, Follow, Guard, Many}
 use Rattle.verifactu.specs.declared.command_line.Command.TheVariants.{Statement, Export, Matches, Generate, Help, Version}
 
 length_map : {A B : Type 0} (f : A → B) (xs : List A) → length (map f xs) ≡ length xs
@@ -14,30 +17,105 @@ length_map f (x ∷ xs) = ap suc (length_map f xs)
 
 -- words of another count than those of every command
 not_asked : (words : List (List ℕ)) → (length words ≡ 1 → ⊥) → (length words ≡ 2 → ⊥) → (length words ≡ 3 → ⊥) →
-    (length words ≡ 4 → ⊥) → (command : Command) → AsksFor words command → ⊥
-not_asked words one two three four (Chain issuer) h = three (ap length h.words_are)
-not_asked words one two three four (Day issuer) h = three (ap length h.words_are)
-not_asked words one two three four (Drain issuer) h = three (ap length h.words_are)
-not_asked words one two three four (Serve issuer) h = three (ap length h.words_are)
-not_asked words one two three four Audit h = two (ap length h.words_are)
-not_asked words one two three four (Link num host) h = four (ap length h.words_are)
-not_asked words one two three four (Check workers) h = three (ap length h.words_are)
-not_asked words one two three four Migrate h = three (ap length h.words_are)
-not_asked words one two three four Follow h = three (ap length h.words_are)
-not_asked words one two three four (Guard issuer) h = four (ap length h.words_are)
-not_asked words one two three four (Statement month) h = three (ap length h.words_are)
-not_asked words one two three four Export h = two (ap length h.words_are)
-not_asked words one two three four Matches h = two (ap length h.words_are)
-not_asked words one two three four (Generate n) h = two (ap length h.words_are)
-not_asked words one two three four Help h = one (ap length h)
-not_asked words one two three four Version h = one (ap length h)
+    (length words ≡ 4 → ⊥) → ((issuers : List (List ℕ)) → IsMany words issuers → ⊥) → (command : Command) →
+    AsksFor words command → ⊥
+not_asked words one two three four many (Chain issuer) h = three (ap length h.words_are)
+not_asked words one two three four many (Day issuer) h = three (ap length h.words_are)
+not_asked words one two three four many (Drain issuer) h = three (ap length h.words_are)
+not_asked words one two three four many (Serve issuer) h = three (ap length h.words_are)
+not_asked words one two three four many Audit h = two (ap length h.words_are)
+not_asked words one two three four many (Link num host) h = four (ap length h.words_are)
+not_asked words one two three four many (Check workers) h = three (ap length h.words_are)
+not_asked words one two three four many Migrate h = three (ap length h.words_are)
+not_asked words one two three four many Follow h = three (ap length h.words_are)
+not_asked words one two three four many (Guard issuer) h = four (ap length h.words_are)
+not_asked words one two three four many (Many issuers) h = many issuers h
+not_asked words one two three four many (Statement month) h = three (ap length h.words_are)
+not_asked words one two three four many Export h = two (ap length h.words_are)
+not_asked words one two three four many Matches h = two (ap length h.words_are)
+not_asked words one two three four many (Generate n) h = two (ap length h.words_are)
+not_asked words one two three four many Help h = one (ap length h)
+not_asked words one two three four many Version h = one (ap length h)
+
+-- pairs are two words each
+pairs_long : (words issuers : List (List ℕ)) → ArePairs words issuers → length words ≡ length issuers + length issuers
+pairs_long [] [] h = refl
+pairs_long (file ∷ (nif ∷ words)) (issuer ∷ issuers) h = let e = pairs_long words issuers h.3 in omega (arith, e)
+pairs_long [] (issuer ∷ issuers) h = absurd h
+pairs_long (file ∷ []) [] h = absurd h
+pairs_long (file ∷ []) (issuer ∷ issuers) h = absurd h
+pairs_long (file ∷ (nif ∷ words)) [] h = absurd h
+
+many_long : (words issuers : List (List ℕ)) → IsMany words issuers → 4 < length words
+many_long words issuers h =
+    let size = ap length h.words_are in
+    let two = pairs_long h.pairs issuers h.are.pairs in
+    let several = h.are.several in
+    omega (arith, size, two, several)
 
 pub no_command : {A : Type 0} (f : A → List ℕ) (words : List A) → (length words ≡ 1 → ⊥) → (length words ≡ 2 → ⊥) →
-    (length words ≡ 3 → ⊥) → (length words ≡ 4 → ⊥) → IsAskedFor (map f words) None
-no_command f words one two three four =
+    (length words ≡ 3 → ⊥) → (length words ≡ 4 → ⊥) → length words ≤ 4 → IsAskedFor (map f words) None
+no_command f words one two three four few =
     let same = length_map f words in
     not_asked (map f words) (λ e. one (sym same ∙ e)) (λ e. two (sym same ∙ e)) (λ e. three (sym same ∙ e))
-    (λ e. four (sym same ∙ e))
+    (λ e. four (sym same ∙ e)) (λ issuers h. let long = many_long (map f words) issuers h in omega (arith, same, long, few))
+
+-- words of another count than those of every command but `many`, which they aren't
+pub not_many : {A : Type 0} (f : A → List ℕ) (words pairs : List A) (name : A) → words ≡ name ∷ pairs → 4 < length words →
+    ((issuers : List (List ℕ)) → f name ≡ codes "many" → IsPairs (map f pairs) issuers → ⊥) → IsAskedFor (map f words) None
+not_many f words pairs name is long none =
+    let same = length_map f words in
+    not_asked (map f words) (λ e. omega (arith, same, e, long)) (λ e. omega (arith, same, e, long)) (λ e. omega (arith, same, e, long))
+    (λ e. omega (arith, same, e, long)) (λ issuers h. apart issuers h)
+  where
+    apart : (issuers : List (List ℕ)) → IsMany (map f words) issuers → ⊥
+    apart issuers h =
+        let both : f name ∷ map f pairs ≡ codes "many" ∷ h.pairs = ap (λ (l : List A). map f l) (sym is) ∙ h.words_are in
+        let first : f name ≡ codes "many" = cc in
+        let rest : map f pairs ≡ h.pairs = cc in
+        none issuers first (subst (λ (l : List (List ℕ)). IsPairs l issuers) (sym rest) h.are)
+
+pub is_many : {A : Type 0} (f : A → List ℕ) (words pairs : List A) (name : A) (issuers : List (List ℕ)) → words ≡ name ∷ pairs →
+    f name ≡ codes "many" → IsPairs (map f pairs) issuers → IsMany (map f words) issuers
+is_many f words pairs name issuers is named are = record {
+  pairs = map f pairs;
+  words_are = ap (λ (l : List A). map f l) is ∙ ap (λ (n : List ℕ). n ∷ map f pairs) named;
+  are = are;
+}
+
+-- five words or more
+pub long_posts : (words pairs : List (List ℕ)) (name : List ℕ) → words ≡ name ∷ pairs → 4 < length words →
+    posts_needed words ≡ further_pairs name pairs
+long_posts words (a ∷ (b ∷ (c ∷ (d ∷ more)))) name is long = ap (λ (ws : List (List ℕ)). posts_needed ws) is
+long_posts words [] name is long = absurd (let e = ap length is in omega (arith, e, long))
+long_posts words (a ∷ []) name is long = absurd (let e = ap length is in omega (arith, e, long))
+long_posts words (a ∷ (b ∷ [])) name is long = absurd (let e = ap length is in omega (arith, e, long))
+long_posts words (a ∷ (b ∷ (c ∷ []))) name is long = absurd (let e = ap length is in omega (arith, e, long))
+
+-- the words of `many` name a file more for each issuer but the first
+pub many_posts : (words issuers : List (List ℕ)) → IsMany words issuers → posts_needed words + 1 ≡ length issuers
+many_posts words issuers h =
+    let needed = long_posts words h.pairs (codes "many") h.words_are (many_long words issuers h) in
+    let two = pairs_long h.pairs issuers h.are.pairs in
+    let few = h.are.few in
+    let several = h.are.several in
+    ap (λ (n : ℕ). n + 1) needed ∙ counted (nat_lt 16 (length h.pairs)) refl
+  where
+    counted : (b : Bool) → nat_lt 16 (length h.pairs) ≡ b →
+        (if b then 0 else length h.pairs / 2 - 1) + 1 ≡ length issuers
+    counted true past =
+        let two = pairs_long h.pairs issuers h.are.pairs in
+        let few = h.are.few in
+        absurd (grind (arith, nat_tests, past, two, few))
+    counted false within =
+        let two = pairs_long h.pairs issuers h.are.pairs in
+        let several = h.are.several in
+        omega (arith, two, several)
+
+-- none stands twice
+pub own_of : (words : List (List ℕ)) → AreApart words → AreOwn words
+own_of [] h = tt
+own_of (word ∷ words) h = (h.0, own_of words h.1)
 
 bytes_eq_is : (xs ys : List ℕ) → bytes_eq xs ys ≡ true → xs ≡ ys
 bytes_eq_is xs ys h = (bytes_eq-Decides xs ys).0 h

@@ -214,31 +214,34 @@ served_accepted d begins t h =
     all_accepted d.version d.issuer d.coming d.start d.end t.till begins (asks_of t.till d.asks) t.replies h.last h.told h.run
     (own_asks t.till d.asks) h.own
 
--- an answer makes no notes
-no_lines : (entries : List Entry) (ask : Asked) (sealed : Sealed) (k : Option Receipt) (r : Option Refusal) (told : Reply)
-    (gained : List Entry) →
-    Tells entries (option_map_or Again k (option_map_or Refused r (Made (Rec ask.till ask.serial sealed)))) told gained →
-    noted gained ≡ []
-no_lines entries ask sealed (Some old) r told gained h = ap (λ (es : List Entry). noted es) h.1
-no_lines entries ask sealed None (Some why) told gained h = ap (λ (es : List Entry). noted es) h.1
-no_lines entries ask sealed None None told gained h = ap (λ (es : List Entry). noted es) h.1
+-- notes that came behind change no till's records
+own_stays : (till : ℕ) (start middle end : List Entry) → IsPrefix start middle → AddsNotesAlone middle end →
+    own_of till (drop (length start) end) ≡ own_of till (drop (length start) middle)
+own_stays till start middle end begins h =
+    let later : drop (length start) middle ≡ begins.rest =
+    ap (λ (es : List Entry). drop (length start) es) begins.is ∙ behind start begins.rest in
+    let last : drop (length start) end ≡ begins.rest ++ h.more =
+    ap (λ (es : List Entry). drop (length start) es)
+    (h.is ∙ ap (λ (es : List Entry). es ++ h.more) begins.is ∙ append_assoc start begins.rest h.more) ∙
+    behind start (begins.rest ++ h.more) in
+    ap (λ (es : List Entry). own_of till es) last ∙ filter-append (is_from till) begins.rest h.more ∙
+    ap (λ (es : List Entry). own_of till begins.rest ++ es) (no_notes till h.more h.are) ∙ append-nil (own_of till begins.rest) ∙
+    ap (λ (es : List Entry). own_of till es) (sym later)
 
-none_noted : (version : Version) (issuer : List ℕ) (entries : List Entry) (ask : Asked) (seconds : ℕ) (told : Result Reply StoreFault)
-    (gained : List Entry) → IsReply version issuer entries ask seconds told gained → noted gained ≡ []
-none_noted version issuer entries ask seconds (Ok told) gained h =
-    no_lines entries ask (made_sealed issuer entries ask.request seconds) (kept entries ask.till ask.serial)
-    (refusal version issuer entries ask seconds) told gained h
-none_noted version issuer entries ask seconds (Err why) gained h = ap (λ (es : List Entry). noted es) h
-
-module _ (version : Version) (issuer : List ℕ) (R : Replies → ℕ → Type 0) (start : List Entry) where
-  -- nor does a run of one thread
-  pub notes_nothing : {asks : List Asked} {replies : Replies} {end : List Entry} →
-      ChainRun version issuer R start asks replies end → noted end ≡ noted start
-  notes_nothing begun = refl
-  notes_nothing (replied asks replies entries ask told gained run seconds reading h) =
-      noted_both entries gained
-      ∙ ap (λ (l : List Line). noted entries ++ l) (none_noted version issuer entries ask seconds told gained h)
-      ∙ append-nil (noted entries) ∙ notes_nothing run
+-- notes came behind
+pub gains_on : (s : Sources) (start middle end : List Entry) → IsPrefix start middle → AddsNotesAlone middle end →
+    TillsGain s start middle → TillsGain s start end
+gains_on s start middle end begins notes g = record {
+  asks = g.asks;
+  asked = g.asked;
+  told = g.told;
+  tills = g.tills;
+  own = each_weaker (λ (t : ℕ × Replies). AreAccepted (asks_of t.0 g.asks) t.1 (own_of t.0 (drop (length start) middle)))
+      (λ (t : ℕ × Replies). AreAccepted (asks_of t.0 g.asks) t.1 (own_of t.0 (drop (length start) end))) g.told
+      (λ t h. subst (λ (es : List Entry). AreAccepted (asks_of t.0 g.asks) t.1 es)
+      (sym (own_stays t.0 start middle end begins notes)) h) g.own;
+  others = λ till none. own_stays till start middle end begins notes ∙ g.others till none;
+}
 
 -- tills beside each other
 pub gains_day : (s : Sources) (d : Day) → AreAskedIn s d.asks → IsPrefix d.start d.end → EachTill d →

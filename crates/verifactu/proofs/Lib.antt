@@ -7,3 +7,4 @@ pub mod Sessions
 pub mod Promised
 pub mod Promising
 pub mod GuardPromised
+pub mod ManyPromised

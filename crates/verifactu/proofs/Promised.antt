@@ -261,7 +261,7 @@ module _ {D : Type 0} (chained : AreLinked) (issuer : List ℕ) (k : Disks D) wh
       Left issuer k T
   left_disk T same rest = untouched (inl (inl (ap k.told same))) rest
 
-  unopened : (T : List Entry → List Entry → List Entry → Type 0) (why : OpenCause) → IsLeftUnopened issuer why Old New →
+  pub unopened : (T : List Entry → List Entry → List Entry → Type 0) (why : OpenCause) → IsLeftUnopened issuer why Old New →
       ((start : List Entry) → T start start []) → Left issuer k T
   unopened T cause.DiskFault (not_synced failed) rest = untouched (inl failed) rest
   unopened T cause.DiskFault (not_read e) rest = untouched (inr e) rest

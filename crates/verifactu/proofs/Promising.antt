@@ -2,6 +2,10 @@
 use Rattle.std.proofs.Common.{◌≡◌, ◌⊎◌, inl, inr, ◌≤◌, ℕ, List, [], length, refl, ap, subst, arith}
 use Rattle.std.proofs.Common.{Bool, IsTrue, Option, Some, None}
 use Rattle.agency_rules.specs.declared.plans.Plan.{Plan}
+use Rattle.ports.specs.declared.Clock as clock
+use Rattle.ports.specs.declared.sleeper.Sleeper as sleeper
+use Rattle.chain_disk.specs.declared.disk.Disk as disk
+use Rattle.agency_port.specs.declared.agency.Agency as agency
 use Rattle.chain_disk.specs.Disks.{LeftDisk}
 use Rattle.chain_disk.specs.OnDisk.{IsImage}
 use Rattle.record_fields.specs.declared.versions.Version.TheVariants.{Two}
@@ -25,18 +29,19 @@ use Rattle.shop_commands.specs.Drain.{AllLeft, DrainEnds, FileDrained, first_mom
 use Rattle.open_shop.specs.Draining.{IsSession, IsUnopened, spanning}
 use Rattle.shop_commands.specs.Migrate.{disk_of_post}
 use Rattle.open_shop.specs.Opening.{NotOpened}
-use Rattle.verifactu.specs.Promise.{AgencyKept, BatchesKept, FileKept, FurtherKept, Grows, Promise, TillsGain, writes_for}
+use Rattle.verifactu.specs.Promise.{AgencyKept, BatchesKept, FileKept, FurtherKept, Grows, OthersKept, Promise, TillsGain, writes_for}
 use Rattle.chain_store.specs.Replies.{Replies}
 use Rattle.chain_store.specs.Readings.{IsComing, LeavesClock, readings_of}
-use Rattle.verifactu.specs.Running.{CommandEnds, OwnEnds}
+use Rattle.verifactu.specs.Running.{CommandEnds, ManyRan, OwnEnds}
 use Rattle.shop_commands.specs.Scripts.{IsGoodScript}
 use Rattle.shop_commands.specs.Scripts.ScriptedEnds.{ran, bad_line, read_fault, too_big, no_memory}
 use Rattle.verifactu.specs.CommandLine.{AsksFor, IsAskedFor}
 use Rattle.verifactu.specs.declared.command_line.Command.{Command}
-use Rattle.verifactu.specs.declared.command_line.Command.TheVariants.{Chain, Day, Drain, Serve, Audit, Link, Check, Migrate, Follow, Guard}
+use Rattle.verifactu.specs.declared.command_line.Command.TheVariants.{Chain, Day, Drain, Serve, Audit, Link, Check, Migrate, Follow, Guard, Many}
 use Rattle.verifactu.specs.declared.command_line.Command.TheVariants.{Statement, Export, Matches, Generate, Help, Version}
 use Rattle.verifactu.proofs.Sessions.{batches_not_served, batches_of_day, batches_of_drain, batches_silent, left_agency, not_served, of_day, of_drain}
-use Rattle.verifactu.proofs.Gaining.{gains_all, gains_day, gains_notes, gains_nothing, gains_run, notes_nothing}
+use Rattle.verifactu.proofs.Gaining.{gains_all, gains_day, gains_notes, gains_nothing, gains_run}
+use Rattle.many.proofs.NoNotes.{notes_nothing}
 use Rattle.verifactu.proofs.GuardPromised.{guard_left, only_guarded}
 use Rattle.verifactu.proofs.Promised.{AreLinked, Grown, Left, by_kept, goes_on, left_disk, legal_found, not_opened, others_of}
 use Rattle.verifactu.proofs.Promised.{own_of as own_grown, one_torn, sound_of, stands_still, torn_risen, whole}
@@ -46,14 +51,14 @@ use Rattle.verifactu.proofs.Promised.Left.{grown}
 module _ {D C Z G : Type 0} (chained : AreLinked) (a : AllDevices D C Z G)
     (desks : LeftAgency a.agency → a.agency.after ≡ a.agency.before) where
   -- what is said beside the file: of each till, and of the agency
-  abbrev Rest : List Entry → List Entry → List Entry → Type 0
+  abbrev pub Rest : List Entry → List Entry → List Entry → Type 0
   Rest start end torn =
       TillsGain a.devices.source start end × AgencyKept start end torn a.agency × BatchesKept start end a.agency
 
-  abbrev LeftBy : List ℕ → Type 0
+  abbrev pub LeftBy : List ℕ → Type 0
   LeftBy issuer = Left issuer a.devices.disk Rest
 
-  nothing : LeftAgency a.agency → (start : List Entry) → Rest start start []
+  pub nothing : LeftAgency a.agency → (start : List Entry) → Rest start start []
   nothing left start = (
     gains_nothing a.devices.source start,
     left_agency a.agency (desks left) start start [] refl,
@@ -62,7 +67,7 @@ module _ {D C Z G : Type 0} (chained : AreLinked) (a : AllDevices D C Z G)
 
   module _ (says : IsTrue a.devices.disk.tells) (issuer : List ℕ) where
     -- neither the disk nor the agency was called
-    uncalled : LeftDisk a.devices.disk → LeftAgency a.agency → LeftBy issuer
+    pub uncalled : LeftDisk a.devices.disk → LeftAgency a.agency → LeftBy issuer
     uncalled disk agency = left_disk chained issuer a.devices.disk Rest disk (nothing agency)
 
     chain_script : (script : Script) (coming : ℕ → Option ℕ) (Leaves : Replies → Type 0) (end : Detail) →
@@ -144,7 +149,7 @@ module _ {D C Z G : Type 0} (chained : AreLinked) (a : AllDevices D C Z G)
     serve_left rules end (inr (inr (line, inr h))) =
         let x = h.speech in
         a_day x.asks plain line h.outcome
-        (gains_all a.devices.source (day_with issuer x.asks line (around a) h.outcome) (inr (inr (record {
+        (gains_all a.devices.source (day_with issuer x.asks line (around a) h.outcome) (inr (inr (inl (record {
           lines = x.lines;
           form = x.form;
           before = x.before;
@@ -153,7 +158,7 @@ module _ {D C Z G : Type 0} (chained : AreLinked) (a : AllDevices D C Z G)
           how = x.how;
           dialogue = h.spoken.dialogue;
           read = h.spoken.read;
-        }))) h.history.begins h.tills) h.history h.crashes h.agency
+        })))) h.history.begins h.tills) h.history h.crashes h.agency
 
     day_left : (rules : IsTrue a.agency.kind.keeps_rules → IsTrue a.agency.kind.tells) (end : Detail) → DayEnds issuer a end →
         LeftBy issuer
@@ -216,7 +221,7 @@ module _ {D C Z G : Type 0} (chained : AreLinked) (a : AllDevices D C Z G)
   }
 
   -- a run that writes for an issuer
-  by_writing : OneHistory → NotBegunIsNeither → (issuer : List ℕ) → (IsTrue a.devices.disk.tells → LeftBy issuer) →
+  pub by_writing : OneHistory → NotBegunIsNeither → (issuer : List ℕ) → (IsTrue a.devices.disk.tells → LeftBy issuer) →
       FileKept (Some issuer) a
   by_writing one neither issuer left = record {
     sound = λ says version other start stands. grows version other start (sound_of chained a.devices.disk Rest one neither issuer version other start
@@ -241,6 +246,7 @@ module _ {D C Z G : Type 0} (chained : AreLinked) (a : AllDevices D C Z G)
   own_kept one neither rules Migrate end h = absurd h
   own_kept one neither rules Follow end h = absurd h
   own_kept one neither rules (Guard issuer) end h = absurd h
+  own_kept one neither rules (Many issuers) end h = absurd h
   own_kept one neither rules (Statement month) end h = by_reading h.1.disk h.2
   own_kept one neither rules Export end h = by_reading h.1.disk h.2
   own_kept one neither rules Matches end h = by_reading h.1.disk h.2
@@ -248,49 +254,60 @@ module _ {D C Z G : Type 0} (chained : AreLinked) (a : AllDevices D C Z G)
   own_kept one neither rules Help end h = by_reading (ap a.devices.disk.told h.1.disk) h.2
   own_kept one neither rules Version end h = by_reading (ap a.devices.disk.told h.1.disk) h.2
 
-  -- a command of one file, which left the further ones alone
-  pub own_ends : (f : Further D C Z G) (command : Command) (end : Detail) → OwnEnds command a end → LeftFurther f →
-      CommandEnds command a f end
-  own_ends f Migrate end h left = absurd h
-  own_ends f Follow end h left = absurd h
-  own_ends f (Guard issuer) end h left = absurd h
-  own_ends f command end h left = (h, left)
-
-  others : OneHistory → NotBegunIsNeither → (IsTrue a.agency.kind.keeps_rules → IsTrue a.agency.kind.tells) →
-      (words : List (List ℕ)) (f : Further D C Z G) (command : Command) (end : Detail) → AsksFor words command →
-      OwnEnds command a end → FurtherKept (Some command) a f → Promise words a f
-  others one neither rules words f command end asked h more =
-      record { command = Some command; asked = asked; file = own_kept one neither rules command end h; more = more }
-
   -- a disk reads as a crash may leave it
   abbrev ReadsAnImage : Type 0
   ReadsAnImage = (d : D) → IsTrue a.devices.disk.tells → IsImage (a.devices.disk.told d).now (a.devices.disk.told d).content
 
-  pub promised : ReadsAnImage → OneHistory → NotBegunIsNeither → (IsTrue a.agency.kind.keeps_rules → IsTrue a.agency.kind.tells) →
-      (words : List (List ℕ)) (f : Further D C Z G) (command : Command) (end : Detail) → AsksFor words command →
-      CommandEnds command a f end → Promise words a f
-  promised image one neither rules words f Migrate end asked h =
-      record { command = Some Migrate; asked = asked; file = by_reading h.reads.disk h.nobody; more = h.moves.only }
-  promised image one neither rules words f Follow end asked h =
-      record { command = Some Follow; asked = asked; file = by_reading h.reads.disk h.nobody; more = h.follows.only }
-  promised image one neither rules words f (Guard issuer) end asked h =
-      let l = disk_of_post a.devices.disk h.post h.after in
-      record {
-        command = Some (Guard issuer);
-        asked = asked;
-        file = by_writing one neither issuer (λ says. guard_left chained a desks l (image h.post.disk) one neither issuer says end
-            h.ends);
-        more = record {
-          post = h.post;
-          after = h.after;
-          posts = h.posts;
-          guards = only_guarded chained a desks l (image h.post.disk) one neither issuer end h.ends;
-        };
-      }
-  promised image one neither rules words f command end asked h = others one neither rules words f command end asked h.0 h.1
+  -- by what the kinds of the devices tell
+  module _ (d : disk.Ghosts D) (c : clock.Ghosts C) (z : sleeper.Ghosts Z) (g : agency.Ghosts G) where
+    -- a command of one file, which left the further ones alone
+    pub own_ends : (f : Further D C Z G) (command : Command) (end : Detail) → OwnEnds command a end → LeftFurther f →
+        CommandEnds d c z g command a f end
+    own_ends f Migrate end h left = absurd h
+    own_ends f Follow end h left = absurd h
+    own_ends f (Guard issuer) end h left = absurd h
+    own_ends f (Many issuers) end h left = absurd h
+    own_ends f command end h left = (h, left)
 
-  pub promised_nothing : (words : List (List ℕ)) (f : Further D C Z G) → IsAskedFor words None →
-      a.devices.disk.told a.devices.disk.disk_after ≡ a.devices.disk.told a.devices.disk.disk → NobodyCalled a →
-      LeftFurther f → Promise words a f
-  promised_nothing words f asked same nobody left =
-      record { command = None; asked = asked; file = by_reading same nobody; more = left }
+    others : OneHistory → NotBegunIsNeither → (IsTrue a.agency.kind.keeps_rules → IsTrue a.agency.kind.tells) →
+        (words : List (List ℕ)) (f : Further D C Z G) (command : Command) (end : Detail) → AsksFor words command →
+        OwnEnds command a end → FurtherKept d c z g (Some command) a f → Promise d c z g words a f
+    others one neither rules words f command end asked h more =
+        record { command = Some command; asked = asked; file = own_kept one neither rules command end h; more = more }
+
+    -- what is kept of several issuers
+    abbrev pub ManyKeeps : Further D C Z G → Type 0
+    ManyKeeps f = (issuers : List (List ℕ)) (end : Detail) → ManyRan d c z g issuers a f end →
+        FileKept (writes_for (Some (Many issuers))) a × OthersKept d c z g issuers a f
+
+    pub promised : ReadsAnImage → OneHistory → NotBegunIsNeither → (IsTrue a.agency.kind.keeps_rules → IsTrue a.agency.kind.tells) →
+        (words : List (List ℕ)) (f : Further D C Z G) (command : Command) (end : Detail) → ManyKeeps f → AsksFor words command →
+        CommandEnds d c z g command a f end → Promise d c z g words a f
+    promised image one neither rules words f Migrate end many asked h =
+        record { command = Some Migrate; asked = asked; file = by_reading h.reads.disk h.nobody; more = h.moves.only }
+    promised image one neither rules words f Follow end many asked h =
+        record { command = Some Follow; asked = asked; file = by_reading h.reads.disk h.nobody; more = h.follows.only }
+    promised image one neither rules words f (Guard issuer) end many asked h =
+        let l = disk_of_post a.devices.disk h.post h.after in
+        record {
+          command = Some (Guard issuer);
+          asked = asked;
+          file = by_writing one neither issuer (λ says. guard_left chained a desks l (image h.post.disk) one neither issuer says end
+              h.ends);
+          more = record {
+            post = h.post;
+            after = h.after;
+            posts = h.posts;
+            guards = only_guarded chained a desks l (image h.post.disk) one neither issuer end h.ends;
+          };
+        }
+    promised image one neither rules words f (Many issuers) end many asked h =
+        let kept = many issuers end h in
+        record { command = Some (Many issuers); asked = asked; file = kept.0; more = kept.1 }
+    promised image one neither rules words f command end many asked h = others one neither rules words f command end asked h.0 h.1
+
+    pub promised_nothing : (words : List (List ℕ)) (f : Further D C Z G) → IsAskedFor words None →
+        a.devices.disk.told a.devices.disk.disk_after ≡ a.devices.disk.told a.devices.disk.disk → NobodyCalled a →
+        LeftFurther f → Promise d c z g words a f
+    promised_nothing words f asked same nobody left =
+        record { command = None; asked = asked; file = by_reading same nobody; more = left }

@@ -105,7 +105,7 @@ module _ {G : Type 0} (a : Agencies G) where
       }
 
   -- the same of the lines that were noted
-  said_since : (plan : Plan) (start end : List Entry) (opened : Desk) (answer : Result (Unit {0}) DrainFault) →
+  pub said_since : (plan : Plan) (start end : List Entry) (opened : Desk) (answer : Result (Unit {0}) DrainFault) →
       OpensSession a.kind a.begun plan start a.before opened →
       (IsTrue a.kind.tells → NotesSaid start end opened.ledger.messages New.messages answer) →
       IsTrue a.kind.tells → NotesWhatIsSaid start end Old.messages New.messages

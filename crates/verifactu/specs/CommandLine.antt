@@ -1,14 +1,15 @@
 -- What the words of the command line ask for. The commands are this project's own.
-use Rattle.std.specs.Prelude.{◌≡◌, if◌then◌else◌, ℕ, ◌<◌, ◌≤◌, List, [], ◌∷◌, length, bytes_eq, codes, decimal, IsTrue, Option, Some, None}
+use Rattle.std.specs.Prelude.{◌≡◌, if◌then◌else◌, ℕ, ◌<◌, ◌≤◌, ◌/◌, ◌-◌, nat_lt, List, [], ◌∷◌, length, bytes_eq, codes, decimal, IsTrue, Option, Some, None}
 use Rattle.std.specs.Int.{IsInRange}
 use Rattle.parties.specs.Nif.{IsNif}
+use Rattle.file_pairs.specs.Pairs.{IsPairs}
 use Rattle.series.specs.Numbers.{is_num_serie}
 use Rattle.statements.specs.Months.{IsMonth, YearMonth, month_text}
 use Rattle.verify_link.specs.declared.parts.Host.{Host}
 use Rattle.verify_link.specs.declared.parts.Host.TheVariants.{Real, Practice}
 use Rattle.link_check.specs.declared.all.TheConstants.{MAX_WORKERS}
 use Rattle.verifactu.specs.declared.command_line.Command.{Command}
-use Rattle.verifactu.specs.declared.command_line.Command.TheVariants.{Chain, Day, Drain, Serve, Audit, Link, Check, Migrate, Follow, Guard}
+use Rattle.verifactu.specs.declared.command_line.Command.TheVariants.{Chain, Day, Drain, Serve, Audit, Link, Check, Migrate, Follow, Guard, Many}
 use Rattle.verifactu.specs.declared.command_line.Command.TheVariants.{Statement, Export, Matches, Generate, Help, Version}
 use Rattle.file_commands.specs.declared.generated.TheConstants.{MOST}
 
@@ -123,6 +124,12 @@ pub record IsGuard (words : List (List ℕ)) (issuer : List ℕ) : Type 0 where
   pub new_named : 0 < length new
   pub apart : new ≡ file → ⊥
 
+-- `many FILE NIF FILE NIF ..`: two to eight pairs of a file and its issuer
+pub record IsMany (words issuers : List (List ℕ)) : Type 0 where
+  pub pairs : List (List ℕ)
+  pub words_are : words ≡ codes "many" ∷ pairs
+  pub are : IsPairs pairs issuers
+
 -- `statement FILE MM-YYYY`: a file's name, and a month
 pub record IsStatement (words : List (List ℕ)) (month : YearMonth) : Type 0 where
   pub file : List ℕ
@@ -154,6 +161,7 @@ AsksFor words (Check workers) = IsCheck words workers
 AsksFor words Migrate = IsMigrate words
 AsksFor words Follow = IsFollow words
 AsksFor words (Guard issuer) = IsGuard words issuer
+AsksFor words (Many issuers) = IsMany words issuers
 AsksFor words (Statement month) = IsStatement words month
 AsksFor words Export = IsExport words
 AsksFor words Matches = IsMatches words
@@ -166,11 +174,17 @@ abbrev pub IsAskedFor : List (List ℕ) → Option Command → Type 0
 IsAskedFor words None = (command : Command) → AsksFor words command → ⊥
 IsAskedFor words (Some command) = AsksFor words command
 
+-- how many pairs stand behind the first one of `many`, where they aren't more than there may be
+abbrev pub further_pairs : List ℕ → List (List ℕ) → ℕ
+further_pairs name pairs =
+    if bytes_eq name (codes "many") then (if nat_lt 16 (length pairs) then 0 else length pairs / 2 - 1) else 0
+
 -- how many files these words name beside the first one
 abbrev pub posts_needed : List (List ℕ) → ℕ
 posts_needed (name ∷ (file ∷ (new ∷ []))) =
     if bytes_eq name (codes "migrate") then 1 else (if bytes_eq name (codes "follow") then 1 else 0)
 posts_needed (name ∷ (file ∷ (nif ∷ (new ∷ [])))) = if bytes_eq name (codes "guard") then 1 else 0
+posts_needed (name ∷ (a ∷ (b ∷ (c ∷ (d ∷ more))))) = further_pairs name (a ∷ (b ∷ (c ∷ (d ∷ more))))
 posts_needed _ = 0
 
 -- a command that works on one file
@@ -178,12 +192,14 @@ abbrev pub IsOfOneFile : Command → Type 0
 IsOfOneFile Migrate = ⊥
 IsOfOneFile Follow = ⊥
 IsOfOneFile (Guard issuer) = ⊥
+IsOfOneFile (Many issuers) = ⊥
 IsOfOneFile _ = Unit {0}
 
--- a command that isn't `migrate` or `follow`
+-- a command that isn't `migrate`, `follow` or `many`
 abbrev pub IsForIssuerOrOneFile : Command → Type 0
 IsForIssuerOrOneFile Migrate = ⊥
 IsForIssuerOrOneFile Follow = ⊥
+IsForIssuerOrOneFile (Many issuers) = ⊥
 IsForIssuerOrOneFile _ = Unit {0}
 
 -- `guard`

@@ -14,7 +14,12 @@ use Rattle.huella.specs.Linked.{Linked}
 use Rattle.journal.specs.File.{IsNotBegun}
 use Rattle.shop_core.specs.Prefix.{IsPrefix}
 use Rattle.once_world.specs.Agreement.{Agree}
+use Rattle.ports.specs.Sinks.{Sinks}
 use Rattle.ports.specs.Sources.{Sources}
+use Rattle.ports.specs.declared.Clock as clock
+use Rattle.ports.specs.declared.sleeper.Sleeper as sleeper
+use Rattle.chain_disk.specs.declared.disk.Disk as disk
+use Rattle.agency_port.specs.declared.agency.Agency as agency
 use Rattle.record_codec.specs.declared.entry.Entry.{Entry}
 use Rattle.record_codec.specs.declared.entry.Entry.TheVariants.{Rec}
 use Rattle.record_fields.specs.declared.records.Sealed.{Sealed}
@@ -29,7 +34,9 @@ use Rattle.shop_core.specs.Legal.{Legal}
 use Rattle.shop_core.specs.Answer.Requests.{Asked}
 use Rattle.shop_core.specs.declared.answer.Reply.TheVariants.{Again, Refused, Taken}
 use Rattle.open_shop.specs.Crashes.{StandsSince}
-use Rattle.open_shop.specs.Devices.{Agencies, AllDevices, NobodyCalled}
+use Rattle.issuers.specs.declared.parts.Part.{Part}
+use Rattle.many.specs.Scripts.{AreGoodParts}
+use Rattle.open_shop.specs.Devices.{Agencies, AllDevices, NobodyCalled, this_call}
 use Rattle.shop_commands.specs.Further.{Further, LeftFurther}
 use Rattle.shop_commands.specs.Drain.{AgreesAtStart}
 use Rattle.open_shop.specs.Draining.{AreOfChain, SaysNothingBlindly}
@@ -41,16 +48,22 @@ use Rattle.shop_commands.specs.Scripts.{IsGoodScript}
 use Rattle.open_shop.specs.Tills.{asks_of, has_asks, own_of, tills_of}
 use Rattle.verifactu.specs.CommandLine.{IsAskedFor}
 use Rattle.verifactu.specs.declared.command_line.Command.{Command}
-use Rattle.verifactu.specs.declared.command_line.Command.TheVariants.{Chain, Day, Drain, Serve, Migrate, Follow, Guard}
+use Rattle.verifactu.specs.declared.command_line.Command.TheVariants.{Chain, Day, Drain, Serve, Migrate, Follow, Guard, Many}
 use Rattle.open_shop.specs.declared.posts.Post.{Post}
 
--- the issuer whose file a command may write; the other commands write none
+-- the first of several issuers
+abbrev pub first_of : List (List ℕ) → Option (List ℕ)
+first_of [] = None
+first_of (issuer ∷ issuers) = Some issuer
+
+-- the issuer whose file a command may write, of several the first; the other commands write none
 abbrev pub writes_for : Option Command → Option (List ℕ)
 writes_for (Some (Chain issuer)) = Some issuer
 writes_for (Some (Day issuer)) = Some issuer
 writes_for (Some (Drain issuer)) = Some issuer
 writes_for (Some (Serve issuer)) = Some issuer
 writes_for (Some (Guard issuer)) = Some issuer
+writes_for (Some (Many issuers)) = first_of issuers
 writes_for _ = None
 
 -- a file that may be written for this issuer: it isn't begun, or it stands for a legal history of this issuer
@@ -110,9 +123,21 @@ pub record AreAskedByLine (s : Sources) (asks : List Asked) : Type 0 where
   pub dialogue : Dialogue lines form before asks replies text
   pub read : IsRead how s.left s.left_after lines
 
--- the commands that the tills asked: none, those of the script that the source gave, or those among its lines
+-- the commands of an issuer's part of the script for several that the source gave, or the first of them
+pub record AreAskedOfPart (s : Sources) (asks : List Asked) : Type 0 where
+  pub issuers : List (List ℕ)
+  pub parts : List Part
+  pub good : AreGoodParts issuers s parts
+  pub before : List Part
+  pub part : Part
+  pub behind : List Part
+  pub among : parts ≡ before ++ part ∷ behind
+  pub front : IsPrefix asks part.script.asks
+
+-- the commands that the tills asked: none, those of the script that the source gave, those among its lines, or those of a part
 abbrev pub AreAskedIn : Sources → List Asked → Type 0
 AreAskedIn s asks = (asks ≡ []) ⊎ ((script : Script) × IsGoodScript Full s script × (asks ≡ script.asks)) ⊎ AreAskedByLine s asks
+    ⊎ AreAskedOfPart s asks
 
 -- Each till. The records that the history gained are, till by till, those of its commands that were answered as taken, each
 -- once, in its order; no other till gained one.
@@ -193,21 +218,36 @@ pub record OnlyGuards {D C Z G : Type 0} (issuer : List ℕ) (k : Disks D) (f : 
   pub posts : OnePost f post after
   pub guards : OnlyGuarded issuer k (disk_of_post k post after)
 
--- The further files: `migrate` writes one. Each file that a crash may leave of it, at any moment of the run, is one that it was
--- before, is not begun or an unfinished migration, or stands for the history of the file that is moved, which is only read.
--- `follow` and `guard` write a copy.
-abbrev pub FurtherKept : {D C Z G : Type 0} → Option Command → AllDevices D C Z G → Further D C Z G → Type 0
-FurtherKept (Some Migrate) a f = OnlyMoves a.devices.disk f
-FurtherKept (Some Follow) a f = OnlyFollows a.devices.disk f
-FurtherKept (Some (Guard issuer)) a f = OnlyGuards issuer a.devices.disk f
-FurtherKept command a f = LeftFurther f
+-- by what the kinds of the devices tell
+module _ {D C Z G : Type 0} (d : disk.Ghosts D) (c : clock.Ghosts C) (z : sleeper.Ghosts Z) (g : agency.Ghosts G) where
+  -- a file for each of these issuers, and what goes with it, each by its own devices alone
+  abbrev pub AreKept : List (List ℕ) → Sources → Sinks → List (Post D C Z G) → List (Post D C Z G) → Type 0
+  AreKept [] source s [] [] = Unit {0}
+  AreKept (issuer ∷ issuers) source s (post ∷ posts) (after ∷ afters) =
+      FileKept (Some issuer) (this_call source s d c z g post after) × AreKept issuers source s posts afters
+  AreKept _ source s _ _ = ⊥
 
--- the promise of a run: the command that the words ask for, or none, and what is kept by it
-pub record Promise {D C Z G : Type 0} (words : List (List ℕ)) (a : AllDevices D C Z G) (f : Further D C Z G) : Type 0 where
-  pub command : Option Command
-  pub asked : IsAskedFor words command
-  pub file : FileKept (writes_for command) a
-  pub more : FurtherKept command a f
+  -- those of all issuers but the first
+  abbrev pub OthersKept : List (List ℕ) → AllDevices D C Z G → Further D C Z G → Type 0
+  OthersKept [] a f = ⊥
+  OthersKept (issuer ∷ issuers) a f = AreKept issuers a.devices.source a.devices.sink f.posts f.posts_after
+
+  -- The further files: `migrate` writes one. Each file that a crash may leave of it, at any moment of the run, is one that it was
+  -- before, is not begun or an unfinished migration, or stands for the history of the file that is moved, which is only read.
+  -- `follow` and `guard` write a copy. Those of `many` are the files of the issuers behind the first one.
+  abbrev pub FurtherKept : Option Command → AllDevices D C Z G → Further D C Z G → Type 0
+  FurtherKept (Some Migrate) a f = OnlyMoves a.devices.disk f
+  FurtherKept (Some Follow) a f = OnlyFollows a.devices.disk f
+  FurtherKept (Some (Guard issuer)) a f = OnlyGuards issuer a.devices.disk f
+  FurtherKept (Some (Many issuers)) a f = OthersKept issuers a f
+  FurtherKept command a f = LeftFurther f
+
+  -- the promise of a run: the command that the words ask for, or none, and what is kept by it
+  pub record Promise (words : List (List ℕ)) (a : AllDevices D C Z G) (f : Further D C Z G) : Type 0 where
+    pub command : Option Command
+    pub asked : IsAskedFor words command
+    pub file : FileKept (writes_for command) a
+    pub more : FurtherKept command a f
 
 -- a damaged file may be written for nobody
 abbrev pub DamagedIsNotOwn : Type 0

@@ -1,6 +1,10 @@
 -- One call of the program, by what it is given and what it leaves.
-use Rattle.std.specs.Prelude.{◌≡◌, ℕ, List, Option, Some, None}
+use Rattle.std.specs.Prelude.{◌≡◌, ℕ, List, ◌∷◌, length, Option, Some, None}
 use Rattle.ports.specs.Sinks.{WroteNothing}
+use Rattle.ports.specs.declared.Clock as clock
+use Rattle.ports.specs.declared.sleeper.Sleeper as sleeper
+use Rattle.chain_disk.specs.declared.disk.Disk as disk
+use Rattle.agency_port.specs.declared.agency.Agency as agency
 use Rattle.report.specs.Status.{status_of}
 use Rattle.report.specs.declared.status.Detail.{Detail}
 use Rattle.report.specs.declared.status.Detail.TheVariants as detail
@@ -14,7 +18,9 @@ use Rattle.file_commands.specs.Statements.{StatementEnds}
 use Rattle.file_commands.specs.Output.{PrintEnds}
 use Rattle.shop_commands.specs.Chain.{ChainEnds}
 use Rattle.shop_commands.specs.Day.{DayEnds}
-use Rattle.open_shop.specs.Devices.{AllDevices, NobodyCalled, OnlyPrints, OnlyReads, OnlyReadsFile}
+use Rattle.open_shop.specs.Devices.{AllDevices, NobodyCalled, OnlyPrints, OnlyReads, OnlyReadsFile, this_call}
+use Rattle.open_shop.specs.declared.posts.Post.{Post}
+use Rattle.many.specs.Ends.{ManyEnds}
 use Rattle.shop_commands.specs.Further.{Further, LeftFurther}
 use Rattle.shop_commands.specs.Drain.{DrainEnds}
 use Rattle.file_commands.specs.Generate.{GenerateEnds}
@@ -25,7 +31,7 @@ use Rattle.shop_commands.specs.Migrate.{MigrateRan}
 use Rattle.shop_commands.specs.Serve.{ServeEnds}
 use Rattle.verifactu.specs.CommandLine.{IsAskedFor}
 use Rattle.verifactu.specs.declared.command_line.Command.{Command}
-use Rattle.verifactu.specs.declared.command_line.Command.TheVariants.{Chain, Day, Drain, Serve, Audit, Link, Check, Migrate, Follow, Guard}
+use Rattle.verifactu.specs.declared.command_line.Command.TheVariants.{Chain, Day, Drain, Serve, Audit, Link, Check, Migrate, Follow, Guard, Many}
 use Rattle.verifactu.specs.declared.command_line.Command.TheVariants.{Statement, Export, Matches, Generate, Help, Version}
 
 -- when a command that works on one file ends in this way
@@ -41,6 +47,7 @@ OwnEnds (Check workers) a end =
 OwnEnds Migrate a end = ⊥
 OwnEnds Follow a end = ⊥
 OwnEnds (Guard issuer) a end = ⊥
+OwnEnds (Many issuers) a end = ⊥
 OwnEnds (Statement month) a end =
     StatementEnds month a.devices.sink a.devices.disk end × OnlyReadsFile a.devices × NobodyCalled a
 OwnEnds Export a end = ExportEnds a.devices.sink a.devices.disk end × OnlyReadsFile a.devices × NobodyCalled a
@@ -50,13 +57,6 @@ OwnEnds (Generate n) a end = GenerateEnds n a.devices.sink end × OnlyPrints a.d
 OwnEnds Help a end = PrintEnds help_text detail.Done a.devices.sink end × OnlyPrints a.devices × NobodyCalled a
 OwnEnds Version a end = PrintEnds version_text detail.Done a.devices.sink end × OnlyPrints a.devices × NobodyCalled a
 
--- when a command ends in this way; all but `migrate`, `follow` and `guard` leave the further files alone
-abbrev pub CommandEnds : {D C Z G : Type 0} → Command → AllDevices D C Z G → Further D C Z G → Detail → Type 0
-CommandEnds Migrate a f end = MigrateRan a f end
-CommandEnds Follow a f end = FollowRan a f end
-CommandEnds (Guard issuer) a f end = GuardRan issuer a f end
-CommandEnds command a f end = OwnEnds command a end × LeftFurther f
-
 -- words that are no command
 pub record NoCommand {D C Z G : Type 0} (a : AllDevices D C Z G) (f : Further D C Z G) (end : Detail) : Type 0 where
   pub usage : end ≡ detail.Usage
@@ -65,15 +65,32 @@ pub record NoCommand {D C Z G : Type 0} (a : AllDevices D C Z G) (f : Further D 
   pub nobody : NobodyCalled a
   pub further : LeftFurther f
 
--- how a call ends whose words ask for this command, or for none
-abbrev pub CallEnds : {D C Z G : Type 0} → Option Command → AllDevices D C Z G → Further D C Z G → Detail → Type 0
-CallEnds None a f end = NoCommand a f end
-CallEnds (Some command) a f end = CommandEnds command a f end
+-- by what the kinds of the devices tell
+module _ {D C Z G : Type 0} (d : disk.Ghosts D) (c : clock.Ghosts C) (z : sleeper.Ghosts Z) (g : agency.Ghosts G) where
+  -- what `many` did, and how it ended: the first issuer's post is the run's own, and the others are the further ones
+  pub record ManyRan (issuers : List (List ℕ)) (a : AllDevices D C Z G) (f : Further D C Z G) (end : Detail) : Type 0 where
+    pub post : Post D C Z G
+    pub after : Post D C Z G
+    pub own : a ≡ this_call a.devices.source a.devices.sink d c z g post after
+    pub one_each : length (post ∷ f.posts) ≡ length issuers
+    pub ends : ManyEnds d c z g issuers a.devices.source a.devices.sink (post ∷ f.posts) (after ∷ f.posts_after) end
 
--- the status, with its cause: words that ask for no command, or the way that the command ended
-pub record EndsAs {D C Z G : Type 0} (words : List (List ℕ)) (a : AllDevices D C Z G) (f : Further D C Z G)
-    (ended : Ended) : Type 0 where
-  pub status : ended.status ≡ status_of ended.detail
-  pub command : Option Command
-  pub asked : IsAskedFor words command
-  pub cause : CallEnds command a f ended.detail
+  -- when a command ends in this way; all but `migrate`, `follow`, `guard` and `many` leave the further files alone
+  abbrev pub CommandEnds : Command → AllDevices D C Z G → Further D C Z G → Detail → Type 0
+  CommandEnds Migrate a f end = MigrateRan a f end
+  CommandEnds Follow a f end = FollowRan a f end
+  CommandEnds (Guard issuer) a f end = GuardRan issuer a f end
+  CommandEnds (Many issuers) a f end = ManyRan issuers a f end
+  CommandEnds command a f end = OwnEnds command a end × LeftFurther f
+
+  -- how a call ends whose words ask for this command, or for none
+  abbrev pub CallEnds : Option Command → AllDevices D C Z G → Further D C Z G → Detail → Type 0
+  CallEnds None a f end = NoCommand a f end
+  CallEnds (Some command) a f end = CommandEnds command a f end
+
+  -- the status, with its cause: words that ask for no command, or the way that the command ended
+  pub record EndsAs (words : List (List ℕ)) (a : AllDevices D C Z G) (f : Further D C Z G) (ended : Ended) : Type 0 where
+    pub status : ended.status ≡ status_of ended.detail
+    pub command : Option Command
+    pub asked : IsAskedFor words command
+    pub cause : CallEnds command a f ended.detail

@@ -4,6 +4,7 @@ ghost use Rattle.verifactu.specs.CommandLine.{IsAskedFor, IsCount, IsHost, IsWor
 ghost use Rattle.verifactu.specs.CommandLine as spec;
 
 use amounts::read_whole;
+use file_pairs::{Nifs, read_pairs};
 use file_commands::MOST;
 use link_check::MAX_WORKERS;
 use parties::Nif;
@@ -12,7 +13,7 @@ use statements::Month;
 use verify_link::Host;
 
 /// What the words ask for.
-#[derive(Clone, Copy)]
+#[derive(Drop)]
 pub enum Command {
     /// `chain FILE NIF`, for the issuer with this NIF.
     Chain(Nif),
@@ -34,6 +35,8 @@ pub enum Command {
     Follow,
     /// `guard FILE NIF NEW`, for the issuer with this NIF.
     Guard(Nif),
+    /// `many FILE NIF FILE NIF ..`, for the issuers with these NIFs.
+    Many(Nifs),
     /// `statement FILE MM-YYYY`, of this month.
     Statement(Month),
     /// `export FILE`.
@@ -283,12 +286,50 @@ fn four_of(name: &str, file: &str, word: &str, last: &str) -> Option<Command>
     None
 }
 
+// Five words or more: those of `many`, or of no command.
+fn many_of(words: &[String]) -> Option<Command>
+    requires { 4 < length words.now }
+    ensures { IsAskedFor (map string_bytes words.now) result }
+{
+    let Some((name, pairs)) = words.split_first() else {
+        return None;
+    };
+    if !is_word(name.as_str(), b"many") {
+        return None;
+    }
+    match read_pairs(pairs) {
+        Some(issuers) => Some(Command::Many(issuers)),
+        None => None,
+    }
+}
+
+// How many pairs stand behind the first one of `many`.
+fn further_pairs(words: &[String]) -> u16
+    requires { 4 < length words.now }
+    ensures count { result ≡ spec.posts_needed (map string_bytes words.now) }
+    ensures few { result ≤ 7 }
+{
+    let Some((name, pairs)) = words.split_first() else {
+        return 0;
+    };
+    if !is_word(name.as_str(), b"many") {
+        return 0;
+    }
+    if pairs.len() > 16 {
+        return 0;
+    }
+    (pairs.len() / 2 - 1) as u16
+}
+
 /// How many posts a run by these words needs beside the first one: 1 for those of `migrate`, `follow`
-/// and `guard`, whose file is NEW.
+/// and `guard`, whose file is NEW, and for those of `many` one less than its pairs.
 pub fn posts_needed(words: &[String]) -> u16
     ensures count { result ≡ spec.posts_needed (map string_bytes words.now) }
-    ensures few { result ≤ 1 }
+    ensures few { result ≤ 7 }
 {
+    if words.len() > 4 {
+        return further_pairs(words);
+    }
     match words {
         [name, _, _] if is_word(name.as_str(), b"migrate") => 1,
         [name, _, _] if is_word(name.as_str(), b"follow") => 1,
@@ -301,6 +342,9 @@ pub fn posts_needed(words: &[String]) -> u16
 pub fn command_of(words: &[String]) -> Option<Command>
     ensures { IsAskedFor (map string_bytes words.now) result }
 {
+    if words.len() > 4 {
+        return many_of(words);
+    }
     match words {
         [word] => option_of(word.as_str()),
         [name, word] => two_of(name.as_str(), word.as_str()),

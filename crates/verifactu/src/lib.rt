@@ -5,6 +5,7 @@
 
 mod command_line;
 mod help;
+mod installation;
 mod laws;
 mod running;
 
@@ -14,6 +15,7 @@ pub use laws::{
     a_day_stops_once, a_strange_file_is_not_own, what_a_run_left_is_found_again,
     what_was_handed_over_stays_of_the_chain,
 };
+pub use many::many_cmd;
 pub use open_shop::{Post, Posts};
 pub use running::run;
 pub use shop_commands::{

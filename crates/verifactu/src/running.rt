@@ -15,6 +15,7 @@ ghost use Rattle.verifactu.specs.CommandLine.{IsForIssuerOrOneFile, IsGuarding, 
 
 use crate::command_line::{Command, command_of};
 use crate::help::{help_text, version_text};
+use crate::installation::run_issuers;
 use agency_port::Agency;
 use chain_disk::Disk;
 use file_commands::{
@@ -27,7 +28,7 @@ use shop_commands::{
     Outside, chain_cmd, day_cmd, drain_cmd, follow_cmd, guard_cmd, migrate_cmd, put_further,
     serve_cmd, take_further,
 };
-use shop_core::{a_file_has_one_meaning, legal_is_chained};
+use shop_core::{a_file_has_one_meaning, a_history_notes_its_records, legal_is_chained};
 use std::alloc::Global;
 use std::sync::Wait;
 use std::thread::Threads;
@@ -37,7 +38,8 @@ use std::thread::Threads;
 /// alone. `check FILE WORKERS` is `check_cmd` and `matches FILE` `matches_cmd`, which read the source beside it. `chain FILE NIF` is
 /// `chain_cmd` for this issuer, `day FILE NIF` `day_cmd`, `drain FILE NIF` `drain_cmd`, and `serve FILE NIF` `serve_cmd`;
 /// `migrate FILE NEW` is `migrate_cmd`, `follow FILE NEW` `follow_cmd`, and `guard FILE NIF NEW` `guard_cmd`, whose new file is that
-/// of the one further post; `generate N` is `generate_cmd`, whose disk is its own; `--help` and `--version` print their texts. FILE
+/// of the one further post; `many FILE NIF FILE NIF ..` is `many_cmd` for these issuers, whose files are the first one and those of
+/// the further posts; `generate N` is `generate_cmd`, whose disk is its own; `--help` and `--version` print their texts. FILE
 /// itself is the caller's: it names the disk. The outside has as many further posts as `posts_needed` says of the words. All its
 /// parts come back. How each command ends is in `ends`; what every run keeps of the file, of its tills and of the agency, in
 /// `promise`.
@@ -60,14 +62,15 @@ where
     T: Gate + Sync,
     R: Threads + Wait + Sync,
     requires { length outside.more ≡ posts_needed (map string_bytes words.now) }
-    ensures ends { EndsAs (map string_bytes words.now) (this_call (this_source S.left S.faults source.old source.new)
+    ensures ends { EndsAs D.Disk C.Clock Z.Sleeper G.Agency (map string_bytes words.now) (this_call (this_source S.left S.faults source.old source.new)
         (this_sink K.taken K.faults sink.old sink.new) D.Disk C.Clock Z.Sleeper G.Agency (own_post outside) (own_post result.1))
         (further outside result.1) result.0 }
-    ensures promise { Promise (map string_bytes words.now) (this_call (this_source S.left S.faults source.old source.new)
+    ensures promise { Promise D.Disk C.Clock Z.Sleeper G.Agency (map string_bytes words.now) (this_call (this_source S.left S.faults source.old source.new)
         (this_sink K.taken K.faults sink.old sink.new) D.Disk C.Clock Z.Sleeper G.Agency (own_post outside) (own_post result.1))
         (further outside result.1) }
 {
     a_file_has_one_meaning();
+    a_history_notes_its_records();
     legal_is_chained();
     who_keeps_the_rules_tells::<G>();
     what_a_disk_reads_is_an_image::<D>();
@@ -75,11 +78,14 @@ where
         None => (Ended::of(Detail::Usage), outside),
         Some(Command::Migrate) => move_to_further(alloc, sink, outside),
         Some(Command::Follow) => follow_by_further(alloc, sink, outside),
+        Some(Command::Many(issuers)) => {
+            run_issuers(rt, alloc, issuers.as_slice(), source, sink, outside)
+        }
         Some(command) => obey_first(rt, alloc, command, source, sink, outside, gate),
     }
 }
 
-// A command that isn't `migrate` or `follow`.
+// A command that isn't `migrate`, `follow` or `many`.
 fn obey_first<S, K, D, C, Z, G, T, R>(
     rt: &R,
     alloc: Global,
@@ -102,7 +108,7 @@ where
     requires first { IsForIssuerOrOneFile command }
     requires further { IsGuarding command → length outside.more ≡ 1 }
     ensures status { result.0.status ≡ status_of result.0.detail }
-    ensures ends { CommandEnds command (this_call (this_source S.left S.faults source.old source.new)
+    ensures ends { CommandEnds D.Disk C.Clock Z.Sleeper G.Agency command (this_call (this_source S.left S.faults source.old source.new)
         (this_sink K.taken K.faults sink.old sink.new) D.Disk C.Clock Z.Sleeper G.Agency (own_post outside) (own_post result.1))
         (further outside result.1) result.0.detail }
 {
@@ -252,7 +258,7 @@ where
             let (ended, disk) = check_cmd(rt, alloc, workers, source, sink, post.disk);
             (ended, Post { disk, ..post })
         }
-        Command::Migrate | Command::Follow | Command::Guard(_) => unreachable!(),
+        Command::Migrate | Command::Follow | Command::Guard(_) | Command::Many(_) => unreachable!(),
         Command::Statement(month) => {
             let (ended, disk) = statement_cmd(alloc, month, sink, post.disk);
             (ended, Post { disk, ..post })

@@ -10,9 +10,10 @@ returns-in_default c =
     let none = no_command (string_bytes {Z = Global}) c.args.words.now in
     elim c.in_default.branch [
       | in_default-via-then-words-lt1 w ↦ none (λ e. absurd (grind arith)) (λ e. absurd (grind arith)) (λ e. absurd (grind arith))
-          (λ e. absurd (grind arith))
+          (λ e. absurd (grind arith)) (grind arith)
       | in_default-via-else-words-lt1+else-words-lt2+else-words-lt3+else-words-lt4+else-words-lt5 w ↦
           none (λ e. absurd (grind arith)) (λ e. absurd (grind arith)) (λ e. absurd (grind arith)) (λ e. absurd (grind arith))
+          (grind arith)
     ]
 
 pub returns-in-len3 : goal.returns-in-len3
