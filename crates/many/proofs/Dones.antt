@@ -16,7 +16,7 @@ use Rattle.many.specs.Dones.IssuersEnd.{done, issuer, write_fault}
 use Rattle.many.specs.declared.working.Done.{Done}
 use Rattle.many.specs.declared.working.Job.{Job}
 use Rattle.open_shop.proofs.Each.{each_snoc}
-use Rattle.many.proofs.Opening.{reverse_push}
+use Rattle.many.proofs.Opened.{reverse_push}
 
 module _ {D C Z G : Type 0} {g : disk.Ghosts D} where
   -- by what is done of the job in front

@@ -14,7 +14,7 @@ use Rattle.many.specs.declared.opening.Side.TheVariants as side
 use Rattle.many.specs.declared.working.Job.{Job}
 use Rattle.many.specs.declared.working.Task.{Task}
 use Rattle.many.specs.declared.working.Task.TheVariants as task
-use Rattle.many.proofs.Opening.{reverse_push}
+use Rattle.many.proofs.Opened.{reverse_push}
 
 pub open_push : {D C Z G : Type 0} (sides : List (Side D C Z G)) (x : Side D C Z G) →
     open_sides (sides ++ x ∷ []) ≡ open_sides sides + open_sides (x ∷ [])

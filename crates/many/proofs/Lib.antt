@@ -1,9 +1,9 @@
 mod Pairwise
-mod Reading
+mod PartsCount
 mod Unread
 pub mod NoNotes
-mod Opening
-mod Serving
+mod Opened
+mod Answered
 mod Tasks
 mod Jobs
 mod Sent

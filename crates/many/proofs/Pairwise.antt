@@ -3,7 +3,7 @@ use Rattle.std.proofs.Common.{◌≡◌, ℕ, zero, suc, ◌+◌, ◌<◌, List,
 use Rattle.std.specs.Prelude.{reverse}
 use Rattle.std.proofs.lemmas.List.{map_push}
 use Rattle.many.specs.Pairwise.{Both}
-use Rattle.many.proofs.Opening.{reverse_push}
+use Rattle.many.proofs.Opened.{reverse_push}
 
 pub both_by_index : {X : Type 0} (P : X → X → Type 0) (xs ys : List X) → length ys ≡ length xs →
     ((i : ℕ) (d : X) → i < length xs → P (get_or xs i d) (get_or ys i d)) → Both P xs ys

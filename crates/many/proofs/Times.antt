@@ -19,7 +19,7 @@ use Rattle.many.specs.OwnClock.{coming_of}
 use Rattle.many.specs.Pairwise.{Both}
 use Rattle.many.specs.declared.own_clock.OwnClock.{OwnClock}
 use Rattle.open_shop.specs.declared.posts.Post.{Post}
-use Rattle.many.proofs.Opening.{reverse_push}
+use Rattle.many.proofs.Opened.{reverse_push}
 
 module _ {D C Z G : Type 0} (coming : C → ℕ → Option ℕ) where
   -- those behind the ones that are left

@@ -2,7 +2,7 @@
 //! `verifactu::run`, and prints why it failed, where it did.
 #![tactic(auto)]
 
-ghost use Rattle.std.specs.Prelude.{◌≡◌, IfOk, length, map, option_to_list, string_bytes};
+ghost use Rattle.std.specs.Prelude.{◌≡◌, IfOk, map, string_bytes, vec_len};
 ghost use Rattle.verifactu.specs.CommandLine.{posts_needed};
 
 mod option;
@@ -45,10 +45,14 @@ fn file_of(words: &[String], place: usize) -> &str {
     }
 }
 
-// NEW, the word behind FILE; in `guard` the one behind NIF.
-fn new_of(words: &[String]) -> &str {
+// The further file of this number, from 0: NEW is the word behind FILE, and in `guard` the one behind NIF, where the second file of
+// `many` stands too.
+fn further_of(words: &[String], number: usize) -> &str {
     match words.first() {
         Some(name) if name.as_str() == "guard" => file_of(words, 3),
+        Some(name) if name.as_str() == "many" => {
+            file_of(words, number.saturating_mul(2).saturating_add(3))
+        }
         _ => file_of(words, 2),
     }
 }
@@ -118,6 +122,18 @@ fn issuer_of(words: &[String]) -> Option<Nif> {
     }
 }
 
+// `many`, whose issuers have no agency behind the two files of one.
+fn is_for_many(words: &[String]) -> bool {
+    match words.first() {
+        Some(name) => name.as_str() == "many",
+        None => false,
+    }
+}
+
+// A post over the machine's file, clock and sleeper.
+type HostPost<'a, G> =
+    Post<ShownDisk<'a>, SystemClock<&'a HostRuntime>, ShownSleeper<'a>, G>;
+
 // The file of this name.
 fn shown_disk<'a>(rt: &'a HostRuntime, file: &str) -> Result<ShownDisk<'a>, NoMemory> {
     let path = String::from_str(rt.alloc(), file)?;
@@ -125,28 +141,40 @@ fn shown_disk<'a>(rt: &'a HostRuntime, file: &str) -> Result<ShownDisk<'a>, NoMe
     Ok(ShownDisk::at(rt, path, name))
 }
 
-// Runs the command with this agency, which comes back, and prints why it failed, where it did. `spare` is that of the further file,
-// where the words name one. NoMemory: nothing was run.
-fn run_with<R: Threads + Wait + Sync, G: Agency + Send + Drop>(
-    handle: &R,
-    rt: &HostRuntime,
+// A post for each further file that the words name, each with one of these agencies.
+fn posts_of<'a, G: Agency + Drop>(
+    rt: &'a HostRuntime,
     words: &[String],
-    agency: G,
-    spare: Option<G>,
-) -> Result<(u8, G), NoMemory>
-    requires { length (option_to_list spare) ≡ posts_needed (map string_bytes words.now) }
+    agencies: Vec<G>,
+) -> Result<Vec<HostPost<'a, G>>, NoMemory>
+    ensures { IfOk result (λ posts. vec_len posts ≡ vec_len agencies) }
 {
-    let file = file_of(words, 1);
-    let new = new_of(words);
-    let mut more = Vec::new(rt.alloc());
-    if let Some(agency) = spare {
-        more.push(Post {
-            disk: shown_disk(rt, new)?,
+    let mut agencies = agencies;
+    let mut posts = Vec::new(rt.alloc());
+    while let Some(agency) = agencies.pop() {
+        posts.push(Post {
+            disk: shown_disk(rt, further_of(words, posts.len()))?,
             clock: SystemClock::new(rt),
             sleeper: ShownSleeper::new(rt),
             agency,
         })?;
     }
+    Ok(posts)
+}
+
+// Runs the command with this agency, which comes back, and prints why it failed, where it did. `spares` are those of the further
+// files. NoMemory: nothing was run.
+fn run_with<R: Threads + Wait + Sync, G: Agency + Send + Drop>(
+    handle: &R,
+    rt: &HostRuntime,
+    words: &[String],
+    agency: G,
+    spares: Vec<G>,
+) -> Result<(u8, G), NoMemory>
+    requires { vec_len spares ≡ posts_needed (map string_bytes words.now) }
+{
+    let file = file_of(words, 1);
+    let more = posts_of(rt, words, spares)?;
     let mut source = StdSource::new(rt);
     let mut sink = StdSink::new(rt);
     let outside = Outside {
@@ -166,8 +194,8 @@ fn run_with<R: Threads + Wait + Sync, G: Agency + Send + Drop>(
         &OpenGate,
     );
     print_end(rt, words, &ended);
-    for post in outside.more.as_slice() {
-        print_reason(rt, new, post.disk.reason());
+    for (number, post) in outside.more.as_slice().iter().enumerate() {
+        print_reason(rt, further_of(words, number), post.disk.reason());
     }
     let disk = outside.disk;
     print_reasons(
@@ -198,22 +226,31 @@ fn agency_behind<'a>(
     PipeAgency::new(alloc, source, sink, issuer, Host::Real, first_number(rt))
 }
 
-// The same for the further file, where the words name one. It is never asked.
-fn spare_behind<'a>(
+// So many of them, for the further files. They are never asked.
+fn agencies_behind<'a>(
     rt: &'a HostRuntime,
-    words: &[String],
+    count: u16,
     files: PipeFiles<'_>,
     issuer: Nif,
-) -> Result<Option<PipeAgency<PipeSource<'a, HostRuntime>, PipeSink<'a, HostRuntime>>>, NoMemory>
-    ensures { IfOk result (λ spare. length (option_to_list spare) ≡ posts_needed (map string_bytes words.now)) }
+) -> Result<Vec<PipeAgency<PipeSource<'a, HostRuntime>, PipeSink<'a, HostRuntime>>>, NoMemory>
+    ensures { IfOk result (λ spares. vec_len spares ≡ count) }
 {
-    if posts_needed(words) == 0 {
-        return Ok(None);
+    let mut spares = Vec::new(rt.alloc());
+    for _made in 0..count {
+        spares.push(agency_behind(rt, files, issuer)?)?;
     }
-    match agency_behind(rt, files, issuer) {
-        Ok(agency) => Ok(Some(agency)),
-        Err(NoMemory) => Err(NoMemory),
+    Ok(spares)
+}
+
+// So many practice agencies.
+fn practice_agencies(rt: &HostRuntime, count: u16) -> Result<Vec<PracticeAgency>, NoMemory>
+    ensures { IfOk result (λ spares. vec_len spares ≡ count) }
+{
+    let mut spares = Vec::new(rt.alloc());
+    for _made in 0..count {
+        spares.push(PracticeAgency::new(rt.alloc()))?;
     }
+    Ok(spares)
 }
 
 // Runs the command with the agency behind these files.
@@ -225,8 +262,8 @@ fn run_by_pipe<R: Threads + Wait + Sync>(
     issuer: Nif,
 ) -> Result<u8, NoMemory> {
     let agency = agency_behind(rt, files, issuer)?;
-    let spare = spare_behind(rt, words, files, issuer)?;
-    let (status, agency) = run_with(handle, rt, words, agency, spare)?;
+    let spares = agencies_behind(rt, posts_needed(words), files, issuer)?;
+    let (status, agency) = run_with(handle, rt, words, agency, spares)?;
     print_reason(rt, "the agency", agency.reason());
     Ok(status)
 }
@@ -238,12 +275,8 @@ fn run_by_practice<R: Threads + Wait + Sync>(
     words: &[String],
 ) -> Result<u8, NoMemory> {
     let agency = PracticeAgency::new(rt.alloc());
-    let (status, _) = if posts_needed(words) == 0 {
-        run_with(handle, rt, words, agency, None)?
-    } else {
-        let spare = PracticeAgency::new(rt.alloc());
-        run_with(handle, rt, words, agency, Some(spare))?
-    };
+    let spares = practice_agencies(rt, posts_needed(words))?;
+    let (status, _) = run_with(handle, rt, words, agency, spares)?;
     Ok(status)
 }
 
@@ -253,6 +286,9 @@ fn run_words<R: Threads + Wait + Sync>(
     words: &[String],
 ) -> Result<u8, Detail> {
     let (files, words) = split_option(words)?;
+    if files.is_some() && is_for_many(words) {
+        return Err(Detail::Usage);
+    }
     let status = match (files, issuer_of(words)) {
         (Some(files), Some(issuer)) => run_by_pipe(handle, rt, words, files, issuer),
         _ => run_by_practice(handle, rt, words),

@@ -13,6 +13,7 @@ pub fn form_of(name: &str) -> Option<&'static str> {
         "migrate" => Some("migrate FILE NEW"),
         "follow" => Some("follow FILE NEW"),
         "guard" => Some("guard FILE NIF NEW"),
+        "many" => Some("many FILE NIF FILE NIF .., two to eight pairs"),
         "statement" => Some("statement FILE MM-YYYY"),
         "export" => Some("export FILE"),
         "matches" => Some("matches FILE"),

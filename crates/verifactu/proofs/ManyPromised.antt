@@ -1,6 +1,7 @@
 -- The promise of `many`, issuer by issuer, from the way it ended.
 use Rattle.std.proofs.Common.{◌≡◌, ◌⊎◌, inl, inr, ℕ, suc, ◌+◌, ◌≤◌, List, [], ◌∷◌, ◌++◌, append-nil, append_assoc, length, map, refl, sym, ◌∙◌, ap, subst, arith}
-use Rattle.std.proofs.Common.{IsTrue, Option, Some, None, Result}
+use Rattle.std.proofs.Common.{IsTrue, Option, Some, None, Result, ◌<◌, slice_index_or}
+use Rattle.std.specs.Prelude.{remove}
 use Rattle.ports.specs.declared.faults.NoMemory.{NoMemory}
 use Rattle.std.specs.List.{AllByRecursion}
 use Rattle.ports.specs.Causes.{Rose}
@@ -283,7 +284,7 @@ pub many_keeps : {D C Z G : Type 0} (chained : AreLinked) (within : NotedWithinR
     (a : AllDevices D C Z G) (f : Further D C Z G) (issuers : List (List ℕ)) (end : Detail) → ManyRan d c z g issuers a f end →
     FileKept (writes_for (Some (Many issuers))) a × OthersKept d c z g issuers a f
 many_keeps chained within one neither d c z g rules a f issuers end h =
-    subst (λ x. FileKept (writes_for (Some (Many issuers))) x × OthersKept d c z g issuers x f) (sym h.own)
+    subst (λ (x : AllDevices D C Z G). FileKept (writes_for (Some (Many issuers))) x × OthersKept d c z g issuers x f) (sym h.own)
     (own_and_others chained within one neither d c z g rules a.devices.source a.devices.sink issuers h.post h.after f
     (all_kept chained within one neither d c z g rules a.devices.source a.devices.sink issuers (h.post ∷ f.posts)
     (h.after ∷ f.posts_after) end h.one_each h.ends))
@@ -306,3 +307,9 @@ module _ {D C Z G : Type 0} (d : disk.Ghosts D) (c : clock.Ghosts C) (z : sleepe
   posts_back end (read_fault failed left) = ap length left.same
   posts_back end (too_big past left) = ap length left.same
   posts_back end (no_memory left) = ap length left.same
+
+-- the first of a list, and the rest
+pub front_back : {A : Type 0} (xs rest : List A) (x : A) → 0 < length xs → x ≡ slice_index_or xs 0 x → rest ≡ remove xs 0 →
+    x ∷ rest ≡ xs
+front_back (y ∷ ys) rest x some first last = ap (λ (z : A). z ∷ rest) first ∙ ap (λ (l : List A). y ∷ l) last
+front_back [] rest x some first last = absurd (omega arith)

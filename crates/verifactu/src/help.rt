@@ -19,6 +19,7 @@ Usage:
   verifactu migrate FILE NEW     moves a file of version 1 to one of version 2
   verifactu follow FILE NEW      brings the copy NEW up to FILE
   verifactu guard FILE NIF NEW   drain that notes each line in the copy NEW too
+  verifactu many FILE NIF ..     answers and sends for two to eight issuers at once
   verifactu generate N           prints the sums of N made-up commands
   verifactu --help               prints this text
   verifactu --version            prints the version
@@ -30,7 +31,8 @@ after a crash, and what was taken is answered again and not registered twice.
 NIF is the issuer's tax number, NUM the number of an invoice; HOST is real or
 test; MONTH is MM-YYYY. audit, link, check, statement, export and matches only
 read the file; check works by 1 to 16 WORKERS beside each other. drain and guard
-read a script without sales, fixes and cancels.
+read a script without sales, fixes and cancels. many takes a pair of FILE and NIF
+an issuer; what stands behind a line issuer NIF is for this one alone.
 With --agency day, serve, drain and guard send to a program of yours, which reads
 TO and writes FROM; else to a practice agency. docs/ADAPTER.md has its messages.
 A new file is of version 2, an old one of version 1 goes on as it is: migrate

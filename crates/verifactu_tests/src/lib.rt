@@ -15,4 +15,6 @@ mod follow;
 #[cfg(test)]
 mod guard;
 #[cfg(test)]
+mod many;
+#[cfg(test)]
 mod runs;

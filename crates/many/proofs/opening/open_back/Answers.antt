@@ -1,7 +1,7 @@
 use Rattle.std.proofs.Common.{◌≡◌, ℕ, ◌+◌, ◌<◌, length, get_or, ap, subst, ◌∙◌, arith}
 use Rattle.std.proofs.lemmas.List.{length_push}
 use Rattle.many.specs.Desks.{HasRoom}
-use Rattle.many.proofs.Opening.{opens_more}
+use Rattle.many.proofs.Opened.{opens_more}
 use Rattle.many.proofs.opening.open_back.Goals as goal
 
 pub loop-post-preserved : goal.loop-post-preserved

@@ -1,6 +1,6 @@
 use Rattle.std.proofs.Common.{◌≡◌, ◌≤◌, length, vec_capacity, vec_len}
 use Rattle.many.specs.Desks.{HasRoom}
-use Rattle.many.proofs.Opening.{OpensRest}
+use Rattle.many.proofs.Opened.{OpensRest}
 use Rattle.many.proofs.opening.open_back.Given as goal
 
 abbrev pub invariant-loop-post : goal.invariant-loop-post

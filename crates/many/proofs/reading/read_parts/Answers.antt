@@ -1,4 +1,4 @@
-use Rattle.many.proofs.Reading.{parts_count}
+use Rattle.many.proofs.PartsCount.{parts_count}
 use Rattle.many.proofs.reading.read_parts.Goals as goal
 
 pub returns-in-Ok-read_many-clause-one_each : goal.returns-in-Ok-read_many-clause-one_each

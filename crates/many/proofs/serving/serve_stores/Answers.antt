@@ -3,7 +3,7 @@ use Rattle.chain_store.specs.declared.store.Store.{Store}
 use Rattle.issuers.specs.Office.{stores_of}
 use Rattle.issuers.specs.Parts.{HasLines}
 use Rattle.issuers.specs.Serving.{Served}
-use Rattle.many.proofs.Serving.{all_at, each_served}
+use Rattle.many.proofs.Answered.{all_at, each_served}
 use Rattle.many.proofs.serving.serve_stores.Goals as goal
 
 pub returns-clause-served : goal.returns-clause-served

@@ -1,4 +1,4 @@
-use Rattle.std.proofs.Common.{◌∙◌, Global, map, rules, string_bytes, ap, refl, subst}
+use Rattle.std.proofs.Common.{◌∙◌, ◌+◌, ℕ, Some, sym, Global, map, rules, string_bytes, ap, refl, subst}
 use Rattle.ports.specs.Sinks.{this_sink}
 use Rattle.ports.specs.Sources.{this_source}
 use Rattle.verifactu.specs.CommandLine.{AsksFor}
@@ -83,6 +83,34 @@ returns-in-None-clause-promise g c =
     g.D.Disk g.C.Clock g.Z.Sleeper g.G.Agency
     (map (string_bytes {Z = Global}) c.args.words.now) (further c.args.outside c.args.outside) c.in-None.ensures refl
     (record { sleeper = refl; agency = refl }) refl
+
+pub run_issuers-requires-clause-few : goal.run_issuers-requires-clause-few
+run_issuers-requires-clause-few g c = c.as_slice.ensures.few
+
+pub run_issuers-requires-clause-distinct : goal.run_issuers-requires-clause-distinct
+run_issuers-requires-clause-distinct g c =
+    let words = map (string_bytes {Z = Global}) c.args.words.now in
+    let asked = subst (λ (k : Command). AsksFor words k) (c.in-Some-Many.field-0-is ∙ ap Many (sym c.as_slice.ensures.all))
+    c.in-Some-Many.ensures in
+    own_of c.as_slice.result.now asked.are.issuers_apart
+
+pub run_issuers-requires-clause-one_each : goal.run_issuers-requires-clause-one_each
+run_issuers-requires-clause-one_each g c =
+    let words = map (string_bytes {Z = Global}) c.args.words.now in
+    let asked = subst (λ (k : Command). AsksFor words k) (c.in-Some-Many.field-0-is ∙ ap Many (sym c.as_slice.ensures.all))
+    c.in-Some-Many.ensures in
+    ap (λ (n : ℕ). n + 1) c.requires ∙ many_posts words c.as_slice.result.now asked
+
+pub returns-in-Some-Many-clause-ends : goal.returns-in-Some-Many-clause-ends
+returns-in-Some-Many-clause-ends g c =
+    let words = map (string_bytes {Z = Global}) c.args.words.now in
+    record {
+      status = c.run_issuers.ensures.status;
+      command = Some (Many c.as_slice.result.now);
+      asked = subst (λ (k : Command). AsksFor words k) (c.in-Some-Many.field-0-is ∙ ap Many (sym c.as_slice.ensures.all))
+          c.in-Some-Many.ensures;
+      cause = c.run_issuers.ensures.ends;
+    }
 
 pub returns-in-Some-Many-clause-promise : goal.returns-in-Some-Many-clause-promise
 returns-in-Some-Many-clause-promise g c =

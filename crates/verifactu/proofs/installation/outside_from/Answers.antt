@@ -1,0 +1,11 @@
+use Rattle.std.proofs.Common.{◌∷◌, ◌∙◌, List, ap}
+use Rattle.open_shop.specs.declared.posts.Post.{Post}
+use Rattle.verifactu.proofs.ManyPromised.{front_back}
+use Rattle.verifactu.proofs.installation.outside_from.Goals as goal
+
+pub returns : goal.returns
+returns g c =
+    let all = front_back c.args.posts.items c.remove.new.self.items c.remove.result c.requires c.remove.ensures.value
+    c.remove.ensures.items in
+    ap (λ (x : Post g.row.D.Denot g.row.C.Denot g.row.Z.Denot g.row.G.Denot). x ∷ c.outside_of.result.more) c.outside_of.ensures.0 ∙
+    ap (λ (l : List (Post g.row.D.Denot g.row.C.Denot g.row.Z.Denot g.row.G.Denot)). c.remove.result ∷ l) c.outside_of.ensures.1 ∙ all
