@@ -131,8 +131,7 @@ fn is_for_many(words: &[String]) -> bool {
 }
 
 // A post over the machine's file, clock and sleeper.
-type HostPost<'a, G> =
-    Post<ShownDisk<'a>, SystemClock<&'a HostRuntime>, ShownSleeper<'a>, G>;
+type HostPost<'a, G> = Post<ShownDisk<'a>, SystemClock<&'a HostRuntime>, ShownSleeper<'a>, G>;
 
 // The file of this name.
 fn shown_disk<'a>(rt: &'a HostRuntime, file: &str) -> Result<ShownDisk<'a>, NoMemory> {
@@ -236,7 +235,7 @@ fn agencies_behind<'a>(
     ensures { IfOk result (λ spares. vec_len spares ≡ count) }
 {
     let mut spares = Vec::new(rt.alloc());
-    for _made in 0..count {
+    for made in 0..count {
         spares.push(agency_behind(rt, files, issuer)?)?;
     }
     Ok(spares)
@@ -247,7 +246,7 @@ fn practice_agencies(rt: &HostRuntime, count: u16) -> Result<Vec<PracticeAgency>
     ensures { IfOk result (λ spares. vec_len spares ≡ count) }
 {
     let mut spares = Vec::new(rt.alloc());
-    for _made in 0..count {
+    for made in 0..count {
         spares.push(PracticeAgency::new(rt.alloc()))?;
     }
     Ok(spares)

@@ -112,12 +112,43 @@ many_posts words issuers h =
         let several = h.are.several in
         omega (arith, two, several)
 
+-- a word that isn't this name
+pub other_name : (word text : List ℕ) → word ≡ text → bytes_eq word (codes "many") ≡ false → text ≡ codes "many" → ⊥
+other_name word text same no named = let yes = (bytes_eq-Decides word (codes "many")).1 (same ∙ named) in cc
+
+is_past : (n : ℕ) → 16 < n → nat_lt 16 n ≡ true
+is_past n h = grind (arith, nat_tests, h)
+
+isnt_past : (n : ℕ) → n ≤ 16 → nat_lt 16 n ≡ false
+isnt_past n h = grind (arith, nat_tests, h)
+
+module _ {A : Type 0} (f : A → List ℕ) (words pairs : List A) (name : A) (word : List ℕ) (is : words ≡ name ∷ pairs)
+    (long : 4 < length words) (same : word ≡ f name) where
+  counts : posts_needed (map f words) ≡ further_pairs word (map f pairs)
+  counts = long_posts (map f words) (map f pairs) (f name) (ap (λ (l : List A). map f l) is)
+      (let e = length_map f words in omega (arith, e, long)) ∙ ap (λ (n : List ℕ). further_pairs n (map f pairs)) (sym same)
+
+  pub counts_none : bytes_eq word (codes "many") ≡ false → 0 ≡ posts_needed (map f words)
+  counts_none no = sym (counts ∙ ap (λ (b : Bool). if b then (if nat_lt 16 (length (map f pairs)) then 0 else length (map f pairs) / 2 - 1)
+      else 0) no)
+
+  pub counts_past : bytes_eq word (codes "many") ≡ true → 16 < length pairs → 0 ≡ posts_needed (map f words)
+  counts_past yes past = sym (counts ∙ ap (λ (b : Bool). if b then (if nat_lt 16 (length (map f pairs)) then 0 else length (map f pairs) / 2 - 1)
+      else 0) yes ∙ ap (λ (b : Bool). if b then 0 else length (map f pairs) / 2 - 1)
+      (is_past (length (map f pairs)) (let e = length_map f pairs in omega (arith, e, past))))
+
+  pub counts_pairs : bytes_eq word (codes "many") ≡ true → length pairs ≤ 16 → length pairs / 2 - 1 ≡ posts_needed (map f words)
+  counts_pairs yes few = ap (λ (n : ℕ). n / 2 - 1) (sym (length_map f pairs)) ∙
+      sym (counts ∙ ap (λ (b : Bool). if b then (if nat_lt 16 (length (map f pairs)) then 0 else length (map f pairs) / 2 - 1)
+      else 0) yes ∙ ap (λ (b : Bool). if b then 0 else length (map f pairs) / 2 - 1)
+      (isnt_past (length (map f pairs)) (let e = length_map f pairs in omega (arith, e, few))))
+
 -- none stands twice
 pub own_of : (words : List (List ℕ)) → AreApart words → AreOwn words
 own_of [] h = tt
 own_of (word ∷ words) h = (h.0, own_of words h.1)
 
-bytes_eq_is : (xs ys : List ℕ) → bytes_eq xs ys ≡ true → xs ≡ ys
+pub bytes_eq_is : (xs ys : List ℕ) → bytes_eq xs ys ≡ true → xs ≡ ys
 bytes_eq_is xs ys h = (bytes_eq-Decides xs ys).0 h
 
 pub is_chain : (name file nif issuer : List ℕ) → bytes_eq name (codes "chain") ≡ true → 0 < length file →

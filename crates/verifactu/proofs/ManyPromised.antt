@@ -165,7 +165,7 @@ module _ {D C Z G : Type 0} (chained : AreLinked) (a : AllDevices D C Z G)
         let torn = q.torn in
         let session : IsUnbegun a.agency.kind a.agency.before a.agency.after
         ⊎ OpensSession a.agency.kind a.agency.begun script.plan middle a.agency.before a.agency.after =
-        elim b.session [ | inl s ↦ inr s.2 | inr n ↦ inl n.1 ] in
+        elim b.session [ inl s ↦ inr s.2 | inr n ↦ inl n.1 ] in
         let none = none_torn_noted version issuer (IsComing coming) w.asked middle w.played.replies torn q.made in
         let kept : Kept (StandsSince version issuer start middle torn) version issuer middle torn (synced (k.told k.disk))
         (k.told k.disk_after) =
@@ -186,7 +186,7 @@ module _ {D C Z G : Type 0} (chained : AreLinked) (a : AllDevices D C Z G)
         by_fault (inr stopped) = inr (subst (λ (x : D). Rose (k.faults k.disk) (k.faults x)) (sym b.disk) stopped.risen)
 
     works_left : LeftBy chained a desks issuer
-    works_left = elim w.behind [ | inl d ↦ drained d | inr b ↦ alone b ]
+    works_left = elim w.behind [ inl d ↦ drained d | inr b ↦ alone b ]
 
   pub closed_left : (end : Detail) (block : Result (List ℕ) NoMemory) → StaysClosed issuer k a.sleeper a.agency end block →
       LeftBy chained a desks issuer

@@ -4,8 +4,8 @@ ghost use Rattle.verifactu.specs.CommandLine.{IsAskedFor, IsCount, IsHost, IsWor
 ghost use Rattle.verifactu.specs.CommandLine as spec;
 
 use amounts::read_whole;
-use file_pairs::{Nifs, read_pairs};
 use file_commands::MOST;
+use file_pairs::{Nifs, read_pairs};
 use link_check::MAX_WORKERS;
 use parties::Nif;
 use series::NumSerie;

@@ -1,8 +1,9 @@
 // Several issuers in one run: what becomes of one changes nothing of another. The expected Huellas are SHA-256, by another program, of
 // the field texts of these records.
+use crate::follow::bytes_of;
 use crate::runs::{ROW, disk_of, ends, ends_in};
 use agency_port::PracticeAgency;
-use chain_disk::{Disk, MemDisk};
+use chain_disk::MemDisk;
 use ports::{CountingClock, LeapSleeper, OpenGate};
 use report::{Detail, Ended};
 use std::alloc::Global;
@@ -11,7 +12,8 @@ use std::test::Fail;
 use std::thread::Threads;
 use verifactu::{Outside, Post, Posts};
 
-const EIGHT: &str = "many 0.chain 89890001K 1.chain 12345678Z 2.chain 00000001R 3.chain 00000002W 4.chain 00000003A 5.chain 00000004G 6.chain 00000005M 7.chain 00000006Y";
+const EIGHT: &str =
+    "many 0.chain 89890001K 1.chain 12345678Z 2.chain 00000001R 3.chain 00000002W 4.chain 00000003A 5.chain 00000004G 6.chain 00000005M 7.chain 00000006Y";
 
 const TWO: &str = "many 0.chain 89890001K 1.chain 12345678Z";
 
@@ -117,14 +119,6 @@ fn eight(rt: &(impl AllocGlobal + Threads + Wait + Sync)) -> Result<Vec<MemDisk>
     Ok(disks)
 }
 
-// The first bytes of a disk.
-fn bytes_of(alloc: Global, disk: &mut MemDisk) -> Result<Vec<u8>, Fail> {
-    let mut bytes = vec![in alloc; 0u8; 1000]?;
-    let count = disk.read_at(0, &mut bytes)?;
-    bytes.truncate(count);
-    Ok(bytes)
-}
-
 #[test]
 fn a_fault_of_one_issuer_stops_no_other(rt: HostRuntime) -> Result<(), Fail> {
     let alloc = rt.alloc();
@@ -135,13 +129,21 @@ fn a_fault_of_one_issuer_stops_no_other(rt: HostRuntime) -> Result<(), Fail> {
         match index {
             2 => wanted.push_str("issuer 00000001R\nclosed damaged 0\nended 7\n")?,
             3 => wanted.push_str("issuer 00000002W\nclosed file-of B12345674\nended 13\n")?,
-            4 => wanted.push_str("issuer 00000003A\ntill 1 serial 1 fault disk\nchain 0 noted 0\nended 6\n")?,
+            4 => wanted.push_str(
+                "issuer 00000003A\ntill 1 serial 1 fault disk\nchain 0 noted 0\nended 6\n",
+            )?,
             _ => wanted.push_str(sound_block(alloc, nif, HUELLAS[index])?.as_str())?,
         }
     }
     assert_eq!(rt; left.text.as_slice(), wanted.as_bytes());
     assert_eq!(rt; left.ended.status, 7);
-    assert_eq!(rt; left.ended.detail, Detail::Issuer { index: 2, status: 7 });
+    assert_eq!(rt;
+        left.ended.detail,
+        Detail::Issuer {
+            index: 2,
+            status: 7
+        }
+    );
     Ok(())
 }
 
@@ -160,9 +162,7 @@ fn an_issuer_is_told_the_same_whoever_is_beside_it(rt: HostRuntime) -> Result<()
     assert_eq!(rt; alone.text.as_slice(), both.as_bytes());
     assert!(rt; among.text.as_slice().starts_with(both.as_bytes()));
     let Outside { mut disk, .. } = among.outside;
-    let Outside {
-        disk: mut same, ..
-    } = alone.outside;
+    let Outside { disk: mut same, .. } = alone.outside;
     assert_eq!(rt; bytes_of(alloc, &mut disk)?, bytes_of(alloc, &mut same)?);
     Ok(())
 }

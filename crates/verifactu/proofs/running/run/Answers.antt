@@ -85,17 +85,17 @@ returns-in-None-clause-promise g c =
     (record { sleeper = refl; agency = refl }) refl
 
 pub run_issuers-requires-clause-few : goal.run_issuers-requires-clause-few
-run_issuers-requires-clause-few g c = c.as_slice.ensures.few
+run_issuers-requires-clause-few g c κs within = c.as_slice.ensures.few
 
 pub run_issuers-requires-clause-distinct : goal.run_issuers-requires-clause-distinct
-run_issuers-requires-clause-distinct g c =
+run_issuers-requires-clause-distinct g c κs within =
     let words = map (string_bytes {Z = Global}) c.args.words.now in
     let asked = subst (λ (k : Command). AsksFor words k) (c.in-Some-Many.field-0-is ∙ ap Many (sym c.as_slice.ensures.all))
     c.in-Some-Many.ensures in
     own_of c.as_slice.result.now asked.are.issuers_apart
 
 pub run_issuers-requires-clause-one_each : goal.run_issuers-requires-clause-one_each
-run_issuers-requires-clause-one_each g c =
+run_issuers-requires-clause-one_each g c κs within =
     let words = map (string_bytes {Z = Global}) c.args.words.now in
     let asked = subst (λ (k : Command). AsksFor words k) (c.in-Some-Many.field-0-is ∙ ap Many (sym c.as_slice.ensures.all))
     c.in-Some-Many.ensures in
