@@ -1,5 +1,5 @@
 -- What a run of one thread notes: nothing.
-use Rattle.std.proofs.Common.{◌≡◌, ℕ, List, ◌++◌, append-nil, refl, ap, ◌∙◌, Option, Some, None, Result, Ok, Err}
+use Rattle.std.proofs.Common.{◌≡◌, ℕ, List, [], ◌++◌, append-nil, refl, ap, ◌∙◌, Option, Some, None, Result, Ok, Err}
 use Rattle.std.specs.Option.{option_map_or}
 use Rattle.record_fields.specs.declared.versions.Version.{Version}
 use Rattle.record_fields.specs.declared.lines.Line.{Line}
