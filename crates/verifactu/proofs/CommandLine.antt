@@ -63,7 +63,7 @@ no_command f words one two three four few =
 -- words of another count than those of every command but `many`, which they aren't
 pub not_many : {A : Type 0} (f : A → List ℕ) (words pairs : List A) (name : A) → words ≡ name ∷ pairs → 4 < length words →
     ((issuers : List (List ℕ)) → f name ≡ codes "many" → IsPairs (map f pairs) issuers → ⊥) → IsAskedFor (map f words) None
-not_many f words pairs name is long none =
+not_many {A} f words pairs name is long none =
     let same = length_map f words in
     not_asked (map f words) (λ e. omega (arith, same, e, long)) (λ e. omega (arith, same, e, long)) (λ e. omega (arith, same, e, long))
     (λ e. omega (arith, same, e, long)) (λ issuers h. apart issuers h)
@@ -77,7 +77,7 @@ not_many f words pairs name is long none =
 
 pub is_many : {A : Type 0} (f : A → List ℕ) (words pairs : List A) (name : A) (issuers : List (List ℕ)) → words ≡ name ∷ pairs →
     f name ≡ codes "many" → IsPairs (map f pairs) issuers → IsMany (map f words) issuers
-is_many f words pairs name issuers is named are = record {
+is_many {A} f words pairs name issuers is named are = record {
   pairs = map f pairs;
   words_are = ap (λ (l : List A). map f l) is ∙ ap (λ (n : List ℕ). n ∷ map f pairs) named;
   are = are;
@@ -114,7 +114,7 @@ many_posts words issuers h =
 
 -- a word that isn't this name
 pub other_name : (word text : List ℕ) → word ≡ text → bytes_eq word (codes "many") ≡ false → text ≡ codes "many" → ⊥
-other_name word text same no named = let yes = (bytes_eq-Decides word (codes "many")).1 (same ∙ named) in cc
+other_name word text same differs named = let equal = (bytes_eq-Decides word (codes "many")).1 (same ∙ named) in cc
 
 is_past : (n : ℕ) → 16 < n → nat_lt 16 n ≡ true
 is_past n h = grind (arith, nat_tests, h)
@@ -129,18 +129,18 @@ module _ {A : Type 0} (f : A → List ℕ) (words pairs : List A) (name : A) (wo
       (let e = length_map f words in omega (arith, e, long)) ∙ ap (λ (n : List ℕ). further_pairs n (map f pairs)) (sym same)
 
   pub counts_none : bytes_eq word (codes "many") ≡ false → 0 ≡ posts_needed (map f words)
-  counts_none no = sym (counts ∙ ap (λ (b : Bool). if b then (if nat_lt 16 (length (map f pairs)) then 0 else length (map f pairs) / 2 - 1)
-      else 0) no)
+  counts_none differs = sym (counts ∙ ap (λ (b : Bool). if b then (if nat_lt 16 (length (map f pairs)) then 0 else length (map f pairs) / 2 - 1)
+      else 0) differs)
 
   pub counts_past : bytes_eq word (codes "many") ≡ true → 16 < length pairs → 0 ≡ posts_needed (map f words)
-  counts_past yes past = sym (counts ∙ ap (λ (b : Bool). if b then (if nat_lt 16 (length (map f pairs)) then 0 else length (map f pairs) / 2 - 1)
-      else 0) yes ∙ ap (λ (b : Bool). if b then 0 else length (map f pairs) / 2 - 1)
+  counts_past equal past = sym (counts ∙ ap (λ (b : Bool). if b then (if nat_lt 16 (length (map f pairs)) then 0 else length (map f pairs) / 2 - 1)
+      else 0) equal ∙ ap (λ (b : Bool). if b then 0 else length (map f pairs) / 2 - 1)
       (is_past (length (map f pairs)) (let e = length_map f pairs in omega (arith, e, past))))
 
   pub counts_pairs : bytes_eq word (codes "many") ≡ true → length pairs ≤ 16 → length pairs / 2 - 1 ≡ posts_needed (map f words)
-  counts_pairs yes few = ap (λ (n : ℕ). n / 2 - 1) (sym (length_map f pairs)) ∙
+  counts_pairs equal few = ap (λ (n : ℕ). n / 2 - 1) (sym (length_map f pairs)) ∙
       sym (counts ∙ ap (λ (b : Bool). if b then (if nat_lt 16 (length (map f pairs)) then 0 else length (map f pairs) / 2 - 1)
-      else 0) yes ∙ ap (λ (b : Bool). if b then 0 else length (map f pairs) / 2 - 1)
+      else 0) equal ∙ ap (λ (b : Bool). if b then 0 else length (map f pairs) / 2 - 1)
       (isnt_past (length (map f pairs)) (let e = length_map f pairs in omega (arith, e, few))))
 
 -- none stands twice

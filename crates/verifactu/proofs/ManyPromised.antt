@@ -283,7 +283,7 @@ pub many_keeps : {D C Z G : Type 0} (chained : AreLinked) (within : NotedWithinR
     (d : disk.Ghosts D) (c : clock.Ghosts C) (z : sleeper.Ghosts Z) (g : agency.Ghosts G) (rules : IsTrue g.keeps_rules → IsTrue g.tells)
     (a : AllDevices D C Z G) (f : Further D C Z G) (issuers : List (List ℕ)) (end : Detail) → ManyRan d c z g issuers a f end →
     FileKept (writes_for (Some (Many issuers))) a × OthersKept d c z g issuers a f
-many_keeps chained within one neither d c z g rules a f issuers end h =
+many_keeps {D} {C} {Z} {G} chained within one neither d c z g rules a f issuers end h =
     subst (λ (x : AllDevices D C Z G). FileKept (writes_for (Some (Many issuers))) x × OthersKept d c z g issuers x f) (sym h.own)
     (own_and_others chained within one neither d c z g rules a.devices.source a.devices.sink issuers h.post h.after f
     (all_kept chained within one neither d c z g rules a.devices.source a.devices.sink issuers (h.post ∷ f.posts)
@@ -311,5 +311,5 @@ module _ {D C Z G : Type 0} (d : disk.Ghosts D) (c : clock.Ghosts C) (z : sleepe
 -- the first of a list, and the rest
 pub front_back : {A : Type 0} (xs rest : List A) (x : A) → 0 < length xs → x ≡ slice_index_or xs 0 x → rest ≡ remove xs 0 →
     x ∷ rest ≡ xs
-front_back (y ∷ ys) rest x some first last = ap (λ (z : A). z ∷ rest) first ∙ ap (λ (l : List A). y ∷ l) last
-front_back [] rest x some first last = absurd (omega arith)
+front_back {A} (y ∷ ys) rest x some first last = ap (λ (z : A). z ∷ rest) first ∙ ap (λ (l : List A). y ∷ l) last
+front_back {A} [] rest x some first last = absurd (omega arith)

@@ -54,14 +54,16 @@ fn outside_from<D, C, Z, G>(mut posts: Vec<Post<D, C, Z, G>>) -> Outside<D, C, Z
 }
 
 // This post and those behind it, in their room.
-fn in_front<D, C, Z, G>(
+fn in_front<D: Drop, C: Drop, Z: Drop, G: Drop>(
     first: Post<D, C, Z, G>,
     mut more: Vec<Post<D, C, Z, G>>,
 ) -> Vec<Post<D, C, Z, G>>
     requires { vec_len more < vec_capacity more }
     ensures { result.items ≡ first ∷ more.items }
 {
-    more.insert_reserved(0, first);
+    let Ok(()) = more.insert(0, first) else {
+        unreachable!()
+    };
     more
 }
 

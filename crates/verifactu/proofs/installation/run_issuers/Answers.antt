@@ -42,7 +42,7 @@ many_cmd-ended-requires-clause-one_each g c κs within =
     omega (arith, more, all, e)
 
 pub outside_from-requires : goal.outside_from-requires
-outside_from-requires g c κs within =
+outside_from-requires g c =
     let Given : Type 0 = Post g.row.D.Denot g.row.C.Denot g.row.Z.Denot g.row.G.Denot in
     let back = posts_back g.D.Disk g.C.Clock g.Z.Sleeper g.G.Agency c.args.issuers.now
     (this_source g.S.Source.left g.S.Source.faults c.args.source.now c.many_cmd-ended.new.source)
