@@ -1,12 +1,12 @@
-use Rattle.std.proofs.Common.{◌∙◌, ◌+◌, ℕ, Some, sym, Global, map, rules, string_bytes, ap, refl, subst}
+use Rattle.std.proofs.Common.{◌∙◌, ◌+◌, ℕ, Some, sym, Global, map, string_bytes, ap, refl, subst}
 use Rattle.ports.specs.Sinks.{this_sink}
 use Rattle.ports.specs.Sources.{this_source}
 use Rattle.verifactu.specs.CommandLine.{AsksFor}
-use Rattle.shop_commands.specs.Further.{Further, further, own_post}
+use Rattle.shop_commands.specs.Further.{further, own_post}
 use Rattle.open_shop.specs.Devices.{agency_desk, this_call}
 use Rattle.verifactu.specs.declared.command_line.Command.{Command}
 use Rattle.verifactu.specs.declared.command_line.Command.TheVariants.{Follow, Many, Migrate}
-use Rattle.verifactu.proofs.CommandLine.{guard_posts, many_posts, own_of, within}
+use Rattle.verifactu.proofs.CommandLine.{guard_posts, many_posts, own_of}
 use Rattle.verifactu.proofs.ManyPromised.{many_keeps}
 use Rattle.verifactu.proofs.Promising.{promised, promised_nothing}
 use Rattle.verifactu.proofs.running.run.Goals as goal
