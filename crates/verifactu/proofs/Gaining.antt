@@ -1,5 +1,5 @@
 -- The records that each till gains in a run.
-use Rattle.std.proofs.Common.{◌≡◌, inl, ◌≤◌, ℕ, ◌==◌, List, [], ◌∷◌, ◌++◌, append-nil, length, map, drop}
+use Rattle.std.proofs.Common.{◌≡◌, inl, ◌≤◌, ℕ, ◌==◌, List, [], ◌∷◌, ◌++◌, append-nil, append_assoc, length, map, drop}
 use Rattle.std.proofs.Common.{refl, sym, ◌∙◌, ap, subst, arith, Bool, true, false, Option, Some, None, Result, Ok, Err}
 use Rattle.std.specs.Prelude.{filter, if◌then◌else◌}
 use Rattle.std.specs.List.{AllByRecursion, range_with_len}
