@@ -26,15 +26,16 @@ use Rattle.shop_core.specs.declared.answer.Planned.TheVariants.{Again, Refused, 
 use Rattle.shop_core.specs.declared.answer.refusals.Refusal.{Refusal}
 use Rattle.shop_core.specs.declared.answer.Reply.{Reply}
 use Rattle.shop_core.specs.declared.answer.receipts.Receipt.{Receipt}
-use Rattle.verifactu.specs.Day.{EachTill, EachTillOf}
-use Rattle.verifactu.specs.Days.{Day, TillReplies}
-use Rattle.verifactu.specs.Draining.{AddsNotesAlone, AreNotesEntry}
+use Rattle.shop_commands.specs.Day.{EachTill, EachTillOf}
+use Rattle.open_shop.specs.Days.{Day, TillReplies}
+use Rattle.open_shop.specs.Draining.{AddsNotesAlone, AreNotesEntry}
 use Rattle.verifactu.specs.Promise.{AreAccepted, AreAskedIn, TillsGain}
 use Rattle.chain_store.specs.Replies.{Replies}
-use Rattle.verifactu.specs.Tills.{TillServed, asks_of, has_asks, is_from, own_of, tills_of}
+use Rattle.open_shop.specs.Tills.{TillServed, asks_of, has_asks, is_from, own_of, tills_of}
 use Rattle.verifactu.proofs.Accepted.{accepted_append, all_accepted, by_reply}
-use Rattle.verifactu.proofs.Each.{each_map, each_weaker}
-use Rattle.verifactu.proofs.TillDays.{each_filtered}
+use Rattle.open_shop.proofs.Each.{each_map, each_weaker}
+use Rattle.open_shop.proofs.Saying.{noted_both}
+use Rattle.open_shop.proofs.TillDays.{each_filtered}
 
 -- no till asked
 filter_none : (p : ℕ → Bool) (xs : List ℕ) → ((x : ℕ) → p x ≡ false) → [] ≡ filter p xs
@@ -212,11 +213,6 @@ served_accepted : (d : Day) → IsPrefix d.start d.end → (t : TillReplies) →
 served_accepted d begins t h =
     all_accepted d.version d.issuer d.coming d.start d.end t.till begins (asks_of t.till d.asks) t.replies h.last h.told h.run
     (own_asks t.till d.asks) h.own
-
-pub noted_both : (xs ys : List Entry) → noted (xs ++ ys) ≡ noted xs ++ noted ys
-noted_both [] ys = refl
-noted_both (e ∷ xs) ys = ap (λ (l : List Line). lines_in e ++ l) (noted_both xs ys)
-    ∙ sym (append_assoc (lines_in e) (noted xs) (noted ys))
 
 -- an answer makes no notes
 no_lines : (entries : List Entry) (ask : Asked) (sealed : Sealed) (k : Option Receipt) (r : Option Refusal) (told : Reply)

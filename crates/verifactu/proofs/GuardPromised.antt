@@ -14,20 +14,20 @@ use Rattle.sender.specs.Turning.{Desk}
 use Rattle.shop_core.specs.File.Laws.{NotBegunIsNeither, OneHistory}
 use Rattle.shop_core.specs.History.{noted}
 use Rattle.shop_core.specs.Prefix.{IsPrefix}
-use Rattle.verifactu.specs.Devices.{AllDevices, LeftAgency}
-use Rattle.verifactu.specs.Drain.{first_moment, tells_moment}
-use Rattle.verifactu.specs.Draining.{Beginning, IsSession, IsUnopened, Span, spanning}
-use Rattle.verifactu.specs.Follow.{IsFollowImage}
-use Rattle.verifactu.specs.Guard.{FileGuarded, GuardEnds, GuardsFile}
-use Rattle.verifactu.specs.Guarding.{AreHeld, Held}
+use Rattle.open_shop.specs.Devices.{AllDevices, LeftAgency}
+use Rattle.shop_commands.specs.Drain.{first_moment, tells_moment}
+use Rattle.open_shop.specs.Draining.{Beginning, IsSession, IsUnopened, Span, spanning}
+use Rattle.shop_commands.specs.Follow.{IsFollowImage}
+use Rattle.shop_commands.specs.Guard.{FileGuarded, GuardEnds, GuardsFile}
+use Rattle.open_shop.specs.Guarding.{AreHeld, Held}
 use Rattle.verifactu.specs.Promise.{AgencyKept, BatchesKept, CopyGoesOn, FileKept, IsOwn, OnlyGuarded, TillsGain}
 use Rattle.verifactu.specs.Promise.AgencyKept.{silent, in_session}
-use Rattle.verifactu.specs.Scripts.ScriptedEnds.{ran, bad_line, read_fault, too_big, no_memory}
-use Rattle.verifactu.proofs.Follows.{untouched as untouched_image}
-use Rattle.verifactu.proofs.Finishing.{since_found}
-use Rattle.verifactu.proofs.GuardEnding.{further_image}
+use Rattle.shop_commands.specs.Scripts.ScriptedEnds.{ran, bad_line, read_fault, too_big, no_memory}
+use Rattle.shop_commands.proofs.Follows.{untouched as untouched_image}
+use Rattle.open_shop.proofs.Finishing.{since_found}
+use Rattle.shop_commands.proofs.GuardEnding.{further_image}
 use Rattle.verifactu.proofs.Gaining.{gains_notes, gains_nothing}
-use Rattle.verifactu.proofs.Guarded.{file_agrees}
+use Rattle.open_shop.proofs.Guarded.{file_agrees}
 use Rattle.verifactu.proofs.Promised.{AreLinked, Grown, Left, goes_on, left_disk, legal_found, not_opened, own_of, same_found, whole}
 use Rattle.verifactu.proofs.Promised.Left.{begun_in_part, grown, untouched}
 use Rattle.verifactu.proofs.Sessions.{batches_of_drain, batches_silent, left_agency, since_opening, stays_of_chain}

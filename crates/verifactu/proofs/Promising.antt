@@ -13,23 +13,24 @@ use Rattle.script.specs.declared.forms.Form.TheVariants.{Full}
 use Rattle.script.specs.declared.scripts.Script.{Script}
 use Rattle.sender.specs.Turning.{Desk}
 use Rattle.shop_core.specs.File.Laws.{NotBegunIsNeither, OneHistory}
-use Rattle.verifactu.specs.Chain.{ChainEnds, ScriptEnds}
-use Rattle.verifactu.specs.Day.{DayEnds, EachCrash, FileDay, HistoryGoesOn, ItsAgency, NotServed, Outcome, day_of, day_with}
-use Rattle.verifactu.specs.Serve.{ServeWays}
+use Rattle.shop_commands.specs.Chain.{ChainEnds, ScriptEnds}
+use Rattle.shop_commands.specs.Day.{DayEnds, EachCrash, FileDay, HistoryGoesOn, ItsAgency, NotServed, Outcome, day_of, day_with}
+use Rattle.shop_commands.specs.Serve.{ServeWays}
 use Rattle.agency_rules.specs.Plans.{plain}
 use Rattle.shop_core.specs.Answer.Requests.{Asked}
-use Rattle.verifactu.specs.Days.{torn_of}
-use Rattle.verifactu.specs.Devices.{AllDevices, Further, LeftAgency, LeftFurther, NobodyCalled, around}
-use Rattle.verifactu.specs.Drain.{AllLeft, DrainEnds, FileDrained, first_moment, tells_moment}
-use Rattle.verifactu.specs.Draining.{IsSession, IsUnopened, spanning}
-use Rattle.verifactu.specs.Migrate.{disk_of_post}
-use Rattle.verifactu.specs.Opening.{NotOpened}
+use Rattle.open_shop.specs.Days.{torn_of}
+use Rattle.open_shop.specs.Devices.{AllDevices, LeftAgency, NobodyCalled, around}
+use Rattle.shop_commands.specs.Further.{Further, LeftFurther}
+use Rattle.shop_commands.specs.Drain.{AllLeft, DrainEnds, FileDrained, first_moment, tells_moment}
+use Rattle.open_shop.specs.Draining.{IsSession, IsUnopened, spanning}
+use Rattle.shop_commands.specs.Migrate.{disk_of_post}
+use Rattle.open_shop.specs.Opening.{NotOpened}
 use Rattle.verifactu.specs.Promise.{AgencyKept, BatchesKept, FileKept, FurtherKept, Grows, Promise, TillsGain, writes_for}
 use Rattle.chain_store.specs.Replies.{Replies}
 use Rattle.chain_store.specs.Readings.{IsComing, LeavesClock, readings_of}
 use Rattle.verifactu.specs.Running.{CommandEnds, OwnEnds}
-use Rattle.verifactu.specs.Scripts.{IsGoodScript}
-use Rattle.verifactu.specs.Scripts.ScriptedEnds.{ran, bad_line, read_fault, too_big, no_memory}
+use Rattle.shop_commands.specs.Scripts.{IsGoodScript}
+use Rattle.shop_commands.specs.Scripts.ScriptedEnds.{ran, bad_line, read_fault, too_big, no_memory}
 use Rattle.verifactu.specs.CommandLine.{AsksFor, IsAskedFor}
 use Rattle.verifactu.specs.declared.command_line.Command.{Command}
 use Rattle.verifactu.specs.declared.command_line.Command.TheVariants.{Chain, Day, Drain, Serve, Audit, Link, Check, Migrate, Follow, Guard}

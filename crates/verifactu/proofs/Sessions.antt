@@ -18,51 +18,22 @@ use Rattle.sender.specs.Turning.{Desk}
 use Rattle.sender.specs.declared.answers.DrainFault.{DrainFault}
 use Rattle.sender.specs.declared.answers.DrainFault.TheVariants as drain
 use Rattle.shop_core.specs.History.{noted, recs}
-use Rattle.verifactu.specs.Beside.{IsUnbegun}
+use Rattle.open_shop.specs.Beside.{IsUnbegun}
 use Rattle.shop_core.specs.Answer.Requests.{Asked}
-use Rattle.verifactu.specs.Day.{ItsAgency, Outcome as DayOutcome, day_with}
-use Rattle.verifactu.specs.Days.{torn_of}
-use Rattle.verifactu.specs.Devices.{Agencies, Around}
-use Rattle.verifactu.specs.Draining.{AreOfChain, IsSession, IsUnopened, OpensSession, Outcome, SaysNothingBlindly, spanning}
-use Rattle.verifactu.specs.Noting.{AreNoted, MissesLast, NotesSaid, NotesWhatIsSaid, all_said, lines_said}
+use Rattle.shop_commands.specs.Day.{ItsAgency, Outcome as DayOutcome, day_with}
+use Rattle.open_shop.specs.Days.{torn_of}
+use Rattle.open_shop.specs.Devices.{Agencies, Around}
+use Rattle.open_shop.specs.Draining.{AreOfChain, IsSession, IsUnopened, OpensSession, Outcome, SaysNothingBlindly, spanning}
+use Rattle.open_shop.specs.Noting.{AreNoted, MissesLast, NotesSaid, NotesWhatIsSaid, all_said, lines_said}
 use Rattle.verifactu.specs.Promise.{AgencyKept, BatchesKept, StaysOfChain}
 use Rattle.verifactu.specs.Promise.AgencyKept.{silent, in_session}
-use Rattle.verifactu.proofs.Batches.{runs_more}
-use Rattle.verifactu.proofs.Contrary.{recs_both}
-use Rattle.verifactu.proofs.Gaining.{noted_both}
+use Rattle.open_shop.proofs.Batches.{runs_more}
+use Rattle.open_shop.proofs.Contrary.{recs_both}
+use Rattle.open_shop.proofs.Saying.{first_said, noted_both}
 
 -- so do its messages
 no_batch : (plan : Plan) (count : ℕ) (old : List Message) → batches_in (old ++ Begun plan count ∷ []) ≡ batches_in old
 no_batch plan count old = filter_map-append batch_in old (Begun plan count ∷ []) ∙ append-nil (batches_in old)
-
-pub said_both : (xs ys : List Message) → all_said (xs ++ ys) ≡ all_said xs ++ all_said ys
-said_both [] ys = refl
-said_both (m ∷ xs) ys = ap (λ (l : List Line). lines_said m ++ l) (said_both xs ys)
-    ∙ sym (append_assoc (lines_said m) (all_said xs) (all_said ys))
-
-all_noted : (before after : List Line) (messages : List Message) → after ≡ before ++ all_said messages →
-    IsPrefix after (before ++ all_said messages)
-all_noted before after messages e = record { rest = []; is = sym e ∙ sym (append-nil after) }
-
-last_missing : (before after : List Line) (messages : List Message) → MissesLast before after messages →
-    IsPrefix after (before ++ all_said messages)
-last_missing before after messages h = record {
-  rest = all_said (h.last ∷ []);
-  is = ap (λ (ms : List Message). before ++ all_said ms) h.is
-      ∙ ap (λ (l : List Line). before ++ l) (said_both h.front (h.last ∷ []))
-      ∙ sym (append_assoc before (all_said h.front) (all_said (h.last ∷ [])))
-      ∙ ap (λ (l : List Line). l ++ all_said (h.last ∷ [])) (sym h.noted);
-}
-
--- however the sending ended, the lines that were noted are the first of those that were said
-pub first_said : (before after : List Line) (messages : List Message) (answer : Result (Unit {0}) DrainFault) →
-    AreNoted before after messages answer → IsPrefix after (before ++ all_said messages)
-first_said before after messages (Ok done) h = all_noted before after messages h
-first_said before after messages (Err (drain.Undelivered n r)) h = all_noted before after messages h
-first_said before after messages (Err (drain.Contradiction evidence)) h = last_missing before after messages h
-first_said before after messages (Err (drain.Store fault)) h = last_missing before after messages h
-first_said before after messages (Err drain.NoMemory) (inl h) = all_noted before after messages h
-first_said before after messages (Err drain.NoMemory) (inr h) = last_missing before after messages h
 
 -- what is of a chain is of each that it begins
 pub stays_of_chain : StaysOfChain

@@ -28,20 +28,21 @@ use Rattle.shop_core.specs.History.{noted, receipt, recs}
 use Rattle.shop_core.specs.Legal.{Legal}
 use Rattle.shop_core.specs.Answer.Requests.{Asked}
 use Rattle.shop_core.specs.declared.answer.Reply.TheVariants.{Again, Refused, Taken}
-use Rattle.verifactu.specs.Crashes.{StandsSince}
-use Rattle.verifactu.specs.Devices.{Agencies, AllDevices, Further, LeftFurther, NobodyCalled}
-use Rattle.verifactu.specs.Drain.{AgreesAtStart}
-use Rattle.verifactu.specs.Draining.{AreOfChain, SaysNothingBlindly}
-use Rattle.verifactu.specs.Follow.{IsFollowImage, OnlyFollows}
-use Rattle.verifactu.specs.Migrate.{OnePost, OnlyMoves, disk_of_post}
-use Rattle.verifactu.specs.Noting.{NotesWhatIsSaid}
+use Rattle.open_shop.specs.Crashes.{StandsSince}
+use Rattle.open_shop.specs.Devices.{Agencies, AllDevices, NobodyCalled}
+use Rattle.shop_commands.specs.Further.{Further, LeftFurther}
+use Rattle.shop_commands.specs.Drain.{AgreesAtStart}
+use Rattle.open_shop.specs.Draining.{AreOfChain, SaysNothingBlindly}
+use Rattle.shop_commands.specs.Follow.{IsFollowImage, OnlyFollows}
+use Rattle.shop_commands.specs.Migrate.{OnePost, OnlyMoves, disk_of_post}
+use Rattle.open_shop.specs.Noting.{NotesWhatIsSaid}
 use Rattle.chain_store.specs.Replies.{Replies}
-use Rattle.verifactu.specs.Scripts.{IsGoodScript}
-use Rattle.verifactu.specs.Tills.{asks_of, has_asks, own_of, tills_of}
+use Rattle.shop_commands.specs.Scripts.{IsGoodScript}
+use Rattle.open_shop.specs.Tills.{asks_of, has_asks, own_of, tills_of}
 use Rattle.verifactu.specs.CommandLine.{IsAskedFor}
 use Rattle.verifactu.specs.declared.command_line.Command.{Command}
 use Rattle.verifactu.specs.declared.command_line.Command.TheVariants.{Chain, Day, Drain, Serve, Migrate, Follow, Guard}
-use Rattle.verifactu.specs.declared.posts.Post.{Post}
+use Rattle.open_shop.specs.declared.posts.Post.{Post}
 
 -- the issuer whose file a command may write; the other commands write none
 abbrev pub writes_for : Option Command → Option (List ℕ)

@@ -12,16 +12,17 @@ use Rattle.file_commands.specs.Linking.{LinkEnds}
 use Rattle.file_commands.specs.Matching.{MatchesEnds}
 use Rattle.file_commands.specs.Statements.{StatementEnds}
 use Rattle.file_commands.specs.Output.{PrintEnds}
-use Rattle.verifactu.specs.Chain.{ChainEnds}
-use Rattle.verifactu.specs.Day.{DayEnds}
-use Rattle.verifactu.specs.Devices.{AllDevices, Further, LeftFurther, NobodyCalled, OnlyPrints, OnlyReads, OnlyReadsFile}
-use Rattle.verifactu.specs.Drain.{DrainEnds}
+use Rattle.shop_commands.specs.Chain.{ChainEnds}
+use Rattle.shop_commands.specs.Day.{DayEnds}
+use Rattle.open_shop.specs.Devices.{AllDevices, NobodyCalled, OnlyPrints, OnlyReads, OnlyReadsFile}
+use Rattle.shop_commands.specs.Further.{Further, LeftFurther}
+use Rattle.shop_commands.specs.Drain.{DrainEnds}
 use Rattle.file_commands.specs.Generate.{GenerateEnds}
 use Rattle.verifactu.specs.Help.{help_text, version_text}
-use Rattle.verifactu.specs.Follow.{FollowRan}
-use Rattle.verifactu.specs.Guard.{GuardRan}
-use Rattle.verifactu.specs.Migrate.{MigrateRan}
-use Rattle.verifactu.specs.Serve.{ServeEnds}
+use Rattle.shop_commands.specs.Follow.{FollowRan}
+use Rattle.shop_commands.specs.Guard.{GuardRan}
+use Rattle.shop_commands.specs.Migrate.{MigrateRan}
+use Rattle.shop_commands.specs.Serve.{ServeEnds}
 use Rattle.verifactu.specs.CommandLine.{IsAskedFor}
 use Rattle.verifactu.specs.declared.command_line.Command.{Command}
 use Rattle.verifactu.specs.declared.command_line.Command.TheVariants.{Chain, Day, Drain, Serve, Audit, Link, Check, Migrate, Follow, Guard}

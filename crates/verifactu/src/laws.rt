@@ -1,23 +1,9 @@
-// What all disks and all agencies of a kind have, and what the promise of a run comes to.
-ghost use Rattle.std.specs.Prelude.{IsTrue};
-ghost use Rattle.chain_disk.specs.OnDisk.{IsImage};
+// What the promise of a run comes to.
 ghost use Rattle.verifactu.specs.Promise.{DamagedIsNotOwn, ForeignIsNotOwn, IsFoundAgain, StaysOfChain};
 ghost use Rattle.verifactu.specs.Stopping.{FaultsOnce, TearsAtMostOne, TearsByAFault, TearsForTillOrSender, TearsWhereItRose};
 ghost use Rattle.verifactu.specs.Stopping.{TellsOfItsStop};
 
-use agency_port::Agency;
-use chain_disk::Disk;
 use shop_core::a_file_has_one_meaning;
-
-/// An agency that keeps its rules tells its lists.
-pub(crate) fn who_keeps_the_rules_tells<G: Agency>()
-    ensures { IsTrue G.keeps_rules → IsTrue G.tells }
-{}
-
-/// A disk as it reads is one of its images of now.
-pub(crate) fn what_a_disk_reads_is_an_image<D: Disk>()
-    ensures { (disk : _) → IsTrue D.tells → IsImage (D.told disk).now (D.told disk).content }
-{}
 
 /// A damaged file may be written for nobody, and one of another issuer not for this one: by `others` of the promise both are as
 /// they were after every run.

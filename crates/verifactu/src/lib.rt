@@ -3,45 +3,19 @@
 //! real ones and a practice agency; whoever has an adapter to the real service hands in that.
 #![tactic(auto)]
 
-mod beside;
-mod chain;
 mod command_line;
-mod day;
-mod drain;
-mod draining;
-mod ending;
-mod follow;
-mod guard;
-mod guarding;
 mod help;
 mod laws;
-mod means;
-mod migrate;
-mod opening;
-mod outside;
-mod posts;
-mod printed;
 mod running;
-mod scripts;
-mod sending;
-mod serve;
-mod serving;
-mod talking;
-mod tills;
 
-pub use chain::chain_cmd;
 pub use command_line::posts_needed;
-pub use day::day_cmd;
-pub use drain::drain_cmd;
 pub use file_commands::generate_cmd;
-pub use follow::follow_cmd;
-pub use guard::guard_cmd;
 pub use laws::{
     a_day_stops_once, a_strange_file_is_not_own, what_a_run_left_is_found_again,
     what_was_handed_over_stays_of_the_chain,
 };
-pub use migrate::migrate_cmd;
-pub use outside::Outside;
-pub use posts::{Post, Posts};
+pub use open_shop::{Post, Posts};
 pub use running::run;
-pub use serve::serve_cmd;
+pub use shop_commands::{
+    Outside, chain_cmd, day_cmd, drain_cmd, follow_cmd, guard_cmd, migrate_cmd, serve_cmd,
+};

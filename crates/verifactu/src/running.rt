@@ -2,35 +2,31 @@
 ghost use Rattle.std.specs.Prelude.{◌≡◌, length, map, string_bytes};
 ghost use Rattle.ports.specs.Sinks.{this_sink};
 ghost use Rattle.ports.specs.Sources.{this_source};
-ghost use Rattle.verifactu.specs.Devices.{disk_in, further, own_post, this_call};
+ghost use Rattle.open_shop.specs.Devices.{disk_in, this_call};
+ghost use Rattle.shop_commands.specs.Further.{further, own_post};
 ghost use Rattle.report.specs.Status.{status_of};
 ghost use Rattle.report.specs.declared.status.Detail.TheVariants as detail;
 ghost use Rattle.file_commands.specs.Output.{PrintEnds};
 ghost use Rattle.verifactu.specs.Promise.{Promise};
-ghost use Rattle.verifactu.specs.Follow.{FollowsPost};
-ghost use Rattle.verifactu.specs.Migrate.{MovesPost};
+ghost use Rattle.shop_commands.specs.Follow.{FollowsPost};
+ghost use Rattle.shop_commands.specs.Migrate.{MovesPost};
 ghost use Rattle.verifactu.specs.Running.{CommandEnds, EndsAs, OwnEnds};
 ghost use Rattle.verifactu.specs.CommandLine.{IsForIssuerOrOneFile, IsGuarding, IsOfOneFile, IsWithin, posts_needed};
 
-use crate::chain::chain_cmd;
 use crate::command_line::{Command, command_of};
-use crate::day::day_cmd;
-use crate::drain::drain_cmd;
-use crate::follow::follow_cmd;
-use crate::guard::guard_cmd;
 use crate::help::{help_text, version_text};
-use crate::laws::{what_a_disk_reads_is_an_image, who_keeps_the_rules_tells};
-use crate::migrate::migrate_cmd;
-use crate::outside::Outside;
-use crate::posts::{Post, Posts};
-use crate::serve::serve_cmd;
 use agency_port::Agency;
 use chain_disk::Disk;
 use file_commands::{
     audit_cmd, check_cmd, export_cmd, generate_cmd, link_cmd, matches_cmd, print, statement_cmd,
 };
+use open_shop::{Post, what_a_disk_reads_is_an_image, who_keeps_the_rules_tells};
 use ports::{Clock, Gate, Sink, Sleeper, Source};
 use report::{Detail, Ended};
+use shop_commands::{
+    Outside, chain_cmd, day_cmd, drain_cmd, follow_cmd, guard_cmd, migrate_cmd, put_further,
+    serve_cmd, take_further,
+};
 use shop_core::{a_file_has_one_meaning, legal_is_chained};
 use std::alloc::Global;
 use std::sync::Wait;
@@ -41,9 +37,9 @@ use std::thread::Threads;
 /// alone. `check FILE WORKERS` is `check_cmd` and `matches FILE` `matches_cmd`, which read the source beside it. `chain FILE NIF` is
 /// `chain_cmd` for this issuer, `day FILE NIF` `day_cmd`, `drain FILE NIF` `drain_cmd`, and `serve FILE NIF` `serve_cmd`;
 /// `migrate FILE NEW` is `migrate_cmd`, `follow FILE NEW` `follow_cmd`, and `guard FILE NIF NEW` `guard_cmd`, whose new file is that
-/// of the one further post; `generate N` is `generate_cmd`, whose
-/// disk is its own; `--help` and `--version` print their texts. FILE itself is the caller's: it names the disk. The outside has as
-/// many further posts as `posts_needed` says of the words. All its parts come back. How each command ends is in `ends`; what every run keeps of the file, of its tills and of the agency, in
+/// of the one further post; `generate N` is `generate_cmd`, whose disk is its own; `--help` and `--version` print their texts. FILE
+/// itself is the caller's: it names the disk. The outside has as many further posts as `posts_needed` says of the words. All its
+/// parts come back. How each command ends is in `ends`; what every run keeps of the file, of its tills and of the agency, in
 /// `promise`.
 pub fn run<S, K, D, C, Z, G, T, R>(
     rt: &R,
@@ -158,27 +154,15 @@ fn move_to_further<K: Sink, D: Disk + Drop, C: Drop, Z: Drop, G: Drop>(
     ensures same { D.told result.1.disk ≡ D.told outside.disk }
     ensures rest { (result.1.clock ≡ outside.clock) × (result.1.sleeper ≡ outside.sleeper) × (result.1.agency ≡ outside.agency) }
 {
-    let Outside {
-        disk,
-        clock,
-        sleeper,
-        agency,
-        more,
-    } = outside;
-    let mut posts = more.into_vec();
-    let Some(post) = posts.pop() else {
-        unreachable!()
-    };
-    let (ended, disk, new) = migrate_cmd(alloc, sink, disk, post.disk);
-    posts.push_reserved(Post { disk: new, ..post });
+    let (other, room) = take_further(outside.more);
+    let (ended, disk, new) = migrate_cmd(alloc, sink, outside.disk, other.disk);
+    let more = put_further(Post { disk: new, ..other }, room);
     (
         ended,
         Outside {
             disk,
-            clock,
-            sleeper,
-            agency,
-            more: Posts::of(posts),
+            more,
+            ..outside
         },
     )
 }
@@ -196,27 +180,21 @@ fn follow_by_further<K: Sink, D: Disk + Drop, C: Drop, Z: Drop, G: Drop>(
     ensures same { D.told result.1.disk ≡ D.told outside.disk }
     ensures rest { (result.1.clock ≡ outside.clock) × (result.1.sleeper ≡ outside.sleeper) × (result.1.agency ≡ outside.agency) }
 {
-    let Outside {
-        disk,
-        clock,
-        sleeper,
-        agency,
-        more,
-    } = outside;
-    let mut posts = more.into_vec();
-    let Some(post) = posts.pop() else {
-        unreachable!()
-    };
-    let (ended, disk, copy) = follow_cmd(alloc, sink, disk, post.disk);
-    posts.push_reserved(Post { disk: copy, ..post });
+    let (other, room) = take_further(outside.more);
+    let (ended, disk, copy) = follow_cmd(alloc, sink, outside.disk, other.disk);
+    let more = put_further(
+        Post {
+            disk: copy,
+            ..other
+        },
+        room,
+    );
     (
         ended,
         Outside {
             disk,
-            clock,
-            sleeper,
-            agency,
-            more: Posts::of(posts),
+            more,
+            ..outside
         },
     )
 }

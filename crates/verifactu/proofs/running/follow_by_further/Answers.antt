@@ -1,31 +1,27 @@
-use Rattle.std.proofs.Common.{◌∙◌, ◌∷◌, ◌++◌, [], List, ap, refl, sym}
-use Rattle.verifactu.specs.declared.posts.Post.{Post}
-use Rattle.verifactu.proofs.OnePosts.{only_one}
+use Rattle.std.proofs.Common.{refl}
+use Rattle.open_shop.specs.declared.posts.Post.{Post}
 use Rattle.verifactu.proofs.running.follow_by_further.Goals as goal
 
 pub returns-clause-follows : goal.returns-clause-follows
 returns-clause-follows g c =
-    let post = c.in-Some.post in
+    let post = c.take_further-other.result.0 in
     let after : Post g.row.D.Denot g.row.C.Denot g.row.Z.Denot g.row.G.Denot = record {
       disk = c.follow_cmd-ended.result.2;
       clock = post.clock;
       sleeper = post.sleeper;
       agency = post.agency;
     } in
-    let one = only_one c.args.outside.more c.pop.new.self.items post c.requires
-    (sym c.into_vec-posts.ensures ∙ c.in-Some.ensures.items) in
     record {
       only = record {
         post = post;
         after = after;
         posts = record {
-          one = one.1;
-          one_after = c.of.ensures ∙ c.push_reserved.ensures.items ∙
-              ap (λ (l : List (Post g.row.D.Denot g.row.C.Denot g.row.Z.Denot g.row.G.Denot)). l ++ after ∷ []) one.0;
-          clock = refl;
-          sleeper = refl;
-          agency = refl;
-        };
+              one = c.take_further-other.ensures.one;
+              one_after = c.put_further-more.ensures;
+              clock = refl;
+              sleeper = refl;
+              agency = refl;
+            };
         follows = c.follow_cmd-ended.ensures.follows;
       };
       ends = c.follow_cmd-ended.ensures.ends;

@@ -2,7 +2,8 @@ use Rattle.std.proofs.Common.{◌∙◌, Global, map, rules, string_bytes, ap, r
 use Rattle.ports.specs.Sinks.{this_sink}
 use Rattle.ports.specs.Sources.{this_source}
 use Rattle.verifactu.specs.CommandLine.{AsksFor}
-use Rattle.verifactu.specs.Devices.{Further, agency_desk, further, own_post, this_call}
+use Rattle.shop_commands.specs.Further.{Further, further, own_post}
+use Rattle.open_shop.specs.Devices.{agency_desk, this_call}
 use Rattle.verifactu.specs.declared.command_line.Command.{Command}
 use Rattle.verifactu.specs.declared.command_line.Command.TheVariants.{Follow, Migrate}
 use Rattle.verifactu.proofs.CommandLine.{guard_posts, within}

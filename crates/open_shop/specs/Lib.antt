@@ -1,0 +1,14 @@
+pub mod Devices
+pub mod Crashes
+pub mod Opening
+pub mod Steps
+pub mod Noting
+pub mod Draining
+pub mod Guarding
+pub mod Outcomes
+pub mod Started
+pub mod Days
+pub mod Beside
+pub mod Tills
+pub mod Works
+pub mod Talking

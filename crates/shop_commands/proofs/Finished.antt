@@ -1,0 +1,175 @@
+-- How a drain of a file ends.
+use Rattle.std.proofs.Common.{◌≡◌, ◌∙◌, ◌⊎◌, inl, inr, refl, sym, ap, subst, arith, ℕ, zero-add, ◌+◌, ◌-◌, ◌^◌, ◌<◌, ◌≤◌, List}
+use Rattle.std.proofs.Common.{Bool, true, IsTrue, Option, Some, None, Result, Ok, Err}
+use Rattle.ports.specs.Sinks.{FailedIn, OutputIs, Sinks, Wrote, WrotePart}
+use Rattle.ports.specs.declared.faults.Failed.{Failed}
+use Rattle.journal.specs.declared.faults.StoreFault.TheVariants as store
+use Rattle.chain_disk.specs.Disks.{DiskRose, Disks}
+use Rattle.chain_disk.specs.OnDisk.{OnDisk, LeavesOnly, synced}
+use Rattle.record_fields.specs.declared.versions.Version.{Version}
+use Rattle.record_codec.specs.declared.entry.Entry.{Entry}
+use Rattle.agency_rules.specs.declared.plans.Plan.{Plan}
+use Rattle.till_calls.specs.Sound.{IsLater}
+use Rattle.sender.specs.declared.answers.DrainFault.{DrainFault}
+use Rattle.sender.specs.declared.answers.DrainFault.TheVariants as drain
+use Rattle.sender.specs.declared.draining.TheConstants.{MAX_LINK_FAULTS}
+use Rattle.recovery.specs.Opening.{IsFound}
+use Rattle.script.specs.declared.scripts.Script.{Script}
+use Rattle.report.specs.declared.status.Detail.{Detail}
+use Rattle.report.specs.declared.status.Detail.TheVariants as detail
+use Rattle.open_shop.specs.Crashes.{StandsSince}
+use Rattle.chain_store.specs.Clocks.{Clocks, LeftClock}
+use Rattle.open_shop.specs.Devices.{Agencies, LeftSleeper, Sleepers}
+use Rattle.shop_commands.specs.Drain.{AgreesAtStart, AllLeft, FileDrainEnds, FileDrained, LeavesTime, NothingRose, ScriptDrainEnds}
+use Rattle.shop_commands.specs.Drain.{file_span, first_moment, tells_moment}
+use Rattle.open_shop.specs.Draining.{DiskSpan, DrainRunEnds, Outcome, Span, StoreDrainEnds, StoreDrains, drain_text, fault_end}
+use Rattle.open_shop.specs.Draining.{spanning}
+use Rattle.open_shop.specs.Draining.DrainRunEnds.{done, write_fault, undelivered, contradiction, disk_fault, no_memory}
+use Rattle.open_shop.specs.Opening.{NotOpened}
+use Rattle.shop_commands.proofs.Bytewise.{part_of_output}
+use Rattle.shop_commands.proofs.RunEnding.{not_opened_by, rose_opening, written_either}
+use Rattle.open_shop.proofs.Closing.{never_contrary, since_opening, undelivered_by}
+
+module _ {D G : Type 0} (version : Version) (issuer : List ℕ) (plan : Plan) (exact : Bool) (moment : ℕ) (s : Sinks) (k : Disks D) (a : Agencies G)
+    (start : List Entry) (o : Outcome)
+    (h : StoreDrains (StandsSince version issuer) a.begun plan version issuer (file_span k) (spanning start a.kind a.before
+    a.after exact moment o)) where
+  abbrev Failing : ℕ → ℕ → Type 0
+  Failing n r = (n < r) × (a.after.faults < 2 ^ 64 - 1 → a.before.faults + MAX_LINK_FAULTS ≤ a.after.faults)
+
+  eight_failed : (end : Detail) → DrainRunEnds o.answer (drain_text o) s end → (n r : ℕ) → end ≡ detail.Undelivered n r →
+      Failing n r
+  eight_failed end (undelivered m q e w) n r is =
+      let first : m ≡ n = cc in
+      let second : q ≡ r = cc in
+      let u : Failing m q = undelivered_by (StandsSince version issuer) a.begun plan version issuer (file_span k)
+      (spanning start a.kind a.before a.after exact moment o) h m q e in
+      subst (λ (x : ℕ). Failing x r) first (subst (λ (y : ℕ). Failing m y) second u)
+  eight_failed end _ n r is = absurd cc
+
+  completed : (end : Detail) → DrainRunEnds o.answer (drain_text o) s end → NothingRose s k a → IsTrue a.kind.keeps_rules →
+      AgreesAtStart a start → (end ≡ detail.Done) ⊎ (end ≡ detail.NoMemory)
+  completed end (done e w) none keeps agree = inl refl
+  completed end (no_memory w) none keeps agree = inr refl
+  completed end (write_fault e w) none keeps agree = absurd (none.sink w.risen)
+  completed end (undelivered n r e w) none keeps agree =
+      let u = undelivered_by (StandsSince version issuer) a.begun plan version issuer (file_span k)
+      (spanning start a.kind a.before a.after exact moment o) h n r e in
+      absurd (none.agency (λ below. let more = u.1 below in omega (arith, more)))
+  completed end (contradiction evidence e w) none keeps agree =
+      absurd (never_contrary (StandsSince version issuer) a.begun plan version issuer (file_span k)
+      (spanning start a.kind a.before a.after exact moment o) h keeps agree evidence e)
+  completed end (disk_fault e w) none keeps agree = absurd (none.disk (h.risen e))
+
+  pub file_drained : (end : Detail) → (IsTrue k.tells → IsFound version issuer start (k.told k.disk).content) →
+      DrainRunEnds o.answer (drain_text o) s end → FileDrained issuer plan exact moment s k a end
+  file_drained end found ends = record {
+    version = version;
+    start = start;
+    found = found;
+    outcome = o;
+    drains = h;
+    ends = ends;
+    undelivered = eight_failed end ends;
+    complete = completed end ends;
+  }
+
+disk_failed : {D G : Type 0} (issuer : List ℕ) (plan : Plan) (exact : Bool) (moment : ℕ) (s : Sinks) (k : Disks D)
+    (a : Agencies G) (end : Detail) (f : FileDrained issuer plan exact moment s k a end) → DrainRunEnds f.outcome.answer
+    (drain_text f.outcome) s end → end ≡ detail.DiskFault → DiskRose k
+disk_failed issuer plan exact moment s k a end f (disk_fault e w) is = f.drains.risen e
+disk_failed issuer plan exact moment s k a end f _ is = absurd cc
+
+pub drain_rose : {D G : Type 0} (issuer : List ℕ) (plan : Plan) (exact : Bool) (moment : ℕ) (s : Sinks) (k : Disks D)
+    (a : Agencies G) (end : Detail) → FileDrained issuer plan exact moment s k a end → end ≡ detail.DiskFault → DiskRose k
+drain_rose issuer plan exact moment s k a end f is = disk_failed issuer plan exact moment s k a end f f.ends is
+
+-- a drain of a file whose disk failed
+pub file_rose : {D G : Type 0} (issuer : List ℕ) (left : Type 0) (plan : Plan) (exact : Bool) (moment : ℕ) (s : Sinks)
+    (k : Disks D) (a : Agencies G) (end : Detail) → NotOpened issuer left s k end ⊎ FileDrained issuer plan exact moment s k a end
+    →
+    end ≡ detail.DiskFault → DiskRose k
+file_rose issuer left plan exact moment s k a end (inl h) is = rose_opening h.why k h.risen (sym h.ends ∙ is)
+file_rose issuer left plan exact moment s k a end (inr h) is = drain_rose issuer plan exact moment s k a end h is
+
+-- the drain of a store whose file was opened
+pub opened_drained : {D G : Type 0} (issuer own : List ℕ) (version : Version) (plan : Plan) (exact : Bool) (moment : ℕ)
+    (s : Sinks) (k : Disks D) (a : Agencies G) (start : List Entry) (since : OnDisk) (between : ℕ) (end : Detail) → own ≡ issuer →
+    (IsTrue k.tells → IsFound version issuer start (k.told k.disk).content) → (IsTrue k.tells → LeavesOnly (synced (k.told k.disk)) since
+    (IsFound version issuer start)) → k.faults k.disk ≤ between →
+    StoreDrainEnds a.begun plan version own start (record {
+      tells = k.tells;
+      since = since;
+      now = k.told k.disk_after;
+      faults = between;
+      faults_after = k.faults k.disk_after;
+    }) a.kind a.before a.after exact moment s end →
+    FileDrained issuer plan exact moment s k a end
+opened_drained issuer own version plan exact moment s k a start since between end same found any later h =
+    let at : DiskSpan = record {
+      tells = k.tells;
+      since = since;
+      now = k.told k.disk_after;
+      faults = between;
+      faults_after = k.faults k.disk_after;
+    } in
+    let e = subst (λ (n : List ℕ). StoreDrainEnds a.begun plan version n start at a.kind a.before a.after exact moment s end) same h in
+    let d : Span = spanning start a.kind a.before a.after exact moment e.0 in
+    file_drained version issuer plan exact moment s k a start e.0 (since_opening a.begun plan version issuer at d (synced (k.told k.disk))
+    (k.faults k.disk) e.1 any later) end found e.2
+
+module _ {D C Z G : Type 0} (issuer : List ℕ) (script : Script) (s : Sinks) (k : Disks D) (t : Clocks C) (z : Sleepers Z)
+    (a : Agencies G) (end : Detail) where
+  -- without a clock line
+  pub script_plain : script.clock ≡ None → FileDrainEnds issuer script.plan s k t z a end → ScriptDrainEnds issuer script s k t z
+      a end
+  script_plain none h = record {
+    ends = subst (λ (o : Option (ℕ × ℕ)). NotOpened issuer (AllLeft t z a) s k end ⊎ FileDrained issuer script.plan
+        (tells_moment o z) (first_moment o z) s k a end) (sym none) h.ends;
+    time = subst (λ (o : Option (ℕ × ℕ)). LeavesTime o t z) (sym none) h.clock;
+    risen = file_rose issuer (AllLeft t z a) script.plan z.tells (z.moment z.sleeper) s k a end h.ends;
+  }
+
+  -- with one
+  pub script_timed : {O P : Type 0} (line : ℕ × ℕ) (own : Clocks O) (leap : Sleepers P) → script.clock ≡ Some line →
+      leap.tells ≡ true → leap.moment leap.sleeper ≡ line.0 → LeftClock t → LeftSleeper z → FileDrainEnds issuer script.plan s k
+      own leap a end →
+      ScriptDrainEnds issuer script s k t z a end
+  script_timed line own leap some exact at clock sleeper h = record {
+    ends = subst (λ (o : Option (ℕ × ℕ)). NotOpened issuer (AllLeft t z a) s k end ⊎ FileDrained issuer script.plan
+        (tells_moment o z) (first_moment o z) s k a end) (sym some) (timed h.ends);
+    time = subst (λ (o : Option (ℕ × ℕ)). LeavesTime o t z) (sym some) (clock, sleeper);
+    risen = file_rose issuer (AllLeft own leap a) script.plan leap.tells (leap.moment leap.sleeper) s k a end h.ends;
+  }
+    where
+      timed : NotOpened issuer (AllLeft own leap a) s k end ⊎ FileDrained issuer script.plan leap.tells (leap.moment leap.sleeper)
+          s k a end → NotOpened issuer (AllLeft t z a) s k end ⊎ FileDrained issuer script.plan true line.0 s k a end
+      timed (inl n) = inl (not_opened_by (λ left. record {
+        clock = clock;
+        sleeper = sleeper;
+        agency = left.agency;
+      }) n)
+      timed (inr f) = inr (subst (λ (b : Bool). FileDrained issuer script.plan b line.0 s k a end) exact
+          (subst (λ (m : ℕ). FileDrained issuer script.plan leap.tells m s k a end) at f))
+
+pub either_part : (s : Sinks) (text : List ℕ) → Wrote s text ⊎ FailedIn s text → WrotePart s text
+either_part s text (inl whole) = part_of_output s text (Ok tt) whole
+either_part s text (inr failed) = failed.part
+
+-- the end of a drain that failed
+pub fault_ends : (fault : DrainFault) (text : List ℕ) (s : Sinks) → Wrote s text ⊎ FailedIn s text → DrainRunEnds (Err fault) text
+    s (fault_end fault)
+fault_ends (drain.Undelivered n r) text s w = undelivered n r refl w
+fault_ends (drain.Contradiction evidence) text s w = contradiction evidence refl w
+fault_ends (drain.Store store.DiskFault) text s w = disk_fault tt w
+fault_ends (drain.Store (store.Stopped faults)) text s w = disk_fault tt w
+fault_ends (drain.Store store.NoMemory) text s w = no_memory (either_part s text w)
+fault_ends drain.NoMemory text s w = no_memory (either_part s text w)
+
+pub answer_ends : (answer : Result (Unit {0}) DrainFault) (fault : DrainFault) (text : List ℕ) (s : Sinks)
+    (written : Result (Unit {0}) Failed) (end : Detail) → answer ≡ Err fault → end ≡ fault_end fault → OutputIs s text written →
+    DrainRunEnds answer text s end
+answer_ends answer fault text s written end is ends h =
+    subst (λ (r : Result (Unit {0}) DrainFault). DrainRunEnds r text s end) (sym is)
+    (subst (λ (d : Detail). DrainRunEnds (Err fault) text s d) (sym ends)
+    (fault_ends fault text s (written_either text s written h)))

@@ -1,0 +1,13 @@
+pub mod Bytewise
+pub mod RunEnding
+pub mod Finished
+pub mod ShopDays
+pub mod DayEnding
+pub mod DayTexts
+pub mod Speeches
+pub mod SpeechTexts
+pub mod ServeEnding
+pub mod OnePosts
+pub mod GuardEnding
+pub mod Copied
+pub mod Follows

@@ -1,0 +1,329 @@
+-- How a dialogue with the tills of a shop ends, and what the clause of `serve` says of the whole call.
+use Rattle.std.proofs.Common.{◌≡◌, ◌⊎◌, inl, inr, ℕ, ◌+◌, ◌-◌, ◌^◌, ◌<◌, ◌≤◌, List, [], ◌∷◌, ◌++◌, length, map, sym, ◌∙◌, ap}
+use Rattle.std.proofs.Common.{subst, refl, arith, Bool, true, false, IsTrue, Option, Some, None, Result, Ok, Err}
+use Rattle.std.specs.Prelude.{IsErrOf, drop}
+use Rattle.std.specs.Io.KnownBytes.{Consumes}
+use Rattle.std.specs.List.{AllByRecursion, list_any, range_with_len}
+use Rattle.agency_port.specs.declared.turns.Evidence.{Evidence}
+use Rattle.agency_rules.specs.Plans.{plain}
+use Rattle.chain_disk.specs.Disks.{DiskRose, this_disk}
+use Rattle.chain_disk.specs.OnDisk.{IsImage, LeavesNow, LeavesOnly, synced}
+use Rattle.chain_store.specs.Clocks.{Clocks, LeftClock, this_clock}
+use Rattle.chain_store.specs.Readings.{readings_of}
+use Rattle.chain_store.specs.Replies.{Replies, is_disk_fault, is_no_memory}
+use Rattle.counter.specs.Speech.{AreRepliesOf, ComesFirst, IsRead, IsWritten, Moment}
+use Rattle.counter.specs.declared.listener.Listener.{Listener}
+use Rattle.counter.specs.declared.speaking.SpeechEnd.{SpeechEnd}
+use Rattle.counter.specs.declared.speaking.SpeechEnd.TheVariants as speech
+use Rattle.dialogue.specs.declared.hear.Task.{Task}
+use Rattle.huella.specs.Linked.{Linked}
+use Rattle.ports.specs.Sinks.{Sinks, WroteNothing}
+use Rattle.ports.specs.Sources.{SourceRose, Sources}
+use Rattle.record_codec.specs.declared.entry.Entry.{Entry}
+use Rattle.record_codec.specs.declared.entry.TheConstants.{LAST_TILL}
+use Rattle.report.specs.Pieces.{chain_line}
+use Rattle.report.specs.declared.status.Detail.{Detail}
+use Rattle.report.specs.declared.status.Detail.TheVariants as detail
+use Rattle.sender.specs.Turning.{Desk}
+use Rattle.sender.specs.declared.answers.DrainFault.{DrainFault}
+use Rattle.sender.specs.declared.answers.DrainFault.TheVariants as drain
+use Rattle.sender.specs.declared.draining.TheConstants.{MAX_LINK_FAULTS}
+use Rattle.recovery.specs.Opening.{IsFound}
+use Rattle.shop_core.specs.File.Files.{StandsFor}
+use Rattle.shop_core.specs.History.{History, recs, noted}
+use Rattle.shop_core.specs.Rising.{SerialsRise}
+use Rattle.till_calls.specs.Root.{Parts, root_of}
+use Rattle.open_shop.specs.Beside.{IsUnbegun, ShowsLast}
+use Rattle.shop_commands.specs.Day.{Outcome, day_with}
+use Rattle.open_shop.specs.Days.{Day, TillReplies, all_replies}
+use Rattle.open_shop.specs.Devices.{Agencies, AllDevices, Around, LeftSleeper, Sleepers, StoreKind, around}
+use Rattle.shop_commands.specs.Drain.{AgreesAtStart, NothingRose}
+use Rattle.open_shop.specs.Draining.{IsDiskAnswer, OpensSession}
+use Rattle.open_shop.specs.Opening.{IsOpened}
+use Rattle.shop_commands.specs.Serve.{Closes, FileServe, ServeEnds, ServeWays, SpeechEnds, SpeechServed}
+use Rattle.open_shop.specs.Talking.{CounterRun, IsSpeech, Speech}
+use Rattle.shop_commands.specs.Serve.{printed, source_since}
+use Rattle.shop_commands.specs.Serve.SpeechEnds.{done, read_fault, write_fault, undelivered, contradiction, disk_fault, no_memory}
+use Rattle.open_shop.specs.Tills.{has_asks, own_of}
+use Rattle.shop_commands.proofs.RunEnding.{rose_opening}
+use Rattle.shop_commands.proofs.ShopDays.{IsDayOf, ShopDid, agency_by, crashes_by, day_facts, history_by, not_asked, rose_day, sender_by, tills_by}
+use Rattle.shop_commands.proofs.Speeches.{quiet, told_some}
+
+-- a dialogue on an opened file, and how it ended
+module _ {D C Z G : Type 0} (issuer : List ℕ) (clock : Option (ℕ × ℕ)) (s : Sources) (c : Around D C Z G) (x : Speech) (o : Outcome)
+    (f : IsDayOf issuer x.asks plain c o) (spoken : IsSpeech clock s o.tills x)
+    (are : map (λ (t : TillReplies). t.till) o.tills ≡ range_with_len 1 LAST_TILL) where
+  abbrev day : Day
+  day = day_with issuer x.asks None c o
+
+  abbrev Failing : ℕ → ℕ → Type 0
+  Failing n m = (n < m) × (c.agency.after.faults < 2 ^ 64 - 1 → c.agency.before.faults + MAX_LINK_FAULTS ≤ c.agency.after.faults)
+
+  abbrev Ends : Detail → Type 0
+  Ends how = SpeechEnds x.how x.replies o.answer (length (noted o.end)) (length (recs o.end))
+      (printed x.how x.text (chain_line (length (recs o.end)) (length (noted o.end)))) s c.sink how
+
+  failed : (how : Detail) → Ends how → (n m : ℕ) → how ≡ detail.Undelivered n m → Failing n m
+  failed how (undelivered a b all e w) n m is =
+      let lines : ℕ = length (noted o.end) in
+      let one : lines ≡ n = cc in
+      let two : length (recs o.end) ≡ m = cc in
+      subst (λ (i : ℕ). Failing i m) one (subst (λ (j : ℕ). Failing lines j) two (f.gives_up a b e))
+  failed how _ n m is = absurd cc
+
+  disk_rose : (list_any is_disk_fault x.replies ≡ true) ⊎ IsDiskAnswer o.answer → DiskRose c.disk
+  disk_rose some = rose_day day (c.disk.faults c.disk.disk) (c.disk.faults c.disk.disk_after) o.stop f.crashes.stop (by_till some)
+    where
+      by_till : (list_any is_disk_fault x.replies ≡ true) ⊎ IsDiskAnswer o.answer →
+          (list_any is_disk_fault (all_replies o.tills) ≡ true) ⊎ IsDiskAnswer o.answer
+      by_till (inl some) = inl (told_some is_disk_fault x.asks x.replies o.tills spoken.pairs spoken.of_tills are spoken.told some)
+      by_till (inr disk) = inr disk
+
+  completed : (how : Detail) → Ends how → (SourceRose s → ⊥) → NothingRose c.sink c.disk c.agency →
+      IsTrue c.agency.kind.keeps_rules → AgreesAtStart c.agency o.start → (how ≡ detail.Done) ⊎ (how ≡ detail.NoMemory)
+  completed how (done is all e same w) read none keeps agree = inl refl
+  completed how (no_memory w) read none keeps agree = inr refl
+  completed how (read_fault rose all e same w) read none keeps agree = absurd (read rose)
+  completed how (write_fault all e same w) read none keeps agree = absurd (none.sink w.risen)
+  completed how (undelivered n m all e w) read none keeps agree =
+      let u = f.gives_up n m e in
+      absurd (none.agency (λ below. let more = u.1 below in omega (arith, more)))
+  completed how (contradiction evidence all e w) read none keeps agree =
+      absurd ((f.agency.agreement keeps agree).no_contradiction evidence e)
+  completed how (disk_fault memory kept some w) read none keeps agree = absurd (none.disk (disk_rose some))
+
+  abbrev Shown : Evidence → Type 0
+  Shown evidence = ShowsLast o.end o.opened.ledger.messages c.agency.after.ledger.messages evidence
+
+  only_shown : (how : Detail) → Ends how → IsTrue c.agency.kind.tells → (evidence : Evidence) →
+      how ≡ detail.Contradiction evidence → Shown evidence
+  only_shown how (contradiction found all e w) says evidence is =
+      let same : found ≡ evidence = cc in
+      f.agency.sends.contrary says evidence (e ∙ ap (λ (v : Evidence). Err (drain.Contradiction v)) same)
+  only_shown how _ says evidence is = absurd cc
+
+  each_shown : (how : Detail) → Ends how → IsTrue c.agency.kind.tells → (evidence : Evidence) → Shown evidence →
+      (how ≡ detail.Contradiction evidence) ⊎ (how ≡ detail.NoMemory) ⊎ (how ≡ detail.DiskFault)
+  each_shown how ends says evidence shows = by_answer how ends (f.agency.sends.shown says evidence shows)
+    where
+      by_answer : (how : Detail) → Ends how → IsErrOf o.answer (drain.Contradiction evidence) ⊎ (o.answer ≡ Err drain.NoMemory) →
+          (how ≡ detail.Contradiction evidence) ⊎ (how ≡ detail.NoMemory) ⊎ (how ≡ detail.DiskFault)
+      by_answer how (done i all e same w) (inl is) = absurd (let v = sym e ∙ is in cc)
+      by_answer how (done i all e same w) (inr none) = absurd (let v = sym e ∙ none in cc)
+      by_answer how (read_fault i all e same w) (inl is) = absurd (let v = sym e ∙ is in cc)
+      by_answer how (read_fault i all e same w) (inr none) = absurd (let v = sym e ∙ none in cc)
+      by_answer how (write_fault all e same w) (inl is) = absurd (let v = sym e ∙ is in cc)
+      by_answer how (write_fault all e same w) (inr none) = absurd (let v = sym e ∙ none in cc)
+      by_answer how (undelivered n m all e w) (inl is) = absurd (let v = sym e ∙ is in cc)
+      by_answer how (undelivered n m all e w) (inr none) = absurd (let v = sym e ∙ none in cc)
+      by_answer how (contradiction found all e w) (inl is) = let v = sym e ∙ is in let same : found ≡ evidence = cc in
+          inl (ap (λ (v : Evidence). detail.Contradiction v) same)
+      by_answer how (contradiction found all e w) (inr none) = absurd (let v = sym e ∙ none in cc)
+      by_answer how (disk_fault memory kept some w) shown = inr (inr refl)
+      by_answer how (no_memory w) shown = inr (inl refl)
+
+  none_gained : (till : ℕ) → has_asks x.asks till ≡ false → own_of till (drop (length o.start) o.end) ≡ []
+  none_gained till none = elim (quiet day x.asks x.replies till o.tills none spoken.told f.served) [
+    | inl is ↦ is
+    | inr other ↦ f.others till other
+  ]
+
+  pub speech_done : (end : Detail) → Ends end → SpeechServed issuer None clock s c end
+  speech_done end ends = record {
+    speech = x;
+    outcome = o;
+    spoken = spoken;
+    history = f.history;
+    tills = record { are = are; served = f.served; others = none_gained };
+    crashes = f.crashes;
+    agency = f.agency;
+    ends = record {
+      cause = ends;
+      sender = record { undelivered = failed end ends; contrary = only_shown end ends; shown = each_shown end ends };
+      complete = completed end ends;
+    };
+    time = f.time;
+  }
+
+-- how far the source was read up to the first line that is answered
+pub came_read : (left now : Option (List ℕ)) (l : Listener) (first : Result Task SpeechEnd) → ComesFirst left now l first →
+    (taken : List ℕ) × Consumes left now taken
+came_read left now l (Ok task) h = (h.hears.read.taken, h.hears.read.consumed)
+came_read left now l (Err end) h = by_end end h.read
+  where
+    by_end : (how : SpeechEnd) → IsRead how left now h.lines → (taken : List ℕ) × Consumes left now taken
+    by_end speech.Ended r = (r.taken, r.consumed)
+    by_end speech.ReadFault r = (r.taken, r.consumed)
+    by_end speech.WriteFault r = (r.taken, r.consumed)
+    by_end speech.NoMemory r = (r.taken, r.consumed)
+    by_end speech.Stopped r = (r.taken, r.consumed)
+
+-- an opened file, before its dialogue and behind it
+module _ {D C Z G : Type 0} (h : StoreKind D C) (issuer : List ℕ) (disk : D) (old new : Parts D C) (z : Sleepers Z) (a : Agencies G)
+    (s : Sources) (k : Sinks) (clock : Option (ℕ × ℕ)) (is_opened : IsOpened issuer h disk old.clock old)
+    (reads : (d : D) → IsTrue h.tells → IsImage (h.told d).now (h.told d).content)
+    (rules_tell : IsTrue a.kind.keeps_rules → IsTrue a.kind.tells) where
+  abbrev pub opened_call : Around D C Z G
+  opened_call = record {
+    sink = k;
+    disk = this_disk h.tells h.told h.faults disk new.disk;
+    clock = this_clock h.coming old.clock new.clock;
+    sleeper = z;
+    agency = a;
+  }
+
+  abbrev first : List Entry
+  first = old.state.entries
+
+  -- there was no memory for its shop
+  pub not_begun : new ≡ old → IsUnbegun a.kind a.before a.after ⊎ OpensSession a.kind a.begun plain first a.before a.after →
+      WroteNothing k → LeftSleeper z → (taken : List ℕ) × Consumes s.left s.left_after taken →
+      FileServe issuer None clock s opened_call detail.NoMemory
+  not_begun same begun wrote left read = inl (record {
+    shop = not_asked h issuer [] plain disk new.disk old.clock new.clock z a old k is_opened reads rules_tell detail.NoMemory (record {
+      ends = refl;
+      wrote = wrote;
+      disk = ap (λ (p : Parts D C). p.disk) same;
+      clock = ap (λ (p : Parts D C). p.clock) same;
+      rest = left;
+    }) begun;
+    taken = read.0;
+    read = read.1;
+  })
+
+  module _ (desk : Desk) (opens : OpensSession a.kind a.begun plain first a.before desk) (answer : Result (Unit {0}) DrainFault)
+      (lacked : Bool) (how : SpeechEnd) (from now : Moment)
+      (run : CounterRun h (root_of h.told h.faults old) new clock from now a.kind desk a.after answer lacked how)
+      (linked : Linked old.state.issuer (recs new.state.entries)) (rising : (till : ℕ) → SerialsRise new.state.entries till) where
+    abbrev lines : ℕ
+    lines = length (noted new.state.entries)
+
+    abbrev records : ℕ
+    records = length (recs new.state.entries)
+
+    -- its lines were answered
+    pub talked : (closed : SpeechEnd) (end : Detail) → s ≡ source_since from.left from.source_faults now.left now.source_faults →
+        Closes how closed → IsWritten closed k (printed how run.speech.text (chain_line records lines)) →
+        ((began : SpeechEnd) (replies : Replies) (text : List ℕ) (s : Sources) (k : Sinks) → Closes began closed →
+        AreRepliesOf began replies → lacked ≡ list_any is_no_memory replies → (began ≡ speech.ReadFault → SourceRose s) →
+        IsWritten closed k text → SpeechEnds began replies answer lines records text s k end) →
+        FileServe issuer None clock s opened_call end
+    talked closed end same closes written ends =
+        let x = run.speech in
+        let did : ShopDid h x.asks a.kind desk a.after old new.disk new.clock = record {
+          new = new;
+          tills = run.tills;
+          answer = answer;
+          disk = refl;
+          clock = refl;
+          run = run.run;
+          linked = linked;
+          rising = rising;
+        } in
+        let facts = day_facts h issuer x.asks plain disk new.disk old.clock new.clock z a old k is_opened reads rules_tell desk opens did
+        in
+        let spoken : IsSpeech clock s run.tills x = subst (λ (v : Sources). IsSpeech clock v run.tills x) (sym same) run.spoken in
+        let closes' : Closes x.how closed = subst (λ (b : SpeechEnd). Closes b closed) (sym run.how_is) closes in
+        let written' : IsWritten closed k (printed x.how x.text (chain_line records lines)) =
+        subst (λ (b : SpeechEnd). IsWritten closed k (printed b x.text (chain_line records lines))) (sym run.how_is) written in
+        inr (speech_done issuer clock s opened_call x _ facts spoken run.are end
+        (ends x.how x.replies (printed x.how x.text (chain_line records lines)) s k closes' spoken.replies_are run.lacked_is
+        spoken.read_fault written'))
+
+-- what an opening left, said of the same store with another clock
+pub opened_with : {D C O : Type 0} (h : StoreKind D C) (coming : O → ℕ → Option ℕ) (issuer : List ℕ) (disk : D) (old : Parts D C)
+    (new : Parts D O) → new.state ≡ old.state → new.disk ≡ old.disk → IsOpened issuer h disk old.clock old →
+    IsOpened issuer (record { tells = h.tells; told = h.told; faults = h.faults; coming = coming }) disk new.clock new
+opened_with {D} {C} {O} h coming issuer disk old new same_state same_disk o = record {
+  issuer_is = ap (λ (v : History). v.issuer) same_state ∙ o.issuer_is;
+  clock_is = refl;
+  found = λ says. subst (λ (v : History). IsFound v.version issuer v.entries (h.told disk).content) (sym same_state) (o.found says);
+  any_moment = λ says.
+      subst (λ (d : D). LeavesOnly (synced (h.told disk)) (h.told d) (IsFound new.state.version issuer new.state.entries)) (sym same_disk)
+      (subst (λ (v : History). LeavesOnly (synced (h.told disk)) (h.told old.disk) (IsFound v.version issuer v.entries)) (sym same_state)
+      (o.any_moment says));
+  every_crash = λ says.
+      subst (λ (d : D). LeavesNow (h.told d) (StandsFor new.state.version issuer new.state.entries)) (sym same_disk)
+      (subst (λ (v : History). LeavesNow (h.told old.disk) (StandsFor v.version issuer v.entries)) (sym same_state) (o.every_crash says));
+  later = subst (λ (d : D). h.faults disk ≤ h.faults d) (sym same_disk) o.later;
+}
+
+-- the same end, said of a call whose clock line replaced clock and sleeper by these
+module _ {D C Z O P G : Type 0} (issuer : List ℕ) (said : Option (ℕ × ℕ)) (s : Sources) (line : ℕ × ℕ) (c : Around D C Z G)
+    (by : Clocks O) (with : Sleepers P)
+    (same : (k : ℕ) → by.coming by.clock k ≡ readings_of (Some line) (c.clock.coming c.clock.clock) k) (clock : LeftClock c.clock)
+    (sleeper : LeftSleeper c.sleeper) (end : Detail) where
+  abbrev pub own : Around D O P G
+  own = record { sink = c.sink; disk = c.disk; clock = by; sleeper = with; agency = c.agency }
+
+  pub serve_by_line : FileServe issuer None said s own end → FileServe issuer (Some line) said s c end
+  serve_by_line (inl h) = inl (record {
+    shop = record {
+      ends = h.shop.ends;
+      version = h.shop.version;
+      start = h.shop.start;
+      found = h.shop.found;
+      kept = h.shop.kept;
+      begun = h.shop.begun;
+      wrote = h.shop.wrote;
+      clock = clock;
+      sleeper = sleeper;
+    };
+    taken = h.taken;
+    read = h.read;
+  })
+  serve_by_line (inr h) =
+      let d : Day = day_with issuer h.speech.asks None own h.outcome in
+      let new : ℕ → Option ℕ = readings_of (Some line) (c.clock.coming c.clock.clock) in
+      inr (record {
+        speech = h.speech;
+        outcome = h.outcome;
+        spoken = h.spoken;
+        history = history_by d new same h.history;
+        tills = tills_by d new same (range_with_len 1 LAST_TILL) h.tills;
+        crashes = crashes_by d new same c.disk h.crashes;
+        agency = agency_by d new same plain c.agency c.disk h.agency;
+        ends = record {
+          cause = h.ends.cause;
+          sender = sender_by d new same c.agency.before end h.ends.sender;
+          complete = h.ends.complete;
+        };
+        time = (clock, sleeper);
+      })
+
+module _ {D C Z G : Type 0} (issuer : List ℕ) (line said : Option (ℕ × ℕ)) (s : Sources) (c : Around D C Z G) where
+  rose_served : (end : Detail) → SpeechServed issuer line said s c end → end ≡ detail.DiskFault → DiskRose c.disk
+  rose_served end h is = by_end end h.ends.cause is
+    where
+      x : Speech
+      x = h.speech
+
+      o : Outcome
+      o = h.outcome
+
+      rose : (list_any is_disk_fault x.replies ≡ true) ⊎ IsDiskAnswer o.answer → DiskRose c.disk
+      rose (inl some) = rose_day (day_with issuer x.asks line c o) (c.disk.faults c.disk.disk) (c.disk.faults c.disk.disk_after)
+          o.stop h.crashes.stop (inl (told_some is_disk_fault x.asks x.replies o.tills h.spoken.pairs h.spoken.of_tills h.tills.are
+          h.spoken.told some))
+      rose (inr disk) = rose_day (day_with issuer x.asks line c o) (c.disk.faults c.disk.disk) (c.disk.faults c.disk.disk_after)
+          o.stop h.crashes.stop (inr disk)
+
+      by_end : (how : Detail) → SpeechEnds x.how x.replies o.answer (length (noted o.end)) (length (recs o.end))
+          (printed x.how x.text (chain_line (length (recs o.end)) (length (noted o.end)))) s c.sink how →
+          how ≡ detail.DiskFault → DiskRose c.disk
+      by_end how (disk_fault memory kept some w) is = rose some
+      by_end how _ is = absurd cc
+
+  rose_file : (end : Detail) → FileServe issuer line said s c end → end ≡ detail.DiskFault → DiskRose c.disk
+  rose_file end (inl h) is = let none = sym h.shop.ends ∙ is in absurd cc
+  rose_file end (inr h) is = rose_served end h is
+
+-- the end of `serve`, in each of its ways
+pub serve_ends : {D C Z G : Type 0} (issuer : List ℕ) (a : AllDevices D C Z G) (end : Detail) → ServeWays issuer a end →
+    ServeEnds issuer a end
+serve_ends {D} {C} {Z} {G} issuer a end h = record { ends = h; risen = rises h }
+  where
+    rises : ServeWays issuer a end → end ≡ detail.DiskFault → DiskRose a.devices.disk
+    rises (inl h) is = let none = sym h.0 ∙ is in absurd cc
+    rises (inr (inl h)) is = rose_opening h.1.why a.devices.disk h.1.risen (sym h.1.ends ∙ is)
+    rises (inr (inr h)) is = rose_file issuer h.0 h.0 a.devices.source (around a) end h.1 is

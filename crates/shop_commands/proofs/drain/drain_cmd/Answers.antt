@@ -1,0 +1,32 @@
+use Rattle.std.proofs.Common.{rules, sym, ◌∙◌, subst, refl}
+use Rattle.ports.specs.Sinks.{this_sink}
+use Rattle.ports.specs.Sources.{this_source}
+use Rattle.report.specs.declared.status.Detail.{Detail}
+use Rattle.script.specs.declared.forms.Form.TheVariants.{NoCommands}
+use Rattle.script.specs.declared.scripts.Script.{Script}
+use Rattle.open_shop.specs.Devices.{LeftAll, around, this_call}
+use Rattle.shop_commands.specs.Drain.{DrainEnds, ScriptDrainEnds}
+use Rattle.shop_commands.specs.Scripts.ScriptedEnds.{ran}
+use Rattle.shop_commands.proofs.RunEnding.{unread}
+use Rattle.shop_commands.proofs.drain.drain_cmd.Goals as goal
+
+pub returns-in-Ok-clause-ends : goal.returns-in-Ok-clause-ends
+returns-in-Ok-clause-ends g c =
+    let run = c.drain_script-detail in
+    let all = this_call (this_source g.S.Source.left g.S.Source.faults c.args.source.now c.read_source.new.source)
+    (this_sink g.K.Sink.taken g.K.Sink.faults c.args.sink.now run.new.sink) g.D.Disk g.C.Clock g.Z.Sleeper g.G.Agency
+    c.args.post run.result.1 in
+    subst (λ (d : Detail). DrainEnds c.args.issuer.now all d) (sym c.of-in-Ok.ensures.detail)
+    (ran c.in-Ok.script run.result.0 c.in-Ok.ensures run.ensures)
+
+pub returns-in-Err-clause-ends : goal.returns-in-Err-clause-ends
+returns-in-Err-clause-ends g c =
+    let issuer = c.args.issuer.now in
+    let out = c.args.post in
+    let all = this_call (this_source g.S.Source.left g.S.Source.faults c.args.source.now c.read_source.new.source)
+    (this_sink g.K.Sink.taken g.K.Sink.faults c.args.sink.now c.args.sink.now) g.D.Disk g.C.Clock g.Z.Sleeper g.G.Agency out
+    out in
+    subst (λ (d : Detail). DrainEnds issuer all d) (sym (c.of.ensures.detail ∙ c.detail.ensures))
+    (unread NoCommands all.devices.source (LeftAll (around all)) (λ (script : Script) (how : Detail).
+    ScriptDrainEnds issuer script all.devices.sink all.devices.disk all.devices.clock all.sleeper all.agency how) c.in-Err.fault
+    c.in-Err.ensures (record { wrote = search rules; disk = refl; clock = refl; sleeper = refl; agency = refl }))

@@ -1,0 +1,125 @@
+use Rattle.std.proofs.Common.{◌≡◌, ◌⊎◌, ◌∙◌, inl, ℕ, List, length, refl, sym, subst, All, OnOk}
+use Rattle.std.specs.Int.{IsInRange}
+use Rattle.std.specs.List.{list_any}
+use Rattle.agency_rules.specs.Plans.{plain}
+use Rattle.agency_rules.specs.declared.plans.Plan.{Plan}
+use Rattle.chain_store.specs.Replies.{Replies, is_no_memory}
+use Rattle.counter.specs.Speech.{AreRepliesOf, IsWritten, clock_first, moment_of, moment_since}
+use Rattle.counter.specs.declared.speaking.SpeechEnd.{SpeechEnd}
+use Rattle.counter.specs.declared.speaking.SpeechEnd.TheVariants as speech
+use Rattle.file_commands.proofs.Bytewise.{took_nothing}
+use Rattle.ports.specs.Sinks.{Sinks, this_sink}
+use Rattle.ports.specs.Sources.{SourceRose, Sources}
+use Rattle.report.specs.Pieces.{chain_line}
+use Rattle.shop_core.specs.History.{History, noted, recs}
+use Rattle.till_calls.specs.Root.{Root, parts_of}
+use Rattle.open_shop.specs.Beside.{IsUnbegun}
+use Rattle.open_shop.specs.Devices.{agency_desk, agency_in, agency_kind, sleeper_in, store_kind}
+use Rattle.open_shop.specs.Draining.{OpensSession}
+use Rattle.shop_commands.specs.Serve.{Closes, SpeechEnds, post_with, printed, source_since}
+use Rattle.open_shop.specs.Talking.{CounterRun}
+use Rattle.open_shop.proofs.AllTills.{all_within}
+use Rattle.shop_commands.proofs.ServeEnding.{came_read, not_begun, talked}
+use Rattle.shop_commands.proofs.serve.serve_opened.Goals as goal
+
+pub returns-in_default : goal.returns-in_default
+returns-in_default g c = λ issuer disk left faults is_opened comes later cause.
+    let o = c.args.opened in
+    let p = parts_of o.store in
+    let old = post_with disk p o.sleeper o.agency in
+    let new = post_with p.disk p o.sleeper o.agency in
+    let rest = g.S.Source.left c.args.source.now in
+    not_begun (store_kind g.D.Disk g.C.Clock) issuer disk p p (sleeper_in g.Z.Sleeper old new) (agency_in g.G.Agency old new)
+    (source_since left faults rest (g.S.Source.faults c.args.source.now))
+    (this_sink g.K.Sink.taken g.K.Sink.faults c.args.sink.now c.args.sink.now) (clock_first c.args.first.now) is_opened
+    c.what_a_disk_reads_is_an_image.ensures c.who_keeps_the_rules_tells.ensures refl
+    (inl (record { lists = λ tells. refl; faults = refl })) (took_nothing (g.K.Sink.taken c.args.sink.now)) refl
+    (came_read left rest c.args.listener c.args.first.now comes)
+
+pub returns-in_default-with_capacity : goal.returns-in_default-with_capacity
+returns-in_default-with_capacity g c = λ issuer disk left faults is_opened comes later cause.
+    let o = c.args.opened in
+    let p = parts_of o.store in
+    let old = post_with disk p o.sleeper o.agency in
+    let new = post_with p.disk p o.sleeper o.agency in
+    let rest = g.S.Source.left c.args.source.now in
+    not_begun (store_kind g.D.Disk g.C.Clock) issuer disk p p (sleeper_in g.Z.Sleeper old new) (agency_in g.G.Agency old new)
+    (source_since left faults rest (g.S.Source.faults c.args.source.now))
+    (this_sink g.K.Sink.taken g.K.Sink.faults c.args.sink.now c.args.sink.now) (clock_first c.args.first.now) is_opened
+    c.what_a_disk_reads_is_an_image.ensures c.who_keeps_the_rules_tells.ensures refl
+    (inl (record { lists = λ tells. refl; faults = refl })) (took_nothing (g.K.Sink.taken c.args.sink.now)) refl
+    (came_read left rest c.args.listener c.args.first.now comes)
+
+pub begin-requires-clause-numbers : goal.begin-requires-clause-numbers
+begin-requires-clause-numbers g c =
+    subst (λ (l : List ℕ). All (IsInRange 1 64) l) (sym (c.deref.ensures.value ∙ c.in-Ok.ensures)) all_within
+
+pub returns-in-Err : goal.returns-in-Err
+returns-in-Err g c = λ issuer disk left faults is_opened comes later cause.
+    let o = c.args.opened in
+    let e = c.in-Err.opened in
+    let p = parts_of o.store in
+    let then = parts_of e.store in
+    let old = post_with disk p o.sleeper o.agency in
+    let new = post_with then.disk then e.sleeper e.agency in
+    let kind = agency_kind g.G.Agency in
+    let refused = c.in-Err.ensures.refused in
+    let begun = subst (λ (q : Plan). IsUnbegun kind (agency_desk g.G.Agency o.agency) (agency_desk g.G.Agency e.agency)
+    ⊎ OpensSession kind g.G.Agency.begun q p.state.entries (agency_desk g.G.Agency o.agency) (agency_desk g.G.Agency e.agency))
+    c.plain.ensures refused.2 in
+    let rest = g.S.Source.left c.args.source.now in
+    not_begun (store_kind g.D.Disk g.C.Clock) issuer disk p then (sleeper_in g.Z.Sleeper old new) (agency_in g.G.Agency old new)
+    (source_since left faults rest (g.S.Source.faults c.args.source.now))
+    (this_sink g.K.Sink.taken g.K.Sink.faults c.args.sink.now c.args.sink.now) (clock_first c.args.first.now) is_opened
+    c.what_a_disk_reads_is_an_image.ensures c.who_keeps_the_rules_tells.ensures refused.0 begun
+    (took_nothing (g.K.Sink.taken c.args.sink.now)) refused.1
+    (came_read left rest c.args.listener c.args.first.now comes)
+
+pub speech_end-detail-requires : goal.speech_end-detail-requires
+speech_end-detail-requires g c =
+    let f = c.requires.first in
+    let run = c.talk-opened.ensures.run f.left f.faults f.comes f.later f.cause in
+    record {
+      counts = subst (λ (h : History). OnOk c.talk-opened.result.answer (length (noted h.entries) ≡ length (recs h.entries)))
+          (sym c.state-in-Ok-begin.ensures) run.run.all_noted;
+    }
+
+pub returns-in-Ok-begin : goal.returns-in-Ok-begin
+returns-in-Ok-begin g c = λ issuer disk left faults is_opened comes later cause.
+    let o = c.args.opened in
+    let p = parts_of o.store in
+    let b = c.in-Ok-begin.begun in
+    let begun = c.in-Ok-begin.ensures in
+    let t = c.talk-opened.result in
+    let then = parts_of t.opened.store in
+    let old = post_with disk p o.sleeper o.agency in
+    let new = post_with then.disk then t.opened.sleeper t.opened.agency in
+    let kind = agency_kind g.G.Agency in
+    let desk = agency_desk g.G.Agency b.agency in
+    let after = agency_desk g.G.Agency t.opened.agency in
+    let clock = clock_first c.args.first.now in
+    let from = moment_since left faults (g.K.Sink.taken c.args.sink.now) (g.K.Sink.faults c.args.sink.now) in
+    let now = moment_of g.S.Source.left g.S.Source.faults g.K.Sink.taken g.K.Sink.faults c.talk-opened.new.source
+    c.talk-opened.new.sink in
+    let h = store_kind g.D.Disk g.C.Clock in
+    let run = subst (λ (r : Root g.row.C.Denot). CounterRun h r then clock from now kind desk after t.answer t.lacked t.how)
+    begun.shop.root (c.talk-opened.ensures.run left faults comes later cause) in
+    let opens = subst (λ (q : Plan). OpensSession kind g.G.Agency.begun q p.state.entries (agency_desk g.G.Agency o.agency) desk)
+    c.plain.ensures begun.session in
+    let closed = c.close_speech-closed.result in
+    let end = c.speech_end-detail.result in
+    let k = this_sink g.K.Sink.taken g.K.Sink.faults c.args.sink.now c.close_speech-closed.new.sink in
+    let written = subst (λ (v : History). IsWritten closed k (printed t.how run.speech.text (chain_line (length (recs v.entries))
+    (length (noted v.entries))))) c.state.ensures
+    (c.close_speech-closed.ensures.printed from.taken from.sink_faults run.speech.text run.written run.sink_later) in
+    let Comes : History → Type 0 = λ v. (began : SpeechEnd) (replies : Replies) (text : List ℕ) (s : Sources) (k : Sinks) →
+    Closes began closed → AreRepliesOf began replies → t.lacked ≡ list_any is_no_memory replies →
+    (began ≡ speech.ReadFault → SourceRose s) → IsWritten closed k text →
+    SpeechEnds began replies t.answer (length (noted v.entries)) (length (recs v.entries)) text s k end in
+    let ends = subst (λ (v : History). Comes v) c.state-in-Ok-begin.ensures c.speech_end-detail.ensures in
+    talked h issuer disk p then (sleeper_in g.Z.Sleeper old new) (agency_in g.G.Agency old new)
+    (source_since left faults (g.S.Source.left c.talk-opened.new.source) (g.S.Source.faults c.talk-opened.new.source)) k clock
+    is_opened c.what_a_disk_reads_is_an_image.ensures c.who_keeps_the_rules_tells.ensures desk opens t.answer t.lacked t.how from now
+    run (c.legal_is_chained.ensures.linked p.state.version p.state.issuer then.state.entries run.run.sound.legal)
+    (λ till. c.legal_is_chained.ensures.rising p.state.version p.state.issuer then.state.entries till run.run.sound.legal)
+    closed end refl c.close_speech-closed.ensures.closes written ends

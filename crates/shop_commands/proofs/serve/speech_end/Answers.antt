@@ -1,0 +1,26 @@
+use Rattle.std.proofs.Common.{◌≡◌, ◌∙◌, length, false, sym, subst}
+use Rattle.std.specs.List.{list_any}
+use Rattle.chain_store.specs.Replies.{is_no_memory}
+use Rattle.report.specs.declared.status.Detail.{Detail}
+use Rattle.shop_core.specs.History.{noted, recs}
+use Rattle.open_shop.specs.Beside.{sender_lacks_memory}
+use Rattle.shop_commands.specs.Serve.{SpeechEnds}
+use Rattle.shop_commands.specs.Serve.SpeechEnds.{no_memory}
+use Rattle.shop_commands.proofs.SpeechTexts.{ended_so, some_written}
+use Rattle.shop_commands.proofs.serve.speech_end.Goals as goal
+
+pub returns-then-lacked : goal.returns-then-lacked
+returns-then-lacked c = λ began replies text s k closes are lacked rose w. no_memory (some_written c.args.how k text w)
+
+pub returns-then-sender_lacks_memory : goal.returns-then-sender_lacks_memory
+returns-then-sender_lacks_memory c = λ began replies text s k closes are lacked rose w.
+    no_memory (some_written c.args.how k text w)
+
+pub returns : goal.returns
+returns c = λ began replies text s k closes are lacked rose w.
+    let n = length (noted c.args.state.now.entries) in
+    let r = length (recs c.args.state.now.entries) in
+    let memory : list_any is_no_memory replies ≡ false = sym lacked ∙ c.if-lacked.false in
+    let sender : sender_lacks_memory c.args.sent.now ≡ false = sym c.sender_lacks_memory.ensures ∙ c.if-sender_lacks_memory.false in
+    subst (λ (d : Detail). SpeechEnds began replies c.args.sent.now n r text s k d) (sym c.end_of.ensures)
+    (ended_so began replies c.args.sent.now n r text s k memory sender c.args.how c.requires.counts closes are rose w)

@@ -1,0 +1,182 @@
+-- How `day` ends.
+use Rattle.std.specs.Prelude.{◌≡◌, ◌⊎◌, ◌<◌, ◌≤◌, ◌+◌, ◌-◌, ◌^◌, ℕ, false, List, [], ◌∷◌, ◌++◌, drop, flat_map, length, map}
+use Rattle.std.specs.Prelude.{IsTrue, Option, Result}
+use Rattle.std.specs.List.{AllByRecursion}
+use Rattle.record_fields.specs.declared.versions.Version.{Version}
+use Rattle.ports.specs.Sinks.{WroteNothing}
+use Rattle.chain_disk.specs.OnDisk.{LeavesNow, synced}
+use Rattle.chain_disk.specs.Disks.{Disks, DiskRose}
+use Rattle.huella.specs.Linked.{Linked}
+use Rattle.record_codec.specs.declared.entry.Entry.{Entry}
+use Rattle.shop_core.specs.Answer.Requests.{Asked}
+use Rattle.shop_core.specs.History.{recs, noted}
+use Rattle.shop_core.specs.Legal.{Legal}
+use Rattle.shop_core.specs.Rising.{SerialsRise}
+use Rattle.agency_rules.specs.declared.plans.Plan.{Plan}
+use Rattle.agency_port.specs.declared.turns.Evidence.{Evidence}
+use Rattle.script.specs.declared.forms.Form.TheVariants.{Full}
+use Rattle.script.specs.declared.scripts.Script.{Script}
+use Rattle.sender.specs.Turning.{Desk}
+use Rattle.sender.specs.declared.answers.DrainFault.{DrainFault}
+use Rattle.sender.specs.declared.draining.TheConstants.{MAX_LINK_FAULTS}
+use Rattle.recovery.specs.Opening.{IsFound}
+use Rattle.report.specs.Answers.{answers_text}
+use Rattle.report.specs.Listing.{listing_text}
+use Rattle.report.specs.declared.answers.AnswerLine.{AnswerLine}
+use Rattle.report.specs.declared.answers.AnswerLine.TheVariants.{Saw}
+use Rattle.report.specs.declared.status.Detail.{Detail}
+use Rattle.report.specs.declared.status.Detail.TheVariants as detail
+use Rattle.shop_core.specs.Prefix.{IsPrefix}
+use Rattle.open_shop.specs.Beside.{DayRunEnds, IsUnbegun, SendsBeside, ShowsLast, StaysAgreed}
+use Rattle.chain_store.specs.Crashes.{Kept}
+use Rattle.open_shop.specs.Crashes.{StandsSince}
+use Rattle.open_shop.specs.Days.{Day, Stop, TillReplies, all_replies, torn_of}
+use Rattle.chain_store.specs.Clocks.{LeftClock}
+use Rattle.open_shop.specs.Devices.{Agencies, AllDevices, Around, LeftAll, LeftSleeper, around}
+use Rattle.shop_commands.specs.Drain.{AgreesAtStart, AllLeft, LeavesTime, NothingRose}
+use Rattle.open_shop.specs.Draining.{AgreesInFile, OpensSession}
+use Rattle.open_shop.specs.Opening.{NotOpened}
+use Rattle.shop_commands.specs.Printed.{answers}
+use Rattle.chain_store.specs.Readings.{readings_of}
+use Rattle.shop_commands.specs.Scripts.{ScriptedEnds}
+use Rattle.open_shop.specs.Tills.{StopIs, TillServed, asks_of, has_asks, own_of, tills_of}
+
+-- what is printed of a till: the answers to its asks in line order, and how much it saw
+abbrev pub till_lines : List Asked → TillReplies → List AnswerLine
+till_lines asks t = answers (asks_of t.till asks) t.replies ++ Saw t.till t.saw ∷ []
+
+-- what is printed of a day: the lines of each till, then the listing and the chain line
+abbrev pub day_text : List Asked → List TillReplies → List Entry → List ℕ
+day_text asks tills entries = answers_text (flat_map (till_lines asks) tills) ++ listing_text entries
+
+-- what comes of a day
+pub record Outcome : Type 0 where
+  pub version : Version
+  pub start : List Entry
+  pub end : List Entry
+  pub stop : Option Stop
+  pub tills : List TillReplies
+  pub opened : Desk
+  pub answer : Result (Unit {0}) DrainFault
+
+-- a day with these asks for this issuer, by this clock line, of which this came
+abbrev pub day_with : {D C Z G : Type 0} → List ℕ → List Asked → Option (ℕ × ℕ) → Around D C Z G → Outcome → Day
+day_with issuer asks line c o = record {
+  issuer = issuer;
+  version = o.version;
+  asks = asks;
+  coming = readings_of line (c.clock.coming c.clock.clock);
+  start = o.start;
+  end = o.end;
+  stop = o.stop;
+  tills = o.tills;
+  kind = c.agency.kind;
+  opened = o.opened;
+  after = c.agency.after;
+  answer = o.answer;
+}
+
+-- the day of a script
+abbrev pub day_of : {D C Z G : Type 0} → List ℕ → Script → Option (ℕ × ℕ) → Around D C Z G → Outcome → Day
+day_of issuer script line c o = day_with issuer script.asks line c o
+
+-- the history: it goes on from the one at the start, and is legal
+pub record HistoryGoesOn (d : Day) : Type 0 where
+  pub begins : IsPrefix d.start d.end
+  pub legal : Legal d.version d.issuer d.end
+  pub linked : Linked d.issuer (recs d.end)
+  pub rising : (till : ℕ) → SerialsRise d.end till
+
+-- Each till of these numbers has a till run of its own asks in line order, and its records since the start are those that it was
+-- told as taken. A till that asked for nothing has no record since the start.
+pub record EachTillOf (numbers : List ℕ) (d : Day) : Type 0 where
+  pub are : map (λ (t : TillReplies). t.till) d.tills ≡ numbers
+  pub served : AllByRecursion (TillServed d) d.tills
+  pub others : (till : ℕ) → has_asks d.asks till ≡ false → own_of till (drop (length d.start) d.end) ≡ []
+
+-- the tills are those that ask for anything
+abbrev pub EachTill : Day → Type 0
+EachTill d = EachTillOf (tills_of d.asks) d
+
+-- The file stood for the history at the start. Each crash since its opening began leaves a front of the history at the end, or of
+-- that with the entry of the stop.
+pub record EachCrash {D : Type 0} (d : Day) (k : Disks D) : Type 0 where
+  pub found : IsTrue k.tells → IsFound d.version d.issuer d.start (k.told k.disk).content
+  pub stop : StopIs d (k.faults k.disk) (k.faults k.disk_after) d.stop
+  pub kept : IsTrue k.tells →
+      Kept (StandsSince d.version d.issuer d.start d.end (torn_of d.stop)) d.version d.issuer d.end (torn_of d.stop) (synced (k.told k.disk))
+      (k.told k.disk_after)
+
+-- One session with the agency was opened, with the plan and the pairs noted in the history at the start, and in it one new sender
+-- sent. Where shop and agency agreed they still do, also with the history of each file that a crash now leaves.
+pub record ItsAgency {D G : Type 0} (d : Day) (plan : Plan) (a : Agencies G) (k : Disks D) : Type 0 where
+  pub opens : OpensSession d.kind a.begun plan d.start a.before d.opened
+  pub sends : SendsBeside d
+  pub agreement : IsTrue d.kind.keeps_rules → AgreesAtStart a d.start → StaysAgreed d
+  pub images : IsTrue k.tells → StaysAgreed d → LeavesNow (k.told k.disk_after) (AgreesInFile d.version d.issuer d.after)
+
+-- what an end tells of the sender, whose agency was at this desk before the call
+pub record TellsOfSender (d : Day) (before : Desk) (end : Detail) : Type 0 where
+  -- it is undelivered only where lines are missing and the agency failed eight times
+  pub undelivered : (noted_count records_count : ℕ) → end ≡ detail.Undelivered noted_count records_count →
+      (noted_count < records_count) × (d.after.faults < 2 ^ 64 - 1 → before.faults + MAX_LINK_FAULTS ≤ d.after.faults)
+  -- where the agency tells its messages it is a contradiction exactly where this call's last one is a consultation that shows it,
+  -- unless memory was wanting or the disk failed
+  pub contrary : IsTrue d.kind.tells → (evidence : Evidence) → end ≡ detail.Contradiction evidence →
+      ShowsLast d.end d.opened.ledger.messages d.after.ledger.messages evidence
+  pub shown : IsTrue d.kind.tells → (evidence : Evidence) →
+      ShowsLast d.end d.opened.ledger.messages d.after.ledger.messages evidence →
+      (end ≡ detail.Contradiction evidence) ⊎ (end ≡ detail.NoMemory) ⊎ (end ≡ detail.DiskFault)
+
+-- how it ends
+pub record EndsAsServed {D C Z G : Type 0} (d : Day) (c : Around D C Z G) (end : Detail) : Type 0 where
+  pub cause : DayRunEnds (all_replies d.tills) d.answer (length (noted d.end)) (length (recs d.end)) (day_text d.asks d.tills d.end)
+      c.sink end
+  pub sender : TellsOfSender d c.agency.before end
+  -- where no device fails and the agency keeps its rules and agrees, it is done, or memory was wanting
+  pub complete : NothingRose c.sink c.disk c.agency → IsTrue d.kind.keeps_rules → AgreesAtStart c.agency d.start →
+      (end ≡ detail.Done) ⊎ (end ≡ detail.NoMemory)
+
+-- the file was opened, and the tills asked beside each other and beside the sender
+pub record DayServed {D C Z G : Type 0} (issuer : List ℕ) (script : Script) (line : Option (ℕ × ℕ)) (c : Around D C Z G)
+    (end : Detail) : Type 0 where
+  pub outcome : Outcome
+  pub history : HistoryGoesOn (day_of issuer script line c outcome)
+  pub tills : EachTill (day_of issuer script line c outcome)
+  pub crashes : EachCrash (day_of issuer script line c outcome) c.disk
+  pub agency : ItsAgency (day_of issuer script line c outcome) script.plan c.agency c.disk
+  pub ends : EndsAsServed (day_of issuer script line c outcome) c end
+  pub time : LeavesTime line c.clock c.sleeper
+
+-- the file was opened, and there was no memory for the day: nothing was asked, nothing printed and nothing handed over, and each
+-- crash since opening began leaves the history that the file stood for; the agency's session may have been opened
+pub record NotServed {D C Z G : Type 0} (issuer : List ℕ) (plan : Plan) (c : Around D C Z G) (end : Detail) : Type 0 where
+  pub ends : end ≡ detail.NoMemory
+  pub version : Version
+  pub start : List Entry
+  pub found : IsTrue c.disk.tells → IsFound version issuer start (c.disk.told c.disk.disk).content
+  pub kept : IsTrue c.disk.tells →
+      Kept (StandsSince version issuer start start []) version issuer start [] (synced (c.disk.told c.disk.disk)) (c.disk.told c.disk.disk_after)
+  pub begun : IsUnbegun c.agency.kind c.agency.before c.agency.after
+      ⊎ OpensSession c.agency.kind c.agency.begun plan start c.agency.before c.agency.after
+  pub wrote : WroteNothing c.sink
+  pub clock : LeftClock c.clock
+  pub sleeper : LeftSleeper c.sleeper
+
+-- what `day` did with a script by this clock line: nothing for want of memory; the file couldn't be opened; it was opened, and
+-- nothing was asked for want of memory; or the tills asked
+abbrev pub FileDay : {D C Z G : Type 0} → List ℕ → Script → Option (ℕ × ℕ) → Around D C Z G → Detail → Type 0
+FileDay issuer script line c end =
+    ((end ≡ detail.NoMemory) × LeftAll c)
+    ⊎ NotOpened issuer (AllLeft c.clock c.sleeper c.agency) c.sink c.disk end
+    ⊎ NotServed issuer script.plan c end
+    ⊎ DayServed issuer script line c end
+
+-- what `day` did with a script
+pub record DayRan {D C Z G : Type 0} (issuer : List ℕ) (d : AllDevices D C Z G) (script : Script) (end : Detail) : Type 0 where
+  pub ends : FileDay issuer script script.clock (around d) end
+  pub risen : end ≡ detail.DiskFault → DiskRose d.devices.disk
+
+-- what `day` did, and how it ended
+abbrev pub DayEnds : {D C Z G : Type 0} → List ℕ → AllDevices D C Z G → Detail → Type 0
+DayEnds issuer d end = ScriptedEnds Full d.devices.source (LeftAll (around d)) (DayRan issuer d) end

@@ -1,0 +1,106 @@
+-- How `drain` ends.
+use Rattle.std.specs.Prelude.{◌≡◌, ◌⊎◌, ℕ, ◌+◌, ◌-◌, ◌^◌, ◌<◌, ◌≤◌, List, Bool, true, IsTrue, Option, Some, None}
+use Rattle.record_fields.specs.declared.versions.Version.{Version}
+use Rattle.ports.specs.Causes.{Rose}
+use Rattle.ports.specs.Sinks.{Sinks}
+use Rattle.chain_disk.specs.OnDisk.{synced}
+use Rattle.chain_disk.specs.Disks.{Disks, DiskRose}
+use Rattle.record_codec.specs.declared.entry.Entry.{Entry}
+use Rattle.agency_rules.specs.declared.plans.Plan.{Plan}
+use Rattle.once_world.specs.Agreement.{Agree}
+use Rattle.till_calls.specs.Sound.{IsLater}
+use Rattle.sender.specs.declared.draining.TheConstants.{MAX_LINK_FAULTS}
+use Rattle.script.specs.declared.forms.Form.TheVariants.{NoCommands}
+use Rattle.script.specs.declared.scripts.Script.{Script}
+use Rattle.recovery.specs.Opening.{IsFound}
+use Rattle.report.specs.declared.status.Detail.{Detail}
+use Rattle.report.specs.declared.status.Detail.TheVariants as detail
+use Rattle.open_shop.specs.Crashes.{StandsSince}
+use Rattle.chain_store.specs.Clocks.{Clocks, LeftClock}
+use Rattle.open_shop.specs.Devices.{Agencies, AllDevices, LeftAgency, LeftAll, LeftSleeper, Sleepers, around}
+use Rattle.open_shop.specs.Draining.{DiskSpan, DrainRunEnds, Outcome, StoreDrains, drain_text, noted_pairs, spanning}
+use Rattle.open_shop.specs.Opening.{NotOpened}
+use Rattle.shop_commands.specs.Scripts.{ScriptedEnds}
+
+-- the file from the sync at its opening on
+abbrev pub file_span : {D : Type 0} → Disks D → DiskSpan
+file_span k = record {
+  tells = k.tells;
+  since = synced (k.told k.disk);
+  now = k.told k.disk_after;
+  faults = k.faults k.disk;
+  faults_after = k.faults k.disk_after;
+}
+
+-- with the records noted in the file as what it has processed, where its kind begins so, the agency agrees with it
+abbrev pub AgreesAtStart : {G : Type 0} → Agencies G → List Entry → Type 0
+AgreesAtStart a start =
+    Agree start (a.begun a.before.ledger.processed (noted_pairs start)) a.before.ledger.sent
+
+-- no device failed in the call
+pub record NothingRose {D G : Type 0} (s : Sinks) (k : Disks D) (a : Agencies G) : Type 0 where
+  pub sink : Rose s.faults s.faults_after → ⊥
+  pub disk : DiskRose k → ⊥
+  pub agency : Rose a.before.faults a.after.faults → ⊥
+
+-- The file was opened and drained, from the history that it stood for.
+pub record FileDrained {D G : Type 0} (issuer : List ℕ) (plan : Plan) (exact : Bool) (moment : ℕ) (s : Sinks) (k : Disks D)
+    (a : Agencies G) (end : Detail) : Type 0 where
+  pub version : Version
+  pub start : List Entry
+  pub found : IsTrue k.tells → IsFound version issuer start (k.told k.disk).content
+  pub outcome : Outcome
+  -- what was said, noted and kept
+  pub drains : StoreDrains (StandsSince version issuer) a.begun plan version issuer (file_span k)
+      (spanning start a.kind a.before a.after exact moment outcome)
+  -- the text, and the end by the answer and the sink
+  pub ends : DrainRunEnds outcome.answer (drain_text outcome) s end
+  -- it is undelivered only where lines are missing and the agency failed eight times
+  pub undelivered : (noted_count records_count : ℕ) → end ≡ detail.Undelivered noted_count records_count →
+      (noted_count < records_count) × (a.after.faults < 2 ^ 64 - 1 →
+      a.before.faults + MAX_LINK_FAULTS ≤ a.after.faults)
+  -- where no device fails and the agency keeps its rules and agrees, it is done, or memory was wanting
+  pub complete : NothingRose s k a → IsTrue a.kind.keeps_rules → AgreesAtStart a start →
+      (end ≡ detail.Done) ⊎ (end ≡ detail.NoMemory)
+
+-- neither clock nor sleeper nor agency was touched
+pub record AllLeft {C Z G : Type 0} (t : Clocks C) (z : Sleepers Z) (a : Agencies G) : Type 0 where
+  pub clock : LeftClock t
+  pub sleeper : LeftSleeper z
+  pub agency : LeftAgency a
+
+-- the file couldn't be opened; or it was drained, by a sleeper that has this moment at the start, where it tells it
+pub record FileDrainEnds {D C Z G : Type 0} (issuer : List ℕ) (plan : Plan) (s : Sinks) (k : Disks D) (t : Clocks C)
+    (z : Sleepers Z) (a : Agencies G) (end : Detail) : Type 0 where
+  pub ends : NotOpened issuer (AllLeft t z a) s k end
+      ⊎ FileDrained issuer plan z.tells (z.moment z.sleeper) s k a end
+  pub clock : IsLater t.coming t.clock t.clock_after
+
+-- the sleeper by a script's clock line START STEP, which replaces it by one that leaps from START: whether it tells its
+-- moment, and that at the start
+abbrev pub tells_moment : {Z : Type 0} → Option (ℕ × ℕ) → Sleepers Z → Bool
+tells_moment None z = z.tells
+tells_moment (Some line) z = true
+
+abbrev pub first_moment : {Z : Type 0} → Option (ℕ × ℕ) → Sleepers Z → ℕ
+first_moment None z = z.moment z.sleeper
+first_moment (Some line) z = line.0
+
+-- a clock line replaces clock and sleeper; without one the clock is asked for no more than some readings
+abbrev pub LeavesTime : {C Z : Type 0} → Option (ℕ × ℕ) → Clocks C → Sleepers Z → Type 0
+LeavesTime None t z = IsLater t.coming t.clock t.clock_after
+LeavesTime (Some line) t z = LeftClock t × LeftSleeper z
+
+-- what `drain` did with a script
+pub record ScriptDrainEnds {D C Z G : Type 0} (issuer : List ℕ) (script : Script) (s : Sinks) (k : Disks D) (t : Clocks C)
+    (z : Sleepers Z) (a : Agencies G) (end : Detail) : Type 0 where
+  pub ends : NotOpened issuer (AllLeft t z a) s k end
+      ⊎ FileDrained issuer script.plan (tells_moment script.clock z) (first_moment script.clock z) s k a end
+  pub time : LeavesTime script.clock t z
+  pub risen : end ≡ detail.DiskFault → DiskRose k
+
+-- what `drain` did, and how it ended
+abbrev pub DrainEnds : {D C Z G : Type 0} → List ℕ → AllDevices D C Z G → Detail → Type 0
+DrainEnds issuer a end = ScriptedEnds NoCommands a.devices.source (LeftAll (around a))
+    (λ (script : Script) (how : Detail).
+    ScriptDrainEnds issuer script a.devices.sink a.devices.disk a.devices.clock a.sleeper a.agency how) end

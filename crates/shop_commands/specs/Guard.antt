@@ -1,0 +1,172 @@
+-- How `guard` ends, and what it leaves of the file and of its copy.
+use Rattle.std.specs.Prelude.{◌≡◌, ◌⊎◌, ℕ, ◌+◌, ◌-◌, ◌^◌, ◌<◌, ◌≤◌, ◌++◌, List, length, Bool, true, IsTrue, IsSome, Option, Some, None}
+use Rattle.agency_port.specs.declared.turns.Told.{Told as TurnLine}
+use Rattle.agency_rules.specs.declared.plans.Plan.{Plan}
+use Rattle.chain_disk.specs.Disks.{DiskRose, Disks, LeftDisk}
+use Rattle.chain_disk.specs.OnDisk.{LeavesNow, LeavesOnly, OnDisk, synced}
+use Rattle.chain_store.specs.Clocks.{Clocks, LeftClock}
+use Rattle.chain_store.specs.Opening.{IsFound as IsCopyFound}
+use Rattle.ports.specs.Sinks.{Sinks, WroteNothing}
+use Rattle.record_codec.specs.declared.entry.Entry.{Entry}
+use Rattle.record_fields.specs.declared.versions.Version.{Version}
+use Rattle.recovery.specs.Opening.{IsFound}
+use Rattle.report.specs.Turns.{turns_text}
+use Rattle.report.specs.declared.status.Detail.{Detail}
+use Rattle.report.specs.declared.status.Detail.TheVariants as detail
+use Rattle.script.specs.declared.forms.Form.TheVariants.{NoCommands}
+use Rattle.script.specs.declared.scripts.Script.{Script}
+use Rattle.sender.specs.declared.draining.TheConstants.{MAX_LINK_FAULTS}
+use Rattle.shop_core.specs.File.Files.{IsDamagedFile, StandsFor}
+use Rattle.shop_core.specs.History.{noted, recs}
+use Rattle.shop_core.specs.Prefix.{IsPrefix}
+use Rattle.standby.specs.Catching.{IsFirstApart}
+use Rattle.standby.specs.Chains.{ChainOnDisk}
+use Rattle.open_shop.specs.Crashes.{StandsSince}
+use Rattle.open_shop.specs.Devices.{Agencies, AllDevices, LeftAll, LeftSleeper, Sleepers, around}
+use Rattle.shop_commands.specs.Further.{Further}
+use Rattle.shop_commands.specs.Drain.{AgreesAtStart, AllLeft, NothingRose, file_span, first_moment, tells_moment}
+use Rattle.open_shop.specs.Draining.{DiskSpan, DrainRunEnds, Outcome, spanning}
+use Rattle.shop_commands.specs.Follow.{IsFollowImage, IsSyncedAtMost}
+use Rattle.open_shop.specs.Guarding.{GuardDrains, Held}
+use Rattle.shop_commands.specs.Migrate.{OnePost, disk_of_post}
+use Rattle.open_shop.specs.Opening.{NotOpened}
+use Rattle.shop_commands.specs.Scripts.{ScriptedEnds}
+use Rattle.open_shop.specs.declared.posts.Post.{Post}
+
+-- What a crash at a moment of a run leaves of the copy: what it left at the start, or a file that stands for a front of the history
+-- at the end, with the torn notes, which begins with what the copy had.
+abbrev pub GuardImage : Version → List ℕ → OnDisk → List Entry → List Entry → List Entry → List ℕ → Type 0
+GuardImage version issuer first start end torn file = IsFollowImage version issuer (end ++ torn) first file
+
+-- a disk from the start on
+abbrev pub whole_span : {D : Type 0} → Disks D → DiskSpan
+whole_span l = record {
+  tells = l.tells;
+  since = l.told l.disk;
+  now = l.told l.disk_after;
+  faults = l.faults l.disk;
+  faults_after = l.faults l.disk_after;
+}
+
+-- The copy has the whole history of the file. It had a front of it, and each crash since the start leaves what following may leave.
+pub record IsCopied {D : Type 0} (tells : Bool) (told : D → OnDisk) (faults : D → ℕ) (version : Version) (issuer : List ℕ)
+    (history : List Entry) (disk : D) (standby : ChainOnDisk D) : Type 0 where
+  pub copy : List Entry
+  pub found : IsTrue tells → IsCopyFound version version issuer copy (told disk).content
+  pub front : IsPrefix copy history
+  pub issuer_is : standby.history.issuer ≡ issuer
+  pub version_is : standby.history.version ≡ version
+  pub entries_are : standby.history.entries ≡ history
+  pub going_on : standby.stopped ≡ None
+  pub any_moment : IsTrue tells →
+      LeavesOnly (told disk) (told standby.disk) (IsFollowImage version issuer history (told disk))
+  pub later : faults disk ≤ faults standby.disk
+
+-- How a sound copy isn't of the history that the file stands for: issuer or version differ (0); or it has an entry, of this number
+-- from 1, that isn't the file's.
+pub data IsPartedFrom (version : Version) (issuer : List ℕ) (history : List Entry) (copy : List ℕ) : ℕ → Type 0 where
+  of_other : (another : Version) (other : List ℕ) (entries : List Entry) → StandsFor another other entries copy →
+      ((another ≡ version) × (other ≡ issuer) → ⊥) → IsPartedFrom version issuer history copy 0
+  at_entry : (entries : List Entry) (at : ℕ) → StandsFor version issuer entries copy → IsFirstApart history entries at →
+      IsPartedFrom version issuer history copy (at + 1)
+
+-- why the copy wasn't brought up to this history
+pub data IsUncopied {D : Type 0} (version : Version) (issuer : List ℕ) (history : List Entry) (l : Disks D) : Detail → Type 0 where
+  damaged : (at : ℕ) → (IsTrue l.tells → IsDamagedFile (l.told l.disk).content at) →
+      (IsTrue l.tells → IsSyncedAtMost (l.told l.disk) (l.told l.disk_after)) →
+      IsUncopied version issuer history l (detail.Damaged at)
+  parted : (entry : ℕ) → (IsTrue l.tells → IsPartedFrom version issuer history (l.told l.disk).content entry) →
+      (IsTrue l.tells → IsSyncedAtMost (l.told l.disk) (l.told l.disk_after)) →
+      IsUncopied version issuer history l (detail.Parted entry)
+  disk_fault : DiskRose l → IsUncopied version issuer history l detail.DiskFault
+  no_memory : IsUncopied version issuer history l detail.NoMemory
+
+-- it wasn't, and what each crash since the start leaves of it
+pub record LeftUncopied {D : Type 0} (version : Version) (issuer : List ℕ) (history : List Entry) (l : Disks D) (end : Detail) :
+    Type 0 where
+  pub why : IsUncopied version issuer history l end
+  pub images : IsTrue l.tells →
+      LeavesOnly (l.told l.disk) (l.told l.disk_after) (IsFollowImage version issuer history (l.told l.disk))
+  pub later : l.faults l.disk ≤ l.faults l.disk_after
+
+-- The file was opened, its copy wasn't brought up to it, nothing was printed, and the rest wasn't touched. The file stands for the
+-- history that it stood for, and so does each that a crash leaves.
+pub record NotCopied {D : Type 0} (issuer : List ℕ) (left : Type 0) (s : Sinks) (k l : Disks D) (end : Detail) : Type 0 where
+  pub version : Version
+  pub start : List Entry
+  pub found : IsTrue k.tells → IsFound version issuer start (k.told k.disk).content
+  pub any_moment : IsTrue k.tells →
+      LeavesOnly (synced (k.told k.disk)) (k.told k.disk_after) (IsFound version issuer start)
+  pub every_crash : IsTrue k.tells → LeavesNow (k.told k.disk_after) (StandsFor version issuer start)
+  pub reads : IsTrue k.tells → StandsFor version issuer start (k.told k.disk_after).content
+  pub later : k.faults k.disk ≤ k.faults k.disk_after
+  pub copy : LeftUncopied version issuer start l end
+  pub wrote : WroteNothing s
+  pub rest : left
+
+-- the text: the lines of the turns, and the chain line of what the file has
+abbrev pub guard_text : List TurnLine → Held → List ℕ
+guard_text turns file = turns_text turns (length (recs file.entries)) (length (noted file.entries))
+
+-- The file was opened, its copy brought up to it, and both were drained, from the history that the file stood for.
+pub record FileGuarded {D G : Type 0} (issuer : List ℕ) (plan : Plan) (exact : Bool) (moment : ℕ) (s : Sinks) (k l : Disks D)
+    (a : Agencies G) (end : Detail) : Type 0 where
+  pub version : Version
+  pub start : List Entry
+  pub found : IsTrue k.tells → IsFound version issuer start (k.told k.disk).content
+  -- what the copy had
+  pub copy : List Entry
+  pub copy_found : IsTrue l.tells → IsCopyFound version version issuer copy (l.told l.disk).content
+  pub front : IsPrefix copy start
+  -- what both hold, what the file has and what the copy has at the end
+  pub outcome : Outcome
+  pub file_held : Held
+  pub copy_held : Held
+  -- what was said, noted and kept
+  pub drains : GuardDrains (StandsSince version issuer) (GuardImage version issuer (l.told l.disk)) a.begun plan version issuer
+      (file_span k) (whole_span l) (spanning start a.kind a.before a.after exact moment outcome) file_held copy_held
+  -- the text, and the end by the answer and the sink
+  pub ends : DrainRunEnds outcome.answer (guard_text outcome.turns file_held) s end
+  -- it is undelivered only where lines are missing and the agency failed eight times
+  pub undelivered : (noted_count records_count : ℕ) → end ≡ detail.Undelivered noted_count records_count →
+      (noted_count < records_count) × (a.after.faults < 2 ^ 64 - 1 → a.before.faults + MAX_LINK_FAULTS ≤ a.after.faults)
+  -- where no device fails and the agency keeps its rules and agrees, it is done, or memory was wanting
+  pub complete : NothingRose s k a → (DiskRose l → ⊥) → IsTrue a.kind.keeps_rules → AgreesAtStart a start →
+      (end ≡ detail.Done) ⊎ (end ≡ detail.NoMemory)
+
+-- the file couldn't be opened; or its copy wasn't brought up to it; or both were drained, by a sleeper that has this moment at the
+-- start, where it tells it
+abbrev pub GuardsFile : {D C Z G : Type 0} → List ℕ → Plan → Bool → ℕ → Sinks → Disks D → Disks D → Clocks C → Sleepers Z →
+    Agencies G → Detail → Type 0
+GuardsFile issuer plan exact moment s k l t z a end =
+    NotOpened issuer (AllLeft t z a × LeftDisk l) s k end ⊎ NotCopied issuer (AllLeft t z a) s k l end
+    ⊎ FileGuarded issuer plan exact moment s k l a end
+
+pub record FileGuardEnds {D C Z G : Type 0} (issuer : List ℕ) (plan : Plan) (s : Sinks) (k l : Disks D) (t : Clocks C)
+    (z : Sleepers Z) (a : Agencies G) (end : Detail) : Type 0 where
+  pub ends : GuardsFile issuer plan z.tells (z.moment z.sleeper) s k l t z a end
+  -- the clock isn't read
+  pub clock : LeftClock t
+
+-- what `guard` did with a script
+pub record ScriptGuardEnds {D C Z G : Type 0} (issuer : List ℕ) (script : Script) (s : Sinks) (k l : Disks D) (t : Clocks C)
+    (z : Sleepers Z) (a : Agencies G) (end : Detail) : Type 0 where
+  pub ends : GuardsFile issuer script.plan (tells_moment script.clock z) (first_moment script.clock z) s k l t z a end
+  pub clock : LeftClock t
+  -- a clock line replaces the sleeper too
+  pub sleeper : IsSome script.clock → LeftSleeper z
+  pub risen : end ≡ detail.DiskFault → DiskRose k ⊎ DiskRose l
+
+-- what `guard` did, and how it ended: the copy's file is on the disk `l`
+abbrev pub GuardEnds : {D C Z G : Type 0} → List ℕ → AllDevices D C Z G → Disks D → Detail → Type 0
+GuardEnds issuer a l end = ScriptedEnds NoCommands a.devices.source (LeftAll (around a) × LeftDisk l)
+    (λ (script : Script) (how : Detail).
+    ScriptGuardEnds issuer script a.devices.sink a.devices.disk l a.devices.clock a.sleeper a.agency how) end
+
+-- the copy is the one further file
+pub record GuardRan {D C Z G : Type 0} (issuer : List ℕ) (a : AllDevices D C Z G) (f : Further D C Z G) (end : Detail) :
+    Type 0 where
+  pub post : Post D C Z G
+  pub after : Post D C Z G
+  pub posts : OnePost f post after
+  pub ends : GuardEnds issuer a (disk_of_post a.devices.disk post after) end

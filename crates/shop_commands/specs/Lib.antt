@@ -1,0 +1,11 @@
+pub mod Printed
+pub mod Ending
+pub mod Scripts
+pub mod Chain
+pub mod Drain
+pub mod Day
+pub mod Serve
+pub mod Further
+pub mod Migrate
+pub mod Follow
+pub mod Guard

@@ -1,0 +1,74 @@
+-- How `migrate` ends.
+use Rattle.std.specs.Prelude.{◌≡◌, ℕ, [], ◌∷◌, IsTrue}
+use Rattle.chain_disk.specs.Disks.{Disks, this_disk}
+use Rattle.chain_disk.specs.OnDisk.{LeavesNow}
+use Rattle.ports.specs.Sinks.{Sinks, WroteNothing}
+use Rattle.recovery.specs.Causes.{IsMoveCause}
+use Rattle.recovery.specs.Moving.{HasCounts, IsMoved, Moves}
+use Rattle.recovery.specs.declared.moving.MoveCause.{MoveCause}
+use Rattle.recovery.specs.declared.moving.MoveCause.TheVariants as cause
+use Rattle.report.specs.Moves.{migrated_text}
+use Rattle.report.specs.declared.status.Detail.{Detail}
+use Rattle.report.specs.declared.status.Detail.TheVariants as detail
+use Rattle.file_commands.specs.Output.{PrintEnds}
+use Rattle.open_shop.specs.Devices.{AllDevices, NobodyCalled, OnlyReadsFile}
+use Rattle.shop_commands.specs.Further.{Further}
+use Rattle.open_shop.specs.declared.posts.Post.{Post}
+
+-- the end that a cause comes to
+abbrev pub move_end : MoveCause → Detail
+move_end (cause.Damaged at) = detail.Damaged at
+move_end (cause.NotOld held) = detail.NotOld held
+move_end (cause.Occupied size) = detail.Occupied size
+move_end cause.OldFault = detail.DiskFault
+move_end cause.NewFault = detail.DiskFault
+move_end cause.NoMemory = detail.NoMemory
+
+-- The new file stands for the history of the old one, each crash from now on leaves that, and these are its counts.
+pub record HasMoved {D : Type 0} (old new : Disks D) (records noted : ℕ) : Type 0 where
+  pub counts : IsTrue old.tells → HasCounts (old.told old.disk).content records noted
+  pub every_crash : IsTrue old.tells → IsTrue new.tells →
+      LeavesNow (new.told new.disk_after) (IsMoved (old.told old.disk).content)
+  pub reads : IsTrue old.tells → IsTrue new.tells → IsMoved (old.told old.disk).content (new.told new.disk_after).content
+
+-- the history was moved, and its counts were printed; or it wasn't moved, for this cause
+pub data MigrateEnds {D : Type 0} (s : Sinks) (old new : Disks D) : Detail → Type 0 where
+  moved : (records noted : ℕ) (end : Detail) → HasMoved old new records noted →
+      PrintEnds (migrated_text records noted) detail.Done s end → MigrateEnds s old new end
+  untold : (records noted : ℕ) → HasMoved old new records noted → WroteNothing s → MigrateEnds s old new detail.NoMemory
+  not_moved : (why : MoveCause) → IsMoveCause old new why → WroteNothing s → MigrateEnds s old new (move_end why)
+
+-- each crash since the start leaves of the new file what a migration may leave
+abbrev pub OnlyMoved : {D : Type 0} → Disks D → Disks D → Type 0
+OnlyMoved old new = IsTrue old.tells → IsTrue new.tells →
+    Moves (old.told old.disk).content (new.told new.disk) (new.told new.disk_after)
+
+-- this post's disk, by what its kind tells as that of the first file does
+abbrev pub disk_of_post : {D C Z G : Type 0} → Disks D → Post D C Z G → Post D C Z G → Disks D
+disk_of_post k old new = this_disk k.tells k.told k.faults old.disk new.disk
+
+-- there is one further post, and nothing of it but its disk was touched
+pub record OnePost {D C Z G : Type 0} (f : Further D C Z G) (post after : Post D C Z G) : Type 0 where
+  pub one : f.posts ≡ post ∷ []
+  pub one_after : f.posts_after ≡ after ∷ []
+  pub clock : after.clock ≡ post.clock
+  pub sleeper : after.sleeper ≡ post.sleeper
+  pub agency : after.agency ≡ post.agency
+
+-- the one further file is what a migration may leave of it
+pub record OnlyMoves {D C Z G : Type 0} (k : Disks D) (f : Further D C Z G) : Type 0 where
+  pub post : Post D C Z G
+  pub after : Post D C Z G
+  pub posts : OnePost f post after
+  pub moves : OnlyMoved k (disk_of_post k post after)
+
+-- the migration to the one further file, and how it ended
+pub record MovesPost {D C Z G : Type 0} (s : Sinks) (k : Disks D) (f : Further D C Z G) (end : Detail) : Type 0 where
+  pub only : OnlyMoves k f
+  pub ends : MigrateEnds s k (disk_of_post k only.post only.after) end
+
+-- what `migrate` did, and how it ended: it only reads the first file, and calls nobody
+pub record MigrateRan {D C Z G : Type 0} (a : AllDevices D C Z G) (f : Further D C Z G) (end : Detail) : Type 0 where
+  pub moves : MovesPost a.devices.sink a.devices.disk f end
+  pub reads : OnlyReadsFile a.devices
+  pub nobody : NobodyCalled a

@@ -1,0 +1,158 @@
+-- How `serve` ends.
+use Rattle.std.specs.Prelude.{◌≡◌, ◌≤◌, ◌⊎◌, ℕ, Bool, true, false, List, [], ◌++◌, length, map, IsTrue, Option, None, Result, Ok, Err}
+use Rattle.std.specs.Io.KnownBytes.{Consumes}
+use Rattle.std.specs.List.{AllByRecursion, list_any, range_with_len}
+use Rattle.agency_port.specs.declared.turns.Evidence.{Evidence}
+use Rattle.agency_rules.specs.Plans.{plain}
+use Rattle.chain_disk.specs.Disks.{DiskRose}
+use Rattle.chain_store.specs.Replies.{AllReplied, Replies, is_disk_fault, is_no_memory}
+use Rattle.counter.specs.InARow.{IsOfTill, replies_of}
+use Rattle.counter.specs.Speech.{AreRepliesOf, ComesFirst, IsCause, IsRead, IsWritten, Moment, sink_since}
+use Rattle.counter.specs.declared.listener.Listener.{Listener}
+use Rattle.counter.specs.declared.speaking.SpeechEnd.{SpeechEnd}
+use Rattle.counter.specs.declared.speaking.SpeechEnd.TheVariants as speech
+use Rattle.dialogue.specs.Protocol.{Dialogue, clock_said}
+use Rattle.dialogue.specs.declared.hear.Task.{Task}
+use Rattle.ports.specs.Sinks.{FailedIn, Sinks, Wrote, WrotePart}
+use Rattle.ports.specs.Sources.{SourceRose, Sources}
+use Rattle.record_codec.specs.declared.entry.TheConstants.{LAST_TILL}
+use Rattle.report.specs.Pieces.{chain_line}
+use Rattle.report.specs.declared.status.Detail.{Detail}
+use Rattle.report.specs.declared.status.Detail.TheVariants as detail
+use Rattle.script.specs.declared.forms.Form.{Form}
+use Rattle.script.specs.declared.lines.Meaning.{Meaning}
+use Rattle.sender.specs.Turning.{AgencyKind, Desk}
+use Rattle.sender.specs.declared.answers.DrainFault.{DrainFault}
+use Rattle.sender.specs.declared.answers.DrainFault.TheVariants as drain
+use Rattle.shop_core.specs.Answer.Requests.{Asked}
+use Rattle.shop_core.specs.History.{noted, recs}
+use Rattle.till_calls.specs.Root.{Parts, Root}
+use Rattle.open_shop.specs.Beside.{sender_end, sender_lacks_memory}
+use Rattle.shop_commands.specs.Day.{EachCrash, EachTillOf, HistoryGoesOn, ItsAgency, NotServed, Outcome, TellsOfSender, day_with}
+use Rattle.open_shop.specs.Days.{Day, TillReplies, shop_day}
+use Rattle.open_shop.specs.Devices.{AllDevices, Around, LeftAll, ReadNothing, StoreKind, around}
+use Rattle.shop_commands.specs.Drain.{AgreesAtStart, AllLeft, LeavesTime, NothingRose}
+use Rattle.open_shop.specs.Draining.{IsDiskAnswer}
+use Rattle.open_shop.specs.Opening.{NotOpened}
+use Rattle.open_shop.specs.Talking.{IsSpeech, Speech}
+use Rattle.open_shop.specs.Tills.{DayRun}
+use Rattle.open_shop.specs.declared.posts.Post.{Post}
+
+-- what is printed: the answers, and the chain line behind a source that was read to its end
+abbrev pub printed : SpeechEnd → List ℕ → List ℕ → List ℕ
+printed speech.Ended text chain = text ++ chain
+printed speech.ReadFault text chain = text
+printed speech.WriteFault text chain = text
+printed speech.NoMemory text chain = text
+printed speech.Stopped text chain = text
+
+-- how it ends once the chain line is written, which comes behind the end of the source alone
+abbrev pub Closes : SpeechEnd → SpeechEnd → Type 0
+Closes speech.Ended speech.Ended = Unit {0}
+Closes speech.Ended speech.WriteFault = Unit {0}
+Closes speech.Ended speech.NoMemory = Unit {0}
+Closes speech.Ended speech.ReadFault = ⊥
+Closes speech.Ended speech.Stopped = ⊥
+Closes speech.ReadFault closed = closed ≡ speech.ReadFault
+Closes speech.WriteFault closed = closed ≡ speech.WriteFault
+Closes speech.NoMemory closed = closed ≡ speech.NoMemory
+Closes speech.Stopped closed = closed ≡ speech.Stopped
+
+-- the end by the sender's answer: this one where no record waits
+abbrev pub sent_end : ℕ → ℕ → Detail → Result (Unit {0}) DrainFault → Detail
+sent_end noted_count records_count otherwise (Ok u) = otherwise
+sent_end noted_count records_count otherwise (Err fault) = sender_end noted_count records_count fault
+
+-- the end, where no command and no turn of the sender found no memory
+abbrev pub end_of : SpeechEnd → ℕ → ℕ → Result (Unit {0}) DrainFault → Detail
+end_of speech.Ended noted_count records_count answer = sent_end noted_count records_count detail.Done answer
+end_of speech.ReadFault noted_count records_count answer = sent_end noted_count records_count detail.ReadFault answer
+end_of speech.WriteFault noted_count records_count answer = sent_end noted_count records_count detail.WriteFault answer
+end_of speech.NoMemory noted_count records_count answer = detail.NoMemory
+end_of speech.Stopped noted_count records_count answer = detail.DiskFault
+
+-- How it ends, by the replies and the sender's answer, by how the reading ended, and by what the sink took of the text: want of
+-- memory before a fault of the disk, that before a contradiction and an undelivered drain, and these before a fault of the source
+-- or of the sink. It is done only where the source was read to its end and all records have noted lines.
+pub data SpeechEnds (how : SpeechEnd) (replies : Replies) (answer : Result (Unit {0}) DrainFault) (noted_count records_count : ℕ)
+    (text : List ℕ) (s : Sources) (k : Sinks) : Detail → Type 0 where
+  done : how ≡ speech.Ended → AllReplied replies → answer ≡ Ok tt → noted_count ≡ records_count → Wrote k text →
+      SpeechEnds how replies answer noted_count records_count text s k detail.Done
+  read_fault : SourceRose s → AllReplied replies → answer ≡ Ok tt → noted_count ≡ records_count → Wrote k text →
+      SpeechEnds how replies answer noted_count records_count text s k detail.ReadFault
+  write_fault : AllReplied replies → answer ≡ Ok tt → noted_count ≡ records_count → FailedIn k text →
+      SpeechEnds how replies answer noted_count records_count text s k detail.WriteFault
+  undelivered : (n r : ℕ) → AllReplied replies → answer ≡ Err (drain.Undelivered n r) → Wrote k text ⊎ FailedIn k text →
+      SpeechEnds how replies answer noted_count records_count text s k (detail.Undelivered noted_count records_count)
+  contradiction : (evidence : Evidence) → AllReplied replies → answer ≡ Err (drain.Contradiction evidence) →
+      Wrote k text ⊎ FailedIn k text →
+      SpeechEnds how replies answer noted_count records_count text s k (detail.Contradiction evidence)
+  disk_fault : list_any is_no_memory replies ≡ false → sender_lacks_memory answer ≡ false →
+      (list_any is_disk_fault replies ≡ true) ⊎ IsDiskAnswer answer → Wrote k text ⊎ FailedIn k text →
+      SpeechEnds how replies answer noted_count records_count text s k detail.DiskFault
+  no_memory : WrotePart k text → SpeechEnds how replies answer noted_count records_count text s k detail.NoMemory
+
+-- how it ends, for this day of the shop
+pub record EndsAsSpoken {D C Z G : Type 0} (d : Day) (x : Speech) (s : Sources) (c : Around D C Z G) (end : Detail) : Type 0 where
+  pub cause : SpeechEnds x.how x.replies d.answer (length (noted d.end)) (length (recs d.end))
+      (printed x.how x.text (chain_line (length (recs d.end)) (length (noted d.end)))) s c.sink end
+  pub sender : TellsOfSender d c.agency.before end
+  -- where no device fails and the agency keeps its rules and agrees, it is done, or memory was wanting
+  pub complete : (SourceRose s → ⊥) → NothingRose c.sink c.disk c.agency → IsTrue d.kind.keeps_rules →
+      AgreesAtStart c.agency d.start → (end ≡ detail.Done) ⊎ (end ≡ detail.NoMemory)
+
+-- The file was opened, and the lines were answered one by one beside the sender, with this clock line among them: all tills of the
+-- shop asked for the commands among the lines, each for its own.
+pub record SpeechServed {D C Z G : Type 0} (issuer : List ℕ) (line clock : Option (ℕ × ℕ)) (s : Sources) (c : Around D C Z G)
+    (end : Detail) : Type 0 where
+  pub speech : Speech
+  pub outcome : Outcome
+  pub spoken : IsSpeech clock s outcome.tills speech
+  pub history : HistoryGoesOn (day_with issuer speech.asks line c outcome)
+  pub tills : EachTillOf (range_with_len 1 LAST_TILL) (day_with issuer speech.asks line c outcome)
+  pub crashes : EachCrash (day_with issuer speech.asks line c outcome) c.disk
+  pub agency : ItsAgency (day_with issuer speech.asks line c outcome) plain c.agency c.disk
+  pub ends : EndsAsSpoken (day_with issuer speech.asks line c outcome) speech s c end
+  pub time : LeavesTime line c.clock c.sleeper
+
+-- the file was opened, and there was no memory for the shop: lines were passed over, and none was answered
+pub record SpeechNotServed {D C Z G : Type 0} (issuer : List ℕ) (s : Sources) (c : Around D C Z G) (end : Detail) : Type 0 where
+  pub shop : NotServed issuer plain c end
+  pub taken : List ℕ
+  pub read : Consumes s.left s.left_after taken
+
+-- what `serve` did with an opened file whose clock and sleeper this clock line replaced, where this one is among the lines
+abbrev pub FileServe : {D C Z G : Type 0} → List ℕ → Option (ℕ × ℕ) → Option (ℕ × ℕ) → Sources → Around D C Z G → Detail → Type 0
+FileServe issuer line clock s c end = SpeechNotServed issuer s c end ⊎ SpeechServed issuer line clock s c end
+
+-- what `serve` did, and how it ended: ahead of the opening nothing is read
+abbrev pub ServeWays : {D C Z G : Type 0} → List ℕ → AllDevices D C Z G → Detail → Type 0
+ServeWays issuer a end =
+    ((end ≡ detail.NoMemory) × ReadNothing a.devices.source × LeftAll (around a))
+    ⊎ (ReadNothing a.devices.source × NotOpened issuer (AllLeft a.devices.clock a.sleeper a.agency) a.devices.sink a.devices.disk end)
+    ⊎ ((line : Option (ℕ × ℕ)) × FileServe issuer line line a.devices.source (around a) end)
+
+pub record ServeEnds {D C Z G : Type 0} (issuer : List ℕ) (a : AllDevices D C Z G) (end : Detail) : Type 0 where
+  pub ends : ServeWays issuer a end
+  pub risen : end ≡ detail.DiskFault → DiskRose a.devices.disk
+
+-- a post whose file was opened, with the disk as it was before or is now
+abbrev pub post_with : {D C Z G : Type 0} → D → Parts D C → Z → G → Post D C Z G
+post_with disk p sleeper agency = record { disk = disk; clock = p.clock; sleeper = sleeper; agency = agency }
+
+-- a source from one moment to another, and a sink
+abbrev pub source_since : Option (List ℕ) → ℕ → Option (List ℕ) → ℕ → Sources
+source_since left faults left_after faults_after = record {
+  left = left;
+  left_after = left_after;
+  faults = faults;
+  faults_after = faults_after;
+}
+
+abbrev pub sink_to : Option (List ℕ) → ℕ → Option (List ℕ) → ℕ → Sinks
+sink_to taken faults taken_after faults_after = record {
+  taken = taken;
+  taken_after = taken_after;
+  faults = faults;
+  faults_after = faults_after;
+}

@@ -1,0 +1,169 @@
+// The command `drain`: reads a script without commands, opens the file, sends the records that wait to the agency, and prints a
+// line a turn and the chain line.
+ghost use Rattle.std.specs.Prelude.{◌≡◌, ℕ, List};
+ghost use Rattle.ports.specs.Sinks.{OutputIs, Sinks, this_sink};
+ghost use Rattle.ports.specs.Sources.{this_source};
+ghost use Rattle.report.specs.Status.{status_of};
+ghost use Rattle.open_shop.specs.Devices.{agency_in, clock_in, disk_in, sleeper_in, this_call};
+ghost use Rattle.shop_commands.specs.Drain.{DrainEnds, FileDrainEnds, ScriptDrainEnds};
+ghost use Rattle.open_shop.specs.Draining as spec;
+ghost use Rattle.open_shop.specs.Draining.{DrainRunEnds, drain_text};
+ghost use Rattle.open_shop.specs.Outcomes.{outcome_of};
+
+use crate::scripts::read_source;
+use agency_port::Agency;
+use agency_rules::Plan;
+use chain_disk::Disk;
+use file_commands::write_texts;
+use journal::StoreFault;
+use open_shop::{DrainEnd, Post, close, drain_opened, open, opening_end};
+use parties::Nif;
+use ports::{Clock, Failed, Sink, Sleeper, Source};
+use report::{Detail, Ended, turns_text};
+use script::{Form, Script};
+use sender::DrainFault;
+use std::alloc::Global;
+use std::sync::Wait;
+
+// The end of a drain whose store failed so.
+fn store_end(fault: StoreFault) -> Detail
+    ensures { result ≡ spec.store_end fault }
+{
+    match fault {
+        StoreFault::DiskFault => Detail::DiskFault,
+        StoreFault::Stopped { .. } => Detail::DiskFault,
+        StoreFault::NoMemory => Detail::NoMemory,
+    }
+}
+
+/// The end of a drain that failed so.
+pub fn fault_end(fault: DrainFault) -> Detail
+    ensures { result ≡ spec.fault_end fault }
+{
+    match fault {
+        DrainFault::Undelivered { noted, records } => Detail::Undelivered { noted, records },
+        DrainFault::Contradiction(evidence) => Detail::Contradiction(evidence),
+        DrainFault::Store(fault) => store_end(fault),
+        DrainFault::NoMemory => Detail::NoMemory,
+    }
+}
+
+// The end of a drain with this answer, whose text was written or not.
+pub fn end_by(answer: &Result<(), DrainFault>, written: Result<(), Failed>) -> Detail
+    ensures { (text : List ℕ) (s : Sinks) → OutputIs s text written → DrainRunEnds answer.now text s result }
+{
+    match answer {
+        Err(fault) => fault_end(*fault),
+        Ok(()) => match written {
+            Ok(()) => Detail::Done,
+            Err(_) => Detail::WriteFault,
+        },
+    }
+}
+
+// Prints the lines of the turns and the chain line.
+fn print_turns<K: Sink, D: Disk, C: Clock, Z, G>(
+    alloc: Global,
+    end: &DrainEnd<D, C, Z, G>,
+    sink: &mut K,
+) -> Detail
+    ensures { DrainRunEnds end.now.answer (drain_text (outcome_of end.now))
+        (this_sink K.taken K.faults sink.old sink.new) result }
+{
+    let state = end.opened.store.state();
+    match turns_text(alloc, &end.turns, state.records(), state.noted()) {
+        Err(_) => Detail::NoMemory,
+        Ok(text) => end_by(&end.answer, write_texts(sink, text.as_slice(), b"")),
+    }
+}
+
+// Opens the file and drains it. All parts come back.
+fn drain_file<K, D, C, Z, G, R>(
+    rt: &R,
+    alloc: Global,
+    issuer: &Nif,
+    plan: &Plan,
+    sink: &mut K,
+    post: Post<D, C, Z, G>,
+) -> (Detail, Post<D, C, Z, G>)
+where
+    K: Sink,
+    D: Disk,
+    C: Clock,
+    Z: Sleeper,
+    G: Agency,
+    R: Wait,
+    ensures { FileDrainEnds issuer.now plan.now (this_sink K.taken K.faults sink.old sink.new)
+        (disk_in D.Disk post result.1) (clock_in C.Clock post result.1) (sleeper_in Z.Sleeper post result.1)
+        (agency_in G.Agency post result.1) result.0 }
+{
+    match open(alloc, issuer, post) {
+        Err(unopened) => (opening_end(&unopened.why), unopened.post),
+        Ok(opened) => {
+            let end = drain_opened(rt, alloc, plan, opened);
+            let detail = print_turns(alloc, &end, sink);
+            let DrainEnd { opened, .. } = end;
+            (detail, close(opened))
+        }
+    }
+}
+
+// A clock line replaces clock and sleeper.
+fn drain_script<K, D, C, Z, G, R>(
+    rt: &R,
+    alloc: Global,
+    issuer: &Nif,
+    script: &Script,
+    sink: &mut K,
+    post: Post<D, C, Z, G>,
+) -> (Detail, Post<D, C, Z, G>)
+where
+    K: Sink,
+    D: Disk,
+    C: Clock,
+    Z: Sleeper,
+    G: Agency,
+    R: Wait,
+    ensures { ScriptDrainEnds issuer.now script.now (this_sink K.taken K.faults sink.old sink.new)
+        (disk_in D.Disk post result.1) (clock_in C.Clock post result.1) (sleeper_in Z.Sleeper post result.1)
+        (agency_in G.Agency post result.1) result.0 }
+{
+    let Some((start, step)) = script.clock else {
+        return drain_file(rt, alloc, issuer, &script.plan, sink, post);
+    };
+    let (own, clock, sleeper) = post.with_own_time(start, step);
+    let (detail, own) = drain_file(rt, alloc, issuer, &script.plan, sink, own);
+    (detail, own.with_time(clock, sleeper))
+}
+
+/// Reads a script without commands from the source, opens the disk for this issuer, opens the agency's session once with the
+/// script's plan and the pairs noted in the file, and sends the records that wait until none is left. It prints a line a turn
+/// and the chain line. A clock line of the script replaces clock and sleeper. All parts come back.
+pub fn drain_cmd<S, K, D, C, Z, G, R>(
+    rt: &R,
+    alloc: Global,
+    issuer: &Nif,
+    source: &mut S,
+    sink: &mut K,
+    post: Post<D, C, Z, G>,
+) -> (Ended, Post<D, C, Z, G>)
+where
+    S: Source,
+    K: Sink,
+    D: Disk,
+    C: Clock,
+    Z: Sleeper,
+    G: Agency,
+    R: Wait,
+    ensures status { result.0.status ≡ status_of result.0.detail }
+    ensures ends { DrainEnds issuer.now (this_call (this_source S.left S.faults source.old source.new)
+        (this_sink K.taken K.faults sink.old sink.new) D.Disk C.Clock Z.Sleeper G.Agency post result.1) result.0.detail }
+{
+    match read_source(alloc, source, Form::NoCommands) {
+        Err(fault) => (Ended::of(fault.detail()), post),
+        Ok(script) => {
+            let (detail, post) = drain_script(rt, alloc, issuer, &script, sink, post);
+            (Ended::of(detail), post)
+        }
+    }
+}

@@ -1,0 +1,286 @@
+// The command `serve`: opens the file, begins the agency's session, and answers the lines of the source one by one, with a sender
+// beside, until the source ends. Then it drains, and prints the chain line.
+ghost use Rattle.std.specs.Prelude.{◌≡◌, ◌≤◌, ◌++◌, ℕ, List, length, Option, OnOk, None};
+ghost use Rattle.std.specs.List.{list_any};
+ghost use Rattle.chain_store.specs.Replies.{Replies, is_no_memory};
+ghost use Rattle.chain_store.specs.Store.{Ready, journal_of};
+ghost use Rattle.counter.specs.Speech.{AreRepliesOf, ComesFirst, IsCause, IsWritten, clock_first};
+ghost use Rattle.counter.specs.declared.speaking.SpeechEnd.TheVariants as speech;
+ghost use Rattle.journal.specs.Journal.{stopped_of};
+ghost use Rattle.ports.specs.Sinks.{Sinks, Wrote, this_sink};
+ghost use Rattle.ports.specs.Sources.{SourceRose, Sources, this_source};
+ghost use Rattle.report.specs.Pieces.{chain_line};
+ghost use Rattle.report.specs.Status.{status_of};
+ghost use Rattle.shop_core.specs.History.{noted, recs};
+ghost use Rattle.till_calls.specs.Root.{parts_of};
+ghost use Rattle.open_shop.specs.Devices.{around_in, store_kind, this_call};
+ghost use Rattle.open_shop.specs.Opening.{IsOpened};
+ghost use Rattle.shop_commands.specs.Serve as spec;
+ghost use Rattle.shop_commands.specs.Serve.{Closes, FileServe, ServeEnds, SpeechEnds, post_with, sink_to, source_since};
+ghost use Rattle.open_shop.specs.Talking.{HasCome};
+
+use crate::day::{sender_end, sender_lacks_memory};
+use agency_port::{Agency, Turns};
+use agency_rules::Plan;
+use chain_disk::Disk;
+use counter::{Listener, SpeechEnd, all_numbers, answer};
+use dialogue::Task;
+use open_shop::{
+    Means, Opened, Post, Talked, begin, close, open, opening_end, talk,
+    what_a_disk_reads_is_an_image, who_keeps_the_rules_tells,
+};
+use parties::Nif;
+use ports::{Clock, Gate, Sink, Sleeper, Source};
+use record_codec::LAST_TILL;
+use report::{Detail, Ended, turns_text};
+use sender::DrainFault;
+use shop_core::{State, legal_is_chained};
+use std::alloc::Global;
+use std::sync::Wait;
+use std::thread::Threads;
+
+/// Opens the disk for this issuer, and answers the lines of the source one by one: each answer is written before the next line is
+/// read. The agency's session is opened once, with the pairs noted in the file, and a sender sends beside. Once the source has ended
+/// the sender drains, and the chain line is printed. A clock line ahead of every other line that is answered replaces clock and
+/// sleeper. All parts come back.
+pub fn serve_cmd<S, K, D, C, Z, G, T, R>(
+    rt: &R,
+    alloc: Global,
+    issuer: &Nif,
+    source: &mut S,
+    sink: &mut K,
+    post: Post<D, C, Z, G>,
+    gate: &T,
+) -> (Ended, Post<D, C, Z, G>)
+where
+    S: Source,
+    K: Sink,
+    D: Disk + Send + Drop,
+    C: Clock + Send + Drop,
+    Z: Sleeper + Send + Drop,
+    G: Agency + Send + Drop,
+    T: Gate + Sync,
+    R: Threads + Wait + Sync,
+    ensures status { result.0.status ≡ status_of result.0.detail }
+    ensures ends { ServeEnds issuer.now (this_call (this_source S.left S.faults source.old source.new)
+        (this_sink K.taken K.faults sink.old sink.new) D.Disk C.Clock Z.Sleeper G.Agency post result.1) result.0.detail }
+{
+    let means = Means { rt, alloc, gate };
+    let (detail, post) = serve_file(means, issuer, source, sink, post);
+    (Ended::of(detail), post)
+}
+
+// Opens the file, and reads up to the first line that is answered.
+fn serve_file<S, K, D, C, Z, G, T, R>(
+    means: Means<'_, R, T>,
+    issuer: &Nif,
+    source: &mut S,
+    sink: &mut K,
+    post: Post<D, C, Z, G>,
+) -> (Detail, Post<D, C, Z, G>)
+where
+    S: Source,
+    K: Sink,
+    D: Disk + Send + Drop,
+    C: Clock + Send + Drop,
+    Z: Sleeper + Send + Drop,
+    G: Agency + Send + Drop,
+    T: Gate + Sync,
+    R: Threads + Wait + Sync,
+    ensures { ServeEnds issuer.now (this_call (this_source S.left S.faults source.old source.new)
+        (this_sink K.taken K.faults sink.old sink.new) D.Disk C.Clock Z.Sleeper G.Agency post result.1) result.0 }
+{
+    let Ok(mut listener) = Listener::new(means.alloc) else {
+        return (Detail::NoMemory, post);
+    };
+    match open(means.alloc, issuer, post) {
+        Err(unopened) => (opening_end(&unopened.why), unopened.post),
+        Ok(opened) => {
+            let first = listener.hear_first(means.rt, means.alloc, source);
+            let (detail, opened) = serve_first(means, listener, &first, source, sink, opened);
+            (detail, close(opened))
+        }
+    }
+}
+
+// START and STEP, where the first line that is answered is a clock line.
+fn clock_line(first: &Result<Task, SpeechEnd>) -> Option<(u64, u64)>
+    ensures { result ≡ clock_first first.now }
+{
+    match first {
+        Ok(
+            Task::Clock {
+                start,
+                step,
+                text: _,
+            },
+        ) => Some((*start, *step)),
+        _ => None,
+    }
+}
+
+// A clock line replaces clock and sleeper.
+fn serve_first<S, K, D, C, Z, G, T, R>(
+    means: Means<'_, R, T>,
+    listener: Listener,
+    first: &Result<Task, SpeechEnd>,
+    source: &mut S,
+    sink: &mut K,
+    opened: Opened<D, C, Z, G>,
+) -> (Detail, Opened<D, C, Z, G>)
+where
+    S: Source,
+    K: Sink,
+    D: Disk + Send + Drop,
+    C: Clock + Send + Drop,
+    Z: Sleeper + Send + Drop,
+    G: Agency + Send + Drop,
+    T: Gate + Sync,
+    R: Threads + Wait + Sync,
+    requires going_on { stopped_of (journal_of opened.store) ≡ None }
+    requires ready { Ready D.tells D.told opened.store }
+    requires first { HasCome (S.left source.old) (S.faults source.old) listener first.now }
+    ensures { (issuer : List ℕ) (disk : D) (left : Option (List ℕ)) (faults : ℕ) →
+        IsOpened issuer (store_kind D.Disk C.Clock) disk (parts_of opened.store).clock (parts_of opened.store) →
+        ComesFirst left (S.left source.old) listener first.now → faults ≤ S.faults source.old →
+        IsCause faults (S.faults source.old) first.now →
+        FileServe issuer (clock_first first.now) (clock_first first.now) (source_since left faults (S.left source.new)
+        (S.faults source.new)) (around_in (this_sink K.taken K.faults sink.old sink.new) D.Disk C.Clock Z.Sleeper G.Agency
+        (post_with disk (parts_of opened.store) opened.sleeper opened.agency)
+        (post_with (parts_of result.1.store).disk (parts_of result.1.store) result.1.sleeper result.1.agency)) result.0 }
+{
+    let Some((start, step)) = clock_line(first) else {
+        return serve_opened(means, listener, first, source, sink, opened);
+    };
+    let (own, clock, sleeper) = opened.with_own_time(start, step);
+    let (detail, own) = serve_opened(means, listener, first, source, sink, own);
+    (detail, own.with_time(clock, sleeper))
+}
+
+// Begins the shop of an opened file, with all its tills, and answers line by line. The room for the tills is made first.
+fn serve_opened<S, K, D, C, Z, G, T, R>(
+    means: Means<'_, R, T>,
+    listener: Listener,
+    first: &Result<Task, SpeechEnd>,
+    source: &mut S,
+    sink: &mut K,
+    opened: Opened<D, C, Z, G>,
+) -> (Detail, Opened<D, C, Z, G>)
+where
+    S: Source,
+    K: Sink,
+    D: Disk + Send + Drop,
+    C: Clock + Send + Drop,
+    Z: Sleeper + Send + Drop,
+    G: Agency + Send + Drop,
+    T: Gate + Sync,
+    R: Threads + Wait + Sync,
+    requires going_on { stopped_of (journal_of opened.store) ≡ None }
+    requires ready { Ready D.tells D.told opened.store }
+    requires first { HasCome (S.left source.old) (S.faults source.old) listener first.now }
+    ensures { (issuer : List ℕ) (disk : D) (left : Option (List ℕ)) (faults : ℕ) →
+        IsOpened issuer (store_kind D.Disk C.Clock) disk (parts_of opened.store).clock (parts_of opened.store) →
+        ComesFirst left (S.left source.old) listener first.now → faults ≤ S.faults source.old →
+        IsCause faults (S.faults source.old) first.now →
+        FileServe issuer None (clock_first first.now) (source_since left faults (S.left source.new) (S.faults source.new))
+        (around_in (this_sink K.taken K.faults sink.old sink.new) D.Disk C.Clock Z.Sleeper G.Agency
+        (post_with disk (parts_of opened.store) opened.sleeper opened.agency)
+        (post_with (parts_of result.1.store).disk (parts_of result.1.store) result.1.sleeper result.1.agency)) result.0 }
+{
+    what_a_disk_reads_is_an_image::<D>();
+    who_keeps_the_rules_tells::<G>();
+    legal_is_chained();
+    let Ok(numbers) = all_numbers(means.alloc) else {
+        return (Detail::NoMemory, opened);
+    };
+    let Ok(held) = Vec::with_capacity(means.alloc, usize::from(LAST_TILL)) else {
+        return (Detail::NoMemory, opened);
+    };
+    match begin(means.alloc, &Plan::plain(means.alloc), &numbers, opened) {
+        Err(opened) => (Detail::NoMemory, opened),
+        Ok(begun) => {
+            let Talked {
+                opened,
+                how,
+                lacked,
+                answer,
+            } = talk(means, listener, held, first, source, sink, begun);
+            let closed = close_speech(means.alloc, how, opened.store.state(), sink);
+            let detail = speech_end(closed, lacked, &answer, opened.store.state());
+            (detail, opened)
+        }
+    }
+}
+
+// Writes the chain line behind a source that was read to its end.
+fn close_speech<K: Sink>(alloc: Global, how: SpeechEnd, state: &State, sink: &mut K) -> SpeechEnd
+    ensures closes { Closes how result }
+    ensures printed { (taken : Option (List ℕ)) (faults : ℕ) (text : List ℕ) →
+        IsWritten how (sink_to taken faults (K.taken sink.old) (K.faults sink.old)) text → faults ≤ K.faults sink.old →
+        IsWritten result (sink_to taken faults (K.taken sink.new) (K.faults sink.new))
+        (spec.printed how text (chain_line (length (recs state.now.entries)) (length (noted state.now.entries)))) }
+{
+    match how {
+        SpeechEnd::Ended => write_chain(alloc, state, sink),
+        SpeechEnd::ReadFault => SpeechEnd::ReadFault,
+        SpeechEnd::WriteFault => SpeechEnd::WriteFault,
+        SpeechEnd::NoMemory => SpeechEnd::NoMemory,
+        SpeechEnd::Stopped => SpeechEnd::Stopped,
+    }
+}
+
+fn write_chain<K: Sink>(alloc: Global, state: &State, sink: &mut K) -> SpeechEnd
+    ensures closes { Closes speech.Ended result }
+    ensures written { (taken : Option (List ℕ)) (faults : ℕ) (text : List ℕ) →
+        Wrote (sink_to taken faults (K.taken sink.old) (K.faults sink.old)) text → faults ≤ K.faults sink.old →
+        IsWritten result (sink_to taken faults (K.taken sink.new) (K.faults sink.new))
+        (text ++ chain_line (length (recs state.now.entries)) (length (noted state.now.entries))) }
+{
+    match turns_text(alloc, &Turns::new(alloc), state.records(), state.noted()) {
+        Err(_) => SpeechEnd::NoMemory,
+        Ok(text) => match answer(sink, text.as_slice()) {
+            None => SpeechEnd::Ended,
+            Some(end) => end,
+        },
+    }
+}
+
+// The end of a dialogue that ended so, its chain line written or not: want of memory before a fault of the disk, that before a
+// contradiction and an undelivered drain, and these before a fault of the source or of the sink.
+fn speech_end(how: SpeechEnd, lacked: bool, sent: &Result<(), DrainFault>, state: &State) -> Detail
+    requires counts { OnOk sent.now (length (noted state.now.entries) ≡ length (recs state.now.entries)) }
+    ensures { (began : SpeechEnd) (replies : Replies) (text : List ℕ) (s : Sources) (k : Sinks) → Closes began how →
+        AreRepliesOf began replies → lacked ≡ list_any is_no_memory replies → (began ≡ speech.ReadFault → SourceRose s) →
+        IsWritten how k text → SpeechEnds began replies sent.now (length (noted state.now.entries))
+        (length (recs state.now.entries)) text s k result }
+{
+    if lacked {
+        return Detail::NoMemory;
+    }
+    if sender_lacks_memory(sent) {
+        return Detail::NoMemory;
+    }
+    end_of(how, sent, state)
+}
+
+fn end_of(how: SpeechEnd, sent: &Result<(), DrainFault>, state: &State) -> Detail
+    ensures { result ≡ spec.end_of how (length (noted state.now.entries)) (length (recs state.now.entries)) sent.now }
+{
+    match how {
+        SpeechEnd::Ended => sent_end(sent, state, Detail::Done),
+        SpeechEnd::ReadFault => sent_end(sent, state, Detail::ReadFault),
+        SpeechEnd::WriteFault => sent_end(sent, state, Detail::WriteFault),
+        SpeechEnd::NoMemory => Detail::NoMemory,
+        SpeechEnd::Stopped => Detail::DiskFault,
+    }
+}
+
+// The end by the sender's answer: this one where no record waits.
+fn sent_end(sent: &Result<(), DrainFault>, state: &State, done: Detail) -> Detail
+    ensures { result ≡ spec.sent_end (length (noted state.now.entries)) (length (recs state.now.entries)) done sent.now }
+{
+    match sent {
+        Ok(()) => done,
+        Err(fault) => sender_end(*fault, state.noted(), state.records()),
+    }
+}
