@@ -1,5 +1,5 @@
 -- What the messages of a drain say of the lines that a file and its copy have.
-use Rattle.std.proofs.Common.{◌≡◌, ◌∙◌, ◌⊎◌, inl, inr, refl, sym, ap, subst, arith, ℕ, ◌≤◌, List, [], ◌∷◌, ◌++◌, length}
+use Rattle.std.proofs.Common.{◌≡◌, ◌∙◌, ◌⊎◌, inl, inr, sym, ap, subst, arith, ℕ, ◌≤◌, List, [], ◌∷◌, ◌++◌, length}
 use Rattle.std.proofs.Common.{append-nil, append_assoc, Result, Err}
 use Rattle.std.specs.List.{AllByRecursion}
 use Rattle.agency_port.specs.declared.messages.Message.{Message}

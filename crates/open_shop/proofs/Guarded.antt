@@ -1,12 +1,12 @@
 -- What a drain over a store and its standby leaves of both.
-use Rattle.std.proofs.Common.{◌≡◌, ◌∙◌, ◌⊎◌, inl, inr, refl, sym, ap, subst, subst₂, arith, ℕ, ◌+◌, ◌-◌, ◌^◌, ◌<◌, ◌≤◌, List, [], ◌∷◌, ◌++◌}
-use Rattle.std.proofs.Common.{append-nil, Bool, true, false, IsTrue, Option, Some, None, Result}
+use Rattle.std.proofs.Common.{◌≡◌, ◌∙◌, ◌⊎◌, inl, inr, refl, sym, ap, subst, subst₂, arith, ℕ, ◌≤◌, List, [], ◌∷◌, ◌++◌}
+use Rattle.std.proofs.Common.{append-nil, Bool, false, IsTrue, Option, Some, None}
 use Rattle.std.specs.Prelude.{IsSome}
 use Rattle.std.specs.List.{AllByRecursion}
-use Rattle.chain_disk.specs.OnDisk.{IsImage, LeavesNow, OnDisk}
+use Rattle.chain_disk.specs.OnDisk.{IsImage, OnDisk}
 use Rattle.chain_disk.specs.Runs.{leaves_now, started, weaker}
 use Rattle.chain_store.specs.Crashes.{StandsBetween, StandsForEnd, StandsUpTo}
-use Rattle.chain_store.specs.Ready.{Holds, IsReady, noted_next}
+use Rattle.chain_store.specs.Ready.{Holds, IsReady}
 use Rattle.huella.specs.Linked.{Linked}
 use Rattle.once_world.specs.Agreement.{Agree}
 use Rattle.ports.specs.Causes.{Rose}
@@ -19,7 +19,7 @@ use Rattle.shop_core.specs.File.Files.{StandsFor}
 use Rattle.shop_core.specs.History.{is_record, recs}
 use Rattle.shop_core.specs.Legal.{Legal}
 use Rattle.shop_core.specs.Prefix.{IsPrefix}
-use Rattle.standby.specs.Chains.{ChainOnDisk, GoesTo, IsSoundChain, IsStop, StandsForEither, longest, with_torn}
+use Rattle.standby.specs.Chains.{ChainOnDisk, GoesTo, IsSoundChain, StandsForEither, longest, with_torn}
 use Rattle.standby.specs.Pairs.{AddsNotes, AreBeside, Both, IsPair, first_stop, stop_of}
 use Rattle.open_shop.specs.Draining.{AddsNotesAlone, AgreesInFile, AreNotesEntry, Beginning, DiskSpan, IsDiskAnswer, IsSession}
 use Rattle.open_shop.specs.Draining.{IsUnopened, Span, StillAgrees, torn_in}

@@ -1,6 +1,6 @@
 -- A copy that is brought up to an opened file, or why it isn't.
-use Rattle.std.proofs.Common.{◌≡◌, ◌∙◌, ◌⊎◌, inl, inr, refl, sym, ap, subst, subst₂, arith, ℕ, ◌+◌, ◌<◌, ◌≤◌, List, [], ◌++◌, length}
-use Rattle.std.proofs.Common.{append-nil, Bool, IsTrue, None, Result, Ok, Err}
+use Rattle.std.proofs.Common.{◌≡◌, ◌∙◌, inl, inr, refl, sym, ap, subst, subst₂, arith, ℕ, ◌+◌, ◌≤◌, List, length}
+use Rattle.std.proofs.Common.{Bool, IsTrue, None, Result, Ok, Err}
 use Rattle.std.specs.Prelude.{IfErr, IfOk}
 use Rattle.chain_disk.specs.Disks.{Disks, this_disk}
 use Rattle.chain_disk.specs.OnDisk.{IsImage, LeavesOnly, OnDisk, synced}
@@ -11,7 +11,6 @@ use Rattle.ports.specs.Causes.{Rose}
 use Rattle.record_codec.specs.declared.entry.Entry.{Entry}
 use Rattle.record_fields.specs.declared.versions.Version.{Version}
 use Rattle.report.specs.declared.status.Detail.{Detail}
-use Rattle.report.specs.declared.status.Detail.TheVariants as detail
 use Rattle.shop_core.specs.File.Files.{StandsFor}
 use Rattle.shop_core.specs.File.Laws.{NotBegunIsNeither}
 use Rattle.shop_core.specs.Prefix.{IsPrefix}

@@ -1,63 +1,33 @@
 -- How a day ends, and what its clause says of the whole call.
-use Rattle.std.proofs.Common.{◌≡◌, ◌⊎◌, inl, inr, ℕ, ◌+◌, ◌-◌, ◌^◌, ◌<◌, ◌≤◌, List, [], ◌∷◌, length, map, sym, ◌∙◌, ap}
-use Rattle.std.proofs.Common.{subst, refl, arith, Bool, true, false, IsTrue, Option, Some, None, Result, Ok, Err}
+use Rattle.std.proofs.Common.{◌≡◌, ◌⊎◌, inl, inr, ℕ, ◌+◌, ◌-◌, ◌^◌, ◌<◌, ◌≤◌, List, length, map, sym, ◌∙◌, ap}
+use Rattle.std.proofs.Common.{subst, refl, arith, true, false, IsTrue, Option, Some, None, Err}
 use Rattle.std.specs.Prelude.{◌≢◌, IsErrOf}
-use Rattle.std.specs.List.{AllByRecursion, list_any, range_with_len}
-use Rattle.std.proofs.lemmas.List.{append-nil}
+use Rattle.std.specs.List.{AllByRecursion, range_with_len}
 use Rattle.std.proofs.lemmas.List.Elements.{filter_passes}
-use Rattle.record_fields.specs.declared.versions.Version.{Version}
-use Rattle.chain_disk.specs.OnDisk.{IsImage, LeavesNow, LeavesOnly, synced}
-use Rattle.chain_disk.specs.Runs.{follows, weaker}
-use Rattle.chain_disk.specs.Disks.{DiskRose, this_disk}
-use Rattle.huella.specs.Linked.{Linked}
-use Rattle.journal.specs.declared.faults.StoreFault.TheVariants.{DiskFault, Stopped, NoMemory}
-use Rattle.ports.specs.Causes.{Rose}
-use Rattle.ports.specs.Readings.{IsTold}
-use Rattle.ports.specs.Sinks.{Sinks, WroteNothing}
-use Rattle.record_codec.specs.declared.entry.Entry.{Entry}
+use Rattle.chain_disk.specs.Disks.{DiskRose}
 use Rattle.record_codec.specs.declared.entry.TheConstants.{LAST_TILL}
-use Rattle.recovery.specs.Opening.{IsFound}
 use Rattle.report.specs.declared.status.Detail.{Detail}
 use Rattle.report.specs.declared.status.Detail.TheVariants as detail
 use Rattle.agency_port.specs.declared.turns.Evidence.{Evidence}
-use Rattle.shop_core.specs.Prefix.{IsPrefix}
-use Rattle.once_world.specs.Agreement.{Agree}
-use Rattle.sender.specs.Turning.{Desk, AgencyKind}
-use Rattle.sender.specs.declared.answers.DrainFault.{DrainFault}
 use Rattle.sender.specs.declared.answers.DrainFault.TheVariants as drain
 use Rattle.sender.specs.declared.draining.TheConstants.{MAX_LINK_FAULTS}
 use Rattle.script.specs.declared.forms.Form.TheVariants.{Full}
 use Rattle.script.specs.declared.scripts.Script.{Script}
 use Rattle.shop_core.specs.Answer.Requests.{Asked}
-use Rattle.shop_core.specs.File.Files.{StandsFor}
 use Rattle.shop_core.specs.History.{recs, noted}
-use Rattle.shop_core.specs.Legal.{Legal}
-use Rattle.shop_core.specs.Rising.{SerialsRise}
-use Rattle.till_calls.specs.Root.{Parts, root_of}
-use Rattle.till_calls.specs.Sound.{IsLater}
-use Rattle.open_shop.specs.Beside.{DayRunEnds, IsUnbegun, SendsBeside, ShowsLast, StaysAgreed}
+use Rattle.open_shop.specs.Beside.{DayRunEnds, ShowsLast}
 use Rattle.open_shop.specs.Beside.DayRunEnds.{done, write_fault, undelivered, contradiction, disk_fault, no_memory}
-use Rattle.chain_store.specs.Crashes.{Kept, StandsUpTo, StandsForEnd}
-use Rattle.open_shop.specs.Crashes.{StandsSince}
 use Rattle.shop_commands.specs.Day.{DayEnds, DayServed, FileDay}
 use Rattle.shop_commands.specs.Day.{Outcome, day_of, day_text}
-use Rattle.open_shop.specs.Days.{Day, Stop, TillReplies, all_replies, shop_day, stop_of, torn_of}
+use Rattle.open_shop.specs.Days.{Day, TillReplies, all_replies}
 use Rattle.chain_store.specs.Clocks.{Clocks, LeftClock}
-use Rattle.open_shop.specs.Devices.{Agencies, AllDevices, Around, LeftSleeper, Sleepers, StoreKind, around}
-use Rattle.chain_store.specs.Clocks.{this_clock}
+use Rattle.open_shop.specs.Devices.{AllDevices, Around, LeftSleeper, Sleepers, around}
 use Rattle.shop_commands.specs.Drain.{AgreesAtStart, AllLeft, NothingRose}
-use Rattle.open_shop.specs.Draining.{AgreesInFile, IsDiskAnswer, OpensSession, noted_pairs, torn_in}
 use Rattle.chain_store.specs.Readings.{readings_of}
 use Rattle.shop_commands.specs.Scripts.{IsGoodScript}
 use Rattle.shop_commands.specs.Scripts.ScriptedEnds.{ran}
-use Rattle.chain_store.specs.Replies.{AllGoOn, Replies, is_disk_fault}
-use Rattle.open_shop.specs.Tills.{DayRun, RecordedBy, StopIs, ServedRun, TillServed, has_asks, tills_of}
-use Rattle.open_shop.specs.Tills.RecordedBy.{sender, till as by_till}
-use Rattle.open_shop.specs.Tills.ServedRun.{unasked, answered, torn as tears, stopped as told_stop, without_memory}
-use Rattle.open_shop.proofs.Closing.{between, either}
+use Rattle.open_shop.specs.Tills.{StopIs, has_asks, tills_of}
 use Rattle.open_shop.proofs.Each.{each_of_all, each_unmap, each_weaker}
-use Rattle.open_shop.proofs.Finishing.{since_found}
-use Rattle.open_shop.proofs.Joined.{torn_same}
 use Rattle.shop_commands.proofs.RunEnding.{not_opened_by, rose_opening}
 use Rattle.shop_commands.proofs.ShopDays.{IsDayOf, agency_by, crashes_by, history_by, rose_day, sender_by, tills_by}
 

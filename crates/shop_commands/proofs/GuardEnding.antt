@@ -1,6 +1,6 @@
 -- How a drain over a file and its copy ends.
-use Rattle.std.proofs.Common.{◌≡◌, ◌∙◌, ◌⊎◌, inl, inr, refl, sym, ap, subst, arith, ℕ, ◌+◌, ◌-◌, ◌^◌, ◌<◌, ◌≤◌, List, [], ◌++◌}
-use Rattle.std.proofs.Common.{append_assoc, append-nil, Bool, true, IsTrue, Option, Some, None, Result, Ok, Err}
+use Rattle.std.proofs.Common.{◌≡◌, ◌∙◌, ◌⊎◌, inl, inr, refl, sym, ap, subst, arith, ℕ, ◌+◌, ◌-◌, ◌^◌, ◌<◌, ◌≤◌, List, ◌++◌}
+use Rattle.std.proofs.Common.{append_assoc, Bool, true, IsTrue, Option, Some, None}
 use Rattle.std.specs.Prelude.{IsSome}
 use Rattle.agency_rules.specs.declared.plans.Plan.{Plan}
 use Rattle.chain_disk.specs.Disks.{DiskRose, Disks, this_disk}
@@ -17,7 +17,6 @@ use Rattle.recovery.specs.Opening.{IsFound}
 use Rattle.report.specs.declared.status.Detail.{Detail}
 use Rattle.report.specs.declared.status.Detail.TheVariants as detail
 use Rattle.script.specs.declared.scripts.Script.{Script}
-use Rattle.sender.specs.declared.answers.DrainFault.TheVariants as drain
 use Rattle.sender.specs.declared.draining.TheConstants.{MAX_LINK_FAULTS}
 use Rattle.shop_core.specs.File.Files.{StandsFor}
 use Rattle.shop_core.specs.Prefix.{IsPrefix}
@@ -25,7 +24,7 @@ use Rattle.standby.specs.Chains.{ChainOnDisk}
 use Rattle.till_calls.specs.Root.{Parts}
 use Rattle.open_shop.specs.Crashes.{StandsSince}
 use Rattle.open_shop.specs.Devices.{Agencies, LeftSleeper, Sleepers, StoreKind}
-use Rattle.shop_commands.specs.Drain.{AgreesAtStart, AllLeft, NothingRose, file_span, first_moment, tells_moment}
+use Rattle.shop_commands.specs.Drain.{AgreesAtStart, NothingRose, file_span, first_moment, tells_moment}
 use Rattle.open_shop.specs.Draining.{AddsNotesAlone, DiskSpan, DrainRunEnds, Outcome, Span, spanning}
 use Rattle.open_shop.specs.Draining.DrainRunEnds.{done, write_fault, undelivered, contradiction, disk_fault, no_memory}
 use Rattle.shop_commands.specs.Follow.{IsFollowImage}
@@ -34,7 +33,7 @@ use Rattle.shop_commands.specs.Guard.{FileGuardEnds, FileGuarded, GuardsFile, Is
 use Rattle.shop_commands.specs.Guard.{GuardImage, ScriptGuardEnds, guard_text, whole_span}
 use Rattle.shop_commands.specs.Guard.IsUncopied.{disk_fault as copy_fault}
 use Rattle.open_shop.specs.Guarding.{ChainDrained, GuardDrains, Held}
-use Rattle.open_shop.specs.Opening.{IsOpened, NotOpened}
+use Rattle.open_shop.specs.Opening.{IsOpened}
 use Rattle.open_shop.proofs.Closing.{never_in, undelivered_in}
 use Rattle.open_shop.proofs.Finishing.{since_found}
 use Rattle.shop_commands.proofs.RunEnding.{not_opened_by, rose_opening}

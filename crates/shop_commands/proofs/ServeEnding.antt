@@ -1,9 +1,9 @@
 -- How a dialogue with the tills of a shop ends, and what the clause of `serve` says of the whole call.
-use Rattle.std.proofs.Common.{◌≡◌, ◌⊎◌, inl, inr, ℕ, ◌+◌, ◌-◌, ◌^◌, ◌<◌, ◌≤◌, List, [], ◌∷◌, ◌++◌, length, map, sym, ◌∙◌, ap}
+use Rattle.std.proofs.Common.{◌≡◌, ◌⊎◌, inl, inr, ℕ, ◌+◌, ◌-◌, ◌^◌, ◌<◌, ◌≤◌, List, [], length, map, sym, ◌∙◌, ap}
 use Rattle.std.proofs.Common.{subst, refl, arith, Bool, true, false, IsTrue, Option, Some, None, Result, Ok, Err}
 use Rattle.std.specs.Prelude.{IsErrOf, drop}
 use Rattle.std.specs.Io.KnownBytes.{Consumes}
-use Rattle.std.specs.List.{AllByRecursion, list_any, range_with_len}
+use Rattle.std.specs.List.{list_any, range_with_len}
 use Rattle.agency_port.specs.declared.turns.Evidence.{Evidence}
 use Rattle.agency_rules.specs.Plans.{plain}
 use Rattle.chain_disk.specs.Disks.{DiskRose, this_disk}

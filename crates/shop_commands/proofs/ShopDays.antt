@@ -1,10 +1,9 @@
 -- What a day of an opened store is of the call that opened it.
-use Rattle.std.proofs.Common.{◌≡◌, ◌⊎◌, inl, inr, ℕ, ◌+◌, ◌-◌, ◌^◌, ◌<◌, ◌≤◌, List, [], ◌∷◌, length, map, sym, ◌∙◌, ap}
-use Rattle.std.proofs.Common.{subst, refl, arith, Bool, true, false, IsTrue, Option, Some, None, Result, Ok, Err}
-use Rattle.std.specs.Prelude.{◌≢◌, IsErrOf, drop}
-use Rattle.std.specs.List.{AllByRecursion, list_any, range_with_len}
+use Rattle.std.proofs.Common.{◌≡◌, ◌⊎◌, inl, inr, ℕ, ◌+◌, ◌-◌, ◌^◌, ◌<◌, ◌≤◌, List, [], ◌∷◌, length, sym, ◌∙◌}
+use Rattle.std.proofs.Common.{subst, refl, arith, Bool, true, IsTrue, Option, Some, None, Result, Ok, Err}
+use Rattle.std.specs.Prelude.{◌≢◌, drop}
+use Rattle.std.specs.List.{AllByRecursion, list_any}
 use Rattle.std.proofs.lemmas.List.{append-nil}
-use Rattle.std.proofs.lemmas.List.Elements.{filter_passes}
 use Rattle.record_fields.specs.declared.versions.Version.{Version}
 use Rattle.chain_disk.specs.OnDisk.{IsImage, LeavesNow, LeavesOnly, synced}
 use Rattle.chain_disk.specs.Runs.{follows, weaker}
@@ -16,7 +15,6 @@ use Rattle.ports.specs.Causes.{Rose}
 use Rattle.ports.specs.Readings.{IsTold}
 use Rattle.ports.specs.Sinks.{Sinks, WroteNothing}
 use Rattle.record_codec.specs.declared.entry.Entry.{Entry}
-use Rattle.record_codec.specs.declared.entry.TheConstants.{LAST_TILL}
 use Rattle.recovery.specs.Opening.{IsFound}
 use Rattle.report.specs.declared.status.Detail.{Detail}
 use Rattle.report.specs.declared.status.Detail.TheVariants as detail
@@ -27,7 +25,6 @@ use Rattle.sender.specs.declared.answers.DrainFault.{DrainFault}
 use Rattle.sender.specs.declared.answers.DrainFault.TheVariants as drain
 use Rattle.sender.specs.declared.draining.TheConstants.{MAX_LINK_FAULTS}
 use Rattle.shop_core.specs.Answer.Requests.{Asked}
-use Rattle.shop_core.specs.File.Files.{StandsFor}
 use Rattle.shop_core.specs.History.{recs, noted}
 use Rattle.shop_core.specs.Legal.{Legal}
 use Rattle.shop_core.specs.Rising.{SerialsRise}
@@ -38,19 +35,17 @@ use Rattle.chain_store.specs.Crashes.{Kept, StandsUpTo, StandsForEnd}
 use Rattle.open_shop.specs.Crashes.{StandsSince}
 use Rattle.shop_commands.specs.Day.{EachCrash, EachTillOf, HistoryGoesOn, ItsAgency, NotServed, Outcome, TellsOfSender, day_with}
 use Rattle.open_shop.specs.Days.{Day, Stop, TillReplies, all_replies, shop_day, stop_of, torn_of}
-use Rattle.chain_store.specs.Clocks.{Clocks, LeftClock}
-use Rattle.open_shop.specs.Devices.{Agencies, AllDevices, Around, LeftSleeper, Sleepers, StoreKind, around}
+use Rattle.open_shop.specs.Devices.{Agencies, Around, LeftSleeper, Sleepers, StoreKind}
 use Rattle.chain_store.specs.Clocks.{this_clock}
-use Rattle.shop_commands.specs.Drain.{AgreesAtStart, LeavesTime}
+use Rattle.shop_commands.specs.Drain.{LeavesTime}
 use Rattle.open_shop.specs.Opening.{IsOpened}
 use Rattle.open_shop.specs.Draining.{AgreesInFile, IsDiskAnswer, OpensSession, noted_pairs, torn_in}
-use Rattle.chain_store.specs.Readings.{readings_of}
 use Rattle.chain_store.specs.Replies.{AllGoOn, Replies, is_disk_fault}
 use Rattle.open_shop.specs.Tills.{DayRun, RecordedBy, StopIs, ServedRun, TillServed, own_of}
 use Rattle.open_shop.specs.Tills.RecordedBy.{sender, till as by_till}
 use Rattle.open_shop.specs.Tills.ServedRun.{unasked, answered, torn as tears, stopped as told_stop, without_memory}
 use Rattle.open_shop.proofs.Closing.{between, either}
-use Rattle.open_shop.proofs.Each.{each_of_all, each_unmap, each_weaker}
+use Rattle.open_shop.proofs.Each.{each_weaker}
 use Rattle.open_shop.proofs.Finishing.{since_found}
 use Rattle.open_shop.proofs.Joined.{torn_same}
 

@@ -1,11 +1,9 @@
 -- What was written of a dialogue, and the end that it comes to.
-use Rattle.std.proofs.Common.{◌≡◌, ◌⊎◌, inl, inr, ℕ, ◌+◌, ◌-◌, ◌^◌, ◌<◌, ◌≤◌, Bool, false, true, List, ◌++◌, length, refl, sym, ◌∙◌, subst, arith}
-use Rattle.std.proofs.Common.{Option, Some, None, Result, Ok, Err, OnOk, take}
-use Rattle.std.specs.Io.KnownBytes.{Appends}
+use Rattle.std.proofs.Common.{◌≡◌, ◌⊎◌, inl, inr, ℕ, ◌+◌, ◌≤◌, false, List, ◌++◌, length, refl, sym, subst, arith}
+use Rattle.std.proofs.Common.{Option, Some, Result, Ok, Err, OnOk, take}
 use Rattle.std.specs.List.{list_any}
 use Rattle.std.proofs.KnownBytes.{Appends-trans}
 use Rattle.std.proofs.Math.Seq.{take-append-add, take-append_seam}
-use Rattle.std.proofs.lemmas.List.{take_all}
 use Rattle.chain_store.specs.Replies.{AllGoOn, AllReplied, Replies, is_no_memory}
 use Rattle.counter.specs.Speech.{AreRepliesOf, IsAnswered, IsWritten}
 use Rattle.counter.specs.declared.speaking.SpeechEnd.{SpeechEnd}
@@ -14,12 +12,11 @@ use Rattle.journal.specs.declared.faults.StoreFault.TheVariants as store
 use Rattle.ports.specs.Sinks.{FailedIn, Sinks, Wrote, WrotePart}
 use Rattle.ports.specs.Sources.{SourceRose, Sources}
 use Rattle.report.specs.declared.status.Detail.{Detail}
-use Rattle.report.specs.declared.status.Detail.TheVariants as detail
 use Rattle.sender.specs.declared.answers.DrainFault.{DrainFault}
 use Rattle.sender.specs.declared.answers.DrainFault.TheVariants as drain
 use Rattle.open_shop.specs.Beside.{sender_end, sender_lacks_memory}
 use Rattle.open_shop.specs.Draining.{IsDiskAnswer}
-use Rattle.shop_commands.specs.Serve.{Closes, SpeechEnds, end_of, printed, sink_to}
+use Rattle.shop_commands.specs.Serve.{Closes, SpeechEnds, end_of, sink_to}
 use Rattle.shop_commands.specs.Serve.SpeechEnds.{done, read_fault, write_fault, undelivered, contradiction, disk_fault, no_memory}
 use Rattle.shop_commands.proofs.Bytewise.{part_of_output}
 use Rattle.shop_commands.proofs.Finished.{either_part}

@@ -1,5 +1,5 @@
 -- How `guard` ends, and what it leaves of the file and of its copy.
-use Rattle.std.specs.Prelude.{◌≡◌, ◌⊎◌, ℕ, ◌+◌, ◌-◌, ◌^◌, ◌<◌, ◌≤◌, ◌++◌, List, length, Bool, true, IsTrue, IsSome, Option, Some, None}
+use Rattle.std.specs.Prelude.{◌≡◌, ◌⊎◌, ℕ, ◌+◌, ◌-◌, ◌^◌, ◌<◌, ◌≤◌, ◌++◌, List, length, Bool, IsTrue, IsSome, None}
 use Rattle.agency_port.specs.declared.turns.Told.{Told as TurnLine}
 use Rattle.agency_rules.specs.declared.plans.Plan.{Plan}
 use Rattle.chain_disk.specs.Disks.{DiskRose, Disks, LeftDisk}

@@ -1,41 +1,31 @@
 -- How `serve` ends.
-use Rattle.std.specs.Prelude.{◌≡◌, ◌≤◌, ◌⊎◌, ℕ, Bool, true, false, List, [], ◌++◌, length, map, IsTrue, Option, None, Result, Ok, Err}
+use Rattle.std.specs.Prelude.{◌≡◌, ◌⊎◌, ℕ, true, false, List, ◌++◌, length, IsTrue, Option, Result, Ok, Err}
 use Rattle.std.specs.Io.KnownBytes.{Consumes}
-use Rattle.std.specs.List.{AllByRecursion, list_any, range_with_len}
+use Rattle.std.specs.List.{list_any, range_with_len}
 use Rattle.agency_port.specs.declared.turns.Evidence.{Evidence}
 use Rattle.agency_rules.specs.Plans.{plain}
 use Rattle.chain_disk.specs.Disks.{DiskRose}
 use Rattle.chain_store.specs.Replies.{AllReplied, Replies, is_disk_fault, is_no_memory}
-use Rattle.counter.specs.InARow.{IsOfTill, replies_of}
-use Rattle.counter.specs.Speech.{AreRepliesOf, ComesFirst, IsCause, IsRead, IsWritten, Moment, sink_since}
-use Rattle.counter.specs.declared.listener.Listener.{Listener}
 use Rattle.counter.specs.declared.speaking.SpeechEnd.{SpeechEnd}
 use Rattle.counter.specs.declared.speaking.SpeechEnd.TheVariants as speech
-use Rattle.dialogue.specs.Protocol.{Dialogue, clock_said}
-use Rattle.dialogue.specs.declared.hear.Task.{Task}
 use Rattle.ports.specs.Sinks.{FailedIn, Sinks, Wrote, WrotePart}
 use Rattle.ports.specs.Sources.{SourceRose, Sources}
 use Rattle.record_codec.specs.declared.entry.TheConstants.{LAST_TILL}
 use Rattle.report.specs.Pieces.{chain_line}
 use Rattle.report.specs.declared.status.Detail.{Detail}
 use Rattle.report.specs.declared.status.Detail.TheVariants as detail
-use Rattle.script.specs.declared.forms.Form.{Form}
-use Rattle.script.specs.declared.lines.Meaning.{Meaning}
-use Rattle.sender.specs.Turning.{AgencyKind, Desk}
 use Rattle.sender.specs.declared.answers.DrainFault.{DrainFault}
 use Rattle.sender.specs.declared.answers.DrainFault.TheVariants as drain
-use Rattle.shop_core.specs.Answer.Requests.{Asked}
 use Rattle.shop_core.specs.History.{noted, recs}
-use Rattle.till_calls.specs.Root.{Parts, Root}
+use Rattle.till_calls.specs.Root.{Parts}
 use Rattle.open_shop.specs.Beside.{sender_end, sender_lacks_memory}
 use Rattle.shop_commands.specs.Day.{EachCrash, EachTillOf, HistoryGoesOn, ItsAgency, NotServed, Outcome, TellsOfSender, day_with}
-use Rattle.open_shop.specs.Days.{Day, TillReplies, shop_day}
-use Rattle.open_shop.specs.Devices.{AllDevices, Around, LeftAll, ReadNothing, StoreKind, around}
+use Rattle.open_shop.specs.Days.{Day}
+use Rattle.open_shop.specs.Devices.{AllDevices, Around, LeftAll, ReadNothing, around}
 use Rattle.shop_commands.specs.Drain.{AgreesAtStart, AllLeft, LeavesTime, NothingRose}
 use Rattle.open_shop.specs.Draining.{IsDiskAnswer}
 use Rattle.open_shop.specs.Opening.{NotOpened}
 use Rattle.open_shop.specs.Talking.{IsSpeech, Speech}
-use Rattle.open_shop.specs.Tills.{DayRun}
 use Rattle.open_shop.specs.declared.posts.Post.{Post}
 
 -- what is printed: the answers, and the chain line behind a source that was read to its end

@@ -1,5 +1,5 @@
 -- The records that each till gains in a run.
-use Rattle.std.proofs.Common.{◌≡◌, inl, ◌≤◌, ℕ, ◌==◌, List, [], ◌∷◌, ◌++◌, append-nil, append_assoc, length, map, drop}
+use Rattle.std.proofs.Common.{◌≡◌, inl, ◌≤◌, ℕ, ◌==◌, List, [], ◌∷◌, ◌++◌, append-nil, length, map, drop}
 use Rattle.std.proofs.Common.{refl, sym, ◌∙◌, ap, subst, arith, Bool, true, false, Option, Some, None, Result, Ok, Err}
 use Rattle.std.specs.Prelude.{filter, if◌then◌else◌}
 use Rattle.std.specs.List.{AllByRecursion, range_with_len}
@@ -15,7 +15,7 @@ use Rattle.record_codec.specs.declared.entry.Entry.TheVariants.{Rec, Notes}
 use Rattle.record_codec.specs.declared.entry.TheConstants.{LAST_TILL}
 use Rattle.record_fields.specs.declared.lines.Line.{Line}
 use Rattle.record_fields.specs.declared.records.Sealed.{Sealed}
-use Rattle.shop_core.specs.History.{lines_in, noted}
+use Rattle.shop_core.specs.History.{noted}
 use Rattle.shop_core.specs.Answer.Making.{made_sealed}
 use Rattle.shop_core.specs.Answer.Plans.{kept}
 use Rattle.shop_core.specs.Answer.Refusals.{refusal}

@@ -6,7 +6,6 @@ use Rattle.chain_disk.specs.Disks.{Disks, LeftDisk}
 use Rattle.chain_disk.specs.OnDisk.{IsImage, LeavesOnly, synced}
 use Rattle.chain_disk.specs.Runs.{weaker}
 use Rattle.record_codec.specs.declared.entry.Entry.{Entry}
-use Rattle.record_fields.specs.declared.lines.Line.{Line}
 use Rattle.record_fields.specs.declared.versions.Version.{Version}
 use Rattle.recovery.specs.Opening.{IsFound}
 use Rattle.report.specs.declared.status.Detail.{Detail}
@@ -20,7 +19,7 @@ use Rattle.open_shop.specs.Draining.{Beginning, IsSession, IsUnopened, Span, spa
 use Rattle.shop_commands.specs.Follow.{IsFollowImage}
 use Rattle.shop_commands.specs.Guard.{FileGuarded, GuardEnds, GuardsFile}
 use Rattle.open_shop.specs.Guarding.{AreHeld, Held}
-use Rattle.verifactu.specs.Promise.{AgencyKept, BatchesKept, CopyGoesOn, FileKept, IsOwn, OnlyGuarded, TillsGain}
+use Rattle.verifactu.specs.Promise.{AgencyKept, BatchesKept, IsOwn, OnlyGuarded, TillsGain}
 use Rattle.verifactu.specs.Promise.AgencyKept.{silent, in_session}
 use Rattle.shop_commands.specs.Scripts.ScriptedEnds.{ran, bad_line, read_fault, too_big, no_memory}
 use Rattle.shop_commands.proofs.Follows.{untouched as untouched_image}
@@ -28,7 +27,7 @@ use Rattle.open_shop.proofs.Finishing.{since_found}
 use Rattle.shop_commands.proofs.GuardEnding.{further_image}
 use Rattle.verifactu.proofs.Gaining.{gains_notes, gains_nothing}
 use Rattle.open_shop.proofs.Guarded.{file_agrees}
-use Rattle.verifactu.proofs.Promised.{AreLinked, Grown, Left, goes_on, left_disk, legal_found, not_opened, own_of, same_found, whole}
+use Rattle.verifactu.proofs.Promised.{AreLinked, Left, goes_on, left_disk, legal_found, not_opened, own_of, same_found, whole}
 use Rattle.verifactu.proofs.Promised.Left.{begun_in_part, grown, untouched}
 use Rattle.verifactu.proofs.Sessions.{batches_of_drain, batches_silent, left_agency, since_opening, stays_of_chain}
 

@@ -1,6 +1,6 @@
 -- What a run leaves of its agency.
 use Rattle.std.proofs.Common.{◌≡◌, ◌⊎◌, inl, inr, ℕ, ◌+◌, List, [], ◌∷◌, ◌++◌, append-nil, append_assoc, length}
-use Rattle.std.proofs.Common.{refl, sym, ◌∙◌, ap, subst, arith, Bool, IsTrue, Option, Result, Ok, Err}
+use Rattle.std.proofs.Common.{refl, sym, ◌∙◌, ap, subst, arith, Bool, IsTrue, Option, Result}
 use Rattle.std.proofs.lemmas.List.{length-append}
 use Rattle.std.proofs.lemmas.List.Elements.{filter_map-append}
 use Rattle.record_fields.specs.declared.records.Sealed.{Sealed}
@@ -16,7 +16,6 @@ use Rattle.once_world.specs.Agreement.{Agree}
 use Rattle.sender.specs.Dark.{AreRunsBy}
 use Rattle.sender.specs.Turning.{Desk}
 use Rattle.sender.specs.declared.answers.DrainFault.{DrainFault}
-use Rattle.sender.specs.declared.answers.DrainFault.TheVariants as drain
 use Rattle.shop_core.specs.History.{noted, recs}
 use Rattle.open_shop.specs.Beside.{IsUnbegun}
 use Rattle.shop_core.specs.Answer.Requests.{Asked}
@@ -24,7 +23,7 @@ use Rattle.shop_commands.specs.Day.{ItsAgency, Outcome as DayOutcome, day_with}
 use Rattle.open_shop.specs.Days.{torn_of}
 use Rattle.open_shop.specs.Devices.{Agencies, Around}
 use Rattle.open_shop.specs.Draining.{AreOfChain, IsSession, IsUnopened, OpensSession, Outcome, SaysNothingBlindly, spanning}
-use Rattle.open_shop.specs.Noting.{AreNoted, MissesLast, NotesSaid, NotesWhatIsSaid, all_said, lines_said}
+use Rattle.open_shop.specs.Noting.{NotesSaid, NotesWhatIsSaid}
 use Rattle.verifactu.specs.Promise.{AgencyKept, BatchesKept, StaysOfChain}
 use Rattle.verifactu.specs.Promise.AgencyKept.{silent, in_session}
 use Rattle.open_shop.proofs.Batches.{runs_more}

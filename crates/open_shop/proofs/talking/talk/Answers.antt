@@ -1,23 +1,18 @@
-use Rattle.std.proofs.Common.{◌≡◌, ◌≤◌, ◌∙◌, ℕ, List, [], length, map, refl, rules, sym, ap, subst, arith, Option}
-use Rattle.std.specs.Prelude.{reverse}
-use Rattle.std.specs.List.{AllByRecursion, range_with_len}
+use Rattle.std.proofs.Common.{◌≡◌, ◌∙◌, ℕ, List, length, map, refl, rules, sym, ap, subst, arith}
+use Rattle.std.specs.List.{range_with_len}
 use Rattle.std.proofs.lemmas.List.{length-map, length-reverse}
 use Rattle.std.proofs.lemmas.List.FromFn.{length-range_with_len}
 use Rattle.record_codec.specs.declared.entry.Entry.{Entry}
-use Rattle.shop_core.specs.Answer.Requests.{Asked}
 use Rattle.shop_core.specs.declared.items.Item.{Item}
 use Rattle.shop_core.specs.declared.items.Item.TheVariants as item
 use Rattle.atomic_table.specs.Seated.{TableId}
 use Rattle.chain_lock.specs.Known.{Known}
-use Rattle.chain_store.specs.Replies.{Replies}
-use Rattle.counter.specs.Speech.{ComesFirst, IsCause, Spoken, clock_first, moment_of, moment_since}
 use Rattle.once_world.specs.Outbox.{Sight}
 use Rattle.sender.specs.Sending.{fresh}
 use Rattle.till_calls.specs.Mark.{Mark, mark_by, sight_by}
 use Rattle.till_calls.specs.Root.{Root, items_in, parts_of}
 use Rattle.till_calls.specs.Shop.{first_items, seat_knows, seat_shop, shop_root, till_knows, till_number, tills_know}
 use Rattle.open_shop.specs.Beside.{SendsOn}
-use Rattle.open_shop.specs.Days.{TillReplies}
 use Rattle.open_shop.specs.Devices.{agency_desk, agency_kind}
 use Rattle.open_shop.specs.Works.{Ran}
 use Rattle.open_shop.proofs.AllTills.{all_distinct, ran_in_a_row, read_failed}

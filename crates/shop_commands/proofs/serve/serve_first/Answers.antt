@@ -1,5 +1,5 @@
 use Rattle.std.proofs.Common.{◌≡◌, ◌∙◌, ℕ, None, Some, Option, true, ap, sym, subst}
-use Rattle.chain_disk.specs.Disks.{Disks, this_disk}
+use Rattle.chain_disk.specs.Disks.{this_disk}
 use Rattle.chain_store.specs.Clocks.{Clocks, this_clock}
 use Rattle.chain_store.specs.Store.{clock_of}
 use Rattle.counter.specs.Speech.{clock_first}

@@ -1,7 +1,6 @@
 use Rattle.std.proofs.Common.{◌≡◌, ◌⊎◌, ◌∙◌, inl, ℕ, List, length, refl, sym, subst, All, OnOk}
 use Rattle.std.specs.Int.{IsInRange}
 use Rattle.std.specs.List.{list_any}
-use Rattle.agency_rules.specs.Plans.{plain}
 use Rattle.agency_rules.specs.declared.plans.Plan.{Plan}
 use Rattle.chain_store.specs.Replies.{Replies, is_no_memory}
 use Rattle.counter.specs.Speech.{AreRepliesOf, IsWritten, clock_first, moment_of, moment_since}

@@ -16,12 +16,12 @@ returns-clause-follows g c =
         post = post;
         after = after;
         posts = record {
-              one = c.take_further-other.ensures.one;
-              one_after = c.put_further-more.ensures;
-              clock = refl;
-              sleeper = refl;
-              agency = refl;
-            };
+          one = c.take_further-other.ensures.one;
+          one_after = c.put_further-more.ensures;
+          clock = refl;
+          sleeper = refl;
+          agency = refl;
+        };
         follows = c.follow_cmd-ended.ensures.follows;
       };
       ends = c.follow_cmd-ended.ensures.ends;

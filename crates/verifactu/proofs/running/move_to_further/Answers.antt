@@ -16,12 +16,12 @@ returns-clause-moves g c =
         post = post;
         after = after;
         posts = record {
-              one = c.take_further-other.ensures.one;
-              one_after = c.put_further-more.ensures;
-              clock = refl;
-              sleeper = refl;
-              agency = refl;
-            };
+          one = c.take_further-other.ensures.one;
+          one_after = c.put_further-more.ensures;
+          clock = refl;
+          sleeper = refl;
+          agency = refl;
+        };
         moves = c.migrate_cmd-ended.ensures.moves;
       };
       ends = c.migrate_cmd-ended.ensures.ends;
