@@ -30,7 +30,7 @@ fn told_at(
 fn records_on(rt: &(impl AllocGlobal + Threads + Wait + Sync), disk: MemDisk) -> Result<u64, Fail> {
     let listing = listing_of(rt, disk)?;
     for (records, wanted) in (0u64..).zip(LISTINGS.iter()) {
-        if listing.as_str() == *wanted {
+        if listing.as_bytes() == wanted.as_bytes() {
             return Ok(records);
         }
     }
