@@ -67,6 +67,8 @@ struct Ran<D: Disk, C: Clock> {
     first: Result<Reply, StoreFault>,
     second: Result<Reply, StoreFault>,
     again: Result<Reply, StoreFault>,
+    // How many items till 2 knew of before till 1 was answered, and behind that, when it had asked for nothing.
+    seen: (u64, u64),
     count: u64,
     store: Store<D, C>,
 }
@@ -95,7 +97,9 @@ fn run_in_turns<D: Disk + Drop, C: Clock + Drop, R: Wait>(
     let Some(mut one) = tills.pull() else {
         return None;
     };
+    let before = shop.count_now(&mut two);
     let first = shop.ask(rt, alloc, &mut one, 1, request);
+    let behind = shop.count_now(&mut two);
     let second = shop.ask(rt, alloc, &mut two, 1, request);
     let again = shop.ask(rt, alloc, &mut one, 1, request);
     let count = shop.count_now(&mut two);
@@ -105,6 +109,7 @@ fn run_in_turns<D: Disk + Drop, C: Clock + Drop, R: Wait>(
         first,
         second,
         again,
+        seen: (before, behind),
         count,
         store: shop.close(tills, seat),
     })
@@ -145,6 +150,7 @@ fn two_tills_ask_one_after_the_other(rt: HostRuntime) -> Result<(), Fail> {
     let ran = run_over(&rt, rt.alloc(), Vec::new(rt.alloc()))?.ok_or("a shop")?;
     assert_eq!(rt; (taken_at(&ran.first), taken_at(&ran.second)), (1, 2));
     assert_eq!(rt; again_at(&ran.again), 1);
+    assert_eq!(rt; ran.seen, (0, 1));
     assert_eq!(rt; (ran.count, ran.store.state().records()), (2, 2));
     assert!(rt; ran.store.stopped().is_none());
     Ok(())
