@@ -1,5 +1,5 @@
 // The tills of a day: their room, and the work that each does in a thread of its own.
-ghost use Rattle.std.specs.Prelude.{◌≡◌, ◌≤◌, ◌<◌, ◌+◌, ◌++◌, ◌∷◌, [], ℕ, List, length, map, filter, reverse, All};
+ghost use Rattle.std.specs.Prelude.{◌≡◌, ◌≤◌, ◌<◌, ◌+◌, ◌++◌, ◌∷◌, [], List, length, map, filter, reverse, All};
 ghost use Rattle.std.specs.Prelude.{IfOk, OnOk, vec_len, vec_capacity};
 ghost use Rattle.shop_core.specs.Answer.Requests.{Asked};
 ghost use Rattle.till_calls.specs.Client.{TillRun};

@@ -1,5 +1,5 @@
 // The command `follow`: brings a copy on a second file up to the first one.
-ghost use Rattle.std.specs.Prelude.{◌≡◌, IsTrue, IfOk, IfErr};
+ghost use Rattle.std.specs.Prelude.{◌≡◌, IsTrue};
 ghost use Rattle.chain_disk.specs.Disks.{Disks, this_disk};
 ghost use Rattle.chain_disk.specs.OnDisk.{LeavesOnly};
 ghost use Rattle.ports.specs.Sinks.{this_sink};

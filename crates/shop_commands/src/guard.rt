@@ -22,7 +22,7 @@ use agency_port::Agency;
 use agency_rules::Plan;
 use chain_disk::Disk;
 use file_commands::write_texts;
-use open_shop::{GuardEnd, Opened, Post, close, guard_opened, open, opening_end};
+use open_shop::{GuardEnd, Post, close, guard_opened, open, opening_end};
 use parties::Nif;
 use ports::{Clock, Sink, Sleeper, Source};
 use report::{Detail, Ended, turns_text};
