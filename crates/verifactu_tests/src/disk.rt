@@ -29,8 +29,8 @@ fn told_at(
 // How many records an image has.
 fn records_on(rt: &(impl AllocGlobal + Threads + Wait + Sync), disk: MemDisk) -> Result<u64, Fail> {
     let listing = listing_of(rt, disk)?;
-    for (records, wanted) in (0u64..).zip(LISTINGS.iter()) {
-        if listing.as_bytes() == wanted.as_bytes() {
+    for (records, wanted) in (0u64..).zip(LISTINGS) {
+        if listing.as_str() == wanted {
             return Ok(records);
         }
     }
