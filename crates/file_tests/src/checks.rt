@@ -49,7 +49,7 @@ fn each_fault_has_its_status(rt: HostRuntime) -> Result<(), Fail> {
         (b"x", (0, 0), &[2; 40], 1, (6, Detail::DiskFault)),
         // The source comes first.
         (b"x", (1, 0), &[2; 40], 0, (4, Detail::ReadFault)),
-        (&long, (0, 0), &[2; 40], 0, (12, Detail::TooBig)),
+        (long.as_slice(), (0, 0), &[2; 40], 0, (12, Detail::TooBig)),
         (b"x", (0, 1), b"", 0, (5, Detail::WriteFault)),
     ];
     for (source, calls, file, failing, end) in rows {
