@@ -222,14 +222,20 @@ fn is_coded(alloc: Global, entry: &Entry, bytes: &[u8]) -> Result<bool, Fail>
 #[test]
 fn entries_have_their_bytes(rt: HostRuntime) -> Result<(), Fail> {
     let alloc = rt.alloc();
-    let sale = sale(alloc, "21")?;
-    assert!(rt; is_coded(alloc, &sale, &SALE)?);
+    assert!(rt; is_coded(alloc, &sale(alloc, "21")?, &SALE)?);
     assert!(rt; is_coded(alloc, &rectified(alloc)?, &RECTIFIED)?);
     assert!(rt; is_coded(alloc, &cancelled()?, &CANCELLED)?);
     assert!(rt; is_coded(alloc, &noted(alloc)?, &NOTED)?);
+    Ok(())
+}
+
+#[test]
+fn the_first_sale_is_written_in_73_bytes(rt: HostRuntime) -> Result<(), Fail> {
     let mut out = [0; 4096];
+    let sale = sale(rt.alloc(), "21")?;
     assert!(rt; fits(Version::One, &sale));
-    assert_eq!(rt; write_entry(Version::One, &sale, &mut out), 73);
+    let n = write_entry(Version::One, &sale, &mut out);
+    assert_eq!(rt; n, 73);
     assert!(rt; out.starts_with(&SALE));
     Ok(())
 }
@@ -388,10 +394,21 @@ fn a_line_has_its_tax_its_class_and_its_rate_in_version_two(rt: HostRuntime) -> 
     assert!(rt; has_line(alloc, "03/700", &line)?);
     let line = [0x01, 0x00, 0x08, 0x34, 0, 0, 0, 0, 0, 0, 0x27, 0x10];
     assert!(rt; has_line(alloc, "21", &line)?);
-    let bytes = written(alloc, Version::Two, &sale(alloc, "21")?)?;
+    Ok(())
+}
+
+// The bytes of the sale in version two.
+fn new_bytes(alloc: Global) -> Result<Vec<u8>, Fail> {
+    let entry = sale(alloc, "21")?;
+    written(alloc, Version::Two, &entry)
+}
+
+#[test]
+fn a_wrong_tax_class_or_rate_is_named(rt: HostRuntime) -> Result<(), Fail> {
+    let bytes = new_bytes(rt.alloc())?;
     assert!(rt; head_of(&bytes) == head_of(&SALE));
     for (place, byte, at) in OF_LINE {
-        let found = fault_with(alloc, Version::Two, &bytes, place, byte)?;
+        let found = fault_with(rt.alloc(), Version::Two, &bytes, place, byte)?;
         assert_eq!(rt; found, at, "{byte}");
     }
     Ok(())

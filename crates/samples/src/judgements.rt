@@ -178,8 +178,11 @@ const NEXT: &str = "02-01-2025";
 
 const GONE: Line = Line::Incorrecto(Cause::Gone);
 
+// A record's day, whether it cancels, its flag and its Huella, and what is met.
+type Arrival = (&'static str, bool, bool, u8, Delivered);
+
 // An alta, its mend with a warning, its cancellation, one that comes too late, one of another day, and the late one again.
-const ARRIVALS: [(&str, bool, bool, u8, Delivered); 6] = [
+const ARRIVALS: [Arrival; 6] = [
     (DAY, false, false, 1, Delivered::First(Line::Correcto)),
     (
         DAY,
@@ -194,28 +197,47 @@ const ARRIVALS: [(&str, bool, bool, u8, Delivered); 6] = [
     (DAY, true, true, 4, Delivered::Again(GONE)),
 ];
 
+// Whether a record that arrives meets this.
+fn arrives(alloc: Global, pairs: &mut Pairs, arrival: Arrival) -> Result<bool, Fail> {
+    let (day, cancels, flag, n, expected) = arrival;
+    let verdicts = verdicts(alloc)?;
+    let sealed = record(alloc, day, cancels, flag, n)?;
+    let met = pairs.deliver_record(alloc, &verdicts, &sealed)?;
+    Ok(met == expected)
+}
+
+const PAST: Past = Past {
+    count: 4,
+    held: false,
+    gone: true,
+};
+
 #[test]
 fn records_are_delivered(rt: HostRuntime) -> Result<(), Fail> {
-    let alloc = rt.alloc();
-    let verdicts = verdicts(alloc)?;
-    let mut pairs = Pairs::new(alloc);
-    for (day, cancels, flag, n, expected) in ARRIVALS {
-        let sealed = record(alloc, day, cancels, flag, n)?;
-        let met = pairs.deliver_record(alloc, &verdicts, &sealed)?;
-        assert_eq!(rt; met, expected, "record {n}");
+    let mut pairs = Pairs::new(rt.alloc());
+    for arrival in ARRIVALS {
+        assert!(rt; arrives(rt.alloc(), &mut pairs, arrival)?);
     }
-    let past = Past {
-        count: 4,
-        held: false,
-        gone: true,
-    };
-    assert_eq!(rt; (pairs.past_of(&id("A-1", DAY)?), pairs.len()), (past, 5));
-    // What is taken back can be delivered again.
-    pairs.truncate(1);
-    let batch = [record(alloc, NEXT, true, false, 9)?];
+    let id = id("A-1", DAY)?;
+    assert_eq!(rt; (pairs.past_of(&id), pairs.len()), (PAST, 5));
+    Ok(())
+}
+
+// A cancellation that finds nothing is delivered to an agency that has processed nothing.
+fn with_one(alloc: Global) -> Result<Pairs, Fail> {
+    let verdicts = verdicts(alloc)?;
+    let batch = [record(alloc, DAY, true, false, 9)?];
+    let mut pairs = Pairs::new(alloc);
     pairs.deliver(alloc, &verdicts, &batch)?;
+    Ok(pairs)
+}
+
+#[test]
+fn a_delivery_is_taken_back(rt: HostRuntime) -> Result<(), Fail> {
+    let mut pairs = with_one(rt.alloc())?;
     let not_held = Line::Incorrecto(Cause::NotHeld);
     assert_eq!(rt; pairs.line_of(&[9; 32]), Some(not_held));
-    assert_eq!(rt; (pairs.line_of(&[5; 32]), pairs.len()), (None, 2));
+    pairs.truncate(0);
+    assert_eq!(rt; (pairs.line_of(&[9; 32]), pairs.len()), (None, 0));
     Ok(())
 }

@@ -24,39 +24,46 @@ fn taken(alloc: Global, state: &mut State, ask: &Ask) -> Result<Receipt, Fail> {
     }
 }
 
-// The places, the pages and the bytes of a state's entries, and whether its first entry and no second one is read.
-fn counts(alloc: Global, state: &State) -> Result<(u32, u64, u32, u64, bool), Fail> {
+// The counts of a state's records, entries, pages and bytes, and whether its first entry and no second one is read.
+type Counts = (u32, u64, u32, u64, bool);
+
+fn counts(alloc: Global, state: &State) -> Result<Counts, Fail> {
     let held = state.held();
-    let first = state.entry(alloc, 0)?;
-    let second = state.entry(alloc, 1)?;
-    let is_one = first.is_some() && second.is_none();
+    let first = state.entry(alloc, 0)?.is_some();
+    let second = state.entry(alloc, 1)?.is_some();
     Ok((
         state.records(),
         state.entries(),
         held.pages,
         held.bytes,
-        is_one,
+        first && !second,
     ))
+}
+
+// The Huella of a first sale on a file of this version, and the counts then.
+fn first_sale(alloc: Global, version: Version, word: &str) -> Result<([u8; 64], Counts), Fail> {
+    let ask = sale(alloc, word)?.copied(alloc)?;
+    let mut state = State::empty(alloc, &issuer()?, version);
+    let receipt = taken(alloc, &mut state, &ask)?;
+    Ok((huella_text(&receipt.huella), counts(alloc, &state)?))
 }
 
 const FIRST: &[u8; 64] = b"D88B42F8D11C4EA2112502EC992F055A7E94F796D67095359B946A4A5B03E616";
 
 const OF_IGIC: &[u8; 64] = b"357E582BB1783E5B1657FEB345467B88EA84552B9B1E6CC279FDFB2911BCDD5E";
 
+const ROWS: [(Version, &str, u64, &[u8; 64]); 3] = [
+    (Version::One, "21", 73, FIRST),
+    (Version::Two, "21", 76, FIRST),
+    (Version::Two, "03/700", 76, OF_IGIC),
+];
+
 #[test]
 fn a_sale_takes_one_page_and_73_or_76_bytes(rt: HostRuntime) -> Result<(), Fail> {
-    let alloc = rt.alloc();
-    let rows = [
-        (Version::One, "21", 73u64, FIRST),
-        (Version::Two, "21", 76, FIRST),
-        (Version::Two, "03/700", 76, OF_IGIC),
-    ];
-    for (version, word, bytes, huella) in rows {
-        let mut state = State::empty(alloc, &issuer()?, version);
-        let ask = sale(alloc, word)?.copied(alloc)?;
-        let receipt = taken(alloc, &mut state, &ask)?;
-        assert_eq!(rt; huella_text(&receipt.huella).as_slice(), huella.as_slice());
-        assert_eq!(rt; counts(alloc, &state)?, (1, 1, 1, bytes, true), "{word}");
+    for (version, word, bytes, wanted) in ROWS {
+        let (huella, counts) = first_sale(rt.alloc(), version, word)?;
+        assert_eq!(rt; huella, *wanted);
+        assert_eq!(rt; counts, (1, 1, 1, bytes, true), "{word}");
     }
     Ok(())
 }
