@@ -50,7 +50,7 @@ fn is_whole(mut disk: MemDisk) -> Result<bool, Fail> {
 }
 
 // How a disk opens.
-fn found(alloc: Global, disk: MemDisk) -> Result<Found, Fail> {
+fn opens_as(alloc: Global, disk: MemDisk) -> Result<Found, Fail> {
     let issuer = Nif::read("89890001K").ok().ok_or("a tax number")?;
     match open_store(alloc, disk, CountingClock::new(0, 0), &issuer) {
         Ok(store) if store.state().records() == 0 => Ok(Found::NotBegun),
@@ -68,7 +68,7 @@ fn found_at(alloc: Global, new: &MemDisk, moment: u64, fill: Fill) -> Result<Opt
         return Ok(None);
     };
     let again = new.image(alloc, moment, fill)?.ok_or("the image again")?;
-    let found = found(alloc, image)?;
+    let found = opens_as(alloc, image)?;
     let (cause, after) = moved(alloc, &mut disk_of(alloc, OLD, 0)?, again);
     let is_taken = matches!(cause, Some(MoveCause::Occupied { .. }));
     if !is_whole(after)? || is_taken != (found == Found::Whole) || (!is_taken && cause.is_some()) {
