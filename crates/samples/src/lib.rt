@@ -15,6 +15,8 @@ mod huellas;
 #[cfg(test)]
 mod judgements;
 #[cfg(test)]
+mod ledgers;
+#[cfg(test)]
 mod records;
 #[cfg(test)]
 mod shops;
