@@ -2,8 +2,9 @@ use crate::records::{TEN, draft_of, issuer, line};
 use huella::huella_text;
 use invoice_kinds::Kind;
 use record_codec::Version;
+use record_fields::DraftFault;
 use series::SeriesName;
-use shop_core::{Ask, Receipt, Reply, Request, State, reply_to};
+use shop_core::{Ask, Receipt, Refusal, Reply, Request, State, reply_to};
 use std::alloc::Global;
 use std::test::Fail;
 use tax_lines::LineKey;
@@ -16,11 +17,27 @@ fn sale(alloc: Global, word: &str) -> Result<Ask, Fail> {
     Ok(Ask::new(1, 1, Request::Sale { series, draft }))
 }
 
+fn answered(alloc: Global, state: &mut State, ask: &Ask) -> Result<Reply, Fail> {
+    Ok(reply_to(alloc, state, ask, TEN)?)
+}
+
+fn bad_draft(_: DraftFault) -> Fail {
+    Fail::from("a bad draft")
+}
+
+fn receipt_of(reply: Reply) -> Result<Receipt, Fail> {
+    match reply {
+        Reply::Taken(receipt) => Ok(receipt),
+        Reply::Refused(Refusal::BadDraft(fault)) => Err(bad_draft(fault)),
+        _ => Err(Fail::from("not taken")),
+    }
+}
+
 // The receipt of a sale, which is taken.
 fn taken(alloc: Global, state: &mut State, ask: &Ask) -> Result<Receipt, Fail> {
-    match reply_to(alloc, state, ask, TEN)? {
-        Reply::Taken(receipt) => Ok(receipt),
-        _ => Err(Fail::from("not taken")),
+    match answered(alloc, state, ask) {
+        Ok(reply) => receipt_of(reply),
+        Err(why) => Err(why),
     }
 }
 
