@@ -6,8 +6,13 @@ usage: tools/build.py [LANES]
 LANES is how many crates are proved at a time; without it, as many as there are processors and as there are three gigabytes of free
 memory for, four at most. A line on standard error for each crate that is proved; what rt says of them is in out/build.log. A
 build that was cut off goes on where it was.
+
+rt works in the folders of a crate and of all below it alone, so each lane but the first proves in a copy of the sources below the
+user's cache folder, and rt hands each the libraries that the others built. The copies go once the program is built.
 """
+import hashlib
 import os
+import shutil
 import subprocess
 import sys
 import threading
@@ -62,6 +67,40 @@ def lanes():
     return max(1, min(4, os.cpu_count() or 1, int(free / 3)))
 
 
+def copies():
+    """Where the lanes' copies of this tree stand."""
+    cache = os.environ.get("XDG_CACHE_HOME") or os.path.join(os.path.expanduser("~"), ".cache")
+    return os.path.join(cache, "verifactu-build", hashlib.sha256(ROOT.encode()).hexdigest()[:12])
+
+
+def same(one, other):
+    """Whether both files are there and hold the same."""
+    try:
+        with open(one, "rb") as a, open(other, "rb") as b:
+            return a.read() == b.read()
+    except OSError:
+        return False
+
+
+def copy_sources(to):
+    """Makes the sources below `to` those of this tree; what stands there already, and what rt kept beside it, stays as it is."""
+    wanted = {"crates.txt", "HANDLES"}
+    for name in crates():
+        for part in ("src", "specs", "proofs"):
+            for at, _, files in os.walk(os.path.join(ROOT, "crates", name, part)):
+                wanted |= {os.path.relpath(os.path.join(at, file), ROOT) for file in files}
+    for at, folders, files in os.walk(to):
+        folders[:] = [f for f in folders if f != "out"]
+        for file in files:
+            if os.path.relpath(os.path.join(at, file), to) not in wanted:
+                os.remove(os.path.join(at, file))
+    for path in sorted(wanted):
+        if not same(os.path.join(ROOT, path), os.path.join(to, path)):
+            os.makedirs(os.path.dirname(os.path.join(to, path)), exist_ok=True)
+            shutil.copyfile(os.path.join(ROOT, path), os.path.join(to, path))
+    return to
+
+
 def say(text):
     print("verifactu: " + text, file=sys.stderr, flush=True)
 
@@ -107,12 +146,12 @@ class Build:
                 say(f"{name} wasn't proved, {self.clock()}; no other crate is begun")
             self.turn.notify_all()
 
-    def work(self):
+    def work(self, tree):
         while True:
             name = self.next_crate()
             if name is None:
                 return
-            run = subprocess.Popen(["rt", "lib"], cwd=os.path.join(ROOT, "crates", name), stdin=subprocess.DEVNULL,
+            run = subprocess.Popen(["rt", "lib"], cwd=os.path.join(tree, "crates", name), stdin=subprocess.DEVNULL,
                                    stdout=subprocess.PIPE, stderr=subprocess.STDOUT)
             with self.turn:
                 self.busy[name] = run
@@ -128,7 +167,8 @@ def main():
     open(LOG, "wb").close()
     count = lanes()
     say(f"proving {len(order)} crates, {count} at a time; what rt says of them is in {os.path.relpath(LOG)}")
-    workers = [threading.Thread(target=build.work, daemon=True) for _ in range(count)]
+    trees = [ROOT] + [copy_sources(os.path.join(copies(), f"lane-{number}")) for number in range(1, count)]
+    workers = [threading.Thread(target=build.work, args=(tree,), daemon=True) for tree in trees]
     for worker in workers:
         worker.start()
     try:
@@ -149,6 +189,7 @@ def main():
     if run.returncode != 0:
         say(f"the program wasn't built; see {os.path.relpath(LOG)}")
         return 1
+    shutil.rmtree(copies(), ignore_errors=True)
     say(f"built, {build.clock()}")
     return 0
 

@@ -24,37 +24,38 @@ fn messages_are_written(rt: HostRuntime) -> Result<(), Fail> {
     Ok(())
 }
 
+const REPLIES: [(&str, ReplyLine); 9] = [
+    ("correcto\",0", ReplyLine::First(Line::Correcto)),
+    ("con-errores\",200", ReplyLine::First(Line::ConErrores(200))),
+    (
+        "vet\",65535",
+        ReplyLine::First(Line::Incorrecto(Cause::Vet(65_535))),
+    ),
+    ("held\",0", ReplyLine::First(Line::Incorrecto(Cause::Held))),
+    (
+        "not-held\",0",
+        ReplyLine::First(Line::Incorrecto(Cause::NotHeld)),
+    ),
+    ("gone\",0", ReplyLine::First(Line::Incorrecto(Cause::Gone))),
+    (
+        "duplicado-correcto\",0",
+        ReplyLine::Duplicado(State3::Correcto),
+    ),
+    (
+        "duplicado-con-errores\",0",
+        ReplyLine::Duplicado(State3::ConErrores),
+    ),
+    (
+        "duplicado-incorrecto\",0",
+        ReplyLine::Duplicado(State3::Incorrecto),
+    ),
+];
+
 #[test]
 fn replies_are_read(rt: HostRuntime) -> Result<(), Fail> {
     let alloc = rt.alloc();
     let batch = batch(alloc)?;
-    let said = [
-        ("correcto\",0", ReplyLine::First(Line::Correcto)),
-        ("con-errores\",200", ReplyLine::First(Line::ConErrores(200))),
-        (
-            "vet\",65535",
-            ReplyLine::First(Line::Incorrecto(Cause::Vet(65_535))),
-        ),
-        ("held\",0", ReplyLine::First(Line::Incorrecto(Cause::Held))),
-        (
-            "not-held\",0",
-            ReplyLine::First(Line::Incorrecto(Cause::NotHeld)),
-        ),
-        ("gone\",0", ReplyLine::First(Line::Incorrecto(Cause::Gone))),
-        (
-            "duplicado-correcto\",0",
-            ReplyLine::Duplicado(State3::Correcto),
-        ),
-        (
-            "duplicado-con-errores\",0",
-            ReplyLine::Duplicado(State3::ConErrores),
-        ),
-        (
-            "duplicado-incorrecto\",0",
-            ReplyLine::Duplicado(State3::Incorrecto),
-        ),
-    ];
-    for (words, line) in said {
+    for (words, line) in REPLIES {
         let text = format!(in alloc; "{{\"lines\":[[\"H\",\"{words}]],\"n\":7,\"wait\":60}}")?;
         let text = with_huella(alloc, &text)?;
         let reply = read_reply(alloc, 7, &batch, text.as_bytes())
@@ -67,87 +68,88 @@ fn replies_are_read(rt: HostRuntime) -> Result<(), Fail> {
     Ok(())
 }
 
+const OTHERS: [(&str, Unheard); 23] = [
+    ("", Unheard::Json),
+    ("{", Unheard::Json),
+    (
+        "{\"lines\":[[\"H\",\"correcto\",0]],\"n\":7,\"wait\":60} x",
+        Unheard::Json,
+    ),
+    (
+        "{\"lines\":[[\"H\",\"correcto\",0]],\"n\":7,\"wait\":1e999}",
+        Unheard::Json,
+    ),
+    ("[]", Unheard::Shape),
+    (
+        "{\"lines\":[[\"H\",\"correcto\",0]],\"wait\":60}",
+        Unheard::Shape,
+    ),
+    (
+        "{\"lines\":[[\"H\",\"correcto\",0]],\"n\":8,\"wait\":60}",
+        Unheard::Shape,
+    ),
+    (
+        "{\"lines\":[[\"H\",\"correcto\",0]],\"n\":7.0,\"wait\":60}",
+        Unheard::Shape,
+    ),
+    (
+        "{\"lines\":[[\"H\",\"correcto\",0]],\"n\":6,\"wait\":60}",
+        Unheard::Earlier,
+    ),
+    ("{\"fault\":\"late\",\"n\":6}", Unheard::Earlier),
+    ("{\"fault\":\"lost\",\"n\":7}", Unheard::Fault),
+    (
+        "{\"fault\":null,\"lines\":[[\"H\",\"correcto\",0]],\"n\":7,\"wait\":60}",
+        Unheard::Fault,
+    ),
+    ("{\"lines\":[],\"n\":7,\"wait\":60}", Unheard::Shape),
+    (
+        "{\"lines\":[[\"H\",\"correcto\",0],[\"H\",\"correcto\",0]],\"n\":7,\"wait\":60}",
+        Unheard::Shape,
+    ),
+    (
+        "{\"lines\":[[\"0B\",\"correcto\",0]],\"n\":7,\"wait\":60}",
+        Unheard::Shape,
+    ),
+    (
+        "{\"lines\":[[\"H\",\"Correcto\",0]],\"n\":7,\"wait\":60}",
+        Unheard::Shape,
+    ),
+    (
+        "{\"lines\":[[\"H\",\"held\",1]],\"n\":7,\"wait\":60}",
+        Unheard::Shape,
+    ),
+    (
+        "{\"lines\":[[\"H\",\"vet\",65536]],\"n\":7,\"wait\":60}",
+        Unheard::Shape,
+    ),
+    (
+        "{\"lines\":[[\"H\",\"vet\"]],\"n\":7,\"wait\":60}",
+        Unheard::Shape,
+    ),
+    (
+        "{\"lines\":[[\"H\",\"not-seen\",0]],\"n\":7,\"wait\":60}",
+        Unheard::Shape,
+    ),
+    (
+        "{\"lines\":[[\"H\",\"correcto\",0]],\"n\":7}",
+        Unheard::Shape,
+    ),
+    (
+        "{\"lines\":[[\"H\",\"correcto\",0]],\"n\":7,\"wait\":4294967296}",
+        Unheard::Shape,
+    ),
+    (
+        "{\"n\":7,\"seen\":[[\"H\",\"correcto\",0]]}",
+        Unheard::Shape,
+    ),
+];
+
 #[test]
 fn other_lines_are_no_replies(rt: HostRuntime) -> Result<(), Fail> {
     let alloc = rt.alloc();
     let batch = batch(alloc)?;
-    let others = [
-        ("", Unheard::Json),
-        ("{", Unheard::Json),
-        (
-            "{\"lines\":[[\"H\",\"correcto\",0]],\"n\":7,\"wait\":60} x",
-            Unheard::Json,
-        ),
-        (
-            "{\"lines\":[[\"H\",\"correcto\",0]],\"n\":7,\"wait\":1e999}",
-            Unheard::Json,
-        ),
-        ("[]", Unheard::Shape),
-        (
-            "{\"lines\":[[\"H\",\"correcto\",0]],\"wait\":60}",
-            Unheard::Shape,
-        ),
-        (
-            "{\"lines\":[[\"H\",\"correcto\",0]],\"n\":8,\"wait\":60}",
-            Unheard::Shape,
-        ),
-        (
-            "{\"lines\":[[\"H\",\"correcto\",0]],\"n\":7.0,\"wait\":60}",
-            Unheard::Shape,
-        ),
-        (
-            "{\"lines\":[[\"H\",\"correcto\",0]],\"n\":6,\"wait\":60}",
-            Unheard::Earlier,
-        ),
-        ("{\"fault\":\"late\",\"n\":6}", Unheard::Earlier),
-        ("{\"fault\":\"lost\",\"n\":7}", Unheard::Fault),
-        (
-            "{\"fault\":null,\"lines\":[[\"H\",\"correcto\",0]],\"n\":7,\"wait\":60}",
-            Unheard::Fault,
-        ),
-        ("{\"lines\":[],\"n\":7,\"wait\":60}", Unheard::Shape),
-        (
-            "{\"lines\":[[\"H\",\"correcto\",0],[\"H\",\"correcto\",0]],\"n\":7,\"wait\":60}",
-            Unheard::Shape,
-        ),
-        (
-            "{\"lines\":[[\"0B\",\"correcto\",0]],\"n\":7,\"wait\":60}",
-            Unheard::Shape,
-        ),
-        (
-            "{\"lines\":[[\"H\",\"Correcto\",0]],\"n\":7,\"wait\":60}",
-            Unheard::Shape,
-        ),
-        (
-            "{\"lines\":[[\"H\",\"held\",1]],\"n\":7,\"wait\":60}",
-            Unheard::Shape,
-        ),
-        (
-            "{\"lines\":[[\"H\",\"vet\",65536]],\"n\":7,\"wait\":60}",
-            Unheard::Shape,
-        ),
-        (
-            "{\"lines\":[[\"H\",\"vet\"]],\"n\":7,\"wait\":60}",
-            Unheard::Shape,
-        ),
-        (
-            "{\"lines\":[[\"H\",\"not-seen\",0]],\"n\":7,\"wait\":60}",
-            Unheard::Shape,
-        ),
-        (
-            "{\"lines\":[[\"H\",\"correcto\",0]],\"n\":7}",
-            Unheard::Shape,
-        ),
-        (
-            "{\"lines\":[[\"H\",\"correcto\",0]],\"n\":7,\"wait\":4294967296}",
-            Unheard::Shape,
-        ),
-        (
-            "{\"n\":7,\"seen\":[[\"H\",\"correcto\",0]]}",
-            Unheard::Shape,
-        ),
-    ];
-    for (line, why) in others {
+    for (line, why) in OTHERS {
         let text = with_huella(alloc, line)?;
         match read_reply(alloc, 7, &batch, text.as_bytes()) {
             Ok(_) => return Err(Fail::from("a reply")),

@@ -17,8 +17,6 @@ type MemAgency = PipeAgency<MemSource, MemSink>;
 
 const REPLY_7: &str = "{\"lines\":[[\"H\",\"correcto\",0]],\"n\":7,\"wait\":60}\n";
 
-const SEEN_8: &str = "{\"n\":8,\"seen\":[[\"H\",\"correcto\",0]]}\n";
-
 const SEEN_9: &str = "{\"n\":9,\"seen\":[[\"H\",\"not-seen\",0]]}\n";
 
 const CONSULTATION_9: &str =
@@ -80,52 +78,68 @@ fn consult(alloc: Global, agency: &mut MemAgency) -> Result<Came, Fail> {
     }
 }
 
-// A submission and two consultations.
-fn three(alloc: Global, agency: &mut MemAgency) -> Result<[Came; 3], Fail> {
-    Ok([
-        submit(alloc, agency)?,
-        consult(alloc, agency)?,
-        consult(alloc, agency)?,
-    ])
+// What comes of a submission and two consultations over these answers, where these calls of the source and of the sink fail, and what was
+// said.
+fn talked(
+    alloc: Global,
+    answers: &str,
+    read: u64,
+    write: u64,
+) -> Result<([Came; 3], Vec<u8>), Fail> {
+    let reads = Vec::from_slice(alloc, &[read])?;
+    let writes = Vec::from_slice(alloc, &[write])?;
+    let mut agency = agency(alloc, answers, reads, writes)?;
+    let came = [
+        submit(alloc, &mut agency)?,
+        consult(alloc, &mut agency)?,
+        consult(alloc, &mut agency)?,
+    ];
+    Ok((came, agency.sink().bytes().to_vec(alloc)?))
 }
 
-fn all_answers(alloc: Global) -> Result<String, Fail> {
-    Ok(format!(in alloc; "{REPLY_7}{SEEN_8}{SEEN_9}")?)
+// Whether the bytes are these texts, one after another.
+fn are(bytes: &[u8], texts: &[&str]) -> bool {
+    let mut rest = bytes;
+    for text in texts {
+        match rest.strip_prefix(text.as_bytes()) {
+            Some(behind) => rest = behind,
+            None => return false,
+        }
+    }
+    rest.is_empty()
 }
+
+const ALL: &str = "{\"lines\":[[\"H\",\"correcto\",0]],\"n\":7,\"wait\":60}\n\
+    {\"n\":8,\"seen\":[[\"H\",\"correcto\",0]]}\n\
+    {\"n\":9,\"seen\":[[\"H\",\"not-seen\",0]]}\n";
+
+// An answer to an earlier message, one to the other kind of call, a fault, and an end in the middle of a line.
+const OTHERS: &str = "{\"fault\":\"of before\",\"n\":2}\n\
+    {\"lines\":[[\"H\",\"correcto\",0]],\"n\":7,\"wait\":60}\n\
+    {\"n\":7,\"seen\":[]}\n{\"fault\":\"no\",\"n\":8}\n{\"n\":9";
+
+// An end in the middle of the second answer: the next message begins a session again.
+const ENDED: &str = "{\"lines\":[[\"H\",\"correcto\",0]],\"n\":7,\"wait\":60}\n{\"n\":8";
+
+const FAULT: Came = Came::Failed(Quiet::Deaf(Deaf::Line(Unheard::Fault)));
+
+const END: Came = Came::Failed(Quiet::Deaf(Deaf::End));
 
 #[test]
 fn an_agency_speaks_over_streams(rt: HostRuntime) -> Result<(), Fail> {
     let alloc = rt.alloc();
-    let batch = batch(alloc)?;
-    let huellas = Huellas::of(alloc, batch.as_slice())?;
-    let answers = with_huella(
-        alloc,
-        "{\"fault\":\"of before\",\"n\":2}\n{\"lines\":[[\"H\",\"correcto\",0]],\"n\":7,\"wait\":60}\n{\"n\":7,\"seen\":[]}\n{\"fault\":\"no\",\"n\":8}\n{\"n\":9",
-    )?;
-    let source = MemSource::new(alloc, answers.into_bytes(), Vec::new(alloc));
-    let sink = MemSink::new(alloc, Vec::new(alloc));
-    let mut agency = PipeAgency::new(alloc, source, sink, nif()?, Host::Real, 7)?;
-    let none = Vec::new(alloc);
-    agency.begin(alloc, &Plan::plain(alloc), &none)?;
-    let reply = agency.submit(alloc, &batch).ok().ok_or("no reply")?;
-    assert_eq!(rt;
-        reply.lines().as_slice(),
-        [ReplyLine::First(Line::Correcto)].as_slice()
-    );
-    assert!(rt; agency.trouble().is_none());
-    assert!(rt; matches!(agency.consult(alloc, &huellas), Err(AgencyFault::Failed)));
-    assert_eq!(rt;
-        agency.trouble(),
-        Some(Quiet::Deaf(Deaf::Line(Unheard::Fault)))
-    );
-    assert!(rt; matches!(agency.consult(alloc, &huellas), Err(AgencyFault::Failed)));
-    assert_eq!(rt; agency.trouble(), Some(Quiet::Deaf(Deaf::End)));
-    assert!(rt; agency.consult(alloc, &huellas).is_err());
-    let said = format!(in alloc; "{BEGIN}{SUBMISSION}{CONSULTATION}")?;
-    assert!(rt; agency.sink().bytes().starts_with(said.as_bytes()));
-    assert!(rt;
-        agency.sink().bytes().len() == said.len() + 2 * CONSULTATION.len() + 1 + BEGIN.len()
-    );
+    let heard = [Came::Accepted, Came::Accepted, Came::NotSeen];
+    let said = [BEGIN, SUBMISSION, CONSULTATION, CONSULTATION_9];
+    for (answers, wanted) in [(ALL, heard), (OTHERS, [Came::Accepted, FAULT, END])] {
+        let (came, bytes) = talked(alloc, answers, 0, 0)?;
+        assert_eq!(rt; came, wanted);
+        assert!(rt; are(&bytes, &said));
+    }
+    let ([first, second, third], bytes) = talked(alloc, ENDED, 0, 0)?;
+    assert_eq!(rt; (first, second), (Came::Accepted, END));
+    assert!(rt; matches!(third, Came::Failed(_)));
+    let said = [BEGIN, SUBMISSION, CONSULTATION, BEGIN, CONSULTATION_9];
+    assert!(rt; are(&bytes, &said));
     Ok(())
 }
 
@@ -133,71 +147,68 @@ fn an_agency_speaks_over_streams(rt: HostRuntime) -> Result<(), Fail> {
 fn answers_to_earlier_messages_are_passed_over(rt: HostRuntime) -> Result<(), Fail> {
     let alloc = rt.alloc();
     let most = "{\"n\":6}\n".repeat(alloc, PASSED_OVER as usize - 1)?;
-    let answers = format!(in alloc; "{most}{REPLY_7}")?;
-    let mut hearing = agency(alloc, &answers, Vec::new(alloc), Vec::new(alloc))?;
-    assert_eq!(rt; submit(alloc, &mut hearing)?, Came::Accepted);
-    let answers = format!(in alloc; "{{\"n\":6}}\n{most}{REPLY_7}{SEEN_8}")?;
-    let mut deaf = agency(alloc, &answers, Vec::new(alloc), Vec::new(alloc))?;
-    assert_eq!(rt;
-        submit(alloc, &mut deaf)?,
-        Came::Failed(Quiet::Deaf(Deaf::Earlier))
-    );
-    assert_eq!(rt; consult(alloc, &mut deaf)?, Came::Accepted);
-    let said = format!(in alloc; "{BEGIN}{SUBMISSION}{CONSULTATION}")?;
-    assert_eq!(rt; deaf.sink().bytes(), said.as_bytes());
+    let answers = format!(in alloc; "{most}{ALL}")?;
+    let (came, _) = talked(alloc, answers.as_str(), 0, 0)?;
+    assert_eq!(rt; came, [Came::Accepted, Came::Accepted, Came::NotSeen]);
+    // One more.
+    let answers = format!(in alloc; "{{\"n\":6}}\n{most}{ALL}")?;
+    let (came, bytes) = talked(alloc, answers.as_str(), 0, 0)?;
+    let deaf = Came::Failed(Quiet::Deaf(Deaf::Earlier));
+    assert_eq!(rt; came, [deaf, Came::Accepted, Came::NotSeen]);
+    let said = [BEGIN, SUBMISSION, CONSULTATION, CONSULTATION_9];
+    assert!(rt; are(&bytes, &said));
     Ok(())
 }
 
 #[test]
 fn a_line_may_be_so_long(rt: HostRuntime) -> Result<(), Fail> {
     let alloc = rt.alloc();
-    let digits = with_huella(alloc, REPLY_7)?;
-    let blanks = MAX_ANSWER.checked_sub(digits.len()).ok_or("long")?;
+    let reply = with_huella(alloc, REPLY_7)?;
+    let blanks = MAX_ANSWER.checked_sub(reply.len()).ok_or("long")?;
     let blanks = " ".repeat(alloc, blanks)?;
-    let answers = format!(in alloc; "{blanks}{digits} {blanks}{digits}{SEEN_9}")?;
-    let mut agency = agency(alloc, &answers, Vec::new(alloc), Vec::new(alloc))?;
-    assert_eq!(rt; submit(alloc, &mut agency)?, Came::Accepted);
-    assert_eq!(rt;
-        consult(alloc, &mut agency)?,
-        Came::Failed(Quiet::Deaf(Deaf::TooLong))
-    );
+    let answers = format!(in alloc; "{blanks}{reply} {blanks}{reply}{SEEN_9}")?;
+    let (came, _) = talked(alloc, answers.as_str(), 0, 0)?;
+    let long = Came::Failed(Quiet::Deaf(Deaf::TooLong));
     // What is left of the line is its LF.
-    assert_eq!(rt;
-        consult(alloc, &mut agency)?,
-        Came::Failed(Quiet::Deaf(Deaf::Line(Unheard::Json)))
-    );
+    let left = Came::Failed(Quiet::Deaf(Deaf::Line(Unheard::Json)));
+    assert_eq!(rt; came, [Came::Accepted, long, left]);
     Ok(())
 }
 
 #[test]
 fn each_write_fails_in_turn(rt: HostRuntime) -> Result<(), Fail> {
-    let alloc = rt.alloc();
-    let answers = all_answers(alloc)?;
     let missed = Came::Failed(Quiet::Sink);
-    let seven = format!(in alloc; "{BEGIN}{SUBMISSION}")?;
-    let others = format!(in alloc; "{BEGIN}{CONSULTATION}{CONSULTATION_9}")?;
-    let all = format!(in alloc; "{seven}{CONSULTATION}{CONSULTATION_9}")?;
-    let began = format!(in alloc; "{BEGIN}{others}")?;
-    let without_eight = format!(in alloc; "{seven}{BEGIN}{CONSULTATION_9}")?;
-    let without_nine = format!(in alloc; "{seven}{CONSULTATION}")?;
-    let heard = [Came::Accepted, Came::Accepted, Came::NotSeen];
     let rows = [
-        (0, heard, &all),
-        (1, [missed, Came::Accepted, Came::NotSeen], &others),
-        (2, [missed, Came::Accepted, Came::NotSeen], &others),
-        (3, [missed, Came::Accepted, Came::NotSeen], &began),
-        (4, [Came::Accepted, missed, Came::NotSeen], &without_eight),
-        (5, [Came::Accepted, Came::Accepted, missed], &without_nine),
+        (
+            1,
+            [missed, Came::Accepted, Came::NotSeen],
+            [BEGIN, CONSULTATION, CONSULTATION_9].as_slice(),
+        ),
+        (
+            2,
+            [missed, Came::Accepted, Came::NotSeen],
+            &[BEGIN, CONSULTATION, CONSULTATION_9],
+        ),
+        (
+            3,
+            [missed, Came::Accepted, Came::NotSeen],
+            &[BEGIN, BEGIN, CONSULTATION, CONSULTATION_9],
+        ),
+        (
+            4,
+            [Came::Accepted, missed, Came::NotSeen],
+            &[BEGIN, SUBMISSION, BEGIN, CONSULTATION_9],
+        ),
+        (
+            5,
+            [Came::Accepted, Came::Accepted, missed],
+            &[BEGIN, SUBMISSION, CONSULTATION],
+        ),
     ];
-    for (call, came, said) in rows {
-        let mut agency = agency(
-            alloc,
-            &answers,
-            Vec::new(alloc),
-            Vec::from_slice(alloc, &[call])?,
-        )?;
-        assert_eq!(rt; three(alloc, &mut agency)?, came);
-        assert_eq!(rt; agency.sink().bytes(), said.as_bytes());
+    for (call, wanted, said) in rows {
+        let (came, bytes) = talked(rt.alloc(), ALL, 0, call)?;
+        assert_eq!(rt; came, wanted, "write {call}");
+        assert!(rt; are(&bytes, said), "write {call}");
     }
     Ok(())
 }
@@ -205,42 +216,43 @@ fn each_write_fails_in_turn(rt: HostRuntime) -> Result<(), Fail> {
 #[test]
 fn each_read_of_an_answer_fails_in_turn(rt: HostRuntime) -> Result<(), Fail> {
     let alloc = rt.alloc();
-    let answers = all_answers(alloc)?;
     let bytes = with_huella(alloc, REPLY_7)?.len() as u64;
     let source = Came::Failed(Quiet::Deaf(Deaf::Source));
     let json = Came::Failed(Quiet::Deaf(Deaf::Line(Unheard::Json)));
     for call in 1..bytes.saturating_add(2) {
-        let mut agency = agency(
-            alloc,
-            &answers,
-            Vec::from_slice(alloc, &[call])?,
-            Vec::new(alloc),
-        )?;
-        let came = match call {
+        let wanted = match call {
             1 => [Came::Failed(Quiet::Closed), Came::Accepted, Came::NotSeen],
             2 => [source, Came::Accepted, Came::NotSeen],
             _ => [source, json, Came::NotSeen],
         };
-        assert_eq!(rt; three(alloc, &mut agency)?, came);
+        let (came, _) = talked(alloc, ALL, call, 0)?;
+        assert_eq!(rt; came, wanted, "read {call}");
     }
     Ok(())
+}
+
+// What the fault of a submission is said to be in this answer.
+fn told(alloc: Global, fault: &str) -> Result<Option<String>, Fail> {
+    let answers = format!(in alloc; "{{\"fault\":{fault},\"n\":7}}\n")?;
+    let mut agency = agency(alloc, answers.as_str(), Vec::new(alloc), Vec::new(alloc))?;
+    if submit(alloc, &mut agency)? != FAULT {
+        return Err(Fail::from("a fault"));
+    }
+    match agency.told() {
+        Some(words) => Ok(Some(String::from_str(alloc, words)?)),
+        None => Ok(None),
+    }
 }
 
 #[test]
 fn a_fault_is_told_in_its_own_words(rt: HostRuntime) -> Result<(), Fail> {
     let alloc = rt.alloc();
-    let long = "a".repeat(alloc, 201)?;
-    let answers = format!(in alloc;
-        "{{\"fault\":\"late\\u0007 \u{f1}\",\"n\":7}}\n{{\"fault\":\"{long}\",\"n\":8}}\n{{\"fault\":1,\"n\":9}}\n"
-    )?;
-    let mut agency = agency(alloc, &answers, Vec::new(alloc), Vec::new(alloc))?;
-    let fault = Came::Failed(Quiet::Deaf(Deaf::Line(Unheard::Fault)));
-    assert_eq!(rt; submit(alloc, &mut agency)?, fault);
-    assert_eq!(rt; agency.told(), Some("late? \u{f1}"));
-    assert_eq!(rt; consult(alloc, &mut agency)?, fault);
-    assert_eq!(rt; agency.told(), Some("a".repeat(alloc, 200)?.as_str()));
-    assert_eq!(rt; consult(alloc, &mut agency)?, fault);
-    assert_eq!(rt; agency.told(), None);
+    let late = told(alloc, "\"late\\u0007 \u{f1}\"")?.ok_or("words")?;
+    assert_eq!(rt; late.as_str(), "late? \u{f1}");
+    let most = "a".repeat(alloc, 200)?;
+    let cut = told(alloc, format!(in alloc; "\"{most}a\"")?.as_str())?.ok_or("words")?;
+    assert_eq!(rt; cut.as_str(), most.as_str());
+    assert!(rt; told(alloc, "1")?.is_none());
     Ok(())
 }
 

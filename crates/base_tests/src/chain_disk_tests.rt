@@ -11,6 +11,22 @@ fn reads_as<D: Disk>(disk: &mut D, want: &[u8]) -> Result<bool, Failed> {
     Ok(n <= 16 && &buf[..n] == want && len == n as u64)
 }
 
+// A moment, what fills its image, and the image.
+const IMAGES: [(u64, Fill, &[u8]); 12] = [
+    (0, Fill::Old, b"abc"),
+    (0, Fill::Ones, b"abc"),
+    (1, Fill::Old, b"abc"),
+    (1, Fill::New, b"abXY"),
+    (1, Fill::Zeros, b"ab\x00\x00"),
+    (1, Fill::Ones, b"ab\x01\x01"),
+    (2, Fill::Old, b"abXY"),
+    (2, Fill::Ones, b"abXY"),
+    (3, Fill::Old, b"abXY"),
+    (3, Fill::New, b"abXY"),
+    (3, Fill::Zeros, b"\x00bXY"),
+    (3, Fill::Ones, b"\x01bXY"),
+];
+
 #[test]
 fn images_are_filled_as_asked(rt: HostRuntime) -> Result<(), Fail> {
     let alloc = rt.alloc();
@@ -22,21 +38,7 @@ fn images_are_filled_as_asked(rt: HostRuntime) -> Result<(), Fail> {
     assert_eq!(rt; disk.write_at(0, b"Q"), Err(Failed));
     assert_eq!(rt; disk.faults(), 1);
     assert!(rt; reads_as(&mut disk, b"abXY")?);
-    let wanted = [
-        (0, Fill::Old, b"abc".as_slice()),
-        (0, Fill::Ones, b"abc".as_slice()),
-        (1, Fill::Old, b"abc".as_slice()),
-        (1, Fill::New, b"abXY".as_slice()),
-        (1, Fill::Zeros, b"ab\x00\x00".as_slice()),
-        (1, Fill::Ones, b"ab\x01\x01".as_slice()),
-        (2, Fill::Old, b"abXY".as_slice()),
-        (2, Fill::Ones, b"abXY".as_slice()),
-        (3, Fill::Old, b"abXY".as_slice()),
-        (3, Fill::New, b"abXY".as_slice()),
-        (3, Fill::Zeros, b"\x00bXY".as_slice()),
-        (3, Fill::Ones, b"\x01bXY".as_slice()),
-    ];
-    for (moment, fill, bytes) in wanted {
+    for (moment, fill, bytes) in IMAGES {
         match disk.image(alloc, moment, fill)? {
             Some(image) => {
                 let mut image = image;

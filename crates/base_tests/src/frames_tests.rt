@@ -1,6 +1,18 @@
 use frames::{Frame, FrameBuf, frame_bytes, read_frame};
 use std::test::Fail;
 
+const WINDOWS: [(&[u8], Frame); 9] = [
+    (b"", Frame::Damaged),
+    (b"\x00", Frame::Closed),
+    (b"\x02\x00\x00\x00\x01a\x00", Frame::Closed),
+    (b"\x01", Frame::Damaged),
+    (b"\x01\x00\x00\x00", Frame::Damaged),
+    (b"\x01\x00\x00\x00\x00\x00", Frame::Damaged),
+    (b"\x01\x00\x00\x00\x03abc", Frame::Damaged),
+    (b"\x01\x00\x00\x00\x03abc\x07", Frame::Counted { len: 3 }),
+    (b"\x01\x01\x00\x00\x01a\x00", Frame::Damaged),
+];
+
 #[test]
 fn a_frame_is_written_and_read(rt: HostRuntime) -> Result<(), Fail> {
     let mut out = FrameBuf::new();
@@ -9,21 +21,7 @@ fn a_frame_is_written_and_read(rt: HostRuntime) -> Result<(), Fail> {
     assert_eq!(rt; out.as_slice(), b"\x00\x00\x00\x03abc\x00".as_slice());
     out.fill(b"xy");
     assert_eq!(rt; out.as_slice(), b"xy".as_slice());
-    let windows = [
-        (b"".as_slice(), Frame::Damaged),
-        (b"\x00".as_slice(), Frame::Closed),
-        (b"\x02\x00\x00\x00\x01a\x00".as_slice(), Frame::Closed),
-        (b"\x01".as_slice(), Frame::Damaged),
-        (b"\x01\x00\x00\x00".as_slice(), Frame::Damaged),
-        (b"\x01\x00\x00\x00\x00\x00".as_slice(), Frame::Damaged),
-        (b"\x01\x00\x00\x00\x03abc".as_slice(), Frame::Damaged),
-        (
-            b"\x01\x00\x00\x00\x03abc\x07".as_slice(),
-            Frame::Counted { len: 3 },
-        ),
-        (b"\x01\x01\x00\x00\x01a\x00".as_slice(), Frame::Damaged),
-    ];
-    for (window, frame) in windows {
+    for (window, frame) in WINDOWS {
         assert_eq!(rt; read_frame(window), frame, "{window:?}");
     }
     Ok(())

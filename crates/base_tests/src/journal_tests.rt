@@ -114,38 +114,42 @@ fn a_journal_is_created_written_and_read(rt: HostRuntime) -> Result<(), Fail> {
     Ok(())
 }
 
-fn damaged(at: u64) -> Header {
-    Header::Damaged { at }
+// The header of a file of these bytes.
+fn header_of(alloc: Global, file: &[u8]) -> Result<Header, Fail> {
+    let mut disk = MemDisk::new(alloc, file.to_vec(alloc)?, Vec::new(alloc));
+    Ok(read_header(&mut disk)?)
 }
+
+const HEADERS: [(&[u8], Header); 12] = [
+    (b"", Header::NotBegun),
+    (b"\x01", Header::NotBegun),
+    (b"\x00VFCHAIN1\x02B12345674\x00", Header::NotBegun),
+    (
+        b"\x00VFCHAIN1\x02B12345674\x00\x00",
+        Header::Damaged { at: 0 },
+    ),
+    (b"\x01VFCHAIN", Header::Damaged { at: 8 }),
+    (b"\x01VFCHAIN1", Header::Damaged { at: 9 }),
+    (b"\x01VFCHAIN2\x02B12345674\x00", Header::Damaged { at: 1 }),
+    (b"\x01VFCHAIN1\x00B12345674\x00", Header::Damaged { at: 9 }),
+    (b"\x01VFCHAIN1\x03B12345674\x00", Header::Damaged { at: 9 }),
+    (b"\x01VFCHAIN1\xffB12345674\x00", Header::Damaged { at: 9 }),
+    (b"\x01VFCHAIN1\x02B1234567", Header::Damaged { at: 18 }),
+    (b"\x01VFCHAIN1\x02B12345675\x00", Header::Damaged { at: 10 }),
+];
 
 #[test]
 fn a_header_is_read_by_its_rows(rt: HostRuntime) -> Result<(), Fail> {
     let alloc = rt.alloc();
     let issuer = Nif::read("B12345674").ok().ok_or("a tax number")?;
-    let old = Header::Begun { issuer, version: 1 };
-    let new = Header::Begun { issuer, version: 2 };
-    let table = [
-        (b"".as_slice(), Header::NotBegun),
-        (b"\x01".as_slice(), Header::NotBegun),
-        (
-            b"\x00VFCHAIN1\x02B12345674\x00".as_slice(),
-            Header::NotBegun,
-        ),
-        (b"\x00VFCHAIN1\x02B12345674\x00\x00".as_slice(), damaged(0)),
-        (b"\x01VFCHAIN".as_slice(), damaged(8)),
-        (b"\x01VFCHAIN1".as_slice(), damaged(9)),
-        (b"\x01VFCHAIN2\x02B12345674\x00".as_slice(), damaged(1)),
-        (b"\x01VFCHAIN1\x00B12345674\x00".as_slice(), damaged(9)),
-        (b"\x01VFCHAIN1\x01B12345674\x00".as_slice(), old),
-        (b"\x01VFCHAIN1\x02B12345674\x00".as_slice(), new),
-        (b"\x01VFCHAIN1\x03B12345674\x00".as_slice(), damaged(9)),
-        (b"\x01VFCHAIN1\xffB12345674\x00".as_slice(), damaged(9)),
-        (b"\x01VFCHAIN1\x02B1234567".as_slice(), damaged(18)),
-        (b"\x01VFCHAIN1\x02B12345675\x00".as_slice(), damaged(10)),
-    ];
-    for (file, wanted) in table {
-        let mut disk = MemDisk::new(alloc, file.to_vec(alloc)?, Vec::new(alloc));
-        assert!(rt; read_header(&mut disk)? == wanted, "{file:?}");
+    for version in 1..3u8 {
+        let mut file = *b"\x01VFCHAIN1\x00B12345674\x00";
+        file[9] = version;
+        let header = header_of(alloc, &file)?;
+        assert!(rt; header == Header::Begun { issuer, version }, "{version}");
+    }
+    for (file, wanted) in HEADERS {
+        assert!(rt; header_of(alloc, file)? == wanted, "{file:?}");
     }
     Ok(())
 }

@@ -25,8 +25,6 @@ mod parties_tests;
 #[cfg(test)]
 mod ports_tests;
 #[cfg(test)]
-mod record_fields_tests;
-#[cfg(test)]
 mod series_tests;
 #[cfg(test)]
 mod stamps_tests;

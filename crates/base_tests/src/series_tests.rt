@@ -1,5 +1,4 @@
 use series::*;
-use stamps::Day;
 use std::test::Fail;
 
 #[test]
@@ -48,21 +47,5 @@ fn numbers_are_named_after_their_series(rt: HostRuntime) -> Result<(), Fail> {
     assert!(rt; odd.series() == b"A-B".as_slice());
     let plain = NumSerie::read("G33").ok_or("no number")?;
     assert!(rt; plain.series().is_empty());
-    Ok(())
-}
-
-#[test]
-fn identities_are_copied_and_compared(rt: HostRuntime) -> Result<(), Fail> {
-    let day = Day::read("01-01-2025").ok_or("no day")?;
-    let num = NumSerie::read("A-1").ok_or("no number")?;
-    let id = InvoiceId { num, day };
-    let copy = id;
-    assert!(rt; copy == id);
-    let other = NumSerie::read("A-2").ok_or("no number")?;
-    assert!(rt; id != InvoiceId { num: other, day });
-    assert_eq!(rt;
-        format!(in rt.alloc(); "{num:?}")?.as_str(),
-        "NumSerie { text: \"A-1\" }"
-    );
     Ok(())
 }

@@ -44,19 +44,22 @@ fn stamps_have_their_ranges(rt: HostRuntime) {
     }
 }
 
+// A text, and the days from 1970 on where it is a day.
+const DAYS: [(&str, Option<u32>); 9] = [
+    ("01-01-1970", Some(0)),
+    ("29-02-2024", Some(19_782)),
+    ("31-12-2100", Some(47_846)),
+    ("29-02-2025", None),
+    ("29-02-2100", None),
+    ("31-12-1969", None),
+    ("01-01-2101", None),
+    ("1-01-2024", None),
+    ("01/01/2024", None),
+];
+
 #[test]
 fn days_are_read_and_written(rt: HostRuntime) {
-    for (text, days) in [
-        ("01-01-1970", Some(0)),
-        ("29-02-2024", Some(19_782)),
-        ("31-12-2100", Some(47_846)),
-        ("29-02-2025", None),
-        ("29-02-2100", None),
-        ("31-12-1969", None),
-        ("01-01-2101", None),
-        ("1-01-2024", None),
-        ("01/01/2024", None),
-    ] {
+    for (text, days) in DAYS {
         match Day::read(text) {
             Some(day) => {
                 assert!(rt; days == Some(day.get()), "{text}");

@@ -3,26 +3,29 @@ use std::alloc::Global;
 use std::test::Fail;
 use tax_lines::*;
 
+// A class, its word, and the tax of 100 euros.
+const CLASSES: [(u8, &str, i64); 16] = [
+    (0, "21", 2100),
+    (1, "10", 1000),
+    (2, "4", 400),
+    (3, "0", 0),
+    (4, "21+", 2620),
+    (5, "10+", 1140),
+    (6, "4+", 450),
+    (7, "S2", 0),
+    (8, "N1", 0),
+    (9, "N2", 0),
+    (10, "E1", 0),
+    (11, "E2", 0),
+    (12, "E3", 0),
+    (13, "E4", 0),
+    (14, "E5", 0),
+    (15, "E6", 0),
+];
+
 #[test]
 fn each_class_has_its_word_code_and_tax(rt: HostRuntime) -> Result<(), Fail> {
-    for (code, word, tax) in [
-        (0, "21", 2100),
-        (1, "10", 1000),
-        (2, "4", 400),
-        (3, "0", 0),
-        (4, "21+", 2620),
-        (5, "10+", 1140),
-        (6, "4+", 450),
-        (7, "S2", 0),
-        (8, "N1", 0),
-        (9, "N2", 0),
-        (10, "E1", 0),
-        (11, "E2", 0),
-        (12, "E3", 0),
-        (13, "E4", 0),
-        (14, "E5", 0),
-        (15, "E6", 0),
-    ] {
+    for (code, word, tax) in CLASSES {
         let key = LineKey::read(word).ok_or("no class")?;
         assert!(rt; key.text().as_slice() == word.as_bytes(), "{code}");
         assert!(rt; key.class().code() == code, "{code}");
@@ -43,16 +46,23 @@ fn each_class_has_its_word_code_and_tax(rt: HostRuntime) -> Result<(), Fail> {
     Ok(())
 }
 
+// A key, a base, and its tax.
+const KEYS: [(&str, i64, i64); 6] = [
+    ("03/700", 10_000, 700),
+    ("02/21", 100, 0),
+    ("02/2500", 10_000, 2500),
+    ("03/0", 10_000, 0),
+    ("02/S2", 10_000, 0),
+    ("03/E6", 10_000, 0),
+];
+
+const NO_KEYS: [&str; 10] = [
+    "03/2501", "01/21", "02/", "03/07", "02/21+", "03/F1", "02/-1", "04/21", "S1", "",
+];
+
 #[test]
 fn keys_of_other_taxes_have_their_words_and_taxes(rt: HostRuntime) -> Result<(), Fail> {
-    for (word, base, tax) in [
-        ("03/700", 10_000, 700),
-        ("02/21", 100, 0),
-        ("02/2500", 10_000, 2500),
-        ("03/0", 10_000, 0),
-        ("02/S2", 10_000, 0),
-        ("03/E6", 10_000, 0),
-    ] {
+    for (word, base, tax) in KEYS {
         let key = LineKey::read(word).ok_or("no key")?;
         assert!(rt; key.text().as_slice() == word.as_bytes(), "{word}");
         let base = Cents::new(base).ok_or("a base")?;
@@ -61,9 +71,7 @@ fn keys_of_other_taxes_have_their_words_and_taxes(rt: HostRuntime) -> Result<(),
         assert!(rt; breakdown.cuota().get() == tax, "{word}");
         assert!(rt; breakdown.first_other() == Some(0), "{word}");
     }
-    for word in [
-        "03/2501", "01/21", "02/", "03/07", "02/21+", "03/F1", "02/-1", "04/21", "S1", "",
-    ] {
+    for word in NO_KEYS {
         assert!(rt; LineKey::read(word).is_none(), "{word}");
     }
     Ok(())

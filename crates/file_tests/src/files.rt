@@ -6,8 +6,8 @@ use shop_core::AuditEnd;
 use std::alloc::Global;
 use std::test::Fail;
 
-// A header, two sales and the closing gate; the gates are at the bytes 19, 100 and 221.
-const FILE: &[u8; 222] = b"\
+/// A header, two sales and the closing gate; the gates are at the bytes 19, 100 and 221.
+pub const FILE: &[u8; 222] = b"\
 \x01VFCHAIN1\x0289890001K\
 \x01\x00\x00\x00L\x01\x01\x00\x00\x00\x01\x03A-1\x00\x00Ny\x01\x00\x00\x00\x01\x01\x00\x084\x00\x00\x00\x00\x00\x00'\x10\x00\x00\x00\x00\x00\x00\x00gu\x04\x10\x00<\
 \xd8\x8bB\xf8\xd1\x1cN\xa2\x11%\x02\xec\x99/\x05Z~\x94\xf7\x96\xd6p\x955\x9b\x94jJ[\x03\xe6\x16\

@@ -1,16 +1,12 @@
-//! No program's: tests of files of both versions, cut or changed in one byte, of those that are moved while a device fails, and
-//! of scanned links.
+//! No program's: tests of files that are cut or changed in one byte, of those that are moved while a device fails, and of links whose
+//! source, sink or file fails.
 #![tactic(auto)]
 
 #[cfg(test)]
 mod audits;
 #[cfg(test)]
+mod checks;
+#[cfg(test)]
 mod files;
 #[cfg(test)]
-mod links;
-#[cfg(test)]
-mod loads;
-#[cfg(test)]
 mod moves;
-#[cfg(test)]
-mod openings;

@@ -2,7 +2,7 @@ ghost use Rattle.record_fields.specs.declared.checks.TheConstants.{MAX_REFS};
 ghost use Rattle.std.specs.Prelude.{◌≤◌, length, IfOk};
 ghost use Rattle.record_codec.specs.Validity.{InRanges};
 
-use crate::records::{TEN, breakdown, draft, issuer, line, nif, number};
+use crate::records::{TEN, breakdown, draft_of, issuer, line, nif, number};
 use invoice_kinds::{Kind, RectKind};
 use parties::{Name, Party};
 use record_codec::{
@@ -87,13 +87,15 @@ fn moment(seconds: u64, offset: i16) -> Result<Stamp, Fail> {
     Ok(Stamp::new(seconds, offset).ok_or("a moment")?)
 }
 
-fn sale(alloc: Global) -> Result<Entry, Fail>
+// A first record of one line of 100 euros, whose key has this word.
+fn sale(alloc: Global, word: &str) -> Result<Entry, Fail>
     ensures { IfOk result (λ entry. InRanges entry) }
 {
+    let key = LineKey::read(word).ok_or("a key")?;
     let alta = Alta {
         issuer: issuer()?,
         id: id("A-1", 20_089)?,
-        draft: draft(alloc, Kind::F2, 10_000)?,
+        draft: draft_of(alloc, Kind::F2, &[line(key, 10_000)?])?,
         subsanacion: false,
         rechazo: Previo::N,
         link: Link::First,
@@ -191,63 +193,75 @@ pub fn noted(alloc: Global) -> Result<Entry, Fail>
     Ok(Entry::Notes { first: 7, lines })
 }
 
-fn is_written(alloc: Global, entry: &Entry, bytes: &[u8]) -> bool
+// The bytes of an entry that fits.
+fn written(alloc: Global, version: Version, entry: &Entry) -> Result<Vec<u8>, Fail>
     requires { InRanges entry.now }
 {
-    if !fits(Version::One, entry) {
-        return false;
+    if !fits(version, entry) {
+        return Err(Fail::from("an entry that doesn't fit"));
     }
-    fields_are_valid(Version::One, entry);
-    match encode(alloc, Version::One, entry) {
-        Ok(written) => written.as_slice() == bytes,
-        Err(_) => false,
-    }
+    fields_are_valid(version, entry);
+    let bytes = encode(alloc, version, entry)?;
+    Ok(bytes.into_vec())
 }
 
-// The bytes are an entry's, and that entry's bytes are these.
-fn is_read_back(alloc: Global, bytes: &[u8]) -> Result<bool, Fail> {
-    let issuer = issuer()?;
-    match decode(alloc, Version::One, &issuer, bytes) {
-        Ok(entry) => Ok(is_written(alloc, &entry, bytes)),
+// The entry has these bytes, and they are read as an entry that has them.
+fn is_coded(alloc: Global, entry: &Entry, bytes: &[u8]) -> Result<bool, Fail>
+    requires { InRanges entry.now }
+{
+    let made = written(alloc, Version::One, entry)?;
+    match decode(alloc, Version::One, &issuer()?, bytes) {
+        Ok(read) => {
+            let again = written(alloc, Version::One, &read)?;
+            Ok(made.as_slice() == bytes && again.as_slice() == bytes)
+        }
         Err(_) => Ok(false),
     }
 }
 
 #[test]
 fn entries_have_their_bytes(rt: HostRuntime) -> Result<(), Fail> {
-    assert!(rt; is_written(rt.alloc(), &sale(rt.alloc())?, &SALE));
-    assert!(rt; is_written(rt.alloc(), &rectified(rt.alloc())?, &RECTIFIED));
-    assert!(rt; is_written(rt.alloc(), &cancelled()?, &CANCELLED));
-    assert!(rt; is_written(rt.alloc(), &noted(rt.alloc())?, &NOTED));
+    let alloc = rt.alloc();
+    assert!(rt; is_coded(alloc, &sale(alloc, "21")?, &SALE)?);
+    assert!(rt; is_coded(alloc, &rectified(alloc)?, &RECTIFIED)?);
+    assert!(rt; is_coded(alloc, &cancelled()?, &CANCELLED)?);
+    assert!(rt; is_coded(alloc, &noted(alloc)?, &NOTED)?);
     Ok(())
 }
 
 #[test]
-fn bytes_are_those_of_an_entry(rt: HostRuntime) -> Result<(), Fail> {
-    let entries = [SALE.as_slice(), &RECTIFIED, &CANCELLED, &NOTED];
-    for bytes in entries {
-        assert!(rt; is_read_back(rt.alloc(), bytes)?, "{bytes:?}");
-    }
+fn the_first_sale_is_written_in_73_bytes(rt: HostRuntime) -> Result<(), Fail> {
+    let mut out = [0; 4096];
+    let sale = sale(rt.alloc(), "21")?;
+    assert!(rt; fits(Version::One, &sale));
+    let n = write_entry(Version::One, &sale, &mut out);
+    assert_eq!(rt; n, 73);
+    assert!(rt; out.starts_with(&SALE));
     Ok(())
 }
 
-fn fault(alloc: Global, bytes: &[u8]) -> Result<Option<BadEntry>, Fail> {
-    let issuer = issuer()?;
-    Ok(decode(alloc, Version::One, &issuer, bytes).err())
+// The place of the first wrong field, None where the bytes are an entry's.
+fn fault(alloc: Global, version: Version, bytes: &[u8]) -> Result<Option<usize>, Fail> {
+    match decode(alloc, version, &issuer()?, bytes) {
+        Ok(_) => Ok(None),
+        Err(BadEntry::At { at }) => Ok(Some(at)),
+        Err(BadEntry::NoMemory) => Err(Fail::from("memory")),
+    }
 }
 
 // The fault of the bytes with another byte at this place.
 fn fault_with(
     alloc: Global,
+    version: Version,
     bytes: &[u8],
     place: usize,
     byte: u8,
-) -> Result<Option<BadEntry>, Fail> {
-    let mut changed = Vec::new(alloc);
-    for (i, b) in bytes.iter().enumerate() {
-        changed.push(if i == place { byte } else { *b })?;
+) -> Result<Option<usize>, Fail> {
+    let mut changed = Vec::from_slice(alloc, bytes)?;
+    if let Some(at) = changed.get_mut(place) {
+        *at = byte;
     }
-    fault(alloc, &changed)
+    fault(alloc, version, &changed)
 }
 
 // A place, the byte that it is changed to, and the place of the field that is then wrong.
@@ -316,43 +330,87 @@ const OF_NOTED: [Change; 9] = [
 // Each change names its field.
 fn are_named(alloc: Global, bytes: &[u8], changes: &[Change]) -> Result<bool, Fail> {
     for (place, byte, at) in changes {
-        if fault_with(alloc, bytes, *place, *byte)? != Some(BadEntry::At { at: *at }) {
+        if fault_with(alloc, Version::One, bytes, *place, *byte)? != Some(*at) {
             return Ok(false);
         }
     }
     Ok(true)
 }
 
+// Each front of the bytes names its field.
+fn are_cut(alloc: Global, bytes: &[u8], cuts: &[(usize, usize)]) -> Result<bool, Fail> {
+    for (length, at) in cuts {
+        let front = bytes.get(..*length).ok_or("a front")?;
+        if fault(alloc, Version::One, front)? != Some(*at) {
+            return Ok(false);
+        }
+    }
+    Ok(true)
+}
+
+const CUTS: [(usize, usize); 7] = [(0, 0), (1, 1), (5, 2), (9, 6), (26, 20), (40, 39), (72, 41)];
+
 #[test]
 fn the_first_wrong_field_is_named(rt: HostRuntime) -> Result<(), Fail> {
-    assert!(rt; are_named(rt.alloc(), &SALE, &OF_SALE)?);
-    assert!(rt; are_named(rt.alloc(), &RECTIFIED, &OF_RECTIFIED)?);
-    assert!(rt; are_named(rt.alloc(), &CANCELLED, &OF_CANCELLED)?);
-    assert!(rt; are_named(rt.alloc(), &NOTED, &OF_NOTED)?);
-    Ok(())
-}
-
-#[test]
-fn a_cut_field_is_named_and_so_is_a_byte_too_many(rt: HostRuntime) -> Result<(), Fail> {
     let alloc = rt.alloc();
-    for (length, at) in [(0, 0), (1, 1), (5, 2), (9, 6), (26, 20), (40, 39), (72, 41)] {
-        let found = fault(alloc, &SALE[..length])?;
-        assert_eq!(rt; found, Some(BadEntry::At { at }), "{length}");
+    let rows = [
+        (SALE.as_slice(), OF_SALE.as_slice()),
+        (&RECTIFIED, &OF_RECTIFIED),
+        (&CANCELLED, &OF_CANCELLED),
+        (&NOTED, &OF_NOTED),
+    ];
+    for (bytes, changes) in rows {
+        assert!(rt; are_named(alloc, bytes, changes)?, "{bytes:?}");
     }
+    assert!(rt; are_cut(alloc, &SALE, &CUTS)?);
     let mut more = SALE.to_vec(alloc)?;
     more.push(0)?;
-    assert_eq!(rt; fault(alloc, &more)?, Some(BadEntry::At { at: 73 }));
+    assert_eq!(rt; fault(alloc, Version::One, &more)?, Some(73));
     Ok(())
 }
 
+// The bytes of a sale in version two have this line.
+fn has_line(alloc: Global, word: &str, line: &[u8]) -> Result<bool, Fail> {
+    let entry = sale(alloc, word)?;
+    let bytes = written(alloc, Version::Two, &entry)?;
+    Ok(bytes.len() == 76 && &bytes[19..31] == line)
+}
+
+// The place, the byte that it is changed to, and the field that is then wrong.
+const OF_LINE: [(usize, u8, Option<usize>); 6] = [
+    (99, 0, None),
+    (19, 0, Some(19)),
+    (19, 4, Some(19)),
+    (20, 16, Some(20)),
+    (20, 17, Some(20)),
+    (21, 9, Some(21)),
+];
+
 #[test]
-fn the_first_sale_is_written_in_73_bytes(rt: HostRuntime) -> Result<(), Fail> {
-    let mut out = [0; 4096];
-    let sale = sale(rt.alloc())?;
-    assert!(rt; fits(Version::One, &sale));
-    let n = write_entry(Version::One, &sale, &mut out);
-    assert_eq!(rt; n, 73);
-    assert!(rt; out.starts_with(&SALE));
+fn a_line_has_its_tax_its_class_and_its_rate_in_version_two(rt: HostRuntime) -> Result<(), Fail> {
+    let alloc = rt.alloc();
+    assert!(rt; !fits(Version::One, &sale(alloc, "03/700")?));
+    let line = [0x03, 0x10, 0x02, 0xbc, 0, 0, 0, 0, 0, 0, 0x27, 0x10];
+    assert!(rt; has_line(alloc, "03/700", &line)?);
+    let line = [0x01, 0x00, 0x08, 0x34, 0, 0, 0, 0, 0, 0, 0x27, 0x10];
+    assert!(rt; has_line(alloc, "21", &line)?);
+    Ok(())
+}
+
+// The bytes of the sale in version two.
+fn new_bytes(alloc: Global) -> Result<Vec<u8>, Fail> {
+    let entry = sale(alloc, "21")?;
+    written(alloc, Version::Two, &entry)
+}
+
+#[test]
+fn a_wrong_tax_class_or_rate_is_named(rt: HostRuntime) -> Result<(), Fail> {
+    let bytes = new_bytes(rt.alloc())?;
+    assert!(rt; head_of(&bytes) == head_of(&SALE));
+    for (place, byte, at) in OF_LINE {
+        let found = fault_with(rt.alloc(), Version::Two, &bytes, place, byte)?;
+        assert_eq!(rt; found, at, "{byte}");
+    }
     Ok(())
 }
 

@@ -1,10 +1,7 @@
 // Lines of an export. The texts were written by hand from the schema of the objects.
 use crate::entries::{cancelled, noted, rectified};
-use crate::records::{TEN, alta, draft_of, id, issuer, line, moment, nif};
-use export::{
-    Head, LineFault, entry_text, head_text, is_entry_line, is_head_line, objects_are_apart,
-    read_entry, read_head,
-};
+use crate::records::{TEN, alta, draft_of, id, issuer, line, moment};
+use export::{Head, LineFault, entry_text, head_text, objects_are_apart, read_entry, read_head};
 use invoice_kinds::Kind;
 use record_codec::{Entry, Version};
 use record_fields::{Link, Record, Sealed};
@@ -43,23 +40,6 @@ fn two_taxes(alloc: Global) -> Result<Entry, Fail> {
     })
 }
 
-#[test]
-fn a_head_is_written_and_read(rt: HostRuntime) -> Result<(), Fail> {
-    let alloc = rt.alloc();
-    let issuer = issuer()?;
-    let version = Version::Two;
-    let text = head_text(alloc, &issuer, version)?;
-    assert_eq!(rt; text.as_slice(), HEAD.as_bytes());
-    assert_eq!(rt;
-        read_head(alloc, text.as_slice()),
-        Ok(Head { issuer, version })
-    );
-    assert!(rt; is_head_line(alloc, &issuer, version, HEAD.as_bytes())?);
-    assert!(rt; !is_head_line(alloc, &issuer, Version::One, HEAD.as_bytes())?);
-    assert!(rt; !is_head_line(alloc, &nif("B12345674")?, version, HEAD.as_bytes())?);
-    Ok(())
-}
-
 const NO_HEADS: [&str; 8] = [
     "{}",
     NOTED,
@@ -82,9 +62,16 @@ fn first_head(alloc: Global, lines: &[&str]) -> Option<usize> {
 }
 
 #[test]
-fn lines_that_are_no_head_are_refused(rt: HostRuntime) -> Result<(), Fail> {
-    assert_eq!(rt; first_head(rt.alloc(), &NO_HEADS), None);
-    assert_eq!(rt; read_head(rt.alloc(), b"{").err(), Some(LineFault::Json));
+fn a_head_is_written_and_read(rt: HostRuntime) -> Result<(), Fail> {
+    let alloc = rt.alloc();
+    let issuer = issuer()?;
+    let version = Version::Two;
+    let text = head_text(alloc, &issuer, version)?;
+    assert_eq!(rt; text.as_slice(), HEAD.as_bytes());
+    let head = Head { issuer, version };
+    assert_eq!(rt; read_head(alloc, text.as_slice()), Ok(head));
+    assert_eq!(rt; first_head(alloc, &NO_HEADS), None);
+    assert_eq!(rt; read_head(alloc, b"{").err(), Some(LineFault::Json));
     Ok(())
 }
 
@@ -92,10 +79,8 @@ fn lines_that_are_no_head_are_refused(rt: HostRuntime) -> Result<(), Fail> {
 fn is_line(alloc: Global, entry: &Entry, line: &str) -> Result<bool, Fail> {
     let text = entry_text(alloc, entry)?;
     let read = read_entry(alloc, Version::Two, &issuer()?, line.as_bytes());
-    let read = read.ok().ok_or("an entry")?;
-    let again = entry_text(alloc, &read)?;
-    let is = is_entry_line(alloc, &read, line.as_bytes())?;
-    Ok(is && text.as_slice() == line.as_bytes() && again.as_slice() == line.as_bytes())
+    let again = entry_text(alloc, &read.ok().ok_or("an entry")?)?;
+    Ok(text.as_slice() == line.as_bytes() && again.as_slice() == line.as_bytes())
 }
 
 #[test]
@@ -106,41 +91,6 @@ fn entries_are_written_and_read(rt: HostRuntime) -> Result<(), Fail> {
     assert!(rt; is_line(alloc, &rectified(alloc)?, RECTIFIED)?);
     assert!(rt; is_line(alloc, &cancelled()?, CANCELLED)?);
     assert!(rt; is_line(alloc, &noted(alloc)?, NOTED)?);
-    assert!(rt; !is_entry_line(alloc, &noted(alloc)?, CANCELLED.as_bytes())?);
-    assert!(rt; !is_entry_line(alloc, &noted(alloc)?, b"{")?);
-    Ok(())
-}
-
-fn fault_in(alloc: Global, version: Version, line: &[u8]) -> Result<Option<LineFault>, Fail> {
-    Ok(read_entry(alloc, version, &issuer()?, line).err())
-}
-
-// The first of the lines that has another fault than this.
-fn first_other(alloc: Global, lines: &[&str], fault: LineFault) -> Result<Option<usize>, Fail> {
-    for (i, line) in lines.iter().enumerate() {
-        if fault_in(alloc, Version::Two, line.as_bytes())? != Some(fault) {
-            return Ok(Some(i));
-        }
-    }
-    Ok(None)
-}
-
-// The text with another one in place of its first `old`.
-fn with(alloc: Global, text: &str, old: &str, new: &str) -> Result<String, Fail> {
-    let (front, back) = text.split_once(old).ok_or("the old text")?;
-    Ok(format!(in alloc; "{front}{new}{back}")?)
-}
-
-#[test]
-fn a_version_has_its_taxes(rt: HostRuntime) -> Result<(), Fail> {
-    let alloc = rt.alloc();
-    let line = TWO_TAXES.as_bytes();
-    assert_eq!(rt;
-        fault_in(alloc, Version::One, line)?,
-        Some(LineFault::Shape)
-    );
-    assert_eq!(rt; fault_in(alloc, Version::One, RECTIFIED.as_bytes())?, None);
-    assert_eq!(rt; fault_in(alloc, Version::One, NOTED.as_bytes())?, None);
     Ok(())
 }
 
@@ -164,19 +114,6 @@ fn nested(alloc: Global, levels: usize) -> Result<Vec<u8>, Fail> {
         text.push(b']')?;
     }
     Ok(text)
-}
-
-#[test]
-fn lines_that_are_no_json_are_named(rt: HostRuntime) -> Result<(), Fail> {
-    let alloc = rt.alloc();
-    assert_eq!(rt; first_other(alloc, &NO_JSON, LineFault::Json)?, None);
-    let no_text = fault_in(alloc, Version::Two, b"\"\xff\"")?;
-    assert_eq!(rt; no_text, Some(LineFault::Json));
-    let deep = fault_in(alloc, Version::Two, &nested(alloc, 200)?)?;
-    assert_eq!(rt; deep, Some(LineFault::Json));
-    let low = fault_in(alloc, Version::Two, &nested(alloc, 100)?)?;
-    assert_eq!(rt; low, Some(LineFault::Shape));
-    Ok(())
 }
 
 // What stands in a line, and what stands in its place in a line of no entry.
@@ -222,6 +159,27 @@ const NO_ENTRIES: [&str; 6] = [
     r#"{"first":7,"lines":[],"t":"notes"}"#,
 ];
 
+fn fault_in(alloc: Global, version: Version, line: &[u8]) -> Result<Option<LineFault>, Fail> {
+    let issuer = issuer()?;
+    Ok(read_entry(alloc, version, &issuer, line).err())
+}
+
+// The first of the lines that has another fault than this.
+fn first_other(alloc: Global, lines: &[&str], fault: LineFault) -> Result<Option<usize>, Fail> {
+    for (i, line) in lines.iter().enumerate() {
+        if fault_in(alloc, Version::Two, line.as_bytes())? != Some(fault) {
+            return Ok(Some(i));
+        }
+    }
+    Ok(None)
+}
+
+// The text with another one in place of its first `old`.
+fn with(alloc: Global, text: &str, old: &str, new: &str) -> Result<String, Fail> {
+    let (front, back) = text.split_once(old).ok_or("the old text")?;
+    Ok(format!(in alloc; "{front}{new}{back}")?)
+}
+
 // The first of the changes that leaves a line of an entry, or none of the language.
 fn first_right(alloc: Global, changes: &[(&str, &str, &str)]) -> Result<Option<usize>, Fail> {
     for (i, (text, old, new)) in changes.iter().enumerate() {
@@ -236,34 +194,20 @@ fn first_right(alloc: Global, changes: &[(&str, &str, &str)]) -> Result<Option<u
 #[test]
 fn lines_of_no_entry_are_named(rt: HostRuntime) -> Result<(), Fail> {
     let alloc = rt.alloc();
-    assert_eq!(rt; first_right(alloc, &WRONG)?, None);
+    assert_eq!(rt; first_other(alloc, &NO_JSON, LineFault::Json)?, None);
     assert_eq!(rt; first_other(alloc, &NO_ENTRIES, LineFault::Shape)?, None);
-    Ok(())
-}
-
-// What the line of notes may have in place of what stands in it, since its value is what counts.
-const RIGHT: [(&str, &str); 4] = [
-    ("\"t\":\"notes\"", "\"t\":\"alta\",\"t\":\"notes\""),
-    ("{\"first\":7,", " {\t\"first\" : 7,"),
-    ("\"held\"", "\"\\u0068eld\""),
-    ("}", "}\r"),
-];
-
-// The first of the changes that leaves no line of the notes.
-fn first_wrong(alloc: Global, changes: &[(&str, &str)]) -> Result<Option<usize>, Fail> {
-    let notes = noted(alloc)?;
-    for (i, (old, new)) in changes.iter().enumerate() {
-        let line = with(alloc, NOTED, old, new)?;
-        let is_read = fault_in(alloc, Version::Two, line.as_bytes())?.is_none();
-        if !is_read || !is_entry_line(alloc, &notes, line.as_bytes())? {
-            return Ok(Some(i));
-        }
+    assert_eq!(rt; first_right(alloc, &WRONG)?, None);
+    let (deep, low) = (nested(alloc, 200)?, nested(alloc, 100)?);
+    let rows = [
+        (Version::Two, b"\"\xff\"".as_slice(), Some(LineFault::Json)),
+        (Version::Two, &deep, Some(LineFault::Json)),
+        (Version::Two, &low, Some(LineFault::Shape)),
+        (Version::One, TWO_TAXES.as_bytes(), Some(LineFault::Shape)),
+        (Version::One, RECTIFIED.as_bytes(), None),
+        (Version::One, NOTED.as_bytes(), None),
+    ];
+    for (version, line, fault) in rows {
+        assert_eq!(rt; fault_in(alloc, version, line)?, fault);
     }
-    Ok(None)
-}
-
-#[test]
-fn a_line_is_read_by_its_value(rt: HostRuntime) -> Result<(), Fail> {
-    assert_eq!(rt; first_wrong(rt.alloc(), &RIGHT)?, None);
     Ok(())
 }

@@ -1,13 +1,9 @@
 use crate::records as samples;
 use crate::records::{TEN, anulacion, draft, id, issuer, moment, number};
-use agency_rules::{
-    Delivered, Fate, Fates, Pairs, Past, Plan, PlannedFate, PlannedVerdict, Verdict, Verdicts,
-    judge,
-};
+use agency_rules::{Delivered, Pairs, Past, PlannedVerdict, Verdict, Verdicts, judge};
 use invoice_kinds::Kind;
 use record_fields::{Cause, Line, Link, Previo, Record, Sealed};
 use std::alloc::Global;
-use std::process::Abort;
 use std::test::Fail;
 
 fn alta(alloc: Global, day: &str, subsanacion: bool, rechazo: Previo) -> Result<Record, Fail> {
@@ -155,141 +151,93 @@ fn anulaciones_are_judged(rt: HostRuntime) -> Result<(), Fail> {
     Ok(())
 }
 
-// The record of this number arrives.
-fn arrives(
-    rt: &(impl Abort + AllocGlobal),
-    pairs: &mut Pairs,
-    plan: &Plan,
-    body: Record,
-    n: u8,
-) -> Result<Delivered, Fail> {
-    let sealed = Sealed {
-        body,
-        huella: [n; 32],
-    };
-    match pairs.deliver_record(rt.alloc(), &plan.verdicts, &sealed) {
-        Ok(met) => Ok(met),
-        Err(_) => Err(Fail::from("memory")),
-    }
-}
-
-fn plan(alloc: Global) -> Result<Plan, Fail> {
-    let num = number("A-1")?;
-    let mut verdicts = Vec::new(alloc);
-    verdicts.push(PlannedVerdict {
-        num,
+// A warning for the second record of A-1.
+fn verdicts(alloc: Global) -> Result<Verdicts, Fail> {
+    let warned = PlannedVerdict {
+        num: number("A-1")?,
         n: 2,
         verdict: Verdict::Warn(2001),
-    })?;
-    let mut fates = Vec::new(alloc);
-    fates.push(PlannedFate {
-        call: 2,
-        fate: Fate::Late(3),
-    })?;
-    let plan = Plan {
-        verdicts: Verdicts::of(verdicts),
-        wait: 7,
-        fates: Fates::of(fates),
     };
-    match plan.copied(alloc) {
-        Ok(copy) => Ok(copy),
-        Err(_) => Err(Fail::from("memory")),
-    }
+    Ok(Verdicts::of(Vec::from_slice(alloc, &[warned])?))
 }
 
-#[test]
-fn fates_are_planned(rt: HostRuntime) -> Result<(), Fail> {
-    let plan = plan(rt.alloc())?;
-    assert_eq!(rt; plan.fates.at(2), Some(Fate::Late(3)));
-    assert_eq!(rt; plan.fates.at(1), None);
-    Ok(())
+// A cancellation or an alta, with its flag and its Huella.
+fn record(alloc: Global, day: &str, cancels: bool, flag: bool, huella: u8) -> Result<Sealed, Fail> {
+    let body = if cancels {
+        cancelled(day, flag)?
+    } else {
+        alta(alloc, day, flag, Previo::N)?
+    };
+    let huella = [huella; 32];
+    Ok(Sealed { body, huella })
 }
 
 const DAY: &str = "01-01-2025";
 
-// A cancellation or an alta, with its flag.
-fn body(alloc: Global, day: &str, cancels: bool, flag: bool) -> Result<Record, Fail> {
-    if cancels {
-        cancelled(day, flag)
-    } else {
-        alta(alloc, day, flag, Previo::N)
-    }
-}
+const NEXT: &str = "02-01-2025";
+
+const GONE: Line = Line::Incorrecto(Cause::Gone);
+
+// A record's day, whether it cancels, its flag and its Huella, and what is met.
+type Arrival = (&'static str, bool, bool, u8, Delivered);
 
 // An alta, its mend with a warning, its cancellation, one that comes too late, one of another day, and the late one again.
+const ARRIVALS: [Arrival; 6] = [
+    (DAY, false, false, 1, Delivered::First(Line::Correcto)),
+    (
+        DAY,
+        false,
+        true,
+        2,
+        Delivered::First(Line::ConErrores(2001)),
+    ),
+    (DAY, true, false, 3, Delivered::First(Line::Correcto)),
+    (DAY, false, false, 4, Delivered::First(GONE)),
+    (NEXT, false, false, 5, Delivered::First(Line::Correcto)),
+    (DAY, true, true, 4, Delivered::Again(GONE)),
+];
+
+// Whether a record that arrives meets this.
+fn arrives(alloc: Global, pairs: &mut Pairs, arrival: Arrival) -> Result<bool, Fail> {
+    let (day, cancels, flag, n, expected) = arrival;
+    let verdicts = verdicts(alloc)?;
+    let sealed = record(alloc, day, cancels, flag, n)?;
+    let met = pairs.deliver_record(alloc, &verdicts, &sealed)?;
+    Ok(met == expected)
+}
+
+const PAST: Past = Past {
+    count: 4,
+    held: false,
+    gone: true,
+};
+
 #[test]
 fn records_are_delivered(rt: HostRuntime) -> Result<(), Fail> {
-    let plan = plan(rt.alloc())?;
     let mut pairs = Pairs::new(rt.alloc());
-    let gone = Line::Incorrecto(Cause::Gone);
-    let rows = [
-        (DAY, false, false, 1, Delivered::First(Line::Correcto)),
-        (
-            DAY,
-            false,
-            true,
-            2,
-            Delivered::First(Line::ConErrores(2001)),
-        ),
-        (DAY, true, false, 3, Delivered::First(Line::Correcto)),
-        (DAY, false, false, 4, Delivered::First(gone)),
-        (
-            "02-01-2025",
-            false,
-            false,
-            5,
-            Delivered::First(Line::Correcto),
-        ),
-        (DAY, true, true, 4, Delivered::Again(gone)),
-    ];
-    for (day, cancels, flag, n, expected) in rows {
-        let body = body(rt.alloc(), day, cancels, flag)?;
-        assert_eq!(rt;
-            arrives(&rt, &mut pairs, &plan, body, n)?,
-            expected,
-            "record {n}"
-        );
+    for arrival in ARRIVALS {
+        assert!(rt; arrives(rt.alloc(), &mut pairs, arrival)?);
     }
-    let past = Past {
-        count: 4,
-        held: false,
-        gone: true,
-    };
-    assert_eq!(rt; (pairs.past_of(&id("A-1", DAY)?), pairs.len()), (past, 5));
+    let id = id("A-1", DAY)?;
+    assert_eq!(rt; (pairs.past_of(&id), pairs.len()), (PAST, 5));
     Ok(())
 }
 
-// The pairs with a cancellation that finds nothing.
-fn with_one(alloc: Global, mut pairs: Pairs) -> Result<Pairs, Fail> {
-    let plan = plan(alloc)?;
-    let batch = [Sealed {
-        body: cancelled(DAY, false)?,
-        huella: [9; 32],
-    }];
-    match pairs.deliver(alloc, &plan.verdicts, &batch) {
-        Ok(()) => Ok(pairs),
-        Err(_) => Err(Fail::from("memory")),
-    }
+// A cancellation that finds nothing is delivered to an agency that has processed nothing.
+fn with_one(alloc: Global) -> Result<Pairs, Fail> {
+    let verdicts = verdicts(alloc)?;
+    let batch = [record(alloc, DAY, true, false, 9)?];
+    let mut pairs = Pairs::new(alloc);
+    pairs.deliver(alloc, &verdicts, &batch)?;
+    Ok(pairs)
 }
 
 #[test]
 fn a_delivery_is_taken_back(rt: HostRuntime) -> Result<(), Fail> {
-    let not_held = Some(Line::Incorrecto(Cause::NotHeld));
-    let mut pairs = with_one(rt.alloc(), Pairs::new(rt.alloc()))?;
-    assert_eq!(rt; pairs.line_of(&[9; 32]), not_held);
+    let mut pairs = with_one(rt.alloc())?;
+    let not_held = Line::Incorrecto(Cause::NotHeld);
+    assert_eq!(rt; pairs.line_of(&[9; 32]), Some(not_held));
     pairs.truncate(0);
-    assert_eq!(rt; pairs.line_of(&[9; 32]), None);
-    let pairs = with_one(rt.alloc(), pairs)?;
-    assert_eq!(rt; pairs.past_of(&id("A-1", DAY)?).count, 1);
-    Ok(())
-}
-
-#[test]
-fn pairs_are_made_of_a_list(rt: HostRuntime) -> Result<(), Fail> {
-    let pairs = with_one(rt.alloc(), Pairs::new(rt.alloc()))?;
-    let Ok(copy) = Pairs::of(rt.alloc(), pairs.as_slice()) else {
-        return Err(Fail::from("memory"));
-    };
-    assert_eq!(rt; copy.as_slice().len(), 1);
+    assert_eq!(rt; (pairs.line_of(&[9; 32]), pairs.len()), (None, 0));
     Ok(())
 }

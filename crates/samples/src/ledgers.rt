@@ -1,144 +1,102 @@
-// Statements of months over worked histories: sales, a fix that is refused, a cancellation. The taxes are reckoned by hand.
-use amounts::Cents;
+// A ledger that goes on with a worked history: a sale, its fix, which the agency refuses, and its cancellation. The taxes are reckoned by
+// hand.
+use crate::records::{TEN, draft, issuer, number};
 use invoice_kinds::Kind;
-use parties::Nif;
 use record_codec::{Entry, Version};
-use record_fields::{Cause, Draft, Line, Lines, Refs};
-use series::{NumSerie, SeriesName};
+use record_fields::{Cause, Line, Lines};
+use series::SeriesName;
 use shop_core::{Ask, Planned, Request, State, next_fault, plan};
-use statements::{Ledger, Month, Row};
+use statements::{Ledger, Month};
 use std::alloc::Global;
 use std::test::Fail;
-use tax_lines::{Breakdown, Class, LineKey, TaxLine};
 
-/// 2025-01-01, 10:00 on the peninsular clock.
-const TEN: u64 = 1_735_722_000;
-
-fn draft(alloc: Global, lines: &[TaxLine]) -> Result<Draft, Fail> {
-    Ok(Draft {
-        kind: Kind::F2,
-        rect: None,
-        customer: None,
-        refs: Refs::of(Vec::new(alloc)),
-        lines: Breakdown::of(alloc, lines).ok().ok_or("lines")?,
-    })
+// What happens next: a sale of so many cents at 21 percent, its fix to so many, its cancellation, or the agency's line for the next record.
+#[derive(Clone, Copy)]
+enum Step {
+    Sale(i64),
+    Fix(i64),
+    Cancel,
+    Note(Line),
 }
 
-fn line(key: LineKey, base: i64) -> Result<TaxLine, Fail> {
-    let base = Cents::new(base).ok_or("a base")?;
-    Ok(TaxLine { key, base })
+fn request(alloc: Global, step: Step) -> Result<Request, Fail> {
+    match step {
+        Step::Sale(base) => {
+            let series = SeriesName::read("A").ok_or("a series")?;
+            let draft = draft(alloc, Kind::F2, base)?;
+            Ok(Request::Sale { series, draft })
+        }
+        Step::Fix(base) => {
+            let num = number("A-1")?;
+            let draft = draft(alloc, Kind::F2, base)?;
+            Ok(Request::Fix { num, draft })
+        }
+        _ => {
+            let num = number("A-1")?;
+            Ok(Request::Cancel { num })
+        }
+    }
 }
 
-pub fn push(alloc: Global, ledger: &mut Ledger, entry: Entry) -> Result<(), Fail> {
-    let fault = next_fault(alloc, ledger.state(), &entry)?;
-    if fault.is_some() {
+// The entry of an ask of till 1, which is taken.
+fn made(alloc: Global, state: &State, step: Step) -> Result<Entry, Fail> {
+    let serial = state.records().saturating_add(1);
+    let ask = Ask::new(1, serial, request(alloc, step)?);
+    match plan(alloc, state, &ask, TEN)? {
+        Planned::Made(entry) => Ok(entry),
+        _ => Err(Fail::from("not taken")),
+    }
+}
+
+fn noted(alloc: Global, state: &State, line: Line) -> Result<Entry, Fail> {
+    let first = state.noted();
+    let lines = Lines::of(Vec::from_slice(alloc, &[line])?);
+    Ok(Entry::Notes { first, lines })
+}
+
+fn push(alloc: Global, ledger: &mut Ledger, step: Step) -> Result<(), Fail> {
+    let entry = match step {
+        Step::Note(line) => noted(alloc, ledger.state(), line)?,
+        _ => made(alloc, ledger.state(), step)?,
+    };
+    if next_fault(alloc, ledger.state(), &entry)?.is_some() {
         return Err(Fail::from("a break"));
     }
     ledger.push(alloc, entry)?;
     Ok(())
 }
 
-fn ask(alloc: Global, ledger: &mut Ledger, serial: u32, request: Request) -> Result<(), Fail> {
-    if serial < 1 {
-        return Err(Fail::from("a serial"));
-    }
-    match plan(alloc, ledger.state(), &Ask::new(1, serial, request), TEN)? {
-        Planned::Made(entry) => push(alloc, ledger, entry),
-        _ => Err(Fail::from("not taken")),
-    }
-}
-
-fn note(alloc: Global, ledger: &mut Ledger, line: Line) -> Result<(), Fail> {
-    let mut lines = Vec::new(alloc);
-    lines.push(line)?;
-    let first = ledger.state().noted();
-    let lines = Lines::of(lines);
-    push(alloc, ledger, Entry::Notes { first, lines })
-}
-
-fn empty(alloc: Global) -> Result<Ledger, Fail> {
-    let issuer = Nif::read("89890001K").ok().ok_or("a tax number")?;
-    Ok(Ledger::of(alloc, State::empty(alloc, &issuer, Version::One))?)
-}
-
-fn sale(alloc: Global, key: LineKey, base: i64) -> Result<Request, Fail> {
-    let series = SeriesName::read("A").ok_or("a series")?;
-    let draft = draft(alloc, &[line(key, base)?])?;
-    Ok(Request::Sale { series, draft })
-}
-
-fn first() -> Result<NumSerie, Fail> {
-    Ok(NumSerie::read("A-1").ok_or("a number")?)
-}
-
-fn rows_are(ledger: &Ledger, rows: &[Row]) -> Result<bool, Fail> {
-    let january = Month::new(2025, 1).ok_or("a month")?;
-    let february = Month::new(2025, 2).ok_or("a month")?;
-    Ok(ledger.rows(january).as_slice() == rows && ledger.rows(february).as_slice().is_empty())
-}
-
-fn row(key: LineKey, base: i64, tax: i64) -> Row {
-    Row {
-        key,
-        lines: 1,
-        base,
-        tax,
-        surcharge: 0,
+// The base and the tax of a month's only row, and nothing where it has no row.
+fn sums(ledger: &Ledger, month: u8) -> Result<(i64, i64), Fail> {
+    let month = Month::new(2025, month).ok_or("a month")?;
+    match ledger.rows(month).as_slice() {
+        [] => Ok((0, 0)),
+        [row] => Ok((row.base, row.tax)),
+        _ => Err(Fail::from("two rows")),
     }
 }
 
-#[test]
-fn two_sales_have_a_row_each(rt: HostRuntime) -> Result<(), Fail> {
-    let alloc = rt.alloc();
-    let mut ledger = empty(alloc)?;
-    assert!(rt; rows_are(&ledger, &[])?);
-    let request = sale(alloc, LineKey::iva(Class::Reduced), 1_000)?;
-    ask(alloc, &mut ledger, 1, request)?;
-    let request = sale(alloc, LineKey::iva(Class::General), 10_000)?;
-    ask(alloc, &mut ledger, 2, request)?;
-    let rows = [
-        row(LineKey::iva(Class::General), 10_000, 2_100),
-        row(LineKey::iva(Class::Reduced), 1_000, 100),
-    ];
-    assert!(rt; rows_are(&ledger, &rows)?);
-    Ok(())
-}
+const REFUSED: Line = Line::Incorrecto(Cause::Vet(4100));
+
+const STEPS: [(Step, i64, i64); 6] = [
+    (Step::Sale(10_000), 10_000, 2_100),
+    (Step::Fix(20_000), 20_000, 4_200),
+    (Step::Note(Line::Correcto), 20_000, 4_200),
+    (Step::Note(REFUSED), 10_000, 2_100),
+    (Step::Cancel, 0, 0),
+    (Step::Note(REFUSED), 10_000, 2_100),
+];
 
 #[test]
 fn a_refused_fix_brings_the_sale_back(rt: HostRuntime) -> Result<(), Fail> {
     let alloc = rt.alloc();
-    let mut ledger = empty(alloc)?;
-    let request = sale(alloc, LineKey::iva(Class::General), 10_000)?;
-    ask(alloc, &mut ledger, 1, request)?;
-    let draft = draft(alloc, &[line(LineKey::iva(Class::General), 20_000)?])?;
-    ask(
-        alloc,
-        &mut ledger,
-        2,
-        Request::Fix {
-            num: first()?,
-            draft,
-        },
-    )?;
-    assert!(rt; rows_are(&ledger, &[row(LineKey::iva(Class::General), 20_000, 4_200)])?);
-    note(alloc, &mut ledger, Line::Correcto)?;
-    assert!(rt; rows_are(&ledger, &[row(LineKey::iva(Class::General), 20_000, 4_200)])?);
-    note(alloc, &mut ledger, Line::Incorrecto(Cause::Vet(4_100)))?;
-    assert!(rt; rows_are(&ledger, &[row(LineKey::iva(Class::General), 10_000, 2_100)])?);
-    Ok(())
-}
-
-#[test]
-fn a_refused_sale_that_is_cancelled_has_no_row(rt: HostRuntime) -> Result<(), Fail> {
-    let alloc = rt.alloc();
-    let mut ledger = empty(alloc)?;
-    let request = sale(alloc, LineKey::iva(Class::General), 10_000)?;
-    ask(alloc, &mut ledger, 1, request)?;
-    ask(alloc, &mut ledger, 2, Request::Cancel { num: first()? })?;
-    assert!(rt; rows_are(&ledger, &[])?);
-    note(alloc, &mut ledger, Line::Incorrecto(Cause::Vet(4_100)))?;
-    note(alloc, &mut ledger, Line::Incorrecto(Cause::NotHeld))?;
-    ask(alloc, &mut ledger, 3, Request::Cancel { num: first()? })?;
-    assert!(rt; rows_are(&ledger, &[])?);
+    let mut ledger = Ledger::of(alloc, State::empty(alloc, &issuer()?, Version::One))?;
+    for (step, base, tax) in STEPS {
+        push(alloc, &mut ledger, step)?;
+        assert_eq!(rt;
+            (sums(&ledger, 1)?, sums(&ledger, 2)?),
+            ((base, tax), (0, 0))
+        );
+    }
     Ok(())
 }

@@ -7,8 +7,6 @@ mod agencies;
 #[cfg(test)]
 mod chains;
 #[cfg(test)]
-mod consultations;
-#[cfg(test)]
 mod entries;
 #[cfg(test)]
 mod exports;
@@ -19,16 +17,6 @@ mod judgements;
 #[cfg(test)]
 mod ledgers;
 #[cfg(test)]
-mod months;
-#[cfg(test)]
-mod plain;
-#[cfg(test)]
 mod records;
 #[cfg(test)]
-mod replies;
-#[cfg(test)]
 mod shops;
-#[cfg(test)]
-mod versions;
-#[cfg(test)]
-mod walks;

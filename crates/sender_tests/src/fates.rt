@@ -95,23 +95,3 @@ fn three_records_under_each_fate_at_each_call(rt: HostRuntime) -> Result<(), Fai
     }
     Ok(())
 }
-
-#[test]
-fn eight_lost_calls_end_a_drain(rt: HostRuntime) -> Result<(), Fail> {
-    let mut planned = Vec::new(rt.alloc());
-    for call in 1..9u32 {
-        planned.push(PlannedFate {
-            call,
-            fate: Fate::Lost,
-        })?;
-    }
-    let left = drain_under(&rt, 2, &planned)?;
-    let wanted = DrainFault::Undelivered {
-        noted: 0,
-        records: 2,
-    };
-    assert_eq!(rt; left.ended, Err(wanted));
-    assert_eq!(rt; left.told.as_slice(), [Told::Link; 8].as_slice());
-    assert!(rt; left.agency.processed().is_empty());
-    Ok(())
-}

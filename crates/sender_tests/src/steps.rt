@@ -87,58 +87,51 @@ fn a_full_batch_waits_for_no_second(rt: HostRuntime) -> Result<(), Fail> {
     Ok(())
 }
 
+// Two sales are handed over and a third one is made behind the fault, at whose batch nothing is due for a minute.
+const BEHIND_A_FAULT: [Step; 9] = [
+    Step::Sell(2),
+    Step::Turn(0),
+    Step::Turn(0),
+    Step::Sell(1),
+    Step::Turn(0),
+    Step::Turn(0),
+    Step::Turn(60),
+    Step::Turn(60),
+    Step::Turn(60),
+];
+
 // The batch came, and its answer was lost.
-#[test]
-fn a_record_behind_a_lost_answer(rt: HostRuntime) -> Result<(), Fail> {
-    let steps = [
-        Step::Sell(2),
-        Step::Turn(0),
-        Step::Turn(0),
-        Step::Sell(1),
-        Step::Turn(0),
-        Step::Turn(0),
-        Step::Turn(60),
-        Step::Turn(60),
-    ];
-    let wanted = [
-        Ok(Turn::Cleared),
-        Err(SendFault::LinkFault),
-        Ok(Turn::Noted { n: 2 }),
-        Ok(Turn::WaitUntil(NEXT_DAY + 60)),
-        Ok(Turn::Noted { n: 1 }),
-        Ok(Turn::Idle { records: 3 }),
-    ];
-    for fate in [Fate::Taken, Fate::Stale] {
-        let said = answers_under(&rt, fate, &steps)?;
-        assert_eq!(rt; said.as_slice(), wanted.as_slice(), "at {fate:?}");
-    }
-    Ok(())
-}
+const LOST_ANSWER: [Result<Turn, SendFault>; 7] = [
+    Ok(Turn::Cleared),
+    Err(SendFault::LinkFault),
+    Ok(Turn::Noted { n: 2 }),
+    Ok(Turn::WaitUntil(NEXT_DAY + 60)),
+    Ok(Turn::Noted { n: 1 }),
+    Ok(Turn::Idle { records: 3 }),
+    Ok(Turn::Idle { records: 3 }),
+];
 
 // The batch comes with the next one.
+const LATE_BATCH: [Result<Turn, SendFault>; 7] = [
+    Ok(Turn::Cleared),
+    Err(SendFault::LinkFault),
+    Ok(Turn::Cleared),
+    Ok(Turn::WaitUntil(NEXT_DAY + 60)),
+    Ok(Turn::Doubt { place: 1 }),
+    Ok(Turn::Noted { n: 3 }),
+    Ok(Turn::Idle { records: 3 }),
+];
+
 #[test]
-fn a_record_behind_a_late_batch(rt: HostRuntime) -> Result<(), Fail> {
-    let steps = [
-        Step::Sell(2),
-        Step::Turn(0),
-        Step::Turn(0),
-        Step::Sell(1),
-        Step::Turn(0),
-        Step::Turn(0),
-        Step::Turn(60),
-        Step::Turn(60),
-        Step::Turn(60),
+fn a_record_behind_a_lost_answer_and_a_late_batch(rt: HostRuntime) -> Result<(), Fail> {
+    let rows = [
+        (Fate::Taken, LOST_ANSWER.as_slice()),
+        (Fate::Stale, &LOST_ANSWER),
+        (Fate::Late(2), &LATE_BATCH),
     ];
-    let wanted = [
-        Ok(Turn::Cleared),
-        Err(SendFault::LinkFault),
-        Ok(Turn::Cleared),
-        Ok(Turn::WaitUntil(NEXT_DAY + 60)),
-        Ok(Turn::Doubt { place: 1 }),
-        Ok(Turn::Noted { n: 3 }),
-        Ok(Turn::Idle { records: 3 }),
-    ];
-    let said = answers_under(&rt, Fate::Late(2), &steps)?;
-    assert_eq!(rt; said.as_slice(), wanted.as_slice());
+    for (fate, wanted) in rows {
+        let said = answers_under(&rt, fate, &BEHIND_A_FAULT)?;
+        assert_eq!(rt; said.as_slice(), wanted, "at {fate:?}");
+    }
     Ok(())
 }

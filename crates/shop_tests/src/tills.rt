@@ -67,6 +67,8 @@ struct Ran<D: Disk, C: Clock> {
     first: Result<Reply, StoreFault>,
     second: Result<Reply, StoreFault>,
     again: Result<Reply, StoreFault>,
+    // How many items till 2 knew of before till 1 was answered, and behind that, when it had asked for nothing.
+    seen: (u64, u64),
     count: u64,
     store: Store<D, C>,
 }
@@ -95,7 +97,9 @@ fn run_in_turns<D: Disk + Drop, C: Clock + Drop, R: Wait>(
     let Some(mut one) = tills.pull() else {
         return None;
     };
+    let before = shop.count_now(&mut two);
     let first = shop.ask(rt, alloc, &mut one, 1, request);
+    let behind = shop.count_now(&mut two);
     let second = shop.ask(rt, alloc, &mut two, 1, request);
     let again = shop.ask(rt, alloc, &mut one, 1, request);
     let count = shop.count_now(&mut two);
@@ -105,6 +109,7 @@ fn run_in_turns<D: Disk + Drop, C: Clock + Drop, R: Wait>(
         first,
         second,
         again,
+        seen: (before, behind),
         count,
         store: shop.close(tills, seat),
     })
@@ -141,18 +146,8 @@ fn again_at(reply: &Result<Reply, StoreFault>) -> u32 {
 }
 
 #[test]
-fn two_tills_ask_one_after_the_other(rt: HostRuntime) -> Result<(), Fail> {
-    let ran = run_over(&rt, rt.alloc(), Vec::new(rt.alloc()))?.ok_or("a shop")?;
-    assert_eq!(rt; (taken_at(&ran.first), taken_at(&ran.second)), (1, 2));
-    assert_eq!(rt; again_at(&ran.again), 1);
-    assert_eq!(rt; (ran.count, ran.store.state().records()), (2, 2));
-    assert!(rt; ran.store.stopped().is_none());
-    Ok(())
-}
-
-#[test]
-fn a_failing_disk_stops_the_shop(rt: HostRuntime) -> Result<(), Fail> {
-    let mut stops = 0u32;
+fn two_tills_ask_until_the_disk_fails(rt: HostRuntime) -> Result<(), Fail> {
+    let (mut stops, mut wholes) = (0u32, 0u32);
     for call in 0..24u64 {
         let Some(ran) = run_over(&rt, rt.alloc(), vec![in rt.alloc(); call]?)? else {
             continue;
@@ -160,6 +155,10 @@ fn a_failing_disk_stops_the_shop(rt: HostRuntime) -> Result<(), Fail> {
         let records = u64::from(ran.store.state().records());
         if ran.store.stopped().is_none() {
             assert_eq!(rt; (ran.count, records), (2, 2));
+            assert_eq!(rt; (taken_at(&ran.first), taken_at(&ran.second)), (1, 2));
+            assert_eq!(rt; again_at(&ran.again), 1);
+            assert_eq!(rt; ran.seen, (0, 1));
+            wholes = wholes.wrapping_add(1);
             continue;
         }
         stops = stops.wrapping_add(1);
@@ -172,6 +171,6 @@ fn a_failing_disk_stops_the_shop(rt: HostRuntime) -> Result<(), Fail> {
             _ => assert!(rt; records == 1 && matches!(ran.second, Err(StoreFault::DiskFault))),
         }
     }
-    assert!(rt; 1 < stops);
+    assert!(rt; 1 < stops && 0 < wholes);
     Ok(())
 }

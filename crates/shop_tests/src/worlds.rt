@@ -1,9 +1,9 @@
 use agency_rules::Plan;
 use amounts::Cents;
 use invoice_kinds::Kind;
-use once_world::{Event, Outbox, PlainOutbox, World, run_events};
+use once_world::{Event, World, run_events};
 use parties::Nif;
-use record_fields::{Draft, Line, Refs};
+use record_fields::{Draft, Refs};
 use series::SeriesName;
 use shop_core::{Ask, Request};
 use std::alloc::Global;
@@ -110,104 +110,86 @@ fn counts(alloc: Global, steps: &[Step]) -> Result<Counts, Fail> {
     ))
 }
 
+const IN_DOUBT: [Step; 2] = [Append(1), Send(1)];
+
+const TOO_MANY: [Step; 4] = [Look, Append(1), Send(2), Look];
+
+const TWICE: [Step; 6] = [Append(1), Append(1), Tear(1, true), Look, Send(1), Send(1)];
+
+const OLD_AFTER_NEW: [Step; 13] = [
+    Append(1),
+    Look,
+    Send(1),
+    Tear(2, true),
+    Append(3),
+    Reopen,
+    Look,
+    Send(2),
+    Deliver(1),
+    Deliver(0),
+    Deliver(1),
+    Deliver(2),
+    Look,
+];
+
+const LEARNT: [Step; 7] = [
+    Append(1),
+    Append(2),
+    Look,
+    Send(1),
+    Deliver(0),
+    Look,
+    Send(1),
+];
+
+const TORN_NOTES: [Step; 14] = [
+    Append(1),
+    Look,
+    Send(1),
+    Deliver(0),
+    Look,
+    TearNote(false),
+    Note,
+    Reopen,
+    Look,
+    TearNote(true),
+    Reopen,
+    Look,
+    Note,
+    TearNote(true),
+];
+
+const DOWN: [Step; 6] = [Append(1), Look, Tear(2, false), Send(1), Append(3), Look];
+
+const BOTH_NOTED: [Step; 11] = [
+    Append(1),
+    Look,
+    Send(1),
+    Tear(2, true),
+    Reopen,
+    Look,
+    Send(2),
+    Deliver(1),
+    Deliver(0),
+    Look,
+    Note,
+];
+
 // Whatever is lost, late, repeated or torn.
 #[test]
 fn events_change_the_world(rt: HostRuntime) -> Result<(), Fail> {
-    let alloc = rt.alloc();
-    let in_doubt = [Append(1), Send(1)];
-    assert_eq!(rt; counts(alloc, &in_doubt)?, (1, 0, 0, 0, 0, true, true));
-    let too_many = [Look, Append(1), Send(2), Look];
-    assert_eq!(rt; counts(alloc, &too_many)?, (1, 0, 0, 0, 0, true, false));
-    let twice = [Append(1), Append(1), Tear(1, true), Look, Send(1), Send(1)];
-    assert_eq!(rt; counts(alloc, &twice)?, (1, 0, 0, 1, 0, true, true));
-    let old_after_new = [
-        Append(1),
-        Look,
-        Send(1),
-        Tear(2, true),
-        Append(3),
-        Reopen,
-        Look,
-        Send(2),
-        Deliver(1),
-        Deliver(0),
-        Deliver(1),
-        Deliver(2),
-        Look,
+    let rows = [
+        (IN_DOUBT.as_slice(), (1, 0, 0, 0, 0, true, true)),
+        (&TOO_MANY, (1, 0, 0, 0, 0, true, false)),
+        (&TWICE, (1, 0, 0, 1, 0, true, true)),
+        (&OLD_AFTER_NEW, (2, 0, 2, 2, 2, true, false)),
+        (&LEARNT, (2, 0, 1, 1, 1, true, false)),
+        (&TORN_NOTES, (1, 1, 1, 1, 0, true, false)),
+        (&DOWN, (1, 0, 0, 0, 0, false, false)),
+        (&BOTH_NOTED, (2, 2, 2, 2, 0, true, false)),
     ];
-    assert_eq!(rt;
-        counts(alloc, &old_after_new)?,
-        (2, 0, 2, 2, 2, true, false)
-    );
-    let learnt = [
-        Append(1),
-        Append(2),
-        Look,
-        Send(1),
-        Deliver(0),
-        Look,
-        Send(1),
-    ];
-    assert_eq!(rt; counts(alloc, &learnt)?, (2, 0, 1, 1, 1, true, false));
-    let torn_notes = [
-        Append(1),
-        Look,
-        Send(1),
-        Deliver(0),
-        Look,
-        TearNote(false),
-        Note,
-        Reopen,
-        Look,
-        TearNote(true),
-        Reopen,
-        Look,
-        Note,
-        TearNote(true),
-    ];
-    assert_eq!(rt; counts(alloc, &torn_notes)?, (1, 1, 1, 1, 0, true, false));
-    let down = [Append(1), Look, Tear(2, false), Send(1), Append(3), Look];
-    assert_eq!(rt; counts(alloc, &down)?, (1, 0, 0, 0, 0, false, false));
-    Ok(())
-}
-
-#[test]
-fn a_torn_shop_notes_both_sales(rt: HostRuntime) -> Result<(), Fail> {
-    let alloc = rt.alloc();
-    let steps = [
-        Append(1),
-        Look,
-        Send(1),
-        Tear(2, true),
-        Reopen,
-        Look,
-        Send(2),
-        Deliver(1),
-        Deliver(0),
-        Look,
-        Note,
-    ];
-    assert_eq!(rt; counts(alloc, &steps)?, (2, 2, 2, 2, 0, true, false));
-    let world = after(alloc, &steps)?;
-    assert_eq!(rt; world.state.line(1), Some(Line::Correcto));
-    Ok(())
-}
-
-#[test]
-fn an_outbox_in_memory(rt: HostRuntime) -> Result<(), Fail> {
-    let alloc = rt.alloc();
-    let world = after(alloc, &[Append(1), Append(2)])?;
-    let mut outbox = PlainOutbox::new(alloc, world.state);
-    let Ok(shown) = outbox.waiting(&rt, alloc, 1) else {
-        return Err(Fail::from("memory"));
-    };
-    assert_eq!(rt; (shown.noted, shown.records), (0, 2));
-    assert_eq!(rt; shown.list.as_slice().len(), 1);
-    if shown.list.as_slice().is_empty() {
-        return Err(Fail::from("a waiting record"));
+    for (steps, wanted) in rows {
+        assert_eq!(rt; counts(rt.alloc(), steps)?, wanted);
     }
-    assert!(rt; outbox.note(&rt, alloc, &[Line::Correcto]).is_ok());
-    assert_eq!(rt; outbox.state().noted(), 1);
-    assert_eq!(rt; outbox.into_state().line(1), Some(Line::Correcto));
     Ok(())
 }

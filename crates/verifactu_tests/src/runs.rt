@@ -1,21 +1,43 @@
-// The expected Huellas are SHA-256, by another program, of the field texts of these records.
+// The one call that each test makes, over devices in memory. The expected Huellas of these tests are SHA-256, by another program,
+// of the field texts of their records. `run_in` has no clauses, so that those of `run` stay out of its callers' proofs.
 use agency_port::{Agency, PracticeAgency};
-use chain_disk::{Disk, MemDisk};
-use ports::{
-    Clock, CountingClock, Gate, LeapSleeper, ListClock, MemSink, MemSource, OpenGate, Sleeper,
-};
-use report::{Detail, Ended, fault_text};
+use chain_disk::{Disk, Fill, MemDisk};
+use ports::{Clock, CountingClock, Gate, LeapSleeper, MemSink, MemSource, OpenGate, Sink, Source};
+use report::Ended;
 use std::alloc::Global;
 use std::sync::Wait;
 use std::test::Fail;
 use std::thread::Threads;
 use verifactu::{Outside, Posts, posts_needed, run};
 
+// 2025-01-01, 10:00 on the peninsular clock.
+pub const TEN: u64 = 1_735_722_000;
+
+// 2025-01-02, 07:40 on the peninsular clock.
+pub const NEXT_DAY: u64 = 1_735_800_000;
+
 pub const CHAIN: &str = "chain shop.chain 89890001K";
 
 pub const DAY: &str = "day shop.chain 89890001K";
 
-pub const ROW: &str = "clock 1735722000 0\nsale 1 1 A F2 21:10000\n";
+pub const DRAIN: &str = "drain shop.chain 89890001K";
+
+pub const SERVE: &str = "serve shop.chain 89890001K";
+
+pub const ONE: &str = "sale 1 1 A F2 21:10000\n";
+
+pub const TWO: &str = "sale 1 1 A F2 21:10000\nsale 1 2 A F2 21:10000\n";
+
+pub const FILLS: [Fill; 4] = [Fill::Old, Fill::New, Fill::Zeros, Fill::Ones];
+
+/// What a run left.
+#[derive(Drop)]
+pub struct Left<G> {
+    pub ended: Ended,
+    pub text: String,
+    pub disk: MemDisk,
+    pub agency: G,
+}
 
 /// A disk that holds these bytes, and fails at the call of this number, from 1.
 pub fn disk_of(alloc: Global, bytes: &[u8], failing: u64) -> Result<MemDisk, Fail> {
@@ -26,131 +48,152 @@ pub fn disk_of(alloc: Global, bytes: &[u8], failing: u64) -> Result<MemDisk, Fai
     ))
 }
 
-/// Runs the words, which stand between single blanks. The source and the sink fail at the call of this number, from 1.
-pub fn ends_in<
+/// The image of a moment, filled so. None where the moment is not yet.
+pub fn image_at(
+    alloc: Global,
+    disk: &MemDisk,
+    moment: u64,
+    fill: Fill,
+) -> Result<Option<MemDisk>, Fail> {
+    Ok(disk.image(alloc, moment, fill)?)
+}
+
+/// The last moment of a disk.
+pub fn last_moment(alloc: Global, disk: &MemDisk) -> Result<u64, Fail> {
+    for moment in 0..200u64 {
+        if image_at(alloc, disk, moment, Fill::New)?.is_none() {
+            return Ok(moment.saturating_sub(1));
+        }
+    }
+    Err(Fail::from("a last moment"))
+}
+
+/// Runs the words, which stand between single blanks.
+pub fn run_in<
+    S: Source,
+    K: Sink,
     D: Disk + Send + Drop,
     C: Clock + Send + Drop,
-    Z: Sleeper + Send + Drop,
     G: Agency + Send + Drop,
     T: Gate + Sync,
 >(
     rt: &(impl AllocGlobal + Threads + Wait + Sync),
     words: &str,
-    script: &[u8],
-    failing: (u64, u64),
-    outside: Outside<D, C, Z, G>,
+    source: &mut S,
+    sink: &mut K,
+    outside: Outside<D, C, LeapSleeper, G>,
     gate: &T,
-) -> Result<(Ended, MemSink, Outside<D, C, Z, G>), Fail> {
-    let alloc = rt.alloc();
-    let mut list = Vec::new(alloc);
+) -> Result<(Ended, Outside<D, C, LeapSleeper, G>), Fail> {
+    let mut list = Vec::new(rt.alloc());
     for word in words.split(' ') {
-        list.push(String::from_str(alloc, word)?)?;
+        list.push(String::from_str(rt.alloc(), word)?)?;
     }
     if outside.more.len() != usize::from(posts_needed(&list)) {
         return Err(Fail::from("another count of files"));
     }
-    let mut source = MemSource::new(
-        alloc,
-        Vec::from_slice(alloc, script)?,
-        Vec::from_slice(alloc, &[failing.0])?,
-    );
-    let mut sink = MemSink::new(alloc, Vec::from_slice(alloc, &[failing.1])?);
-    let (ended, outside) = run(rt, alloc, &list, &mut source, &mut sink, outside, gate);
-    Ok((ended, sink, outside))
+    Ok(run(rt, rt.alloc(), &list, source, sink, outside, gate))
 }
 
-/// The same with a sleeper that leaps, an agency that has processed nothing, and an open gate.
-pub fn ends<D: Disk + Send + Drop, C: Clock + Send + Drop>(
+/// Runs the words over a source of this script and a sink, each of which fails at the call of its number, from 1. The clock
+/// stands at `TEN`, and the sleeper begins on the next day.
+pub fn run_with<G: Agency + Send + Drop, T: Gate + Sync>(
     rt: &(impl AllocGlobal + Threads + Wait + Sync),
     words: &str,
-    script: &[u8],
+    script: &str,
     failing: (u64, u64),
-    disk: D,
-    clock: C,
-) -> Result<(Ended, MemSink, D, C), Fail> {
+    disk: MemDisk,
+    agency: G,
+    gate: &T,
+) -> Result<Left<G>, Fail> {
+    let alloc = rt.alloc();
     let outside = Outside {
         disk,
-        clock,
-        sleeper: LeapSleeper::new(0),
-        agency: PracticeAgency::new(rt.alloc()),
-        more: Posts::of(Vec::new(rt.alloc())),
+        clock: CountingClock::new(TEN, 0),
+        sleeper: LeapSleeper::new(NEXT_DAY),
+        agency,
+        more: Posts::of(Vec::new(alloc)),
     };
-    let (ended, sink, outside) = ends_in(rt, words, script, failing, outside, &OpenGate)?;
-    let Outside { disk, clock, .. } = outside;
-    Ok((ended, sink, disk, clock))
+    let bytes = Vec::from_slice(alloc, script.as_bytes())?;
+    let mut source = MemSource::new(alloc, bytes, Vec::from_slice(alloc, &[failing.0])?);
+    let mut sink = MemSink::new(alloc, Vec::from_slice(alloc, &[failing.1])?);
+    let (ended, outside) = run_in(rt, words, &mut source, &mut sink, outside, gate)?;
+    let Outside { disk, agency, .. } = outside;
+    let text = String::from_utf8(Vec::from_slice(alloc, sink.bytes())?);
+    Ok(Left {
+        ended,
+        text: text.ok().ok_or("a text")?,
+        disk,
+        agency,
+    })
 }
 
-// Runs the words on an empty disk.
-fn ends_empty<C: Clock + Send + Drop>(
+/// Runs the words over devices that don't fail, but for the disk, with an agency that has processed nothing.
+pub fn ran(
     rt: &(impl AllocGlobal + Threads + Wait + Sync),
     words: &str,
-    script: &[u8],
-    failing: (u64, u64),
-    clock: C,
-) -> Result<(Ended, MemSink), Fail> {
-    let disk = disk_of(rt.alloc(), &[], 0)?;
-    let (ended, sink, _, _) = ends(rt, words, script, failing, disk, clock)?;
-    Ok((ended, sink))
+    script: &str,
+    disk: MemDisk,
+) -> Result<Left<PracticeAgency>, Fail> {
+    let agency = PracticeAgency::new(rt.alloc());
+    run_with(rt, words, script, (0, 0), disk, agency, &OpenGate)
 }
 
-#[test]
-fn moments_never_fall(rt: HostRuntime) -> Result<(), Fail> {
-    let clock = ListClock::new(vec![in rt.alloc(); 1735722000, 1735721990]?);
-    let script = b"sale 1 1 A F2 21:10000\nsale 1 2 A F2 21:10000\n";
-    let (ended, sink) = ends_empty(&rt, CHAIN, script, (0, 0), clock)?;
-    assert_eq!(rt; ended.status, 0);
-    assert_eq!(rt;
-        sink.bytes(),
-        b"till 1 serial 1 taken 1 A-1 D88B42F8D11C4EA2112502EC992F055A7E94F796D67095359B946A4A5B03E616\ntill 1 serial 2 taken 2 A-2 4DB9BA37C07D44D4DAFC79742BD454AE86D5C6A354352780573CF06FACADE438\n1 alta A-1 01-01-2025 F2 21.00 121.00 N N D88B42F8D11C4EA2112502EC992F055A7E94F796D67095359B946A4A5B03E616 pending\n2 alta A-2 01-01-2025 F2 21.00 121.00 N N 4DB9BA37C07D44D4DAFC79742BD454AE86D5C6A354352780573CF06FACADE438 pending\nchain 2 noted 0\n".as_slice()
-    );
-    Ok(())
+/// The file of these sales.
+pub fn file_of(
+    rt: &(impl AllocGlobal + Threads + Wait + Sync),
+    script: &str,
+) -> Result<MemDisk, Fail> {
+    let left = ran(rt, CHAIN, script, disk_of(rt.alloc(), &[], 0)?)?;
+    Ok(left.disk)
 }
 
-#[test]
-fn faults_have_statuses(rt: HostRuntime) -> Result<(), Fail> {
-    let alloc = rt.alloc();
-    let rows = [
-        (
-            "audit shop.chain",
-            (1, 1),
-            Detail::WriteFault,
-            5,
-            "write fault",
-        ),
-        ("generate 1", (1, 1), Detail::WriteFault, 5, "write fault"),
-        (CHAIN, (1, 0), Detail::ReadFault, 4, "read fault"),
-        (CHAIN, (2, 0), Detail::ReadFault, 4, "read fault"),
-        (CHAIN, (0, 1), Detail::WriteFault, 5, "write fault"),
-        ("--help", (1, 1), Detail::WriteFault, 5, "write fault"),
-    ];
-    for (words, failing, detail, status, text) in rows {
-        let (ended, sink) = ends_empty(
-            &rt,
-            words,
-            ROW.as_bytes(),
-            failing,
-            CountingClock::new(0, 0),
-        )?;
-        assert_eq!(rt; ended, Ended { status, detail }, "at {words}");
-        assert_eq!(rt; sink.bytes().len(), 0, "at {words}");
-        let line = format!(in alloc; "verifactu: {text}\n")?;
-        assert_eq!(rt;
-            fault_text(alloc, &ended.detail)?.as_slice(),
-            line.as_bytes()
-        );
+/// What a run without commands lists: the records of a file, and the chain line.
+pub fn listing_of(
+    rt: &(impl AllocGlobal + Threads + Wait + Sync),
+    disk: MemDisk,
+) -> Result<String, Fail> {
+    let left = ran(rt, CHAIN, "", disk)?;
+    if left.ended.status != 0 {
+        return Err(Fail::from("a file that opens"));
     }
-    Ok(())
+    Ok(left.text)
 }
 
+const MORE: &str = "sale 1 2 A F2 21:10000\nsale 1 3 A F2 21:10000\n";
+
+const ANSWER: &str =
+    "till 1 serial 2 taken 2 A-2 4DB9BA37C07D44D4DAFC79742BD454AE86D5C6A354352780573CF06FACADE438\n";
+
+const ANSWERS: &str =
+    "till 1 serial 2 taken 2 A-2 4DB9BA37C07D44D4DAFC79742BD454AE86D5C6A354352780573CF06FACADE438\ntill 1 serial 3 taken 3 A-3 8D67231369C8F2A30232EE5EBB99BB2391568F2F51A85DF05CF8129E898F6C8A\n";
+
+// On a file of one sale: the words, what they read, the calls that fail, the status, what was printed, and the chain line of the
+// file behind it. A source gives all of this in one call, and the end in a second.
+const FAULTS: [(&str, &str, (u64, u64), u8, &str, &str); 12] = [
+    ("--help", "", (1, 1), 5, "", "\nchain 1 noted 0\n"),
+    ("audit shop.chain", "", (1, 1), 5, "", "\nchain 1 noted 0\n"),
+    ("generate 1", "", (1, 1), 5, "", "\nchain 1 noted 0\n"),
+    (CHAIN, MORE, (1, 0), 4, "", "\nchain 1 noted 0\n"),
+    (CHAIN, MORE, (2, 0), 4, "", "\nchain 1 noted 0\n"),
+    (CHAIN, MORE, (0, 1), 5, "", "\nchain 3 noted 0\n"),
+    (DRAIN, "", (0, 1), 5, "", "\nchain 1 noted 1\n"),
+    (SERVE, MORE, (1, 0), 4, "", "\nchain 1 noted 1\n"),
+    (SERVE, MORE, (2, 0), 4, ANSWERS, "\nchain 3 noted 3\n"),
+    (SERVE, MORE, (0, 1), 5, "", "\nchain 2 noted 2\n"),
+    (SERVE, MORE, (0, 2), 5, ANSWER, "\nchain 3 noted 3\n"),
+    (SERVE, MORE, (0, 3), 5, ANSWERS, "\nchain 3 noted 3\n"),
+];
+
 #[test]
-fn help_and_version_are_printed(rt: HostRuntime) -> Result<(), Fail> {
-    for (word, front) in [
-        ("--help", "The invoicing chain"),
-        ("--version", "verifactu 0.1.0\n"),
-    ] {
-        let (ended, sink) = ends_empty(&rt, word, b"", (1, 0), CountingClock::new(0, 0))?;
-        assert_eq!(rt; ended.status, 0);
-        assert!(rt; sink.bytes().starts_with(front.as_bytes()), "at {word}");
+fn what_was_asked_stands_where_a_source_or_a_sink_fails(rt: HostRuntime) -> Result<(), Fail> {
+    for (words, script, failing, status, text, chain) in FAULTS {
+        let agency = PracticeAgency::new(rt.alloc());
+        let file = file_of(&rt, ONE)?;
+        let left = run_with(&rt, words, script, failing, file, agency, &OpenGate)?;
+        assert_eq!(rt; left.ended.status, status, "at {words}");
+        assert_eq!(rt; left.text.as_str(), text, "at {words}");
+        let listing = listing_of(&rt, left.disk)?;
+        assert!(rt; listing.ends_with(chain), "at {words}");
     }
     Ok(())
 }

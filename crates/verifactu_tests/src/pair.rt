@@ -1,0 +1,157 @@
+// A file and its copy, with each call of either disk failing in turn.
+use crate::runs::{FILLS, NEXT_DAY, TEN, TWO, disk_of, file_of, image_at, last_moment, run_in};
+use agency_port::PracticeAgency;
+use chain_disk::{Disk, Fill, MemDisk};
+use ports::{CountingClock, LeapSleeper, MemSink, MemSource, OpenGate};
+use std::alloc::Global;
+use std::sync::Wait;
+use std::test::Fail;
+use std::thread::Threads;
+use verifactu::{Outside, Post, Posts};
+
+const FOLLOW: &str = "follow shop.chain copy.chain";
+
+const GUARD: &str = "guard shop.chain 89890001K copy.chain";
+
+// What a run over two disks left.
+#[derive(Drop)]
+struct Pair {
+    status: u8,
+    text: Vec<u8>,
+    disk: MemDisk,
+    copy: MemDisk,
+}
+
+// Runs the words over two disks, with an agency that has processed what is noted.
+fn paired(
+    rt: &(impl AllocGlobal + Threads + Wait + Sync),
+    words: &str,
+    disk: MemDisk,
+    copy: MemDisk,
+) -> Result<Pair, Fail> {
+    let alloc = rt.alloc();
+    let mut posts = Vec::new(alloc);
+    posts.push(Post {
+        disk: copy,
+        clock: CountingClock::new(TEN, 0),
+        sleeper: LeapSleeper::new(NEXT_DAY),
+        agency: PracticeAgency::new(alloc),
+    })?;
+    let outside = Outside {
+        disk,
+        clock: CountingClock::new(TEN, 0),
+        sleeper: LeapSleeper::new(NEXT_DAY),
+        agency: PracticeAgency::new(alloc),
+        more: Posts::of(posts),
+    };
+    let mut source = MemSource::new(alloc, Vec::new(alloc), Vec::new(alloc));
+    let mut sink = MemSink::new(alloc, Vec::new(alloc));
+    let (ended, outside) = run_in(rt, words, &mut source, &mut sink, outside, &OpenGate)?;
+    let Outside { disk, more, .. } = outside;
+    let mut posts = more.into_vec();
+    let Post { disk: copy, .. } = posts.pop().ok_or("a copy")?;
+    Ok(Pair {
+        status: ended.status,
+        text: Vec::from_slice(alloc, sink.bytes())?,
+        disk,
+        copy,
+    })
+}
+
+// What a disk has, whose failing call may be still to come: it fails once.
+fn bytes_of(alloc: Global, disk: &mut MemDisk) -> Result<Vec<u8>, Fail> {
+    let mut bytes = vec![in alloc; 0u8; 1000]?;
+    let count = match disk.read_at(0, &mut bytes) {
+        Ok(count) => count,
+        Err(_) => disk.read_at(0, &mut bytes)?,
+    };
+    bytes.truncate(count);
+    Ok(bytes)
+}
+
+// Whether the words leave these files of disks with these bytes, and are done.
+fn leads_to(
+    rt: &(impl AllocGlobal + Threads + Wait + Sync),
+    words: &str,
+    file: &[u8],
+    copy: MemDisk,
+    wanted: &[u8],
+) -> Result<bool, Fail> {
+    let alloc = rt.alloc();
+    let mut pair = paired(rt, words, disk_of(alloc, file, 0)?, copy)?;
+    let file = bytes_of(alloc, &mut pair.disk)?;
+    let copy = bytes_of(alloc, &mut pair.copy)?;
+    Ok(pair.status == 0 && file.as_slice() == wanted && copy.as_slice() == wanted)
+}
+
+// Whether each image of the last moments of a copy is one that may be followed on, to the whole file. As the calls fail in turn,
+// each moment is once among the last ones.
+fn goes_on(
+    rt: &(impl AllocGlobal + Threads + Wait + Sync),
+    file: &[u8],
+    copy: &MemDisk,
+) -> Result<bool, Fail> {
+    let last = last_moment(rt.alloc(), copy)?;
+    for moment in last.saturating_sub(6)..=last {
+        for fill in FILLS {
+            let image = image_at(rt.alloc(), copy, moment, fill)?.ok_or("an image")?;
+            if !leads_to(rt, FOLLOW, file, image, file)? {
+                return Ok(false);
+            }
+        }
+    }
+    Ok(true)
+}
+
+// Whether a disk was only read.
+fn is_read_alone(alloc: Global, disk: &MemDisk) -> Result<bool, Fail> {
+    Ok(image_at(alloc, disk, 1, Fill::New)?.is_none())
+}
+
+// After each fault the same is done again, and both files are then what they would have been.
+#[test]
+fn each_call_of_either_disk_fails_in_turn(rt: HostRuntime) -> Result<(), Fail> {
+    let alloc = rt.alloc();
+    let file = bytes_of(alloc, &mut file_of(&rt, TWO)?)?;
+    let rows = [
+        (FOLLOW, 29u64, "followed 2 entries 2\n"),
+        (GUARD, 39, "cleared\nnoted 2\nchain 2 noted 2\n"),
+    ];
+    for (words, calls, text) in rows {
+        let mut whole = paired(
+            &rt,
+            words,
+            disk_of(alloc, &file, 0)?,
+            disk_of(alloc, &[], 0)?,
+        )?;
+        let wanted = bytes_of(alloc, &mut whole.disk)?;
+        assert_eq!(rt;
+            (whole.status, whole.text.as_slice()),
+            (0, text.as_bytes()),
+            "at {words}"
+        );
+        for call in 1..=calls {
+            for (of_shop, of_copy) in [(call, 0), (0, call)] {
+                let disk = disk_of(alloc, &file, of_shop)?;
+                let mut pair = paired(&rt, words, disk, disk_of(alloc, &[], of_copy)?)?;
+                let failed = pair.disk.faults() > 0 || pair.copy.faults() > 0;
+                assert!(rt;
+                    (call > 1 || failed) && (call < calls || !failed),
+                    "{words} at call {call}"
+                );
+                let status = if failed { 6 } else { 0 };
+                assert_eq!(rt; pair.status, status, "{words} at call {call}");
+                let is_followed = words == GUARD
+                    || is_read_alone(alloc, &pair.disk)? && goes_on(&rt, &file, &pair.copy)?;
+                assert!(rt; is_followed, "{words} at call {call}");
+                let left = bytes_of(alloc, &mut pair.disk)?;
+                let copy = disk_of(alloc, &bytes_of(alloc, &mut pair.copy)?, 0)?;
+                assert!(rt;
+                    leads_to(&rt, words, &left, copy, &wanted)?,
+                    "{words} at call {call}"
+                );
+            }
+        }
+    }
+    Ok(())
+}
