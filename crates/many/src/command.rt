@@ -13,9 +13,9 @@ ghost use Rattle.many.specs.OwnClock.{coming_of};
 ghost use Rattle.many.specs.Pairwise.{Both};
 
 use crate::opening::turned;
+use crate::own_clock::OwnClock;
 use crate::reading::read_parts;
 use crate::running::{Room, run_posts};
-use crate::own_clock::OwnClock;
 use agency_port::Agency;
 use chain_disk::Disk;
 use issuers::{Part, Parts};

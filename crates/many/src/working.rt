@@ -12,7 +12,9 @@ use agency_rules::Plan;
 use chain_disk::Disk;
 use issuers::Part;
 use journal::StoreFault;
-use open_shop::{DrainEnd, Opened, Post, Unopened, begin_session, close, drain_opened, opening_end};
+use open_shop::{
+    DrainEnd, Opened, Post, Unopened, begin_session, close, drain_opened, opening_end,
+};
 use parties::Nif;
 use ports::{Clock, LeapSleeper, NoMemory, Sleeper};
 use record_fields::Text;

@@ -9,9 +9,9 @@ mod day;
 #[cfg(test)]
 mod disk;
 #[cfg(test)]
-mod pair;
-#[cfg(test)]
 mod many;
+#[cfg(test)]
+mod pair;
 #[cfg(test)]
 mod runs;
 #[cfg(test)]
