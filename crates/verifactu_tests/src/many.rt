@@ -1,16 +1,18 @@
 // Several issuers in one run: what becomes of one changes nothing of another. The expected Huellas are SHA-256, by another program, of
 // the field texts of these records.
-use crate::follow::bytes_of;
-use crate::runs::{ROW, disk_of, ends, ends_in};
+use crate::runs::{disk_of, ran, run_in};
 use agency_port::PracticeAgency;
-use chain_disk::MemDisk;
-use ports::{CountingClock, LeapSleeper, OpenGate};
+use chain_disk::{Disk, MemDisk};
+use ports::{CountingClock, LeapSleeper, MemSink, MemSource, OpenGate};
 use report::{Detail, Ended};
 use std::alloc::Global;
 use std::sync::Wait;
 use std::test::Fail;
 use std::thread::Threads;
 use verifactu::{Outside, Post, Posts};
+
+// A sale of each issuer, dated by a clock of its own.
+const ROW: &str = "clock 1735722000 0\nsale 1 1 A F2 21:10000\n";
 
 const EIGHT: &str =
     "many 0.chain 89890001K 1.chain 12345678Z 2.chain 00000001R 3.chain 00000002W 4.chain 00000003A 5.chain 00000004G 6.chain 00000005M 7.chain 00000006Y";
@@ -74,7 +76,10 @@ fn left_by(
         agency: PracticeAgency::new(alloc),
         more: Posts::of(more),
     };
-    let (ended, sink, outside) = ends_in(rt, words, ROW.as_bytes(), (0, 0), outside, &OpenGate)?;
+    let bytes = Vec::from_slice(alloc, ROW.as_bytes())?;
+    let mut source = MemSource::new(alloc, bytes, Vec::new(alloc));
+    let mut sink = MemSink::new(alloc, Vec::new(alloc));
+    let (ended, outside) = run_in(rt, words, &mut source, &mut sink, outside, &OpenGate)?;
     let text = Vec::from_slice(alloc, sink.bytes())?;
     Ok(Left {
         ended,
@@ -90,17 +95,20 @@ fn sound_block(alloc: Global, nif: &str, huella: &str) -> Result<String, Fail> {
     )?)
 }
 
+// The bytes of a disk.
+fn bytes_of(alloc: Global, disk: &mut MemDisk) -> Result<Vec<u8>, Fail> {
+    let length = disk.len()?;
+    let mut bytes = vec![in alloc; 0u8; length as usize]?;
+    if disk.read_at(0, &mut bytes)? as u64 != length {
+        return Err(Fail::from("all bytes"));
+    }
+    Ok(bytes)
+}
+
 // The file of another issuer, after one sale.
 fn foreign(rt: &(impl AllocGlobal + Threads + Wait + Sync)) -> Result<MemDisk, Fail> {
-    let (_, _, disk, _) = ends(
-        rt,
-        "chain shop.chain B12345674",
-        ROW.as_bytes(),
-        (0, 0),
-        disk_of(rt.alloc(), &[], 0)?,
-        CountingClock::new(0, 0),
-    )?;
-    Ok(disk)
+    let disk = disk_of(rt.alloc(), &[], 0)?;
+    Ok(ran(rt, "chain shop.chain B12345674", ROW, disk)?.disk)
 }
 
 // Eight disks: the third is damaged, the fourth another issuer's, and the fifth fails at the first sale.
