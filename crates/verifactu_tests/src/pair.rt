@@ -125,11 +125,7 @@ fn each_call_of_either_disk_fails_in_turn(rt: HostRuntime) -> Result<(), Fail> {
             disk_of(alloc, &[], 0)?,
         )?;
         let wanted = bytes_of(alloc, &mut whole.disk)?;
-        assert_eq!(rt;
-            (whole.status, whole.text.as_slice()),
-            (0, text.as_bytes()),
-            "at {words}"
-        );
+        assert_eq!(rt; (whole.status, whole.text.as_slice()), (0, text.as_bytes()));
         for call in 1..=calls {
             for (of_shop, of_copy) in [(call, 0), (0, call)] {
                 let disk = disk_of(alloc, &file, of_shop)?;
@@ -137,18 +133,18 @@ fn each_call_of_either_disk_fails_in_turn(rt: HostRuntime) -> Result<(), Fail> {
                 let failed = pair.disk.faults() > 0 || pair.copy.faults() > 0;
                 assert!(rt;
                     (call > 1 || failed) && (call < calls || !failed),
-                    "{words} at call {call}"
+                    "at call {call}"
                 );
                 let status = if failed { 6 } else { 0 };
-                assert_eq!(rt; pair.status, status, "{words} at call {call}");
+                assert_eq!(rt; pair.status, status, "at call {call}");
                 let is_followed = words == GUARD
                     || is_read_alone(alloc, &pair.disk)? && goes_on(&rt, &file, &pair.copy)?;
-                assert!(rt; is_followed, "{words} at call {call}");
+                assert!(rt; is_followed, "at call {call}");
                 let left = bytes_of(alloc, &mut pair.disk)?;
                 let copy = disk_of(alloc, &bytes_of(alloc, &mut pair.copy)?, 0)?;
                 assert!(rt;
                     leads_to(&rt, words, &left, copy, &wanted)?,
-                    "{words} at call {call}"
+                    "at call {call}"
                 );
             }
         }

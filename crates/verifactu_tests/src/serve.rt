@@ -250,17 +250,13 @@ fn each_record_is_synced_before_its_answer_and_the_next_command(
         };
         let (ended, outside) = run_in(&rt, words, &mut source, &mut sink, outside, &OpenGate)?;
         let printed = str::from_utf8(sink.bytes.as_slice()).ok().ok_or("a text")?;
-        assert!(rt; !sink.lost && printed.starts_with(text), "at {words}");
-        assert_eq!(rt;
-            synced_in(printed, sink.at.as_slice()),
-            (3, true),
-            "at {words}"
-        );
+        assert!(rt; !sink.lost && printed.starts_with(text));
+        assert_eq!(rt; synced_in(printed, sink.at.as_slice()), (3, true));
         let clock = &outside.clock;
-        assert_eq!(rt; (clock.readings, clock.early), (readings, 0), "at {words}");
-        assert_eq!(rt; ended.status, status, "at {words}");
+        assert_eq!(rt; (clock.readings, clock.early), (readings, 0));
+        assert_eq!(rt; ended.status, status);
         // The other two read their script to its end first.
-        assert!(rt; (source.early == 0) == (words == SERVE), "at {words}");
+        assert!(rt; (source.early == 0) == (words == SERVE));
     }
     Ok(())
 }
