@@ -94,56 +94,47 @@ fn answered(reply: Result<Reply, StoreFault>) -> AnswerLine {
     }
 }
 
-const REFUSALS: [Refusal; 15] = [
-    Refusal::Passed { last: 5 },
-    Refusal::BadDraft(DraftFault::CustomerMissing),
-    Refusal::BadDraft(DraftFault::CustomerUnwanted),
-    Refusal::BadDraft(DraftFault::RectMissing),
-    Refusal::BadDraft(DraftFault::RectUnwanted),
-    Refusal::BadDraft(DraftFault::RefsMissing),
-    Refusal::BadDraft(DraftFault::RefsUnwanted),
-    Refusal::BadDraft(DraftFault::TooManyRefs { n: 101 }),
-    Refusal::OldFile { index: 11 },
-    Refusal::Unknown,
-    Refusal::Cancelled { place: 3 },
-    Refusal::RefNotSimplified { index: 0 },
-    Refusal::ChainFull,
-    Refusal::ClockRange { now: 1_704_067_199 },
-    Refusal::HuellaTwice { place: 12 },
-];
+fn refused(why: Refusal) -> AnswerLine {
+    answered(Ok(Reply::Refused(why)))
+}
 
-const FAULTS: [StoreFault; 3] = [
-    StoreFault::DiskFault,
-    StoreFault::Stopped { faults: u64::MAX },
-    StoreFault::NoMemory,
-];
-
-// A line of each kind.
-fn answer_lines(alloc: Global) -> Result<Vec<AnswerLine>, Fail> {
-    let receipt = receipt()?;
-    let mut lines = Vec::new(alloc);
-    lines.push(answered(Ok(Reply::Taken(receipt))))?;
-    lines.push(answered(Ok(Reply::Again(receipt))))?;
-    for why in REFUSALS {
-        lines.push(answered(Ok(Reply::Refused(why))))?;
-    }
-    let total = Cents::new(300_001).ok_or("a total")?;
-    let over = Refusal::BadDraft(DraftFault::OverSimplified { total });
-    lines.push(answered(Ok(Reply::Refused(over))))?;
-    for fault in FAULTS {
-        lines.push(answered(Err(fault)))?;
-    }
-    lines.push(AnswerLine::Saw {
-        till: 64,
-        count: u64::MAX,
-    })?;
-    Ok(lines)
+fn bad_draft(fault: DraftFault) -> AnswerLine {
+    refused(Refusal::BadDraft(fault))
 }
 
 #[test]
 fn answers_have_lines(rt: HostRuntime) -> Result<(), Fail> {
     let alloc = rt.alloc();
-    let text = answers_text(alloc, &Answers::of(answer_lines(alloc)?))?;
+    let total = Cents::new(300_001).ok_or("a total")?;
+    let lines = [
+        answered(Ok(Reply::Taken(receipt()?))),
+        answered(Ok(Reply::Again(receipt()?))),
+        refused(Refusal::Passed { last: 5 }),
+        bad_draft(DraftFault::CustomerMissing),
+        bad_draft(DraftFault::CustomerUnwanted),
+        bad_draft(DraftFault::RectMissing),
+        bad_draft(DraftFault::RectUnwanted),
+        bad_draft(DraftFault::RefsMissing),
+        bad_draft(DraftFault::RefsUnwanted),
+        bad_draft(DraftFault::TooManyRefs { n: 101 }),
+        bad_draft(DraftFault::OverSimplified { total }),
+        refused(Refusal::OldFile { index: 11 }),
+        refused(Refusal::Unknown),
+        refused(Refusal::Cancelled { place: 3 }),
+        refused(Refusal::RefNotSimplified { index: 0 }),
+        refused(Refusal::ChainFull),
+        refused(Refusal::ClockRange { now: 1_704_067_199 }),
+        refused(Refusal::HuellaTwice { place: 12 }),
+        answered(Err(StoreFault::DiskFault)),
+        answered(Err(StoreFault::Stopped { faults: u64::MAX })),
+        answered(Err(StoreFault::NoMemory)),
+        AnswerLine::Saw {
+            till: 64,
+            count: u64::MAX,
+        },
+    ];
+    let answers = Answers::of(Vec::from_slice(alloc, &lines)?);
+    let text = answers_text(alloc, &answers)?;
     assert_eq!(rt; text.as_slice(), ANSWERS.as_bytes());
     let none = answers_text(alloc, &Answers::of(Vec::new(alloc)))?;
     assert_eq!(rt; none.as_slice().len(), 0);
