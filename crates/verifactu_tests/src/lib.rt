@@ -9,8 +9,6 @@ mod day;
 #[cfg(test)]
 mod disk;
 #[cfg(test)]
-mod many;
-#[cfg(test)]
 mod pair;
 #[cfg(test)]
 mod runs;
