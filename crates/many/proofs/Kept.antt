@@ -36,6 +36,7 @@ use Rattle.open_shop.specs.Beside.{IsUnbegun}
 use Rattle.open_shop.specs.Crashes.{StandsSince}
 use Rattle.open_shop.specs.Devices.{Agencies}
 use Rattle.shop_commands.specs.Drain.{AgreesAtStart}
+use Rattle.shop_commands.proofs.RunEnding.{or_so}
 use Rattle.open_shop.specs.Draining.{AgreesInFile, Beginning, IsSession, IsUnopened, OpensSession, Outcome, StoreDrains, noted_pairs, spanning}
 use Rattle.many.specs.Ends.{IsBegunAlone, span_from}
 use Rattle.many.specs.Kept.{HistoryKept, SessionKept}
@@ -163,10 +164,6 @@ none_torn_noted version issuer R asks history replies (entry ∷ torn) each =
     ap (λ (l : List Line). l ++ noted torn) (no_lines history each.0.ask (made_sealed issuer history each.0.ask.request each.0.seconds)
     (kept history each.0.ask.till each.0.ask.serial) (refusal version issuer history each.0.ask each.0.seconds) entry each.0.made) ∙
     none_torn_noted version issuer R asks history replies torn each.1
-
-or_so : {A P Q : Type 0} → (P → Q) → A ⊎ P → A ⊎ Q
-or_so f (inl a) = inl a
-or_so f (inr p) = inr (f p)
 
 module _ {D G : Type 0} (version : Version) (issuer : List ℕ) (start middle : List Entry) (begins : IsPrefix start middle)
     (same : noted middle ≡ noted start) (few : length (noted start) ≤ length (recs start)) (k : Disks D) (half : D)

@@ -64,22 +64,7 @@ use Rattle.many.proofs.Causes.{EndBy, Late, complete_drained, end_by, ends_alone
 use Rattle.many.proofs.Causes.{risen_drained, rose_alone}
 use Rattle.many.proofs.Causes.EndBy.{by_memory}
 use Rattle.many.proofs.Kept.{agree_there, front_legal, history_alone, history_drained, session_alone, session_drained}
-use Rattle.shop_commands.proofs.RunEnding.{keeps_file}
-
-stops_from : (first before after : ℕ) (replies : Replies) → first ≤ before → StopsOnce before after replies → StopsOnce first after replies
-stops_from first before after replies later (inl all) = inl all
-stops_from first before after replies later (inr h) = inr (record {
-  before = h.before;
-  behind = h.behind;
-  parts = h.parts;
-  go_on = h.go_on;
-  stopped = h.stopped;
-  risen = λ below. let risen = h.risen below in omega (arith, later, risen);
-})
-
-or_so : {A P Q : Type 0} → (P → Q) → A ⊎ P → A ⊎ Q
-or_so f (inl a) = inl a
-or_so f (inr p) = inr (f p)
+use Rattle.shop_commands.proofs.RunEnding.{keeps_file, or_so, stops_from}
 
 tells_fault : (before behind : Replies) → list_any is_disk_fault (before ++ Err store_fault.DiskFault ∷ behind) ≡ true
 tells_fault [] behind = refl

@@ -139,7 +139,7 @@ not_asked t same = record {
   untouched = λ none. same;
 }
 
-stops_from : (first before after : ℕ) (replies : List (Result Reply StoreFault)) → first ≤ before → StopsOnce before after replies
+pub stops_from : (first before after : ℕ) (replies : List (Result Reply StoreFault)) → first ≤ before → StopsOnce before after replies
     → StopsOnce first after replies
 stops_from first before after replies later (inl all) = inl all
 stops_from first before after replies later (inr h) = inr (record {
@@ -151,7 +151,7 @@ stops_from first before after replies later (inr h) = inr (record {
   risen = λ below. let risen = h.risen below in omega (arith, later, risen);
 })
 
-or_so : {A P Q : Type 0} → (P → Q) → A ⊎ P → A ⊎ Q
+pub or_so : {A P Q : Type 0} → (P → Q) → A ⊎ P → A ⊎ Q
 or_so f (inl a) = inl a
 or_so f (inr p) = inr (f p)
 

@@ -206,6 +206,48 @@ fn are_once(agency: &PracticeAgency, records: usize, sessions: usize) -> bool {
     are_new && pairs.len() == records && begun.count() == sessions
 }
 
+// The image of the last moment that a run of three tills left, where each image has what the run told.
+fn file_left(
+    rt: &(impl AllocGlobal + Threads + Wait + Sync),
+    text: &str,
+    disk: &MemDisk,
+    fill: Fill,
+) -> Result<Option<MemDisk>, Fail> {
+    let told = told_in(rt.alloc(), text)?;
+    last_image(rt, disk, fill, told.as_str())
+}
+
+// How many records a file has, and the chain line where each of them is noted.
+fn all_noted(
+    rt: &(impl AllocGlobal + Threads + Wait + Sync),
+    disk: MemDisk,
+) -> Result<(usize, String), Fail> {
+    let held = held_by(rt, disk)?;
+    let records = held.lines().count();
+    Ok((records, format!(in rt.alloc(); "chain {records} noted {records}\n")?))
+}
+
+// Whether a drain of this file leaves each of its records with the agency, once.
+fn are_sent_once(
+    rt: &(impl AllocGlobal + Threads + Wait + Sync),
+    file: MemDisk,
+    agency: PracticeAgency,
+) -> Result<bool, Fail> {
+    let sessions = if agency.log().is_empty() { 1 } else { 2 };
+    let Left {
+        ended,
+        text,
+        disk,
+        agency,
+    } = run_with(rt, DRAIN, "", (0, 0), file, agency, &OpenGate)?;
+    match all_noted(rt, disk) {
+        Ok((records, chain)) => Ok(ended.status == 0
+            && text.ends_with(chain.as_str())
+            && are_once(&agency, records, sessions)),
+        Err(fail) => Err(fail),
+    }
+}
+
 // What a run of three tills left, whose disk has failed: whether each record that was told is on each image of the disk, and a drain
 // of the last one leaves each record of the file with the agency, once.
 fn are_kept(
@@ -213,17 +255,14 @@ fn are_kept(
     left: Left<PracticeAgency>,
     fill: Fill,
 ) -> Result<bool, Fail> {
-    let told = told_in(rt.alloc(), left.text.as_str())?;
-    let Some(file) = last_image(rt, &left.disk, fill, told.as_str())? else {
-        return Ok(false);
-    };
-    let sessions = if left.agency.log().is_empty() { 1 } else { 2 };
-    let sent = run_with(rt, DRAIN, "", (0, 0), file, left.agency, &OpenGate)?;
-    let held = held_by(rt, sent.disk)?;
-    let records = held.lines().count();
-    let chain = format!(in rt.alloc(); "chain {records} noted {records}\n")?;
-    let is_sent = sent.ended.status == 0 && sent.text.ends_with(chain.as_str());
-    Ok(is_sent && are_once(&sent.agency, records, sessions))
+    let Left {
+        text, disk, agency, ..
+    } = left;
+    match file_left(rt, text.as_str(), &disk, fill) {
+        Ok(Some(file)) => are_sent_once(rt, file, agency),
+        Ok(None) => Ok(false),
+        Err(fail) => Err(fail),
+    }
 }
 
 // What is told of three sales, in the order of the places.

@@ -22,21 +22,18 @@ struct Pair {
     copy: MemDisk,
 }
 
-// Runs the words over two disks, with an agency that has processed what is noted.
-fn paired(
-    rt: &(impl AllocGlobal + Threads + Wait + Sync),
-    words: &str,
-    disk: MemDisk,
-    copy: MemDisk,
-) -> Result<Pair, Fail> {
-    let alloc = rt.alloc();
+// What is outside a run over memory.
+type Devices = Outside<MemDisk, CountingClock, LeapSleeper, PracticeAgency>;
+
+// All that is outside a run over two disks, with an agency that has processed nothing.
+fn outside_of(alloc: Global, disk: MemDisk, copy: MemDisk) -> Result<Devices, Fail> {
     let mut posts = Vec::new(alloc);
-    posts.push(Post {
+    let pushed = posts.push(Post {
         disk: copy,
         clock: CountingClock::new(TEN, 0),
         sleeper: LeapSleeper::new(NEXT_DAY),
         agency: PracticeAgency::new(alloc),
-    })?;
+    });
     let outside = Outside {
         disk,
         clock: CountingClock::new(TEN, 0),
@@ -44,18 +41,53 @@ fn paired(
         agency: PracticeAgency::new(alloc),
         more: Posts::of(posts),
     };
+    pushed?;
+    Ok(outside)
+}
+
+// The pair that this run left.
+fn pair_of(status: u8, text: Vec<u8>, outside: Devices) -> Result<Pair, Fail> {
+    let Outside { disk, more, .. } = outside;
+    match more.into_vec().pop() {
+        Some(Post { disk: copy, .. }) => Ok(Pair {
+            status,
+            text,
+            disk,
+            copy,
+        }),
+        None => Err(Fail::from("a copy")),
+    }
+}
+
+// Runs the words over these devices.
+fn paired_by(
+    rt: &(impl AllocGlobal + Threads + Wait + Sync),
+    words: &str,
+    outside: Devices,
+) -> Result<Pair, Fail> {
+    let alloc = rt.alloc();
     let mut source = MemSource::new(alloc, Vec::new(alloc), Vec::new(alloc));
     let mut sink = MemSink::new(alloc, Vec::new(alloc));
-    let (ended, outside) = run_in(rt, words, &mut source, &mut sink, outside, &OpenGate)?;
-    let Outside { disk, more, .. } = outside;
-    let mut posts = more.into_vec();
-    let Post { disk: copy, .. } = posts.pop().ok_or("a copy")?;
-    Ok(Pair {
-        status: ended.status,
-        text: Vec::from_slice(alloc, sink.bytes())?,
-        disk,
-        copy,
-    })
+    match run_in(rt, words, &mut source, &mut sink, outside, &OpenGate) {
+        Ok((ended, outside)) => {
+            let text = Vec::from_slice(alloc, sink.bytes())?;
+            pair_of(ended.status, text, outside)
+        }
+        Err(fail) => Err(fail),
+    }
+}
+
+// Runs the words over two disks.
+fn paired(
+    rt: &(impl AllocGlobal + Threads + Wait + Sync),
+    words: &str,
+    disk: MemDisk,
+    copy: MemDisk,
+) -> Result<Pair, Fail> {
+    match outside_of(rt.alloc(), disk, copy) {
+        Ok(outside) => paired_by(rt, words, outside),
+        Err(fail) => Err(fail),
+    }
 }
 
 // What a disk has, whose failing call may be still to come: it fails once.
@@ -69,6 +101,11 @@ fn bytes_of(alloc: Global, disk: &mut MemDisk) -> Result<Vec<u8>, Fail> {
     Ok(bytes)
 }
 
+// Whether these are the bytes of a disk.
+fn holds(alloc: Global, disk: &mut MemDisk, wanted: &[u8]) -> Result<bool, Fail> {
+    Ok(bytes_of(alloc, disk)?.as_slice() == wanted)
+}
+
 // Whether the words leave these files of disks with these bytes, and are done.
 fn leads_to(
     rt: &(impl AllocGlobal + Threads + Wait + Sync),
@@ -78,10 +115,14 @@ fn leads_to(
     wanted: &[u8],
 ) -> Result<bool, Fail> {
     let alloc = rt.alloc();
-    let mut pair = paired(rt, words, disk_of(alloc, file, 0)?, copy)?;
-    let file = bytes_of(alloc, &mut pair.disk)?;
-    let copy = bytes_of(alloc, &mut pair.copy)?;
-    Ok(pair.status == 0 && file.as_slice() == wanted && copy.as_slice() == wanted)
+    let Pair {
+        status,
+        mut disk,
+        mut copy,
+        ..
+    } = paired(rt, words, disk_of(alloc, file, 0)?, copy)?;
+    let is_file = holds(alloc, &mut disk, wanted)?;
+    Ok(status == 0 && is_file && holds(alloc, &mut copy, wanted)?)
 }
 
 // Whether each image of the last moments of a copy is one that may be followed on, to the whole file. As the calls fail in turn,
