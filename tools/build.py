@@ -8,8 +8,7 @@ memory for, four at most. A line on standard error for each crate that is proved
 build that was cut off goes on where it was.
 
 rt works in the folders of a crate and of all below it alone, so each lane but the first proves in a copy of the sources below the
-user's cache folder, and rt hands each the libraries that the others built. The copies go once the program is built. A crate that all
-that is left waits for is proved by as many jobs as there are lanes.
+user's cache folder, and rt hands each the libraries that the others built. The copies go once the program is built.
 """
 import hashlib
 import os
@@ -109,8 +108,8 @@ def say(text):
 class Build:
     """The crates that are proved, at work and failed."""
 
-    def __init__(self, order, above, below, count):
-        self.order, self.above, self.below, self.count = order, above, below, count
+    def __init__(self, order, above, below):
+        self.order, self.above, self.below = order, above, below
         self.done, self.busy, self.failed = set(), {}, []
         self.turn = threading.Condition()
         self.begun = time.monotonic()
@@ -134,13 +133,6 @@ class Build:
                 self.turn.wait()
             return None
 
-    def jobs(self, name):
-        """The words for the jobs of a crate: rt's own choice, but for one that all that is left waits for."""
-        with self.turn:
-            others = [n for n in self.order if n not in self.done and n != name]
-            is_alone = all(name in self.below[n] for n in others)
-        return ["--jobs", str(self.count)] if is_alone and self.count > 1 else []
-
     def ended(self, name, text, status):
         with self.turn:
             del self.busy[name]
@@ -159,7 +151,7 @@ class Build:
             name = self.next_crate()
             if name is None:
                 return
-            run = subprocess.Popen(["rt", "lib", *self.jobs(name)], cwd=os.path.join(tree, "crates", name), stdin=subprocess.DEVNULL,
+            run = subprocess.Popen(["rt", "lib"], cwd=os.path.join(tree, "crates", name), stdin=subprocess.DEVNULL,
                                    stdout=subprocess.PIPE, stderr=subprocess.STDOUT)
             with self.turn:
                 self.busy[name] = run
@@ -170,10 +162,10 @@ class Build:
 def main():
     below = crates()
     order, above = needed(below, GOAL)
-    count = lanes()
-    build = Build(order, above, below, count)
+    build = Build(order, above, below)
     os.makedirs(os.path.dirname(LOG), exist_ok=True)
     open(LOG, "wb").close()
+    count = lanes()
     say(f"proving {len(order)} crates, {count} at a time; what rt says of them is in {os.path.relpath(LOG)}")
     trees = [ROOT] + [copy_sources(os.path.join(copies(), f"lane-{number}")) for number in range(1, count)]
     workers = [threading.Thread(target=build.work, args=(tree,), daemon=True) for tree in trees]
