@@ -1,14 +1,12 @@
 -- A journal goes on where no reply of its run tells of a fault of its disk.
-use Rattle.std.proofs.Common.{◌≡◌, ℕ, List, [], ◌∷◌, ◌++◌, refl, ap, subst, arith, Option, Some, None, Result, Err}
-use Rattle.std.specs.List.{AllByRecursion}
+use Rattle.std.proofs.Common.{◌≡◌, ℕ, List, [], ◌∷◌, ◌++◌, refl, ap, subst, arith, Option, Some, None, Err}
 use Rattle.ports.specs.declared.Clock as clock
 use Rattle.chain_disk.specs.declared.disk.Disk as disk
 use Rattle.journal.specs.Journal.{disk_of, stopped_of}
-use Rattle.journal.specs.declared.faults.StoreFault.{StoreFault}
 use Rattle.journal.specs.declared.faults.StoreFault.TheVariants.{DiskFault}
 use Rattle.shop_core.specs.Answer.Requests.{Asked}
 use Rattle.chain_store.specs.Progress.{Origin, Point, Progress, origin_of, point_of}
-use Rattle.chain_store.specs.Replies.{AllGoOn, IsGoingOn, Replies}
+use Rattle.chain_store.specs.Replies.{AllGoOn, Replies}
 use Rattle.chain_store.specs.Store.{journal_of, state_of}
 use Rattle.chain_store.specs.Taking.{Along, GoesOrFails, RunsBy}
 use Rattle.issuers.specs.Serving.{StaysOwn}

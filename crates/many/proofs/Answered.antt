@@ -1,5 +1,5 @@
 -- What the stores of an office answered, each to its own part.
-use Rattle.std.proofs.Common.{◌≡◌, ℕ, suc, List, [], ◌∷◌, ◌++◌, length, map, refl, ap, sym, ◌∙◌, subst, arith, slice_get, Some, None, Option, Result, Ok, Err}
+use Rattle.std.proofs.Common.{◌≡◌, ℕ, List, [], ◌∷◌, length, map, refl, ap, sym, ◌∙◌, subst, arith, slice_get, Some, Option, Result, Ok, Err}
 use Rattle.std.proofs.Common.{All, OnOk}
 use Rattle.std.specs.Prelude.{zip}
 use Rattle.std.proofs.lemmas.List.{map-append}
@@ -7,11 +7,9 @@ use Rattle.std.proofs.lemmas.Option.{get_or_from_slice_get, slice_get_within}
 use Rattle.ports.specs.declared.Clock as clock
 use Rattle.ports.specs.declared.faults.NoMemory.{NoMemory}
 use Rattle.chain_disk.specs.declared.disk.Disk as disk
-use Rattle.journal.specs.Journal.{stopped_of}
 use Rattle.shop_core.specs.Answer.Requests.{Asked}
 use Rattle.shop_core.specs.Prefix.{IsPrefix}
-use Rattle.chain_store.specs.Runs.{Answers, this_store}
-use Rattle.chain_store.specs.Store.{journal_of}
+use Rattle.chain_store.specs.Runs.{this_store}
 use Rattle.chain_store.specs.Taking.{OwnRun}
 use Rattle.chain_store.specs.declared.store.Store.{Store}
 use Rattle.issuers.specs.Parts.{HasLines}
@@ -19,7 +17,7 @@ use Rattle.issuers.specs.Serving.{Served, replies_to}
 use Rattle.issuers.specs.Turns.{Turn, asks_in, mine, own_turns, turn_of, turns_of}
 use Rattle.issuers.specs.declared.answers.OfficeAnswer.{OfficeAnswer}
 use Rattle.issuers.specs.declared.parts.Part.{Part}
-use Rattle.many.specs.Served.{EachServed, ServedAt}
+use Rattle.many.specs.Served.{EachServed}
 
 asks_back : (index : ℕ) (lines : List ℕ) (asks : List Asked) → length lines ≡ length asks →
     map (λ (t : Turn). t.ask) (map (turn_of index) (zip lines asks)) ≡ asks

@@ -1,5 +1,5 @@
 -- The causes of an issuer's end.
-use Rattle.std.proofs.Common.{◌≡◌, ◌⊎◌, inl, inr, ℕ, ◌+◌, ◌-◌, ◌^◌, ◌<◌, ◌≤◌, List, [], length, refl, ap, sym, ◌∙◌, subst, arith, if◌then◌else◌, ◌||◌}
+use Rattle.std.proofs.Common.{◌≡◌, ◌⊎◌, inl, inr, ℕ, ◌+◌, ◌-◌, ◌^◌, ◌<◌, ◌≤◌, List, length, refl, ap, sym, ◌∙◌, subst, arith, if◌then◌else◌, ◌||◌}
 use Rattle.std.proofs.Common.{Bool, true, false, IsTrue, Result, Ok, Err, OnOk}
 use Rattle.std.specs.List.{list_any}
 use Rattle.ports.specs.Causes.{Rose}
@@ -16,7 +16,7 @@ use Rattle.sender.specs.declared.answers.DrainFault.{DrainFault}
 use Rattle.sender.specs.declared.answers.DrainFault.TheVariants as drain
 use Rattle.sender.specs.declared.draining.TheConstants.{MAX_LINK_FAULTS}
 use Rattle.chain_store.specs.Crashes.{StandsUpTo}
-use Rattle.chain_store.specs.Replies.{AllGoOn, Replies, is_disk_fault, is_no_memory}
+use Rattle.chain_store.specs.Replies.{Replies, is_disk_fault, is_no_memory}
 use Rattle.open_shop.specs.Beside.{sender_lacks_memory}
 use Rattle.open_shop.specs.Devices.{Agencies}
 use Rattle.open_shop.specs.Draining.{IsDiskAnswer, IsSession, IsUnopened, Outcome, StoreDrains, noted_pairs, spanning}

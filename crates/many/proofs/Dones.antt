@@ -2,7 +2,6 @@
 use Rattle.std.proofs.Common.{◌≡◌, ℕ, zero, suc, ◌+◌, ◌<◌, ◌⊎◌, inl, inr, List, [], ◌∷◌, ◌++◌, length, map, take, drop, get_or, refl, ap, sym, ◌∙◌, subst, arith, append_assoc}
 use Rattle.std.proofs.Common.{Some, None, Option, Result, Ok, Err, IsOk}
 use Rattle.std.specs.Prelude.{reverse, flat_map}
-use Rattle.std.specs.List.{AllByRecursion}
 use Rattle.std.proofs.lemmas.List.{append-nil, length-map, length-take-le, map-append}
 use Rattle.ports.specs.Sinks.{FailedIn, OutputIs, Sinks, Wrote}
 use Rattle.ports.specs.declared.faults.Failed.{Failed}

@@ -13,7 +13,7 @@ use Rattle.chain_store.specs.Readings.{readings_of}
 use Rattle.issuers.specs.declared.parts.Part.{Part}
 use Rattle.report.specs.declared.status.Detail.{Detail}
 use Rattle.open_shop.specs.Devices.{Agencies, Sleepers, agency_in, disk_in, sleeper_in}
-use Rattle.many.specs.Ends.{AreRows, IssuerEnds, IssuersRun, OwnRowEnds, Row, RowEnds}
+use Rattle.many.specs.Ends.{IssuerEnds, IssuersRun, OwnRowEnds, Row, RowEnds}
 use Rattle.many.specs.Dones.{IssuersEnd}
 use Rattle.many.specs.Times.{AreOwnPosts, IsGivenBack, IsOwnPost}
 use Rattle.many.specs.OwnClock.{coming_of}

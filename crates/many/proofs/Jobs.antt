@@ -1,6 +1,6 @@
 -- The jobs of an installation, made from the last issuer to the first.
-use Rattle.std.proofs.Common.{◌≡◌, ℕ, zero, suc, ◌+◌, ◌≤◌, List, [], ◌∷◌, ◌++◌, length, map, refl, ap, sym, ◌∙◌, subst, arith, append_assoc}
-use Rattle.std.proofs.Common.{Some, None, Option, Result, Ok, Err}
+use Rattle.std.proofs.Common.{◌≡◌, ℕ, suc, ◌+◌, List, [], ◌∷◌, ◌++◌, length, ap, sym, ◌∙◌, subst, arith, append_assoc}
+use Rattle.std.proofs.Common.{Some, Result}
 use Rattle.std.specs.Prelude.{reverse}
 use Rattle.std.proofs.lemmas.List.{append-nil}
 use Rattle.ports.specs.declared.faults.NoMemory.{NoMemory}
@@ -8,7 +8,7 @@ use Rattle.chain_disk.specs.declared.disk.Disk as disk
 use Rattle.chain_store.specs.declared.store.Store.{Store}
 use Rattle.issuers.specs.declared.answers.OfficeAnswer.{OfficeAnswer}
 use Rattle.issuers.specs.declared.parts.Part.{Part}
-use Rattle.many.specs.Jobs.{AreJobs, IsJob, IsOpenTask, open_sides}
+use Rattle.many.specs.Jobs.{AreJobs, IsJob, open_sides}
 use Rattle.many.specs.declared.opening.Side.{Side}
 use Rattle.many.specs.declared.opening.Side.TheVariants as side
 use Rattle.many.specs.declared.working.Job.{Job}

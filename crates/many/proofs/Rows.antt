@@ -1,57 +1,48 @@
 -- What became of each issuer of an installation.
-use Rattle.std.proofs.Common.{◌≡◌, ◌⊎◌, inl, inr, ℕ, ◌+◌, ◌≤◌, List, [], ◌∷◌, ◌++◌, length, map, refl, ap, sym, ◌∙◌, subst, arith, true, Bool, IsTrue}
-use Rattle.std.proofs.Common.{Some, None, Option, Result, Ok, Err, IfOk, OnOk}
-use Rattle.std.specs.Prelude.{Vec}
-use Rattle.std.specs.List.{AllByRecursion, list_any}
-use Rattle.std.specs.declared.alloc.Global.{Global}
+use Rattle.std.proofs.Common.{◌≡◌, ◌⊎◌, inl, inr, ℕ, ◌+◌, ◌≤◌, List, [], ◌∷◌, ◌++◌, length, refl, ap, sym, ◌∙◌, subst, arith, true, IsTrue}
+use Rattle.std.proofs.Common.{Some, None, Result, Ok, Err, IfOk, OnOk}
+use Rattle.std.specs.List.{list_any}
 use Rattle.record_fields.specs.declared.versions.Version.{Version}
 use Rattle.ports.specs.Causes.{Rose}
 use Rattle.ports.specs.declared.Clock as clock
 use Rattle.ports.specs.declared.faults.NoMemory.{NoMemory}
 use Rattle.ports.specs.declared.sleeper.Sleeper as sleeper
-use Rattle.chain_disk.specs.OnDisk.{OnDisk, synced}
+use Rattle.chain_disk.specs.OnDisk.{synced}
 use Rattle.chain_disk.specs.Disks.{DiskRose, Disks, this_disk}
 use Rattle.chain_disk.specs.declared.disk.Disk as disk
 use Rattle.agency_port.specs.declared.agency.Agency as agency
 use Rattle.journal.specs.Journal.{disk_of, stopped_of}
-use Rattle.journal.specs.declared.faults.StoreFault.{StoreFault}
 use Rattle.journal.specs.declared.faults.StoreFault.TheVariants as store_fault
 use Rattle.record_codec.specs.declared.entry.Entry.{Entry}
 use Rattle.report.specs.declared.status.Detail.{Detail}
 use Rattle.report.specs.declared.status.Detail.TheVariants as detail
 use Rattle.sender.specs.declared.answers.DrainFault.TheVariants as drain
-use Rattle.shop_core.specs.Answer.Requests.{Asked}
 use Rattle.shop_core.specs.History.{noted, recs}
 use Rattle.shop_core.specs.Prefix.{IsPrefix}
 use Rattle.shop_core.specs.Spans.{NotedWithinRecords}
-use Rattle.shop_core.specs.declared.answer.Reply.{Reply}
-use Rattle.script.specs.declared.scripts.Script.{Script}
-use Rattle.till_calls.specs.Root.{parts_of}
 use Rattle.chain_store.specs.Clocks.{this_clock}
 use Rattle.chain_store.specs.Crashes.{FailsIn, IsCutOff, KeptByRun, StandsUpTo}
 use Rattle.chain_store.specs.Readings.{IsComing}
 use Rattle.chain_store.specs.Replies.{AllGoOn, Replies, StopsOnce, is_disk_fault}
 use Rattle.chain_store.specs.Runs.{Answers, Stores}
 use Rattle.chain_store.specs.Store.{clock_of, journal_of, state_of}
-use Rattle.chain_store.specs.Taking.{Fails, FailsOnce}
+use Rattle.chain_store.specs.Taking.{FailsOnce}
 use Rattle.chain_store.specs.declared.store.Store.{Store}
 use Rattle.issuers.specs.declared.parts.Part.{Part}
 use Rattle.open_shop.specs.Beside.{IsUnbegun}
 use Rattle.shop_commands.specs.Chain.{Played}
 use Rattle.open_shop.specs.Crashes.{StandsSince}
-use Rattle.open_shop.specs.Devices.{Agencies, agency_desk, agency_in, agency_kind, disk_in, sleeper_in, store_kind}
+use Rattle.open_shop.specs.Devices.{Agencies, agency_desk, agency_in, agency_kind, disk_in, sleeper_in}
 use Rattle.shop_commands.specs.Drain.{AgreesAtStart, first_moment, tells_moment}
 use Rattle.open_shop.specs.Draining.{OpensSession, Outcome, StoreDrains, disk_span, spanning}
 use Rattle.many.specs.Ends.{IsBegunAlone, IsDrained, OwnRowEnds, Row, StaysClosed, Works, up_to}
 use Rattle.many.specs.Blocks.{answered_block, closed_block, issuer_end}
 use Rattle.many.specs.Desks.{IsClosed, Start}
 use Rattle.many.specs.Kept.{HistoryKept, SessionKept}
-use Rattle.many.specs.Served.{ServedAt}
 use Rattle.many.specs.Tasks.{IsAnswered, IsTaskOf, TellsReplies}
-use Rattle.many.specs.Work.{BeginsOnly, DoesClosed, DoesOpen, DoesTask, Drained, EndsTold, IsBehind, Told, this_sleeper}
-use Rattle.open_shop.specs.Opening.{IsOpened, IsUnopened, opening_end}
+use Rattle.many.specs.Work.{BeginsOnly, DoesClosed, DoesOpen, DoesTask, Drained, EndsTold, Told, this_sleeper}
+use Rattle.open_shop.specs.Opening.{IsUnopened}
 use Rattle.open_shop.specs.Outcomes.{outcome_of}
-use Rattle.open_shop.specs.declared.draining.DrainEnd.{DrainEnd}
 use Rattle.many.specs.declared.working.Done.{Done}
 use Rattle.many.specs.declared.working.Task.{Task}
 use Rattle.many.specs.declared.working.Task.TheVariants.{Closed, Open}

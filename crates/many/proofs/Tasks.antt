@@ -1,13 +1,11 @@
 -- The issuers of an installation, from their posts to their jobs.
-use Rattle.std.proofs.Common.{◌≡◌, ◌≢◌, ℕ, zero, suc, ◌+◌, ◌≤◌, List, [], ◌∷◌, length, map, refl, ap, sym, ◌∙◌, subst, arith, slice_get}
-use Rattle.std.proofs.Common.{Some, None, Option, Result, Ok, Err, All, Bool, IfOk}
+use Rattle.std.proofs.Common.{◌≡◌, ◌≢◌, ℕ, suc, ◌+◌, ◌≤◌, List, [], ◌∷◌, length, map, refl, ap, sym, ◌∙◌, subst, arith, slice_get}
+use Rattle.std.proofs.Common.{Some, None, Result, Ok, Err, All}
 use Rattle.std.specs.List.{AllByRecursion}
 use Rattle.ports.specs.declared.Clock as clock
 use Rattle.ports.specs.declared.faults.NoMemory.{NoMemory}
-use Rattle.chain_disk.specs.OnDisk.{OnDisk}
 use Rattle.chain_disk.specs.declared.disk.Disk as disk
 use Rattle.journal.specs.Journal.{stopped_of}
-use Rattle.chain_store.specs.Replies.{Replies}
 use Rattle.chain_store.specs.Store.{Ready, journal_of}
 use Rattle.chain_store.specs.declared.store.Store.{Store}
 use Rattle.issuers.specs.Office.{AreOwn, issuer_of}
@@ -17,8 +15,8 @@ use Rattle.issuers.specs.declared.answers.OfficeAnswer.{OfficeAnswer}
 use Rattle.issuers.specs.declared.parts.Part.{Part}
 use Rattle.many.specs.Desks.{AreOpened, IsOpenedFor, Start}
 use Rattle.many.specs.Jobs.{AreJobs, IsOpenTask, TellsIf, open_sides}
-use Rattle.many.specs.Served.{EachServed, ServedAt}
-use Rattle.many.specs.Tasks.{IsAnswered, IsTasked, TellsReplies}
+use Rattle.many.specs.Served.{ServedAt}
+use Rattle.many.specs.Tasks.{IsTasked, TellsReplies}
 use Rattle.many.specs.Work.{IsWaiting, Told}
 use Rattle.many.specs.Pairwise.{Both}
 use Rattle.many.specs.declared.opening.Side.{Side}

@@ -1,21 +1,11 @@
 -- Posts by the clocks of their parts, and by their own again.
-use Rattle.std.proofs.Common.{◌≡◌, ◌⊎◌, inl, inr, ℕ, suc, ◌+◌, ◌<◌, ◌≤◌, List, [], ◌∷◌, ◌++◌, length, map, drop, get_or, refl, ap, sym, ◌∙◌, subst, arith, append_assoc}
-use Rattle.std.proofs.Common.{Option, Some, None, Result}
+use Rattle.std.proofs.Common.{◌≡◌, ℕ, suc, ◌+◌, ◌<◌, List, [], ◌∷◌, ◌++◌, length, drop, get_or, refl, ap, sym, ◌∙◌, subst, arith, append_assoc}
+use Rattle.std.proofs.Common.{Option}
 use Rattle.std.specs.Prelude.{reverse}
-use Rattle.std.specs.List.{AllByRecursion}
 use Rattle.std.proofs.lemmas.List.{append-nil, drop_all}
 use Rattle.std.proofs.Math.Seq.{drop-cons}
-use Rattle.ports.specs.declared.Clock as clock
-use Rattle.ports.specs.declared.faults.NoMemory.{NoMemory}
-use Rattle.ports.specs.declared.sleeper.Sleeper as sleeper
-use Rattle.chain_disk.specs.declared.disk.Disk as disk
-use Rattle.agency_port.specs.declared.agency.Agency as agency
-use Rattle.chain_store.specs.Readings.{readings_of}
-use Rattle.chain_store.specs.Replies.{Replies}
 use Rattle.issuers.specs.declared.parts.Part.{Part}
-use Rattle.report.specs.declared.status.Detail.{Detail}
 use Rattle.many.specs.Times.{AreOwnPosts, IsGivenBack, IsOwnPost}
-use Rattle.many.specs.OwnClock.{coming_of}
 use Rattle.many.specs.Pairwise.{Both}
 use Rattle.many.specs.declared.own_clock.OwnClock.{OwnClock}
 use Rattle.open_shop.specs.declared.posts.Post.{Post}

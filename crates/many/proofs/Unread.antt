@@ -1,5 +1,5 @@
 -- How `many` ends where its source is no script for its issuers.
-use Rattle.std.proofs.Common.{ℕ, List, Result, Err}
+use Rattle.std.proofs.Common.{ℕ, List, Err}
 use Rattle.ports.specs.Sinks.{Sinks}
 use Rattle.ports.specs.Sources.{Sources}
 use Rattle.ports.specs.declared.Clock as clock

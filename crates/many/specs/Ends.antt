@@ -1,5 +1,5 @@
 -- How `many` ends: each issuer, and the run.
-use Rattle.std.specs.Prelude.{◌≡◌, ◌⊎◌, ℕ, ◌<◌, ◌≤◌, ◌+◌, ◌-◌, ◌^◌, List, [], length, map, true, IsTrue, Option, None, Some, Result, Ok, Err, IfOk}
+use Rattle.std.specs.Prelude.{◌≡◌, ◌⊎◌, ℕ, ◌<◌, ◌≤◌, ◌+◌, ◌-◌, ◌^◌, List, [], length, map, true, IsTrue, Option, Result, Err, IfOk}
 use Rattle.std.specs.List.{AllByRecursion, list_any}
 use Rattle.ports.specs.Causes.{Rose}
 use Rattle.ports.specs.Sinks.{Sinks, WroteNothing}
@@ -7,7 +7,7 @@ use Rattle.ports.specs.Sources.{Sources}
 use Rattle.ports.specs.declared.Clock as clock
 use Rattle.ports.specs.declared.faults.NoMemory.{NoMemory}
 use Rattle.ports.specs.declared.sleeper.Sleeper as sleeper
-use Rattle.chain_disk.specs.Disks.{DiskRose, Disks, LeftDisk}
+use Rattle.chain_disk.specs.Disks.{DiskRose, Disks}
 use Rattle.chain_disk.specs.declared.disk.Disk as disk
 use Rattle.agency_port.specs.declared.agency.Agency as agency
 use Rattle.agency_rules.specs.declared.plans.Plan.{Plan}

@@ -1,5 +1,5 @@
 -- The jobs of an installation, from its issuers' sides, their stores and their parts.
-use Rattle.std.specs.Prelude.{◌≡◌, ◌+◌, ℕ, List, [], ◌∷◌, ◌++◌, length, suc, Some, None, Result, Ok, Err, OnOk, IfOk}
+use Rattle.std.specs.Prelude.{◌≡◌, ◌+◌, ℕ, List, [], ◌∷◌, ◌++◌, length, suc, Some, Result, Ok, Err, IfOk}
 use Rattle.ports.specs.declared.faults.NoMemory.{NoMemory}
 use Rattle.chain_disk.specs.declared.disk.Disk as disk
 use Rattle.chain_store.specs.declared.store.Store.{Store}

@@ -8,7 +8,7 @@ use Rattle.shop_core.specs.Answer.Requests.{Asked}
 use Rattle.shop_core.specs.Prefix.{IsPrefix}
 use Rattle.chain_store.specs.Replies.{AllGoOn, Replies}
 use Rattle.chain_store.specs.Runs.{Answers, this_store}
-use Rattle.chain_store.specs.Store.{Ready, journal_of}
+use Rattle.chain_store.specs.Store.{journal_of}
 use Rattle.chain_store.specs.Taking.{FailsOnce}
 use Rattle.chain_store.specs.declared.store.Store.{Store}
 use Rattle.issuers.specs.Serving.{StaysOwn, replies_to}

@@ -4,7 +4,6 @@ use Rattle.ports.specs.declared.Clock as clock
 use Rattle.ports.specs.declared.faults.NoMemory.{NoMemory}
 use Rattle.chain_disk.specs.declared.disk.Disk as disk
 use Rattle.chain_store.specs.Replies.{Replies}
-use Rattle.chain_store.specs.Store.{Ready}
 use Rattle.chain_store.specs.declared.store.Store.{Store}
 use Rattle.issuers.specs.Office.{AreOwn}
 use Rattle.issuers.specs.Parts.{HasLines}

@@ -1,5 +1,5 @@
 -- What is done of each issuer of an installation behind its commands.
-use Rattle.std.specs.Prelude.{◌≡◌, ◌⊎◌, ℕ, Bool, List, [], Option, Some, None, Result, Ok, Err, IfOk, Vec}
+use Rattle.std.specs.Prelude.{◌≡◌, ◌⊎◌, ℕ, Bool, List, [], Some, None, Result, Ok, Err, IfOk, Vec}
 use Rattle.std.specs.declared.alloc.Global.{Global}
 use Rattle.ports.specs.declared.faults.NoMemory.{NoMemory}
 use Rattle.ports.specs.declared.sleeper.Sleeper as sleeper

@@ -1,9 +1,8 @@
 -- The records that each till gains in a run.
 use Rattle.std.proofs.Common.{◌≡◌, inl, ◌≤◌, ℕ, ◌==◌, List, [], ◌∷◌, ◌++◌, append-nil, append_assoc, length, map, drop}
-use Rattle.std.proofs.Common.{refl, sym, ◌∙◌, ap, subst, arith, Bool, true, false, Option, Some, None, Result, Ok, Err}
+use Rattle.std.proofs.Common.{refl, sym, ◌∙◌, ap, subst, arith, Bool, true, false, Result}
 use Rattle.std.specs.Prelude.{filter, if◌then◌else◌}
 use Rattle.std.specs.List.{AllByRecursion, range_with_len}
-use Rattle.std.specs.Option.{option_map_or}
 use Rattle.std.proofs.lemmas.List.{drop-append-le, drop_all, length-append}
 use Rattle.std.proofs.lemmas.List.Elements.{filter-append}
 use Rattle.record_fields.specs.declared.versions.Version.{Version}
@@ -13,19 +12,10 @@ use Rattle.ports.specs.Sources.{Sources}
 use Rattle.record_codec.specs.declared.entry.Entry.{Entry}
 use Rattle.record_codec.specs.declared.entry.Entry.TheVariants.{Rec, Notes}
 use Rattle.record_codec.specs.declared.entry.TheConstants.{LAST_TILL}
-use Rattle.record_fields.specs.declared.lines.Line.{Line}
-use Rattle.record_fields.specs.declared.records.Sealed.{Sealed}
-use Rattle.shop_core.specs.History.{noted}
-use Rattle.shop_core.specs.Answer.Making.{made_sealed}
-use Rattle.shop_core.specs.Answer.Plans.{kept}
-use Rattle.shop_core.specs.Answer.Refusals.{refusal}
-use Rattle.shop_core.specs.Answer.Replies.{ChainRun, IsReply, Tells}
+use Rattle.shop_core.specs.Answer.Replies.{ChainRun}
 use Rattle.shop_core.specs.Answer.Replies.ChainRun.{begun, replied}
 use Rattle.shop_core.specs.Answer.Requests.{Asked}
-use Rattle.shop_core.specs.declared.answer.Planned.TheVariants.{Again, Refused, Made}
-use Rattle.shop_core.specs.declared.answer.refusals.Refusal.{Refusal}
 use Rattle.shop_core.specs.declared.answer.Reply.{Reply}
-use Rattle.shop_core.specs.declared.answer.receipts.Receipt.{Receipt}
 use Rattle.shop_commands.specs.Day.{EachTill, EachTillOf}
 use Rattle.open_shop.specs.Days.{Day, TillReplies}
 use Rattle.open_shop.specs.Draining.{AddsNotesAlone, AreNotesEntry}
@@ -34,7 +24,6 @@ use Rattle.chain_store.specs.Replies.{Replies}
 use Rattle.open_shop.specs.Tills.{TillServed, asks_of, has_asks, is_from, own_of, tills_of}
 use Rattle.verifactu.proofs.Accepted.{accepted_append, all_accepted, by_reply}
 use Rattle.open_shop.proofs.Each.{each_map, each_weaker}
-use Rattle.open_shop.proofs.Saying.{noted_both}
 use Rattle.open_shop.proofs.TillDays.{each_filtered}
 
 -- no till asked

@@ -1,6 +1,6 @@
 -- The promise of `many`, issuer by issuer, from the way it ended.
 use Rattle.std.proofs.Common.{◌≡◌, ◌⊎◌, inl, inr, ℕ, suc, ◌+◌, ◌≤◌, List, [], ◌∷◌, ◌++◌, append-nil, append_assoc, length, map, refl, sym, ◌∙◌, ap, subst, arith}
-use Rattle.std.proofs.Common.{IsTrue, Option, Some, None, Result, ◌<◌, slice_index_or}
+use Rattle.std.proofs.Common.{IsTrue, Option, Some, Result, ◌<◌, slice_index_or}
 use Rattle.std.specs.Prelude.{remove}
 use Rattle.ports.specs.declared.faults.NoMemory.{NoMemory}
 use Rattle.std.specs.List.{AllByRecursion}
@@ -10,16 +10,14 @@ use Rattle.ports.specs.Sources.{Sources}
 use Rattle.ports.specs.declared.Clock as clock
 use Rattle.ports.specs.declared.sleeper.Sleeper as sleeper
 use Rattle.chain_disk.specs.Disks.{DiskRose, Disks}
-use Rattle.chain_disk.specs.OnDisk.{OnDisk, synced}
+use Rattle.chain_disk.specs.OnDisk.{synced}
 use Rattle.chain_disk.specs.declared.disk.Disk as disk
 use Rattle.agency_port.specs.declared.agency.Agency as agency
-use Rattle.agency_port.specs.declared.messages.Message.{Message}
-use Rattle.agency_rules.specs.declared.plans.Plan.{Plan}
 use Rattle.chain_store.specs.Crashes.{Kept}
 use Rattle.chain_store.specs.Readings.{IsComing, readings_of}
-use Rattle.chain_store.specs.Replies.{Replies, StopsOnce}
+use Rattle.chain_store.specs.Replies.{StopsOnce}
 use Rattle.issuers.specs.declared.parts.Part.{Part}
-use Rattle.many.specs.Ends.{IsBegunAlone, IsDrained, IssuersRun, ManyEnds, PartsRun, Row, RowEnds, StaysClosed, Works, span_from}
+use Rattle.many.specs.Ends.{IsBegunAlone, IsDrained, ManyEnds, PartsRun, Row, RowEnds, StaysClosed, Works}
 use Rattle.many.specs.Ends.ManyEnds.{bad_line, no_memory, ran, read_fault, too_big}
 use Rattle.many.specs.Scripts.{AreGoodParts}
 use Rattle.many.proofs.Kept.{agree_on, front_legal, kept_on, none_torn_noted, pairs_stay, prefix_on}
@@ -37,21 +35,18 @@ use Rattle.record_fields.specs.declared.lines.Line.{Line}
 use Rattle.record_fields.specs.declared.records.Sealed.{Sealed}
 use Rattle.report.specs.declared.status.Detail.{Detail}
 use Rattle.script.specs.declared.scripts.Script.{Script}
-use Rattle.sender.specs.Turning.{Desk}
 use Rattle.shop_commands.specs.Drain.{AgreesAtStart, first_moment, tells_moment}
 use Rattle.shop_commands.specs.Further.{Further}
-use Rattle.shop_core.specs.Answer.Requests.{Asked}
 use Rattle.shop_core.specs.File.Laws.{NotBegunIsNeither, OneHistory}
 use Rattle.shop_core.specs.History.{noted, recs}
 use Rattle.shop_core.specs.Prefix.{IsPrefix}
 use Rattle.shop_core.specs.Spans.{NotedWithinRecords}
-use Rattle.verifactu.specs.CommandLine.{AsksFor}
 use Rattle.verifactu.specs.Promise.{AgencyKept, AreAskedOfPart, AreKept, BatchesKept, FileKept, OthersKept, writes_for}
 use Rattle.verifactu.specs.Promise.AgencyKept.{silent, in_session}
 use Rattle.verifactu.specs.Running.{ManyRan}
 use Rattle.verifactu.specs.declared.command_line.Command.TheVariants.{Many}
 use Rattle.verifactu.proofs.Gaining.{gains_on, gains_run}
-use Rattle.verifactu.proofs.Promised.{AreLinked, Left, goes_on, unopened}
+use Rattle.verifactu.proofs.Promised.{AreLinked, goes_on, unopened}
 use Rattle.verifactu.proofs.Promised.Left.{grown}
 use Rattle.verifactu.proofs.Promising.{LeftBy, Rest, by_writing, nothing, uncalled}
 use Rattle.verifactu.proofs.Sessions.{batches_not_served, batches_of_drain, not_served, of_drain, stays_of_chain}

@@ -1,4 +1,4 @@
-use Rattle.std.proofs.Common.{◌≡◌, ◌∙◌, List, ℕ, ap, length, map, string_bytes, subst, sym, arith, Global}
+use Rattle.std.proofs.Common.{◌∙◌, ap, length, map, string_bytes, subst, sym, arith, Global}
 use Rattle.file_pairs.specs.Pairs.{AreApart}
 use Rattle.file_pairs.proofs.Paired.{one_list}
 use Rattle.file_pairs.proofs.pairs.read_pairs.Goals as goal

@@ -1,4 +1,4 @@
-use Rattle.std.proofs.Common.{◌≡◌, ◌≤◌, ◌+◌, length, ap, arith}
+use Rattle.std.proofs.Common.{◌≡◌, length, ap, arith}
 use Rattle.many.proofs.Times.{given_more, given_none}
 use Rattle.many.proofs.command.given_posts.Goals as goal
 

@@ -1,4 +1,4 @@
-use Rattle.std.proofs.Common.{◌≡◌, inl, inr, refl, sym, ◌∙◌, subst, ap, length, All, List}
+use Rattle.std.proofs.Common.{inl, inr, refl, sym, ◌∙◌, subst, ap, length, All, List}
 use Rattle.ports.specs.Sinks.{this_sink}
 use Rattle.file_commands.proofs.Bytewise.{took_nothing}
 use Rattle.issuers.specs.Parts.{HasLines}

@@ -1,8 +1,6 @@
-use Rattle.std.proofs.Common.{◌≡◌, ◌≤◌, ◌+◌, ◌∙◌, ℕ, List, [], ◌∷◌, length, ap, sym, refl, subst, arith, Some, None}
-use Rattle.std.specs.Prelude.{reverse}
+use Rattle.std.proofs.Common.{◌≡◌, ◌+◌, ◌∙◌, List, [], ◌∷◌, length, ap, sym, refl, subst, arith, Some, None}
 use Rattle.std.proofs.lemmas.List.{nil_from_length}
 use Rattle.many.specs.Jobs.{AreJobs, open_sides}
-use Rattle.many.specs.declared.opening.Side.{Side}
 use Rattle.many.specs.declared.working.Job.{Job}
 use Rattle.many.proofs.Jobs.{jobs_all, jobs_more, jobs_none, open_push}
 use Rattle.many.proofs.joining.jobs_of.Goals as goal

@@ -1,5 +1,4 @@
-use Rattle.std.proofs.Common.{◌≡◌, ◌≤◌, ◌+◌, ◌∙◌, ℕ, List, All, length, sym, subst, arith}
-use Rattle.chain_store.specs.declared.store.Store.{Store}
+use Rattle.std.proofs.Common.{◌≡◌, ◌∙◌, ℕ, List, All, length, sym, subst, arith}
 use Rattle.issuers.specs.Parts.{HasLines}
 use Rattle.issuers.specs.declared.parts.Part.{Part}
 use Rattle.many.specs.Jobs.{AreJobs}

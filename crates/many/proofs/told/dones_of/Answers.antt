@@ -1,9 +1,5 @@
-use Rattle.std.proofs.Common.{◌≡◌, ◌∙◌, ◌++◌, List, ap, sym, refl, subst, arith, rules, length}
-use Rattle.std.specs.Prelude.{reverse}
-use Rattle.std.proofs.lemmas.List.{append-nil}
+use Rattle.std.proofs.Common.{arith}
 use Rattle.many.specs.Dones.{dones_in}
-use Rattle.many.specs.declared.working.Done.{Done}
-use Rattle.many.specs.declared.working.Job.{Job}
 use Rattle.many.proofs.Dones.{dones_more}
 use Rattle.many.proofs.told.dones_of.Goals as goal
 

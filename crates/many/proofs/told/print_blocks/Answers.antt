@@ -1,4 +1,4 @@
-use Rattle.std.proofs.Common.{◌≡◌, ◌∙◌, ℕ, List, subst, map}
+use Rattle.std.proofs.Common.{◌∙◌, ℕ, List, subst, map}
 use Rattle.std.proofs.lemmas.List.{append-nil}
 use Rattle.ports.specs.Sinks.{OutputIs, this_sink}
 use Rattle.file_commands.proofs.Bytewise.{took_nothing}

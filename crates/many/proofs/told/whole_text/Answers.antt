@@ -1,6 +1,5 @@
-use Rattle.std.proofs.Common.{◌≡◌, ◌∙◌, ◌++◌, ◌∷◌, [], ℕ, ◌+◌, List, Result, ap, sym, map, take}
+use Rattle.std.proofs.Common.{◌≡◌, ◌∙◌, ◌++◌, ◌∷◌, [], ◌+◌, List, ap, sym, map, take}
 use Rattle.std.proofs.lemmas.List.{map_push, take_more}
-use Rattle.ports.specs.declared.faults.NoMemory.{NoMemory}
 use Rattle.many.specs.declared.working.Done.{Done}
 use Rattle.many.proofs.Dones.{puts_more}
 use Rattle.many.proofs.told.whole_text.Goals as goal

@@ -1,4 +1,4 @@
-use Rattle.std.proofs.Common.{◌≡◌, ◌∷◌, ◌∙◌, ◌+◌, ◌<◌, List, ap, length, refl, subst, sym, arith}
+use Rattle.std.proofs.Common.{◌≡◌, ◌∷◌, ◌∙◌, List, ap, length, refl, subst, sym, arith}
 use Rattle.ports.specs.Sinks.{this_sink}
 use Rattle.ports.specs.Sources.{this_source}
 use Rattle.report.specs.declared.status.Detail.{Detail}
