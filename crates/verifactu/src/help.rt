@@ -34,7 +34,9 @@ read the file; check works by 1 to 16 WORKERS beside each other. drain and guard
 read a script without sales, fixes and cancels. many takes a pair of FILE and NIF
 an issuer; what stands behind a line issuer NIF is for this one alone.
 With --agency day, serve, drain and guard send to a program of yours, which reads
-TO and writes FROM; else to a practice agency. docs/ADAPTER.md has its messages.
+TO and writes FROM; docs/ADAPTER.md has its messages. Else they send to a practice
+agency, as many does always: what it said stays in the file, and no other agency
+is handed these records.
 A new file is of version 2, an old one of version 1 goes on as it is: migrate
 reads FILE and writes its chain to NEW. Stopped, it is run again. follow brings a
 copy at NEW up to FILE, which it only reads; guard does so, and then what drain does.
@@ -53,9 +55,9 @@ A script has one command a line:
                            the invoice NUM, mended
   cancel TILL SERIAL NUM   the invoice NUM, cancelled
   vet NUM N CODE, warn NUM N CODE, wait SECONDS, link CALL FATE, link CALL late D
-                           the plan of the practice agency, for day, drain and
-                           guard; chain does nothing by it. FATE is lost, taken,
-                           stale or again
+                           the plan of the practice agency, for day, drain, guard
+                           and many; chain does nothing by it. FATE is lost,
+                           taken, stale or again
 KIND is F1, F2, F3 or R1 to R5. OPTION is to=KEY, rect=S, rect=I or
 ref=NUM@DD-MM-YYYY. LINE is CLASS:BASE, the base in cents; CLASS is 21, 10, 4,
 0, 21+, 10+, 4+, S2, N1, N2 or E1 to E6. Under IPSI it is 02/RATE, under IGIC
@@ -79,7 +81,7 @@ Status:
    5  standard output could not be written; the file keeps the records
    6  the file could not be read or written
    7  the file is damaged; standard error names the byte
-   8  day, serve, drain or guard gave up after eight faults of the link
+   8  day, serve, drain, guard or many gave up after eight faults of the link
    9  audit found the file broken; it printed where
   10  no memory
   11  the agency contradicts itself; standard error names the place
