@@ -1,10 +1,10 @@
 #!/usr/bin/env python3
 """A till that speaks with `verifactu serve`, line by line.
 
-    python3 examples/till.py shop.chain 89890001K
+    python3 examples/till.py till.chain 89890001K
 
 It sells twice, has the program killed between a sale and its answer, asks again, and prints the link of each ticket. The serial of a
-command stands on the till's own disk (shop.chain.serial) before the command is asked. With CLOCK="START STEP" it is tried by a
+command stands on the till's own disk (till.chain.serial) before the command is asked. With CLOCK="START STEP" it is tried by a
 clock that leaps, so that the end doesn't sit out the agency's pause.
 """
 import os
