@@ -101,7 +101,15 @@ fn run_sales(
     let bytes = Vec::from_slice(alloc, SALES.as_bytes())?;
     let mut source = MemSource::new(alloc, bytes, Vec::new(alloc));
     let mut sink = MemSink::new(alloc, Vec::new(alloc));
-    let (ended, outside) = run(rt, alloc, &words, &mut source, &mut sink, outside, &OpenGate);
+    let (ended, outside) = run(
+        rt,
+        alloc,
+        &words,
+        &mut source,
+        &mut sink,
+        outside,
+        &OpenGate,
+    );
     let Outside { disk, .. } = outside;
     let text = Vec::from_slice(alloc, sink.bytes())?;
     Ok(Left { ended, text, disk })
@@ -168,6 +176,9 @@ fn an_issuer_is_told_the_same_whoever_is_beside_it(rt: HostRuntime) -> Result<()
     let mut left = eight(&rt)?;
     assert!(rt; left.text.as_slice().starts_with(two.text.as_slice()));
     let mut disk = two.disk;
-    assert_eq!(rt; bytes_of(alloc, &mut left.disk)?, bytes_of(alloc, &mut disk)?);
+    assert_eq!(rt;
+        bytes_of(alloc, &mut left.disk)?,
+        bytes_of(alloc, &mut disk)?
+    );
     Ok(())
 }

@@ -224,7 +224,10 @@ fn all_noted(
 ) -> Result<(usize, String), Fail> {
     let held = held_by(rt, disk)?;
     let records = held.lines().count();
-    Ok((records, format!(in rt.alloc(); "chain {records} noted {records}\n")?))
+    Ok((
+        records,
+        format!(in rt.alloc(); "chain {records} noted {records}\n")?,
+    ))
 }
 
 // Whether a drain of this file leaves each of its records with the agency, once.
@@ -241,9 +244,11 @@ fn are_sent_once(
         agency,
     } = run_with(rt, DRAIN, "", (0, 0), file, agency, &OpenGate)?;
     match all_noted(rt, disk) {
-        Ok((records, chain)) => Ok(ended.status == 0
-            && text.ends_with(chain.as_str())
-            && are_once(&agency, records, sessions)),
+        Ok((records, chain)) => Ok(
+            ended.status == 0
+                && text.ends_with(chain.as_str())
+                && are_once(&agency, records, sessions),
+        ),
         Err(fail) => Err(fail),
     }
 }
@@ -256,7 +261,10 @@ fn are_kept(
     fill: Fill,
 ) -> Result<bool, Fail> {
     let Left {
-        text, disk, agency, ..
+        text,
+        disk,
+        agency,
+        ..
     } = left;
     match file_left(rt, text.as_str(), &disk, fill) {
         Ok(Some(file)) => are_sent_once(rt, file, agency),
