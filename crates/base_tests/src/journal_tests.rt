@@ -3,7 +3,9 @@ ghost use Rattle.journal.specs.Journal.{end_of};
 
 use chain_disk::{Disk, Fill, MemDisk};
 use frames::FrameBuf;
-use journal::{Header, Journal, JournalFault, Lost, Step, StoreFault, read_header, scan};
+use journal::{
+    Header, Journal, JournalFault, Lost, ReadAhead, Step, StoreFault, read_header, scan, scan_ahead,
+};
 use parties::Nif;
 use ports::Failed;
 use record_fields::Version;
@@ -111,6 +113,49 @@ fn a_journal_is_created_written_and_read(rt: HostRuntime) -> Result<(), Fail> {
     assert_eq!(rt; scan(&mut disk, 27, &mut body)?, Step::Counted { next: 35 });
     assert_eq!(rt; scan(&mut disk, 35, &mut body)?, Step::Closed);
     assert_eq!(rt; scan(&mut disk, 36, &mut body)?, Step::Damaged);
+    Ok(())
+}
+
+// A file of twenty bodies of 4096 bytes each, longer than what is read at once.
+fn long_file(alloc: Global) -> Result<MemDisk, Fail> {
+    let mut file = b"\x01VFCHAIN1\x02B12345674".to_vec(alloc)?;
+    for k in 0..20u8 {
+        file.extend_from_slice(b"\x01\x00\x00\x10\x00")?;
+        file.extend_from_slice(&[k; 4096])?;
+    }
+    file.push(0)?;
+    Ok(MemDisk::new(alloc, file, Vec::new(alloc)))
+}
+
+#[test]
+fn frames_are_found_in_what_was_read_ahead_and_past_it(rt: HostRuntime) -> Result<(), Fail> {
+    let mut disk = long_file(rt.alloc())?;
+    let mut ahead = ReadAhead::new();
+    let mut body = FrameBuf::new();
+    assert_eq!(rt;
+        scan_ahead(&mut disk, &mut ahead, 19, &mut body)?,
+        Step::Counted { next: 4120 }
+    );
+    assert_eq!(rt; body.as_slice(), [0; 4096].as_slice());
+    assert_eq!(rt;
+        scan_ahead(&mut disk, &mut ahead, 4120, &mut body)?,
+        Step::Counted { next: 8221 }
+    );
+    assert_eq!(rt; body.as_slice(), [1; 4096].as_slice());
+    // The sixteenth frame ends past the first 65,536 bytes behind the header.
+    assert_eq!(rt;
+        scan_ahead(&mut disk, &mut ahead, 61_534, &mut body)?,
+        Step::Counted { next: 65_635 }
+    );
+    assert_eq!(rt; body.as_slice(), [15; 4096].as_slice());
+    assert_eq!(rt;
+        scan_ahead(&mut disk, &mut ahead, 82_039, &mut body)?,
+        Step::Closed
+    );
+    assert_eq!(rt;
+        scan_ahead(&mut disk, &mut ahead, 82_040, &mut body)?,
+        Step::Damaged
+    );
     Ok(())
 }
 

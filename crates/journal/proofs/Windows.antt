@@ -1,11 +1,12 @@
 -- A window of a file tells what stands at its start.
 use Rattle.std.proofs.Common.{◌≡◌, ◌≤◌, ◌+◌, ◌-◌, min, inl, inr, ℕ, List, ◌∷◌, ◌++◌, length, take, drop, sym, ◌∙◌, ap, arith}
 use Rattle.std.proofs.Common.{append_assoc, length-append, take-append-drop}
-use Rattle.std.proofs.lemmas.List.{length-take, length-take-le, length-drop, take_at, drop_at, take_min, take_all}
+use Rattle.std.proofs.lemmas.List.{length-take, length-take-le, length-drop, take_at, drop_at, take_min, take_all, take-take, drop-drop, drop-take}
 use Rattle.std.proofs.lemmas.Bool.{cases_lt}
 use Rattle.chain_disk.specs.OnDisk.{IsRead}
 use Rattle.frames.specs.Frames.{length_bytes, IsCounted, IsClosed}
 use Rattle.frames.specs.Lengths.{length-length_bytes}
+use Rattle.journal.specs.Ahead.{Ahead, Covers}
 use Rattle.journal.specs.Step.{IsStep}
 use Rattle.journal.specs.declared.reading.Step.{Step}
 use Rattle.journal.specs.declared.reading.Step.TheVariants.{Counted, Closed, Damaged}
@@ -19,6 +20,19 @@ read_window room content at n old new long read =
     let all : length (take n rest) ≡ n = length-take-le n rest (omega (arith, count)) in
     ap (λ (l : List ℕ). take n l) read.bytes ∙ take_at (take n rest) (drop n old) n all ∙ ap (λ (k : ℕ). take k rest) count ∙
     take_min room rest
+
+-- the window of a frame in what was read ahead
+pub ahead_window : (content : List ℕ) (ahead : Ahead) (at : ℕ) → ahead.bytes ≡ take 65536 (drop ahead.start content) →
+    Covers ahead at → take 4102 (drop (at - ahead.start) ahead.bytes) ≡ take 4102 (drop at content)
+ahead_window content ahead at is covers =
+    let k = at - ahead.start in
+    let rest = drop ahead.start content in
+    let sum : 65536 ≡ k + (65536 - k) = omega (arith, covers.whole) in
+    let place : ahead.start + k ≡ at = omega (arith, covers.begun) in
+    let cut : drop k ahead.bytes ≡ take (65536 - k) (drop k rest) = ap (λ (l : List ℕ). drop k l) is ∙
+    ap (λ (n : ℕ). drop k (take n rest)) sum ∙ drop-take k (65536 - k) rest in
+    ap (λ (l : List ℕ). take 4102 l) cut ∙ take-take 4102 (65536 - k) (drop k rest) (omega (arith, covers.whole)) ∙
+    ap (λ (l : List ℕ). take 4102 l) (drop-drop k ahead.start content ∙ ap (λ (n : ℕ). drop n content) place)
 
 -- the body of a counted frame
 pub counted_body : (bytes body : List ℕ) (len : ℕ) → length body ≡ len → IsCounted bytes body → take (5 + len - 5) (drop 5 bytes)

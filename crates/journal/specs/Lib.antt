@@ -8,3 +8,4 @@ pub mod Framed
 pub mod Laws
 pub mod Journal
 pub mod Faults
+pub mod Ahead

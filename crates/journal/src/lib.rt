@@ -14,6 +14,7 @@
 /// How many bytes a file begins with, up to its first frame's gate.
 pub const HEADER: usize = 19;
 
+mod ahead;
 mod commit;
 mod creation;
 mod faults;
@@ -21,10 +22,11 @@ mod journal;
 mod laws;
 mod reading;
 
+pub use ahead::ReadAhead;
 pub use faults::StoreFault;
 pub use journal::{Journal, JournalFault, Lost};
 pub use laws::{
     a_file_has_one_header, a_file_is_walked, a_file_not_begun_is_no_chain,
     a_file_stands_for_one_chain, walks_over_a_file_agree,
 };
-pub use reading::{Header, Step, read_header, scan};
+pub use reading::{Header, Step, read_header, scan, scan_ahead};

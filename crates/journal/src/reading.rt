@@ -3,10 +3,12 @@ ghost use Rattle.std.specs.Prelude.{◌≡◌, ◌<◌, ◌^◌, ◌≤◌, ◌�
 ghost use Rattle.std.specs.Prelude.{MatchResult};
 ghost use Rattle.ports.specs.Causes.{HasCause};
 ghost use Rattle.parties.specs.Nif.{IsNif};
+ghost use Rattle.journal.specs.Ahead.{IsAheadIn};
 ghost use Rattle.journal.specs.Step.{IsStep, IsNext, KeepsBuffer};
 ghost use Rattle.journal.specs.Header.{IsHeader, SaysAVersion};
 
 use crate::HEADER;
+use crate::ahead::ReadAhead;
 use chain_disk::Disk;
 use frames::{Frame, FrameBuf, WINDOW, read_frame};
 use parties::Nif;
@@ -132,6 +134,29 @@ pub fn scan<D: Disk>(disk: &mut D, at: u64, body: &mut FrameBuf) -> Result<Step,
     let mut room = [0; WINDOW];
     let n = disk.read_at(at, &mut room)?;
     Ok(step_in(&room[..n], at, body))
+}
+
+/// The same by fewer calls of the disk: what was read ahead serves the scans of the next frames.
+pub fn scan_ahead<D: Disk>(
+    disk: &mut D,
+    ahead: &mut ReadAhead,
+    at: u64,
+    body: &mut FrameBuf,
+) -> Result<Step, Failed>
+    requires far { at < 2 ^ 63 }
+    requires ahead { IsTrue D.tells → IsAheadIn (D.told disk.old).content ahead.old }
+    ensures step { IfOk result (λ step. IsTrue D.tells →
+        IsStep (drop at (D.told disk.old).content) step body.new) }
+    ensures place { IfOk result (λ step. IsNext at step body.new) }
+    ensures buffer { MatchResult result
+        (λ step. KeepsBuffer step body.old body.new)
+        (λ _. body.new ≡ body.old) }
+    ensures ahead { IsTrue D.tells → IsAheadIn (D.told disk.old).content ahead.new }
+    ensures same { D.told disk.new ≡ D.told disk.old }
+    ensures cause { HasCause (D.faults disk.old) (D.faults disk.new) result }
+{
+    ahead.reach(disk, at)?;
+    Ok(step_in(ahead.window(at), at, body))
 }
 
 fn step_in(window: &[u8], at: u64, body: &mut FrameBuf) -> Step

@@ -1,6 +1,7 @@
-// Reads a file frame by frame, through one small buffer, to its closing gate or its first break.
+// Reads a file frame by frame, to its closing gate or its first break.
 ghost use Rattle.std.specs.Prelude.{◌≡◌, ◌≤◌, ◌+◌, ◌++◌, ◌∷◌, [], List, ℕ, IsTrue, IfOk, IfSome, IfNone, IsErrOf, OnErr, Some};
 ghost use Rattle.ports.specs.Causes.{Rose};
+ghost use Rattle.journal.specs.Ahead.{IsAheadIn};
 ghost use Rattle.journal.specs.Header.{IsBegun};
 ghost use Rattle.record_codec.specs.Writing.{entry_bytes};
 ghost use Rattle.shop_core.specs.Breaks.{IsBreak};
@@ -11,7 +12,7 @@ ghost use Rattle.shop_core.specs.File.Reading.{BrokenIsDamaged, Grows, HasNearGa
 use crate::{Break, State, What, a_history_is_read_by_frames, next_fault};
 use chain_disk::Disk;
 use frames::FrameBuf;
-use journal::{Header, Step, read_header, scan};
+use journal::{Header, ReadAhead, Step, read_header, scan_ahead};
 use parties::Nif;
 use ports::NoMemory;
 use record_codec::{BadEntry, Entry, Version, decode};
@@ -82,10 +83,11 @@ fn read_frames<D: Disk>(
 {
     a_history_is_read_by_frames();
     let mut state = State::empty(alloc, issuer, version);
+    let mut ahead = ReadAhead::new();
     let mut body = FrameBuf::new();
     let mut at = 19;
     for _ in 0..2_000_001u32 {
-        match read_frame(alloc, disk, &mut state, at, &mut body)? {
+        match read_frame(alloc, disk, &mut ahead, &mut state, at, &mut body)? {
             AtGate::Entry { next } => at = next,
             AtGate::Closed => return Ok(FileRead::Sound { state, end: at }),
             AtGate::Broken { what } => {
@@ -114,13 +116,16 @@ enum AtGate {
 fn read_frame<D: Disk>(
     alloc: Global,
     disk: &mut D,
+    ahead: &mut ReadAhead,
     state: &mut State,
     at: u64,
     body: &mut FrameBuf,
 ) -> Result<AtGate, ReadFault>
+    requires ahead { IsTrue D.tells → IsAheadIn (D.told disk.old).content ahead.old }
     requires place { at ≤ furthest_gate state.old.entries }
     requires sound { IsTrue D.tells →
         IsSoundUpTo state.old.version state.old.issuer state.old.entries at (D.told disk.old).content }
+    ensures ahead { IsTrue D.tells → IsAheadIn (D.told disk.old).content ahead.new }
     ensures issuer { state.new.issuer ≡ state.old.issuer }
     ensures version { state.new.version ≡ state.old.version }
     ensures grows { IfOk result (Grows state.old state.new) }
@@ -131,7 +136,7 @@ fn read_frame<D: Disk>(
 {
     a_history_is_read_by_frames();
     let _few = state.entries();
-    match scan(disk, at, body) {
+    match scan_ahead(disk, ahead, at, body) {
         Err(_) => Err(ReadFault::DiskFault),
         Ok(Step::Damaged) => Ok(AtGate::Broken { what: What::Frame }),
         Ok(Step::Closed) => Ok(AtGate::Closed),

@@ -17,12 +17,12 @@ pub returns-in-Ok-Damaged-clause-seen : goal.returns-in-Ok-Damaged-clause-seen
 returns-in-Ok-Damaged-clause-seen g c tells =
     let s = c.args.state.now in
     no_frame s.version s.issuer s.entries c.args.at (c.requires.sound tells)
-    (damaged_step _ c.scan.new.body c.in-Ok-Damaged.field-0 c.in-Ok-Damaged.field-0-is (c.in-Ok-Damaged.ensures.step tells))
+    (damaged_step _ c.scan_ahead.new.body c.in-Ok-Damaged.field-0 c.in-Ok-Damaged.field-0-is (c.in-Ok-Damaged.ensures.step tells))
 
 pub returns-in-Err-At-clause-seen : goal.returns-in-Err-At-clause-seen
 returns-in-Err-At-clause-seen g c tells =
     let s = c.args.state.now in
-    let body = c.scan.new.body in
+    let body = c.scan_ahead.new.body in
     let counted : IsCounted (drop c.args.at (g.D.Disk.told c.args.disk.now).content) body =
     counted_step _ body c.in-Ok-Counted.field-0 c.in-Ok-Counted.next c.in-Ok-Counted.field-0-is
     (c.in-Ok-Counted.ensures.step tells) in
@@ -39,7 +39,7 @@ returns-in-Err-At-clause-seen g c tells =
 pub returns-in-Ok-None-clause-seen : goal.returns-in-Ok-None-clause-seen
 returns-in-Ok-None-clause-seen g c tells =
     let s = c.args.state.now in
-    let body = c.scan.new.body in
+    let body = c.scan_ahead.new.body in
     let file = (g.D.Disk.told c.args.disk.now).content in
     let counted : IsCounted (drop c.args.at file) body =
     counted_step _ body c.in-Ok-Counted.field-0 c.in-Ok-Counted.next c.in-Ok-Counted.field-0-is
@@ -67,7 +67,7 @@ returns-in-Ok-None-clause-seen g c tells =
 pub returns-in-Ok-Some-clause-seen : goal.returns-in-Ok-Some-clause-seen
 returns-in-Ok-Some-clause-seen g c tells =
     let s = c.args.state.now in
-    let body = c.scan.new.body in
+    let body = c.scan_ahead.new.body in
     let file = (g.D.Disk.told c.args.disk.now).content in
     let counted : IsCounted (drop c.args.at file) body =
     counted_step _ body c.in-Ok-Counted.field-0 c.in-Ok-Counted.next c.in-Ok-Counted.field-0-is

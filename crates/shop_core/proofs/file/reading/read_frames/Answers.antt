@@ -1,6 +1,7 @@
 use Rattle.std.proofs.Common.{◌≡◌, ◌≤◌, [], None, ap, arith, drop, length, refl, subst, sym}
 use Rattle.chain_disk.specs.OnDisk.{OnDisk}
 use Rattle.frames.specs.Frames.{IsClosed}
+use Rattle.journal.specs.Ahead.{Ahead, IsAheadIn}
 use Rattle.shop_core.specs.File.Files.{IsSoundUpTo, furthest_gate}
 use Rattle.shop_core.specs.History.{History}
 use Rattle.shop_core.specs.File.Reading.{Grows, IsRead, IsSeen}
@@ -21,6 +22,7 @@ loop-init g c =
       place = subst (λ (h : History). 19 ≤ furthest_gate h.entries) (sym empty) (omega arith);
       sound = λ tells. subst (λ (h : History). IsSoundUpTo h.version h.issuer h.entries 19 file) (sym empty)
           (c.a_history_is_read_by_frames.ensures.begins c.args.version c.args.issuer.now file (c.requires.header tells));
+      ahead = λ tells. subst (λ (a : Ahead). IsAheadIn file a) (sym c.new-ahead.ensures) (λ some. absurd (omega (arith, some)));
       same = refl;
       later = omega arith;
     }
