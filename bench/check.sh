@@ -3,6 +3,7 @@
 # records, each of another record. The time with an empty source, which is that of opening the file, is taken off; the fastest of
 # three runs each. The file and the links lie in memory (/dev/shm). Two workers are to be 1.6 times as fast as one, and four
 # 2.5 times, where four processors are free. What one worker still does alone: the source is read and cut, and the text printed.
+# Its peer is the machine itself: so many programs of one worker each, beside each other, and what they do together in the time of one.
 # Run by hand, on a machine that does nothing else: bench/check.sh [LINKS].
 set -eu
 root=$(CDPATH= cd -- "$(dirname -- "$0")/.." && pwd)
@@ -44,3 +45,23 @@ for workers in 1 2 4; do
     echo "$workers workers: $((links * 1000000 / took)) links a second, $((one * 100 / took)) hundredths of one worker's"
 done
 echo "opening takes $opened microseconds"
+
+# The fastest of three times in which so many programs of one worker each, started together, have all ended.
+beside() {
+    for _ in 1 2 3; do
+        begun=$(microseconds)
+        n=0
+        while [ "$n" -lt "$1" ]; do
+            n=$((n + 1))
+            "$program" check "$work/shop.chain" 1 <"$work/links" >"$work/text.$n" &
+        done
+        wait
+        echo $(($(microseconds) - begun))
+    done | sort -n | head -n 1
+}
+
+alone=$(beside 1)
+for programs in 2 4; do
+    took=$(beside "$programs")
+    echo "$programs programs beside each other: $((alone * programs * 100 / took)) hundredths of what one does alone"
+done
