@@ -1,17 +1,35 @@
 // Where each Huella stands in the chain.
-ghost use Rattle.std.specs.Prelude.{◌≡◌, ℕ, List, OnOk, bytes_eq, true, if◌then◌else◌};
+ghost use Rattle.std.specs.Prelude.{◌≡◌, ℕ, List, [], ◌∷◌, OnOk, bytes_eq, take, true, if◌then◌else◌};
 ghost use Rattle.shop_core.specs.Tables.ByHuella.{has, place_at};
 ghost use Rattle.shop_core.specs.Place.{placed};
+ghost use Rattle.shop_core.specs.Tables.Keys.{same_front};
 
 use crate::place::place_or_none;
 use indexmap::IndexMap;
 use ports::NoMemory;
 use std::alloc::Global;
+use std::hash::{Hash, Hasher};
+
+/// A Huella as a key. It is hashed by its first eight bytes, which are spread already: they are of a SHA-256.
+#[derive(Clone, Copy, Debug, PartialEq, Eq)]
+pub(crate) struct Key {
+    pub huella: [u8; 32],
+}
+
+impl Hash for Key {
+    ghost hash_input = { λ k. take 8 k.huella ∷ [] };
+
+    ghost respects_eq = { same_front };
+
+    fn hash<H: Hasher>(&self, state: &mut H) {
+        state.write(&self.huella[..8]);
+    }
+}
 
 /// A place for each Huella, 0 where it was entered alone.
 #[derive(Drop)]
 pub(crate) struct ByHuella {
-    places: IndexMap<[u8; 32], u32>,
+    places: IndexMap<Key, u32>,
 }
 
 impl ByHuella {
@@ -26,7 +44,12 @@ impl ByHuella {
     pub fn at(&self, huella: &[u8; 32]) -> Option<u32>
         ensures { result ≡ placed (place_at self.now huella.now) }
     {
-        place_or_none(self.places.get(huella).copied().unwrap_or(0))
+        place_or_none(
+            self.places
+                .get(&Key { huella: *huella })
+                .copied()
+                .unwrap_or(0),
+        )
     }
 
     /// Enters a key, where it isn't there yet. Keys that are there stay, and no place changes.
@@ -35,8 +58,9 @@ impl ByHuella {
         ensures stays { (h : List ℕ) → has self.old h ≡ true → has self.new h ≡ true }
         ensures ok { OnOk result (has self.new huella.now ≡ true) }
     {
-        if !self.places.contains_key(huella) {
-            self.places.insert(*huella, 0)?;
+        let key = Key { huella: *huella };
+        if !self.places.contains_key(&key) {
+            self.places.insert(key, 0)?;
         }
         Ok(())
     }
@@ -46,7 +70,7 @@ impl ByHuella {
         requires { has self.old huella.now ≡ true }
         ensures { (h : List ℕ) → place_at self.new h ≡ (if bytes_eq huella.now h then place else place_at self.old h) }
     {
-        match self.places.get_mut(huella) {
+        match self.places.get_mut(&Key { huella: *huella }) {
             None => unreachable!(),
             Some(old) => *old = place,
         }
