@@ -1,13 +1,14 @@
 #!/bin/sh
 # How many scanned links a second `check` answers with 1, 2 and 4 workers in one run: 100,000 links against a chain of 100,000
-# records, each of another record. The time with an empty source, which is that of opening the file, is taken off; the fastest of
-# three runs each. The file and the links lie in memory (/dev/shm). Two workers are to be 1.6 times as fast as one, and four
-# 2.5 times, where four processors are free. What one worker still does alone: the source is read and cut, and the text printed.
+# records, each of another record. The time with an empty source, which is that of opening the file, is taken off; turns of each kind
+# alternate, and the fastest count. The file and the links lie in memory (/dev/shm). Two workers are to be 1.6 times as fast as one, and
+# four 2.5 times, where four processors are free. What one worker still does alone: the source is read and cut, and the text printed.
 # Its peer is the machine itself: so many programs of one worker each, beside each other, and what they do together in the time of one.
-# Run by hand, on a machine that does nothing else: bench/check.sh [LINKS].
+# Run by hand, on a machine that does nothing else: bench/check.sh [LINKS] [TURNS].
 set -eu
 root=$(CDPATH= cd -- "$(dirname -- "$0")/.." && pwd)
 links=${1:-100000}
+turns=${2:-9}
 work=$(mktemp -d /dev/shm/check.XXXXXX)
 trap 'rm -rf "$work"' EXIT
 
@@ -26,42 +27,47 @@ microseconds() {
     echo $(($(date +%s%N) / 1000))
 }
 
-# The fastest of three runs with so many workers on this source.
+# Notes the time of a run with so many workers on this source.
 timed() {
-    for _ in 1 2 3; do
-        begun=$(microseconds)
-        "$program" check "$work/shop.chain" "$1" <"$2" >"$work/text"
-        echo $(($(microseconds) - begun))
-    done | sort -n | head -n 1
+    begun=$(microseconds)
+    "$program" check "$work/shop.chain" "$1" <"$2" >"$work/text"
+    echo $(($(microseconds) - begun)) >>"$work/$3"
 }
 
-opened=$(timed 1 /dev/null)
-one=0
+# Notes the time in which so many programs of one worker each, started together, have all ended.
+beside() {
+    begun=$(microseconds)
+    n=0
+    while [ "$n" -lt "$1" ]; do
+        n=$((n + 1))
+        "$program" check "$work/shop.chain" 1 <"$work/links" >"$work/text.$n" &
+    done
+    wait
+    echo $(($(microseconds) - begun)) >>"$work/beside.$1"
+}
+
+turn=0
+while [ "$turn" -lt "$turns" ]; do
+    turn=$((turn + 1))
+    timed 1 /dev/null opened
+    for workers in 1 2 4; do
+        timed "$workers" "$work/links" "workers.$workers"
+        cmp -s "$work/text" "$work/wanted" || { echo "a wrong answer" >&2; exit 1; }
+    done
+    for programs in 1 2 4; do beside "$programs"; done
+done
+
+least() {
+    sort -n "$work/$1" | head -n 1
+}
+
+opened=$(least opened)
+one=$(($(least workers.1) - opened))
 for workers in 1 2 4; do
-    took=$(timed "$workers" "$work/links")
-    cmp -s "$work/text" "$work/wanted" || { echo "a wrong answer" >&2; exit 1; }
-    took=$((took - opened))
-    [ "$one" != 0 ] || one=$took
+    took=$(($(least "workers.$workers") - opened))
     echo "$workers workers: $((links * 1000000 / took)) links a second, $((one * 100 / took)) hundredths of one worker's"
 done
 echo "opening takes $opened microseconds"
-
-# The fastest of three times in which so many programs of one worker each, started together, have all ended.
-beside() {
-    for _ in 1 2 3; do
-        begun=$(microseconds)
-        n=0
-        while [ "$n" -lt "$1" ]; do
-            n=$((n + 1))
-            "$program" check "$work/shop.chain" 1 <"$work/links" >"$work/text.$n" &
-        done
-        wait
-        echo $(($(microseconds) - begun))
-    done | sort -n | head -n 1
-}
-
-alone=$(beside 1)
 for programs in 2 4; do
-    took=$(beside "$programs")
-    echo "$programs programs beside each other: $((alone * programs * 100 / took)) hundredths of what one does alone"
+    echo "$programs programs beside each other: $(($(least beside.1) * programs * 100 / $(least "beside.$programs"))) hundredths of what one does alone"
 done
