@@ -2,7 +2,7 @@
 # How many scanned links a second `check` answers with 1, 2 and 4 workers in one run: 100,000 links against a chain of 100,000
 # records, each of another record. The time with an empty source, which is that of opening the file, is taken off; turns of each kind
 # alternate, and the fastest count. The file and the links lie in memory (/dev/shm). Two workers are to be 1.6 times as fast as one, and
-# four 2.5 times, where four processors are free. What one worker still does alone: the source is read and cut, and the text printed.
+# four 2.5 times, where four processors are free. What one worker still does alone: the source is read, and the texts joined and printed.
 # Its peer is the machine itself: so many programs of one worker each, beside each other, and what they do together in the time of one.
 # Run by hand, on a machine that does nothing else: bench/check.sh [LINKS] [TURNS].
 set -eu
