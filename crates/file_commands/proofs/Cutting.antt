@@ -24,7 +24,7 @@ none_at false n e = refl
 not_below : (a b : ℕ) → nat_lt a b ≡ false → b ≤ a
 not_below a b e = grind (arith, nat_tests)
 
-rest_is : (text : List ℕ) (at : ℕ) → take (length text - at) (drop at text) ≡ drop at text
+pub rest_is : (text : List ℕ) (at : ℕ) → take (length text - at) (drop at text) ≡ drop at text
 rest_is text at = rw (← length-drop at text) (take-length (drop at text))
 
 -- what is left behind the LF at this place
@@ -48,7 +48,7 @@ cut_nowhere text e =
     slice_split_none (λ b. b == 10) text (λ k d h. fails_before_first (λ b. b == 10) text k d (omega arith))
 
 -- before another part each stands
-part_stands : (part : List ℕ) (parts : List (List ℕ)) → 0 < length parts →
+pub part_stands : (part : List ℕ) (parts : List (List ℕ)) → 0 < length parts →
     without_empty_end (part ∷ parts) ≡ part ∷ without_empty_end parts
 part_stands part [] h = absurd (omega arith)
 part_stands [] (p ∷ parts) h = refl

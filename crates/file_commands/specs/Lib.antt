@@ -1,6 +1,7 @@
 pub mod Output
 pub mod Input
 pub mod Lines
+pub mod Answering
 pub mod Auditing
 pub mod Linking
 pub mod Checking

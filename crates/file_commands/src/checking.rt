@@ -10,11 +10,12 @@ ghost use Rattle.link_check.specs.declared.all.TheConstants.{MAX_WORKERS};
 ghost use Rattle.file_commands.specs.Checking.{AnswersFrom, AnswersPrinted, AreTold, CheckEnds};
 ghost use Rattle.file_commands.specs.Lines.{lines_of};
 
+use crate::answering::answered;
 use crate::input::{InputFault, read_input};
 use crate::lines::read_lines;
 use crate::output::print;
 use chain_disk::Disk;
-use link_check::{CheckedList, check_all, check_unbegun, checks_text};
+use link_check::{CheckedList, check_unbegun, checks_text};
 use ports::{NoMemory, Sink, Source};
 use report::{Detail, Ended};
 use shop_core::{FileRead, ReadFault, State, a_broken_file_is_damaged, read_file};
@@ -104,12 +105,8 @@ fn check_in<K: Sink, R: Threads + Sync>(
     ensures { AnswersPrinted (begun state.now.issuer state.now.entries) (lines_of bytes.now)
         (this_sink K.taken K.faults sink.old sink.new) result }
 {
-    let lines = match read_lines(alloc, bytes) {
-        Ok(lines) => lines,
-        Err(NoMemory) => return Detail::NoMemory,
-    };
-    match check_all(rt, alloc, state, &lines, workers) {
-        Ok(answers) => print_answers(alloc, &answers, sink),
+    match answered(rt, alloc, workers, bytes, state) {
+        Ok(text) => print(text.as_slice(), Detail::Done, sink),
         Err(NoMemory) => Detail::NoMemory,
     }
 }

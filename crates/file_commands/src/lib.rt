@@ -4,6 +4,7 @@
 //! memory.
 #![tactic(auto)]
 
+mod answering;
 mod auditing;
 mod checking;
 mod exporting;

@@ -1,5 +1,5 @@
 // The lines of a source.
-ghost use Rattle.std.specs.Prelude.{◌≡◌, ◌≢◌, ◌<◌, ◌==◌, [], ◌∷◌, IfOk, MatchOption, length, position};
+ghost use Rattle.std.specs.Prelude.{◌≡◌, ◌≢◌, ◌<◌, ◌≤◌, ◌==◌, [], ◌∷◌, ◌++◌, IfOk, MatchOption, flat_map, length, position};
 ghost use Rattle.std.specs.Str.Lines.{strip_carriage_return};
 ghost use Rattle.file_commands.specs.Lines.{lines_of};
 
@@ -20,6 +20,33 @@ pub(crate) fn read_lines(alloc: Global, bytes: &[u8]) -> Result<ScannedLines, No
         rest = after;
     }
     Ok(ScannedLines::of(lines))
+}
+
+/// The bytes in pieces, each cut behind a line's end, that hold so many bytes at least, but the last one.
+pub(crate) fn cut(alloc: Global, bytes: &[u8], size: usize) -> Result<Vec<&[u8]>, NoMemory>
+    ensures { IfOk result (λ pieces. flat_map (λ p. lines_of p.now) pieces.items ≡ lines_of bytes.now) }
+{
+    let mut pieces = Vec::new(alloc);
+    let mut rest = bytes;
+    while rest.len() > size {
+        let (piece, after) = split_behind_line(rest, size);
+        pieces.push(piece)?;
+        rest = after;
+    }
+    pieces.push(rest)?;
+    Ok(pieces)
+}
+
+// What goes up to the first LF at this place or behind it, and what is left.
+fn split_behind_line(text: &[u8], at: usize) -> (&[u8], &[u8])
+    requires { at ≤ length text.now }
+    ensures lines { lines_of text.now ≡ lines_of result.0.now ++ lines_of result.1.now }
+    ensures shorter { at < length text.now → length result.1.now < length text.now }
+{
+    match place_of_lf(&text[at..]) {
+        Some(more) => text.split_at(at + more + 1),
+        None => (text, &[]),
+    }
 }
 
 /// The first line, and what is left behind its LF; None where there is no line.
