@@ -23,7 +23,7 @@ pub fn read_input<S: Source>(alloc: Global, source: &mut S) -> Result<Vec<u8>, I
     ensures later { S.faults source.old ≤ S.faults source.new }
 {
     let mut bytes = Vec::new(alloc);
-    let mut buf = [0u8; 4096];
+    let mut buf = [0u8; 65_536];
     for _turn in 0..=MAX_INPUT {
         let Ok(count) = source.read(&mut buf) else {
             return Err(InputFault::ReadFault);

@@ -7,6 +7,6 @@ invariant-loop-turn g l = record {
   given : Consumes (g.S.Source.left l.initial.source) (g.S.Source.left l.source) l.bytes.items;
   turns : l._turn ≤ vec_len l.bytes;
   size : vec_len l.bytes ≤ 16777216;
-  room : length l.buf ≡ 4096;
+  room : length l.buf ≡ 65536;
   later : g.S.Source.faults l.initial.source ≤ g.S.Source.faults l.source;
 }
