@@ -1,5 +1,5 @@
-//! No program's: tests of files that are cut or changed in one byte, of those that are moved while a device fails, and of links whose
-//! source, sink or file fails.
+//! No program's: tests of files that are cut or changed in one byte, of those that are moved while a device fails, of links whose
+//! source, sink or file fails, and of those that many workers answer.
 #![tactic(auto)]
 
 #[cfg(test)]
@@ -8,5 +8,7 @@ mod audits;
 mod checks;
 #[cfg(test)]
 mod files;
+#[cfg(test)]
+mod links;
 #[cfg(test)]
 mod moves;
