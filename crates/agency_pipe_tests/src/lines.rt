@@ -4,6 +4,7 @@ use agency_pipe::{Unheard, begin_line, consult_line, read_reply, read_seen, subm
 use agency_port::{ReplyLine, Seen, State3};
 use batches::Huellas;
 use record_fields::{Cause, Line};
+use rows::holds;
 use std::test::Fail;
 use verify_link::Host;
 
@@ -12,15 +13,18 @@ fn messages_are_written(rt: HostRuntime) -> Result<(), Fail> {
     let alloc = rt.alloc();
     let batch = batch(alloc)?;
     let huellas = Huellas::of(alloc, batch.as_slice())?;
-    assert_eq!(rt; begin_line(alloc, &nif()?, 0)?.as_slice(), BEGIN.as_bytes());
-    assert_eq!(rt;
-        submit_line(alloc, 7, Host::Real, &batch)?.as_slice(),
-        SUBMISSION.as_bytes()
-    );
-    assert_eq!(rt;
-        consult_line(alloc, 8, &huellas)?.as_slice(),
-        CONSULTATION.as_bytes()
-    );
+    let begin = begin_line(alloc, &nif()?, 0)?;
+    holds(begin.as_slice() == BEGIN.as_bytes(), "a beginning")?;
+    let submission = submit_line(alloc, 7, Host::Real, &batch)?;
+    holds(
+        submission.as_slice() == SUBMISSION.as_bytes(),
+        "a submission",
+    )?;
+    let consultation = consult_line(alloc, 8, &huellas)?;
+    holds(
+        consultation.as_slice() == CONSULTATION.as_bytes(),
+        "a consultation",
+    )?;
     Ok(())
 }
 
@@ -60,10 +64,10 @@ fn replies_are_read(rt: HostRuntime) -> Result<(), Fail> {
         let text = with_huella(alloc, &text)?;
         let reply = read_reply(alloc, 7, &batch, text.as_bytes())
             .ok()
-            .ok_or("no reply")?;
-        assert_eq!(rt; reply.lines().as_slice(), [line].as_slice());
-        assert_eq!(rt; reply.wait(), 60);
-        assert!(rt; reply.huellas().are_of(batch.as_slice()));
+            .ok_or(words)?;
+        holds(reply.lines().as_slice() == [line].as_slice(), words)?;
+        holds(reply.wait() == 60, words)?;
+        holds(reply.huellas().are_of(batch.as_slice()), words)?;
     }
     Ok(())
 }
@@ -151,34 +155,33 @@ fn other_lines_are_no_replies(rt: HostRuntime) -> Result<(), Fail> {
     let batch = batch(alloc)?;
     for (line, why) in OTHERS {
         let text = with_huella(alloc, line)?;
-        match read_reply(alloc, 7, &batch, text.as_bytes()) {
-            Ok(_) => return Err(Fail::from("a reply")),
-            Err(other) => assert_eq!(rt; other, why),
-        }
+        let other = read_reply(alloc, 7, &batch, text.as_bytes()).err();
+        holds(other == Some(why), line)?;
     }
     Ok(())
 }
+
+const SEEN: [(&str, Seen); 2] = [
+    (
+        " { \"seen\" : [ [ \"H\" , \"not-seen\" , 0 ] ] , \"x\" : 1 , \"n\" : 7 } ",
+        Seen::NotSeen,
+    ),
+    (
+        "{\"n\":1,\"n\":7,\"seen\":[[\"H\",\"vet\",3000]]}",
+        Seen::Was(Line::Incorrecto(Cause::Vet(3000))),
+    ),
+];
 
 #[test]
 fn what_was_seen_is_read(rt: HostRuntime) -> Result<(), Fail> {
     let alloc = rt.alloc();
     let huellas = Huellas::of(alloc, batch(alloc)?.as_slice())?;
-    let said = [
-        (
-            " { \"seen\" : [ [ \"H\" , \"not-seen\" , 0 ] ] , \"x\" : 1 , \"n\" : 7 } ",
-            Seen::NotSeen,
-        ),
-        (
-            "{\"n\":1,\"n\":7,\"seen\":[[\"H\",\"vet\",3000]]}",
-            Seen::Was(Line::Incorrecto(Cause::Vet(3000))),
-        ),
-    ];
-    for (line, seen) in said {
+    for (line, seen) in SEEN {
         let text = with_huella(alloc, line)?;
         let list = read_seen(alloc, 7, &huellas, text.as_bytes())
             .ok()
-            .ok_or("not seen")?;
-        assert_eq!(rt; list.as_slice(), [seen].as_slice());
+            .ok_or(line)?;
+        holds(list.as_slice() == [seen].as_slice(), line)?;
     }
     Ok(())
 }

@@ -9,6 +9,7 @@ use agency_rules::Plan;
 use batches::Huellas;
 use ports::{MemSink, MemSource};
 use record_fields::Line;
+use rows::holds;
 use std::alloc::Global;
 use std::test::Fail;
 use verify_link::Host;
@@ -125,21 +126,28 @@ const FAULT: Came = Came::Failed(Quiet::Deaf(Deaf::Line(Unheard::Fault)));
 
 const END: Came = Came::Failed(Quiet::Deaf(Deaf::End));
 
+// The answers to a submission and two consultations, and what comes of them.
+const TALKS: [(&str, &str, [Came; 3]); 2] = [
+    ("all", ALL, [Came::Accepted, Came::Accepted, Came::NotSeen]),
+    ("others", OTHERS, [Came::Accepted, FAULT, END]),
+];
+
+const SAID: [&str; 4] = [BEGIN, SUBMISSION, CONSULTATION, CONSULTATION_9];
+
+const SAID_AGAIN: [&str; 5] = [BEGIN, SUBMISSION, CONSULTATION, BEGIN, CONSULTATION_9];
+
 #[test]
 fn an_agency_speaks_over_streams(rt: HostRuntime) -> Result<(), Fail> {
     let alloc = rt.alloc();
-    let heard = [Came::Accepted, Came::Accepted, Came::NotSeen];
-    let said = [BEGIN, SUBMISSION, CONSULTATION, CONSULTATION_9];
-    for (answers, wanted) in [(ALL, heard), (OTHERS, [Came::Accepted, FAULT, END])] {
+    for (row, answers, wanted) in TALKS {
         let (came, bytes) = talked(alloc, answers, 0, 0)?;
-        assert_eq!(rt; came, wanted);
-        assert!(rt; are(&bytes, &said));
+        holds(came == wanted, row)?;
+        holds(are(&bytes, &SAID), row)?;
     }
     let ([first, second, third], bytes) = talked(alloc, ENDED, 0, 0)?;
-    assert_eq!(rt; (first, second), (Came::Accepted, END));
-    assert!(rt; matches!(third, Came::Failed(_)));
-    let said = [BEGIN, SUBMISSION, CONSULTATION, BEGIN, CONSULTATION_9];
-    assert!(rt; are(&bytes, &said));
+    holds(first == Came::Accepted && second == END, "an end")?;
+    holds(matches!(third, Came::Failed(_)), "behind the end")?;
+    holds(are(&bytes, &SAID_AGAIN), "a session again")?;
     Ok(())
 }
 
@@ -149,14 +157,14 @@ fn answers_to_earlier_messages_are_passed_over(rt: HostRuntime) -> Result<(), Fa
     let most = "{\"n\":6}\n".repeat(alloc, PASSED_OVER as usize - 1)?;
     let answers = format!(in alloc; "{most}{ALL}")?;
     let (came, _) = talked(alloc, answers.as_str(), 0, 0)?;
-    assert_eq!(rt; came, [Came::Accepted, Came::Accepted, Came::NotSeen]);
-    // One more.
+    let heard = [Came::Accepted, Came::Accepted, Came::NotSeen];
+    holds(came == heard, "as many as may be")?;
     let answers = format!(in alloc; "{{\"n\":6}}\n{most}{ALL}")?;
     let (came, bytes) = talked(alloc, answers.as_str(), 0, 0)?;
     let deaf = Came::Failed(Quiet::Deaf(Deaf::Earlier));
-    assert_eq!(rt; came, [deaf, Came::Accepted, Came::NotSeen]);
-    let said = [BEGIN, SUBMISSION, CONSULTATION, CONSULTATION_9];
-    assert!(rt; are(&bytes, &said));
+    let heard = [deaf, Came::Accepted, Came::NotSeen];
+    holds(came == heard, "one more")?;
+    holds(are(&bytes, &SAID), "what was said")?;
     Ok(())
 }
 
@@ -171,44 +179,52 @@ fn a_line_may_be_so_long(rt: HostRuntime) -> Result<(), Fail> {
     let long = Came::Failed(Quiet::Deaf(Deaf::TooLong));
     // What is left of the line is its LF.
     let left = Came::Failed(Quiet::Deaf(Deaf::Line(Unheard::Json)));
-    assert_eq!(rt; came, [Came::Accepted, long, left]);
+    holds(came == [Came::Accepted, long, left], "one longer")?;
     Ok(())
 }
 
+const MISSED: Came = Came::Failed(Quiet::Sink);
+
+// Which write fails, what comes of the messages, and what is said.
+const WRITES: [(&str, u64, [Came; 3], &[&str]); 5] = [
+    (
+        "write 1",
+        1,
+        [MISSED, Came::Accepted, Came::NotSeen],
+        &[BEGIN, CONSULTATION, CONSULTATION_9],
+    ),
+    (
+        "write 2",
+        2,
+        [MISSED, Came::Accepted, Came::NotSeen],
+        &[BEGIN, CONSULTATION, CONSULTATION_9],
+    ),
+    (
+        "write 3",
+        3,
+        [MISSED, Came::Accepted, Came::NotSeen],
+        &[BEGIN, BEGIN, CONSULTATION, CONSULTATION_9],
+    ),
+    (
+        "write 4",
+        4,
+        [Came::Accepted, MISSED, Came::NotSeen],
+        &[BEGIN, SUBMISSION, BEGIN, CONSULTATION_9],
+    ),
+    (
+        "write 5",
+        5,
+        [Came::Accepted, Came::Accepted, MISSED],
+        &[BEGIN, SUBMISSION, CONSULTATION],
+    ),
+];
+
 #[test]
 fn each_write_fails_in_turn(rt: HostRuntime) -> Result<(), Fail> {
-    let missed = Came::Failed(Quiet::Sink);
-    let rows = [
-        (
-            1,
-            [missed, Came::Accepted, Came::NotSeen],
-            [BEGIN, CONSULTATION, CONSULTATION_9].as_slice(),
-        ),
-        (
-            2,
-            [missed, Came::Accepted, Came::NotSeen],
-            &[BEGIN, CONSULTATION, CONSULTATION_9],
-        ),
-        (
-            3,
-            [missed, Came::Accepted, Came::NotSeen],
-            &[BEGIN, BEGIN, CONSULTATION, CONSULTATION_9],
-        ),
-        (
-            4,
-            [Came::Accepted, missed, Came::NotSeen],
-            &[BEGIN, SUBMISSION, BEGIN, CONSULTATION_9],
-        ),
-        (
-            5,
-            [Came::Accepted, Came::Accepted, missed],
-            &[BEGIN, SUBMISSION, CONSULTATION],
-        ),
-    ];
-    for (call, wanted, said) in rows {
+    for (row, call, wanted, said) in WRITES {
         let (came, bytes) = talked(rt.alloc(), ALL, 0, call)?;
-        assert_eq!(rt; came, wanted, "write {call}");
-        assert!(rt; are(&bytes, said), "write {call}");
+        holds(came == wanted, row)?;
+        holds(are(&bytes, said), row)?;
     }
     Ok(())
 }
@@ -219,14 +235,15 @@ fn each_read_of_an_answer_fails_in_turn(rt: HostRuntime) -> Result<(), Fail> {
     let bytes = with_huella(alloc, REPLY_7)?.len() as u64;
     let source = Came::Failed(Quiet::Deaf(Deaf::Source));
     let json = Came::Failed(Quiet::Deaf(Deaf::Line(Unheard::Json)));
+    let closed = Came::Failed(Quiet::Closed);
     for call in 1..bytes.saturating_add(2) {
-        let wanted = match call {
-            1 => [Came::Failed(Quiet::Closed), Came::Accepted, Came::NotSeen],
-            2 => [source, Came::Accepted, Came::NotSeen],
-            _ => [source, json, Came::NotSeen],
+        let (row, wanted) = match call {
+            1 => ("read 1", [closed, Came::Accepted, Came::NotSeen]),
+            2 => ("read 2", [source, Came::Accepted, Came::NotSeen]),
+            _ => ("a later read", [source, json, Came::NotSeen]),
         };
         let (came, _) = talked(alloc, ALL, call, 0)?;
-        assert_eq!(rt; came, wanted, "read {call}");
+        holds(came == wanted, row)?;
     }
     Ok(())
 }
@@ -248,11 +265,11 @@ fn told(alloc: Global, fault: &str) -> Result<Option<String>, Fail> {
 fn a_fault_is_told_in_its_own_words(rt: HostRuntime) -> Result<(), Fail> {
     let alloc = rt.alloc();
     let late = told(alloc, "\"late\\u0007 \u{f1}\"")?.ok_or("words")?;
-    assert_eq!(rt; late.as_str(), "late? \u{f1}");
+    holds(late.as_str() == "late? \u{f1}", "late")?;
     let most = "a".repeat(alloc, 200)?;
     let cut = told(alloc, format!(in alloc; "\"{most}a\"")?.as_str())?.ok_or("words")?;
-    assert_eq!(rt; cut.as_str(), most.as_str());
-    assert!(rt; told(alloc, "1")?.is_none());
+    holds(cut.as_str() == most.as_str(), "words too long")?;
+    holds(told(alloc, "1")?.is_none(), "no words")?;
     Ok(())
 }
 
@@ -264,9 +281,10 @@ fn a_file_that_is_missing_is_a_fault(rt: HostRuntime) -> Result<(), Fail> {
     let sink = PipeSink::at(&rt, String::from_str(alloc, "no/messages")?);
     let mut agency = PipeAgency::new(alloc, source, sink, nif()?, Host::Real, 7)?;
     may_cross_threads(&agency);
-    assert!(rt; agency.reason().is_none());
-    assert!(rt; matches!(agency.submit(alloc, &batch), Err(AgencyFault::Failed)));
-    assert_eq!(rt; agency.trouble(), Some(Quiet::Sink));
-    assert_eq!(rt; agency.reason(), Some("no such file"));
+    holds(agency.reason().is_none(), "no reason yet")?;
+    let failed = matches!(agency.submit(alloc, &batch), Err(AgencyFault::Failed));
+    holds(failed, "a submission")?;
+    holds(agency.trouble() == Some(Quiet::Sink), "its trouble")?;
+    holds(agency.reason() == Some("no such file"), "its reason")?;
     Ok(())
 }

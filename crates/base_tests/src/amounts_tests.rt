@@ -1,4 +1,5 @@
 use amounts::*;
+use rows::holds;
 use std::test::Fail;
 
 fn tax(base: i64, rate: u16) -> Option<i64> {
@@ -8,29 +9,36 @@ fn tax(base: i64, rate: u16) -> Option<i64> {
     }
 }
 
+// A base, a rate and the tax.
+const TAXES: [(&str, i64, u16, i64); 4] = [
+    ("5 by 1000", 5, 1000, 1),
+    ("-5 by 1000", -5, 1000, -1),
+    ("12 by 400", 12, 400, 0),
+    ("10000 by 2100", 10_000, 2100, 2100),
+];
+
 #[test]
-fn taxes_round_half_away_from_zero(rt: HostRuntime) -> Result<(), Fail> {
-    assert_eq!(rt; tax(5, 1000), Some(1));
-    assert_eq!(rt; tax(-5, 1000), Some(-1));
-    assert_eq!(rt; tax(12, 400), Some(0));
-    assert_eq!(rt; tax(10_000, 2100), Some(2100));
+fn taxes_round_half_away_from_zero() -> Result<(), Fail> {
+    for (row, base, rate, wanted) in TAXES {
+        holds(tax(base, rate) == Some(wanted), row)?;
+    }
     Ok(())
 }
 
+const AMOUNTS: [(&str, Result<i64, AmountFault>); 5] = [
+    ("-0.00", Err(AmountFault::Shape)),
+    ("100000000000.00", Err(AmountFault::Range)),
+    ("99999999999.99", Ok(9_999_999_999_999)),
+    ("00.00", Err(AmountFault::Shape)),
+    ("1.0", Err(AmountFault::Shape)),
+];
+
 #[test]
-fn amounts_are_written_and_read(rt: HostRuntime) -> Result<(), Fail> {
-    if let Some(amount) = Cents::new(-5) {
-        let text = text_of(amount);
-        let wanted: &[u8] = b"-0.05";
-        assert!(rt; text.as_slice() == wanted);
+fn amounts_are_written_and_read() -> Result<(), Fail> {
+    let text = text_of(Cents::new(-5).ok_or("an amount")?);
+    holds(text.as_slice() == b"-0.05".as_slice(), "-0.05")?;
+    for (text, wanted) in AMOUNTS {
+        holds(read_cents(text).map(|c| c.get()) == wanted, text)?;
     }
-    assert!(rt; read_cents("-0.00") == Err(AmountFault::Shape));
-    assert!(rt; read_cents("100000000000.00") == Err(AmountFault::Range));
-    assert_eq!(rt;
-        read_cents("99999999999.99").map(|c| c.get()),
-        Ok(9_999_999_999_999)
-    );
-    assert!(rt; read_cents("00.00") == Err(AmountFault::Shape));
-    assert!(rt; read_cents("1.0") == Err(AmountFault::Shape));
     Ok(())
 }

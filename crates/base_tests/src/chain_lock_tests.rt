@@ -2,6 +2,7 @@ ghost use Rattle.std.specs.Prelude.{◌≡◌};
 ghost use Rattle.chain_lock.specs.Words.{known, lock_id, pass_lock};
 
 use chain_lock::*;
+use rows::holds;
 use std::alloc::{AllocError, Global};
 use std::process::Abort;
 use std::sync::Wait;
@@ -168,6 +169,17 @@ fn three_threads<R: Threads + Wait + Sync>(
     })
 }
 
+// Fails where the items from `start` on don't stand at these places.
+fn are_at(items: &[u64], places: &[u64], start: u64) -> Result<(), Fail> {
+    holds(places.len() == 1_000, "the places")?;
+    for k in 0..1_000usize {
+        let place = places.get(k).copied().ok_or("no place")?;
+        let item = items.get(place as usize).copied();
+        holds(item == Some(start.wrapping_add(k as u64)), "an item")?;
+    }
+    Ok(())
+}
+
 #[test]
 fn two_threads_add_and_a_third_glances(rt: HostRuntime) -> Result<(), Fail> {
     let items = Vec::with_capacity(rt.alloc(), 2_000)?;
@@ -175,23 +187,16 @@ fn two_threads_add_and_a_third_glances(rt: HostRuntime) -> Result<(), Fail> {
     let second = Vec::with_capacity(rt.alloc(), 1_000)?;
     match three_threads(&rt, rt.alloc(), Ledger { name: 7, items }, first, second) {
         Ok(told) => {
-            assert_eq!(rt; told.ledger.name, 7);
-            assert_eq!(rt; told.ledger.items.len(), 2_000);
-            assert_eq!(rt; told.last, 2_000);
-            assert!(rt; !told.fell);
-            let own = [(&told.first, 0), (&told.second, TURNS)];
-            for (places, start) in own {
-                assert_eq!(rt; places.len(), 1_000);
-                for k in 0..1_000usize {
-                    let place = places.get(k).copied().ok_or("no place")?;
-                    let item = told.ledger.items.get(place as usize).copied();
-                    assert_eq!(rt; item, Some(start + k as u64));
-                }
-            }
-            Ok(())
+            holds(told.ledger.name == 7, "the name")?;
+            holds(told.ledger.items.len() == 2_000, "the items")?;
+            holds(told.last == 2_000, "the last glance")?;
+            holds(!told.fell, "the glances")?;
+            are_at(&told.ledger.items, &told.first, 0)?;
+            are_at(&told.ledger.items, &told.second, TURNS)
         }
         Err(refused) => {
-            assert!(rt; refused.value.name == 7 && refused.value.items.is_empty());
+            let Ledger { name, items } = refused.value;
+            holds(name == 7 && items.is_empty(), "the ledger is back")?;
             Err(Fail::from(AllocError))
         }
     }
@@ -208,6 +213,7 @@ fn a_pass_tells_another_of_how_many_items_it_knows(rt: HostRuntime) -> Result<()
     };
     let place = lock.turn(&rt, &mut from, &mut Add { item: 5 });
     lock.inform(&mut from, &mut to);
-    assert_eq!(rt; (place, lock.glance(&mut to)), (Some(0), 1));
+    holds(place == Some(0), "its place")?;
+    holds(lock.glance(&mut to) == 1, "the other's glance")?;
     Ok(())
 }

@@ -1,5 +1,6 @@
 use invoice_kinds::Need::{May, Must, Never};
 use invoice_kinds::*;
+use rows::holds;
 use std::test::Fail;
 
 // A kind, and what it needs of a customer, a sort of correction and references.
@@ -14,20 +15,22 @@ const KINDS: [(&str, Need, Need, Need); 8] = [
     ("R5", Never, Must, May),
 ];
 
+const NO_KINDS: [&str; 6] = ["", "F", "F4", "f1", "R6", "F1 "];
+
 #[test]
-fn each_kind_has_its_code_and_needs(rt: HostRuntime) -> Result<(), Fail> {
+fn each_kind_has_its_code_and_needs() -> Result<(), Fail> {
     for (text, customer, rect, refs) in KINDS {
         let kind = Kind::read(text).ok_or("no kind")?;
-        assert!(rt; kind.text() == text, "{text}");
+        holds(kind.text() == text, text)?;
         let wanted = Needs {
             customer,
             rect,
             refs,
         };
-        assert!(rt; needs(kind) == wanted, "{text}");
+        holds(needs(kind) == wanted, text)?;
     }
-    for text in ["", "F", "F4", "f1", "R6", "F1 "] {
-        assert!(rt; Kind::read(text).is_none(), "{text}");
+    for text in NO_KINDS {
+        holds(Kind::read(text).is_none(), text)?;
     }
     Ok(())
 }

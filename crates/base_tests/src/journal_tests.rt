@@ -9,6 +9,7 @@ use journal::{
 use parties::Nif;
 use ports::Failed;
 use record_fields::Version;
+use rows::holds;
 use std::alloc::Global;
 use std::test::Fail;
 
@@ -41,7 +42,7 @@ fn read_as<D: Disk>(disk: &mut D) -> Result<Reading, Failed> {
 }
 
 // Whether the disk holds exactly these bytes.
-fn holds<D: Disk>(disk: &mut D, want: &[u8]) -> Result<bool, Failed> {
+fn has_bytes<D: Disk>(disk: &mut D, want: &[u8]) -> Result<bool, Failed> {
     let mut buf = [0; 48];
     let n = disk.read_at(0, &mut buf)?;
     Ok(n <= 48 && &buf[..n] == want)
@@ -64,6 +65,14 @@ fn created(alloc: Global, failing: u64) -> Result<Journal<MemDisk>, Fail>
     match create(alloc, failing)? {
         Ok(journal) => Ok(journal),
         Err(_) => Err(Fail::from("lost")),
+    }
+}
+
+// The disk of a creation that failed at the call of this number.
+fn lost(alloc: Global, failing: u64) -> Result<MemDisk, Fail> {
+    match create(alloc, failing)? {
+        Ok(_) => Err(Fail::from("created")),
+        Err(Lost { disk }) => Ok(disk),
     }
 }
 
@@ -99,20 +108,39 @@ fn images_read_as(
 }
 
 #[test]
-fn a_journal_is_created_written_and_read(rt: HostRuntime) -> Result<(), Fail> {
+fn a_journal_is_created_and_written(rt: HostRuntime) -> Result<(), Fail> {
     let mut journal = created(rt.alloc(), 0)?;
-    assert_eq!(rt; append(&mut journal, b"abc"), Ok(27));
-    assert_eq!(rt; append(&mut journal, b"def"), Ok(35));
-    assert_eq!(rt; journal.stopped(), None);
+    holds(append(&mut journal, b"abc") == Ok(27), "abc added")?;
+    holds(append(&mut journal, b"def") == Ok(35), "def added")?;
+    holds(journal.stopped().is_none(), "it goes on")?;
     let mut disk = journal.into_disk();
-    let wanted = b"\x01VFCHAIN1\x02B12345674\x01\x00\x00\x00\x03abc\x01\x00\x00\x00\x03def\x00";
-    assert!(rt; holds(&mut disk, wanted)?);
+    holds(has_bytes(&mut disk, TWO_BODIES)?, "the file")?;
+    Ok(())
+}
+
+const TWO_BODIES: &[u8] =
+    b"\x01VFCHAIN1\x02B12345674\x01\x00\x00\x00\x03abc\x01\x00\x00\x00\x03def\x00";
+
+// A place in this file, what stands there, and its body.
+const STEPS: [(&str, u32, Step, Option<&[u8]>); 4] = [
+    ("abc", 19, Step::Counted { next: 27 }, Some(b"abc")),
+    ("def", 27, Step::Counted { next: 35 }, Some(b"def")),
+    ("the end", 35, Step::Closed, None),
+    ("past the end", 36, Step::Damaged, None),
+];
+
+#[test]
+fn a_journal_is_read(rt: HostRuntime) -> Result<(), Fail> {
+    let alloc = rt.alloc();
+    let mut disk = MemDisk::new(alloc, TWO_BODIES.to_vec(alloc)?, Vec::new(alloc));
     let mut body = FrameBuf::new();
-    assert_eq!(rt; scan(&mut disk, 19, &mut body)?, Step::Counted { next: 27 });
-    assert_eq!(rt; body.as_slice(), b"abc".as_slice());
-    assert_eq!(rt; scan(&mut disk, 27, &mut body)?, Step::Counted { next: 35 });
-    assert_eq!(rt; scan(&mut disk, 35, &mut body)?, Step::Closed);
-    assert_eq!(rt; scan(&mut disk, 36, &mut body)?, Step::Damaged);
+    for (row, at, wanted, read) in STEPS {
+        let step = scan(&mut disk, u64::from(at), &mut body)?;
+        holds(step == wanted, row)?;
+        if let Some(bytes) = read {
+            holds(body.as_slice() == bytes, row)?;
+        }
+    }
     Ok(())
 }
 
@@ -127,35 +155,29 @@ fn long_file(alloc: Global) -> Result<MemDisk, Fail> {
     Ok(MemDisk::new(alloc, file, Vec::new(alloc)))
 }
 
+fn is_filled(body: &FrameBuf, with: u8) -> bool {
+    body.as_slice() == [with; 4096].as_slice()
+}
+
 #[test]
 fn frames_are_found_in_what_was_read_ahead_and_past_it(rt: HostRuntime) -> Result<(), Fail> {
     let mut disk = long_file(rt.alloc())?;
     let mut ahead = ReadAhead::new();
     let mut body = FrameBuf::new();
-    assert_eq!(rt;
-        scan_ahead(&mut disk, &mut ahead, 19, &mut body)?,
-        Step::Counted { next: 4120 }
-    );
-    assert_eq!(rt; body.as_slice(), [0; 4096].as_slice());
-    assert_eq!(rt;
-        scan_ahead(&mut disk, &mut ahead, 4120, &mut body)?,
-        Step::Counted { next: 8221 }
-    );
-    assert_eq!(rt; body.as_slice(), [1; 4096].as_slice());
-    // The sixteenth frame ends past the first 65,536 bytes behind the header.
-    assert_eq!(rt;
-        scan_ahead(&mut disk, &mut ahead, 61_534, &mut body)?,
-        Step::Counted { next: 65_635 }
-    );
-    assert_eq!(rt; body.as_slice(), [15; 4096].as_slice());
-    assert_eq!(rt;
-        scan_ahead(&mut disk, &mut ahead, 82_039, &mut body)?,
-        Step::Closed
-    );
-    assert_eq!(rt;
-        scan_ahead(&mut disk, &mut ahead, 82_040, &mut body)?,
-        Step::Damaged
-    );
+    let first = scan_ahead(&mut disk, &mut ahead, 19, &mut body)?;
+    holds(first == Step::Counted { next: 4120 }, "the first")?;
+    holds(is_filled(&body, 0), "its body")?;
+    let second = scan_ahead(&mut disk, &mut ahead, 4120, &mut body)?;
+    holds(second == Step::Counted { next: 8221 }, "the second")?;
+    holds(is_filled(&body, 1), "the second's body")?;
+    // It ends past the first 65,536 bytes behind the header.
+    let sixteenth = scan_ahead(&mut disk, &mut ahead, 61_534, &mut body)?;
+    holds(sixteenth == Step::Counted { next: 65_635 }, "the sixteenth")?;
+    holds(is_filled(&body, 15), "the sixteenth's body")?;
+    let end = scan_ahead(&mut disk, &mut ahead, 82_039, &mut body)?;
+    holds(end == Step::Closed, "the end")?;
+    let past = scan_ahead(&mut disk, &mut ahead, 82_040, &mut body)?;
+    holds(past == Step::Damaged, "past it")?;
     Ok(())
 }
 
@@ -165,97 +187,142 @@ fn header_of(alloc: Global, file: &[u8]) -> Result<Header, Fail> {
     Ok(read_header(&mut disk)?)
 }
 
-const HEADERS: [(&[u8], Header); 12] = [
-    (b"", Header::NotBegun),
-    (b"\x01", Header::NotBegun),
-    (b"\x00VFCHAIN1\x02B12345674\x00", Header::NotBegun),
+const HEADERS: [(&str, &[u8], Header); 12] = [
+    ("no byte", b"", Header::NotBegun),
+    ("one byte", b"\x01", Header::NotBegun),
+    ("gate 0", b"\x00VFCHAIN1\x02B12345674\x00", Header::NotBegun),
     (
+        "gate 0, more bytes",
         b"\x00VFCHAIN1\x02B12345674\x00\x00",
         Header::Damaged { at: 0 },
     ),
-    (b"\x01VFCHAIN", Header::Damaged { at: 8 }),
-    (b"\x01VFCHAIN1", Header::Damaged { at: 9 }),
-    (b"\x01VFCHAIN2\x02B12345674\x00", Header::Damaged { at: 1 }),
-    (b"\x01VFCHAIN1\x00B12345674\x00", Header::Damaged { at: 9 }),
-    (b"\x01VFCHAIN1\x03B12345674\x00", Header::Damaged { at: 9 }),
-    (b"\x01VFCHAIN1\xffB12345674\x00", Header::Damaged { at: 9 }),
-    (b"\x01VFCHAIN1\x02B1234567", Header::Damaged { at: 18 }),
-    (b"\x01VFCHAIN1\x02B12345675\x00", Header::Damaged { at: 10 }),
+    ("cut in the name", b"\x01VFCHAIN", Header::Damaged { at: 8 }),
+    ("no version", b"\x01VFCHAIN1", Header::Damaged { at: 9 }),
+    (
+        "another name",
+        b"\x01VFCHAIN2\x02B12345674\x00",
+        Header::Damaged { at: 1 },
+    ),
+    (
+        "version 0",
+        b"\x01VFCHAIN1\x00B12345674\x00",
+        Header::Damaged { at: 9 },
+    ),
+    (
+        "version 3",
+        b"\x01VFCHAIN1\x03B12345674\x00",
+        Header::Damaged { at: 9 },
+    ),
+    (
+        "version 255",
+        b"\x01VFCHAIN1\xffB12345674\x00",
+        Header::Damaged { at: 9 },
+    ),
+    (
+        "cut in the issuer",
+        b"\x01VFCHAIN1\x02B1234567",
+        Header::Damaged { at: 18 },
+    ),
+    (
+        "no tax number",
+        b"\x01VFCHAIN1\x02B12345675\x00",
+        Header::Damaged { at: 10 },
+    ),
 ];
+
+const VERSIONS: [(&str, u8); 2] = [("version 1", 1), ("version 2", 2)];
 
 #[test]
 fn a_header_is_read_by_its_rows(rt: HostRuntime) -> Result<(), Fail> {
     let alloc = rt.alloc();
     let issuer = Nif::read("B12345674").ok().ok_or("a tax number")?;
-    for version in 1..3u8 {
+    for (row, version) in VERSIONS {
         let mut file = *b"\x01VFCHAIN1\x00B12345674\x00";
         file[9] = version;
-        let header = header_of(alloc, &file)?;
-        assert!(rt; header == Header::Begun { issuer, version }, "{version}");
+        let wanted = Header::Begun { issuer, version };
+        holds(header_of(alloc, &file)? == wanted, row)?;
     }
-    for (file, wanted) in HEADERS {
-        assert!(rt; header_of(alloc, file)? == wanted, "{file:?}");
+    for (row, file, wanted) in HEADERS {
+        holds(header_of(alloc, file)? == wanted, row)?;
     }
     Ok(())
 }
 
-// Creation asks for the length, and then writes and syncs three times.
+// Creation asks for the length, and then writes and syncs three times. What fails, its number, and how many images there are.
+const CREATION: [(&str, u64, u64); 7] = [
+    ("the length", 1, 4),
+    ("the first write", 2, 8),
+    ("the first sync", 3, 12),
+    ("the second write", 4, 16),
+    ("the second sync", 5, 20),
+    ("the third write", 6, 24),
+    ("the third sync", 7, 28),
+];
+
 #[test]
 fn each_call_of_a_creation_fails_in_turn(rt: HostRuntime) -> Result<(), Fail> {
     let alloc = rt.alloc();
-    for call in 1..8 {
-        match create(alloc, call)? {
-            Ok(_) => return Err(Fail::from("created")),
-            Err(Lost { disk }) => {
-                assert_eq!(rt; disk.faults(), 1);
-                let count = images_read_as(alloc, &disk, 0, Reading::NotBegun, Reading::Empty)?;
-                assert_eq!(rt; count, 4 * call, "{call}");
-            }
-        }
+    let (before, after) = (Reading::NotBegun, Reading::Empty);
+    for (row, call, images) in CREATION {
+        let disk = lost(alloc, call)?;
+        holds(disk.faults() == 1, row)?;
+        let count = images_read_as(alloc, &disk, 0, before, after)?;
+        holds(count == images, row)?;
     }
-    let disk = created(alloc, 0)?.into_disk();
-    assert_eq!(rt;
-        images_read_as(alloc, &disk, 0, Reading::NotBegun, Reading::Empty)?,
-        28
-    );
-    // The image of the single byte 1.
-    let Some(image) = disk.image(alloc, 1, Fill::Ones)? else {
-        return Err(Fail::from("no image"));
-    };
-    let mut image = image;
-    assert!(rt; holds(&mut image, b"\x01")?);
-    assert_eq!(rt; read_as(&mut image)?, Reading::NotBegun);
     Ok(())
 }
 
-// An append writes and syncs twice: the calls 8 to 11 after the seven of creation, whose last moment is 6.
+#[test]
+fn a_creation_that_ends_leaves_no_other_image(rt: HostRuntime) -> Result<(), Fail> {
+    let alloc = rt.alloc();
+    let (before, after) = (Reading::NotBegun, Reading::Empty);
+    let disk = created(alloc, 0)?.into_disk();
+    let count = images_read_as(alloc, &disk, 0, before, after)?;
+    holds(count == 28, "without a fault")?;
+    // The image of the single byte 1.
+    let mut image = disk.image(alloc, 1, Fill::Ones)?.ok_or("no image")?;
+    holds(has_bytes(&mut image, b"\x01")?, "the byte 1")?;
+    holds(read_as(&mut image)? == before, "its reading")?;
+    Ok(())
+}
+
+// An append writes and syncs twice, by the calls 8 to 11 after the seven of creation, whose last moment is 6.
+const APPEND: [(&str, u64, u64); 4] = [
+    ("the first write", 8, 8),
+    ("the first sync", 9, 12),
+    ("the second write", 10, 16),
+    ("the second sync", 11, 20),
+];
+
 #[test]
 fn each_call_of_an_append_fails_in_turn(rt: HostRuntime) -> Result<(), Fail> {
     let alloc = rt.alloc();
-    for call in 8..12 {
+    let stopped = JournalFault::Stopped { faults: 1 };
+    let store_fault = StoreFault::from(stopped);
+    holds(store_fault == StoreFault::Stopped { faults: 1 }, "a stop")?;
+    for (row, call, images) in APPEND {
         let mut journal = created(alloc, call)?;
-        assert_eq!(rt; append(&mut journal, b"abc"), Err(JournalFault::DiskFault));
-        let stopped = JournalFault::Stopped { faults: 1 };
-        assert_eq!(rt; append(&mut journal, b"abc"), Err(stopped));
-        assert_eq!(rt;
-            StoreFault::from(stopped),
-            StoreFault::Stopped { faults: 1 }
-        );
-        assert_eq!(rt; journal.stopped(), Some(1));
+        let failed = append(&mut journal, b"abc");
+        holds(failed == Err(JournalFault::DiskFault), row)?;
+        holds(append(&mut journal, b"abc") == Err(stopped), row)?;
+        holds(journal.stopped() == Some(1), row)?;
         let disk = journal.into_disk();
         let count = images_read_as(alloc, &disk, 6, Reading::Empty, Reading::WithBody)?;
-        assert_eq!(rt; count, 4 * (call - 6), "{call}");
+        holds(count == images, row)?;
     }
+    Ok(())
+}
+
+#[test]
+fn an_append_that_ends_has_its_body_in_each_image(rt: HostRuntime) -> Result<(), Fail> {
+    let alloc = rt.alloc();
     let mut journal = created(alloc, 0)?;
-    assert_eq!(rt; append(&mut journal, b"abc"), Ok(27));
+    holds(append(&mut journal, b"abc") == Ok(27), "abc added")?;
     let disk = journal.into_disk();
-    assert_eq!(rt;
-        images_read_as(alloc, &disk, 6, Reading::Empty, Reading::WithBody)?,
-        20
-    );
-    assert_eq!(rt;
-        images_read_as(alloc, &disk, 10, Reading::WithBody, Reading::WithBody)?,
-        4
-    );
+    let (empty, with_body) = (Reading::Empty, Reading::WithBody);
+    let since_creation = images_read_as(alloc, &disk, 6, empty, with_body)?;
+    holds(since_creation == 20, "since creation")?;
+    let behind = images_read_as(alloc, &disk, 10, with_body, with_body)?;
+    holds(behind == 4, "behind the append")?;
     Ok(())
 }

@@ -1,5 +1,6 @@
 use line_reader::{LineReader, Next, bytes_have_one_list_of_lines};
 use ports::{Failed, MemSource, Source};
+use rows::holds;
 use std::alloc::Global;
 use std::sync::Wait;
 use std::test::Fail;
@@ -90,94 +91,93 @@ fn run_of(alloc: Global, count: usize, tail: &[u8]) -> Result<Vec<u8>, Fail> {
     Ok(bytes)
 }
 
+const CUTS: [(&str, &str); 7] = [
+    ("", "."),
+    ("\n", "<>."),
+    ("a", "<a>."),
+    ("a\n", "<a>."),
+    ("a\nb", "<a><b>."),
+    ("\n\na\r\n#\n", "<><><a\r><#>."),
+    ("sale 1\nfix\n", "<sale 1><fix>."),
+];
+
+const ROOMS: [usize; 4] = [1, 2, 3, 100];
+
 #[test]
 fn lines_are_cut_at_each_lf_however_the_reads_fall(rt: HostRuntime) -> Result<(), Fail> {
-    let alloc = rt.alloc();
-    let rows = [
-        ("", "."),
-        ("\n", "<>."),
-        ("a", "<a>."),
-        ("a\n", "<a>."),
-        ("a\nb", "<a><b>."),
-        ("\n\na\r\n#\n", "<><><a\r><#>."),
-        ("sale 1\nfix\n", "<sale 1><fix>."),
-    ];
-    for (text, lines) in rows {
-        for room in [1, 2, 3, 100] {
+    for (text, lines) in CUTS {
+        for room in ROOMS {
             let mut source = Trickle::of(text.as_bytes(), room);
-            let told = all_told(&rt, alloc, &mut source)?;
-            assert_eq!(rt; told.as_slice(), lines.as_bytes(), "of {text:?} by {room}");
+            let told = all_told(&rt, rt.alloc(), &mut source)?;
+            holds(told.as_slice() == lines.as_bytes(), text)?;
             bytes_have_one_list_of_lines(text.as_bytes());
         }
     }
     Ok(())
 }
 
+// How many bytes, what comes behind them, and the lines.
+const LONG: [(&str, usize, &str, &str); 8] = [
+    ("65535", 65_535, "\nb", "<65535><b>."),
+    ("65536", 65_536, "\nb", "<65536><b>."),
+    ("65536 at the end", 65_536, "", "<65536>."),
+    ("65537", 65_537, "\nb", "!<b>."),
+    ("65537 at the end", 65_537, "", "!."),
+    ("65535 and CR", 65_535, "\r\nb", "<65536><b>."),
+    ("65536 and CR", 65_536, "\r\nb", "!<b>."),
+    ("200000", 200_000, "\n\nb\n", "!<><b>."),
+];
+
 #[test]
 fn a_line_of_65536_bytes_is_the_longest(rt: HostRuntime) -> Result<(), Fail> {
     let alloc = rt.alloc();
-    let rows = [
-        (65_535, "\nb", "<65535><b>."),
-        (65_536, "\nb", "<65536><b>."),
-        (65_536, "", "<65536>."),
-        (65_537, "\nb", "!<b>."),
-        (65_537, "", "!."),
-        (65_535, "\r\nb", "<65536><b>."),
-        (65_536, "\r\nb", "!<b>."),
-        (200_000, "\n\nb\n", "!<><b>."),
-    ];
-    for (count, tail, lines) in rows {
+    for (row, count, tail, lines) in LONG {
         let bytes = run_of(alloc, count, tail.as_bytes())?;
         let mut source = MemSource::new(alloc, bytes, Vec::new(alloc));
         let told = all_told(&rt, alloc, &mut source)?;
-        assert_eq!(rt;
-            told.as_slice(),
-            lines.as_bytes(),
-            "of {count} and {tail:?}"
-        );
+        holds(told.as_slice() == lines.as_bytes(), row)?;
     }
     Ok(())
 }
+
+// How many bytes stand before the LF and a b, and which read fails: the second comes in the middle of the line, the nineteenth where
+// its front was let go.
+const FAULTY: [(&str, usize, u64, &str); 4] = [
+    ("the first", 5_000, 1, "?<5000><b>."),
+    ("the second", 5_000, 2, "?<5000><b>."),
+    ("the third", 5_000, 3, "<5000>?<b>."),
+    ("the nineteenth", 75_000, 19, "?!<b>."),
+];
 
 #[test]
 fn a_line_goes_on_behind_a_fault(rt: HostRuntime) -> Result<(), Fail> {
     let alloc = rt.alloc();
-    // the second read comes in the middle of the line, the nineteenth where its front was let go
-    let rows = [
-        (5_000, 1, "?<5000><b>."),
-        (5_000, 2, "?<5000><b>."),
-        (5_000, 3, "<5000>?<b>."),
-        (75_000, 19, "?!<b>."),
-    ];
-    for (count, failing, lines) in rows {
+    for (row, count, failing, lines) in FAULTY {
         let bytes = run_of(alloc, count, b"\nb")?;
         let mut source = MemSource::new(alloc, bytes, Vec::from_slice(alloc, &[failing])?);
         let told = all_told(&rt, alloc, &mut source)?;
-        assert_eq!(rt;
-            told.as_slice(),
-            lines.as_bytes(),
-            "of {count}, read {failing} fails"
-        );
+        holds(told.as_slice() == lines.as_bytes(), row)?;
     }
     Ok(())
 }
 
+// What is read next, the line at hand, and how many calls of the source there were.
+const NEXT: [(&str, Result<Next, Failed>, &str, u64); 5] = [
+    ("a", Ok(Next::Line), "a", 1),
+    ("b", Ok(Next::Line), "b", 1),
+    ("c", Ok(Next::Line), "c", 2),
+    ("the end", Ok(Next::End), "", 2),
+    ("behind the end", Ok(Next::End), "", 2),
+];
+
 #[test]
 fn nothing_is_read_with_a_line_at_hand_nor_behind_the_end(rt: HostRuntime) -> Result<(), Fail> {
-    let alloc = rt.alloc();
-    let mut reader = LineReader::new(alloc)?;
+    let mut reader = LineReader::new(rt.alloc())?;
     let mut source = Trickle::of(b"a\nb\nc\x04d\n", 100);
-    let rows = [
-        (Ok(Next::Line), "a", 1),
-        (Ok(Next::Line), "b", 1),
-        (Ok(Next::Line), "c", 2),
-        (Ok(Next::End), "", 2),
-        (Ok(Next::End), "", 2),
-    ];
-    for (next, line, calls) in rows {
-        assert_eq!(rt; reader.next_line(&rt, &mut source), next);
-        assert_eq!(rt; reader.line(), line.as_bytes());
-        assert_eq!(rt; source.calls, calls, "behind {line}");
+    for (row, next, line, calls) in NEXT {
+        holds(reader.next_line(&rt, &mut source) == next, row)?;
+        holds(reader.line() == line.as_bytes(), row)?;
+        holds(source.calls == calls, row)?;
     }
     Ok(())
 }

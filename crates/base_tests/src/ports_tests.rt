@@ -2,6 +2,7 @@ use ports::{
     Clock, CountingClock, Failed, Gate, LeapSleeper, ListClock, MemSink, MemSource, OpenGate, Sink,
     Sleeper, Source, StdSink, StdSource, SystemClock, ThreadSleeper, reason_of,
 };
+use rows::holds;
 use std::alloc::Global;
 use std::io::ErrorKind;
 use std::sync::Wait;
@@ -14,6 +15,17 @@ fn read_once<S: Source>(source: &mut S, room: usize) -> Result<([u8; 8], usize),
     Ok((buf, count))
 }
 
+// How many bytes there is room for, and what is read.
+const READS: [(&str, usize, Result<([u8; 8], usize), Failed>); 7] = [
+    ("three bytes", 3, Ok((*b"abc.....", 3))),
+    ("a fault", 8, Err(Failed)),
+    ("no room", 0, Ok((*b"........", 0))),
+    ("two behind it", 2, Ok((*b"de......", 2))),
+    ("the rest", 8, Ok((*b"fghijk..", 6))),
+    ("another fault", 8, Err(Failed)),
+    ("the end", 8, Ok((*b"........", 0))),
+];
+
 #[test]
 fn a_source_gives_each_byte_once_and_fails_in_mid_stream(rt: HostRuntime) -> Result<(), Fail> {
     let alloc = rt.alloc();
@@ -22,17 +34,8 @@ fn a_source_gives_each_byte_once_and_fails_in_mid_stream(rt: HostRuntime) -> Res
         Vec::from_slice(alloc, b"abcdefghijk")?,
         Vec::from_slice(alloc, &[2, 6])?,
     );
-    let rows = [
-        (3, Ok((*b"abc.....", 3))),
-        (8, Err(Failed)),
-        (0, Ok((*b"........", 0))),
-        (2, Ok((*b"de......", 2))),
-        (8, Ok((*b"fghijk..", 6))),
-        (8, Err(Failed)),
-        (8, Ok((*b"........", 0))),
-    ];
-    for (room, given) in rows {
-        assert_eq!(rt; read_once(&mut source, room), given, "with room for {room}");
+    for (row, room, given) in READS {
+        holds(read_once(&mut source, room) == given, row)?;
     }
     Ok(())
 }
@@ -41,19 +44,21 @@ fn write_once<K: Sink>(sink: &mut K, bytes: &[u8]) -> Result<usize, Failed> {
     sink.write(bytes)
 }
 
+// A text, what is told of its writing, and what the sink holds then.
+const WRITES: [(&str, Result<usize, Failed>, &str); 4] = [
+    ("ab", Ok(2), "ab"),
+    ("cd", Err(Failed), "ab"),
+    ("", Ok(0), "ab"),
+    ("e", Ok(1), "abe"),
+];
+
 #[test]
 fn a_sink_takes_all_or_fails(rt: HostRuntime) -> Result<(), Fail> {
     let alloc = rt.alloc();
     let mut sink = MemSink::new(alloc, Vec::from_slice(alloc, &[2])?);
-    let rows = [
-        ("ab", Ok(2), "ab"),
-        ("cd", Err(Failed), "ab"),
-        ("", Ok(0), "ab"),
-        ("e", Ok(1), "abe"),
-    ];
-    for (text, taken, held) in rows {
-        assert_eq!(rt; write_once(&mut sink, text.as_bytes()), taken, "at {text}");
-        assert_eq!(rt; sink.bytes(), held.as_bytes());
+    for (text, taken, held) in WRITES {
+        holds(write_once(&mut sink, text.as_bytes()) == taken, text)?;
+        holds(sink.bytes() == held.as_bytes(), text)?;
     }
     Ok(())
 }
@@ -69,29 +74,29 @@ fn listed(alloc: Global, values: &[u64; 2]) -> Result<[u64; 4], Fail> {
     Ok(four_readings(&mut ListClock::new(values_of)))
 }
 
+const MAX: u64 = 18446744073709551615;
+
+// A clock's first reading, its step, and four readings.
+const COUNTED: [(&str, u64, u64, [u64; 4]); 3] = [
+    (
+        "a clock at rest",
+        1735722000,
+        0,
+        [1735722000, 1735722000, 1735722000, 1735722000],
+    ),
+    ("near the end", MAX - 5, 3, [MAX - 5, MAX - 2, MAX, MAX]),
+    ("one step", 0, MAX, [0, MAX, MAX, MAX]),
+];
+
 #[test]
 fn clocks_stand_still_at_their_ends(rt: HostRuntime) -> Result<(), Fail> {
-    const MAX: u64 = 18446744073709551615;
-    let rows = [
-        (
-            1735722000,
-            0,
-            [1735722000, 1735722000, 1735722000, 1735722000],
-        ),
-        (MAX - 5, 3, [MAX - 5, MAX - 2, MAX, MAX]),
-        (0, MAX, [0, MAX, MAX, MAX]),
-    ];
-    for (next, step, readings) in rows {
-        assert_eq!(rt;
-            four_readings(&mut CountingClock::new(next, step)),
-            readings,
-            "from {next} by {step}"
-        );
+    for (row, next, step, readings) in COUNTED {
+        let mut clock = CountingClock::new(next, step);
+        holds(four_readings(&mut clock) == readings, row)?;
     }
-    assert_eq!(rt;
-        listed(rt.alloc(), &[1735722000, 1735721990])?,
-        [1735722000, 1735721990, 1735721990, 1735721990]
-    );
+    let readings = listed(rt.alloc(), &[1735722000, 1735721990])?;
+    let wanted = [1735722000, 1735721990, 1735721990, 1735721990];
+    holds(readings == wanted, "a list")?;
     Ok(())
 }
 
@@ -111,10 +116,9 @@ fn the_system_clock_tells_this_machines_time(rt: HostRuntime) -> Result<(), Fail
     let before = machine_seconds(&rt)?;
     let readings = four_readings(&mut SystemClock::new(&rt));
     let after = machine_seconds(&rt)?;
-    assert!(rt;
-        before <= readings[0] && readings[0] <= readings[3] && readings[3] <= after,
-        "{before} {readings:?} {after}"
-    );
+    holds(before <= readings[0], "the first reading")?;
+    holds(readings[0] <= readings[3], "the readings")?;
+    holds(readings[3] <= after, "the last reading")?;
     Ok(())
 }
 
@@ -130,15 +134,12 @@ fn waited<Z: Sleeper, R: Wait>(sleeper: &mut Z, rt: &R, more: u64) -> [u64; 3] {
 #[test]
 fn a_sleeper_reaches_the_second_that_it_waited_for(rt: HostRuntime) -> Result<(), Fail> {
     let leaps = waited(&mut LeapSleeper::new(1735722000), &rt, 86400);
-    assert_eq!(rt; leaps, [1735722000, 1735722000, 1735808400]);
+    holds(leaps == [1735722000, 1735722000, 1735808400], "leaps")?;
     let before = machine_seconds(&rt)?;
     let [first, rested, then] = waited(&mut ThreadSleeper::new(&rt), &rt, 1);
     let after = machine_seconds(&rt)?;
-    assert!(rt;
-        before <= first && first <= rested,
-        "{before}, {first}, {rested}"
-    );
-    assert!(rt; first < then && then <= after, "{first}, {then}, {after}");
+    holds(before <= first && first <= rested, "a rest")?;
+    holds(first < then && then <= after, "a wait")?;
     Ok(())
 }
 
@@ -153,21 +154,23 @@ fn an_open_gate_holds_nobody(rt: HostRuntime) {
     pass(&OpenGate, &rt);
 }
 
+const REASONS: [(ErrorKind, &str); 6] = [
+    (ErrorKind::PermissionDenied, "permission denied"),
+    (ErrorKind::StorageFull, "no space left"),
+    (ErrorKind::BrokenPipe, "broken pipe"),
+    (ErrorKind::NotFound, "no such file"),
+    (ErrorKind::IsADirectory, "is a folder"),
+    (ErrorKind::TimedOut, "input or output error"),
+];
+
 #[test]
-fn an_adapter_without_a_fault_has_no_reason(rt: HostRuntime) {
-    assert_eq!(rt; StdSource::new(&rt).reason(), None);
+fn an_adapter_without_a_fault_has_no_reason(rt: HostRuntime) -> Result<(), Fail> {
+    holds(StdSource::new(&rt).reason().is_none(), "a source")?;
     let mut sink = StdSink::new(&rt);
-    assert_eq!(rt; write_once(&mut sink, b""), Ok(0));
-    assert_eq!(rt; sink.reason(), None);
-    let rows = [
-        (ErrorKind::PermissionDenied, "permission denied"),
-        (ErrorKind::StorageFull, "no space left"),
-        (ErrorKind::BrokenPipe, "broken pipe"),
-        (ErrorKind::NotFound, "no such file"),
-        (ErrorKind::IsADirectory, "is a folder"),
-        (ErrorKind::TimedOut, "input or output error"),
-    ];
-    for (kind, text) in rows {
-        assert_eq!(rt; reason_of(kind), text);
+    holds(write_once(&mut sink, b"") == Ok(0), "nothing written")?;
+    holds(sink.reason().is_none(), "a sink")?;
+    for (kind, text) in REASONS {
+        holds(reason_of(kind) == text, text)?;
     }
+    Ok(())
 }

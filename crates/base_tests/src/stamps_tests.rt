@@ -1,47 +1,59 @@
 use jiff::Timestamp;
+use rows::holds;
 use stamps::*;
 use std::test::Fail;
 
+// Seconds since 1970, the moment and the date.
+const MOMENTS: [(u64, &str, &str); 6] = [
+    (1_735_722_000, "2025-01-01T10:00:00+01:00", "01-01-2025"),
+    (1_743_296_399, "2025-03-30T01:59:59+01:00", "30-03-2025"),
+    (1_743_296_400, "2025-03-30T03:00:00+02:00", "30-03-2025"),
+    (1_761_440_399, "2025-10-26T02:59:59+02:00", "26-10-2025"),
+    (1_761_440_400, "2025-10-26T02:00:00+01:00", "26-10-2025"),
+    (1_735_686_000, "2025-01-01T00:00:00+01:00", "01-01-2025"),
+];
+
 #[test]
-fn moments_are_written_round_the_changes_of_2025(rt: HostRuntime) -> Result<(), Fail> {
+fn moments_are_written_round_the_changes_of_2025() -> Result<(), Fail> {
     let zone = zone()?;
-    for (seconds, text, date) in [
-        (1_735_722_000, b"2025-01-01T10:00:00+01:00", b"01-01-2025"),
-        (1_743_296_399, b"2025-03-30T01:59:59+01:00", b"30-03-2025"),
-        (1_743_296_400, b"2025-03-30T03:00:00+02:00", b"30-03-2025"),
-        (1_761_440_399, b"2025-10-26T02:59:59+02:00", b"26-10-2025"),
-        (1_761_440_400, b"2025-10-26T02:00:00+01:00", b"26-10-2025"),
-        (1_735_686_000, b"2025-01-01T00:00:00+01:00", b"01-01-2025"),
-    ] {
-        let stamp = stamp_at(seconds).map_err(|_| "out of range")?;
-        assert!(rt; moment_text(&stamp) == *text, "{seconds}");
-        assert!(rt; date_text(civil_day(&stamp)) == *date, "{seconds}");
+    for (seconds, text, date) in MOMENTS {
+        let stamp = stamp_at(seconds).ok().ok_or(text)?;
+        holds(moment_text(&stamp).as_slice() == text.as_bytes(), text)?;
+        let day = civil_day(&stamp);
+        holds(date_text(day).as_slice() == date.as_bytes(), text)?;
         let instant = Timestamp::from_second(seconds as i64)?;
         let offset = zone.to_offset(instant).seconds();
-        assert!(rt; offset / 60 == i32::from(stamp.offset_minutes), "{seconds}");
+        holds(offset / 60 == i32::from(stamp.offset_minutes), text)?;
     }
     Ok(())
 }
 
+const ENDS: [(&str, u64, Option<ClockRange>); 4] = [
+    ("before 2024", 1_704_067_199, Some(ClockRange)),
+    ("2024", 1_704_067_200, None),
+    ("the end of 2099", 4_102_444_799, None),
+    ("2100", 4_102_444_800, Some(ClockRange)),
+];
+
+// Seconds since 1970, an offset in minutes, and whether they make a stamp.
+const STAMPS: [(&str, u64, i16, bool); 6] = [
+    ("2024 at 60", 1_704_067_200, 60, true),
+    ("2024 at 120", 1_704_067_200, 120, true),
+    ("2024 at 0", 1_704_067_200, 0, false),
+    ("2024 at -60", 1_704_067_200, -60, false),
+    ("before 2024 at 60", 1_704_067_199, 60, false),
+    ("2100 at 60", 4_102_444_800, 60, false),
+];
+
 #[test]
-fn stamps_have_their_ranges(rt: HostRuntime) {
-    assert!(rt; stamp_at(1_704_067_199) == Err(ClockRange));
-    assert!(rt; stamp_at(1_704_067_200).is_ok());
-    assert!(rt; stamp_at(4_102_444_799).is_ok());
-    assert!(rt; stamp_at(4_102_444_800) == Err(ClockRange));
-    for (seconds, offset, taken) in [
-        (1_704_067_200, 60, true),
-        (1_704_067_200, 120, true),
-        (1_704_067_200, 0, false),
-        (1_704_067_200, -60, false),
-        (1_704_067_199, 60, false),
-        (4_102_444_800, 60, false),
-    ] {
-        assert!(rt;
-            Stamp::new(seconds, offset).is_some() == taken,
-            "{seconds} {offset}"
-        );
+fn stamps_have_their_ranges() -> Result<(), Fail> {
+    for (row, seconds, fault) in ENDS {
+        holds(stamp_at(seconds).err() == fault, row)?;
     }
+    for (row, seconds, offset, taken) in STAMPS {
+        holds(Stamp::new(seconds, offset).is_some() == taken, row)?;
+    }
+    Ok(())
 }
 
 // A text, and the days from 1970 on where it is a day.
@@ -58,18 +70,19 @@ const DAYS: [(&str, Option<u32>); 9] = [
 ];
 
 #[test]
-fn days_are_read_and_written(rt: HostRuntime) {
+fn days_are_read_and_written() -> Result<(), Fail> {
     for (text, days) in DAYS {
         match Day::read(text) {
             Some(day) => {
-                assert!(rt; days == Some(day.get()), "{text}");
-                assert!(rt; date_text(day).as_slice() == text.as_bytes(), "{text}");
-                assert!(rt; Day::of(day.date()) == Some(day), "{text}");
+                holds(days == Some(day.get()), text)?;
+                holds(date_text(day).as_slice() == text.as_bytes(), text)?;
+                holds(Day::of(day.date()) == Some(day), text)?;
             }
-            None => assert!(rt; days.is_none(), "{text}"),
+            None => holds(days.is_none(), text)?,
         }
     }
-    assert!(rt; Day::new(47_846) == Some(Day::last()));
-    assert!(rt; Day::new(47_847).is_none());
-    assert!(rt; last_sunday(2025, 10) == 20_387);
+    holds(Day::new(47_846) == Some(Day::last()), "the last day")?;
+    holds(Day::new(47_847).is_none(), "a day behind it")?;
+    holds(last_sunday(2025, 10) == 20_387, "the last Sunday")?;
+    Ok(())
 }

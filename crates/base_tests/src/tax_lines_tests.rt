@@ -1,7 +1,12 @@
 use amounts::Cents;
+use rows::holds;
 use std::alloc::Global;
 use std::test::Fail;
 use tax_lines::*;
+
+fn breakdown(alloc: Global, lines: &[TaxLine]) -> Result<Breakdown, &'static str> {
+    Breakdown::of(alloc, lines).ok().ok_or("no breakdown")
+}
 
 // A class, its word, and the tax of 100 euros.
 const CLASSES: [(u8, &str, i64); 16] = [
@@ -23,26 +28,27 @@ const CLASSES: [(u8, &str, i64); 16] = [
     (15, "E6", 0),
 ];
 
+const NO_CLASSES: [&str; 2] = ["5", "E7"];
+
 #[test]
 fn each_class_has_its_word_code_and_tax(rt: HostRuntime) -> Result<(), Fail> {
     for (code, word, tax) in CLASSES {
-        let key = LineKey::read(word).ok_or("no class")?;
-        assert!(rt; key.text().as_slice() == word.as_bytes(), "{code}");
-        assert!(rt; key.class().code() == code, "{code}");
-        assert!(rt; Class::of_code(code) == Some(key.class()), "{code}");
-        assert!(rt; key.tax() == Tax::Iva, "{code}");
-        let line = TaxLine {
-            key,
-            base: Cents::of(10_000),
-        };
-        let breakdown = Breakdown::of(rt.alloc(), &[line]).map_err(|_| "no breakdown")?;
-        assert!(rt; breakdown.cuota().get() == tax, "{code}");
-        assert!(rt; breakdown.total().get() == 10_000 + tax, "{code}");
+        let key = LineKey::read(word).ok_or(word)?;
+        holds(key.text().as_slice() == word.as_bytes(), word)?;
+        holds(key.class().code() == code, word)?;
+        holds(Class::of_code(code) == Some(key.class()), word)?;
+        holds(key.tax() == Tax::Iva, word)?;
+        let base = Cents::of(10_000);
+        let breakdown = breakdown(rt.alloc(), &[TaxLine { key, base }])?;
+        holds(breakdown.cuota().get() == tax, word)?;
+        let total = tax.saturating_add(10_000);
+        holds(breakdown.total().get() == total, word)?;
     }
-    assert!(rt; Class::of_code(16) == Some(Class::Free));
-    assert!(rt; Class::of_code(17).is_none());
-    assert!(rt; LineKey::read("5").is_none());
-    assert!(rt; LineKey::read("E7").is_none());
+    holds(Class::of_code(16) == Some(Class::Free), "code 16")?;
+    holds(Class::of_code(17).is_none(), "code 17")?;
+    for word in NO_CLASSES {
+        holds(LineKey::read(word).is_none(), word)?;
+    }
     Ok(())
 }
 
@@ -63,29 +69,42 @@ const NO_KEYS: [&str; 10] = [
 #[test]
 fn keys_of_other_taxes_have_their_words_and_taxes(rt: HostRuntime) -> Result<(), Fail> {
     for (word, base, tax) in KEYS {
-        let key = LineKey::read(word).ok_or("no key")?;
-        assert!(rt; key.text().as_slice() == word.as_bytes(), "{word}");
+        let key = LineKey::read(word).ok_or(word)?;
+        holds(key.text().as_slice() == word.as_bytes(), word)?;
         let base = Cents::new(base).ok_or("a base")?;
-        let lines = [TaxLine { key, base }];
-        let breakdown = Breakdown::of(rt.alloc(), &lines).map_err(|_| "no breakdown")?;
-        assert!(rt; breakdown.cuota().get() == tax, "{word}");
-        assert!(rt; breakdown.first_other() == Some(0), "{word}");
+        let breakdown = breakdown(rt.alloc(), &[TaxLine { key, base }])?;
+        holds(breakdown.cuota().get() == tax, word)?;
+        holds(breakdown.first_other() == Some(0), word)?;
     }
     for word in NO_KEYS {
-        assert!(rt; LineKey::read(word).is_none(), "{word}");
+        holds(LineKey::read(word).is_none(), word)?;
     }
     Ok(())
 }
 
+// A tax, a class and a rate, and whether the table permits them.
+const TABLE: [(&str, Tax, Class, u16, bool); 7] = [
+    ("IVA, general, 2100", Tax::Iva, Class::General, 2100, true),
+    ("IVA, general, 2000", Tax::Iva, Class::General, 2000, false),
+    ("IVA, free, 2100", Tax::Iva, Class::Free, 2100, false),
+    (
+        "IGIC, general, 2100",
+        Tax::Igic,
+        Class::General,
+        2100,
+        false,
+    ),
+    ("IGIC, free, 2501", Tax::Igic, Class::Free, 2501, false),
+    ("IPSI, free, 2500", Tax::Ipsi, Class::Free, 2500, true),
+    ("IPSI, E1, 0", Tax::Ipsi, Class::E1, 0, true),
+];
+
 #[test]
-fn the_table_permits_a_tax_a_class_and_a_rate(rt: HostRuntime) {
-    assert!(rt; LineKey::new(Tax::Iva, Class::General, 2100).is_some());
-    assert!(rt; LineKey::new(Tax::Iva, Class::General, 2000).is_none());
-    assert!(rt; LineKey::new(Tax::Iva, Class::Free, 2100).is_none());
-    assert!(rt; LineKey::new(Tax::Igic, Class::General, 2100).is_none());
-    assert!(rt; LineKey::new(Tax::Igic, Class::Free, 2501).is_none());
-    assert!(rt; LineKey::new(Tax::Ipsi, Class::Free, 2500).is_some());
-    assert!(rt; LineKey::new(Tax::Ipsi, Class::E1, 0).is_some());
+fn the_table_permits_a_tax_a_class_and_a_rate() -> Result<(), Fail> {
+    for (row, tax, class, rate, permitted) in TABLE {
+        holds(LineKey::new(tax, class, rate).is_some() == permitted, row)?;
+    }
+    Ok(())
 }
 
 fn fault(alloc: Global, lines: &[TaxLine]) -> Option<LinesFault> {
@@ -110,39 +129,52 @@ fn past() -> TaxLine {
 }
 
 #[test]
-fn lines_are_refused_in_order(rt: HostRuntime) {
-    assert!(rt; fault(rt.alloc(), &[]) == Some(LinesFault::NoLines));
-    assert!(rt; fault(rt.alloc(), &[past(); 13]) == Some(LinesFault::TooMany { n: 13 }));
-    assert!(rt; fault(rt.alloc(), &[near(), past(), past()]) == Some(LinesFault::Range { i: 1 }));
-    assert!(rt; fault(rt.alloc(), &[near(); 12]).is_none());
+fn lines_are_refused_in_order(rt: HostRuntime) -> Result<(), Fail> {
+    let alloc = rt.alloc();
+    let thirteen = Some(LinesFault::TooMany { n: 13 });
+    let second = Some(LinesFault::Range { i: 1 });
+    holds(fault(alloc, &[]) == Some(LinesFault::NoLines), "no lines")?;
+    holds(fault(alloc, &[past(); 13]) == thirteen, "thirteen")?;
+    holds(
+        fault(alloc, &[near(), past(), past()]) == second,
+        "the second",
+    )?;
+    holds(fault(alloc, &[near(); 12]).is_none(), "twelve")?;
+    Ok(())
 }
 
-// Lines with the cuota and the total of the first example of the agency's hash specification, 12.35 and 123.45 euros, and
-// lines whose tax and surcharge round apart.
+// Lines with the cuota and the total of the first example of the agency's hash specification, 12.35 and 123.45 euros.
 #[test]
 fn taxes_round_line_by_line(rt: HostRuntime) -> Result<(), Fail> {
-    let lines = [
-        TaxLine {
-            key: LineKey::iva(Class::General),
-            base: Cents::of(1127),
-        },
-        TaxLine {
-            key: LineKey::iva(Class::Reduced),
-            base: Cents::of(9983),
-        },
-    ];
-    let breakdown = Breakdown::of(rt.alloc(), &lines).map_err(|_| "no breakdown")?;
-    assert!(rt; breakdown.cuota().get() == 1235);
-    assert!(rt; breakdown.total().get() == 12_345);
+    let general = TaxLine {
+        key: LineKey::iva(Class::General),
+        base: Cents::of(1127),
+    };
+    let reduced = TaxLine {
+        key: LineKey::iva(Class::Reduced),
+        base: Cents::of(9983),
+    };
+    let lines = [general, reduced];
+    let breakdown = breakdown(rt.alloc(), &lines)?;
+    holds(breakdown.cuota().get() == 1235, "the cuota")?;
+    holds(breakdown.total().get() == 12_345, "the total")?;
     let copy = breakdown.copied(rt.alloc())?;
-    assert!(rt; copy.lines() == lines.as_slice());
-    assert!(rt; copy.total() == breakdown.total());
-    for (base, tax) in [(12, 4), (-12, -4)] {
+    holds(copy.lines() == lines.as_slice(), "the copy's lines")?;
+    holds(copy.total() == breakdown.total(), "the copy's total")?;
+    Ok(())
+}
+
+// Bases whose tax and surcharge round apart.
+const APART: [(&str, i64, i64); 2] = [("12", 12, 4), ("-12", -12, -4)];
+
+#[test]
+fn a_tax_and_its_surcharge_round_apart() -> Result<(), Fail> {
+    for (row, base, tax) in APART {
         let line = TaxLine {
             key: LineKey::iva(Class::GeneralSurcharge),
-            base: Cents::of(base),
+            base: Cents::new(base).ok_or(row)?,
         };
-        assert!(rt; line.tax().get() == tax);
+        holds(line.tax().get() == tax, row)?;
     }
     Ok(())
 }

@@ -1,16 +1,13 @@
 // The command `check` over a source, a sink and a file that fail.
+use crate::files::disk_of;
 use chain_disk::MemDisk;
 use file_commands::check_cmd;
 use ports::{MemSink, MemSource};
 use report::Detail;
+use rows::holds;
 use std::alloc::Global;
 use std::test::Fail;
 use std::thread::Threads;
-
-fn disk_of(alloc: Global, bytes: &[u8], failing: u64) -> Result<MemDisk, Fail> {
-    let failing = Vec::from_slice(alloc, &[failing])?;
-    Ok(MemDisk::new(alloc, Vec::from_slice(alloc, bytes)?, failing))
-}
 
 // What the command comes to with four workers. The source and the sink fail at the calls of these numbers, from 1.
 fn checked<R: Threads + Sync>(
@@ -33,28 +30,27 @@ fn checked<R: Threads + Sync>(
     Ok((ended.status, ended.detail))
 }
 
+const DAMAGED: [u8; 40] = [2; 40];
+
+type End = (u8, Detail);
+
+// The calls of the source and of the sink that fail, the file's bytes, its call that fails, and the end. The source comes first.
+const FAULTS: [(&str, (u64, u64), &[u8], u64, End); 4] = [
+    ("bytes", (0, 0), &DAMAGED, 0, (7, Detail::Damaged { at: 0 })),
+    ("the file", (0, 0), &DAMAGED, 1, (6, Detail::DiskFault)),
+    ("the source", (1, 0), &DAMAGED, 0, (4, Detail::ReadFault)),
+    ("the sink", (0, 1), &[], 0, (5, Detail::WriteFault)),
+];
+
 #[test]
 fn each_fault_has_its_status(rt: HostRuntime) -> Result<(), Fail> {
     let alloc = rt.alloc();
-    let long = vec![in alloc; 10u8; 16_777_217]?;
-    // The source, the calls of it and of the sink that fail, the file's bytes, its call that fails, and the end.
-    let rows = [
-        (
-            b"x".as_slice(),
-            (0, 0),
-            [2u8; 40].as_slice(),
-            0,
-            (7, Detail::Damaged { at: 0 }),
-        ),
-        (b"x", (0, 0), &[2; 40], 1, (6, Detail::DiskFault)),
-        // The source comes first.
-        (b"x", (1, 0), &[2; 40], 0, (4, Detail::ReadFault)),
-        (long.as_slice(), (0, 0), &[2; 40], 0, (12, Detail::TooBig)),
-        (b"x", (0, 1), b"", 0, (5, Detail::WriteFault)),
-    ];
-    for (source, calls, file, failing, end) in rows {
+    for (name, calls, file, failing, end) in FAULTS {
         let disk = disk_of(alloc, file, failing)?;
-        assert_eq!(rt; checked(&rt, alloc, source, calls, disk)?, end);
+        holds(checked(&rt, alloc, b"x", calls, disk)? == end, name)?;
     }
-    Ok(())
+    let long = vec![in alloc; 10u8; 16_777_217]?;
+    let disk = disk_of(alloc, &DAMAGED, 0)?;
+    let end = checked(&rt, alloc, &long, (0, 0), disk)?;
+    holds(end == (12, Detail::TooBig), "a source that is too big")
 }

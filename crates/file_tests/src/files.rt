@@ -24,12 +24,23 @@ enum Found {
     Damage(u64),
 }
 
-fn disk_with(alloc: Global, bytes: &[u8]) -> Result<MemDisk, Fail> {
-    Ok(MemDisk::new(alloc, Vec::from_slice(alloc, bytes)?, Vec::new(alloc)))
+/// A disk that holds these bytes, and fails at the call of this number, from 1.
+pub fn disk_of(alloc: Global, bytes: &[u8], failing: u64) -> Result<MemDisk, Fail> {
+    let failing = Vec::from_slice(alloc, &[failing])?;
+    Ok(MemDisk::new(alloc, Vec::from_slice(alloc, bytes)?, failing))
+}
+
+/// Fails a test at this number of what is told where what it holds of it isn't so.
+pub fn holds_at(is: bool, told: &str, number: u64) -> Result<(), Fail> {
+    if is {
+        Ok(())
+    } else {
+        Err(Fail::new(format_args!("at {told} {number}")))
+    }
 }
 
 fn loaded(alloc: Global, bytes: &[u8]) -> Result<Found, Fail> {
-    let mut disk = disk_with(alloc, bytes)?;
+    let mut disk = disk_of(alloc, bytes, 0)?;
     match load(alloc, &mut disk) {
         Ok(Loaded::NotBegun) => Ok(Found::Records(0)),
         Ok(Loaded::Begun { state, .. }) => Ok(Found::Records(state.records())),
@@ -39,7 +50,7 @@ fn loaded(alloc: Global, bytes: &[u8]) -> Result<Found, Fail> {
 }
 
 fn audited(alloc: Global, bytes: &[u8]) -> Result<Found, Fail> {
-    let mut disk = disk_with(alloc, bytes)?;
+    let mut disk = disk_of(alloc, bytes, 0)?;
     match audit(alloc, &mut disk) {
         Ok(AuditEnd::Sound { records, .. }) => Ok(Found::Records(records)),
         Ok(AuditEnd::Broken { at, .. }) => Ok(Found::Damage(at)),
@@ -86,16 +97,16 @@ fn flipped(at: usize, bits: u8) -> Result<([u8; 222], u8), Fail> {
     Ok((file, byte))
 }
 
+const BITS: [u8; 3] = [1, 0x80, 0xff];
+
 #[test]
 fn each_byte_of_a_file_changes_in_turn(rt: HostRuntime) -> Result<(), Fail> {
     let alloc = rt.alloc();
-    for bits in [1u8, 0x80, 0xff] {
+    for bits in BITS {
         for at in 0..222usize {
             let (file, byte) = flipped(at, bits)?;
-            assert!(rt;
-                is_found(alloc, &file, changed(at, byte))?,
-                "byte {at} is {byte}"
-            );
+            let is_found = is_found(alloc, &file, changed(at, byte))?;
+            holds_at(is_found, "byte", at as u64)?;
         }
     }
     Ok(())
@@ -117,7 +128,8 @@ fn a_file_is_cut_at_each_byte(rt: HostRuntime) -> Result<(), Fail> {
     let alloc = rt.alloc();
     for left in 0..223usize {
         let front = FILE.get(..left).ok_or("a front of the file")?;
-        assert!(rt; is_found(alloc, front, cut_to(left))?, "{left} bytes");
+        let is_found = is_found(alloc, front, cut_to(left))?;
+        holds_at(is_found, "length", left as u64)?;
     }
     Ok(())
 }

@@ -1,4 +1,5 @@
 // Files of version 1 that are moved to new files while a disk fails. The bytes were made by another program.
+use crate::files::{disk_of, holds_at};
 use chain_disk::{Disk, Fill, MemDisk};
 use chain_store::OpenCause;
 use parties::Nif;
@@ -22,11 +23,6 @@ const OLD: &[u8; 98] = b"\
 \x01\x00\x00\x00I\x01\x01\x00\x00\x00\x01\x03A-1\x00\x00Ny\x01\x00\x00\x00\x01\x00\x00\x00\x00\x00\x00\x00'\x10\x00\x00\x00\x00\x00\x00\x00gu\x04\x10\x00<\
 \xd8\x8bB\xf8\xd1\x1cN\xa2\x11%\x02\xec\x99/\x05Z~\x94\xf7\x96\xd6p\x955\x9b\x94jJ[\x03\xe6\x16\
 \x00";
-
-fn disk_of(alloc: Global, bytes: &[u8], failing: u64) -> Result<MemDisk, Fail> {
-    let failing = vec![in alloc; failing]?;
-    Ok(MemDisk::new(alloc, Vec::from_slice(alloc, bytes)?, failing))
-}
 
 // Why a file wasn't moved, None where it was, and the new disk.
 fn moved(alloc: Global, old: &mut MemDisk, new: MemDisk) -> (Option<MoveCause>, MemDisk) {
@@ -104,26 +100,33 @@ fn longer(alloc: Global) -> Result<Vec<u8>, Fail> {
     Ok(bytes)
 }
 
+// Moves the old file to a new disk that has these bytes before, while the call of this number of one of the disks fails.
+fn moves_at(alloc: Global, of_old: u64, of_new: u64, before: &[u8]) -> Result<(), Fail> {
+    let call = of_old.max(of_new);
+    let mut old = disk_of(alloc, OLD, of_old)?;
+    let (cause, new) = moved(alloc, &mut old, disk_of(alloc, before, of_new)?);
+    let wanted = match (old.faults(), new.faults()) {
+        (0, 0) => None,
+        (0, _) => Some(MoveCause::NewFault),
+        _ => Some(MoveCause::OldFault),
+    };
+    holds_at(cause == wanted, "call", call)?;
+    holds_at(call != 1 || cause.is_some(), "call", call)?;
+    holds_at(call != 39 || cause.is_none(), "call", call)?;
+    holds_at(is_safe(alloc, &new, cause.is_none())?, "call", call)?;
+    let is_kept = old.image(alloc, 1, Fill::New)?.is_none();
+    holds_at(is_kept, "call", call)
+}
+
 #[test]
 fn each_call_of_a_migration_fails_in_turn(rt: HostRuntime) -> Result<(), Fail> {
     let alloc = rt.alloc();
+    let longer = longer(alloc)?;
     for call in 1..40u64 {
-        for (of_old, of_new) in [(call, 0), (0, call)] {
-            for before in [Vec::new(alloc), longer(alloc)?] {
-                let mut old = disk_of(alloc, OLD, of_old)?;
-                let (cause, new) = moved(alloc, &mut old, disk_of(alloc, &before, of_new)?);
-                let wanted = match (old.faults(), new.faults()) {
-                    (0, 0) => None,
-                    (0, _) => Some(MoveCause::NewFault),
-                    _ => Some(MoveCause::OldFault),
-                };
-                assert_eq!(rt; cause, wanted, "call {call}");
-                assert!(rt; call != 1 || cause.is_some());
-                assert!(rt; call != 39 || cause.is_none());
-                assert!(rt; is_safe(alloc, &new, cause.is_none())?, "call {call}");
-                assert!(rt; old.image(alloc, 1, Fill::New)?.is_none());
-            }
-        }
+        moves_at(alloc, call, 0, &[])?;
+        moves_at(alloc, 0, call, &[])?;
+        moves_at(alloc, call, 0, &longer)?;
+        moves_at(alloc, 0, call, &longer)?;
     }
     Ok(())
 }

@@ -10,6 +10,7 @@ use journal::StoreFault;
 use parties::Nif;
 use ports::{Clock, CountingClock};
 use recovery::open_store;
+use rows::holds;
 use script::MAX_SCRIPT;
 use shop_core::Reply;
 use std::alloc::Global;
@@ -152,10 +153,11 @@ fn each_issuer_has_its_own_serials(rt: HostRuntime) -> Result<(), Fail> {
     let bytes = b"clock 1735722000 0\nissuer 89890001K\nsale 1 1 A F2 21:10000\n\
         issuer 12345678Z\nsale 1 1 A F2 21:10000\n";
     let answers = answers(rt.alloc(), 2, None, bytes.as_slice())?;
-    let answers = answers.as_slice();
-    assert!(rt; answers.len() == 2);
-    assert!(rt; is_first(&answers[0], 0, FIRST));
-    assert!(rt; is_first(&answers[1], 1, SECOND));
+    let [first, second] = answers.as_slice() else {
+        return Err(Fail::from("two answers"));
+    };
+    holds(is_first(first, 0, FIRST), "the first issuer")?;
+    holds(is_first(second, 1, SECOND), "the second issuer")?;
     Ok(())
 }
 
@@ -189,11 +191,12 @@ fn a_disk_that_fails_is_its_issuers_alone(rt: HostRuntime) -> Result<(), Fail> {
     let mut seen = 0usize;
     for call in 1..40 {
         if let Ok(some) = answers(alloc, 8, Some(call), THREE) {
-            assert!(rt; others_agree(whole.as_slice(), some.as_slice()), "{call}");
+            let agree = others_agree(whole.as_slice(), some.as_slice());
+            holds(agree, "the others")?;
             seen = failed(some.as_slice()).saturating_add(seen);
         }
     }
-    assert!(rt; seen > 5, "{seen}");
+    holds(seen > 5, "so many faults")?;
     Ok(())
 }
 
@@ -211,10 +214,12 @@ fn an_issuer_is_answered_as_alone(rt: HostRuntime) -> Result<(), Fail> {
         let [first, others @ ..] = left else {
             return Err(Fail::from("an answer"));
         };
-        assert!(rt; (first.till, first.serial) == (answer.till, answer.serial));
-        assert!(rt; first.reply == answer.reply, "{first:?}");
+        holds(first.till == answer.till, "the till")?;
+        holds(first.serial == answer.serial, "the serial")?;
+        holds(first.reply == answer.reply, "the reply")?;
         left = others;
     }
-    assert!(rt; left.is_empty() && both.as_slice().len() == 6);
+    holds(left.is_empty(), "no other answer")?;
+    holds(both.as_slice().len() == 6, "the answers of both")?;
     Ok(())
 }

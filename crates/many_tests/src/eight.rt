@@ -4,6 +4,7 @@ use agency_port::PracticeAgency;
 use chain_disk::{Disk, MemDisk};
 use ports::{CountingClock, LeapSleeper, MemSink, MemSource, OpenGate};
 use report::{Detail, Ended};
+use rows::holds;
 use std::alloc::Global;
 use std::sync::Wait;
 use std::test::Fail;
@@ -148,15 +149,13 @@ fn eight(rt: &(impl AllocGlobal + Threads + Wait + Sync)) -> Result<Left, Fail> 
 fn a_fault_of_one_issuer_stops_no_other(rt: HostRuntime) -> Result<(), Fail> {
     let left = eight(&rt)?;
     let wanted = format!(in rt.alloc(); "{FIRST_TWO}{FAULTY_THREE}{LAST_THREE}")?;
-    assert_eq!(rt; left.text.as_slice(), wanted.as_bytes());
-    assert_eq!(rt; left.ended.status, 7);
-    assert_eq!(rt;
-        left.ended.detail,
-        Detail::Issuer {
-            index: 2,
-            status: 7
-        }
-    );
+    holds(left.text.as_slice() == wanted.as_bytes(), "the text")?;
+    holds(left.ended.status == 7, "the status")?;
+    let third = Detail::Issuer {
+        index: 2,
+        status: 7,
+    };
+    holds(left.ended.detail == third, "the third issuer")?;
     Ok(())
 }
 
@@ -171,14 +170,16 @@ fn an_issuer_is_told_the_same_whoever_is_beside_it(rt: HostRuntime) -> Result<()
         disk_of(alloc, &[], 0)?,
         more,
     )?;
-    assert_eq!(rt; two.ended.status, 0);
-    assert_eq!(rt; two.text.as_slice(), FIRST_TWO.as_bytes());
+    holds(two.ended.status == 0, "the status of two")?;
+    holds(
+        two.text.as_slice() == FIRST_TWO.as_bytes(),
+        "the text of two",
+    )?;
     let mut left = eight(&rt)?;
-    assert!(rt; left.text.as_slice().starts_with(two.text.as_slice()));
+    let same = left.text.as_slice().starts_with(two.text.as_slice());
+    holds(same, "the text of eight")?;
     let mut disk = two.disk;
-    assert_eq!(rt;
-        bytes_of(alloc, &mut left.disk)?,
-        bytes_of(alloc, &mut disk)?
-    );
+    let first = bytes_of(alloc, &mut left.disk)?;
+    holds(first == bytes_of(alloc, &mut disk)?, "the first file")?;
     Ok(())
 }

@@ -2,6 +2,7 @@ use crate::records::{batch, chain, number};
 use agency_port::{Agency, Message, PracticeAgency};
 use agency_rules::{Fate, Fates, Plan, PlannedFate, PlannedVerdict, Verdict, Verdicts};
 use batches::{Batch, Huellas};
+use rows::holds;
 use std::alloc::{AllocError, Global};
 use std::fmt::Write;
 use std::test::Fail;
@@ -99,12 +100,23 @@ fn put_sums(agency: &PracticeAgency, text: &mut String) -> Result<(), AllocError
     write!(text, "processed {processed} sent {sent} faults {faults}; ")
 }
 
+fn two_sales(alloc: Global) -> Result<Batch, Fail> {
+    let records = chain(alloc, 2)?;
+    batch(alloc, &records)
+}
+
+// A practice agency whose call of this number this befalls.
+fn begun(alloc: Global, at: u32, fate: Fate) -> Result<PracticeAgency, Fail> {
+    let plan = plan(alloc, at, fate)?;
+    let mut agency = PracticeAgency::new(alloc);
+    agency.begin(alloc, &plan, &[])?;
+    Ok(agency)
+}
+
 // What a practice agency says where this befalls this call, while two sales go through these calls, and what it holds then.
 fn told(alloc: Global, at: u32, fate: Fate, calls: &[Step]) -> Result<String, Fail> {
-    let records = chain(alloc, 2)?;
-    let batch = batch(alloc, &records)?;
-    let mut agency = PracticeAgency::new(alloc);
-    agency.begin(alloc, &plan(alloc, at, fate)?, &[])?;
+    let batch = two_sales(alloc)?;
+    let mut agency = begun(alloc, at, fate)?;
     let mut text = String::new(alloc);
     make_calls(alloc, &mut agency, &batch, calls, &mut text)?;
     put_sums(&agency, &mut text)?;
@@ -143,26 +155,34 @@ const CONSULTATION: [Step; 2] = [Step::Submit, Step::Consult];
 
 const SUBMISSIONS: [Step; 4] = [Step::Submit, Step::Submit, Step::Submit, Step::Consult];
 
+// The calls, the one that the fate befalls, and what the agency says.
+const CALLS: [(&str, &[Step], u32, Fate, &str); 13] = [
+    ("call 9 lost", &SUBMISSION, 9, Fate::Lost, FINE),
+    ("call 1 again", &SUBMISSION, 1, Fate::Again, FINE),
+    ("call 1 lost", &SUBMISSION, 1, Fate::Lost, LOST),
+    ("call 1 taken", &SUBMISSION, 1, Fate::Taken, TAKEN),
+    ("call 1 late 1", &SUBMISSION, 1, Fate::Late(1), TAKEN),
+    ("call 1 late 2", &SUBMISSION, 1, Fate::Late(2), LATE),
+    ("call 1 stale", &SUBMISSION, 1, Fate::Stale, STALE),
+    (
+        "call 2 of 4 stale",
+        &SUBMISSIONS,
+        2,
+        Fate::Stale,
+        STALE_OF_THE_BATCH,
+    ),
+    ("call 2 lost", &CONSULTATION, 2, Fate::Lost, UNANSWERED),
+    ("call 2 taken", &CONSULTATION, 2, Fate::Taken, UNANSWERED),
+    ("call 2 late 1", &CONSULTATION, 2, Fate::Late(1), UNANSWERED),
+    ("call 2 stale", &CONSULTATION, 2, Fate::Stale, UNANSWERED),
+    ("call 2 again", &CONSULTATION, 2, Fate::Again, ANSWERED),
+];
+
 #[test]
 fn each_fate_of_a_call(rt: HostRuntime) -> Result<(), Fail> {
-    let rows = [
-        (SUBMISSION.as_slice(), 9, Fate::Lost, FINE),
-        (&SUBMISSION, 1, Fate::Again, FINE),
-        (&SUBMISSION, 1, Fate::Lost, LOST),
-        (&SUBMISSION, 1, Fate::Taken, TAKEN),
-        (&SUBMISSION, 1, Fate::Late(1), TAKEN),
-        (&SUBMISSION, 1, Fate::Late(2), LATE),
-        (&SUBMISSION, 1, Fate::Stale, STALE),
-        (&SUBMISSIONS, 2, Fate::Stale, STALE_OF_THE_BATCH),
-        (&CONSULTATION, 2, Fate::Lost, UNANSWERED),
-        (&CONSULTATION, 2, Fate::Taken, UNANSWERED),
-        (&CONSULTATION, 2, Fate::Late(1), UNANSWERED),
-        (&CONSULTATION, 2, Fate::Stale, UNANSWERED),
-        (&CONSULTATION, 2, Fate::Again, ANSWERED),
-    ];
-    for (calls, at, fate, expected) in rows {
+    for (name, calls, at, fate, expected) in CALLS {
         let text = told(rt.alloc(), at, fate, calls)?;
-        assert_eq!(rt; text.as_str(), expected, "call {at} {fate:?}");
+        holds(text.as_str() == expected, name)?;
     }
     Ok(())
 }

@@ -1,21 +1,37 @@
 use crate::records::{batch, chain};
 use batches::{Batches, Huellas, are_linked};
+use record_fields::Sealed;
+use rows::holds;
+use std::alloc::Global;
 use std::test::Fail;
+
+// How many batches there are where a copy of the records' batch is the only one.
+fn batched(alloc: Global, records: &[Sealed]) -> Result<usize, Fail> {
+    let mut batches = Batches::of(Vec::new(alloc));
+    batches.push(batch(alloc, records)?.copied(alloc)?)?;
+    Ok(batches.as_slice().len())
+}
+
+// Whether a copy of the Huellas of two records is one of these.
+fn are_named(alloc: Global, records: &[Sealed], these: &[Sealed]) -> Result<bool, Fail> {
+    let copy = Huellas::of(alloc, records)?.copied(alloc)?;
+    if copy.as_slice().len() == 2 {
+        Ok(copy.are_of(these))
+    } else {
+        Err(Fail::from("two Huellas"))
+    }
+}
 
 #[test]
 fn batches_are_listed_and_huellas_named(rt: HostRuntime) -> Result<(), Fail> {
     let alloc = rt.alloc();
     let records = chain(alloc, 2)?;
-    let mut batches = Batches::of(Vec::new(alloc));
-    batches.push(batch(alloc, &records)?.copied(alloc)?)?;
-    assert_eq!(rt; batches.as_slice().len(), 1);
-    let copy = Huellas::of(alloc, &records)?.copied(alloc)?;
-    assert_eq!(rt; copy.as_slice().len(), 2);
-    assert!(rt; copy.are_of(&records));
-    assert!(rt; !copy.are_of(&records[..1]));
     let mut turned = chain(alloc, 2)?;
     turned.reverse();
-    assert!(rt; !copy.are_of(&turned));
-    assert!(rt; !are_linked(&turned));
-    Ok(())
+    holds(batched(alloc, &records)? == 1, "one batch")?;
+    holds(are_named(alloc, &records, &records)?, "the records")?;
+    let first = records.get(..1).ok_or("a first record")?;
+    holds(!are_named(alloc, &records, first)?, "the first alone")?;
+    let is_named = are_named(alloc, &records, &turned)?;
+    holds(!is_named && !are_linked(&turned), "the records turned")
 }

@@ -11,6 +11,7 @@ use record_codec::{
 use record_fields::{
     Alta, Anulacion, Cause, Draft, Line, Lines, Link, Previo, Record, Refs, Sealed,
 };
+use rows::holds;
 use series::InvoiceId;
 use stamps::{Day, Stamp};
 use std::alloc::Global;
@@ -219,13 +220,38 @@ fn is_coded(alloc: Global, entry: &Entry, bytes: &[u8]) -> Result<bool, Fail>
     }
 }
 
+#[derive(Clone, Copy)]
+enum Made {
+    Sale,
+    Rectified,
+    Cancelled,
+    Noted,
+}
+
+fn entry_of(alloc: Global, what: Made) -> Result<Entry, Fail>
+    ensures { IfOk result (λ entry. InRanges entry) }
+{
+    match what {
+        Made::Sale => sale(alloc, "21"),
+        Made::Rectified => rectified(alloc),
+        Made::Cancelled => cancelled(),
+        Made::Noted => noted(alloc),
+    }
+}
+
+const CODED: [(&str, Made, &[u8]); 4] = [
+    ("a sale", Made::Sale, &SALE),
+    ("a rectification", Made::Rectified, &RECTIFIED),
+    ("a cancellation", Made::Cancelled, &CANCELLED),
+    ("notes", Made::Noted, &NOTED),
+];
+
 #[test]
 fn entries_have_their_bytes(rt: HostRuntime) -> Result<(), Fail> {
-    let alloc = rt.alloc();
-    assert!(rt; is_coded(alloc, &sale(alloc, "21")?, &SALE)?);
-    assert!(rt; is_coded(alloc, &rectified(alloc)?, &RECTIFIED)?);
-    assert!(rt; is_coded(alloc, &cancelled()?, &CANCELLED)?);
-    assert!(rt; is_coded(alloc, &noted(alloc)?, &NOTED)?);
+    for (name, what, bytes) in CODED {
+        let entry = entry_of(rt.alloc(), what)?;
+        holds(is_coded(rt.alloc(), &entry, bytes)?, name)?;
+    }
     Ok(())
 }
 
@@ -233,11 +259,10 @@ fn entries_have_their_bytes(rt: HostRuntime) -> Result<(), Fail> {
 fn the_first_sale_is_written_in_73_bytes(rt: HostRuntime) -> Result<(), Fail> {
     let mut out = [0; 4096];
     let sale = sale(rt.alloc(), "21")?;
-    assert!(rt; fits(Version::One, &sale));
+    holds(fits(Version::One, &sale), "it fits")?;
     let n = write_entry(Version::One, &sale, &mut out);
-    assert_eq!(rt; n, 73);
-    assert!(rt; out.starts_with(&SALE));
-    Ok(())
+    holds(n == 73, "its length")?;
+    holds(out.starts_with(&SALE), "its bytes")
 }
 
 // The place of the first wrong field, None where the bytes are an entry's.
@@ -350,23 +375,24 @@ fn are_cut(alloc: Global, bytes: &[u8], cuts: &[(usize, usize)]) -> Result<bool,
 
 const CUTS: [(usize, usize); 7] = [(0, 0), (1, 1), (5, 2), (9, 6), (26, 20), (40, 39), (72, 41)];
 
+const CHANGES: [(&str, &[u8], &[Change]); 4] = [
+    ("the sale", &SALE, &OF_SALE),
+    ("the rectification", &RECTIFIED, &OF_RECTIFIED),
+    ("the cancellation", &CANCELLED, &OF_CANCELLED),
+    ("the notes", &NOTED, &OF_NOTED),
+];
+
 #[test]
 fn the_first_wrong_field_is_named(rt: HostRuntime) -> Result<(), Fail> {
     let alloc = rt.alloc();
-    let rows = [
-        (SALE.as_slice(), OF_SALE.as_slice()),
-        (&RECTIFIED, &OF_RECTIFIED),
-        (&CANCELLED, &OF_CANCELLED),
-        (&NOTED, &OF_NOTED),
-    ];
-    for (bytes, changes) in rows {
-        assert!(rt; are_named(alloc, bytes, changes)?, "{bytes:?}");
+    for (name, bytes, changes) in CHANGES {
+        holds(are_named(alloc, bytes, changes)?, name)?;
     }
-    assert!(rt; are_cut(alloc, &SALE, &CUTS)?);
+    holds(are_cut(alloc, &SALE, &CUTS)?, "the sale that is cut")?;
     let mut more = SALE.to_vec(alloc)?;
     more.push(0)?;
-    assert_eq!(rt; fault(alloc, Version::One, &more)?, Some(73));
-    Ok(())
+    let at = fault(alloc, Version::One, &more)?;
+    holds(at == Some(73), "the sale and a byte")
 }
 
 // The bytes of a sale in version two have this line.
@@ -377,23 +403,31 @@ fn has_line(alloc: Global, word: &str, line: &[u8]) -> Result<bool, Fail> {
 }
 
 // The place, the byte that it is changed to, and the field that is then wrong.
-const OF_LINE: [(usize, u8, Option<usize>); 6] = [
-    (99, 0, None),
-    (19, 0, Some(19)),
-    (19, 4, Some(19)),
-    (20, 16, Some(20)),
-    (20, 17, Some(20)),
-    (21, 9, Some(21)),
+const OF_LINE: [(&str, usize, u8, Option<usize>); 6] = [
+    ("no change", 99, 0, None),
+    ("tax 0", 19, 0, Some(19)),
+    ("tax 4", 19, 4, Some(19)),
+    ("class 16", 20, 16, Some(20)),
+    ("class 17", 20, 17, Some(20)),
+    ("rate 9", 21, 9, Some(21)),
+];
+
+const LINES: [(&str, [u8; 12]); 2] = [
+    (
+        "03/700",
+        [0x03, 0x10, 0x02, 0xbc, 0, 0, 0, 0, 0, 0, 0x27, 0x10],
+    ),
+    ("21", [0x01, 0x00, 0x08, 0x34, 0, 0, 0, 0, 0, 0, 0x27, 0x10]),
 ];
 
 #[test]
 fn a_line_has_its_tax_its_class_and_its_rate_in_version_two(rt: HostRuntime) -> Result<(), Fail> {
     let alloc = rt.alloc();
-    assert!(rt; !fits(Version::One, &sale(alloc, "03/700")?));
-    let line = [0x03, 0x10, 0x02, 0xbc, 0, 0, 0, 0, 0, 0, 0x27, 0x10];
-    assert!(rt; has_line(alloc, "03/700", &line)?);
-    let line = [0x01, 0x00, 0x08, 0x34, 0, 0, 0, 0, 0, 0, 0x27, 0x10];
-    assert!(rt; has_line(alloc, "21", &line)?);
+    let fits = fits(Version::One, &sale(alloc, "03/700")?);
+    holds(!fits, "version one")?;
+    for (word, line) in LINES {
+        holds(has_line(alloc, word, &line)?, word)?;
+    }
     Ok(())
 }
 
@@ -406,16 +440,16 @@ fn new_bytes(alloc: Global) -> Result<Vec<u8>, Fail> {
 #[test]
 fn a_wrong_tax_class_or_rate_is_named(rt: HostRuntime) -> Result<(), Fail> {
     let bytes = new_bytes(rt.alloc())?;
-    assert!(rt; head_of(&bytes) == head_of(&SALE));
-    for (place, byte, at) in OF_LINE {
+    holds(head_of(&bytes) == head_of(&SALE), "the head")?;
+    for (name, place, byte, at) in OF_LINE {
         let found = fault_with(rt.alloc(), Version::Two, &bytes, place, byte)?;
-        assert_eq!(rt; found, at, "{byte}");
+        holds(found == at, name)?;
     }
     Ok(())
 }
 
 #[test]
-fn heads_are_read_from_the_bytes(rt: HostRuntime) -> Result<(), Fail> {
+fn heads_are_read_from_the_bytes() -> Result<(), Fail> {
     let head = Head {
         id: id("A-1", 20_089)?,
         moment: moment(TEN, 60)?,
@@ -423,7 +457,6 @@ fn heads_are_read_from_the_bytes(rt: HostRuntime) -> Result<(), Fail> {
         is_alta: true,
         is_f2: true,
     };
-    assert_eq!(rt; head_of(&SALE), Some(head));
-    assert_eq!(rt; head_of(&NOTED), None);
-    Ok(())
+    holds(head_of(&SALE) == Some(head), "of a sale")?;
+    holds(head_of(&NOTED).is_none(), "of notes")
 }

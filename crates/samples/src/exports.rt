@@ -5,6 +5,7 @@ use export::{Head, LineFault, entry_text, head_text, objects_are_apart, read_ent
 use invoice_kinds::Kind;
 use record_codec::{Entry, Version};
 use record_fields::{Link, Record, Sealed};
+use rows::holds;
 use std::alloc::Global;
 use std::test::Fail;
 use tax_lines::LineKey;
@@ -51,28 +52,21 @@ const NO_HEADS: [&str; 8] = [
     r#"{"issuer":"89890001K","n":0,"t":"chain","version":2}"#,
 ];
 
-// The first of the lines that is read as a head, or refused for another cause than its shape.
-fn first_head(alloc: Global, lines: &[&str]) -> Option<usize> {
-    for (i, line) in lines.iter().enumerate() {
-        if read_head(alloc, line.as_bytes()).err() != Some(LineFault::Shape) {
-            return Some(i);
-        }
-    }
-    None
-}
-
 #[test]
 fn a_head_is_written_and_read(rt: HostRuntime) -> Result<(), Fail> {
     let alloc = rt.alloc();
     let issuer = issuer()?;
     let version = Version::Two;
     let text = head_text(alloc, &issuer, version)?;
-    assert_eq!(rt; text.as_slice(), HEAD.as_bytes());
+    holds(text.as_slice() == HEAD.as_bytes(), "written")?;
     let head = Head { issuer, version };
-    assert_eq!(rt; read_head(alloc, text.as_slice()), Ok(head));
-    assert_eq!(rt; first_head(alloc, &NO_HEADS), None);
-    assert_eq!(rt; read_head(alloc, b"{").err(), Some(LineFault::Json));
-    Ok(())
+    holds(read_head(alloc, text.as_slice()) == Ok(head), "read")?;
+    for line in NO_HEADS {
+        let fault = read_head(alloc, line.as_bytes()).err();
+        holds(fault == Some(LineFault::Shape), line)?;
+    }
+    let fault = read_head(alloc, b"{").err();
+    holds(fault == Some(LineFault::Json), "{")
 }
 
 // The entry has this text, is read of it, and has it again.
@@ -83,15 +77,43 @@ fn is_line(alloc: Global, entry: &Entry, line: &str) -> Result<bool, Fail> {
     Ok(text.as_slice() == line.as_bytes() && again.as_slice() == line.as_bytes())
 }
 
+#[derive(Clone, Copy)]
+enum Made {
+    TwoTaxes,
+    Rectified,
+    Cancelled,
+    Noted,
+}
+
+// There are no clauses here, so that those of the entries stay out of the test's proof.
+fn entry_of(alloc: Global, what: Made) -> Result<Entry, Fail> {
+    match what {
+        Made::TwoTaxes => two_taxes(alloc),
+        Made::Rectified => rectified(alloc),
+        Made::Cancelled => cancelled(),
+        Made::Noted => noted(alloc),
+    }
+}
+
+const LINES: [(Made, &str); 4] = [
+    (Made::TwoTaxes, TWO_TAXES),
+    (Made::Rectified, RECTIFIED),
+    (Made::Cancelled, CANCELLED),
+    (Made::Noted, NOTED),
+];
+
 #[test]
 fn entries_are_written_and_read(rt: HostRuntime) -> Result<(), Fail> {
-    objects_are_apart();
-    let alloc = rt.alloc();
-    assert!(rt; is_line(alloc, &two_taxes(alloc)?, TWO_TAXES)?);
-    assert!(rt; is_line(alloc, &rectified(alloc)?, RECTIFIED)?);
-    assert!(rt; is_line(alloc, &cancelled()?, CANCELLED)?);
-    assert!(rt; is_line(alloc, &noted(alloc)?, NOTED)?);
+    for (what, line) in LINES {
+        let entry = entry_of(rt.alloc(), what)?;
+        holds(is_line(rt.alloc(), &entry, line)?, line)?;
+    }
     Ok(())
+}
+
+#[test]
+fn no_object_is_of_two_kinds() {
+    objects_are_apart();
 }
 
 const NO_JSON: [&str; 7] = [
@@ -164,50 +186,63 @@ fn fault_in(alloc: Global, version: Version, line: &[u8]) -> Result<Option<LineF
     Ok(read_entry(alloc, version, &issuer, line).err())
 }
 
-// The first of the lines that has another fault than this.
-fn first_other(alloc: Global, lines: &[&str], fault: LineFault) -> Result<Option<usize>, Fail> {
-    for (i, line) in lines.iter().enumerate() {
-        if fault_in(alloc, Version::Two, line.as_bytes())? != Some(fault) {
-            return Ok(Some(i));
-        }
-    }
-    Ok(None)
-}
-
 // The text with another one in place of its first `old`.
 fn with(alloc: Global, text: &str, old: &str, new: &str) -> Result<String, Fail> {
     let (front, back) = text.split_once(old).ok_or("the old text")?;
     Ok(format!(in alloc; "{front}{new}{back}")?)
 }
 
-// The first of the changes that leaves a line of an entry, or none of the language.
-fn first_right(alloc: Global, changes: &[(&str, &str, &str)]) -> Result<Option<usize>, Fail> {
-    for (i, (text, old, new)) in changes.iter().enumerate() {
-        let line = with(alloc, text, old, new)?;
-        if fault_in(alloc, Version::Two, line.as_bytes())? != Some(LineFault::Shape) {
-            return Ok(Some(i));
-        }
-    }
-    Ok(None)
+// Fails at this row where the fault of a line is another than this.
+fn has_fault(alloc: Global, line: &[u8], fault: LineFault, row: &str) -> Result<(), Fail> {
+    holds(fault_in(alloc, Version::Two, line)? == Some(fault), row)
 }
 
 #[test]
 fn lines_of_no_entry_are_named(rt: HostRuntime) -> Result<(), Fail> {
     let alloc = rt.alloc();
-    assert_eq!(rt; first_other(alloc, &NO_JSON, LineFault::Json)?, None);
-    assert_eq!(rt; first_other(alloc, &NO_ENTRIES, LineFault::Shape)?, None);
-    assert_eq!(rt; first_right(alloc, &WRONG)?, None);
-    let (deep, low) = (nested(alloc, 200)?, nested(alloc, 100)?);
-    let rows = [
-        (Version::Two, b"\"\xff\"".as_slice(), Some(LineFault::Json)),
-        (Version::Two, &deep, Some(LineFault::Json)),
-        (Version::Two, &low, Some(LineFault::Shape)),
-        (Version::One, TWO_TAXES.as_bytes(), Some(LineFault::Shape)),
-        (Version::One, RECTIFIED.as_bytes(), None),
-        (Version::One, NOTED.as_bytes(), None),
-    ];
-    for (version, line, fault) in rows {
-        assert_eq!(rt; fault_in(alloc, version, line)?, fault);
+    for line in NO_JSON {
+        has_fault(alloc, line.as_bytes(), LineFault::Json, line)?;
+    }
+    for line in NO_ENTRIES {
+        has_fault(alloc, line.as_bytes(), LineFault::Shape, line)?;
+    }
+    has_fault(alloc, b"\"\xff\"", LineFault::Json, "no UTF-8")
+}
+
+// Fails where one of the changes leaves a line of an entry, or none of the language.
+fn are_wrong(alloc: Global, changes: &[(&str, &str, &str)]) -> Result<(), Fail> {
+    for (text, old, new) in changes {
+        let line = with(alloc, text, old, new)?;
+        has_fault(alloc, line.as_bytes(), LineFault::Shape, line.as_str())?;
+    }
+    Ok(())
+}
+
+const NESTED: [(&str, usize, LineFault); 2] = [
+    ("200 levels", 200, LineFault::Json),
+    ("100 levels", 100, LineFault::Shape),
+];
+
+#[test]
+fn changed_and_nested_lines_are_named(rt: HostRuntime) -> Result<(), Fail> {
+    for (name, levels, fault) in NESTED {
+        let line = nested(rt.alloc(), levels)?;
+        has_fault(rt.alloc(), &line, fault, name)?;
+    }
+    are_wrong(rt.alloc(), &WRONG)
+}
+
+const IN_VERSION_ONE: [(&str, Option<LineFault>); 3] = [
+    (TWO_TAXES, Some(LineFault::Shape)),
+    (RECTIFIED, None),
+    (NOTED, None),
+];
+
+#[test]
+fn a_line_of_another_tax_is_none_of_version_one(rt: HostRuntime) -> Result<(), Fail> {
+    for (line, fault) in IN_VERSION_ONE {
+        let found = fault_in(rt.alloc(), Version::One, line.as_bytes())?;
+        holds(found == fault, line)?;
     }
     Ok(())
 }

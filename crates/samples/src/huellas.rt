@@ -3,6 +3,7 @@ use crate::records::{after, alta, anulacion, draft_of, id, issuer, line, moment}
 use huella::{field_text, field_text_of, huella_of, huella_text, seal};
 use invoice_kinds::Kind;
 use record_fields::{Link, Record};
+use rows::holds;
 use std::alloc::Global;
 use std::test::Fail;
 use tax_lines::{Class, LineKey};
@@ -39,6 +40,12 @@ fn says(alloc: Global, record: &Record, text: &str, huella: &str) -> Result<bool
     Ok(has_text && huella_text(&huella_of(record)).as_slice() == huella.as_bytes())
 }
 
+// The link of what comes behind this record. Fails where it has another field text or Huella.
+fn behind(alloc: Global, record: Record, text: &str, huella: &str) -> Result<Link, Fail> {
+    holds(says(alloc, &record, text, huella)?, text)?;
+    Ok(after(&seal(record)))
+}
+
 // The cancellation of the second invoice, behind its record.
 fn cancelled(link: Link) -> Result<Record, Fail> {
     let id = id("12345679/G34", "01-01-2024")?;
@@ -49,12 +56,11 @@ fn cancelled(link: Link) -> Result<Record, Fail> {
 fn the_published_examples(rt: HostRuntime) -> Result<(), Fail> {
     let alloc = rt.alloc();
     let first = invoiced(alloc, "12345678/G33", Link::First, 1_704_133_230)?;
-    assert!(rt; says(alloc, &first, FIRST_TEXT, FIRST)?);
-    let second = invoiced(alloc, "12345679/G34", after(&seal(first)), 1_704_133_235)?;
-    assert!(rt; says(alloc, &second, SECOND_TEXT, SECOND)?);
-    let third = cancelled(after(&seal(second)))?;
-    assert!(rt; says(alloc, &third, THIRD_TEXT, THIRD)?);
-    Ok(())
+    let link = behind(alloc, first, FIRST_TEXT, FIRST)?;
+    let second = invoiced(alloc, "12345679/G34", link, 1_704_133_235)?;
+    let link = behind(alloc, second, SECOND_TEXT, SECOND)?;
+    let third = cancelled(link)?;
+    holds(says(alloc, &third, THIRD_TEXT, THIRD)?, THIRD_TEXT)
 }
 
 #[test]
@@ -71,6 +77,5 @@ fn a_text_is_joined_from_its_values(rt: HostRuntime) -> Result<(), Fail> {
         None,
         "2024-01-01T19:20:30+01:00",
     )?;
-    assert!(rt; text.as_slice() == FIRST_TEXT.as_bytes());
-    Ok(())
+    holds(text.as_slice() == FIRST_TEXT.as_bytes(), FIRST_TEXT)
 }

@@ -3,6 +3,7 @@ use crate::records::{TEN, anulacion, draft, id, issuer, moment, number};
 use agency_rules::{Delivered, Pairs, Past, PlannedVerdict, Verdict, Verdicts, judge};
 use invoice_kinds::Kind;
 use record_fields::{Cause, Line, Link, Previo, Record, Sealed};
+use rows::holds;
 use std::alloc::Global;
 use std::test::Fail;
 
@@ -32,121 +33,79 @@ const VET: Option<Verdict> = Some(Verdict::Vet(4100));
 
 const WARN: Option<Verdict> = Some(Verdict::Warn(2001));
 
+const VETTED: Line = Line::Incorrecto(Cause::Vet(4100));
+
+const WARNED: Line = Line::ConErrores(2001);
+
+const GONE: Line = Line::Incorrecto(Cause::Gone);
+
+const HELD: Line = Line::Incorrecto(Cause::Held);
+
+const NOT_HELD: Line = Line::Incorrecto(Cause::NotHeld);
+
 // The table: whether the invoice is held, whether it is gone, the verdict, Subsanacion, RechazoPrevio, and the line.
-const OF_ALTAS: [(bool, bool, Option<Verdict>, bool, Previo, Line); 15] = [
+type OfAlta = (
+    &'static str,
+    bool,
+    bool,
+    Option<Verdict>,
+    bool,
+    Previo,
+    Line,
+);
+
+const OF_ALTAS: [OfAlta; 15] = [
+    ("held, vetted", true, false, VET, false, Previo::N, VETTED),
+    ("gone, vetted", false, true, VET, false, Previo::N, VETTED),
+    ("gone", false, true, None, false, Previo::N, GONE),
+    ("gone, S", false, true, WARN, true, Previo::S, GONE),
+    ("gone, X", false, true, None, true, Previo::X, GONE),
+    ("held", true, false, None, false, Previo::N, HELD),
+    ("held, S", true, false, WARN, false, Previo::S, HELD),
+    ("held, X", true, false, None, true, Previo::X, HELD),
+    ("not held", false, false, None, true, Previo::N, NOT_HELD),
+    ("not held, S", false, false, WARN, true, Previo::S, NOT_HELD),
+    ("new, warned", false, false, WARN, false, Previo::N, WARNED),
+    ("fix, warned", true, false, WARN, true, Previo::N, WARNED),
+    ("new", false, false, None, false, Previo::N, Line::Correcto),
     (
-        true,
+        "new, X",
         false,
-        VET,
-        false,
-        Previo::N,
-        Line::Incorrecto(Cause::Vet(4100)),
-    ),
-    (
-        false,
-        true,
-        VET,
-        false,
-        Previo::N,
-        Line::Incorrecto(Cause::Vet(4100)),
-    ),
-    (
-        false,
-        true,
-        None,
-        false,
-        Previo::N,
-        Line::Incorrecto(Cause::Gone),
-    ),
-    (
-        false,
-        true,
-        WARN,
-        true,
-        Previo::S,
-        Line::Incorrecto(Cause::Gone),
-    ),
-    (
-        false,
-        true,
-        None,
-        true,
-        Previo::X,
-        Line::Incorrecto(Cause::Gone),
-    ),
-    (
-        true,
-        false,
-        None,
-        false,
-        Previo::N,
-        Line::Incorrecto(Cause::Held),
-    ),
-    (
-        true,
-        false,
-        WARN,
-        false,
-        Previo::S,
-        Line::Incorrecto(Cause::Held),
-    ),
-    (
-        true,
         false,
         None,
         true,
         Previo::X,
-        Line::Incorrecto(Cause::Held),
+        Line::Correcto,
     ),
-    (
-        false,
-        false,
-        None,
-        true,
-        Previo::N,
-        Line::Incorrecto(Cause::NotHeld),
-    ),
-    (
-        false,
-        false,
-        WARN,
-        true,
-        Previo::S,
-        Line::Incorrecto(Cause::NotHeld),
-    ),
-    (false, false, WARN, false, Previo::N, Line::ConErrores(2001)),
-    (true, false, WARN, true, Previo::N, Line::ConErrores(2001)),
-    (false, false, None, false, Previo::N, Line::Correcto),
-    (false, false, None, true, Previo::X, Line::Correcto),
-    (true, false, None, true, Previo::S, Line::Correcto),
+    ("fix, S", true, false, None, true, Previo::S, Line::Correcto),
 ];
 
 #[test]
 fn altas_are_judged(rt: HostRuntime) -> Result<(), Fail> {
-    for (held, gone, verdict, subsanacion, rechazo, line) in OF_ALTAS {
+    for (name, held, gone, verdict, subsanacion, rechazo, line) in OF_ALTAS {
         let body = alta(rt.alloc(), "01-01-2025", subsanacion, rechazo)?;
-        assert_eq!(rt; judge(&past(held, gone), verdict, &body), line);
+        holds(judge(&past(held, gone), verdict, &body) == line, name)?;
     }
     Ok(())
 }
 
 // The table: whether the invoice is held, whether it is gone, the verdict, SinRegistroPrevio, and the line.
-const OF_ANULACIONES: [(bool, bool, Option<Verdict>, bool, Line); 8] = [
-    (true, false, VET, false, Line::Incorrecto(Cause::Vet(4100))),
-    (false, true, None, false, Line::Incorrecto(Cause::Gone)),
-    (false, true, None, true, Line::Incorrecto(Cause::Gone)),
-    (true, false, None, true, Line::Incorrecto(Cause::Held)),
-    (false, false, WARN, false, Line::Incorrecto(Cause::NotHeld)),
-    (true, false, WARN, false, Line::ConErrores(2001)),
-    (true, false, None, false, Line::Correcto),
-    (false, false, None, true, Line::Correcto),
+const OF_ANULACIONES: [(&str, bool, bool, Option<Verdict>, bool, Line); 8] = [
+    ("vetted", true, false, VET, false, VETTED),
+    ("gone", false, true, None, false, GONE),
+    ("gone, not registered", false, true, None, true, GONE),
+    ("held", true, false, None, true, HELD),
+    ("not held", false, false, WARN, false, NOT_HELD),
+    ("warned", true, false, WARN, false, WARNED),
+    ("taken", true, false, None, false, Line::Correcto),
+    ("not registered", false, false, None, true, Line::Correcto),
 ];
 
 #[test]
-fn anulaciones_are_judged(rt: HostRuntime) -> Result<(), Fail> {
-    for (held, gone, verdict, sin_registro, line) in OF_ANULACIONES {
+fn anulaciones_are_judged() -> Result<(), Fail> {
+    for (name, held, gone, verdict, sin_registro, line) in OF_ANULACIONES {
         let body = cancelled("01-01-2025", sin_registro)?;
-        assert_eq!(rt; judge(&past(held, gone), verdict, &body), line);
+        holds(judge(&past(held, gone), verdict, &body) == line, name)?;
     }
     Ok(())
 }
@@ -176,34 +135,27 @@ const DAY: &str = "01-01-2025";
 
 const NEXT: &str = "02-01-2025";
 
-const GONE: Line = Line::Incorrecto(Cause::Gone);
+const FINE: Delivered = Delivered::First(Line::Correcto);
 
 // A record's day, whether it cancels, its flag and its Huella, and what is met.
-type Arrival = (&'static str, bool, bool, u8, Delivered);
+type Arrival = (&'static str, &'static str, bool, bool, u8, Delivered);
 
-// An alta, its mend with a warning, its cancellation, one that comes too late, one of another day, and the late one again.
 const ARRIVALS: [Arrival; 6] = [
-    (DAY, false, false, 1, Delivered::First(Line::Correcto)),
-    (
-        DAY,
-        false,
-        true,
-        2,
-        Delivered::First(Line::ConErrores(2001)),
-    ),
-    (DAY, true, false, 3, Delivered::First(Line::Correcto)),
-    (DAY, false, false, 4, Delivered::First(GONE)),
-    (NEXT, false, false, 5, Delivered::First(Line::Correcto)),
-    (DAY, true, true, 4, Delivered::Again(GONE)),
+    ("an alta", DAY, false, false, 1, FINE),
+    ("its mend", DAY, false, true, 2, Delivered::First(WARNED)),
+    ("its cancellation", DAY, true, false, 3, FINE),
+    ("too late", DAY, false, false, 4, Delivered::First(GONE)),
+    ("another day", NEXT, false, false, 5, FINE),
+    ("late again", DAY, true, true, 4, Delivered::Again(GONE)),
 ];
 
-// Whether a record that arrives meets this.
-fn arrives(alloc: Global, pairs: &mut Pairs, arrival: Arrival) -> Result<bool, Fail> {
-    let (day, cancels, flag, n, expected) = arrival;
+// Fails where a record that arrives meets something else.
+fn arrives(alloc: Global, pairs: &mut Pairs, arrival: Arrival) -> Result<(), Fail> {
+    let (name, day, cancels, flag, n, expected) = arrival;
     let verdicts = verdicts(alloc)?;
     let sealed = record(alloc, day, cancels, flag, n)?;
     let met = pairs.deliver_record(alloc, &verdicts, &sealed)?;
-    Ok(met == expected)
+    holds(met == expected, name)
 }
 
 const PAST: Past = Past {
@@ -216,11 +168,11 @@ const PAST: Past = Past {
 fn records_are_delivered(rt: HostRuntime) -> Result<(), Fail> {
     let mut pairs = Pairs::new(rt.alloc());
     for arrival in ARRIVALS {
-        assert!(rt; arrives(rt.alloc(), &mut pairs, arrival)?);
+        arrives(rt.alloc(), &mut pairs, arrival)?;
     }
     let id = id("A-1", DAY)?;
-    assert_eq!(rt; (pairs.past_of(&id), pairs.len()), (PAST, 5));
-    Ok(())
+    holds(pairs.past_of(&id) == PAST, "the past of the invoice")?;
+    holds(pairs.len() == 5, "five records")
 }
 
 // A cancellation that finds nothing is delivered to an agency that has processed nothing.
@@ -235,9 +187,8 @@ fn with_one(alloc: Global) -> Result<Pairs, Fail> {
 #[test]
 fn a_delivery_is_taken_back(rt: HostRuntime) -> Result<(), Fail> {
     let mut pairs = with_one(rt.alloc())?;
-    let not_held = Line::Incorrecto(Cause::NotHeld);
-    assert_eq!(rt; pairs.line_of(&[9; 32]), Some(not_held));
+    holds(pairs.line_of(&[9; 32]) == Some(NOT_HELD), "delivered")?;
     pairs.truncate(0);
-    assert_eq!(rt; (pairs.line_of(&[9; 32]), pairs.len()), (None, 0));
-    Ok(())
+    holds(pairs.line_of(&[9; 32]).is_none(), "taken back")?;
+    holds(pairs.len() == 0, "none left")
 }

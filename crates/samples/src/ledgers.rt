@@ -4,6 +4,7 @@ use crate::records::{TEN, draft, issuer, number};
 use invoice_kinds::Kind;
 use record_codec::{Entry, Version};
 use record_fields::{Cause, Line, Lines};
+use rows::holds;
 use series::SeriesName;
 use shop_core::{Ask, Planned, Request, State, next_fault, plan};
 use statements::{Ledger, Month};
@@ -78,25 +79,23 @@ fn sums(ledger: &Ledger, month: u8) -> Result<(i64, i64), Fail> {
 
 const REFUSED: Line = Line::Incorrecto(Cause::Vet(4100));
 
-const STEPS: [(Step, i64, i64); 6] = [
-    (Step::Sale(10_000), 10_000, 2_100),
-    (Step::Fix(20_000), 20_000, 4_200),
-    (Step::Note(Line::Correcto), 20_000, 4_200),
-    (Step::Note(REFUSED), 10_000, 2_100),
-    (Step::Cancel, 0, 0),
-    (Step::Note(REFUSED), 10_000, 2_100),
+const STEPS: [(&str, Step, i64, i64); 6] = [
+    ("the sale", Step::Sale(10_000), 10_000, 2_100),
+    ("the fix", Step::Fix(20_000), 20_000, 4_200),
+    ("its line", Step::Note(Line::Correcto), 20_000, 4_200),
+    ("the fix refused", Step::Note(REFUSED), 10_000, 2_100),
+    ("the cancellation", Step::Cancel, 0, 0),
+    ("that refused", Step::Note(REFUSED), 10_000, 2_100),
 ];
 
 #[test]
 fn a_refused_fix_brings_the_sale_back(rt: HostRuntime) -> Result<(), Fail> {
     let alloc = rt.alloc();
     let mut ledger = Ledger::of(alloc, State::empty(alloc, &issuer()?, Version::One))?;
-    for (step, base, tax) in STEPS {
+    for (name, step, base, tax) in STEPS {
         push(alloc, &mut ledger, step)?;
-        assert_eq!(rt;
-            (sums(&ledger, 1)?, sums(&ledger, 2)?),
-            ((base, tax), (0, 0))
-        );
+        holds(sums(&ledger, 1)? == (base, tax), name)?;
+        holds(sums(&ledger, 2)? == (0, 0), name)?;
     }
     Ok(())
 }

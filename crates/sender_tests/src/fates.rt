@@ -4,6 +4,7 @@ use agency_port::{PracticeAgency, Told, Turns};
 use agency_rules::{Fate, PlannedFate};
 use once_world::PlainOutbox;
 use ports::LeapSleeper;
+use rows::holds;
 use sender::{DrainFault, Sender};
 use std::alloc::Global;
 use std::sync::Wait;
@@ -78,19 +79,20 @@ fn is_delivered(rt: &(impl AllocGlobal + Wait), call: u32, fate: Fate) -> Result
     Ok(left.ended == Ok(()) && noted == 3 && once && is_bounded(&left.told))
 }
 
+const FATES: [(&str, Fate); 6] = [
+    ("lost", Fate::Lost),
+    ("taken", Fate::Taken),
+    ("late 1", Fate::Late(1)),
+    ("late 2", Fate::Late(2)),
+    ("stale", Fate::Stale),
+    ("again", Fate::Again),
+];
+
 #[test]
 fn three_records_under_each_fate_at_each_call(rt: HostRuntime) -> Result<(), Fail> {
-    let fates = [
-        Fate::Lost,
-        Fate::Taken,
-        Fate::Late(1),
-        Fate::Late(2),
-        Fate::Stale,
-        Fate::Again,
-    ];
-    for fate in fates {
+    for (name, fate) in FATES {
         for call in 1..5u32 {
-            assert!(rt; is_delivered(&rt, call, fate)?, "call {call} {fate:?}");
+            holds(is_delivered(&rt, call, fate)?, name)?;
         }
     }
     Ok(())

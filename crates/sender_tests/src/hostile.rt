@@ -7,9 +7,9 @@ use agency_port::{
 };
 use ports::LeapSleeper;
 use record_fields::Line;
+use rows::holds;
 use sender::{DrainFault, SendFault, Sender, Turn};
 use std::alloc::Global;
-use std::process::Abort;
 use std::sync::Wait;
 use std::test::Fail;
 
@@ -58,51 +58,66 @@ fn three_turns(
     answers(rt, agency, &steps)
 }
 
-// Two sales go to an agency that forgets what it said of one of them: the turns, the place that was in doubt, and what it said.
-fn forgets(
-    rt: &(impl Abort + AllocGlobal + Wait),
-    said: [ReplyLine; 2],
-    then: [Seen; 2],
-    doubt: u32,
-    forgotten: (u32, ReplyLine),
-) -> Result<(), Fail> {
-    let mut agency = inventing(rt.alloc(), &said, &then)?;
-    let turns = three_turns(rt, &mut agency, 2)?;
-    let (place, said) = forgotten;
-    let wanted = [
-        Ok(Turn::Cleared),
-        Ok(Turn::Doubt { place: doubt }),
-        Err(SendFault::Contradiction(Evidence::Forgotten { place, said })),
-    ];
-    assert_eq!(rt; turns.as_slice(), wanted.as_slice());
-    Ok(())
-}
+const NEW: ReplyLine = ReplyLine::First(Line::Correcto);
+
+const AGAIN: ReplyLine = ReplyLine::Duplicado(State3::Correcto);
+
+const UNSEEN: Seen = Seen::NotSeen;
+
+const WAS: Seen = Seen::Was(Line::Correcto);
+
+// The first record, of which the agency said that it has it, or took it.
+const FIRST_AGAIN: Evidence = Evidence::Forgotten {
+    place: 1,
+    said: AGAIN,
+};
+
+const FIRST_NEW: Evidence = Evidence::Forgotten {
+    place: 1,
+    said: NEW,
+};
+
+const SECOND_AGAIN: Evidence = Evidence::Forgotten {
+    place: 2,
+    said: AGAIN,
+};
+
+// What an agency replies for two sales, what it then has seen of them, the place that is in doubt, and what it has forgotten.
+type Forgets = (&'static str, [ReplyLine; 2], [Seen; 2], u32, Evidence);
+
+const FORGETTING: [Forgets; 3] = [
+    ("both", [AGAIN, AGAIN], [UNSEEN, UNSEEN], 1, FIRST_AGAIN),
+    ("the new one", [NEW, AGAIN], [UNSEEN, UNSEEN], 2, FIRST_NEW),
+    ("the old one", [NEW, AGAIN], [WAS, UNSEEN], 2, SECOND_AGAIN),
+];
 
 #[test]
 fn an_agency_that_invents_and_forgets(rt: HostRuntime) -> Result<(), Fail> {
-    let new = ReplyLine::First(Line::Correcto);
-    let again = ReplyLine::Duplicado(State3::Correcto);
-    let was = Seen::Was(Line::Correcto);
-    let unseen = Seen::NotSeen;
-    forgets(&rt, [again, again], [unseen, unseen], 1, (1, again))?;
-    forgets(&rt, [new, again], [unseen, unseen], 2, (1, new))?;
-    forgets(&rt, [new, again], [was, unseen], 2, (2, again))
+    for (name, said, then, place, forgotten) in FORGETTING {
+        let mut agency = inventing(rt.alloc(), &said, &then)?;
+        let turns = three_turns(&rt, &mut agency, 2)?;
+        let wanted = [
+            Ok(Turn::Cleared),
+            Ok(Turn::Doubt { place }),
+            Err(SendFault::Contradiction(forgotten)),
+        ];
+        holds(turns.as_slice() == wanted.as_slice(), name)?;
+    }
+    Ok(())
 }
+
+const HOLE: [Result<Turn, SendFault>; 3] = [
+    Err(SendFault::Contradiction(Evidence::Hole { unseen: 1, seen: 2 })),
+    Err(SendFault::LinkFault),
+    Err(SendFault::LinkFault),
+];
 
 // It has seen the second of two records and not the first.
 #[test]
 fn an_agency_with_a_hole(rt: HostRuntime) -> Result<(), Fail> {
-    let gap = [Seen::NotSeen, Seen::Was(Line::Correcto)];
-    let mut agency = saying(rt.alloc(), &gap)?;
+    let mut agency = saying(rt.alloc(), &[UNSEEN, WAS])?;
     let said = three_turns(&rt, &mut agency, 2)?;
-    let hole = Evidence::Hole { unseen: 1, seen: 2 };
-    let wanted = [
-        Err(SendFault::Contradiction(hole)),
-        Err(SendFault::LinkFault),
-        Err(SendFault::LinkFault),
-    ];
-    assert_eq!(rt; said.as_slice(), wanted.as_slice());
-    Ok(())
+    holds(said.as_slice() == HOLE.as_slice(), "a hole")
 }
 
 // How many batches were handed over.
@@ -128,19 +143,18 @@ fn drained(
     Ok((ended, told))
 }
 
+const THREE_LEFT: DrainFault = DrainFault::Undelivered {
+    noted: 0,
+    records: 3,
+};
+
 // Two answers for three records, a reply to a consultation, and then nothing: each is a fault of the link.
 #[test]
 fn answers_that_fit_no_question(rt: HostRuntime) -> Result<(), Fail> {
-    let new = ReplyLine::First(Line::Correcto);
-    let unseen = Seen::NotSeen;
-    let mut agency = inventing(rt.alloc(), &[new, new], &[unseen, unseen])?;
+    let mut agency = inventing(rt.alloc(), &[NEW, NEW], &[UNSEEN, UNSEEN])?;
     let (ended, told) = drained(&rt, &mut agency)?;
-    let wanted = DrainFault::Undelivered {
-        noted: 0,
-        records: 3,
-    };
-    assert_eq!(rt; ended, Err(wanted));
-    assert_eq!(rt; told.as_slice(), [Told::Link; 8].as_slice());
-    assert_eq!(rt; (submitted(&agency), agency.messages().len()), (0, 8));
-    Ok(())
+    holds(ended == Err(THREE_LEFT), "the end")?;
+    holds(told.as_slice() == [Told::Link; 8].as_slice(), "the turns")?;
+    holds(submitted(&agency) == 0, "no batch")?;
+    holds(agency.messages().len() == 8, "eight messages")
 }

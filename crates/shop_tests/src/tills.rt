@@ -13,6 +13,7 @@ use parties::Nif;
 use ports::{Clock, CountingClock};
 use record_codec::Version;
 use record_fields::{Draft, Refs};
+use rows::holds;
 use series::SeriesName;
 use shop_core::{Reply, Request, State};
 use std::alloc::Global;
@@ -145,6 +146,35 @@ fn again_at(reply: &Result<Reply, StoreFault>) -> u32 {
     }
 }
 
+fn is_stopped(reply: &Result<Reply, StoreFault>) -> bool {
+    matches!(reply, Err(StoreFault::Stopped { .. }))
+}
+
+fn is_disk_fault(reply: &Result<Reply, StoreFault>) -> bool {
+    matches!(reply, Err(StoreFault::DiskFault))
+}
+
+// Whether the disk of a run never failed. Fails where the tills were told something else than the store has.
+fn is_whole(ran: &Ran<MemDisk, CountingClock>) -> Result<bool, Fail> {
+    let records = u64::from(ran.store.state().records());
+    if ran.store.stopped().is_none() {
+        holds(ran.count == 2 && records == 2, "two records")?;
+        holds(taken_at(&ran.first) == 1, "till 1")?;
+        holds(taken_at(&ran.second) == 2, "till 2")?;
+        holds(again_at(&ran.again) == 1, "till 1 again")?;
+        holds(ran.seen == (0, 1), "what till 2 has seen")?;
+        return Ok(true);
+    }
+    holds(is_stopped(&ran.again), "till 1 again, stopped")?;
+    holds(ran.count == records.wrapping_add(1), "the count, stopped")?;
+    if is_disk_fault(&ran.first) {
+        holds(records == 0 && is_stopped(&ran.second), "till 1 fails")?;
+    } else {
+        holds(records == 1 && is_disk_fault(&ran.second), "till 2 fails")?;
+    }
+    Ok(false)
+}
+
 #[test]
 fn two_tills_ask_until_the_disk_fails(rt: HostRuntime) -> Result<(), Fail> {
     let (mut stops, mut wholes) = (0u32, 0u32);
@@ -152,25 +182,11 @@ fn two_tills_ask_until_the_disk_fails(rt: HostRuntime) -> Result<(), Fail> {
         let Some(ran) = run_over(&rt, rt.alloc(), vec![in rt.alloc(); call]?)? else {
             continue;
         };
-        let records = u64::from(ran.store.state().records());
-        if ran.store.stopped().is_none() {
-            assert_eq!(rt; (ran.count, records), (2, 2));
-            assert_eq!(rt; (taken_at(&ran.first), taken_at(&ran.second)), (1, 2));
-            assert_eq!(rt; again_at(&ran.again), 1);
-            assert_eq!(rt; ran.seen, (0, 1));
+        if is_whole(&ran)? {
             wholes = wholes.wrapping_add(1);
-            continue;
-        }
-        stops = stops.wrapping_add(1);
-        assert!(rt; matches!(ran.again, Err(StoreFault::Stopped { .. })));
-        assert!(rt; ran.count == records.wrapping_add(1));
-        match ran.first {
-            Err(StoreFault::DiskFault) => {
-                assert!(rt; records == 0 && matches!(ran.second, Err(StoreFault::Stopped { .. })));
-            }
-            _ => assert!(rt; records == 1 && matches!(ran.second, Err(StoreFault::DiskFault))),
+        } else {
+            stops = stops.wrapping_add(1);
         }
     }
-    assert!(rt; 1 < stops && 0 < wholes);
-    Ok(())
+    holds(1 < stops && 0 < wholes, "runs of both kinds")
 }

@@ -11,6 +11,7 @@ use parties::Nif;
 use ports::{Clock, CountingClock};
 use record_fields::Line;
 use recovery::open_store;
+use rows::holds;
 use series::{NumSerie, SeriesName};
 use shop_core::{Ask, Reply, Request};
 use std::alloc::Global;
@@ -45,8 +46,12 @@ fn ask(alloc: Global, serial: u32) -> Result<Ask, Fail> {
     Ok(counter_sale(alloc, 1, serial, series, base).ok_or("a sale")?)
 }
 
-fn request(alloc: Global) -> Result<Request, Fail> {
-    Ok(ask(alloc, 1)?.request)
+fn requests(alloc: Global, count: u32) -> Result<Vec<Request>, Fail> {
+    let mut requests = Vec::new(alloc);
+    for _ in 0..count {
+        requests.push(ask(alloc, 1)?.request)?;
+    }
+    Ok(requests)
 }
 
 fn empty_disk(alloc: Global) -> MemDisk {
@@ -79,9 +84,8 @@ fn a_serial_has_one_ticket(rt: HostRuntime) -> Result<(), Fail> {
     let (ticket, store) = sold(alloc, file_of_one(alloc)?, 1)?;
     let mut printed = Vec::new(alloc);
     print_ticket(&mut printed, &ticket)?;
-    assert!(rt; printed.as_slice() == TICKET);
-    assert_eq!(rt; store.state().records(), 1);
-    Ok(())
+    let is_one = store.state().records() == 1;
+    holds(is_one && printed.as_slice() == TICKET, "the ticket")
 }
 
 // Why there was no ticket of a sale on a disk whose first call fails.
@@ -95,8 +99,8 @@ fn unsold(alloc: Global) -> Result<Option<NoTicket>, Fail> {
 #[test]
 fn a_disk_that_fails_gives_no_ticket(rt: HostRuntime) -> Result<(), Fail> {
     let end = unsold(rt.alloc())?;
-    assert_eq!(rt; end, Some(NoTicket::NotOpened(OpenCause::DiskFault)));
-    Ok(())
+    let wanted = NoTicket::NotOpened(OpenCause::DiskFault);
+    holds(end == Some(wanted), "not opened")
 }
 
 fn opened<D: Disk + Drop, C: Clock + Drop>(
@@ -119,27 +123,29 @@ fn what_waits_is_noted_once(rt: HostRuntime) -> Result<(), Fail> {
     let alloc = rt.alloc();
     let disk = file_of_one(alloc)?;
     let mut store = opened(alloc, disk, CountingClock::new(TEN, 0))?;
-    assert_eq!(rt; first_waiting(alloc, &store)?.len(), 1);
-    let two = [Line::Correcto, Line::Correcto];
-    assert_eq!(rt; note_lines(alloc, &mut store, &two), Err(NotNoted::Count));
-    assert_eq!(rt; note_lines(alloc, &mut store, &[Line::Correcto]), Ok(()));
-    assert_eq!(rt; first_waiting(alloc, &store)?.len(), 0);
-    assert_eq!(rt; store.state().line(1), Some(Line::Correcto));
-    Ok(())
+    let before = first_waiting(alloc, &store)?.len();
+    let two = note_lines(alloc, &mut store, &[Line::Correcto, Line::Correcto]);
+    let one = note_lines(alloc, &mut store, &[Line::Correcto]);
+    let behind = first_waiting(alloc, &store)?.len();
+    holds(before == 1 && two == Err(NotNoted::Count), "two lines")?;
+    let is_noted = store.state().line(1) == Some(Line::Correcto);
+    holds(behind == 0 && one.is_ok() && is_noted, "one line")
 }
 
 #[test]
 fn a_changed_byte_is_named(rt: HostRuntime) -> Result<(), Fail> {
     let alloc = rt.alloc();
     let mut disk = file_of_one(alloc)?;
-    assert_eq!(rt; audit_a_file(alloc, &mut disk), Ok(None));
+    holds(audit_a_file(alloc, &mut disk) == Ok(None), "the file")?;
     let mut bytes = [0; 101];
-    assert_eq!(rt; disk.read_at(0, &mut bytes), Ok(101));
+    holds(disk.read_at(0, &mut bytes) == Ok(101), "its bytes")?;
     bytes[90] ^= 1;
     let changed = Vec::from_slice(alloc, &bytes)?;
     let mut broken = MemDisk::new(alloc, changed, Vec::new(alloc));
-    assert_eq!(rt; audit_a_file(alloc, &mut broken), Ok(Some(19)));
-    Ok(())
+    holds(
+        audit_a_file(alloc, &mut broken) == Ok(Some(19)),
+        "one changed",
+    )
 }
 
 // The link of a number in the file of one sale.
@@ -157,9 +163,8 @@ fn link_in(alloc: Global, num: &str) -> Result<Option<Vec<u8>>, Fail> {
 fn an_invoice_of_the_file_has_a_link(rt: HostRuntime) -> Result<(), Fail> {
     let alloc = rt.alloc();
     let link = link_in(alloc, "A-1")?.ok_or("a link")?;
-    assert!(rt; link.as_slice() == LINK);
-    assert!(rt; link_in(alloc, "A-2")?.is_none());
-    Ok(())
+    holds(link.as_slice() == LINK, "A-1")?;
+    holds(link_in(alloc, "A-2")?.is_none(), "A-2")
 }
 
 fn is_taken(reply: &Result<Reply, StoreFault>) -> bool {
@@ -170,13 +175,13 @@ fn is_taken(reply: &Result<Reply, StoreFault>) -> bool {
 fn two_tills_fill_one_chain(rt: HostRuntime) -> Result<(), Fail> {
     let alloc = rt.alloc();
     let store = opened(alloc, empty_disk(alloc), CountingClock::new(TEN, 1))?;
-    let first = vec![in alloc; request(alloc)?, request(alloc)?, request(alloc)?]?;
-    let second = vec![in alloc; request(alloc)?, request(alloc)?]?;
+    let first = requests(alloc, 3)?;
+    let second = requests(alloc, 2)?;
     let Ok(day) = one_till_a_thread(&rt, alloc, store, &first, &second) else {
         return Err(Fail::from("a day"));
     };
-    assert_eq!(rt; (day.first.len(), day.second.len()), (3, 2));
-    assert!(rt; day.first.iter().all(is_taken) && day.second.iter().all(is_taken));
-    assert_eq!(rt; day.store.state().records(), 5);
-    Ok(())
+    let are_asked = day.first.len() == 3 && day.second.len() == 2;
+    let are_taken = day.first.iter().all(is_taken) && day.second.iter().all(is_taken);
+    holds(are_asked && are_taken, "each is taken")?;
+    holds(day.store.state().records() == 5, "five records")
 }

@@ -13,6 +13,7 @@ use ports::{Clock, CountingClock};
 use record_codec::{BadEntry, Version};
 use record_fields::{Bytes, Draft, Line, Refs};
 use recovery::open_store;
+use rows::holds;
 use series::SeriesName;
 use shop_core::{Ask, Break, Request, State};
 use standby::{Arrived, Pair, Piece, Standby, StandbyCause, catch_up, first_apart, piece_of};
@@ -118,6 +119,19 @@ fn begun(alloc: Global, store: &Shop) -> Result<Standby<MemDisk>, Fail>
     }
 }
 
+// Why a file is no copy of a chain, and the file.
+fn refused(
+    alloc: Global,
+    disk: MemDisk,
+    issuer: &Nif,
+    version: Version,
+) -> Result<(StandbyCause, MemDisk), Fail> {
+    match Standby::start(alloc, disk, issuer, version) {
+        Ok(_) => Err(Fail::from("a file of another chain")),
+        Err(fault) => Ok((fault.cause, fault.disk)),
+    }
+}
+
 // What the file of a shop is to a copy of another version, and of another issuer.
 #[test]
 fn a_file_of_another_chain_is_no_copy(rt: HostRuntime) -> Result<(), Fail> {
@@ -128,58 +142,64 @@ fn a_file_of_another_chain_is_no_copy(rt: HostRuntime) -> Result<(), Fail> {
     let Ok(copy) = begun else {
         return Err(Fail::from("a standby"));
     };
-    let rows = [
-        (
-            issuer,
-            Version::Two,
-            StandbyCause::OtherVersion { held: Version::One },
-        ),
-        (
-            other,
-            Version::One,
-            StandbyCause::OtherIssuer { held: issuer },
-        ),
-    ];
-    let mut disk = copy.into_disk();
-    for (nif, version, cause) in rows {
-        match Standby::start(alloc, disk, &nif, version) {
-            Ok(_) => return Err(Fail::from("a file of another chain")),
-            Err(fault) => {
-                assert_eq!(rt; fault.cause, cause);
-                disk = fault.disk;
-            }
-        }
-    }
-    Ok(())
+    let (cause, disk) = refused(alloc, copy.into_disk(), &issuer, Version::Two)?;
+    let wanted = StandbyCause::OtherVersion { held: Version::One };
+    holds(cause == wanted, "another version")?;
+    let (cause, _) = refused(alloc, disk, &other, Version::One)?;
+    let wanted = StandbyCause::OtherIssuer { held: issuer };
+    holds(cause == wanted, "another issuer")
 }
 
 fn piece(alloc: Global, store: &Shop, index: u64) -> Result<Piece, Fail> {
     Ok(piece_of(alloc, store.state(), index)?.ok_or("a piece")?)
 }
 
+// What becomes of a piece. There are no clauses here, so that those of `arrive` stay out of the callers' proofs.
+fn arrived(
+    alloc: Global,
+    copy: &mut Standby<MemDisk>,
+    piece: &Piece,
+) -> Result<Arrived, StoreFault> {
+    copy.arrive(alloc, piece)
+}
+
+// Fails at this row where something else becomes of a piece.
+fn arrives(
+    alloc: Global,
+    copy: &mut Standby<MemDisk>,
+    piece: &Piece,
+    told: Arrived,
+    row: &str,
+) -> Result<(), Fail> {
+    holds(arrived(alloc, copy, piece) == Ok(told), row)
+}
+
+const ARRIVALS: [(&str, u64, Arrived); 5] = [
+    ("the second too early", 1, Arrived::Gap { next: 0 }),
+    ("the first", 0, Arrived::Kept),
+    ("the first again", 0, Arrived::Old),
+    ("the third too early", 2, Arrived::Gap { next: 1 }),
+    ("the second", 1, Arrived::Kept),
+];
+
 #[test]
 fn pieces_come_in_any_order(rt: HostRuntime) -> Result<(), Fail> {
     let alloc = rt.alloc();
     let store = shop_of_three(alloc, 10_000)?;
     let mut copy = begun(alloc, &store)?;
-    let rows = [
-        (1, Arrived::Gap { next: 0 }),
-        (0, Arrived::Kept),
-        (0, Arrived::Old),
-        (2, Arrived::Gap { next: 1 }),
-        (1, Arrived::Kept),
-    ];
-    for (index, told) in rows {
-        assert_eq!(rt; copy.arrive(alloc, &piece(alloc, &store, index)?), Ok(told));
+    for (name, index, told) in ARRIVALS {
+        arrives(alloc, &mut copy, &piece(alloc, &store, index)?, told, name)?;
     }
-    assert_eq!(rt; copy.state().entries(), 2);
+    holds(copy.state().entries() == 2, "two entries")?;
     if copy.stopped().is_some() {
         return Err(Fail::from("a standby that goes on"));
     }
     let promoted = copy.promote(CountingClock::new(TEN, 0));
-    assert_eq!(rt; promoted.state().records(), 2);
-    assert!(rt; piece_of(alloc, promoted.state(), 2)?.is_none());
-    Ok(())
+    holds(promoted.state().records() == 2, "two records")?;
+    holds(
+        piece_of(alloc, promoted.state(), 2)?.is_none(),
+        "no third piece",
+    )
 }
 
 // A piece of such a shop.
@@ -201,46 +221,52 @@ fn a_piece_of_another_chain_is_not_kept(rt: HostRuntime) -> Result<(), Fail> {
         body: Bytes::of(vec![in alloc; 1u8]?),
     };
     let mut copy = copy_of_three(alloc)?;
-    assert_eq!(rt; copy.arrive(alloc, &own), Ok(Arrived::Kept));
-    assert_eq!(rt;
-        copy.arrive(alloc, &foreign),
-        Ok(Arrived::Foreign(Break::Link))
-    );
-    assert_eq!(rt;
-        copy.arrive(alloc, &torn),
-        Ok(Arrived::Bad(BadEntry::At { at: 1 }))
-    );
-    assert_eq!(rt; copy.state().entries(), 1);
-    Ok(())
+    let is_foreign = Arrived::Foreign(Break::Link);
+    let is_torn = Arrived::Bad(BadEntry::At { at: 1 });
+    arrives(alloc, &mut copy, &own, Arrived::Kept, "its own")?;
+    arrives(alloc, &mut copy, &foreign, is_foreign, "another chain's")?;
+    arrives(alloc, &mut copy, &torn, is_torn, "one that is torn")?;
+    holds(copy.state().entries() == 1, "one entry")
 }
 
-// Each call of the standby's disk fails in turn. Where an arrival fails, the standby stops, and its file is a front of the shop's.
+// Whether a standby's disk fails at this call while its first piece arrives. The standby stops then, and its file is a front of the
+// shop's.
+fn fails_at(alloc: Global, store: &Shop, first: &Piece, call: u64) -> Result<bool, Fail> {
+    let Some(mut copy) = started(alloc, store, disk_failing_at(alloc, call)?) else {
+        return Ok(false);
+    };
+    let told = arrived(alloc, &mut copy, first);
+    if told == Ok(Arrived::Kept) {
+        return Ok(false);
+    }
+    holds(told == Err(StoreFault::DiskFault), "the piece")?;
+    let again = arrived(alloc, &mut copy, first);
+    holds(
+        again == Err(StoreFault::Stopped { faults: 1 }),
+        "the piece again",
+    )?;
+    let Some(copy) = started(alloc, store, copy.into_disk()) else {
+        return Err(Fail::from("a standby again"));
+    };
+    holds(
+        first_apart(alloc, store.state(), copy.state())?.is_none(),
+        "a front",
+    )?;
+    Ok(true)
+}
+
+// Each call of the standby's disk fails in turn.
 #[test]
 fn a_standby_stops_where_its_disk_fails(rt: HostRuntime) -> Result<(), Fail> {
     let alloc = rt.alloc();
     let store = shop_of_three(alloc, 10_000)?;
     let first = piece(alloc, &store, 0)?;
-    let mut failed = Vec::new(alloc);
+    let mut failed = 0u32;
     for call in 1..30u64 {
-        let Some(mut copy) = started(alloc, &store, disk_failing_at(alloc, call)?) else {
-            continue;
-        };
-        match copy.arrive(alloc, &first) {
-            Ok(told) => assert_eq!(rt; told, Arrived::Kept),
-            Err(fault) => {
-                failed.push(call)?;
-                assert_eq!(rt; fault, StoreFault::DiskFault);
-                let again = copy.arrive(alloc, &first);
-                assert_eq!(rt; again, Err(StoreFault::Stopped { faults: 1 }));
-                let Some(copy) = started(alloc, &store, copy.into_disk()) else {
-                    return Err(Fail::from("a standby again"));
-                };
-                assert_eq!(rt; first_apart(alloc, store.state(), copy.state())?, None);
-            }
-        }
+        let fails = fails_at(alloc, &store, &first, call)?;
+        failed = failed.saturating_add(u32::from(fails));
     }
-    assert_eq!(rt; failed.len(), 4);
-    Ok(())
+    holds(failed == 4, "four calls")
 }
 
 // Twelve places of a chain of three, in an order of this number.
@@ -275,22 +301,28 @@ fn pieces(alloc: Global, store: &Shop, places: &[u64]) -> Result<Vec<Piece>, Fai
     Ok(pieces)
 }
 
+// How many pieces a copy keeps of those that come in the order of a number. It is a front of the shop then.
+fn kept_in(alloc: Global, store: &Shop, number: u64) -> Result<u64, Fail> {
+    let places = order(alloc, number)?;
+    let pieces = pieces(alloc, store, &places)?;
+    let mut copy = begun(alloc, store)?;
+    let kept = copy.receive(alloc, &pieces)?;
+    let is_front = first_apart(alloc, store.state(), copy.state())?.is_none();
+    let are_kept = kept == followed(&places) && copy.state().entries() == kept;
+    holds(is_front && are_kept, "a front")?;
+    Ok(kept)
+}
+
 #[test]
 fn whatever_order_they_come_in_the_copy_is_a_front(rt: HostRuntime) -> Result<(), Fail> {
     let alloc = rt.alloc();
     let store = shop_of_three(alloc, 10_000)?;
     let mut whole = false;
     for number in 0..40u64 {
-        let places = order(alloc, number)?;
-        let mut copy = begun(alloc, &store)?;
-        let kept = copy.receive(alloc, &pieces(alloc, &store, &places)?)?;
-        assert_eq!(rt; kept, followed(&places));
-        assert_eq!(rt; copy.state().entries(), kept);
-        assert_eq!(rt; first_apart(alloc, store.state(), copy.state())?, None);
+        let kept = kept_in(alloc, &store, number)?;
         whole = whole || kept == 3;
     }
-    assert!(rt; whole);
-    Ok(())
+    holds(whole, "one of them whole")
 }
 
 // A standby that was brought up to this history. None where its disk failed.
@@ -366,31 +398,40 @@ fn note_one<R: Wait>(
     Ok(Some(pair.note(rt, alloc, &[Line::Correcto])))
 }
 
-// Each call of either disk fails in turn. The pair stops, and the standby has at most the last notes less.
+// Whether one of two disks fails while they are a pair. The pair stops then, and the standby has at most the last notes less.
+fn pair_fails_at<R: Wait>(rt: &R, alloc: Global, of_shop: u64, of_copy: u64) -> Result<bool, Fail> {
+    let Some(mut pair) = pair(alloc, of_shop, of_copy)? else {
+        return Ok(false);
+    };
+    let told = note_one(rt, alloc, &mut pair)?;
+    let again = note_one(rt, alloc, &mut pair)?;
+    let stopped = pair.stopped();
+    let noted = noted_in(pair);
+    if told == Some(Ok(())) {
+        holds(again.is_none() && stopped.is_none(), "nothing waits")?;
+        holds(noted == (1, 1), "both noted")?;
+        return Ok(false);
+    }
+    holds(told == Some(Err(StoreFault::DiskFault)), "the note")?;
+    holds(
+        again == Some(Err(StoreFault::Stopped { faults: 1 })),
+        "the note again",
+    )?;
+    holds(stopped == Some(1), "stopped")?;
+    let left = if of_shop > 0 { (0, 0) } else { (1, 0) };
+    holds(noted == left, "what is noted")?;
+    Ok(true)
+}
+
+// Each call of either disk fails in turn.
 #[test]
 fn a_pair_stops_where_either_disk_fails(rt: HostRuntime) -> Result<(), Fail> {
-    let alloc = rt.alloc();
-    let mut failed = Vec::new(alloc);
+    let mut failed = 0u32;
     for call in 1..40u64 {
-        for (of_shop, of_copy) in [(call, 0), (0, call)] {
-            let Some(mut pair) = pair(alloc, of_shop, of_copy)? else {
-                continue;
-            };
-            let told = note_one(&rt, alloc, &mut pair)?;
-            let again = note_one(&rt, alloc, &mut pair)?;
-            let stopped = pair.stopped();
-            let noted = noted_in(pair);
-            if told == Some(Ok(())) {
-                assert_eq!(rt; (again, stopped, noted), (None, None, (1, 1)));
-                continue;
-            }
-            failed.push(of_shop > 0)?;
-            assert_eq!(rt; told, Some(Err(StoreFault::DiskFault)));
-            assert_eq!(rt; again, Some(Err(StoreFault::Stopped { faults: 1 })));
-            assert_eq!(rt; stopped, Some(1));
-            assert_eq!(rt; noted, if of_shop > 0 { (0, 0) } else { (1, 0) });
-        }
+        let of_shop = pair_fails_at(&rt, rt.alloc(), call, 0)?;
+        let of_copy = pair_fails_at(&rt, rt.alloc(), 0, call)?;
+        failed = failed.saturating_add(u32::from(of_shop));
+        failed = failed.saturating_add(u32::from(of_copy));
     }
-    assert_eq!(rt; failed.len(), 8);
-    Ok(())
+    holds(failed == 8, "eight calls")
 }

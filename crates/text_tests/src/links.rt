@@ -3,17 +3,13 @@ use amounts::Cents;
 use invoice_kinds::Kind;
 use parties::Nif;
 use record_fields::{Alta, Draft, Link, Previo, Refs};
+use rows::holds;
 use series::{InvoiceId, NumSerie};
 use stamps::{Day, stamp_at};
 use std::alloc::Global;
-use std::str::from_utf8;
 use std::test::Fail;
 use tax_lines::{Breakdown, Class, LineKey, TaxLine};
 use verify_link::{Host, LinkParts, link_of, read_link};
-
-const REAL: &str = "https://www2.agenciatributaria.gob.es/wlpl/TIKE-CONT/ValidarQR?";
-
-const PRACTICE: &str = "https://prewww2.aeat.es/wlpl/TIKE-CONT/ValidarQR?";
 
 // What the links below say, but for their number.
 fn parts(host: Host, num: &str, total: i64) -> Result<LinkParts, Fail> {
@@ -64,34 +60,39 @@ fn alta(alloc: Global, parts: &LinkParts) -> Result<Alta, Fail> {
     })
 }
 
+// A host, a number and its link. The last two have every character that a number may hold.
+const LINKS: [(Host, &str, &str); 4] = [
+    (
+        Host::Real,
+        "12&G33/A-1",
+        "https://www2.agenciatributaria.gob.es/wlpl/TIKE-CONT/ValidarQR?nif=89890001K&numserie=12%26G33%2FA-1&fecha=01-01-2025&importe=121.00",
+    ),
+    (
+        Host::Practice,
+        "12&G33/A-1",
+        "https://prewww2.aeat.es/wlpl/TIKE-CONT/ValidarQR?nif=89890001K&numserie=12%26G33%2FA-1&fecha=01-01-2025&importe=121.00",
+    ),
+    (
+        Host::Real,
+        "0 !#$%&()*+,-./:;?@[\\]^_`{|}~123456789",
+        "https://www2.agenciatributaria.gob.es/wlpl/TIKE-CONT/ValidarQR?nif=89890001K&numserie=0%20%21%23%24%25%26%28%29%2A%2B%2C-.%2F%3A%3B%3F%40%5B%5C%5D%5E_%60%7B%7C%7D~123456789&fecha=01-01-2025&importe=121.00",
+    ),
+    (
+        Host::Real,
+        "ABCDEFGHIJKLMNOPQRSTUVWXYZabcdefghijklmnopqrstuvwxyz",
+        "https://www2.agenciatributaria.gob.es/wlpl/TIKE-CONT/ValidarQR?nif=89890001K&numserie=ABCDEFGHIJKLMNOPQRSTUVWXYZabcdefghijklmnopqrstuvwxyz&fecha=01-01-2025&importe=121.00",
+    ),
+];
+
 #[test]
 fn links_are_written_and_read_back(rt: HostRuntime) -> Result<(), Fail> {
     let alloc = rt.alloc();
-    for (host, beginning, num, encoded) in [
-        (Host::Real, REAL, "12&G33/A-1", "12%26G33%2FA-1"),
-        (Host::Practice, PRACTICE, "12&G33/A-1", "12%26G33%2FA-1"),
-        // Every character that a number may hold.
-        (
-            Host::Real,
-            REAL,
-            "0 !#$%&()*+,-./:;?@[\\]^_`{|}~123456789",
-            "0%20%21%23%24%25%26%28%29%2A%2B%2C-.%2F%3A%3B%3F%40%5B%5C%5D%5E_%60%7B%7C%7D~123456789",
-        ),
-        (
-            Host::Real,
-            REAL,
-            "ABCDEFGHIJKLMNOPQRSTUVWXYZabcdefghijklmnopqrstuvwxyz",
-            "ABCDEFGHIJKLMNOPQRSTUVWXYZabcdefghijklmnopqrstuvwxyz",
-        ),
-    ] {
+    for (host, num, text) in LINKS {
         let parts = parts(host, num, 12_100)?;
-        let text = format!(in alloc;
-            "{beginning}nif=89890001K&numserie={encoded}&fecha=01-01-2025&importe=121.00"
-        )?;
         let link = link_of(alloc, &alta(alloc, &parts)?, host)?;
-        assert!(rt; link.as_slice() == text.as_bytes(), "{text}");
-        match read_link(alloc, from_utf8(link.as_slice())?) {
-            Ok(read) => assert!(rt; read == parts, "{text}"),
+        holds(link.as_slice() == text.as_bytes(), text)?;
+        match read_link(alloc, text) {
+            Ok(read) => holds(read == parts, text)?,
             Err(fault) => return Err(Fail::from(fault)),
         }
     }

@@ -7,6 +7,7 @@ use report::{
     AnswerLine, Answers, Closed, Detail, answers_text, closed_text, ended_text, fault_text,
     followed_text, issuer_text, matches_text, migrated_text, status_of, turns_text, verdict_text,
 };
+use rows::holds;
 use series::{InvoiceId, NumSerie};
 use shop_core::{AuditEnd, Receipt, Refusal, Reply, What, Word};
 use stamps::{civil_day, stamp_at};
@@ -42,8 +43,6 @@ till 64 saw 18446744073709551615\n";
 
 const SOUND: &str =
     "sound 1000000 noted 7 last AB0000000000000000000000000000000000000000000000000000000000000F\n";
-
-const BROKEN: &str = "broken 1000001 at 18446744073709551615 ";
 
 const TURNS: &str = "\
 wait 18446744073709551615\n\
@@ -98,47 +97,62 @@ fn refused(why: Refusal) -> AnswerLine {
     answered(Ok(Reply::Refused(why)))
 }
 
-fn bad_draft(fault: DraftFault) -> AnswerLine {
-    refused(Refusal::BadDraft(fault))
+// Fails where bytes are another text than this.
+fn says(bytes: &[u8], text: &str) -> Result<(), Fail> {
+    holds(bytes == text.as_bytes(), text)
+}
+
+const REFUSALS: [Refusal; 15] = [
+    Refusal::Passed { last: 5 },
+    Refusal::BadDraft(DraftFault::CustomerMissing),
+    Refusal::BadDraft(DraftFault::CustomerUnwanted),
+    Refusal::BadDraft(DraftFault::RectMissing),
+    Refusal::BadDraft(DraftFault::RectUnwanted),
+    Refusal::BadDraft(DraftFault::RefsMissing),
+    Refusal::BadDraft(DraftFault::RefsUnwanted),
+    Refusal::BadDraft(DraftFault::TooManyRefs { n: 101 }),
+    Refusal::OldFile { index: 11 },
+    Refusal::Unknown,
+    Refusal::Cancelled { place: 3 },
+    Refusal::RefNotSimplified { index: 0 },
+    Refusal::ChainFull,
+    Refusal::ClockRange { now: 1_704_067_199 },
+    Refusal::HuellaTwice { place: 12 },
+];
+
+const FAULTS: [StoreFault; 3] = [
+    StoreFault::DiskFault,
+    StoreFault::Stopped { faults: u64::MAX },
+    StoreFault::NoMemory,
+];
+
+// The lines of `ANSWERS`.
+fn answers(alloc: Global) -> Result<Answers, Fail> {
+    let total = Cents::new(300_001).ok_or("a total")?;
+    let mut lines = Vec::new(alloc);
+    lines.push(answered(Ok(Reply::Taken(receipt()?))))?;
+    lines.push(answered(Ok(Reply::Again(receipt()?))))?;
+    for why in REFUSALS {
+        lines.push(refused(why))?;
+    }
+    lines.push(refused(Refusal::BadDraft(DraftFault::OverSimplified { total })))?;
+    for fault in FAULTS {
+        lines.push(answered(Err(fault)))?;
+    }
+    lines.push(AnswerLine::Saw {
+        till: 64,
+        count: u64::MAX,
+    })?;
+    Ok(Answers::of(lines))
 }
 
 #[test]
 fn answers_have_lines(rt: HostRuntime) -> Result<(), Fail> {
     let alloc = rt.alloc();
-    let total = Cents::new(300_001).ok_or("a total")?;
-    let lines = [
-        answered(Ok(Reply::Taken(receipt()?))),
-        answered(Ok(Reply::Again(receipt()?))),
-        refused(Refusal::Passed { last: 5 }),
-        bad_draft(DraftFault::CustomerMissing),
-        bad_draft(DraftFault::CustomerUnwanted),
-        bad_draft(DraftFault::RectMissing),
-        bad_draft(DraftFault::RectUnwanted),
-        bad_draft(DraftFault::RefsMissing),
-        bad_draft(DraftFault::RefsUnwanted),
-        bad_draft(DraftFault::TooManyRefs { n: 101 }),
-        refused(Refusal::OldFile { index: 11 }),
-        refused(Refusal::Unknown),
-        refused(Refusal::Cancelled { place: 3 }),
-        refused(Refusal::RefNotSimplified { index: 0 }),
-        refused(Refusal::ChainFull),
-        refused(Refusal::ClockRange { now: 1_704_067_199 }),
-        refused(Refusal::HuellaTwice { place: 12 }),
-        bad_draft(DraftFault::OverSimplified { total }),
-        answered(Err(StoreFault::DiskFault)),
-        answered(Err(StoreFault::Stopped { faults: u64::MAX })),
-        answered(Err(StoreFault::NoMemory)),
-        AnswerLine::Saw {
-            till: 64,
-            count: u64::MAX,
-        },
-    ];
-    let answers = Answers::of(Vec::from_slice(alloc, &lines)?);
-    let text = answers_text(alloc, &answers)?;
-    assert_eq!(rt; text.as_slice(), ANSWERS.as_bytes());
+    let text = answers_text(alloc, &answers(alloc)?)?;
+    says(text.as_slice(), ANSWERS)?;
     let none = answers_text(alloc, &Answers::of(Vec::new(alloc)))?;
-    assert_eq!(rt; none.as_slice().len(), 0);
-    Ok(())
+    says(none.as_slice(), "")
 }
 
 const TOLD: [Told; 9] = [
@@ -158,10 +172,9 @@ fn turns_have_lines(rt: HostRuntime) -> Result<(), Fail> {
     let alloc = rt.alloc();
     let turns = Turns::of(Vec::from_slice(alloc, &TOLD)?);
     let text = turns_text(alloc, &turns, 1_000_000, 7)?;
-    assert_eq!(rt; text.as_slice(), TURNS.as_bytes());
+    says(text.as_slice(), TURNS)?;
     let none = turns_text(alloc, &Turns::new(alloc), 0, 0)?;
-    assert_eq!(rt; none.as_slice(), b"chain 0 noted 0\n".as_slice());
-    Ok(())
+    says(none.as_slice(), "chain 0 noted 0\n")
 }
 
 const BAD_LINE: Detail = Detail::Script {
@@ -249,27 +262,22 @@ fn ends(alloc: Global, detail: &Detail, status: u8, text: &str) -> Result<bool, 
 fn ends_have_texts(rt: HostRuntime) -> Result<(), Fail> {
     let alloc = rt.alloc();
     for (detail, status, text) in ENDS {
-        assert!(rt; ends(alloc, &detail, status, text)?, "{text}");
+        holds(ends(alloc, &detail, status, text)?, text)?;
     }
-    let held = issuer()?;
-    let other = Detail::OtherIssuer { held };
-    assert!(rt; ends(alloc, &other, 13, "verifactu: file of 89890001K\n")?);
-    Ok(())
+    let other = Detail::OtherIssuer { held: issuer()? };
+    let text = "verifactu: file of 89890001K\n";
+    holds(ends(alloc, &other, 13, text)?, text)
 }
 
 #[test]
 fn counts_have_lines(rt: HostRuntime) -> Result<(), Fail> {
     let alloc = rt.alloc();
     let moved = migrated_text(alloc, 1_000_000, 7)?;
-    assert_eq!(rt; moved.as_slice(), b"migrated 1000000 noted 7\n".as_slice());
+    says(moved.as_slice(), "migrated 1000000 noted 7\n")?;
     let followed = followed_text(alloc, 2, 2_000_000)?;
-    assert_eq!(rt;
-        followed.as_slice(),
-        b"followed 2 entries 2000000\n".as_slice()
-    );
+    says(followed.as_slice(), "followed 2 entries 2000000\n")?;
     let matched = matches_text(alloc, 2_000_000)?;
-    assert_eq!(rt; matched.as_slice(), b"matches 2000000\n".as_slice());
-    Ok(())
+    says(matched.as_slice(), "matches 2000000\n")
 }
 
 const CLOSED: [(Closed, &str); 3] = [
@@ -286,26 +294,34 @@ fn a_block_has_its_lines(rt: HostRuntime) -> Result<(), Fail> {
     let alloc = rt.alloc();
     for (closed, text) in CLOSED {
         let line = closed_text(alloc, &closed)?;
-        assert_eq!(rt; line.as_slice(), text.as_bytes());
+        says(line.as_slice(), text)?;
     }
     let held = issuer()?;
     let other = closed_text(alloc, &Closed::FileOf { held })?;
-    assert_eq!(rt; other.as_slice(), b"closed file-of 89890001K\n".as_slice());
+    says(other.as_slice(), "closed file-of 89890001K\n")?;
     let head = issuer_text(alloc, &held)?;
-    assert_eq!(rt; head.as_slice(), b"issuer 89890001K\n".as_slice());
+    says(head.as_slice(), "issuer 89890001K\n")?;
     let end = ended_text(alloc, 255)?;
-    assert_eq!(rt; end.as_slice(), b"ended 255\n".as_slice());
-    Ok(())
+    says(end.as_slice(), "ended 255\n")
 }
 
-const WORDS: [(What, &str); 7] = [
-    (What::Header, "header"),
-    (What::Frame, "frame"),
-    (What::Body, "body"),
-    (What::Notes, "notes"),
-    (What::Link, "link"),
-    (What::Seal, "seal"),
-    (What::Rule, "rule"),
+const BROKEN: [(What, &str); 7] = [
+    (
+        What::Header,
+        "broken 1000001 at 18446744073709551615 header\n",
+    ),
+    (
+        What::Frame,
+        "broken 1000001 at 18446744073709551615 frame\n",
+    ),
+    (What::Body, "broken 1000001 at 18446744073709551615 body\n"),
+    (
+        What::Notes,
+        "broken 1000001 at 18446744073709551615 notes\n",
+    ),
+    (What::Link, "broken 1000001 at 18446744073709551615 link\n"),
+    (What::Seal, "broken 1000001 at 18446744073709551615 seal\n"),
+    (What::Rule, "broken 1000001 at 18446744073709551615 rule\n"),
 ];
 
 #[test]
@@ -319,16 +335,15 @@ fn verdicts_have_lines(rt: HostRuntime) -> Result<(), Fail> {
         last: Some(huella),
     };
     let printed = verdict_text(rt.alloc(), &sound)?;
-    assert_eq!(rt; printed.as_slice(), SOUND.as_bytes());
-    for (what, word) in WORDS {
+    says(printed.as_slice(), SOUND)?;
+    for (what, text) in BROKEN {
         let broken = AuditEnd::Broken {
             place: 1_000_001,
             at: u64::MAX,
             what,
         };
         let printed = verdict_text(rt.alloc(), &broken)?;
-        let text = format!(in rt.alloc(); "{BROKEN}{word}\n")?;
-        assert_eq!(rt; printed.as_slice(), text.as_bytes());
+        says(printed.as_slice(), text)?;
     }
     Ok(())
 }

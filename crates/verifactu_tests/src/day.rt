@@ -1,10 +1,12 @@
 // Days of several tills, and tills that are answered line by line: gates that hold, and disks that fail.
 use crate::runs::{
-    DAY, DRAIN, FILLS, Left, SERVE, disk_of, image_at, last_moment, listing_of, ran, run_with,
+    DAY, DRAIN, FILLS, Left, SERVE, disk_of, holds_at, image_at, last_moment, listing_of, ran,
+    run_with,
 };
 use agency_port::{Message, PracticeAgency};
 use chain_disk::{Fill, MemDisk};
 use ports::{Gate, OpenGate};
+use rows::holds;
 use std::alloc::Global;
 use std::hint::spin_loop;
 use std::sync::Wait;
@@ -110,23 +112,11 @@ fn a_till_that_is_held_asks_after_the_other(rt: HostRuntime) -> Result<(), Fail>
             late: AtomicU64::new(0),
         };
         let agency = PracticeAgency::new(alloc);
-        let left = run_with(
-            &rt,
-            DAY,
-            script,
-            (0, 0),
-            disk_of(alloc, &[], 0)?,
-            agency,
-            &gate,
-        )?;
-        assert_eq!(rt;
-            (left.ended.status, gate.late.load(Ordering::SeqCst)),
-            (0, 0),
-            "at {script}"
-        );
+        let disk = disk_of(alloc, &[], 0)?;
+        let left = run_with(&rt, DAY, script, (0, 0), disk, agency, &gate)?;
+        let is_done = left.ended.status == 0 && gate.late.load(Ordering::SeqCst) == 0;
         let (lines, are_within) = without_counts(alloc, left.text.as_str(), fewest, most)?;
-        assert_eq!(rt; lines.as_str(), text, "at {script}");
-        assert!(rt; are_within, "at {script}");
+        holds(is_done && are_within && lines.as_str() == text, script)?;
     }
     Ok(())
 }
@@ -291,17 +281,18 @@ fn a_disk_that_fails_keeps_what_was_told_and_each_record_is_sent_once(
             for fill in FILLS {
                 let left = ran(&rt, words, TILLS, disk_of(rt.alloc(), &[], failing)?)?;
                 let done = left.ended.status == 0;
-                assert!(rt; done || left.ended.status == 6, "{words} at call {failing}");
-                assert!(rt;
-                    !done || is_told(left.text.as_str(), words),
-                    "{words} at call {failing}"
-                );
+                let is_told = if done {
+                    is_told(left.text.as_str(), words)
+                } else {
+                    left.ended.status == 6
+                };
                 failed = failed.saturating_add(u32::from(!done));
-                assert!(rt; are_kept(&rt, left, fill)?, "{words} at call {failing}");
+                let are_kept = are_kept(&rt, left, fill)?;
+                holds_at(is_told && are_kept, words, failing)?;
             }
         }
         // An opening makes nine calls, and each of three sales and of one note at least four.
-        assert!(rt; failed >= 100, "at {words}");
+        holds(failed >= 100, words)?;
     }
     Ok(())
 }

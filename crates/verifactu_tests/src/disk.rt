@@ -1,5 +1,7 @@
 // A chain whose disk fails at each call in turn.
-use crate::runs::{CHAIN, FILLS, ONE, TWO, disk_of, image_at, last_moment, listing_of, ran};
+use crate::runs::{
+    CHAIN, FILLS, ONE, TWO, disk_of, holds_at, image_at, last_moment, listing_of, ran,
+};
 use chain_disk::MemDisk;
 use std::sync::Wait;
 use std::test::Fail;
@@ -87,12 +89,9 @@ fn each_call_of_the_disk_fails_in_turn(rt: HostRuntime) -> Result<(), Fail> {
     for (from, to, status, text) in CALLS {
         for failing in from..=to {
             let left = ran(&rt, CHAIN, TWO, disk_of(rt.alloc(), &[], failing)?)?;
-            assert_eq!(rt; left.ended.status, status, "call {failing}");
-            assert_eq!(rt; left.text.as_str(), text, "call {failing}");
-            assert!(rt;
-                keeps_what_was_told(&rt, &left.disk, failing)?,
-                "call {failing}"
-            );
+            let is_told = left.ended.status == status && left.text.as_str() == text;
+            let is_kept = keeps_what_was_told(&rt, &left.disk, failing)?;
+            holds_at(is_told && is_kept, CHAIN, failing)?;
         }
     }
     Ok(())

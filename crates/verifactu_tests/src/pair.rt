@@ -1,8 +1,11 @@
 // A file and its copy, with each call of either disk failing in turn.
-use crate::runs::{FILLS, NEXT_DAY, TEN, TWO, disk_of, file_of, image_at, last_moment, run_in};
+use crate::runs::{
+    FILLS, NEXT_DAY, TEN, TWO, disk_of, file_of, holds_at, image_at, last_moment, run_in,
+};
 use agency_port::PracticeAgency;
 use chain_disk::{Disk, Fill, MemDisk};
 use ports::{CountingClock, LeapSleeper, MemSink, MemSource, OpenGate};
+use rows::holds;
 use std::alloc::Global;
 use std::sync::Wait;
 use std::test::Fail;
@@ -102,7 +105,7 @@ fn bytes_of(alloc: Global, disk: &mut MemDisk) -> Result<Vec<u8>, Fail> {
 }
 
 // Whether these are the bytes of a disk.
-fn holds(alloc: Global, disk: &mut MemDisk, wanted: &[u8]) -> Result<bool, Fail> {
+fn has(alloc: Global, disk: &mut MemDisk, wanted: &[u8]) -> Result<bool, Fail> {
     Ok(bytes_of(alloc, disk)?.as_slice() == wanted)
 }
 
@@ -121,8 +124,8 @@ fn leads_to(
         mut copy,
         ..
     } = paired(rt, words, disk_of(alloc, file, 0)?, copy)?;
-    let is_file = holds(alloc, &mut disk, wanted)?;
-    Ok(status == 0 && is_file && holds(alloc, &mut copy, wanted)?)
+    let is_file = has(alloc, &mut disk, wanted)?;
+    Ok(status == 0 && is_file && has(alloc, &mut copy, wanted)?)
 }
 
 // Whether each image of the last moments of a copy is one that may be followed on, to the whole file. As the calls fail in turn,
@@ -149,44 +152,53 @@ fn is_read_alone(alloc: Global, disk: &MemDisk) -> Result<bool, Fail> {
     Ok(image_at(alloc, disk, 1, Fill::New)?.is_none())
 }
 
-// After each fault the same is done again, and both files are then what they would have been.
+fn has_failed(pair: &Pair) -> bool {
+    pair.disk.faults() > 0 || pair.copy.faults() > 0
+}
+
+// Whether the status of a run says if a disk failed, and the same again leaves both files as they would have been.
+fn is_mended(
+    rt: &(impl AllocGlobal + Threads + Wait + Sync),
+    words: &str,
+    file: &[u8],
+    mut pair: Pair,
+    wanted: &[u8],
+) -> Result<bool, Fail> {
+    let alloc = rt.alloc();
+    let status = if has_failed(&pair) { 6 } else { 0 };
+    let is_told = pair.status == status;
+    let is_followed = words == GUARD
+        || is_read_alone(alloc, &pair.disk)? && goes_on(rt, file, &pair.copy)?;
+    let left = bytes_of(alloc, &mut pair.disk)?;
+    let copy = disk_of(alloc, &bytes_of(alloc, &mut pair.copy)?, 0)?;
+    let is_led = leads_to(rt, words, &left, copy, wanted)?;
+    Ok(is_told && is_followed && is_led)
+}
+
+// The words, how many calls of a disk they make at most, and what is printed.
+const RUNS: [(&str, u64, &str); 2] = [
+    (FOLLOW, 29, "followed 2 entries 2\n"),
+    (GUARD, 39, "cleared\nnoted 2\nchain 2 noted 2\n"),
+];
+
 #[test]
 fn each_call_of_either_disk_fails_in_turn(rt: HostRuntime) -> Result<(), Fail> {
     let alloc = rt.alloc();
     let file = bytes_of(alloc, &mut file_of(&rt, TWO)?)?;
-    let rows = [
-        (FOLLOW, 29u64, "followed 2 entries 2\n"),
-        (GUARD, 39, "cleared\nnoted 2\nchain 2 noted 2\n"),
-    ];
-    for (words, calls, text) in rows {
-        let mut whole = paired(
-            &rt,
-            words,
-            disk_of(alloc, &file, 0)?,
-            disk_of(alloc, &[], 0)?,
-        )?;
+    for (words, calls, text) in RUNS {
+        let disk = disk_of(alloc, &file, 0)?;
+        let mut whole = paired(&rt, words, disk, disk_of(alloc, &[], 0)?)?;
         let wanted = bytes_of(alloc, &mut whole.disk)?;
-        assert_eq!(rt; (whole.status, whole.text.as_slice()), (0, text.as_bytes()));
+        let is_text = whole.text.as_slice() == text.as_bytes();
+        holds(is_text && whole.status == 0, words)?;
         for call in 1..=calls {
             for (of_shop, of_copy) in [(call, 0), (0, call)] {
                 let disk = disk_of(alloc, &file, of_shop)?;
-                let mut pair = paired(&rt, words, disk, disk_of(alloc, &[], of_copy)?)?;
-                let failed = pair.disk.faults() > 0 || pair.copy.faults() > 0;
-                assert!(rt;
-                    (call > 1 || failed) && (call < calls || !failed),
-                    "at call {call}"
-                );
-                let status = if failed { 6 } else { 0 };
-                assert_eq!(rt; pair.status, status, "at call {call}");
-                let is_followed = words == GUARD
-                    || is_read_alone(alloc, &pair.disk)? && goes_on(&rt, &file, &pair.copy)?;
-                assert!(rt; is_followed, "at call {call}");
-                let left = bytes_of(alloc, &mut pair.disk)?;
-                let copy = disk_of(alloc, &bytes_of(alloc, &mut pair.copy)?, 0)?;
-                assert!(rt;
-                    leads_to(&rt, words, &left, copy, &wanted)?,
-                    "at call {call}"
-                );
+                let pair = paired(&rt, words, disk, disk_of(alloc, &[], of_copy)?)?;
+                let failed = has_failed(&pair);
+                let is_due = (call > 1 || failed) && (call < calls || !failed);
+                let is_mended = is_mended(&rt, words, &file, pair, &wanted)?;
+                holds_at(is_due && is_mended, words, call)?;
             }
         }
     }

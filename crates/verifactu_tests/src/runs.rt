@@ -4,6 +4,7 @@ use agency_port::{Agency, PracticeAgency};
 use chain_disk::{Disk, Fill, MemDisk};
 use ports::{Clock, CountingClock, Gate, LeapSleeper, MemSink, MemSource, OpenGate, Sink, Source};
 use report::Ended;
+use rows::holds;
 use std::alloc::Global;
 use std::sync::Wait;
 use std::test::Fail;
@@ -29,6 +30,15 @@ pub const ONE: &str = "sale 1 1 A F2 21:10000\n";
 pub const TWO: &str = "sale 1 1 A F2 21:10000\nsale 1 2 A F2 21:10000\n";
 
 pub const FILLS: [Fill; 4] = [Fill::Old, Fill::New, Fill::Zeros, Fill::Ones];
+
+/// Fails a test at this call of these words where what it holds of it isn't so.
+pub fn holds_at(is: bool, words: &str, call: u64) -> Result<(), Fail> {
+    if is {
+        Ok(())
+    } else {
+        Err(Fail::new(format_args!("at call {call} of {words}")))
+    }
+}
 
 /// What a run left.
 #[derive(Drop)]
@@ -190,10 +200,9 @@ fn what_was_asked_stands_where_a_source_or_a_sink_fails(rt: HostRuntime) -> Resu
         let agency = PracticeAgency::new(rt.alloc());
         let file = file_of(&rt, ONE)?;
         let left = run_with(&rt, words, script, failing, file, agency, &OpenGate)?;
-        assert_eq!(rt; left.ended.status, status, "at {words}");
-        assert_eq!(rt; left.text.as_str(), text, "at {words}");
+        let is_told = left.ended.status == status && left.text.as_str() == text;
         let listing = listing_of(&rt, left.disk)?;
-        assert!(rt; listing.ends_with(chain), "at {words}");
+        holds(is_told && listing.ends_with(chain), words)?;
     }
     Ok(())
 }

@@ -7,6 +7,7 @@ use crate::runs::{CHAIN, DAY, NEXT_DAY, SERVE, TEN, run_in};
 use agency_port::{ToldAgency, ToldAnswers};
 use chain_disk::Disk;
 use ports::{Clock, Failed, LeapSleeper, OpenGate, Sink, Source};
+use rows::holds;
 use std::alloc::Global;
 use std::sync::atomic::{AtomicU64, Ordering};
 use std::test::Fail;
@@ -250,13 +251,13 @@ fn each_record_is_synced_before_its_answer_and_the_next_command(
         };
         let (ended, outside) = run_in(&rt, words, &mut source, &mut sink, outside, &OpenGate)?;
         let printed = str::from_utf8(sink.bytes.as_slice()).ok().ok_or("a text")?;
-        assert!(rt; !sink.lost && printed.starts_with(text));
-        assert_eq!(rt; synced_in(printed, sink.at.as_slice()), (3, true));
+        let is_told = !sink.lost && printed.starts_with(text) && ended.status == status;
+        let is_synced = synced_in(printed, sink.at.as_slice()) == (3, true);
         let clock = &outside.clock;
-        assert_eq!(rt; (clock.readings, clock.early), (readings, 0));
-        assert_eq!(rt; ended.status, status);
+        let is_read = clock.readings == readings && clock.early == 0;
         // The other two read their script to its end first.
-        assert!(rt; (source.early == 0) == (words == SERVE));
+        let is_lockstep = (source.early == 0) == (words == SERVE);
+        holds(is_told && is_synced && is_read && is_lockstep, words)?;
     }
     Ok(())
 }
