@@ -46,12 +46,8 @@ fn ask(alloc: Global, serial: u32) -> Result<Ask, Fail> {
     Ok(counter_sale(alloc, 1, serial, series, base).ok_or("a sale")?)
 }
 
-fn requests(alloc: Global, count: u32) -> Result<Vec<Request>, Fail> {
-    let mut requests = Vec::new(alloc);
-    for _ in 0..count {
-        requests.push(ask(alloc, 1)?.request)?;
-    }
-    Ok(requests)
+fn request(alloc: Global) -> Result<Request, Fail> {
+    Ok(ask(alloc, 1)?.request)
 }
 
 fn empty_disk(alloc: Global) -> MemDisk {
@@ -175,8 +171,8 @@ fn is_taken(reply: &Result<Reply, StoreFault>) -> bool {
 fn two_tills_fill_one_chain(rt: HostRuntime) -> Result<(), Fail> {
     let alloc = rt.alloc();
     let store = opened(alloc, empty_disk(alloc), CountingClock::new(TEN, 1))?;
-    let first = requests(alloc, 3)?;
-    let second = requests(alloc, 2)?;
+    let first = vec![in alloc; request(alloc)?, request(alloc)?, request(alloc)?]?;
+    let second = vec![in alloc; request(alloc)?, request(alloc)?]?;
     let Ok(day) = one_till_a_thread(&rt, alloc, store, &first, &second) else {
         return Err(Fail::from("a day"));
     };
