@@ -29,8 +29,6 @@ const LINKS: [(&[u8], Checked); 5] = [
     (b"\xff", Checked::NotText),
 ];
 
-const WORKERS: [(u8, &str); 3] = [(1, "one worker"), (2, "two"), (16, "sixteen")];
-
 fn scanned(alloc: Global) -> Result<ScannedLines, Fail> {
     let mut lines = Vec::new(alloc);
     for (line, _) in LINKS {
@@ -62,9 +60,11 @@ fn each_line_has_its_answer_by_so_many_workers(rt: HostRuntime) -> Result<(), Fa
     let alloc = rt.alloc();
     let lines = scanned(alloc)?;
     let state = state_of(alloc)?;
-    for (workers, row) in WORKERS {
-        let answers = check_all(&rt, alloc, &state, &lines, workers)?;
-        holds(are(&answers, true), row)?;
-    }
+    let one = check_all(&rt, alloc, &state, &lines, 1)?;
+    holds(are(&one, true), "one worker")?;
+    let two = check_all(&rt, alloc, &state, &lines, 2)?;
+    holds(are(&two, true), "two workers")?;
+    let many = check_all(&rt, alloc, &state, &lines, 16)?;
+    holds(are(&many, true), "sixteen workers")?;
     holds(are(&check_unbegun(alloc, &lines)?, false), "no file")
 }
