@@ -9,7 +9,7 @@ use agency_port::Evidence;
 use parties::Nif;
 use ports::NoMemory;
 use record_fields::Text;
-use shop_core::{What, Word};
+use shop_core::Word;
 use std::alloc::{AllocError, Global};
 
 pub fn word_text(word: Word) -> &'static [u8]
@@ -38,35 +38,40 @@ pub fn word_text(word: Word) -> &'static [u8]
     }
 }
 
-// A number, a word behind it, and the end of the line.
-fn put_named(text: &mut Vec<u8>, n: u32, word: &[u8]) -> Result<(), AllocError>
-    ensures { OnOk result (text.new.items ≡ text.old.items ++ (decimal n ++ codes " " ++ word.now ++ codes "\n")) }
+// A head that ends with a blank, a number, and the end of the line.
+fn put_numbered(text: &mut Vec<u8>, head: &[u8], n: u64) -> Result<(), AllocError>
+    ensures { OnOk result (text.new.items ≡ text.old.items ++ (head.now ++ decimal n ++ codes "\n")) }
 {
-    put_number(text, u64::from(n))?;
+    put_counted(text, head, n)?;
+    put(text, b"\n")
+}
+
+// The same with a word behind the number.
+fn put_named(text: &mut Vec<u8>, head: &[u8], n: u32, word: &[u8]) -> Result<(), AllocError>
+    ensures { OnOk result (text.new.items ≡ text.old.items ++ (head.now ++ decimal n ++ codes " " ++ word.now ++ codes "\n")) }
+{
+    put_counted(text, head, u64::from(n))?;
     put(text, b" ")?;
     put(text, word)?;
     put(text, b"\n")
 }
 
-fn put_bad_line(text: &mut Vec<u8>, line: u32, fault: Word) -> Result<(), AllocError>
-    ensures { OnOk result (text.new.items ≡ text.old.items ++ spec.bad_line_text line fault) }
+// The same with two numbers.
+fn put_counts(text: &mut Vec<u8>, head: &[u8], noted: u32, records: u32) -> Result<(), AllocError>
+    ensures { OnOk result (text.new.items ≡ text.old.items ++ (head.now ++ spec.counts_text noted records)) }
 {
-    put_named(text, line, word_text(fault))
-}
-
-fn put_damage(text: &mut Vec<u8>, at: u64) -> Result<(), AllocError>
-    ensures { OnOk result (text.new.items ≡ text.old.items ++ spec.damage_text at) }
-{
-    put_counted(text, b"verifactu: damaged at ", at)?;
+    put_counted(text, head, u64::from(noted))?;
+    put(text, b" of ")?;
+    put_number(text, u64::from(records))?;
     put(text, b"\n")
 }
 
-fn put_counts(text: &mut Vec<u8>, noted: u32, records: u32) -> Result<(), AllocError>
-    ensures { OnOk result (text.new.items ≡ text.old.items ++ spec.counts_text noted records) }
+// The same with a NIF.
+fn put_nif(text: &mut Vec<u8>, head: &[u8], nif: &Nif) -> Result<(), AllocError>
+    ensures { OnOk result (text.new.items ≡ text.old.items ++ (head.now ++ spec.nif_line nif.now)) }
 {
-    put_number(text, u64::from(noted))?;
-    put(text, b" of ")?;
-    put_number(text, u64::from(records))?;
+    put(text, head)?;
+    put(text, &nif.bytes())?;
     put(text, b"\n")
 }
 
@@ -79,54 +84,6 @@ fn unseen_place(evidence: Evidence) -> u32
     }
 }
 
-fn put_place(text: &mut Vec<u8>, evidence: Evidence) -> Result<(), AllocError>
-    ensures { OnOk result (text.new.items ≡ text.old.items ++ spec.place_text (spec.unseen_place evidence)) }
-{
-    put_number(text, u64::from(unseen_place(evidence)))?;
-    put(text, b"\n")
-}
-
-fn put_broken(text: &mut Vec<u8>, place: u32, what: What) -> Result<(), AllocError>
-    ensures { OnOk result (text.new.items ≡ text.old.items ++ spec.break_text place what) }
-{
-    put_named(text, place, what_text(what))
-}
-
-fn put_nif(text: &mut Vec<u8>, nif: &Nif) -> Result<(), AllocError>
-    ensures { OnOk result (text.new.items ≡ text.old.items ++ spec.nif_line nif.now) }
-{
-    put(text, &nif.bytes())?;
-    put(text, b"\n")
-}
-
-fn put_held(text: &mut Vec<u8>, held: u8) -> Result<(), AllocError>
-    ensures { OnOk result (text.new.items ≡ text.old.items ++ spec.held_text held) }
-{
-    put_counted(text, b"verifactu: not old ", u64::from(held))?;
-    put(text, b"\n")
-}
-
-fn put_parting(text: &mut Vec<u8>, entry: u64) -> Result<(), AllocError>
-    ensures { OnOk result (text.new.items ≡ text.old.items ++ spec.parting_text entry) }
-{
-    put_counted(text, b"verifactu: parted at ", entry)?;
-    put(text, b"\n")
-}
-
-fn put_difference(text: &mut Vec<u8>, line: u64) -> Result<(), AllocError>
-    ensures { OnOk result (text.new.items ≡ text.old.items ++ spec.difference_text line) }
-{
-    put_counted(text, b"line ", line)?;
-    put(text, b"\n")
-}
-
-fn put_index(text: &mut Vec<u8>, index: u16) -> Result<(), AllocError>
-    ensures { OnOk result (text.new.items ≡ text.old.items ++ spec.index_text index) }
-{
-    put_counted(text, b"verifactu: issuer ", u64::from(index))?;
-    put(text, b"\n")
-}
-
 fn put_fault(text: &mut Vec<u8>, detail: &Detail) -> Result<(), AllocError>
     ensures { OnOk result (text.new.items ≡ text.old.items ++ spec.fault_text detail.now) }
 {
@@ -134,40 +91,35 @@ fn put_fault(text: &mut Vec<u8>, detail: &Detail) -> Result<(), AllocError>
         Detail::Done => Ok(()),
         Detail::Usage => put(text, b"verifactu: usage\n"),
         Detail::Script { line, fault } => {
-            put(text, b"verifactu: script line ")?;
-            put_bad_line(text, *line, *fault)
+            put_named(text, b"verifactu: script line ", *line, word_text(*fault))
         }
         Detail::ReadFault => put(text, b"verifactu: read fault\n"),
         Detail::WriteFault => put(text, b"verifactu: write fault\n"),
         Detail::DiskFault => put(text, b"verifactu: disk fault\n"),
-        Detail::Damaged { at } => put_damage(text, *at),
+        Detail::Damaged { at } => put_numbered(text, b"verifactu: damaged at ", *at),
         Detail::Undelivered { noted, records } => {
-            put(text, b"verifactu: undelivered ")?;
-            put_counts(text, *noted, *records)
+            put_counts(text, b"verifactu: undelivered ", *noted, *records)
         }
         Detail::Broken { place, what } => {
-            put(text, b"verifactu: broken ")?;
-            put_broken(text, *place, *what)
+            put_named(text, b"verifactu: broken ", *place, what_text(*what))
         }
         Detail::NoMemory => put(text, b"verifactu: no memory\n"),
         Detail::Contradiction(evidence) => {
-            put(text, b"verifactu: contradiction at ")?;
-            put_place(text, *evidence)
+            let place = u64::from(unseen_place(*evidence));
+            put_numbered(text, b"verifactu: contradiction at ", place)
         }
         Detail::TooBig => put(text, b"verifactu: input too big\n"),
-        Detail::OtherIssuer { held } => {
-            put(text, b"verifactu: file of ")?;
-            put_nif(text, held)
-        }
+        Detail::OtherIssuer { held } => put_nif(text, b"verifactu: file of ", held),
         Detail::Unknown => put(text, b"verifactu: no such invoice\n"),
         Detail::Occupied { .. } => put(text, b"verifactu: occupied\n"),
-        Detail::NotOld { held } => put_held(text, *held),
-        Detail::Parted { entry } => put_parting(text, *entry),
-        Detail::Differs { line } => {
-            put(text, b"verifactu: differs at ")?;
-            put_difference(text, *line)
-        }
-        Detail::Issuer { index, .. } => put_index(text, *index),
+        Detail::NotOld { held } => put_numbered(text, b"verifactu: not old ", u64::from(*held)),
+        Detail::Parted { entry } => put_numbered(text, b"verifactu: parted at ", *entry),
+        Detail::Differs { line } => put_numbered(text, b"verifactu: differs at line ", *line),
+        Detail::Issuer { index, .. } => put_numbered(
+            text,
+            b"verifactu: issuer ",
+            u64::from(*index),
+        ),
     }
 }
 

@@ -1,14 +1,14 @@
 // The summary of a history: how many records of each kind, and the sums of their amounts.
-ghost use Rattle.std.specs.Prelude.{◌≡◌, ◌+◌, ◌<◌, ◌≤◌, ◌++◌, OnOk, IfOk, unsigned_abs};
+ghost use Rattle.std.specs.Prelude.{◌≡◌, ◌+◌, ◌<◌, ◌≤◌, ◌++◌, OnOk, IfOk, length, unsigned_abs};
 ghost use Rattle.tax_lines.specs.Totals.{bases, cuota};
 ghost use Rattle.shop_core.specs.History as history;
 ghost use Rattle.report.specs.Summary as spec;
 ghost use Rattle.report.specs.Sums.{added};
-ghost use Rattle.report.specs.Verdicts.{last_text};
 
-use crate::pieces::{put, put_amount, put_chain, put_counted, put_huella};
+use crate::pieces::{put, put_amount, put_chain, put_counted};
+use crate::verdicts::put_last;
 use ports::NoMemory;
-use record_fields::{Record, Sealed, Text};
+use record_fields::{Record, Text};
 use shop_core::State;
 use std::alloc::{AllocError, Global};
 use tax_lines::{Breakdown, totals_are_small};
@@ -109,12 +109,13 @@ fn put_sums(text: &mut Vec<u8>, records: u32, sums: Sums) -> Result<(), AllocErr
     put_amounts(text, sums)
 }
 
-fn put_last_of(text: &mut Vec<u8>, last: &Option<Sealed>) -> Result<(), AllocError>
-    ensures { OnOk result (text.new.items ≡ text.old.items ++ last_text (spec.huella_in last.now)) }
+// The Huella of the last record.
+fn last_of(alloc: Global, state: &State) -> Result<Option<[u8; 32]>, NoMemory>
+    ensures { IfOk result (λ last. last ≡ spec.huella_in (history.sealed_at state.now.entries (length (history.recs state.now.entries)))) }
 {
-    match last {
-        None => put(text, b"-"),
-        Some(sealed) => put_huella(text, &sealed.huella),
+    match state.sealed(alloc, state.records())? {
+        None => Ok(None),
+        Some(sealed) => Ok(Some(sealed.huella)),
     }
 }
 
@@ -122,13 +123,13 @@ fn put_end(
     text: &mut Vec<u8>,
     records: u32,
     noted: u32,
-    last: &Option<Sealed>,
+    last: &Option<[u8; 32]>,
 ) -> Result<(), AllocError>
-    ensures { OnOk result (text.new.items ≡ text.old.items ++ spec.end_text records noted (spec.huella_in last.now)) }
+    ensures { OnOk result (text.new.items ≡ text.old.items ++ spec.end_text records noted last.now) }
 {
     put_chain(text, records, noted)?;
     put(text, b" last ")?;
-    put_last_of(text, last)?;
+    put_last(text, last)?;
     put(text, b"\n")
 }
 
@@ -138,7 +139,7 @@ pub fn summary_text(alloc: Global, state: &State) -> Result<Text, NoMemory>
     ensures { IfOk result (λ text. text ≡ spec.summary_text state.now.entries) }
 {
     let sums = sums_of(alloc, state)?;
-    let last = state.sealed(alloc, state.records())?;
+    let last = last_of(alloc, state)?;
     let mut text = Vec::new(alloc);
     put_sums(&mut text, state.records(), sums)?;
     put_end(&mut text, state.records(), state.noted(), &last)?;

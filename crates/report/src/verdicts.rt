@@ -22,7 +22,7 @@ pub fn what_text(what: What) -> &'static [u8]
     }
 }
 
-fn put_last(text: &mut Vec<u8>, last: &Option<[u8; 32]>) -> Result<(), AllocError>
+pub fn put_last(text: &mut Vec<u8>, last: &Option<[u8; 32]>) -> Result<(), AllocError>
     ensures { OnOk result (text.new.items ≡ text.old.items ++ spec.last_text last.now) }
 {
     match last {
