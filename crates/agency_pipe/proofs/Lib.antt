@@ -1,5 +1,6 @@
 mod ItemLemmas
 mod ListLemmas
+mod ListedValues
 mod OneReading
 mod PlainMessages
 mod Bytewise
