@@ -43,12 +43,12 @@ fn put_sealed(
     let id = sealed.body.id();
     let moment = sealed.body.moment();
     let day = day_value(alloc, id.day)?;
-    let huella = huella_value(alloc, &sealed.huella)?;
-    let link = link_value(alloc, &sealed.body.link())?;
-    let num = num_value(alloc, &id.num)?;
     put(members, alloc, "day", day)?;
+    let huella = huella_value(alloc, &sealed.huella)?;
     put(members, alloc, "huella", huella)?;
+    let link = link_value(alloc, &sealed.body.link())?;
     put(members, alloc, "link", link)?;
+    let num = num_value(alloc, &id.num)?;
     put(members, alloc, "num", num)?;
     put(members, alloc, "offset", Value::from(moment.offset_minutes))?;
     put(members, alloc, "seconds", Value::from(moment.seconds))
@@ -59,19 +59,19 @@ fn put_alta(members: &mut Map<String, Value>, alloc: Global, alta: &Alta) -> Res
     ensures { OnOk result (members_view members.new.entries ≡ building.with_alta alta.now (members_view members.old.entries)) }
 {
     let customer = customer_value(alloc, &alta.draft.customer)?;
-    let kind = Value::try_from_str(alloc, alta.draft.kind.text())?;
-    let lines = list_value(alloc, alta.draft.lines.lines())?;
-    let rechazo = previo_value(alloc, alta.rechazo)?;
-    let rect = rect_value(alloc, alta.draft.rect)?;
-    let refs = list_value(alloc, alta.draft.refs.as_slice())?;
-    let sort = Value::try_from_str(alloc, "alta")?;
     put(members, alloc, "customer", customer)?;
     put(members, alloc, "fix", Value::from(alta.subsanacion))?;
+    let kind = Value::try_from_str(alloc, alta.draft.kind.text())?;
     put(members, alloc, "kind", kind)?;
+    let lines = list_value(alloc, alta.draft.lines.lines())?;
     put(members, alloc, "lines", lines)?;
+    let rechazo = previo_value(alloc, alta.rechazo)?;
     put(members, alloc, "rechazo", rechazo)?;
+    let rect = rect_value(alloc, alta.draft.rect)?;
     put(members, alloc, "rect", rect)?;
+    let refs = list_value(alloc, alta.draft.refs.as_slice())?;
     put(members, alloc, "refs", refs)?;
+    let sort = Value::try_from_str(alloc, "alta")?;
     put(members, alloc, "t", sort)
 }
 
