@@ -26,8 +26,7 @@ pub(crate) fn answered<R: Threads + Sync>(
     requires { IsInRange 1 MAX_WORKERS workers }
     ensures { IfOk result (AreAnswered (begun state.now.issuer state.now.entries) (lines_of bytes.now)) }
 {
-    let size = bytes.len().div_ceil(usize::from(workers)).max(1);
-    let pieces = cut(alloc, bytes, size)?;
+    let pieces = cut(alloc, bytes, usize::from(workers))?;
     let answer = move |piece: &[u8]| -> Result<Text, NoMemory>
         ensures { IfOk result (AreAnswered (begun state.entry.now.issuer state.entry.now.entries) (lines_of piece.entry.now)) }
     { answer_piece(alloc, state, piece) };

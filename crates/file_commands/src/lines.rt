@@ -1,5 +1,5 @@
 // The lines of a source.
-ghost use Rattle.std.specs.Prelude.{◌≡◌, ◌≢◌, ◌<◌, ◌≤◌, ◌==◌, [], ◌∷◌, ◌++◌, IfOk, MatchOption, flat_map, length, position};
+ghost use Rattle.std.specs.Prelude.{◌≡◌, ◌≢◌, ◌<◌, ◌≤◌, ◌==◌, [], ◌∷◌, ◌++◌, ◌+◌, IfOk, MatchOption, flat_map, length, position};
 ghost use Rattle.std.specs.Str.Lines.{strip_carriage_return};
 ghost use Rattle.file_commands.specs.Lines.{lines_of};
 
@@ -22,10 +22,13 @@ pub(crate) fn read_lines(alloc: Global, bytes: &[u8]) -> Result<ScannedLines, No
     Ok(ScannedLines::of(lines))
 }
 
-/// The bytes in pieces, each cut behind a line's end, that hold so many bytes at least, but the last one.
-pub(crate) fn cut(alloc: Global, bytes: &[u8], size: usize) -> Result<Vec<&[u8]>, NoMemory>
-    ensures { IfOk result (λ pieces. flat_map (λ p. lines_of p.now) pieces.items ≡ lines_of bytes.now) }
+/// The bytes in at most so many pieces, each cut behind a line's end.
+pub(crate) fn cut(alloc: Global, bytes: &[u8], most: usize) -> Result<Vec<&[u8]>, NoMemory>
+    requires { 0 < most }
+    ensures lines { IfOk result (λ pieces. flat_map (λ p. lines_of p.now) pieces.items ≡ lines_of bytes.now) }
+    ensures few { IfOk result (λ pieces. length pieces.items ≤ most) }
 {
+    let size = bytes.len().div_ceil(most);
     let mut pieces = Vec::new(alloc);
     let mut rest = bytes;
     while rest.len() > size {
@@ -41,7 +44,7 @@ pub(crate) fn cut(alloc: Global, bytes: &[u8], size: usize) -> Result<Vec<&[u8]>
 fn split_behind_line(text: &[u8], at: usize) -> (&[u8], &[u8])
     requires { at ≤ length text.now }
     ensures lines { lines_of text.now ≡ lines_of result.0.now ++ lines_of result.1.now }
-    ensures shorter { at < length text.now → length result.1.now < length text.now }
+    ensures shorter { at < length text.now → at + length result.1.now < length text.now }
 {
     match place_of_lf(&text[at..]) {
         Some(more) => text.split_at(at + more + 1),

@@ -24,4 +24,4 @@ returns g c =
     c.joined.ensures.each)
     (subst (λ (ts : List Piece). IfOk c.joined.result (λ text. text ≡ flat_map text_in ts)) c.deref.ensures.value
     c.joined.ensures.all) in
-    subst (λ (ls : List (List ℕ)). IfOk c.joined.result (AreAnswered chain ls)) c.in_ok-pieces.ensures whole
+    subst (λ (ls : List (List ℕ)). IfOk c.joined.result (AreAnswered chain ls)) c.in_ok-pieces.ensures.lines whole
