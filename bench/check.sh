@@ -1,14 +1,16 @@
 #!/bin/sh
-# How many scanned links a second `check` answers with 1, 2 and 4 workers in one run: 100,000 links against a chain of 100,000
-# records, each of another record. The time with an empty source, which is that of opening the file, is taken off; turns of each kind
-# alternate, and the fastest count. The file and the links lie in memory (/dev/shm). Two workers are to be 1.6 times as fast as one, and
-# four 2.5 times, where four processors are free. What one worker still does alone: the source is read, and the texts joined and printed.
-# Its peer is the machine itself: so many programs of one worker each, beside each other, and what they do together in the time of one.
-# Run by hand, on a machine that does nothing else: bench/check.sh [LINKS] [TURNS].
+# How many scanned links a second `check` answers with 1, 2 and 4 workers in one run: 130,000 links, some 15 MB, about the most that
+# it takes, of the 10,000 records of a chain in turn. The time with an empty source, which is that of opening the file, is taken off: so
+# the chain is short, else that is most of a run. Turns of each kind alternate, and the fastest count. The file and the links lie in
+# memory (/dev/shm). Two workers are to be 1.6 times as fast as one, and four 2.5 times, where four processors are free. What one worker
+# still does alone: the source is read, and the texts joined and printed. Its peer is the machine itself: so many programs of one worker
+# each, beside each other, and what they do together in the time of one.
+# Run by hand, on a machine that does nothing else: bench/check.sh [LINKS] [TURNS] [RECORDS].
 set -eu
 root=$(CDPATH= cd -- "$(dirname -- "$0")/.." && pwd)
-links=${1:-100000}
-turns=${2:-9}
+links=${1:-130000}
+turns=${2:-15}
+records=${3:-10000}
 work=$(mktemp -d /dev/shm/check.XXXXXX)
 trap 'rm -rf "$work"' EXIT
 
@@ -16,12 +18,15 @@ trap 'rm -rf "$work"' EXIT
 program=$root/crates/program/out/program
 {
     echo "clock 1735722000 0"
-    seq 1 "$links" | sed 's/.*/sale 1 & A F2 21:1000/'
+    seq 1 "$records" | sed 's/.*/sale 1 & A F2 21:1000/'
 } >"$work/script"
 "$program" chain "$work/shop.chain" 89890001K <"$work/script" >/dev/null
 front="https://www2.agenciatributaria.gob.es/wlpl/TIKE-CONT/ValidarQR?nif=89890001K\&numserie=A-"
-seq 1 "$links" | sed "s|.*|$front&\\&fecha=01-01-2025\\&importe=12.10|" >"$work/links"
-seq 1 "$links" | sed 's/^/found /' >"$work/wanted"
+in_turn() {
+    seq 0 $((links - 1)) | awk -v records="$records" '{ print $1 % records + 1 }'
+}
+in_turn | sed "s|.*|$front&\\&fecha=01-01-2025\\&importe=12.10|" >"$work/links"
+in_turn | sed 's/^/found /' >"$work/wanted"
 
 microseconds() {
     echo $(($(date +%s%N) / 1000))
