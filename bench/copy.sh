@@ -14,10 +14,18 @@ line_of() {
     grep -E "^$1( [a-z_]+=[^ :]*)*:" "$root/crates.txt"
 }
 
-names=$(for crate in "$@"; do
-    line_of "$crate" | sed 's/^[^:]*://' | tr ' ' '\n'
-    echo "$crate"
-done | grep . | sort -u)
+names=
+left=$*
+while [ -n "$left" ]; do
+    more=
+    for crate in $left; do
+        case " $names " in *" $crate "*) continue ;; esac
+        names="$names $crate"
+        if [ -d "$root/crates/$crate/src" ]; then more="$more $(line_of "$crate" | sed 's/^[^:]*: *//')"; fi
+    done
+    left=$(echo $more)
+done
+names=$(echo "$names" | tr ' ' '\n' | grep . | sort)
 for crate in $names; do
     [ -d "$root/crates/$crate/src" ] || continue
     mkdir "$folder/crates/$crate"

@@ -63,7 +63,9 @@ struct Add {
 }
 
 impl Act<Ledger> for Add {
-    ghost relates = { λ before root list after items. Unit {0} };
+    type Told = ();
+
+    ghost relates = { λ before root list after items told. Unit {0} };
 
     fn act(&mut self, value: &mut Ledger) {
         if value.items.len() < value.items.capacity() {
