@@ -1,8 +1,8 @@
 #!/bin/sh
-# How many scanned links a second `check` answers with 1, 2 and 4 workers in one run: 130,000 links, some 15 MB, about the most that
+# How many scanned links a second `check` answers with 1, 2 and 4 workers in one run: 130,000 links, some 16 MB, about the most that
 # it takes, of the 10,000 records of a chain in turn. The time with an empty source, which is that of opening the file, is taken off: so
 # the chain is short, else that is most of a run. Turns of each kind alternate, and the fastest count. The file and the links lie in
-# memory (/dev/shm). Two workers are to be 1.6 times as fast as one, and four 2.5 times, where four processors are free. What one worker
+# memory (/dev/shm). Two workers are to be 1.8 times as fast as one, and four 3.0 times, where four processors are free. What one worker
 # still does alone: the source is read, and the texts joined and printed. Its peer is the machine itself: so many programs of one worker
 # each, beside each other, and what they do together in the time of one.
 # Run by hand, on a machine that does nothing else: bench/check.sh [LINKS] [TURNS] [RECORDS].
