@@ -139,9 +139,9 @@ def tree(version: str, date: int) -> dict[str, tuple[bytes, int]]:
         "bin/verifactu": (text_of(PROGRAM), 0o755),
         "share/man/man1/verifactu.1.gz": (packed(man_page(version, date)), 0o644),
         "share/bash-completion/completions/verifactu": (text_of(os.path.join(PARTS, "verifactu.bash")), 0o644),
-        f"{DOC}/changelog.gz": (packed(text_of(os.path.join(ROOT, "CHANGELOG.md"))), 0o644),
-        f"{DOC}/README.md": (text_of(os.path.join(ROOT, "README.md")), 0o644),
     }
+    for page in ("README.md", "CHANGELOG.md"):
+        made[f"{DOC}/{page}"] = (text_of(os.path.join(ROOT, page)), 0o644)
     folders = {"docs": f"{DOC}/docs", "examples": f"{DOC}/examples", "examples/agency": "share/verifactu/agency", "examples/systemd": UNITS}
     for folder, to in folders.items():
         for name in files_of(folder):
