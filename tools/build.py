@@ -21,6 +21,7 @@ import subprocess
 import sys
 import threading
 import time
+from collections.abc import Mapping
 
 from lanes import ROOT, all_below, copy_sources, crates, hand_library
 
@@ -40,13 +41,38 @@ def seconds(names: list[str]) -> dict[str, int]:
     return {name: seen.get(name, 20) for name in names}
 
 
-def ways(order: list[str], below: dict[str, list[str]]) -> dict[str, int]:
-    """The seconds of the longest chain of proofs that begins with each crate and ends with the program. `order` has the lowest first."""
-    cost = seconds(order)
-    above: dict[str, int] = {}
+def ways(order: list[str], below: dict[str, list[str]], cost: Mapping[str, float]) -> dict[str, float]:
+    """What the longest chain of proofs costs that begins with each crate and ends at the top. `order` has the lowest first."""
+    above: dict[str, float] = {}
     for name in reversed(order):
-        above[name] = cost[name] + max((above[it] for it in above if name in below[it]), default=0)
+        above[name] = cost[name] + max((above[it] for it in above if name in below[it]), default=0.0)
     return above
+
+
+def longest(order: list[str], below: dict[str, list[str]], cost: Mapping[str, float]) -> list[str]:
+    """The longest chain of proofs, lowest first."""
+    above = ways(order, below, cost)
+    chain: list[str] = []
+    left = set(order)
+    while left:
+        chain.append(max(left, key=lambda it: above[it]))
+        left = {it for it in order if chain[-1] in below[it]}
+    return chain
+
+
+def run_rt(words: list[str], place: str) -> tuple[int, bytes, float]:
+    """Runs rt in a crate's folder: its status, what it said, and the processor seconds that it and all below it took."""
+    run = subprocess.Popen(["rt", *words], cwd=place, stdin=subprocess.DEVNULL, stdout=subprocess.PIPE, stderr=subprocess.STDOUT)
+    assert run.stdout is not None
+    text = run.stdout.read()
+    _, status, used = os.wait4(run.pid, 0)
+    run.returncode = os.waitstatus_to_exitcode(status)
+    return run.returncode, text, used.ru_utime + used.ru_stime
+
+
+def note(text: bytes) -> None:
+    with open(LOG, "ab") as log:
+        log.write(text)
 
 
 def lanes(words: list[str]) -> int:
@@ -102,7 +128,8 @@ class Build:
 
     def __init__(self, trees: list[str], order: list[str], below: dict[str, list[str]]) -> None:
         self.trees, self.order, self.below = trees, order, below
-        self.above = ways(order, below)
+        self.above = ways(order, below, seconds(order))
+        self.cost: dict[str, float] = {}
         self.done: set[str] = set()
         self.busy: set[str] = set()
         self.failed: list[str] = []
@@ -128,8 +155,7 @@ class Build:
         """Notes how a crate's proof ended."""
         with self.turn:
             self.busy.remove(name)
-            with open(LOG, "ab") as log:
-                log.write(f"== {head}\n".encode() + text)
+            note(f"== {head}\n".encode() + text)
             if status == 0:
                 self.done.add(name)
                 say(f"proved {name}, {len(self.done)} of {len(self.order)}, {clock(self.begun)}")
@@ -141,12 +167,11 @@ class Build:
     def prove(self, lane: int, name: str) -> None:
         """Proves one crate in the lane's tree, and hands its library to the others."""
         tree, at, begun = self.trees[lane], clock(self.begun), time.monotonic()
-        run = subprocess.run(["rt", "lib"], cwd=os.path.join(tree, "crates", name), stdin=subprocess.DEVNULL,
-                             stdout=subprocess.PIPE, stderr=subprocess.STDOUT, check=False)
+        status, text, self.cost[name] = run_rt(["lib"], os.path.join(tree, "crates", name))
         took = time.monotonic() - begun
-        handed = hand_on(tree, self.trees, name) if run.returncode == 0 else 0
-        head = f"{name}: lane {lane + 1}, begun at {at}, took {took:.1f} s, handed to {handed} trees"
-        self.ended(name, run.returncode, head, run.stdout)
+        handed = hand_on(tree, self.trees, name) if status == 0 else 0
+        head = f"{name}: lane {lane + 1}, begun at {at}, took {took:.1f} s, processor {self.cost[name]:.1f} s, handed to {handed} trees"
+        self.ended(name, status, head, text)
 
     def work(self, lane: int) -> None:
         """What a lane does: it proves crate after crate."""
@@ -167,16 +192,23 @@ def prove_all(build: Build) -> bool:
     return not build.failed
 
 
-def link() -> bool:
+def link(build: Build) -> bool:
     """Proves and links the program. Its file is newer than its sources then, also where nothing had changed."""
-    with open(LOG, "ab") as log:
-        log.write(f"== {GOAL}\n".encode())
-        log.flush()
-        place = os.path.join(ROOT, "crates", GOAL)
-        run = subprocess.run(["rt", "run", "--", "--version"], cwd=place, stdin=subprocess.DEVNULL, stdout=log, stderr=log, check=False)
-    if run.returncode == 0:
+    place = os.path.join(ROOT, "crates", GOAL)
+    status, text, build.cost[GOAL] = run_rt(["run", "--", "--version"], place)
+    note(f"== {GOAL}: processor {build.cost[GOAL]:.1f} s\n".encode() + text)
+    if status == 0:
         os.utime(os.path.join(place, "out", GOAL))
-    return run.returncode == 0
+    return status == 0
+
+
+def sum_up(build: Build) -> None:
+    """Notes what the build took, and its longest chain of proofs."""
+    order = [*build.order, GOAL]
+    chain = longest(order, build.below, build.cost)
+    took = sum(build.cost[it] for it in chain)
+    whole = sum(build.cost.values())
+    note(f"== all: {clock(build.begun)}, processor {whole:.0f} s; the longest chain of crates {took:.0f} s: {' '.join(chain)}\n".encode())
 
 
 def build_program(count: int) -> bool:
@@ -193,9 +225,10 @@ def build_program(count: int) -> bool:
         say(f"not built; see {os.path.relpath(LOG)}")
         return False
     say("proving and linking the program")
-    if not link():
+    if not link(build):
         say(f"the program wasn't built; see {os.path.relpath(LOG)}")
         return False
+    sum_up(build)
     shutil.rmtree(copies(), ignore_errors=True)
     shutil.rmtree(os.path.join(ROOT, "out", "trial"), ignore_errors=True)
     say(f"built, {clock(build.begun)}")
