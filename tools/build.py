@@ -23,7 +23,7 @@ import threading
 import time
 from collections.abc import Mapping
 
-from lanes import ROOT, all_below, copy_sources, crates, hand_library
+from lanes import ROOT, all_below, built_at, copy_sources, crates, hand_library
 
 GOAL = "program"
 LOG = os.path.join(ROOT, "out", "build.log")
@@ -92,14 +92,6 @@ def copies() -> str:
     """Where the lanes' copies of this tree stand."""
     cache = os.environ.get("XDG_CACHE_HOME") or os.path.join(os.path.expanduser("~"), ".cache")
     return os.path.join(cache, "verifactu-build", hashlib.sha256(ROOT.encode()).hexdigest()[:12])
-
-
-def built_at(tree: str, crate: str) -> float:
-    """When the crate's library in this tree was built; 0 where none is there."""
-    try:
-        return os.stat(os.path.join(tree, "crates", crate, "out", "rlib", "stamp")).st_mtime
-    except OSError:
-        return 0.0
 
 
 def share_earlier(trees: list[str], order: list[str]) -> None:

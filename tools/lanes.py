@@ -1,11 +1,13 @@
 """What tools/build.py and tools/wrong_bodies.py share: the crates of crates.txt, copies of the sources, and libraries that one tree hands another."""
+from __future__ import annotations
+
 import os
 import shutil
 
 ROOT = os.path.dirname(os.path.dirname(os.path.abspath(__file__)))
 
 
-def crates(root=ROOT):
+def crates(root: str = ROOT) -> dict[str, list[str]]:
     """Each crate of crates.txt with those of its own that it names."""
     lines = {}
     with open(os.path.join(root, "crates.txt"), encoding="utf-8") as text:
@@ -17,11 +19,12 @@ def crates(root=ROOT):
     return {name: [b for b in below if b in lines] for name, below in lines.items()}
 
 
-def all_below(below, goal):
+def all_below(below: dict[str, list[str]], goal: str) -> list[str]:
     """The crates that the goal stands on, lowest first, without itself."""
-    order, seen = [], set()
+    order: list[str] = []
+    seen: set[str] = set()
 
-    def visit(name):
+    def visit(name: str) -> None:
         if name not in seen:
             seen.add(name)
             for lower in below[name]:
@@ -32,7 +35,7 @@ def all_below(below, goal):
     return order[:-1]
 
 
-def text_of(path):
+def text_of(path: str | bytes) -> bytes | None:
     """What the file holds, or None where it can't be read."""
     try:
         with open(path, "rb") as it:
@@ -41,13 +44,13 @@ def text_of(path):
         return None
 
 
-def same(one, other):
+def same(one: str, other: str) -> bool:
     """Whether both files are there and hold the same."""
     text = text_of(one)
     return text is not None and text == text_of(other)
 
 
-def copy_sources(to, root=ROOT):
+def copy_sources(to: str, root: str = ROOT) -> str:
     """Makes the sources below `to` those of `root`; what stands there already, and what rt kept beside it, stays as it is."""
     wanted = {"crates.txt", "HANDLES"}
     for name in crates(root):
@@ -66,7 +69,7 @@ def copy_sources(to, root=ROOT):
     return to
 
 
-def link_or_copy(one, other):
+def link_or_copy(one: str, other: str) -> None:
     """Gives a file a second name; rt removes a library's files before it makes it anew, and never writes into one."""
     try:
         os.link(one, other)
@@ -74,7 +77,15 @@ def link_or_copy(one, other):
         shutil.copy2(one, other)
 
 
-def hand_library(from_tree, to_tree, crate):
+def built_at(tree: str, crate: str) -> float:
+    """When the crate's library in this tree was built; 0 where none is there."""
+    try:
+        return os.stat(os.path.join(tree, "crates", crate, "out", "rlib", "stamp")).st_mtime
+    except OSError:
+        return 0.0
+
+
+def hand_library(from_tree: str, to_tree: str, crate: str) -> bool:
     """Hands the library of a crate that was proved in one tree to another: rt takes it there by its stamp, where the sources are the same.
 
     False where the first has none, or none that is whole. What the other has is replaced where it isn't the same library. No rt may work
@@ -92,3 +103,9 @@ def hand_library(from_tree, to_tree, crate):
     shutil.rmtree(there, ignore_errors=True)
     os.rename(room, there)
     return True
+
+
+def hand_newer(from_tree: str, to_tree: str, crate: str) -> None:
+    """Hands the library where the other tree's isn't younger."""
+    if built_at(from_tree, crate) >= built_at(to_tree, crate):
+        hand_library(from_tree, to_tree, crate)
