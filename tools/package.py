@@ -140,7 +140,7 @@ def tree(version: str, date: int) -> dict[str, tuple[bytes, int]]:
         "share/man/man1/verifactu.1.gz": (packed(man_page(version, date)), 0o644),
         "share/bash-completion/completions/verifactu": (text_of(os.path.join(PARTS, "verifactu.bash")), 0o644),
     }
-    for page in ("README.md", "CHANGELOG.md"):
+    for page in ("README.md", "LEEME.md", "CHANGELOG.md"):
         made[f"{DOC}/{page}"] = (text_of(os.path.join(ROOT, page)), 0o644)
     folders = {"docs": f"{DOC}/docs", "examples": f"{DOC}/examples", "examples/agency": "share/verifactu/agency", "examples/systemd": UNITS}
     for folder, to in folders.items():
