@@ -1,8 +1,9 @@
 #!/usr/bin/env python3
 """The gate's time, crate by crate: runs .ci/run (or the command that is given) at the top of the repository, looks at the prover's
-processes every three seconds, and prints a row for each crate: processor seconds of its proof, of its tests' proof and of its wrong
-bodies, and the most memory that one process took. It sees what this run does: the last lines of `rt ci` tell whether that was all of it. For
-the whole from nothing run it where none of these files was proved before.
+processes every three seconds, and prints a row for each crate: processor seconds of its proof, of its tests' proof and of the wrong
+bodies that are tried in the run (`rt ci` tries those of must-fail/ alone), and the most memory that one process took. It sees what this
+run does: the last lines of `rt ci` tell whether that was all of it. For the whole from nothing run it where none of these files was proved
+before.
 
     bench/gate.py [COMMAND ..]      the command's own output goes to standard error
 """

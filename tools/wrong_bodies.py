@@ -4,9 +4,10 @@
 usage: tools/wrong_bodies.py [NAME ..]      of these crates; without names of each crate that has some
        tools/wrong_bodies.py --recorded     tries nothing, and says which records aren't of the files as they stand
 
-A line for each body, and status 1 where one isn't refused or can't be applied. Where all of a crate's are refused the file
-crates/NAME/wrong-bodies/refused says so: the day, what `rt version` printed, and a sum over all that the crate is made of, so that a
-change of it shows. The sum is SHA-256 of the lines that sha256sum prints for these files, in the order of their names' bytes:
+A line for each body, and status 1 where one isn't refused or can't be applied; standard error says what is at work. Where all of a crate's
+are refused the file crates/NAME/wrong-bodies/refused says so, and else it goes: the day, what `rt version` printed, and a sum over all
+that the crate is made of, so that a change of it shows. The sum is SHA-256 of the lines that sha256sum prints for these files, in the order
+of their names' bytes:
 
     cd crates/NAME; find src specs proofs must-fail wrong-bodies -type f ! -path wrong-bodies/refused 2>/dev/null |
     LC_ALL=C sort | xargs sha256sum | sha256sum
@@ -36,6 +37,10 @@ FAILS = ("NOT REFUSED", "BAD EDIT", "NOT TRIED")
 
 def say(text: str) -> None:
     print(text, flush=True)
+
+
+def at_work(text: str) -> None:
+    print(text, file=sys.stderr, flush=True)
 
 
 def folder_of(crate: str, root: str = ROOT) -> str:
@@ -127,6 +132,7 @@ def last_of(text: str) -> str:
 
 
 def write_record(crate: str, whole: str) -> None:
+    """Writes that all of the crate's wrong bodies were refused over the files of this sum."""
     day = datetime.datetime.now(datetime.timezone.utc).date()
     _, kit = run_rt(["version"], ROOT)
     with open(os.path.join(folder_of(crate), RECORD), "w", encoding="utf-8") as it:
@@ -136,17 +142,22 @@ def write_record(crate: str, whole: str) -> None:
 def try_crate(crate: str, below: dict[str, list[str]], tree: str) -> bool:
     """Tries a crate's wrong bodies in the copy, and writes the record where all were refused. Whether they were."""
     whole, bodies = sum_of(crate), bodies_of(crate)
+    record = os.path.join(folder_of(crate), RECORD)
+    if os.path.exists(record):
+        os.remove(record)
     copy_sources(tree)
     for lower in all_below(below, crate):
         hand_newer(ROOT, tree, lower)
+    at_work(f"{crate}: checking it as it stands")
     status, text = run_rt(["check"], folder_of(crate, tree))
     if status != 0:
         say(f"{crate}: rt check ended with status {status} on it as it stands, so none was tried: {last_of(text)}")
         return False
     place = os.path.join(folder_of(crate, tree), "must-fail")
-    os.makedirs(place)
+    os.makedirs(place, exist_ok=True)
     for body in bodies:
         shutil.copyfile(os.path.join(folder_of(crate), "wrong-bodies", body), os.path.join(place, body))
+    at_work(f"{crate}: trying its wrong bodies, {len(bodies)}")
     if not judge(crate, bodies, *run_rt(["must-fail", crate], tree)):
         return False
     if whole != sum_of(crate):
