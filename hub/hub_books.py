@@ -9,12 +9,9 @@ import os
 from typing import Any, List, Optional
 
 from hub_forms import BadRequest, Values, read_listing, read_statement, record_line
+from hub_limits import BETWEEN_LISTS, NEWEST, NICE, OLD_LIST_AFTER
 from hub_pipe import Counts, Shop, Unavailable, tell
 
-NEWEST = 20
-NICE = 10
-BETWEEN_LISTS = 30  # seconds from one `list FILE refused` to the next, at least
-OLD_LIST_AFTER = 2  # seconds after which the list before is shown while a new one is made
 STATUS_USAGE = 2
 
 

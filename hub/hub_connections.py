@@ -10,11 +10,8 @@ from typing import Any, Awaitable, Callable, Dict, Optional
 
 from aiohttp import web
 
-MOST_CONNECTIONS = 2_000
-WHOLE_REQUEST = 75  # seconds until a request must have arrived; longer than most HTTP libraries keep an idle connection
-WHOLE_ANSWER = 105  # seconds from there until its answer must have been made and taken
-MOST_HEAD = 65_536  # bytes of a request's head
-MOST_PIPELINED = 16  # requests that were sent ahead of answers
+from hub_limits import MOST_FIELD, MOST_HEAD, MOST_PIPELINED, WHOLE_ANSWER, WHOLE_REQUEST
+
 NEVER_BY_AIOHTTP = 86_400.0  # aiohttp's own limit of silence, seconds: WHOLE_REQUEST comes first
 
 Handler = Callable[[web.BaseRequest], Awaitable[web.StreamResponse]]
@@ -76,7 +73,7 @@ class Connections(web.Server):
     def __init__(self, handler: Handler, faulty: Callable[[int], web.Response],
                  answered: Callable[[web.BaseRequest, web.StreamResponse, float], None], most: int, most_body: int) -> None:
         super().__init__(handler, request_factory=self._request, keepalive_timeout=NEVER_BY_AIOHTTP, auto_decompress=False,
-                         access_log=None)
+                         max_line_size=MOST_FIELD, max_field_size=MOST_FIELD, access_log=None)
         self.loop = asyncio.get_running_loop()
         self.faulty = faulty
         self.answered = answered
@@ -89,7 +86,7 @@ class Connections(web.Server):
         return Connection(self, loop=self.loop, **self._kwargs)
 
     def _request(self, message: Any, payload: Any, protocol: Any, writer: Any, task: Any) -> web.BaseRequest:
-        return web.BaseRequest(message, payload, protocol, writer, task, self.loop, client_max_size=self.most_body)
+        return web.BaseRequest(message, payload, protocol, writer, task, self.loop, client_max_size=self.most_body + 1)
 
     def owes(self, connection: Connection) -> None:
         """From now on it owes a whole request. Of too many the one that has owed for longest is closed."""

@@ -10,13 +10,8 @@ import unicodedata
 from dataclasses import dataclass
 from typing import Any, Callable, Dict, List, Optional, Tuple, Union
 
+from hub_limits import FIRST_TOO_GREAT, LONGEST_NAME, LONGEST_WORD, MOST_DIGITS
 from hub_pipe import Ending, Line
-
-LONGEST_WORD = 80
-LONGEST_NAME = 200
-FIRST_TOO_GREAT = 10**13
-MOST_LINES = 12  # that are asked how a total becomes lines
-MOST_DIGITS = 15
 
 Values = Dict[str, Any]
 Reader = Callable[[Any, str], Any]

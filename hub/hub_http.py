@@ -16,15 +16,13 @@ from aiohttp import web
 from hub_books import Books
 from hub_connections import Connection, Connections
 from hub_forms import (
-    MOST_LINES, BadRequest, Command, NoMemory, Receipt, Refused, Values, last_line, parting_line, read_command, read_day, read_month,
+    BadRequest, Command, NoMemory, Receipt, Refused, Values, last_line, parting_line, read_command, read_day, read_month,
     read_word, ticket_line,
 )
+from hub_limits import ANSWER_WITHIN, MOST_BODY, MOST_LINES, MOST_UNDER_WAY
 from hub_pipe import BadLine, Shop, Unavailable, tell
 from hub_tokens import Asker, Tokens
 
-MOST_BODY = 65_536  # bytes
-MOST_UNDER_WAY = 4  # requests of a till or of the owner
-ANSWER_WITHIN = 30  # seconds from a whole request to its answer
 PREFLIGHT_AGE = 600  # seconds for which a browser keeps a preflight's answer
 
 FOLDER = os.path.dirname(os.path.realpath(__file__))
@@ -230,7 +228,7 @@ class Hub:
 
     def _pattern(self, path: str) -> Tuple[str, str]:
         """The path as the routes have it, and what stands in the place of its parameter."""
-        if path in self.routes:
+        if path in self.routes and "{" not in path:
             return path, ""
         parent, _, rest = path.rpartition("/")
         pattern = {"/v1/months": "/v1/months/{month}", "/v1/days": "/v1/days/{day}"}.get(parent, "")

@@ -15,16 +15,11 @@ from dataclasses import dataclass
 from datetime import datetime, timezone
 from typing import Any, Callable, Deque, Dict, Generic, List, Optional, Sequence, Tuple, TypeVar
 
+from hub_limits import FRESH, LONGEST_PAUSE, MOST_ANSWER, MOST_CUSTOMERS, PATIENCE, PING, TURNS
+
 T = TypeVar("T")
 
-MOST_CUSTOMERS = 9_900  # said in one run; the program takes 10,000, and one line may still come
-MOST_ANSWER = 65_536  # bytes of one answer
-LONGEST_PAUSE = 60  # seconds until the program is started again, at most
-PATIENCE = 10  # seconds that a program may take to end after a fault of its disk
-FRESH = 1  # seconds for which an answer shows that the program is alive
-PING = 5  # seconds in which it has to answer `chain`
-MENDED_BY_NO_RESTART = (2, 7, 11, 13)
-TURNS = 2  # so often the program may end at a line's turn
+MENDED_BY_NO_RESTART = (2, 7, 11, 13)  # statuses
 
 _libc = ctypes.CDLL(None)
 
@@ -195,6 +190,8 @@ class Run(asyncio.SubprocessProtocol):
 
     def connection_lost(self, exc: Optional[Exception]) -> None:
         self.shop.run_ended(self)
+        if self.program is not None:
+            self.program.close()
 
     def _hear(self, answer: str) -> None:
         flying = self.flight.popleft() if self.flight else None

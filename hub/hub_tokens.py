@@ -10,12 +10,12 @@ import stat
 from dataclasses import dataclass
 from typing import Dict, Optional
 
-SHORTEST = 32
-LONGEST = 512
+from hub_limits import LONGEST_TOKEN, SHORTEST_TOKEN
+
 MODES = (0o600, 0o400)
 MOST_TILLS = 64
 
-TOKEN = re.compile(r"[!-~]{%d,%d}" % (SHORTEST, LONGEST))
+TOKEN = re.compile(r"[!-~]{%d,%d}" % (SHORTEST_TOKEN, LONGEST_TOKEN))
 NUMBER = re.compile(r"[1-9]\d?", re.ASCII)
 
 
@@ -87,7 +87,7 @@ def _read_lines(path: str, lines: "list[str]") -> Dict[bytes, Asker]:
         if asker is None:
             raise TokensFault(f"{path}, line {number}: neither till NUMBER TOKEN nor owner TOKEN")
         if not TOKEN.fullmatch(words[-1]):
-            raise TokensFault(f"{path}, line {number}: a token has {SHORTEST} to {LONGEST} visible characters")
+            raise TokensFault(f"{path}, line {number}: a token has {SHORTEST_TOKEN} to {LONGEST_TOKEN} visible characters")
         if askers.setdefault(_digest(words[-1]), asker) is not asker:
             raise TokensFault(f"{path}, line {number}: this token stands above")
     if not askers:

@@ -12,7 +12,7 @@ import hashlib
 import json
 import os
 import re
-import selectors
+import select
 import sys
 import time
 from datetime import datetime
@@ -354,10 +354,8 @@ def serve(path, issuer):
     chain = Chain(path)
     chain.open(issuer)
     dialogue, agency, rest = Serve(chain), Agency(chain), b""
-    ready = selectors.DefaultSelector()
-    ready.register(0, selectors.EVENT_READ)
     while not dialogue.ended:
-        if not ready.select(0.05):
+        if not select.select([0], [], [], 0.05)[0]:
             agency.note()
             continue
         data = os.read(0, 65_536)

@@ -21,18 +21,14 @@ from dataclasses import dataclass
 from typing import Any, FrozenSet, List, NoReturn, Optional, Tuple
 
 from hub_books import Books
-from hub_connections import MOST_CONNECTIONS
-from hub_http import ANSWER_WITHIN, Hub
+from hub_http import Hub
+from hub_limits import ANSWER_WITHIN, BACKLOG, HANDSHAKE, LAST_ANSWERS, MOST_CONNECTIONS, SPARE_HANDLES
 from hub_pipe import BadLine, Shop, Unavailable, tell
 from hub_tokens import Tokens, TokensFault, read_tokens
 
 STATUS_USAGE = 2
 LISTEN = "127.0.0.1:8730"
 PROGRAM = "/usr/bin/verifactu"
-BACKLOG = 1024
-HANDSHAKE = 15  # seconds for TLS's handshake
-LAST_ANSWERS = 2  # seconds for answers to be written at the end
-SPARE_HANDLES = 64  # beside one a connection
 
 
 class WordsFault(Exception):
