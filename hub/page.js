@@ -19,17 +19,18 @@ const WHAT_TO_DO = {
 };
 
 const part = (id) => document.getElementById(id);
-const euros = (cents) => new Intl.NumberFormat("es-ES", { style: "currency", currency: "EUR" }).format(cents / 100);
-const count = (number) => new Intl.NumberFormat("es-ES").format(number);
+const euros = (cents) => new Intl.NumberFormat("es-ES", { style: "currency", currency: "EUR", useGrouping: "always" }).format(cents / 100);
+const count = (number) => new Intl.NumberFormat("es-ES", { useGrouping: "always" }).format(number);
 const day = (text) => text.split("-").reverse().join("/");
 const hour = (moment) => new Intl.DateTimeFormat("es-ES", { dateStyle: "short", timeStyle: "medium", timeZone: "Europe/Madrid" }).format(moment);
 const dayOf = (moment) => new Intl.DateTimeFormat("sv-SE", { timeZone: "Europe/Madrid" }).format(moment);
 
 let now = new Date(); // the hub's clock, at its last answer
 let seen = null; // when the hub answered last, by this machine's clock
-let records = null; // how many there were when the sums were asked
+let mark = ""; // the counts and the day that the sums were asked for
 let summed = 0; // when the sums were asked
 let timer = null;
+let isLooking = false;
 
 function element(name, text, className) {
   const made = document.createElement(name);
@@ -52,7 +53,7 @@ async function ask(path) {
   const stop = new AbortController();
   const late = setTimeout(() => stop.abort(), PATIENCE);
   try {
-    const answer = await fetch(path, { signal: stop.signal, cache: "no-store" });
+    const answer = await fetch(new URL(path, location.origin + location.pathname), { signal: stop.signal, cache: "no-store" });
     if (answer.headers.get("Date")) now = new Date(answer.headers.get("Date"));
     if (!answer.ok) throw Object.assign(new Error("status"), { status: answer.status });
     return await answer.json();
@@ -164,11 +165,16 @@ async function lookAtMonth() {
 async function lookAtSums(state) {
   const today = dayOf(now);
   if (!part("month").value) part("month").value = today.slice(0, 7);
-  if (records === state.records || Date.now() - summed < SUMS_EVERY) return;
+  const wanted = [state.records, state.noted, today].join(" ");
+  if (mark === wanted || Date.now() - summed < SUMS_EVERY) return;
   summed = Date.now();
-  showToday(await ask(`v1/days/${today}`));
-  await lookAtMonth();
-  records = state.records;
+  try {
+    showToday(await ask(`v1/days/${today}`));
+    await lookAtMonth();
+    mark = wanted;
+  } catch {
+    part("today").replaceChildren(element("dt", "No se han podido leer."));
+  }
 }
 
 function showGone(problem) {
@@ -182,6 +188,7 @@ function showGone(problem) {
 
 async function look() {
   timer = null;
+  isLooking = true;
   try {
     const state = await ask("v1/state");
     seen = new Date();
@@ -193,11 +200,12 @@ async function look() {
   } catch (problem) {
     showGone(problem);
   }
+  isLooking = false;
   if (document.visibilityState === "visible") timer = setTimeout(look, EVERY);
 }
 
 document.addEventListener("visibilitychange", () => {
-  if (document.visibilityState === "visible" && timer === null) look();
+  if (document.visibilityState === "visible" && timer === null && !isLooking) look();
 });
 part("month").addEventListener("change", lookAtMonth);
 look();

@@ -4,7 +4,7 @@
 It knows few rules (docs/FORMAT.md has them all) and its file is its own: lines of JSON, each synced before its answer, so that it may be
 killed at any moment. Its agency takes what waits every PAUSE seconds. By environment:
   STAND_IN_PAUSE     seconds from one look at what waits to the next (0.2), `never` for an agency that is silent
-  STAND_IN_VERDICTS  "A-1 1 vet 3000, A-2 1 con-errores 200": what the agency says of the n-th record of an invoice
+  STAND_IN_VERDICTS  "A-1 1 vet 3000, A-2 1 warn 200", as agency.py's: of the n-th record of an invoice
   STAND_IN_SLEEP     seconds that each command takes beside its sync
 """
 import fcntl
@@ -335,8 +335,12 @@ class Agency:
         pause = os.environ.get("STAND_IN_PAUSE", "0.2")
         self.chain, self.pause = chain, None if pause == "never" else float(pause)
         rows = [row.split() for row in os.environ.get("STAND_IN_VERDICTS", "").split(",") if row.strip()]
-        self.verdicts = {(row[0], int(row[1])): " ".join(row[2:]) for row in rows}
+        self.verdicts = {(row[0], int(row[1])): self.line(row[2], row[3]) for row in rows}
         self.due = time.monotonic()
+
+    @staticmethod
+    def line(word, code):
+        return {"vet": f"vet {code}", "warn": f"con-errores {code}"}.get(word, word)
 
     def note(self):
         waiting = range(len(self.chain.lines) + 1, len(self.chain.records) + 1)
