@@ -5,8 +5,8 @@ import asyncio
 import json
 import os
 import resource
-import shutil
 import signal
+import socket
 import subprocess
 import threading
 import time
@@ -322,33 +322,19 @@ class SlowTest(Running):
         self.assertEqual([70 < seconds < 95 for seconds in slow.ends], [True] * 6, slow.ends)
 
 
-class MachineTest(Running):
-    """A till on another machine: a network namespace of its own."""
+class ReadyTest(Running):
+    """What systemd is told."""
 
-    NAME = f"till{os.getpid()}"
-
-    def ip(self, *words: str) -> int:
-        """A command of `ip`."""
-        return subprocess.run(["ip", *words], stderr=subprocess.DEVNULL, check=False).returncode
-
-    def test_a_till_in_a_network_namespace_sells(self) -> None:
-        if shutil.which("ip") is None or self.ip("netns", "add", self.NAME):
-            self.skipTest("no network namespace can be made here")
-        self.addCleanup(self.ip, "netns", "del", self.NAME)
-        side, other = f"vh{os.getpid()}", f"vt{os.getpid()}"
-        self.ip("link", "add", side, "type", "veth", "peer", "name", other, "netns", self.NAME)
-        self.addCleanup(self.ip, "link", "del", side)
-        for words in (["addr", "add", "10.87.30.1/24", "dev", side], ["link", "set", side, "up"],
-                      ["-n", self.NAME, "addr", "add", "10.87.30.2/24", "dev", other], ["-n", self.NAME, "link", "set", other, "up"]):
-            self.assertEqual(self.ip(*words), 0, words)
-        hub = self.hub(address="10.87.30.1:0")
-        self.assertTrue(hub.logged("warning: 10.87.30.1"))
-        code = ("import sys, urllib.request as r; q = r.Request(sys.argv[1] + '/v1/sales', sys.argv[3].encode(), "
-                "{'Authorization': 'Bearer ' + sys.argv[2]}); print(r.urlopen(q, timeout=60).read().decode())")
-        body = json.dumps({"serial": 1, "series": "A", "kind": "F2", "lines": [{"class": "21", "total": 1000}]})
-        sold = subprocess.run(["ip", "netns", "exec", self.NAME, "/usr/bin/python3", "-c", code, f"http://10.87.30.1:{hub.port}", self.place.till[1], body],
-                              stdout=subprocess.PIPE, text=True, check=True)
-        self.assertEqual(json.loads(sold.stdout)["num"], "A-1")
+    def test_systemd_is_told_once_the_program_has_answered(self) -> None:
+        path = os.path.join(self.place.path, "notify")
+        with socket.socket(socket.AF_UNIX, socket.SOCK_DGRAM) as told:
+            told.bind(path)
+            told.settimeout(PATIENCE)
+            hub = self.hub(environment={"NOTIFY_SOCKET": path})
+            self.assertEqual(told.recv(100), b"READY=1")
+            hub.process.send_signal(signal.SIGTERM)
+            self.assertEqual(told.recv(100), b"STOPPING=1")
+            self.assertEqual(hub.wait(), 0)
 
 
 if __name__ == "__main__":
