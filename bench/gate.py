@@ -1,8 +1,8 @@
 #!/usr/bin/env python3
 """The gate's time, crate by crate: runs .ci/run (or the command that is given) at the top of the repository, looks at the prover's
 processes every three seconds, and prints a row for each crate: processor seconds of its proof, of its tests' proof and of its wrong
-bodies, and the most memory that one process took. What an earlier run on this machine passed is kept by rt and costs nothing: on a machine
-that proved these files before, `bench/gate.py rt ci --anew` measures from nothing.
+bodies, and the most memory that one process took. It sees what this run does: the last lines of `rt ci` tell whether that was all of it. For
+the whole from nothing run it where none of these files was proved before.
 
     bench/gate.py [COMMAND ..]      the command's own output goes to standard error
 """
@@ -12,7 +12,7 @@ import sys
 import threading
 import time
 
-ROOT = os.path.dirname(os.path.dirname(os.path.abspath(__file__)))
+ROOT = os.path.dirname(os.path.dirname(os.path.realpath(__file__)))
 TICKS = os.sysconf("SC_CLK_TCK")
 KINDS = ("proof", "tests", "edits")
 
@@ -36,9 +36,11 @@ def look(pid, top, seen):
         fields = it.read().rsplit(")", 1)[1].split()
     with open(f"/proc/{pid}/statm", encoding="ascii") as it:
         resident = int(it.read().split()[1]) * os.sysconf("SC_PAGE_SIZE") / 1e6
-    is_edit = "rt-edit" in os.readlink(f"/proc/{pid}/cwd")
+    crate = words[words.index("--crate-name") + 1]
+    # (a wrong body is tried on a copy, a crate proved in its own folder)
+    is_edit = os.readlink(f"/proc/{pid}/cwd") != os.path.join(ROOT, "crates", crate)
     kind = "edits" if is_edit else "tests" if "--test" in words else "proof"
-    one = seen.setdefault((pid, fields[19]), {"crate": words[words.index("--crate-name") + 1], "kind": kind, "memory": 0.0})
+    one = seen.setdefault((pid, fields[19]), {"crate": crate, "kind": kind, "memory": 0.0})
     one["seconds"] = sum(map(int, fields[11:15])) / TICKS
     one["memory"] = max(one["memory"], resident)
 

@@ -8,190 +8,238 @@ memory for, four at most. A line on standard error for each crate that is proved
 build that was cut off goes on where it was.
 
 rt works in the folders of a crate and of all below it alone, so each lane but the first proves in a copy of the sources below the
-user's cache folder, and rt hands each the libraries that the others built. The copies go once the program is built.
+user's cache folder. A library that one lane proved is handed to every other tree at once, so that each crate is proved once. The copies
+go once the program is built.
 """
+from __future__ import annotations
+
 import hashlib
 import os
+import re
 import shutil
 import subprocess
 import sys
 import threading
 import time
+from collections.abc import Mapping
 
-ROOT = os.path.dirname(os.path.dirname(os.path.abspath(__file__)))
+from lanes import ROOT, all_below, built_at, copy_sources, crates, hand_library
+
 GOAL = "program"
 LOG = os.path.join(ROOT, "out", "build.log")
+# A crate's row in the table of proofs: its name and the processor seconds of its proof.
+FIGURE = re.compile(r"^\| `(\w+)` \| (\d+) \|", re.M)
 
 
-def crates():
-    """Each crate of crates.txt with those of its own that it stands on."""
-    lines = {}
-    with open(os.path.join(ROOT, "crates.txt"), encoding="utf-8") as text:
-        for line in text:
-            line = line.split("#")[0]
-            if ":" in line:
-                head, below = line.split(":", 1)
-                lines[head.split()[0]] = below.split()
-    return {name: [b for b in below if b in lines] for name, below in lines.items()}
+def seconds(names: list[str]) -> dict[str, int]:
+    """What each crate's proof was seen to take, by bench/README.md; one that isn't there is taken as 20 seconds. The order alone rests on it."""
+    try:
+        with open(os.path.join(ROOT, "bench", "README.md"), encoding="utf-8") as text:
+            seen = {name: int(figure) for name, figure in FIGURE.findall(text.read())}
+    except OSError:
+        seen = {}
+    return {name: seen.get(name, 20) for name in names}
 
 
-def needed(below, goal):
-    """The crates that the goal stands on, lowest first, and how many stand in the longest chain from each one up to the goal."""
-    order, seen = [], set()
-
-    def visit(name):
-        if name not in seen:
-            seen.add(name)
-            for lower in below[name]:
-                visit(lower)
-            order.append(name)
-
-    visit(goal)
-    order.remove(goal)
-    above = {}
+def ways(order: list[str], below: dict[str, list[str]], cost: Mapping[str, float]) -> dict[str, float]:
+    """What the longest chain of proofs costs that begins with each crate and ends at the top. `order` has the lowest first."""
+    above: dict[str, float] = {}
     for name in reversed(order):
-        above[name] = 1 + max((above[n] for n in above if name in below[n]), default=0)
-    return order, above
+        above[name] = cost[name] + max((above[it] for it in above if name in below[it]), default=0.0)
+    return above
 
 
-def lanes():
+def longest(order: list[str], below: dict[str, list[str]], cost: Mapping[str, float]) -> list[str]:
+    """The longest chain of proofs, lowest first."""
+    above = ways(order, below, cost)
+    chain: list[str] = []
+    left = set(order)
+    while left:
+        chain.append(max(left, key=lambda it: above[it]))
+        left = {it for it in order if chain[-1] in below[it]}
+    return chain
+
+
+def run_rt(words: list[str], place: str) -> tuple[int, bytes, float]:
+    """Runs rt in a crate's folder: its status, what it said, and the processor seconds that it and all below it took."""
+    run = subprocess.Popen(["rt", *words], cwd=place, stdin=subprocess.DEVNULL, stdout=subprocess.PIPE, stderr=subprocess.STDOUT)
+    assert run.stdout is not None
+    text = run.stdout.read()
+    _, status, used = os.wait4(run.pid, 0)
+    run.returncode = os.waitstatus_to_exitcode(status)
+    return run.returncode, text, used.ru_utime + used.ru_stime
+
+
+def note(text: bytes) -> None:
+    with open(LOG, "ab") as log:
+        log.write(text)
+
+
+def lanes(words: list[str]) -> int:
     """How many crates are proved at a time."""
-    if len(sys.argv) > 1:
-        return max(1, int(sys.argv[1]))
+    if words:
+        return max(1, int(words[0]))
     free = 3.0
     try:
         with open("/proc/meminfo", encoding="ascii") as text:
-            free = next(int(l.split()[1]) for l in text if l.startswith("MemAvailable")) / 1e6
+            free = next(int(line.split()[1]) for line in text if line.startswith("MemAvailable")) / 1e6
     except (OSError, StopIteration):
         pass
     return max(1, min(4, os.cpu_count() or 1, int(free / 3)))
 
 
-def copies():
+def copies() -> str:
     """Where the lanes' copies of this tree stand."""
     cache = os.environ.get("XDG_CACHE_HOME") or os.path.join(os.path.expanduser("~"), ".cache")
     return os.path.join(cache, "verifactu-build", hashlib.sha256(ROOT.encode()).hexdigest()[:12])
 
 
-def same(one, other):
-    """Whether both files are there and hold the same."""
-    try:
-        with open(one, "rb") as a, open(other, "rb") as b:
-            return a.read() == b.read()
-    except OSError:
-        return False
+def share_earlier(trees: list[str], order: list[str]) -> None:
+    """Hands the newest library of each crate, which an earlier build left, to all trees. rt takes those alone that fit the sources."""
+    for name in order:
+        newest = max(trees, key=lambda tree: built_at(tree, name))
+        hand_on(newest, trees, name)
 
 
-def copy_sources(to):
-    """Makes the sources below `to` those of this tree; what stands there already, and what rt kept beside it, stays as it is."""
-    wanted = {"crates.txt", "HANDLES"}
-    for name in crates():
-        for part in ("src", "specs", "proofs"):
-            for at, _, files in os.walk(os.path.join(ROOT, "crates", name, part)):
-                wanted |= {os.path.relpath(os.path.join(at, file), ROOT) for file in files}
-    for at, folders, files in os.walk(to):
-        folders[:] = [f for f in folders if f != "out"]
-        for file in files:
-            if os.path.relpath(os.path.join(at, file), to) not in wanted:
-                os.remove(os.path.join(at, file))
-    for path in sorted(wanted):
-        if not same(os.path.join(ROOT, path), os.path.join(to, path)):
-            os.makedirs(os.path.dirname(os.path.join(to, path)), exist_ok=True)
-            shutil.copyfile(os.path.join(ROOT, path), os.path.join(to, path))
-    return to
+def hand_on(source: str, trees: list[str], crate: str) -> int:
+    """Hands the crate's library to the other trees, and says to how many."""
+    return sum(hand_library(source, tree, crate) for tree in trees if tree != source)
 
 
-def say(text):
+def say(text: str) -> None:
     print("verifactu: " + text, file=sys.stderr, flush=True)
 
 
-class Build:
-    """The crates that are proved, at work and failed."""
+def clock(since: float) -> str:
+    passed = int(time.monotonic() - since)
+    return f"{passed // 60} min {passed % 60:02d} s"
 
-    def __init__(self, order, above, below):
-        self.order, self.above, self.below = order, above, below
-        self.done, self.busy, self.failed = set(), {}, []
+
+class Build:
+    """The crates that are proved, at work and failed, and the trees that the lanes work in."""
+
+    def __init__(self, trees: list[str], order: list[str], below: dict[str, list[str]]) -> None:
+        self.trees, self.order, self.below = trees, order, below
+        self.above = ways(order, below, seconds(order))
+        self.cost: dict[str, float] = {}
+        self.done: set[str] = set()
+        self.busy: set[str] = set()
+        self.failed: list[str] = []
         self.turn = threading.Condition()
         self.begun = time.monotonic()
 
-    def clock(self):
-        seconds = int(time.monotonic() - self.begun)
-        return f"{seconds // 60} min {seconds % 60:02d} s"
-
-    def next_crate(self):
-        """One whose lower crates are proved, with the longest chain above it; none where all are taken or one failed."""
+    def next_crate(self) -> str | None:
+        """One whose lower crates are proved, with the longest way above it; none where all are taken or one failed."""
         with self.turn:
             while not self.failed:
-                left = [n for n in self.order if n not in self.done and n not in self.busy]
-                ready = [n for n in left if all(b in self.done for b in self.below[n])]
+                left = [it for it in self.order if it not in self.done and it not in self.busy]
+                ready = [it for it in left if self.done.issuperset(self.below[it])]
                 if ready:
-                    name = max(ready, key=self.above.get)
-                    self.busy[name] = None
+                    name = max(ready, key=lambda it: self.above[it])
+                    self.busy.add(name)
                     return name
                 if not left:
                     return None
                 self.turn.wait()
             return None
 
-    def ended(self, name, text, status):
+    def ended(self, name: str, status: int, head: str, text: bytes) -> None:
+        """Notes how a crate's proof ended."""
         with self.turn:
-            del self.busy[name]
-            with open(LOG, "ab") as log:
-                log.write(b"== " + name.encode() + b"\n" + text)
+            self.busy.remove(name)
+            note(f"== {head}\n".encode() + text)
             if status == 0:
                 self.done.add(name)
-                say(f"proved {name}, {len(self.done)} of {len(self.order)}, {self.clock()}")
+                say(f"proved {name}, {len(self.done)} of {len(self.order)}, {clock(self.begun)}")
             else:
                 self.failed.append(name)
-                say(f"{name} wasn't proved, {self.clock()}; no other crate is begun")
+                say(f"{name} wasn't proved, {clock(self.begun)}; no other crate is begun")
             self.turn.notify_all()
 
-    def work(self, tree):
-        while True:
-            name = self.next_crate()
-            if name is None:
-                return
-            run = subprocess.Popen(["rt", "lib"], cwd=os.path.join(tree, "crates", name), stdin=subprocess.DEVNULL,
-                                   stdout=subprocess.PIPE, stderr=subprocess.STDOUT)
-            with self.turn:
-                self.busy[name] = run
-            text, _ = run.communicate()
-            self.ended(name, text, run.returncode)
+    def prove(self, lane: int, name: str) -> None:
+        """Proves one crate in the lane's tree, and hands its library to the others."""
+        tree, at, begun = self.trees[lane], clock(self.begun), time.monotonic()
+        status, text, self.cost[name] = run_rt(["lib"], os.path.join(tree, "crates", name))
+        took = time.monotonic() - begun
+        handed = hand_on(tree, self.trees, name) if status == 0 else 0
+        head = f"{name}: lane {lane + 1}, begun at {at}, took {took:.1f} s, processor {self.cost[name]:.1f} s, handed to {handed} trees"
+        self.ended(name, status, head, text)
+
+    def work(self, lane: int) -> None:
+        """What a lane does: it proves crate after crate."""
+        while (name := self.next_crate()) is not None:
+            try:
+                self.prove(lane, name)
+            except OSError as fault:
+                self.ended(name, 1, f"{name}: lane {lane + 1}", f"{fault}\n".encode())
 
 
-def main():
-    below = crates()
-    order, above = needed(below, GOAL)
-    build = Build(order, above, below)
-    os.makedirs(os.path.dirname(LOG), exist_ok=True)
-    open(LOG, "wb").close()
-    count = lanes()
-    say(f"proving {len(order)} crates, {count} at a time; what rt says of them is in {os.path.relpath(LOG)}")
-    trees = [ROOT] + [copy_sources(os.path.join(copies(), f"lane-{number}")) for number in range(1, count)]
-    workers = [threading.Thread(target=build.work, args=(tree,), daemon=True) for tree in trees]
+def prove_all(build: Build) -> bool:
+    """Proves all crates but the program, a thread a lane. Whether they all passed."""
+    workers = [threading.Thread(target=build.work, args=(lane,), daemon=True) for lane in range(len(build.trees))]
     for worker in workers:
         worker.start()
+    for worker in workers:
+        worker.join()
+    return not build.failed
+
+
+def link(build: Build) -> bool:
+    """Proves and links the program. Its file is newer than its sources then, also where nothing had changed."""
+    place = os.path.join(ROOT, "crates", GOAL)
+    status, text, build.cost[GOAL] = run_rt(["run", "--", "--version"], place)
+    note(f"== {GOAL}: processor {build.cost[GOAL]:.1f} s\n".encode() + text)
+    if status == 0:
+        os.utime(os.path.join(place, "out", GOAL))
+    return status == 0
+
+
+def sum_up(build: Build) -> None:
+    """Notes what the build took, and its longest chain of proofs."""
+    order = [*build.order, GOAL]
+    chain = longest(order, build.below, build.cost)
+    took = sum(build.cost[it] for it in chain)
+    whole = sum(build.cost.values())
+    note(f"== all: {clock(build.begun)}, processor {whole:.0f} s; the longest chain of crates {took:.0f} s: {' '.join(chain)}\n".encode())
+
+
+def build_program(count: int) -> bool:
+    """Proves everything in so many lanes, and links the program."""
+    below = crates()
+    order = all_below(below, GOAL)
+    os.makedirs(os.path.dirname(LOG), exist_ok=True)
+    open(LOG, "wb").close()
+    say(f"proving {len(order)} crates, {count} at a time; what rt says of them is in {os.path.relpath(LOG)}")
+    trees = [ROOT] + [copy_sources(os.path.join(copies(), f"lane-{number}")) for number in range(1, count)]
+    share_earlier(trees, order)
+    build = Build(trees, order, below)
+    if not prove_all(build):
+        say(f"not built; see {os.path.relpath(LOG)}")
+        return False
+    say("proving and linking the program")
+    if not link(build):
+        say(f"the program wasn't built; see {os.path.relpath(LOG)}")
+        return False
+    sum_up(build)
+    shutil.rmtree(copies(), ignore_errors=True)
+    shutil.rmtree(os.path.join(ROOT, "out", "trial"), ignore_errors=True)
+    say(f"built, {clock(build.begun)}")
+    return True
+
+
+def main() -> int:
+    words = sys.argv[1:]
+    if len(words) > 1 or any(re.fullmatch("[1-9][0-9]?", word) is None for word in words):
+        say("usage: tools/build.py [LANES], LANES from 1 to 99")
+        return 2
+    if shutil.which("rt") is None:
+        say("the toolchain's command rt isn't on PATH")
+        return 70
     try:
-        for worker in workers:
-            worker.join()
+        return 0 if build_program(lanes(words)) else 1
     except KeyboardInterrupt:
         say("stopped; the next build goes on from here")
         return 130
-    if build.failed:
-        say(f"not built; see {os.path.relpath(LOG)}")
-        return 1
-    say("proving and linking the program")
-    with open(LOG, "ab") as log:
-        log.write(b"== program\n")
-        log.flush()
-        run = subprocess.run(["rt", "run", "--", "--version"], cwd=os.path.join(ROOT, "crates", GOAL),
-                             stdin=subprocess.DEVNULL, stdout=log, stderr=log, check=False)
-    if run.returncode != 0:
-        say(f"the program wasn't built; see {os.path.relpath(LOG)}")
-        return 1
-    shutil.rmtree(copies(), ignore_errors=True)
-    say(f"built, {build.clock()}")
-    return 0
 
 
 if __name__ == "__main__":
