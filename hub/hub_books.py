@@ -1,0 +1,103 @@
+"""What the owner asks: the shop's state, and the sums of a month or a day.
+
+Records are asked over the pipe; `list` and `statement` run beside the program, at nice 10, and only read the file. Nothing is added up here.
+"""
+from __future__ import annotations
+
+import asyncio
+import os
+from typing import Any, List, Optional
+
+from hub_forms import BadRequest, Values, read_listing, read_statement, record_line
+from hub_limits import BETWEEN_LISTS, NEWEST, NICE, OLD_LIST_AFTER
+from hub_pipe import Counts, Shop, Unavailable, tell
+
+STATUS_USAGE = 2
+
+
+class Books:
+    """A shop's figures, for its owner."""
+
+    def __init__(self, shop: Shop, program: str, file: str, issuer: str, practice: bool) -> None:
+        self.shop = shop
+        self.program = program
+        self.file = file
+        self.issuer = issuer
+        self.practice = practice
+        self.refused: Optional[List[Values]] = None
+        self.listed_noted = -1  # how many lines were noted when the refused ones were listed
+        self.listed_at = float("-inf")
+        self.listing: Optional["asyncio.Task[None]"] = None
+        self.one_statement = asyncio.Lock()
+
+    async def state(self) -> Values:
+        """The answer to `/v1/state`."""
+        counts = await self.shop.counts()
+        waiting = [counts.noted + 1] if counts.noted < counts.records else []
+        newest = range(counts.records, max(0, counts.records - NEWEST), -1)
+        rows = await asyncio.gather(*(self.shop.ask(record_line(place)) for place in [*waiting, *newest]))
+        if not all(rows):
+            raise Unavailable("a record that was counted isn't there")
+        noted_at = self.shop.noted_at
+        return {
+            "issuer": self.issuer,
+            "practice": self.practice,
+            "records": counts.records,
+            "noted": counts.noted,
+            "noted_at": noted_at.strftime("%Y-%m-%dT%H:%M:%SZ") if noted_at else None,
+            "starts": self.shop.starts,
+            "oldest_waiting": rows[0] if waiting else None,
+            "newest": rows[len(waiting):],
+            "refused": await self._refused(counts),
+        }
+
+    async def _refused(self, counts: Counts) -> List[Values]:
+        """The refused records, listed anew where the agency has said more. While that takes long the list before is shown."""
+        now = self.shop.loop.time()
+        is_due = counts.noted != self.listed_noted and now - self.listed_at >= BETWEEN_LISTS
+        if self.listing is None and (is_due or self.refused is None):
+            self.listing = self.shop.loop.create_task(self._list(counts.noted))
+        if self.listing is not None:
+            await asyncio.wait({self.listing}, timeout=None if self.refused is None else OLD_LIST_AFTER)
+        if self.refused is None:
+            raise Unavailable("the refused records couldn't be listed")
+        return self.refused
+
+    async def _list(self, noted: int) -> None:
+        try:
+            status, text = await self._beside("list", self.file, "refused")
+            rows = read_listing(text) if status == 0 else None
+            if rows is None:
+                tell(f"list ended with status {status}: the refused records aren't known")
+            else:
+                self.refused, self.listed_noted = rows, noted
+        finally:
+            self.listed_at = self.shop.loop.time()
+            self.listing = None
+
+    async def statement(self, period: str) -> Values:
+        """The sums of MM-YYYY or DD-MM-YYYY. BadRequest where the program knows no such period."""
+        async with self.one_statement:
+            status, text = await self._beside("statement", self.file, period)
+        if status == STATUS_USAGE:
+            raise BadRequest("the program has no sums of such a period")
+        sums = read_statement(text, period) if status == 0 else None
+        if sums is None:
+            raise Unavailable(f"statement ended with status {status}")
+        return sums
+
+    async def _beside(self, *words: str) -> Any:
+        """Runs a command that only reads: its status and what it printed. It is killed where nobody waits for it any more."""
+        run = await asyncio.create_subprocess_exec(
+            self.program, *words, stdin=asyncio.subprocess.DEVNULL, stdout=asyncio.subprocess.PIPE, stderr=asyncio.subprocess.DEVNULL,
+            start_new_session=True, preexec_fn=_be_nice)
+        try:
+            text, _ = await run.communicate()
+            return run.returncode, text.decode("utf-8", "replace")
+        finally:
+            if run.returncode is None:
+                run.kill()
+
+
+def _be_nice() -> None:
+    os.nice(NICE)

@@ -1,0 +1,42 @@
+"""Every limit of the hub. docs/HUB.md names those that a till meets."""
+
+# requests
+MOST_BODY = 65_536  # bytes
+MOST_FIELD = 8_192  # bytes of a header field, and of the request's first line
+MOST_HEAD = 65_536  # bytes of a request's head
+ANSWER_WITHIN = 30  # seconds from a whole request to its answer
+MOST_UNDER_WAY = 4  # requests of a till, or of the owner
+LONGEST_WORD = 80  # characters
+LONGEST_NAME = 200  # characters
+FIRST_TOO_GREAT = 10**13  # of a number's absolute value
+MOST_DIGITS = 15  # of a number, its sign included
+MOST_LINES = 12  # that are asked how a total becomes lines
+
+# connections
+MOST_CONNECTIONS = 2_000
+WHOLE_REQUEST = 75  # seconds until a request must have arrived; longer than most HTTP libraries keep an idle connection
+WHOLE_ANSWER = 105  # seconds from there until its answer must have been made and taken
+MOST_PIPELINED = 16  # requests that were sent ahead of answers
+HANDSHAKE = 15  # seconds of TLS's handshake
+BACKLOG = 1_024  # connections that wait to be accepted
+SPARE_HANDLES = 64  # file handles beside one a connection
+
+# the program
+MOST_CUSTOMERS = 9_900  # said in one run; the program takes 10,000, and more may be on their way
+MOST_ANSWER = 65_536  # bytes of one answer
+LONGEST_PAUSE = 60  # seconds until the program is started again, at most
+PATIENCE = 10  # seconds that a program may take to end after a fault of its disk
+TURNS = 2  # so often the program may end at a line's turn
+FRESH = 1  # seconds for which an answer shows that the program is alive
+PING = 5  # seconds in which it has to answer `chain`
+LAST_ANSWERS = 2  # seconds for answers to be written at the end
+
+# the owner
+NEWEST = 20  # records
+BETWEEN_LISTS = 30  # seconds from one `list FILE refused` to the next, at least
+OLD_LIST_AFTER = 2  # seconds after which the list before is shown while a new one is made
+NICE = 10  # of the commands that run beside the program
+
+# tokens
+SHORTEST_TOKEN = 32  # characters
+LONGEST_TOKEN = 512

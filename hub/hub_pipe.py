@@ -1,0 +1,407 @@
+"""The pipe to one shop's program, `verifactu serve`: kept up, with many lines in flight.
+
+A `Shop` starts the program, writes lines into its pipe as they come, and holds each answer against the line whose turn it is. Where the
+program has ended it is started again, and what is still waited for is written again, in its order. Nothing here is global, so one hub may
+hold many shops. docs/TILLS.md has the lines and the answers.
+"""
+from __future__ import annotations
+
+import asyncio
+import ctypes
+import signal
+import sys
+from collections import deque
+from dataclasses import dataclass
+from datetime import datetime, timezone
+from typing import Any, Callable, Deque, Dict, Generic, List, Optional, Sequence, Tuple, TypeVar
+
+from hub_limits import FRESH, LONGEST_PAUSE, MOST_ANSWER, MOST_CUSTOMERS, PATIENCE, PING, TURNS
+
+T = TypeVar("T")
+
+MENDED_BY_NO_RESTART = (2, 7, 11, 13)  # statuses
+
+_libc = ctypes.CDLL(None)
+
+
+class Unavailable(Exception):
+    """There is no answer. What was asked may have been done: the same is to be asked again."""
+
+
+class BadLine(Exception):
+    """The program's answer `line N WORD`."""
+
+    def __init__(self, word: str) -> None:
+        super().__init__(word)
+        self.word = word
+
+
+class Ending:
+    """What `Line.read` gives for an answer by which the run ends: `fault disk` and `fault stopped`."""
+
+
+@dataclass(frozen=True)
+class Line(Generic[T]):
+    """A line of `serve`, without its LF.
+
+    `read` gives what an answer says, None where it isn't an answer to this line, or Ending. Where there is a customer (NIF and name),
+    ` to=KEY` stands between head and tail.
+    """
+
+    head: str
+    read: Callable[[str], Any]
+    tail: str = ""
+    customer: Optional[Tuple[str, str]] = None
+
+
+@dataclass(frozen=True)
+class Counts:
+    """What `chain` answers: how many records there are, and of how many the agency's line is noted."""
+
+    records: int
+    noted: int
+
+
+def read_counts(answer: str) -> Optional[Counts]:
+    """The answer to `chain`."""
+    words = answer.split(" ")
+    if len(words) != 4 or words[0] != "chain" or words[2] != "noted" or not (words[1] + words[3]).isdecimal():
+        return None
+    return Counts(int(words[1]), int(words[3]))
+
+
+CHAIN: Line[Counts] = Line("chain", read_counts)
+
+
+class Asked:
+    """A line that somebody waits for. `ended` counts how often the program ended at its turn."""
+
+    __slots__ = ("line", "answer", "ended")
+
+    def __init__(self, line: Line[Any], answer: "asyncio.Future[Any]") -> None:
+        self.line = line
+        self.answer = answer
+        self.ended = 0
+
+    def give(self, value: Any) -> None:
+        """Hands the answer on, if it is still waited for."""
+        if not self.answer.done():
+            self.answer.set_result(value)
+
+    def fail(self, fault: Exception) -> None:
+        """Hands a fault on, if it is still waited for."""
+        if not self.answer.done():
+            self.answer.set_exception(fault)
+
+
+class Customer:
+    """A customer of one run: the KEY, and the program's word where it refused the customer."""
+
+    __slots__ = ("key", "word")
+
+    def __init__(self, key: str) -> None:
+        self.key = key
+        self.word: Optional[str] = None
+
+
+class Flying:
+    """A line in the pipe whose answer is to come. `says` tells a customer's own line from one that names a customer."""
+
+    __slots__ = ("number", "asked", "customer", "says")
+
+    def __init__(self, number: int, asked: Asked, customer: Optional[Customer], says: bool) -> None:
+        self.number = number
+        self.asked = asked
+        self.customer = customer
+        self.says = says
+
+
+class Run(asyncio.SubprocessProtocol):
+    """One start of the program, until it has ended and all that it wrote was read."""
+
+    def __init__(self, shop: "Shop") -> None:
+        self.shop = shop
+        self.program: Optional[asyncio.SubprocessTransport] = None
+        self.stdin: Any = None
+        self.flight: Deque[Flying] = deque()
+        self.customers: Dict[Tuple[str, str], Customer] = {}
+        self.keys = 0
+        self.number = 0
+        self.rest = b""
+        self.answered = False
+        self.over = False  # nothing more is written or read
+        self.killed = False  # by the hub itself, for no fault of the line whose turn it is
+
+    @property
+    def is_full(self) -> bool:
+        """Whether so many customers were said that no more lines are written in this run."""
+        return self.keys >= MOST_CUSTOMERS
+
+    # ---- writing
+
+    def write(self, asked: Asked) -> None:
+        """Writes a line, after its customer's where that one wasn't said yet."""
+        line, text, customer = asked.line, asked.line.head, None
+        if line.customer is not None:
+            customer = self.customers.get(line.customer) or self._say(line.customer, asked)
+            text += f" to={customer.key}"
+        self._put(text + line.tail, asked, customer, False)
+
+    def _say(self, party: Tuple[str, str], asked: Asked) -> Customer:
+        self.keys += 1
+        customer = self.customers[party] = Customer(f"C{self.keys}")
+        self._put(f"customer {customer.key} {party[0]} {party[1]}", asked, customer, True)
+        return customer
+
+    def _put(self, text: str, asked: Asked, customer: Optional[Customer], says: bool) -> None:
+        self.number += 1
+        self.flight.append(Flying(self.number, asked, customer, says))
+        self.stdin.write(text.encode() + b"\n")
+
+    def close(self) -> None:
+        """Closes the pipe: the program's sender hands over what waits, and it ends."""
+        if self.stdin is not None:
+            self.stdin.close()
+
+    def kill(self) -> None:
+        """Kills the program at once. Its records stand."""
+        self.over = self.killed = True
+        self._send_kill()
+
+    def _send_kill(self) -> None:
+        if self.program is not None and self.program.get_returncode() is None:
+            self.program.kill()
+
+    # ---- reading
+
+    def connection_made(self, transport: asyncio.BaseTransport) -> None:
+        self.program = transport  # type: ignore[assignment]
+        self.stdin = transport.get_pipe_transport(0)  # type: ignore[attr-defined]
+        self.shop.begun(self)
+
+    def pipe_data_received(self, fd: int, data: bytes) -> None:
+        *answers, self.rest = (self.rest + data).split(b"\n")
+        for answer in answers:
+            if self.over:
+                return
+            self._hear(answer.decode("utf-8", "replace"))
+        if len(self.rest) > MOST_ANSWER:
+            self._distrust(None)
+
+    def connection_lost(self, exc: Optional[Exception]) -> None:
+        self.shop.run_ended(self)
+        if self.program is not None:
+            self.program.close()
+
+    def _hear(self, answer: str) -> None:
+        flying = self.flight.popleft() if self.flight else None
+        if flying is None and self.shop.closing and read_counts(answer):
+            return  # the chain line, after the pipe was closed
+        if flying is None or not self._take(flying, answer):
+            self._distrust(flying)
+            return
+        self.shop.heard = self.shop.loop.time()
+        if self.is_full and not self.flight and not self.over:
+            self.kill()
+
+    def _take(self, flying: Flying, answer: str) -> bool:
+        """Hands an answer on; False where it isn't this line's."""
+        prefix = f"line {flying.number} "
+        word = answer[len(prefix):] if answer.startswith(prefix) else None
+        if flying.says:
+            return self._take_customer(flying, answer, word)
+        if flying.customer is not None and flying.customer.word is not None:
+            flying.asked.fail(BadLine(flying.customer.word))
+            return word is not None
+        value = flying.asked.line.read(answer) if word is None else None
+        if value is Ending:
+            self._end_by_its_disk(flying)
+            return True
+        self.answered = True
+        if word is not None:
+            flying.asked.fail(BadLine(word))
+        elif value is not None:
+            flying.asked.give(value)
+        return word is not None or value is not None
+
+    def _take_customer(self, flying: Flying, answer: str, word: Optional[str]) -> bool:
+        customer = flying.customer
+        assert customer is not None
+        self.answered = True
+        if word is None:
+            return answer == f"customer {customer.key}"
+        customer.word = word
+        party = flying.asked.line.customer
+        if party is not None:
+            self.customers.pop(party, None)
+        return True
+
+    def _end_by_its_disk(self, flying: Flying) -> None:
+        """The program ends by itself: the answer counts as none, and the line keeps its turn."""
+        self.flight.appendleft(flying)
+        self.over = True
+        self.shop.loop.call_later(PATIENCE, self._send_kill)
+
+    def _distrust(self, flying: Optional[Flying]) -> None:
+        """An answer that isn't its line's: what it was meant for isn't known."""
+        tell("the program's answer isn't that of its line: it is killed and started again")
+        if flying is not None:
+            flying.asked.fail(Unavailable("the program answered another line"))
+        self.kill()
+
+
+class Shop:
+    """A program, its pipe, what waits for it, and when it is started again.
+
+    `ended` is the status by which the hub has to end: of a program that no restart mends, or of the last one after `close` or `kill`.
+    """
+
+    def __init__(self, words: Sequence[str]) -> None:
+        self.words = list(words)
+        self.loop = asyncio.get_running_loop()
+        self.ended: "asyncio.Future[int]" = self.loop.create_future()
+        self.run: Optional[Run] = None
+        self.held: Deque[Asked] = deque()  # not in the pipe
+        self.starts = 0
+        self.heard = float("-inf")  # when the last answer came, on the loop's clock
+        self.noted: Optional[int] = None
+        self.noted_at: Optional[datetime] = None
+        self.failures = 0  # runs in a row that answered nothing
+        self.status = 0  # of the last run
+        self.closing = False
+        self.timer: Optional[asyncio.TimerHandle] = None
+        self.starting: Optional["asyncio.Task[None]"] = None
+        self.ping: Optional["asyncio.Future[Counts]"] = None
+
+    # ---- asking
+
+    def ask(self, line: Line[T]) -> "asyncio.Future[T]":
+        """The future answer. It fails with BadLine, or Unavailable; a future that is cancelled is waited for no more."""
+        asked = Asked(line, self.loop.create_future())
+        if self.ended.done():
+            asked.fail(Unavailable("the program has ended"))
+        elif self.run is None or self.run.over or self.run.is_full:
+            self.held.append(asked)
+        else:
+            self.run.write(asked)
+        return asked.answer
+
+    async def counts(self) -> Counts:
+        """Asks `chain`, and keeps when the agency's lines were seen to become more."""
+        return self._see(await self.ask(CHAIN))
+
+    def _see(self, counts: Counts) -> Counts:
+        if self.noted is not None and counts.noted > self.noted:
+            self.noted_at = datetime.now(timezone.utc)
+        self.noted = counts.noted
+        return counts
+
+    async def is_alive(self) -> bool:
+        """Whether the program answered a line in the last second, or answers `chain` within five. All who ask share one line."""
+        if self.loop.time() - self.heard <= FRESH and self.run is not None:
+            return True
+        if self.ping is None or self.ping.done():
+            self.ping = self.ask(CHAIN)
+            self.ping.add_done_callback(lambda ping: ping.cancelled() or ping.exception())
+        try:
+            self._see(await asyncio.wait_for(asyncio.shield(self.ping), PING))
+        except (asyncio.TimeoutError, Unavailable, BadLine):
+            return False
+        return True
+
+    # ---- the program
+
+    def start(self) -> None:
+        """Starts the program."""
+        self.timer = None
+        self.starting = self.loop.create_task(self._start())
+
+    async def _start(self) -> None:
+        self.starts += 1
+        try:
+            await self.loop.subprocess_exec(
+                lambda: Run(self), *self.words, stdin=asyncio.subprocess.PIPE, stdout=asyncio.subprocess.PIPE, stderr=None,
+                start_new_session=True, preexec_fn=_die_with_the_hub)
+        except OSError as fault:
+            tell(f"{self.words[0]}: {fault.strerror}")
+            self._after(False)
+
+    def begun(self, run: Run) -> None:
+        """A run can be written to: all that is held goes into its pipe."""
+        self.run = run
+        if self.closing:
+            run.close()
+        self._write_held(run)
+
+    def _write_held(self, run: Run) -> None:
+        while self.held and not run.is_full:
+            asked = self.held.popleft()
+            if not asked.answer.done():
+                run.write(asked)
+
+    def run_ended(self, run: Run) -> None:
+        """A run is over: what it left unanswered is held again, in its order, ahead of what came later."""
+        assert run.program is not None
+        self.run = None
+        status = run.program.get_returncode() or 0
+        self.status = status if status >= 0 else 128 - status
+        left = [flying.asked for flying in run.flight if not flying.says]
+        if run.flight and not run.killed:
+            self._count_turn(run.flight[0].asked)
+        self.held.extendleft(asked for asked in reversed(left) if not asked.answer.done())
+        if not self.closing or self.status:
+            tell(f"the program ended with status {self.status}")
+        self._after(run.answered)
+
+    def _count_turn(self, asked: Asked) -> None:
+        asked.ended += 1
+        if asked.ended >= TURNS:
+            asked.fail(Unavailable("the program ended at this line's turn"))
+
+    def _after(self, answered: bool) -> None:
+        """Ends for good, or starts the program again: at once where the run had answered a line."""
+        if self.closing or self.status in MENDED_BY_NO_RESTART:
+            self._end()
+            return
+        pause = 0 if answered else min(LONGEST_PAUSE, 2 ** min(self.failures, 10))
+        self.failures = 0 if answered else self.failures + 1
+        self.timer = self.loop.call_later(pause, self.start)
+
+    def _end(self) -> None:
+        if not self.ended.done():
+            self.ended.set_result(self.status)
+        for asked in self.held:
+            asked.fail(Unavailable("the program has ended"))
+        self.held.clear()
+
+    def close(self) -> None:
+        """Closes the pipe. `ended` comes once the sender has handed over what waits. For when nothing is asked any more."""
+        self.closing = True
+        if self.run is not None:
+            self.run.close()
+        elif self.timer is not None:
+            self.timer.cancel()
+            self._end()
+
+    def kill(self) -> None:
+        """Kills the program, and ends."""
+        self.closing = True
+        if self.run is not None:
+            self.run.kill()
+        elif self.timer is not None:
+            self.timer.cancel()
+            self._end()
+
+
+def _die_with_the_hub() -> None:
+    """In the child: where the hub is killed the program is killed too, so that the next hub finds the file unlocked."""
+    _libc.prctl(1, signal.SIGKILL)
+
+
+def tell(text: str) -> None:
+    """A line of the hub on standard error."""
+    try:
+        sys.stderr.write(f"verifactu-hub: {text}\n")
+        sys.stderr.flush()
+    except OSError:
+        pass

@@ -1,0 +1,211 @@
+"use strict";
+// The owner's page: it asks /v1/state every five seconds while it is looked at, and the sums where records came. It only reads, and adds up nothing.
+
+const EVERY = 5000; // milliseconds from one look to the next
+const SUMS_EVERY = 30000; // milliseconds from one look at the sums to the next, at least
+const PATIENCE = 35000; // milliseconds until the hub counts as gone
+const LATE = 600000; // milliseconds without a word of the agency after which what waits is marked
+
+const STATES = {
+  pending: "pendiente", correcto: "aceptado", "con-errores": "aceptado con errores", vet: "rechazado", held: "rechazado: ya consta",
+  "not-held": "rechazado: no consta", gone: "rechazado: consta anulada",
+};
+const REFUSED = ["vet", "held", "not-held", "gone"];
+const WHAT_TO_DO = {
+  vet: "Busque el código en la lista de errores de la Agencia. Corrija los datos de la factura en la caja (subsanación), o anúlela.",
+  held: "La Agencia ya tiene esta factura. Avise a su técnico antes de hacer nada con ella.",
+  "not-held": "La Agencia no tiene la factura que se corrige o se anula. Avise a su técnico.",
+  gone: "La Agencia tiene esta factura como anulada. Avise a su técnico.",
+};
+
+const part = (id) => document.getElementById(id);
+const euros = (cents) => new Intl.NumberFormat("es-ES", { style: "currency", currency: "EUR", useGrouping: "always" }).format(cents / 100);
+const count = (number) => new Intl.NumberFormat("es-ES", { useGrouping: "always" }).format(number);
+const day = (text) => text.split("-").reverse().join("/");
+const hour = (moment) => new Intl.DateTimeFormat("es-ES", { dateStyle: "short", timeStyle: "medium", timeZone: "Europe/Madrid" }).format(moment);
+const dayOf = (moment) => new Intl.DateTimeFormat("sv-SE", { timeZone: "Europe/Madrid" }).format(moment);
+
+let now = new Date(); // the hub's clock, at its last answer
+let seen = null; // when the hub answered last, by this machine's clock
+let mark = ""; // the counts and the day that the sums were asked for
+let summed = 0; // when the sums were asked
+let timer = null;
+let isLooking = false;
+
+function element(name, text, className) {
+  const made = document.createElement(name);
+  made.textContent = text;
+  if (className) made.className = className;
+  return made;
+}
+
+function cell(label, text, className) {
+  const made = element("td", text, className);
+  made.dataset.label = label;
+  return made;
+}
+
+function show(id, isShown) {
+  part(id).hidden = !isShown;
+}
+
+async function ask(path) {
+  const stop = new AbortController();
+  const late = setTimeout(() => stop.abort(), PATIENCE);
+  try {
+    const answer = await fetch(new URL(path, location.origin + location.pathname), { signal: stop.signal, cache: "no-store" });
+    if (answer.headers.get("Date")) now = new Date(answer.headers.get("Date"));
+    if (!answer.ok) throw Object.assign(new Error("status"), { status: answer.status });
+    return await answer.json();
+  } finally {
+    clearTimeout(late);
+  }
+}
+
+function stateText(row) {
+  return STATES[row.state] + (row.code === undefined ? "" : ` (código ${row.code})`);
+}
+
+function kindOf(row) {
+  return row.record === "anulacion" ? "anulación" : row.kind;
+}
+
+function showWaiting(state) {
+  const waiting = state.records - state.noted;
+  part("waiting").textContent = count(waiting);
+  const at = state.noted_at ? new Date(state.noted_at) : null;
+  let text = at ? `Última respuesta de la Agencia: ${hour(at)}.` : "Sin respuesta de la Agencia desde que arrancó el servicio.";
+  if (state.oldest_waiting) text += ` La más antigua: ${state.oldest_waiting.num}, del ${day(state.oldest_waiting.date)}.`;
+  part("noted").textContent = waiting || at ? text : "Nada que enviar.";
+  part("waiting-card").classList.toggle("late", waiting > 0 && (!at || now - at > LATE));
+}
+
+function showRefused(rows) {
+  show("refused-part", rows.length > 0);
+  part("refused").replaceChildren(...rows.map((row) => {
+    const item = document.createElement("li");
+    const first = document.createElement("p");
+    const total = row.total === undefined ? "" : `, ${euros(row.total)}`;
+    first.append(element("strong", row.num), ` del ${day(row.date)} (${kindOf(row)}${total}), registro ${count(row.place)}: ${stateText(row)}.`);
+    item.append(first, element("p", WHAT_TO_DO[row.state], "note"));
+    return item;
+  }));
+}
+
+function showNewest(rows) {
+  show("none", rows.length === 0);
+  show("newest-table", rows.length > 0);
+  part("newest").replaceChildren(...rows.map((row) => {
+    const line = document.createElement("tr");
+    const amount = (cents) => (cents === undefined ? "–" : euros(cents));
+    line.append(
+      cell("Registro", count(row.place)), cell("Factura", row.num), cell("Fecha", day(row.date)), cell("Tipo", kindOf(row)),
+      cell("Cuota", amount(row.cuota), "amount"), cell("Total", amount(row.total), "amount"),
+      cell("Agencia", stateText(row), REFUSED.includes(row.state) ? "bad" : ""));
+    return line;
+  }));
+}
+
+function showState(state) {
+  part("issuer").textContent = state.issuer;
+  document.title = `Facturas ${state.issuer}`;
+  show("trial", state.practice);
+  part("records").textContent = count(state.records);
+  part("starts").textContent = state.starts > 1 ? `El programa se ha arrancado ${count(state.starts)} veces.` : "";
+  showWaiting(state);
+  showRefused(state.refused);
+  showNewest(state.newest);
+}
+
+function sumCells(sums) {
+  return [cell("Líneas", count(sums.lines), "amount"), cell("Base", euros(sums.base), "amount"), cell("Cuota", euros(sums.tax), "amount"),
+    cell("Recargo", euros(sums.surcharge), "amount")];
+}
+
+function showMonth(sums) {
+  part("sums").replaceChildren(...sums.classes.map((row) => {
+    const line = document.createElement("tr");
+    line.append(cell("Clase", row.class), ...sumCells(row));
+    return line;
+  }));
+  const line = document.createElement("tr");
+  const head = element("th", "Todas");
+  head.scope = "row";
+  line.append(head, ...sumCells(sums));
+  part("all-sums").replaceChildren(line);
+}
+
+function showToday(sums) {
+  const pairs = [["Base", euros(sums.base)], ["Cuota", euros(sums.tax)], ["Recargo", euros(sums.surcharge)], ["Líneas", count(sums.lines)]];
+  part("today").replaceChildren(...pairs.flatMap(([name, text]) => [element("dt", name), element("dd", text)]));
+}
+
+async function lookAtMonth() {
+  const month = part("month");
+  const fault = (text) => {
+    show("month-fault", text !== "");
+    part("month-fault").textContent = text;
+  };
+  if (!/^\d{4}-\d{2}$/.test(month.value)) {
+    fault("Escriba el mes como 2025-01.");
+    return;
+  }
+  try {
+    const wanted = month.value;
+    const sums = await ask(`v1/months/${wanted}`);
+    if (month.value === wanted) {
+      fault("");
+      showMonth(sums);
+    }
+  } catch (problem) {
+    fault(problem.status === 400 ? "De ese mes no hay sumas." : "No se han podido leer las sumas.");
+  }
+}
+
+async function lookAtSums(state) {
+  const today = dayOf(now);
+  if (!part("month").value) part("month").value = today.slice(0, 7);
+  const wanted = [state.records, state.noted, today].join(" ");
+  if (mark === wanted || Date.now() - summed < SUMS_EVERY) return;
+  summed = Date.now();
+  try {
+    showToday(await ask(`v1/days/${today}`));
+    await lookAtMonth();
+    mark = wanted;
+  } catch {
+    part("today").replaceChildren(element("dt", "No se han podido leer."));
+  }
+}
+
+function showGone(problem) {
+  let text = "El servicio no contesta.";
+  if (problem.status === 503) text = "El programa de facturas no contesta: las cajas no pueden vender ahora.";
+  if (problem.status === 401 || problem.status === 403) text = "La contraseña ya no vale. Vuelva a cargar la página.";
+  part("gone").textContent = text + (seen ? ` Lo que se ve es de ${hour(seen)}.` : "");
+  show("gone", true);
+  document.body.classList.add("stale");
+}
+
+async function look() {
+  timer = null;
+  isLooking = true;
+  try {
+    const state = await ask("v1/state");
+    seen = new Date();
+    showState(state);
+    show("gone", false);
+    document.body.classList.remove("stale");
+    part("clock").textContent = `Visto: ${hour(now)}`;
+    await lookAtSums(state);
+  } catch (problem) {
+    showGone(problem);
+  }
+  isLooking = false;
+  if (document.visibilityState === "visible") timer = setTimeout(look, EVERY);
+}
+
+document.addEventListener("visibilitychange", () => {
+  if (document.visibilityState === "visible" && timer === null && !isLooking) look();
+});
+part("month").addEventListener("change", lookAtMonth);
+look();

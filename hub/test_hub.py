@@ -1,0 +1,78 @@
+#!/usr/bin/python3
+"""All tests of the hub, over real sockets.
+
+    hub/test_hub.py [--program PATH] [--sales N] [NAME ..]
+
+The program is the stand-in unless --program (or VERIFACTU) names the real one; N is how many sales each of 64 tills makes (200). NAMEs are of
+modules, classes or tests, as unittest has them. A Debian package that is missing is installed where that may be. Under CI, where the variable
+CI is set, its want is a failure, and so is each test that can't be run, but for a client whose language isn't there.
+"""
+from __future__ import annotations
+
+import argparse
+import importlib.util
+import os
+import subprocess
+import sys
+import unittest
+from typing import Any, Iterator
+
+PACKAGES = {"aiohttp": "python3-aiohttp", "jsonschema": "python3-jsonschema"}
+MODULES = ["test_parts", "test_requests", "test_running", "test_machines", "test_clients"]
+# these wait for 75 and 30 seconds, and run beside the others
+WAITING = ["test_running.SlowTest.test_a_request_must_have_arrived_within_75_seconds", "test_running.LimitTest"]
+
+
+def have_packages() -> bool:
+    """Whether the packages are there, after an attempt to install those that aren't."""
+    missing = [package for module, package in PACKAGES.items() if importlib.util.find_spec(module) is None]
+    if missing and os.geteuid() == 0:
+        for words in (["update"], ["install", "-y", "--no-install-recommends", *missing]):
+            subprocess.run(["apt-get", *words], stdout=subprocess.DEVNULL, stderr=subprocess.DEVNULL, check=False)
+        importlib.invalidate_caches()
+        missing = [package for module, package in PACKAGES.items() if importlib.util.find_spec(module) is None]
+    if missing:
+        print("the hub's tests need " + " ".join(missing))
+    return not missing
+
+
+def main() -> int:
+    """0 where all passed, or where packages are missing and nobody insists."""
+    parser = argparse.ArgumentParser(description="Tests of the hub.")
+    parser.add_argument("--program", default=os.environ.get("VERIFACTU", ""))
+    parser.add_argument("--sales", type=int, default=200)
+    parser.add_argument("-v", "--verbose", action="store_true")
+    parser.add_argument("names", nargs="*")
+    options = parser.parse_args()
+    if not have_packages():
+        return 1 if "CI" in os.environ else 0
+    import trying  # needs none of the packages, but its users do
+
+    trying.Options.program = os.path.realpath(options.program) if options.program else trying.STAND_IN
+    trying.Options.sales = options.sales
+    beside = None if options.names else subprocess.Popen([sys.executable, os.path.realpath(__file__), *sys.argv[1:], *WAITING])
+    passed = run(unittest.defaultTestLoader.loadTestsFromNames(options.names or MODULES), options)
+    return 1 if (beside is not None and beside.wait()) or not passed else 0
+
+
+def run(suite: unittest.TestSuite, options: argparse.Namespace) -> bool:
+    """Runs tests, without those that run beside them; under CI a skipped one counts as failed."""
+    chosen = unittest.TestSuite(test for test in tests_of(suite) if options.names or not is_waiting(test))
+    result = unittest.TextTestRunner(verbosity=2 if options.verbose else 1, warnings="ignore").run(chosen)
+    skipped = [reason for _, reason in result.skipped if not reason.startswith("no language")]
+    return result.wasSuccessful() and not ("CI" in os.environ and skipped)
+
+
+def tests_of(suite: Any) -> Iterator[unittest.TestCase]:
+    """The tests of suites within suites."""
+    for test in suite:
+        yield from tests_of(test) if isinstance(test, unittest.TestSuite) else (test,)
+
+
+def is_waiting(test: unittest.TestCase) -> bool:
+    """Whether it is one of WAITING."""
+    return any(test.id() == name or test.id().startswith(name + ".") for name in WAITING)
+
+
+if __name__ == "__main__":
+    sys.exit(main())

@@ -1,0 +1,99 @@
+#!/usr/bin/env python3
+"""Makes out/package/verifactu-hub_VERSION_all.deb: the hub (docs/HUB.md), its unit and its clients, beside the program's own package.
+
+usage: tools/package_hub.py
+
+VERSION is the newest one of CHANGELOG.md. It refuses where the tree differs from its commit. Every file has the commit's date, so one commit
+gives the same bytes.
+"""
+from __future__ import annotations
+
+import hashlib
+import os
+import re
+import subprocess
+import sys
+import tempfile
+
+from lanes import ROOT
+from package import DOC, PLACE, UNITS, Refused, output, put, set_dates, text_of
+
+SHARE = "share/verifactu-hub"
+UNIT = "verifactu-hub@.service"
+PARTS = ("verifactu_hub.py", "hub_books.py", "hub_connections.py", "hub_forms.py", "hub_http.py", "hub_limits.py", "hub_pipe.py", "hub_tokens.py",
+         "openapi.json", "page.html", "page.css", "page.js")
+CLIENTS = ("till.py", "till.php", "till.js", "Till.java")
+CONTROL = """Package: verifactu-hub
+Version: {version}
+Architecture: all
+Maintainer: The verifactu authors <root@localhost>
+Installed-Size: {size}
+Depends: verifactu, python3 (>= 3.9), python3-aiohttp (>= 3.8)
+Section: misc
+Priority: optional
+Description: tills of several machines over one verifactu, and a page for the owner
+ Starts verifactu serve, keeps it up, and speaks HTTP with JSON to tills on
+ other machines, and a page that only reads to the shop's owner.
+"""
+
+
+def version() -> str:
+    """The newest version that CHANGELOG.md has."""
+    found = re.search(r"^## (\d+\.\d+\.\d+)", text_of(os.path.join(ROOT, "CHANGELOG.md")).decode(), re.MULTILINE)
+    if found is None:
+        raise Refused("CHANGELOG.md has no version")
+    return found[1]
+
+
+def tree() -> dict[str, tuple[bytes, int]]:
+    """The bytes and the mode of each file below /usr."""
+    made = {f"{SHARE}/{name}": text_of(os.path.join(ROOT, "hub", name)) for name in PARTS}
+    made.update({f"{DOC}-hub/clients/{name}": text_of(os.path.join(ROOT, "hub", "clients", name)) for name in CLIENTS})
+    made[f"{DOC}-hub/HUB.md"] = text_of(os.path.join(ROOT, "docs", "HUB.md"))
+    made[f"{UNITS}/{UNIT}"] = text_of(os.path.join(ROOT, "examples", "systemd", UNIT))
+    return {name: (text, 0o755 if name.endswith("/verifactu_hub.py") else 0o644) for name, text in made.items()}
+
+
+def make(made: dict[str, tuple[bytes, int]], date: int, to: str) -> None:
+    """The package, with the name in /usr/bin as a link."""
+    with tempfile.TemporaryDirectory() as root:
+        for name, (text, mode) in made.items():
+            put(root, f"usr/{name}", text, mode)
+        os.makedirs(os.path.join(root, "usr/bin"))
+        os.symlink(f"../{SHARE}/verifactu_hub.py", os.path.join(root, "usr/bin/verifactu-hub"))
+        size = sum(len(text) for text, _ in made.values()) // 1024 + 1
+        put(root, "DEBIAN/control", CONTROL.format(version=version(), size=size).encode(), 0o644)
+        sums = "".join(f"{hashlib.md5(text).hexdigest()}  usr/{name}\n" for name, (text, _) in sorted(made.items()))
+        put(root, "DEBIAN/md5sums", sums.encode(), 0o644)
+        set_dates(os.path.join(root, "DEBIAN"), date)
+        for at, folders, names in os.walk(os.path.join(root, "usr"), topdown=False):
+            for name in [*folders, *names]:
+                os.utime(os.path.join(at, name), (date, date), follow_symlinks=False)
+            os.chmod(at, 0o755)
+        for at in (os.path.join(root, "usr"), root):
+            os.chmod(at, 0o755)
+            os.utime(at, (date, date))
+        subprocess.run(["dpkg-deb", "--root-owner-group", "-Zgzip", "-z9", "--build", root, to], check=True, stdout=subprocess.DEVNULL,
+                       env={**os.environ, "SOURCE_DATE_EPOCH": str(date)})
+
+
+def main() -> int:
+    """0 where the package was made."""
+    if sys.argv[1:]:
+        print("usage: tools/package_hub.py", file=sys.stderr)
+        return 2
+    try:
+        if output("git", "status", "--porcelain", "--untracked-files=no"):
+            raise Refused("files differ from the commit: commit them first")
+        os.makedirs(PLACE, exist_ok=True)
+        to = os.path.join(PLACE, f"verifactu-hub_{version()}_all.deb")
+        make(tree(), int(output("git", "log", "-1", "--format=%ct")), to)
+    except (Refused, OSError, subprocess.CalledProcessError) as fault:
+        print(f"verifactu-hub: no package: {fault}", file=sys.stderr)
+        return 1
+    print(os.path.relpath(to))
+    return 0
+
+
+if __name__ == "__main__":
+    sys.exit(main())
