@@ -9,19 +9,21 @@ use Rattle.ports.specs.Sinks.{this_sink}
 use Rattle.shop_core.specs.History.{History, noted, recs}
 use Rattle.shop_core.specs.Answer.Requests.{Asked}
 use Rattle.till_calls.specs.Root.{Parts, Root, parts_of, root_of}
-use Rattle.open_shop.specs.Beside.{DayRunEnds, IsUnbegun}
-use Rattle.open_shop.specs.Days.{all_replies, shop_day}
+use Rattle.shop_commands.specs.SenderEnds.{DayRunEnds}
+use Rattle.shop_drain.specs.Opening.{IsUnbegun}
+use Rattle.sender_beside.specs.Days.{all_replies, shop_day}
 use Rattle.shop_commands.specs.Day.{day_text}
-use Rattle.open_shop.specs.Devices.{agency_desk, agency_in, agency_kind, sleeper_in, store_kind}
-use Rattle.open_shop.specs.Draining.{OpensSession}
-use Rattle.open_shop.specs.Tills.{DayRun, has_asks, tills_of}
-use Rattle.open_shop.specs.Works.{told_in}
-use Rattle.open_shop.specs.declared.tills.TillDay.{TillDay}
+use Rattle.sender_session.specs.Kinds.{agency_desk, agency_kind, store_kind}
+use Rattle.shop_drain.specs.Devices.{agency_in, sleeper_in}
+use Rattle.shop_drain.specs.Draining.{OpensSession}
+use Rattle.sender_beside.specs.Tills.{DayRun, has_asks, tills_of}
+use Rattle.shop_day.specs.Jobs.{told_in}
+use Rattle.shop_day.specs.declared.tills.TillDay.{TillDay}
 use Rattle.shop_commands.proofs.DayEnding.{day_done}
 use Rattle.shop_commands.proofs.ShopDays.{ShopDid, day_facts, not_asked}
-use Rattle.open_shop.proofs.Jobs.{same_numbers}
-use Rattle.shop_commands.proofs.RunEnding.{not_opened}
-use Rattle.open_shop.proofs.TillDays.{distinct, filter_at_most, pairs_of, within}
+use Rattle.shop_day.proofs.Jobs.{same_numbers}
+use Rattle.command_ends.proofs.RunEnding.{not_opened}
+use Rattle.sender_beside.proofs.TillDays.{distinct, filter_at_most, pairs_of, within}
 use Rattle.shop_commands.proofs.day.day_file.Goals as goal
 
 pub returns-in_default : goal.returns-in_default

@@ -12,12 +12,13 @@ use Rattle.ports.specs.Sources.{SourceRose, Sources}
 use Rattle.report.specs.Pieces.{chain_line}
 use Rattle.shop_core.specs.History.{History, noted, recs}
 use Rattle.till_calls.specs.Root.{Root, parts_of}
-use Rattle.open_shop.specs.Beside.{IsUnbegun}
-use Rattle.open_shop.specs.Devices.{agency_desk, agency_in, agency_kind, sleeper_in, store_kind}
-use Rattle.open_shop.specs.Draining.{OpensSession}
+use Rattle.shop_drain.specs.Opening.{IsUnbegun}
+use Rattle.sender_session.specs.Kinds.{agency_desk, agency_kind, store_kind}
+use Rattle.shop_drain.specs.Devices.{agency_in, sleeper_in}
+use Rattle.shop_drain.specs.Draining.{OpensSession}
 use Rattle.shop_commands.specs.Serve.{Closes, SpeechEnds, post_with, printed, source_since}
-use Rattle.open_shop.specs.Talking.{CounterRun}
-use Rattle.open_shop.proofs.AllTills.{all_within}
+use Rattle.shop_dialogue.specs.Talking.{CounterRun}
+use Rattle.shop_dialogue.proofs.AllTills.{all_within}
 use Rattle.shop_commands.proofs.ServeEnding.{came_read, not_begun, talked}
 use Rattle.shop_commands.proofs.serve.serve_opened.Goals as goal
 
