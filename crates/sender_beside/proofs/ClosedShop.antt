@@ -145,7 +145,7 @@ module _ {C : Type 0} (base log : List Item) (root : Root C) (tills : List (Know
         below_by h zs (λ n c. within n (suc c.0, (let l = c.1 in omega arith), c.2)),
       )
 
-  -- it owns nothing behind what it has seen
+  -- it owns nothing after what it has seen
   pub owns_seen : Shared → OwnsBelow (length then.seen) then
   owns_seen h = all_of_each (λ (z : ℕ × Item). z.0 < length then.seen) then.own (below_by h then.own (λ n c. c))
 
@@ -201,7 +201,7 @@ module _ {C : Type 0} (base log : List Item) (root : Root C) (tills : List (Know
           let f : q.0 ≡ item.Entry (Notes first lines) = (let g = e in cc) in
           absurd (subst IsOfTill f q.2)
 
-  -- behind what the seat has seen there are items of the tills alone
+  -- after what the seat has seen there are items of the tills alone
   rest_theirs : (h : Shared) → AllByRecursion IsOfTill (rest_of h)
   rest_theirs h = all_by_place IsOfTill (rest_of h) (λ m l.
       let n : ℕ = length then.seen + m in

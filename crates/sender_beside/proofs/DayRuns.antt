@@ -111,7 +111,7 @@ at_end : (es : List Entry) (x : Item) (rest : List Item) → slice_get (map item
 at_end [] x rest = refl
 at_end (e ∷ es) x rest = at_end es x rest
 
--- behind entries alone the last item is the only stop
+-- after entries alone the last item is the only stop
 only_stop : (es : List Entry) (x : Item) (i : ℕ) (y : Item) → slice_get (map item.Entry es ++ x ∷ []) i ≡ Some y →
     is_stop y ≡ true → i ≡ length es
 only_stop [] x zero y at stops = refl

@@ -135,7 +135,7 @@ module _ {D C : Type 0} (tells : Bool) (told : D → OnDisk) (faults : D → ℕ
         | inr m ↦ inr m
       ]
 
-  -- the counts of the last sight, with the records that came behind it
+  -- the counts of the last sight, with the records that came after it
   counts_within : (n r : ℕ) → IsErrOf answer (drain.Undelivered n r) → CountsWithin p.state.entries n r
   counts_within n r is =
       let c = sends.counts n r is in

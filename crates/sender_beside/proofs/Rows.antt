@@ -312,7 +312,7 @@ module _ {C : Type 0} (coming : C → ℕ → Option ℕ) (asks : List Asked) wh
           let sum = sum_by-cons (times_owned n) r.last (lasts rs) in
           omega (arith, more, split, here, at, sum)
 
-      -- A stop behind the start, the only one, is that of a till's ask, which alone is answered with a fault of its own. Or it is
+      -- A stop after the start, the only one, is that of a till's ask, which alone is answered with a fault of its own. Or it is
       -- the seat's, and no ask is; what holds of each of the seat's holds of it.
       pub stop_whose : (P : Item → Type 0) → AllByRecursion (λ (z : ℕ × Item). P z.1) seat.own → (n : ℕ) (x : Item) →
           slice_get log n ≡ Some x → is_stop x ≡ true →

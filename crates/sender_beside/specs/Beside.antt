@@ -34,7 +34,7 @@ pub record StaysAgreed (d : Day) : Type 0 where
   pub torn : Agree (d.end ++ torn_of d.stop) d.after.ledger.processed d.after.ledger.sent
   pub no_contradiction : (evidence : Evidence) → IsErrOf d.answer (drain.Contradiction evidence) → ⊥
 
--- what a new sender does beside tills and behind them, over an agency whose session is open
+-- what a new sender does while tills work and after them, over an agency whose session is open
 pub record SendsBeside (d : Day) : Type 0 where
   -- where shop and agency agreed they still do
   pub agreement : IsTrue d.kind.keeps_rules → Agree d.start d.opened.ledger.processed d.opened.ledger.sent → StaysAgreed d

@@ -24,7 +24,7 @@ pub record Stop : Type 0 where
   pub torn : Entry
 
 -- A day of a shop: whose it is, the version of its history, what was asked, and the coming answers of the clock; the history at
--- its start and at its end, and the stop behind that; what each till was told; what the agency's kind tells, and its desk once the
+-- its start and at its end, and the stop after that; what each till was told; what the agency's kind tells, and its desk once the
 -- session was open and at the end; and how the sending ended.
 pub record Day : Type 0 where
   pub issuer : List ℕ

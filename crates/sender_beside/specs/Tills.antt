@@ -82,13 +82,13 @@ AreTaken (Ok (Again receipt) ∷ replies) entries = AreTaken replies entries
 AreTaken (Ok (Refused why) ∷ replies) entries = AreTaken replies entries
 AreTaken (Err fault ∷ replies) entries = AreTaken replies entries
 
--- how many stops there are behind the entries of a shop's list
+-- how many stops there are after the entries of a shop's list
 abbrev pub stops_in : Option Stop → ℕ
 stops_in None = 0
 stops_in (Some stop) = 1
 
 -- One till's part of a day: the run of its own asks, its records since the start, and how much it saw at its end: no less than at
--- its last answer, and no more than the history at the end, and the stop behind it.
+-- its last answer, and no more than the history at the end, and the stop after it.
 pub record TillServed (d : Day) (t : TillReplies) : Type 0 where
   pub last : ℕ
   pub told : Bool

@@ -395,7 +395,7 @@ drained_answers kind exact start then old new result d tells past k clear entrie
   | inr p ↦ inr p.0
 ]
 
--- more records wait behind those that do
+-- more records wait after those that do
 pub drop_front : (n : ℕ) (xs ys : List Sealed) → IsPrefix (drop n xs) (drop n (xs ++ ys))
 drop_front zero xs ys = record { rest = ys; is = refl }
 drop_front (suc n) [] ys = record { rest = drop (suc n) ys; is = refl }

@@ -123,7 +123,7 @@ turns_say kind exact begin answers links scene tells (more before_answers before
     (turns_say kind exact begin before_answers before_links mid tells t) on
     (turn_tells kind mid.desk then.desk mid.sight then.sight mid.sending then.sending turn.now answer turn.turned tells)
 
--- the last turn is a fault of the link behind these
+-- the last turn is a fault of the link after these
 last_fault : (old mid new : List Message) (links : ℕ) → SaidWith old mid links → links + 1 ≡ MAX_LINK_FAULTS →
     TellsOf mid new (Err LinkFault) → GivesUp old new
 last_fault old mid new links s eight (inl q) = absurd q.1
@@ -161,7 +161,7 @@ drained_gives_up kind exact start then old new result d tells n r is = elim d.en
   | inr p ↦ absurd (let e = sym p.0 ∙ is in cc)
 ]
 
--- behind what others said it ends so too
+-- after what others said it ends so too
 pub gives_up_behind : (old mid new session : List Message) → mid ≡ old ++ session → GivesUp mid new → GivesUp old new
 gives_up_behind old mid new session is g = record {
   before = session ++ g.before;

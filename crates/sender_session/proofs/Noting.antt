@@ -145,7 +145,7 @@ few_replied batch reply names each =
 few_none : (m : Message) → lines_said m ≡ [] → length (lines_said m) ≤ count_named m
 few_none m none = let e = ap (λ (ls : List Line). length ls) none in omega (arith, e)
 
--- what is asked for at a look, by the records behind it
+-- what is asked for at a look, by the records after it
 of_first : (shown now later more : List Sealed) (n k : ℕ) → shown ≡ take 1000 (drop n now) → later ≡ now ++ more → n ≡ k →
     IsPrefix shown (drop k later)
 of_first shown now later more n k first is same =

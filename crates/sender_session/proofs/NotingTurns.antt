@@ -95,7 +95,7 @@ noted_then a b c xs ys (Err (drain.Store fault)) first next = missed_then a b c 
 noted_then a b c xs ys (Err drain.NoMemory) first (inl next) = inl (all_then a b c xs ys first next)
 noted_then a b c xs ys (Err drain.NoMemory) first (inr next) = inr (missed_then a b c xs ys first next)
 
--- one behind the other, where records came behind
+-- one after the other, where records came after
 pub notes_then : (a b c : List Entry) (k l m : List Message) (answer : Result (Unit {0}) DrainFault) (more : List Sealed) →
     recs c ≡ recs b ++ more → NotesSaid a b k l (Ok tt) → NotesSaid b c l m answer → NotesSaid a c k m answer
 notes_then a b c k l m answer more came x y =

@@ -105,7 +105,7 @@ module _ (final : Sight) (base : ℕ) (mine : (n : ℕ) → base ≤ n → n < l
 one_entry : (e : Entry) → entries_of (item.Entry e ∷ []) ≡ e ∷ []
 one_entry e = refl
 
--- the history behind one item of its own
+-- the history after one item of its own
 pub own_items : (look after : Sight) (thing : List Item → Item) → (a : AddsOwn look after thing) → a.others ≡ [] →
     after.items ≡ look.items ++ thing look.items ∷ []
 own_items look after thing a none =
@@ -499,7 +499,7 @@ module _ (tells exact : Bool) (records : List Sealed) (st : Standing) (said said
             (λ evidence e. absurd cc)
         by_answer _ ends = absurd ends
 
-    -- one turn behind its look
+    -- one turn after its look
     pub ends_did : (kind : AgencyKind) (desk desk_then : Desk) (deed : Deed) (answer : Result Turn SendFault) → tells ≡ kind.tells →
         said ≡ desk.ledger.messages → said_then ≡ desk_then.ledger.messages →
         Dealt kind desk desk_then shown deed → Ends old now shown look after deed answer new → Done answer

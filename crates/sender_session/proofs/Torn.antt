@@ -127,7 +127,7 @@ turn_tears kind desk desk_then before after old new now result t tells =
     (subst (λ (r : Result Turn SendFault). Ends old now t.shown t.look after t.deals.deed r new) e t.deals.ends))
     (ends_added old now t.shown t.look after t.deals.deed result new t.deals.ends)
 
--- behind turns that added notes alone
+-- after turns that added notes alone
 pub tears_then : (a b c : Sight) (messages : List Message) → Adds AreNotes a b → Growth b c → TearsSaid b c messages →
     TearsSaid a c messages
 tears_then a b c messages notes g h items faults torn is own =

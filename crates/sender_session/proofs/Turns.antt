@@ -92,7 +92,7 @@ sends_none kind a k said = record {
   gave_up = λ is. absurd (let e = is.2 in cc);
 }
 
--- a drain behind turns that were before it
+-- a drain after turns that were before it
 drain_later : (kind : AgencyKind) (k l m : Desk) (answer : Result (Unit {0}) DrainFault) → k.faults ≤ l.faults →
     AnsweredByDrain kind l m answer → AnsweredByDrain kind k m answer
 drain_later kind k l m answer later by = record {

@@ -127,7 +127,7 @@ module _ (kind : AgencyKind) (exact : Bool) (records : List Sealed) (final : Sig
       (λ thing o. none_between final base mine t.look then.sight thing rest high long o)
       kind scene.desk then.desk t.deals.deed answer refl refl refl t.deals.dealt t.deals.ends
 
-  -- and where the drain stands behind it
+  -- and where the drain stands after it
   pub at_next : (scene then : Scene) (st : Standing) (answer : Result Turn SendFault) → At exact records base scene st →
       (turn : IsTurn kind exact scene then answer) →
       (d : Did kind.tells exact records st scene.desk.ledger.messages then.desk.ledger.messages then.sight then.sending answer) →
@@ -171,7 +171,7 @@ module _ (kind : AgencyKind) (exact : Bool) (records : List Sealed) (final : Sig
   faults_rise scene then links (Err NoMemory) t below = let l = turn_later kind scene.desk then.desk scene.sight then.sight
       scene.sending then.sending t.now (Err NoMemory) t.turned in omega (arith, l)
 
-  -- the faults behind a turn, by those before it
+  -- the faults after a turn, by those before it
   pub risen_more : (start scene then : Scene) (links : ℕ) (answer : Result Turn SendFault) → IsTurn kind exact scene then answer →
       (scene.desk.faults < 2 ^ 64 - 1 → links + start.desk.faults ≤ scene.desk.faults) → then.desk.faults < 2 ^ 64 - 1 →
       links_with links answer + start.desk.faults ≤ then.desk.faults

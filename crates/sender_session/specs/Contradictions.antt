@@ -13,7 +13,7 @@ use Rattle.sender.specs.Evidence.{Shows}
 use Rattle.sender.specs.declared.answers.DrainFault.{DrainFault}
 use Rattle.sender.specs.declared.answers.DrainFault.TheVariants as drain
 
--- The last message of a session, which began behind these, is a consultation of the first waiting records, and what it was
+-- The last message of a session, which began after these, is a consultation of the first waiting records, and what it was
 -- answered shows this contradiction beside the reply that is kept of the session's messages before it.
 pub record ShowsLast (entries : List Entry) (past messages : List Message) (evidence : Evidence) : Type 0 where
   pub before : List Message
@@ -27,7 +27,7 @@ pub record ShowsLast (entries : List Entry) (past messages : List Message) (evid
 abbrev pub ShowsNothing : List Message → List Message → Type 0
 ShowsNothing past messages = (entries : List Entry) (evidence : Evidence) → ShowsLast entries past messages evidence → ⊥
 
--- No message of a session, which began behind these, shows a contradiction but the last one: no front of the session ends in one
+-- No message of a session, which began after these, shows a contradiction but the last one: no front of the session ends in one
 -- that does.
 abbrev pub NoneBefore : List Message → List Message → Type 0
 NoneBefore past messages = (front : List Message) (m : Message) (back : List Message) →

@@ -54,7 +54,7 @@ count_named (Submitted batch answer) = length batch
 count_named (Consulted huellas answer) = length huellas
 
 -- each message is of the first records that wait, and says a line for no more of them than it names: so many lines are noted
--- before the first message, and behind each one those that it says
+-- before the first message, and after each one those that it says
 abbrev pub AreOfWaiting : List Sealed → ℕ → List Message → Type 0
 AreOfWaiting records count [] = ⊤
 AreOfWaiting records count (m ∷ messages) = IsOfFirst (drop count records) m × (length (lines_said m) ≤ count_named m)
@@ -84,7 +84,7 @@ pub record NotesSaid (before after : List Entry) (old new : List Message) (answe
   pub of_waiting : AreOfWaiting (recs after) (length (noted before)) session
   pub lines : AreNoted (noted before) (noted after) session answer
 
--- notes whose append failed behind this history: the lines that the last message says, as the next ones
+-- notes whose append failed after this history: the lines that the last message says, as the next ones
 pub record TornSaid (after : List Entry) (messages : List Message) (torn : Entry) : Type 0 where
   pub front : List Message
   pub last : Message

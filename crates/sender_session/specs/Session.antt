@@ -29,6 +29,26 @@ use Rattle.sender_session.specs.Contradictions.{ShowsLast, ShowsNothing, NoneBef
 use Rattle.agency_port.specs.Messages.{batches_in}
 use Rattle.sender.specs.Dark.{AreRunsBy, NoneInTheDark}
 
+-- an entry that notes lines
+abbrev pub AreNotesEntry : Entry → Type 0
+AreNotesEntry entry = AreNotes (item.Entry entry)
+
+-- the disk failed while notes were added, or had stopped the shop
+abbrev pub IsDiskAnswer : Result (Unit {0}) DrainFault → Type 0
+IsDiskAnswer (Err (drain.Store store.DiskFault)) = ⊤
+IsDiskAnswer (Err (drain.Store (store.Stopped faults))) = ⊤
+IsDiskAnswer _ = ⊥
+
+-- messages came, none of which hands a record over in the dark
+pub record SaysNothingBlindly (old new : List Message) : Type 0 where
+  pub session : List Message
+  pub is : new ≡ old ++ session
+  pub never : NoneInTheDark old session
+
+-- the batches that these messages hand over are runs of the chain that end at most 1000 past the noted lines
+abbrev pub AreOfChain : List Entry → List Message → Type 0
+AreOfChain entries messages = AreRunsBy (recs entries) (length (noted entries) + 1000) (batches_in messages)
+
 -- the last item is a stop
 pub record EndsStopped (items : List Item) : Type 0 where
   pub front : List Item
@@ -57,7 +77,7 @@ is_link_fault (Submitted batch (Err agency.Failed)) = true
 is_link_fault (Consulted huellas (Err agency.Failed)) = true
 is_link_fault _ = false
 
--- The drain behind the tills gave up: behind what was said before it, so many of its messages are faults of the link, the last
+-- The drain after the tills gave up: after what was said before it, so many of its messages are faults of the link, the last
 -- one too.
 pub record GivesUp (old new : List Message) : Type 0 where
   pub before : List Message
@@ -145,23 +165,3 @@ pub record SendsOn (kind : AgencyKind) (before after : Sight) (old new : Desk) (
       IsErrOf answer (drain.Undelivered noted_count records_count) → GivesUp old.ledger.messages new.ledger.messages
   -- and it was the eighth of that drain's turns that is answered with a fault of the link
   pub gave_up : IsUndelivered answer → AnsweredByDrain kind old new answer
-
--- an entry that notes lines
-abbrev pub AreNotesEntry : Entry → Type 0
-AreNotesEntry entry = AreNotes (item.Entry entry)
-
--- the disk failed while notes were added, or had stopped the shop
-abbrev pub IsDiskAnswer : Result (Unit {0}) DrainFault → Type 0
-IsDiskAnswer (Err (drain.Store store.DiskFault)) = ⊤
-IsDiskAnswer (Err (drain.Store (store.Stopped faults))) = ⊤
-IsDiskAnswer _ = ⊥
-
--- messages came, none of which hands a record over in the dark
-pub record SaysNothingBlindly (old new : List Message) : Type 0 where
-  pub session : List Message
-  pub is : new ≡ old ++ session
-  pub never : NoneInTheDark old session
-
--- the batches that these messages hand over are runs of the chain that end at most 1000 past the noted lines
-abbrev pub AreOfChain : List Entry → List Message → Type 0
-AreOfChain entries messages = AreRunsBy (recs entries) (length (noted entries) + 1000) (batches_in messages)

@@ -219,7 +219,7 @@ pub record EndsContrary (st : Standing) (last : List Step) (evidence : Evidence)
   pub is : last ≡ Says (Consulted huellas (Ok seen)) told.Contradiction ∷ []
   pub shows : ShowsHere st huellas seen (Err evidence)
 
--- How a drain ends by its last step, which stands behind those after which it went on, with so many link lines among them and
+-- How a drain ends by its last step, which stands after those after which it went on, with so many link lines among them and
 -- so many lines noted at its end. Without memory a step may be left untold.
 abbrev pub EndsBy : List Sealed → Standing → ℕ → ℕ → List Step → Result (Unit {0}) DrainFault → Type 0
 EndsBy records st links noted last (Ok done) = (last ≡ []) × (noted ≡ length records)

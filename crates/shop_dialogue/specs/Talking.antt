@@ -24,7 +24,7 @@ use Rattle.sender_beside.specs.Days.{TillReplies, shop_day}
 use Rattle.sender_session.specs.Kinds.{StoreKind}
 use Rattle.sender_beside.specs.Tills.{DayRun}
 
--- What was said at a shop's counter: the lines that were read whole, and what may be said behind them; what they say to later
+-- What was said at a shop's counter: the lines that were read whole, and what may be said after them; what they say to later
 -- lines; the commands among them, the replies to these, and what is written for all of them; and how it ended.
 pub record Speech : Type 0 where
   pub lines : List (List ℕ)

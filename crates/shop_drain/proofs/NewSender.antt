@@ -189,7 +189,7 @@ module _ {C : Type 0} (base log : List Item) (root : Root C) (tills : List (Know
         subst (λ (l : List Entry). NotesSaid l es old.ledger.messages new.ledger.messages answer) begun_at
         (subst (λ (l : List Entry). NotesSaid (history_of before) l old.ledger.messages new.ledger.messages answer) seen s)
 
-    -- notes are torn only behind the lines of all messages but the last
+    -- notes are torn only after the lines of all messages but the last
     pub drain_misses : IsTrue kind.tells → MissesTorn span
     drain_misses tells =
         let s = drained_said laws.quiet laws.beside kind exact tells first_scene last_scene [] turns answer says.drained own in

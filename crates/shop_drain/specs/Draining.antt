@@ -32,7 +32,7 @@ use Rattle.sender_session.specs.Steps.{EndsSaying, Step, Steps, line_in}
 use Rattle.sender_session.specs.Session.{AreNotesEntry, IsDiskAnswer, SaysNothingBlindly, AreOfChain}
 use Rattle.shop_drain.specs.Devices.{Agencies}
 
--- notes alone came behind the history before
+-- notes alone came after the history before
 pub record AddsNotesAlone (before after : List Entry) : Type 0 where
   pub more : List Entry
   pub is : after ≡ before ++ more
@@ -48,7 +48,7 @@ torn_in None torn = []
 abbrev pub noted_pairs : List Entry → List (Sealed × Line)
 noted_pairs entries = zip (recs entries) (noted entries)
 
--- A drain: the history of its store at the start and at the end, with the notes behind it whose append failed; what the
+-- A drain: the history of its store at the start and at the end, with the notes after it whose append failed; what the
 -- agency's kind tells, and its desk at the start and at the end; whether the sleeper tells its moment, and that at the start;
 -- the lines told; and the answer.
 pub record Span : Type 0 where

@@ -34,12 +34,12 @@ outcome_by both turns answer = record {
   answer = answer;
 }
 
--- notes are torn only behind the lines of all messages but the last
+-- notes are torn only after the lines of all messages but the last
 abbrev pub MissesTorn : Span → Type 0
 MissesTorn d = (d.torn ≡ [])
     ⊎ NotesSaid d.start d.end d.old.ledger.messages d.new.ledger.messages (Err (drain.Store store.DiskFault))
 
--- what one of the two has at the end: its history, and the entry behind it whose append failed
+-- what one of the two has at the end: its history, and the entry after it whose append failed
 pub record Held : Type 0 where
   pub entries : List Entry
   pub torn : List Entry
