@@ -7,4 +7,4 @@ pub mod Rows
 pub mod SeenAll
 pub mod DayRuns
 pub mod Joined
-pub mod Sent
+pub mod SenderSent

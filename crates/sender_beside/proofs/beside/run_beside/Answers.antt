@@ -2,7 +2,7 @@ use mir.Syntax.{erased, of_param}
 use denote.Exit.{no}
 use denote.Param.Send.{Quiet-if}
 use Rattle.till_calls.proofs.Sent.{seat_send, shop_sync}
-use Rattle.sender_beside.proofs.Sent.{flag_sync, sent_send}
+use Rattle.sender_beside.proofs.SenderSent.{flag_sync, sent_send}
 use Rattle.sender_session.proofs.MeansSent.{means_send}
 use Rattle.sender_beside.proofs.beside.run_beside.Goals as goal
 
