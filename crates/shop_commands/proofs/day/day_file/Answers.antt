@@ -53,8 +53,8 @@ begin-requires-clause-few g c =
     let f = length-range_with_len 1 64 in
     omega (arith, a, e, f)
 
-pub serve-opened-requires-clause-distinct : goal.serve-opened-requires-clause-distinct
-serve-opened-requires-clause-distinct g c κs inside =
+pub run_day-opened-requires-clause-distinct : goal.run_day-opened-requires-clause-distinct
+run_day-opened-requires-clause-distinct g c κs inside =
     pairs_of (λ (d : TillDay). d.till) (λ (a b : ℕ). a ≢ b) c.in-Ok.room.days.items
     (tills_of c.as_slice-asks.result.now) c.in-Ok.ensures.tills (distinct (has_asks c.as_slice-asks.result.now) 1 64)
 
@@ -103,7 +103,7 @@ returns-in-Ok-begin g c =
     let begun = c.in-Ok-begin.ensures in
     let p0 = parts_of o.store in
     let issuer = p0.state.issuer in
-    let served = c.serve-opened.result in
+    let served = c.run_day-opened.result in
     let days = served.tills.items in
     let tills = map told_in days in
     let new = parts_of served.opened.store in
@@ -117,7 +117,7 @@ returns-in-Ok-begin g c =
     let run : Ran script.asks (root_of g.D.Disk.told g.D.Disk.faults p0) then.agency =
     subst (λ (q : List Asked). Ran q (root_of g.D.Disk.told g.D.Disk.faults p0) then.agency) same
     (subst (λ (y : g.row.G.Denot). Ran asks (root_of g.D.Disk.told g.D.Disk.faults p0) y) (sym c.close-in-Ok-begin.ensures.rest.1)
-    (subst (λ (r : Root g.row.C.Denot). Ran asks r served.opened.agency) begun.shop.root c.serve-opened.ensures.day)) in
+    (subst (λ (r : Root g.row.C.Denot). Ran asks r served.opened.agency) begun.shop.root c.run_day-opened.ensures.day)) in
     let opens = subst (λ (x : g.row.G.Denot). OpensSession kind g.G.Agency.begun script.plan p0.state.entries
     (agency_desk g.G.Agency x) (agency_desk g.G.Agency b.agency)) k.kept.1 begun.session in
     let ends : DayRunEnds (all_replies tills) served.answer (length (noted new.state.entries)) (length (recs new.state.entries))
@@ -142,6 +142,6 @@ returns-in-Ok-begin g c =
     then.clock (sleeper_in g.Z.Sleeper out then) (agency_in g.G.Agency out then) p0 sink h
     c.what_a_disk_reads_is_an_image.ensures c.who_keeps_the_rules_tells.ensures (agency_desk g.G.Agency b.agency) opens did in
     inr (inr (inr (day_done c.args.issuer.now script _ _ facts end
-    (same_numbers days ∙ c.serve-opened.ensures.same ∙ c.in-Ok.ensures.tills ∙ ap tills_of same)
+    (same_numbers days ∙ c.run_day-opened.ensures.same ∙ c.in-Ok.ensures.tills ∙ ap tills_of same)
     (subst (λ (q : List Asked). DayRunEnds (all_replies tills) served.answer (length (noted new.state.entries))
     (length (recs new.state.entries)) (day_text q tills new.state.entries) sink end) same ends))))
