@@ -17,12 +17,13 @@ use Rattle.sender.specs.declared.answers.DrainFault.TheVariants as drain
 use Rattle.sender.specs.declared.draining.TheConstants.{MAX_LINK_FAULTS}
 use Rattle.chain_store.specs.Crashes.{StandsUpTo}
 use Rattle.chain_store.specs.Replies.{Replies, is_disk_fault, is_no_memory}
-use Rattle.open_shop.specs.Beside.{sender_lacks_memory}
-use Rattle.open_shop.specs.Devices.{Agencies}
-use Rattle.open_shop.specs.Draining.{IsDiskAnswer, IsSession, IsUnopened, Outcome, StoreDrains, noted_pairs, spanning}
+use Rattle.command_ends.specs.DrainEnds.{sender_lacks_memory}
+use Rattle.shop_drain.specs.Devices.{Agencies}
+use Rattle.sender_session.specs.Session.{IsDiskAnswer}
+use Rattle.shop_drain.specs.Draining.{IsSession, IsUnopened, Outcome, StoreDrains, noted_pairs, spanning}
 use Rattle.many.specs.Ends.{IsBegunAlone, span_from}
 use Rattle.many.specs.Blocks.{answer_end, issuer_end}
-use Rattle.open_shop.proofs.Closing.{never_contrary, undelivered_by}
+use Rattle.shop_drain.proofs.Closing.{never_contrary, undelivered_by}
 
 abbrev Answer : Type 0
 Answer = Result (Unit {0}) DrainFault

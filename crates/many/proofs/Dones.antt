@@ -14,7 +14,7 @@ use Rattle.many.specs.Dones.{AllEndWell, BadIs, IsFirstBad, IsWhole, IssuersEnd,
 use Rattle.many.specs.Dones.IssuersEnd.{done, issuer, write_fault}
 use Rattle.many.specs.declared.working.Done.{Done}
 use Rattle.many.specs.declared.working.Job.{Job}
-use Rattle.open_shop.proofs.Each.{each_snoc}
+use Rattle.sender_session.proofs.Lists.{each_snoc}
 use Rattle.many.proofs.Opened.{reverse_push}
 
 module _ {D C Z G : Type 0} {g : disk.Ghosts D} where

@@ -12,14 +12,14 @@ use Rattle.agency_port.specs.declared.agency.Agency as agency
 use Rattle.chain_store.specs.Readings.{readings_of}
 use Rattle.issuers.specs.declared.parts.Part.{Part}
 use Rattle.report.specs.declared.status.Detail.{Detail}
-use Rattle.open_shop.specs.Devices.{Agencies, Sleepers, agency_in, disk_in, sleeper_in}
+use Rattle.shop_drain.specs.Devices.{Agencies, Sleepers, agency_in, disk_in, sleeper_in}
 use Rattle.many.specs.Ends.{IssuerEnds, IssuersRun, OwnRowEnds, Row, RowEnds}
 use Rattle.many.specs.Dones.{IssuersEnd}
 use Rattle.many.specs.Times.{AreOwnPosts, IsGivenBack, IsOwnPost}
 use Rattle.many.specs.OwnClock.{coming_of}
 use Rattle.many.specs.Pairwise.{Both}
 use Rattle.many.specs.declared.own_clock.OwnClock.{OwnClock}
-use Rattle.open_shop.specs.declared.posts.Post.{Post}
+use Rattle.shop_drain.specs.declared.posts.Post.{Post}
 
 module _ {D C Z G : Type 0} (d : disk.Ghosts D) (c : clock.Ghosts C) (z : sleeper.Ghosts Z) (g : agency.Ghosts G)
   where

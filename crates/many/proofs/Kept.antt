@@ -32,17 +32,18 @@ use Rattle.sender.specs.Turning.{AgencyKind, Desk}
 use Rattle.sender.specs.declared.answers.DrainFault.TheVariants as drain
 use Rattle.chain_store.specs.Crashes.{IsCutOff, Kept, KeptByRun, StandsForEnd, StandsUpTo}
 use Rattle.chain_store.specs.Replies.{AllGoOn, Replies}
-use Rattle.open_shop.specs.Beside.{IsUnbegun}
-use Rattle.open_shop.specs.Crashes.{StandsSince}
-use Rattle.open_shop.specs.Devices.{Agencies}
-use Rattle.shop_commands.specs.Drain.{AgreesAtStart}
-use Rattle.shop_commands.proofs.RunEnding.{or_so}
-use Rattle.open_shop.specs.Draining.{AgreesInFile, Beginning, IsSession, IsUnopened, OpensSession, Outcome, StoreDrains, noted_pairs, spanning}
+use Rattle.shop_drain.specs.Opening.{IsUnbegun}
+use Rattle.shop_drain.specs.Crashes.{StandsSince}
+use Rattle.shop_drain.specs.Devices.{Agencies}
+use Rattle.shop_drain.specs.Draining.{AgreesAtStart}
+use Rattle.command_ends.proofs.RunEnding.{or_so}
+use Rattle.shop_drain.specs.Draining.{AgreesInFile, Beginning, IsSession, IsUnopened, OpensSession, Outcome, StoreDrains}
+use Rattle.shop_drain.specs.Draining.{noted_pairs, spanning}
 use Rattle.many.specs.Ends.{IsBegunAlone, span_from}
 use Rattle.many.specs.Kept.{HistoryKept, SessionKept}
-use Rattle.open_shop.proofs.Contrary.{recs_both}
-use Rattle.open_shop.proofs.Each.{each_weaker}
-use Rattle.open_shop.proofs.Saying.{noted_both}
+use Rattle.sender_session.proofs.Contrary.{recs_both}
+use Rattle.sender_session.proofs.Lists.{each_weaker}
+use Rattle.shop_drain.proofs.Saying.{noted_both}
 
 pub prefix_on : (xs ys zs : List Entry) → IsPrefix xs ys → IsPrefix ys zs → IsPrefix xs zs
 prefix_on xs ys zs a b = record {

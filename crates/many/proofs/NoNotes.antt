@@ -19,7 +19,7 @@ use Rattle.shop_core.specs.declared.answer.refusals.Refusal.{Refusal}
 use Rattle.shop_core.specs.declared.answer.Reply.{Reply}
 use Rattle.shop_core.specs.declared.answer.receipts.Receipt.{Receipt}
 use Rattle.chain_store.specs.Replies.{Replies}
-use Rattle.open_shop.proofs.Saying.{noted_both}
+use Rattle.shop_drain.proofs.Saying.{noted_both}
 
 -- an answer makes no notes
 no_lines : (entries : List Entry) (ask : Asked) (sealed : Sealed) (k : Option Receipt) (r : Option Refusal) (told : Reply)

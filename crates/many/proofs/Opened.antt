@@ -9,8 +9,8 @@ use Rattle.issuers.specs.declared.parts.Part.{Part}
 use Rattle.many.specs.Desks.{AreOpened, AreOpenedOf, IsClosed, IsOpenedFor, Start}
 use Rattle.many.specs.declared.opening.Side.{Side}
 use Rattle.many.specs.declared.opening.Side.TheVariants.{Closed, Open}
-use Rattle.open_shop.specs.declared.opening.Unopened.{Unopened}
-use Rattle.open_shop.specs.declared.posts.Post.{Post}
+use Rattle.shop_drain.specs.declared.opening.Unopened.{Unopened}
+use Rattle.shop_drain.specs.declared.posts.Post.{Post}
 
 pub reverse_push : {X : Type 0} (xs all : List X) (x : X) → all ≡ xs ++ x ∷ [] → reverse all ≡ x ∷ reverse xs
 reverse_push xs all x is = ap reverse is ∙ reverse-append xs (x ∷ [])

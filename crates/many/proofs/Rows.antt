@@ -29,33 +29,35 @@ use Rattle.chain_store.specs.Store.{clock_of, journal_of, state_of}
 use Rattle.chain_store.specs.Taking.{FailsOnce}
 use Rattle.chain_store.specs.declared.store.Store.{Store}
 use Rattle.issuers.specs.declared.parts.Part.{Part}
-use Rattle.open_shop.specs.Beside.{IsUnbegun}
-use Rattle.shop_commands.specs.Chain.{Played}
-use Rattle.open_shop.specs.Crashes.{StandsSince}
-use Rattle.open_shop.specs.Devices.{Agencies, agency_desk, agency_in, agency_kind, disk_in, sleeper_in}
-use Rattle.shop_commands.specs.Drain.{AgreesAtStart, first_moment, tells_moment}
-use Rattle.open_shop.specs.Draining.{OpensSession, Outcome, StoreDrains, disk_span, spanning}
+use Rattle.shop_drain.specs.Opening.{IsUnbegun}
+use Rattle.command_ends.specs.Played.{Played}
+use Rattle.shop_drain.specs.Crashes.{StandsSince}
+use Rattle.shop_drain.specs.Devices.{Agencies, agency_in, disk_in, sleeper_in}
+use Rattle.sender_session.specs.Kinds.{agency_desk, agency_kind}
+use Rattle.shop_drain.specs.Draining.{AgreesAtStart}
+use Rattle.shop_drain.specs.Devices.{first_moment, tells_moment}
+use Rattle.shop_drain.specs.Draining.{OpensSession, Outcome, StoreDrains, disk_span, spanning}
 use Rattle.many.specs.Ends.{IsBegunAlone, IsDrained, OwnRowEnds, Row, StaysClosed, Works, up_to}
 use Rattle.many.specs.Blocks.{answered_block, closed_block, issuer_end}
 use Rattle.many.specs.Desks.{IsClosed, Start}
 use Rattle.many.specs.Kept.{HistoryKept, SessionKept}
 use Rattle.many.specs.Tasks.{IsAnswered, IsTaskOf, TellsReplies}
 use Rattle.many.specs.Work.{BeginsOnly, DoesClosed, DoesOpen, DoesTask, Drained, EndsTold, Told, this_sleeper}
-use Rattle.open_shop.specs.Opening.{IsUnopened}
-use Rattle.open_shop.specs.Outcomes.{outcome_of}
+use Rattle.shop_drain.specs.Opening.{IsUnopened}
+use Rattle.shop_drain.specs.Outcomes.{outcome_of}
 use Rattle.many.specs.declared.working.Done.{Done}
 use Rattle.many.specs.declared.working.Task.{Task}
 use Rattle.many.specs.declared.working.Task.TheVariants.{Closed, Open}
-use Rattle.open_shop.specs.declared.opening.Opened.{Opened}
-use Rattle.open_shop.specs.declared.opening.Unopened.{Unopened}
-use Rattle.open_shop.specs.declared.posts.Post.{Post}
-use Rattle.open_shop.proofs.Finishing.{kept_since}
+use Rattle.shop_drain.specs.declared.opening.Opened.{Opened}
+use Rattle.shop_drain.specs.declared.opening.Unopened.{Unopened}
+use Rattle.shop_drain.specs.declared.posts.Post.{Post}
+use Rattle.shop_drain.proofs.Finishing.{kept_since}
 use Rattle.many.proofs.NoNotes.{notes_nothing}
 use Rattle.many.proofs.Causes.{EndBy, Late, complete_drained, end_by, ends_alone, late_drained, memory_tells, noted_drained}
 use Rattle.many.proofs.Causes.{risen_drained, rose_alone}
 use Rattle.many.proofs.Causes.EndBy.{by_memory}
 use Rattle.many.proofs.Kept.{agree_there, front_legal, history_alone, history_drained, session_alone, session_drained}
-use Rattle.shop_commands.proofs.RunEnding.{keeps_file, or_so, stops_from}
+use Rattle.command_ends.proofs.RunEnding.{keeps_file, or_so, stops_from}
 
 tells_fault : (before behind : Replies) → list_any is_disk_fault (before ++ Err store_fault.DiskFault ∷ behind) ≡ true
 tells_fault [] behind = refl

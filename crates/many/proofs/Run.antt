@@ -22,8 +22,8 @@ use Rattle.many.specs.Pairwise.{Both}
 use Rattle.many.specs.declared.opening.Desks.{Desks}
 use Rattle.many.specs.declared.working.Done.{Done}
 use Rattle.many.specs.declared.working.Job.{Job}
-use Rattle.open_shop.specs.declared.posts.Post.{Post}
-use Rattle.open_shop.proofs.Each.{all_of_each, each_of_all, each_unmap}
+use Rattle.shop_drain.specs.declared.posts.Post.{Post}
+use Rattle.sender_session.proofs.Lists.{all_of_each, each_of_all, each_unmap}
 use Rattle.many.proofs.Rows.{row_ends, row_of}
 
 module _ {D C Z G : Type 0} (d : disk.Ghosts D) (c : clock.Ghosts C) where

@@ -9,9 +9,9 @@ use Rattle.chain_disk.specs.declared.disk.Disk as disk
 use Rattle.agency_rules.specs.contracts.plans.Plan as plan
 use Rattle.issuers.specs.contracts.parts.Part as part
 use Rattle.script.specs.contracts.scripts.Script as script
-use Rattle.open_shop.specs.contracts.opening.Opened as opened
-use Rattle.open_shop.specs.contracts.opening.Unopened as unopened
-use Rattle.open_shop.specs.contracts.posts.Post as post
+use Rattle.shop_drain.specs.contracts.opening.Opened as opened
+use Rattle.shop_drain.specs.contracts.opening.Unopened as unopened
+use Rattle.shop_drain.specs.contracts.posts.Post as post
 use Rattle.many.specs.contracts.working.Done as done
 use Rattle.many.specs.contracts.working.Job as job
 use Rattle.many.specs.contracts.working.Task as task

@@ -24,7 +24,7 @@ use Rattle.many.specs.declared.opening.Side.TheVariants as side
 use Rattle.many.specs.declared.working.Job.{Job}
 use Rattle.many.specs.declared.working.Task.{Task}
 use Rattle.many.specs.declared.working.Task.TheVariants as task
-use Rattle.open_shop.proofs.Each.{all_of_each, each_of_all}
+use Rattle.sender_session.proofs.Lists.{all_of_each, each_of_all}
 
 tells_by : (answers : List OfficeAnswer) (r : Result (Unit {0}) NoMemory) (index : ℕ) (told : Told) → TellsIf answers r index told →
     TellsReplies (replies_to index answers) r told

@@ -8,7 +8,7 @@ use Rattle.issuers.specs.declared.parts.Part.{Part}
 use Rattle.many.specs.Times.{AreOwnPosts, IsGivenBack, IsOwnPost}
 use Rattle.many.specs.Pairwise.{Both}
 use Rattle.many.specs.declared.own_clock.OwnClock.{OwnClock}
-use Rattle.open_shop.specs.declared.posts.Post.{Post}
+use Rattle.shop_drain.specs.declared.posts.Post.{Post}
 use Rattle.many.proofs.Opened.{reverse_push}
 
 module _ {D C Z G : Type 0} (coming : C → ℕ → Option ℕ) where

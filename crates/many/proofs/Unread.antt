@@ -9,10 +9,10 @@ use Rattle.agency_port.specs.declared.agency.Agency as agency
 use Rattle.many.specs.Ends.{LeftPosts, ManyEnds}
 use Rattle.many.specs.Ends.ManyEnds.{bad_line, no_memory, read_fault, too_big}
 use Rattle.many.specs.Scripts.{PartsRead}
-use Rattle.shop_commands.specs.Scripts.{no_script_end}
-use Rattle.open_shop.specs.declared.posts.Post.{Post}
-use Rattle.shop_commands.specs.declared.scripts.NoScript.{NoScript}
-use Rattle.shop_commands.specs.declared.scripts.NoScript.TheVariants as no_script
+use Rattle.command_ends.specs.Scripts.{no_script_end}
+use Rattle.shop_drain.specs.declared.posts.Post.{Post}
+use Rattle.command_ends.specs.declared.scripts.NoScript.{NoScript}
+use Rattle.command_ends.specs.declared.scripts.NoScript.TheVariants as no_script
 
 pub many_unread : {D C Z G : Type 0} (d : disk.Ghosts D) (c : clock.Ghosts C) (z : sleeper.Ghosts Z) (g : agency.Ghosts G)
     (issuers : List (List ℕ)) (source : Sources) (s : Sinks) (posts after : List (Post D C Z G)) (fault : NoScript) →

@@ -13,10 +13,10 @@ use Rattle.report.specs.declared.status.Detail.{Detail}
 use Rattle.report.specs.declared.status.Detail.TheVariants as detail
 use Rattle.sender.specs.declared.answers.DrainFault.{DrainFault}
 use Rattle.shop_core.specs.Answer.Requests.{Asked}
-use Rattle.open_shop.specs.Beside.{sender_lacks_memory}
-use Rattle.open_shop.specs.Draining.{fault_end}
-use Rattle.open_shop.specs.Opening.{opening_end}
-use Rattle.shop_commands.specs.Printed.{printed}
+use Rattle.command_ends.specs.DrainEnds.{sender_lacks_memory}
+use Rattle.command_ends.specs.DrainEnds.{fault_end}
+use Rattle.shop_drain.specs.Opening.{opening_end}
+use Rattle.command_ends.specs.Printed.{printed}
 
 -- the end by what came behind the commands
 abbrev pub answer_end : Result (Unit {0}) DrainFault → Detail

@@ -8,13 +8,13 @@ use Rattle.chain_store.specs.Store.{Ready, journal_of}
 use Rattle.chain_store.specs.declared.store.Store.{Store}
 use Rattle.issuers.specs.declared.parts.Part.{Part}
 use Rattle.till_calls.specs.Root.{parts_of}
-use Rattle.open_shop.specs.Devices.{store_kind}
-use Rattle.open_shop.specs.Opening.{IsOpened, IsUnopened}
+use Rattle.sender_session.specs.Kinds.{store_kind}
+use Rattle.shop_drain.specs.Opening.{IsOpened, IsUnopened}
 use Rattle.many.specs.declared.opening.Desks.{Desks}
 use Rattle.many.specs.declared.opening.Side.{Side}
 use Rattle.many.specs.declared.opening.Side.TheVariants.{Closed, Open}
-use Rattle.open_shop.specs.declared.opening.Unopened.{Unopened}
-use Rattle.open_shop.specs.declared.posts.Post.{Post}
+use Rattle.shop_drain.specs.declared.opening.Unopened.{Unopened}
+use Rattle.shop_drain.specs.declared.posts.Post.{Post}
 
 -- an issuer as it is given: its tax number, its part of the script, and its post
 pub record Start (D C Z G : Type 0) : Type 0 where

@@ -29,18 +29,19 @@ use Rattle.shop_core.specs.History.{noted, recs}
 use Rattle.shop_core.specs.Answer.Requests.{Asked}
 use Rattle.shop_core.specs.Prefix.{IsPrefix}
 use Rattle.shop_core.specs.declared.words.Word.{Word}
-use Rattle.open_shop.specs.Beside.{IsUnbegun}
-use Rattle.shop_commands.specs.Chain.{Played}
-use Rattle.open_shop.specs.Crashes.{KeepsFile}
-use Rattle.open_shop.specs.Devices.{Agencies, LeftAgency, LeftSleeper, Sleepers, agency_in, disk_in, sleeper_in}
-use Rattle.shop_commands.specs.Drain.{AgreesAtStart, first_moment, tells_moment}
-use Rattle.open_shop.specs.Draining.{DiskSpan, OpensSession, Outcome, StoreDrains, spanning}
+use Rattle.shop_drain.specs.Opening.{IsUnbegun}
+use Rattle.command_ends.specs.Played.{Played}
+use Rattle.shop_drain.specs.Crashes.{KeepsFile}
+use Rattle.shop_drain.specs.Devices.{Agencies, LeftAgency, LeftSleeper, Sleepers, agency_in, disk_in, sleeper_in}
+use Rattle.shop_drain.specs.Draining.{AgreesAtStart}
+use Rattle.shop_drain.specs.Devices.{first_moment, tells_moment}
+use Rattle.shop_drain.specs.Draining.{DiskSpan, OpensSession, Outcome, StoreDrains, spanning}
 use Rattle.many.specs.Blocks.{answered_block, closed_block, issuer_end}
 use Rattle.many.specs.Dones.{IssuersEnd}
 use Rattle.many.specs.Kept.{HistoryKept, SessionKept}
 use Rattle.many.specs.Scripts.{AreBadParts, AreGoodParts}
-use Rattle.open_shop.specs.Opening.{IsUnopened, opening_end}
-use Rattle.open_shop.specs.declared.posts.Post.{Post}
+use Rattle.shop_drain.specs.Opening.{IsUnopened, opening_end}
+use Rattle.shop_drain.specs.declared.posts.Post.{Post}
 
 -- One issuer: its tax number, its part of the script, its post before the call and after it, its end, and its block, where there was
 -- memory for it.

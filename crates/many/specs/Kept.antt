@@ -12,10 +12,10 @@ use Rattle.agency_rules.specs.declared.plans.Plan.{Plan}
 use Rattle.once_world.specs.Agreement.{Agree}
 use Rattle.sender.specs.Turning.{Desk}
 use Rattle.chain_store.specs.Crashes.{Kept}
-use Rattle.open_shop.specs.Crashes.{StandsSince}
-use Rattle.open_shop.specs.Devices.{Agencies}
-use Rattle.shop_commands.specs.Drain.{AgreesAtStart}
-use Rattle.open_shop.specs.Draining.{AddsNotesAlone, AgreesInFile, OpensSession}
+use Rattle.shop_drain.specs.Crashes.{StandsSince}
+use Rattle.shop_drain.specs.Devices.{Agencies}
+use Rattle.shop_drain.specs.Draining.{AgreesAtStart}
+use Rattle.shop_drain.specs.Draining.{AddsNotesAlone, AgreesInFile, OpensSession}
 
 -- Each crash since the opening leaves a front of the history at the end, no shorter than the one at the start, or of that with the
 -- one entry whose writing was under way when the disk failed. Each crash now leaves all of it.

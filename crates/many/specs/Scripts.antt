@@ -6,8 +6,8 @@ use Rattle.script.specs.declared.scripts.ScriptFault.TheVariants as script_fault
 use Rattle.issuers.specs.Reading.{ManyIs}
 use Rattle.issuers.specs.declared.parts.Part.{Part}
 use Rattle.file_commands.specs.Input.{ReadAll, ReadPast, ReadFailed}
-use Rattle.shop_commands.specs.declared.scripts.NoScript.{NoScript}
-use Rattle.shop_commands.specs.declared.scripts.NoScript.TheVariants.{ReadFault, TooBig, BadLine, NoMemory}
+use Rattle.command_ends.specs.declared.scripts.NoScript.{NoScript}
+use Rattle.command_ends.specs.declared.scripts.NoScript.TheVariants.{ReadFault, TooBig, BadLine, NoMemory}
 
 -- the source was read to its end, and these are its parts, one for each of these issuers
 pub record AreGoodParts (issuers : List (List ℕ)) (s : Sources) (parts : List Part) : Type 0 where

@@ -10,17 +10,17 @@ use Rattle.issuers.specs.Parts.{HasLines}
 use Rattle.issuers.specs.declared.office.TheConstants.{MAX_ISSUERS}
 use Rattle.issuers.specs.declared.parts.Part.{Part}
 use Rattle.till_calls.specs.Root.{parts_of}
-use Rattle.open_shop.specs.Devices.{store_kind}
+use Rattle.sender_session.specs.Kinds.{store_kind}
 use Rattle.many.specs.Desks.{AreOpened, HasRoom, IsClosed, Start}
 use Rattle.many.specs.Served.{ServedAt}
 use Rattle.many.specs.Work.{Told}
-use Rattle.open_shop.specs.Opening.{IsOpened}
+use Rattle.shop_drain.specs.Opening.{IsOpened}
 use Rattle.many.specs.declared.opening.Desks.{Desks}
 use Rattle.many.specs.declared.running.Room.{Room}
 use Rattle.many.specs.declared.working.Job.{Job}
 use Rattle.many.specs.declared.working.Task.{Task}
 use Rattle.many.specs.declared.working.Task.TheVariants.{Closed, Open}
-use Rattle.open_shop.specs.declared.opening.Opened.{Opened}
+use Rattle.shop_drain.specs.declared.opening.Opened.{Opened}
 
 -- room for so many issuers, of whom none stands there yet
 pub record HasRoomFor {D C Z G : Type 0} {g : disk.Ghosts D} (count : ℕ) (room : Room D C Z G g) : Type 0 where

@@ -7,7 +7,7 @@ use Rattle.many.specs.Tasks.{HasRoomFor}
 use Rattle.many.specs.OwnClock.{coming_of}
 use Rattle.many.specs.declared.command.Rooms.{Rooms}
 use Rattle.many.specs.declared.own_clock.OwnClock.{OwnClock}
-use Rattle.open_shop.specs.declared.posts.Post.{Post}
+use Rattle.shop_drain.specs.declared.posts.Post.{Post}
 
 -- the post by a clock whose coming answers are those of the post's own, or of the part's clock line
 pub record IsOwnPost {D C Z G : Type 0} (coming : C → ℕ → Option ℕ) (part : Part) (post : Post D C Z G)

@@ -18,20 +18,21 @@ use Rattle.report.specs.declared.status.Detail.{Detail}
 use Rattle.report.specs.declared.status.Detail.TheVariants as detail
 use Rattle.sender.specs.declared.answers.DrainFault.TheVariants as drain
 use Rattle.till_calls.specs.Root.{parts_of}
-use Rattle.open_shop.specs.Beside.{IsUnbegun}
-use Rattle.open_shop.specs.Devices.{Sleepers, agency_desk, agency_kind}
-use Rattle.shop_commands.specs.Drain.{first_moment, tells_moment}
-use Rattle.open_shop.specs.Draining.{OpensSession, StoreDrains, disk_span, spanning}
+use Rattle.shop_drain.specs.Opening.{IsUnbegun}
+use Rattle.shop_drain.specs.Devices.{Sleepers}
+use Rattle.sender_session.specs.Kinds.{agency_desk, agency_kind}
+use Rattle.shop_drain.specs.Devices.{first_moment, tells_moment}
+use Rattle.shop_drain.specs.Draining.{OpensSession, StoreDrains, disk_span, spanning}
 use Rattle.many.specs.Blocks.{answered_block, closed_block, issuer_end}
-use Rattle.open_shop.specs.Opening.{opening_end}
-use Rattle.open_shop.specs.Outcomes.{outcome_of}
-use Rattle.open_shop.specs.declared.draining.DrainEnd.{DrainEnd}
+use Rattle.shop_drain.specs.Opening.{opening_end}
+use Rattle.shop_drain.specs.Outcomes.{outcome_of}
+use Rattle.shop_drain.specs.declared.draining.DrainEnd.{DrainEnd}
 use Rattle.many.specs.declared.working.Done.{Done}
 use Rattle.many.specs.declared.working.Job.{Job}
 use Rattle.many.specs.declared.working.Task.{Task}
 use Rattle.many.specs.declared.working.Task.TheVariants.{Closed, Open}
-use Rattle.open_shop.specs.declared.opening.Opened.{Opened}
-use Rattle.open_shop.specs.declared.opening.Unopened.{Unopened}
+use Rattle.shop_drain.specs.declared.opening.Opened.{Opened}
+use Rattle.shop_drain.specs.declared.opening.Unopened.{Unopened}
 
 -- the replies to an issuer's asks, where there was memory for them
 abbrev pub Told : Type 0

@@ -3,28 +3,18 @@ ghost use Rattle.std.specs.Prelude.{◌≡◌, ◌++◌, IfOk, OnOk, Ok, map};
 ghost use Rattle.shop_core.specs.Answer.Requests.{Asked};
 ghost use Rattle.report.specs.Status.{status_of};
 ghost use Rattle.many.specs.Blocks as spec;
-ghost use Rattle.open_shop.specs.Beside.{sender_lacks_memory as lacks};
 
 use chain_store::OpenCause;
+use command_ends::{fault_end, lacks_disk, lacks_memory, sender_lacks_memory, told_of};
 use journal::StoreFault;
-use open_shop::opening_end;
 use parties::Nif;
 use ports::NoMemory;
 use record_fields::Text;
 use report::{Closed, Detail, closed_text, ended_text, issuer_text, status_of};
 use sender::DrainFault;
-use shop_commands::{fault_end, lacks_disk, lacks_memory, told_of};
 use shop_core::{Ask, Reply, State};
+use shop_drain::opening_end;
 use std::alloc::{AllocError, Global};
-
-fn sender_lacks_memory(answer: &Result<(), DrainFault>) -> bool
-    ensures { result ≡ lacks answer.now }
-{
-    match answer {
-        Err(DrainFault::NoMemory | DrainFault::Store(StoreFault::NoMemory)) => true,
-        _ => false,
-    }
-}
 
 fn answer_end(answer: &Result<(), DrainFault>) -> Detail
     ensures { result ≡ spec.answer_end answer.now }

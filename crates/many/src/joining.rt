@@ -13,9 +13,9 @@ use chain_disk::Disk;
 use chain_store::Store;
 use issuers::{OfficeAnswers, Part};
 use journal::StoreFault;
-use open_shop::Opened;
 use ports::{Clock, NoMemory};
 use shop_core::Reply;
+use shop_drain::Opened;
 use std::alloc::Global;
 
 // The replies to the issuer of this index, where there was memory for all answers.

@@ -5,9 +5,9 @@ ghost use Rattle.many.specs.Desks.{AreOpened, AreOpenedOf, HasRoom, Start};
 use chain_disk::Disk;
 use chain_store::Store;
 use issuers::Part;
-use open_shop::{Opened, Post, Unopened, open};
 use parties::Nif;
 use ports::{Clock, NoMemory};
+use shop_drain::{Opened, Post, Unopened, open};
 use std::alloc::Global;
 
 /// What an issuer has besides its store.

@@ -4,12 +4,12 @@ ghost use Rattle.ports.specs.Sources.{this_source};
 ghost use Rattle.issuers.specs.Parts.{HasLines};
 ghost use Rattle.many.specs.Scripts.{PartsRead};
 
+use command_ends::NoScript;
 use file_commands::{InputFault, read_input};
 use issuers::{Parts, read_many};
 use parties::Nif;
 use ports::Source;
 use script::ScriptFault;
-use shop_commands::NoScript;
 use std::alloc::Global;
 
 /// The parts of the script that the source is, one for each of these issuers. The source is read to its end.

@@ -9,10 +9,10 @@ use crate::opening::turned;
 use crate::working::{Done, Job};
 use chain_disk::Disk;
 use file_commands::write_texts;
-use open_shop::Post;
 use ports::{Clock, Failed, NoMemory, Sink};
 use record_fields::Text;
 use report::{Detail, status_of};
+use shop_drain::Post;
 use std::alloc::Global;
 
 // Adds a block, where there was memory for it.

@@ -12,9 +12,6 @@ use agency_rules::Plan;
 use chain_disk::Disk;
 use issuers::Part;
 use journal::StoreFault;
-use open_shop::{
-    DrainEnd, Opened, Post, Unopened, begin_session, close, drain_opened, opening_end,
-};
 use parties::Nif;
 use ports::{Clock, LeapSleeper, NoMemory, Sleeper};
 use record_fields::Text;
@@ -22,6 +19,9 @@ use report::Detail;
 use script::Script;
 use sender::DrainFault;
 use shop_core::Reply;
+use shop_drain::{
+    DrainEnd, Opened, Post, Unopened, begin_session, close, drain_opened, opening_end,
+};
 use std::alloc::Global;
 use std::sync::Wait;
 use std::thread::{Threads, for_each_mut};

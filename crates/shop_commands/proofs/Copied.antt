@@ -1,6 +1,6 @@
 -- A copy that is brought up to an opened file, or why it isn't.
-use Rattle.std.proofs.Common.{◌≡◌, ◌∙◌, inl, inr, refl, sym, ap, subst, subst₂, arith, ℕ, ◌+◌, ◌≤◌, List, length}
-use Rattle.std.proofs.Common.{Bool, IsTrue, None, Result, Ok, Err}
+use Rattle.std.proofs.Common.{◌≡◌, ◌∙◌, inl, inr, refl, sym, ap, subst, subst₂, arith, ℕ, ◌+◌, ◌≤◌, List, length, Bool, IsTrue}
+use Rattle.std.proofs.Common.{None, Result, Ok, Err}
 use Rattle.std.specs.Prelude.{IfErr, IfOk}
 use Rattle.chain_disk.specs.Disks.{Disks, this_disk}
 use Rattle.chain_disk.specs.OnDisk.{IsImage, LeavesOnly, OnDisk, synced}

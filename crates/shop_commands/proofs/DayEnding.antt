@@ -1,6 +1,6 @@
 -- How a day ends, and what its clause says of the whole call.
-use Rattle.std.proofs.Common.{◌≡◌, ◌⊎◌, inl, inr, ℕ, ◌+◌, ◌-◌, ◌^◌, ◌<◌, ◌≤◌, List, length, map, sym, ◌∙◌, ap}
-use Rattle.std.proofs.Common.{subst, refl, arith, true, false, IsTrue, Option, Some, None, Err}
+use Rattle.std.proofs.Common.{◌≡◌, ◌⊎◌, inl, inr, ℕ, ◌+◌, ◌-◌, ◌^◌, ◌<◌, ◌≤◌, List, length, map, sym, ◌∙◌, ap, subst, refl}
+use Rattle.std.proofs.Common.{arith, true, false, IsTrue, Option, Some, None, Err}
 use Rattle.std.specs.Prelude.{◌≢◌, IsErrOf}
 use Rattle.std.specs.List.{AllByRecursion, range_with_len}
 use Rattle.std.proofs.lemmas.List.Elements.{filter_passes}
@@ -15,20 +15,21 @@ use Rattle.script.specs.declared.forms.Form.TheVariants.{Full}
 use Rattle.script.specs.declared.scripts.Script.{Script}
 use Rattle.shop_core.specs.Answer.Requests.{Asked}
 use Rattle.shop_core.specs.History.{recs, noted}
-use Rattle.open_shop.specs.Beside.{DayRunEnds, ShowsLast}
-use Rattle.open_shop.specs.Beside.DayRunEnds.{done, write_fault, undelivered, contradiction, disk_fault, no_memory}
-use Rattle.shop_commands.specs.Day.{DayEnds, DayServed, FileDay}
-use Rattle.shop_commands.specs.Day.{Outcome, day_of, day_text}
-use Rattle.open_shop.specs.Days.{Day, TillReplies, all_replies}
+use Rattle.shop_commands.specs.SenderEnds.{DayRunEnds}
+use Rattle.sender_session.specs.Contradictions.{ShowsLast}
+use Rattle.shop_commands.specs.SenderEnds.DayRunEnds.{done, write_fault, undelivered, contradiction, disk_fault, no_memory}
+use Rattle.shop_commands.specs.Day.{DayEnds, DayServed, FileDay, Outcome, day_of, day_text}
+use Rattle.sender_beside.specs.Days.{Day, TillReplies, all_replies}
 use Rattle.chain_store.specs.Clocks.{Clocks, LeftClock}
-use Rattle.open_shop.specs.Devices.{AllDevices, Around, LeftSleeper, Sleepers, around}
-use Rattle.shop_commands.specs.Drain.{AgreesAtStart, AllLeft, NothingRose}
+use Rattle.shop_drain.specs.Devices.{AllDevices, Around, LeftSleeper, Sleepers, around}
+use Rattle.shop_drain.specs.Draining.{AgreesAtStart}
+use Rattle.shop_commands.specs.Drain.{AllLeft, NothingRose}
 use Rattle.chain_store.specs.Readings.{readings_of}
-use Rattle.shop_commands.specs.Scripts.{IsGoodScript}
-use Rattle.shop_commands.specs.Scripts.ScriptedEnds.{ran}
-use Rattle.open_shop.specs.Tills.{StopIs, has_asks, tills_of}
-use Rattle.open_shop.proofs.Each.{each_of_all, each_unmap, each_weaker}
-use Rattle.shop_commands.proofs.RunEnding.{not_opened_by, rose_opening}
+use Rattle.command_ends.specs.Scripts.{IsGoodScript}
+use Rattle.command_ends.specs.Scripts.ScriptedEnds.{ran}
+use Rattle.sender_beside.specs.Tills.{StopIs, has_asks, tills_of}
+use Rattle.sender_session.proofs.Lists.{each_of_all, each_unmap, each_weaker}
+use Rattle.command_ends.proofs.RunEnding.{not_opened_by, rose_opening}
 use Rattle.shop_commands.proofs.ShopDays.{IsDayOf, agency_by, crashes_by, history_by, rose_day, sender_by, tills_by}
 
 -- a till that asks for nothing is none of the tills that ask

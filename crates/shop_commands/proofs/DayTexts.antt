@@ -11,15 +11,16 @@ use Rattle.sender.specs.declared.answers.DrainFault.{DrainFault}
 use Rattle.sender.specs.declared.answers.DrainFault.TheVariants as drain
 use Rattle.shop_core.specs.Answer.Requests.{Asked}
 use Rattle.shop_core.specs.declared.answer.Reply.{Reply}
-use Rattle.open_shop.specs.Beside.{DayRunEnds, sender_end, sender_lacks_memory}
-use Rattle.open_shop.specs.Beside.DayRunEnds.{undelivered, contradiction, disk_fault, no_memory}
-use Rattle.open_shop.specs.Draining.{IsDiskAnswer}
-use Rattle.shop_commands.specs.Printed.{answers}
+use Rattle.shop_commands.specs.SenderEnds.{DayRunEnds, sender_end}
+use Rattle.command_ends.specs.DrainEnds.{sender_lacks_memory}
+use Rattle.shop_commands.specs.SenderEnds.DayRunEnds.{undelivered, contradiction, disk_fault, no_memory}
+use Rattle.sender_session.specs.Session.{IsDiskAnswer}
+use Rattle.command_ends.specs.Printed.{answers}
 use Rattle.chain_store.specs.Replies.{AllReplied, is_no_memory}
-use Rattle.open_shop.specs.Days.{TillReplies, all_replies}
-use Rattle.open_shop.specs.Works.{told_in}
-use Rattle.open_shop.specs.declared.tills.TillDay.{TillDay}
-use Rattle.shop_commands.proofs.Finished.{either_part}
+use Rattle.sender_beside.specs.Days.{TillReplies, all_replies}
+use Rattle.shop_day.specs.Jobs.{told_in}
+use Rattle.shop_day.specs.declared.tills.TillDay.{TillDay}
+use Rattle.command_ends.proofs.DrainAnswers.{either_part}
 
 -- without replies there are no answers
 pub no_answers : (asks : List Asked) (replies : List (Result Reply StoreFault)) → length replies < 1 → answers asks replies ≡ []

@@ -1,33 +1,30 @@
 -- How a drain of a file ends.
-use Rattle.std.proofs.Common.{◌≡◌, ◌∙◌, ◌⊎◌, inl, inr, refl, sym, subst, arith, ℕ, ◌+◌, ◌-◌, ◌^◌, ◌<◌, ◌≤◌, List}
-use Rattle.std.proofs.Common.{Bool, true, IsTrue, Option, Some, None, Result, Ok, Err}
-use Rattle.ports.specs.Sinks.{FailedIn, OutputIs, Sinks, Wrote, WrotePart}
-use Rattle.ports.specs.declared.faults.Failed.{Failed}
+use Rattle.std.proofs.Common.{◌≡◌, ◌∙◌, ◌⊎◌, inl, inr, refl, sym, subst, arith, ℕ, ◌+◌, ◌-◌, ◌^◌, ◌<◌, ◌≤◌, List, Bool, true}
+use Rattle.std.proofs.Common.{IsTrue, Option, Some, None}
+use Rattle.ports.specs.Sinks.{Sinks}
 use Rattle.journal.specs.declared.faults.StoreFault.TheVariants as store
 use Rattle.chain_disk.specs.Disks.{DiskRose, Disks}
 use Rattle.chain_disk.specs.OnDisk.{OnDisk, LeavesOnly, synced}
 use Rattle.record_fields.specs.declared.versions.Version.{Version}
 use Rattle.record_codec.specs.declared.entry.Entry.{Entry}
 use Rattle.agency_rules.specs.declared.plans.Plan.{Plan}
-use Rattle.sender.specs.declared.answers.DrainFault.{DrainFault}
 use Rattle.sender.specs.declared.answers.DrainFault.TheVariants as drain
 use Rattle.sender.specs.declared.draining.TheConstants.{MAX_LINK_FAULTS}
 use Rattle.recovery.specs.Opening.{IsFound}
 use Rattle.script.specs.declared.scripts.Script.{Script}
 use Rattle.report.specs.declared.status.Detail.{Detail}
 use Rattle.report.specs.declared.status.Detail.TheVariants as detail
-use Rattle.open_shop.specs.Crashes.{StandsSince}
+use Rattle.shop_drain.specs.Crashes.{StandsSince}
 use Rattle.chain_store.specs.Clocks.{Clocks, LeftClock}
-use Rattle.open_shop.specs.Devices.{Agencies, LeftSleeper, Sleepers}
-use Rattle.shop_commands.specs.Drain.{AgreesAtStart, AllLeft, FileDrainEnds, FileDrained, LeavesTime, NothingRose, ScriptDrainEnds}
-use Rattle.shop_commands.specs.Drain.{file_span, first_moment, tells_moment}
-use Rattle.open_shop.specs.Draining.{DiskSpan, DrainRunEnds, Outcome, Span, StoreDrainEnds, StoreDrains, drain_text, fault_end}
-use Rattle.open_shop.specs.Draining.{spanning}
-use Rattle.open_shop.specs.Draining.DrainRunEnds.{done, write_fault, undelivered, contradiction, disk_fault, no_memory}
-use Rattle.open_shop.specs.Opening.{NotOpened}
-use Rattle.shop_commands.proofs.Bytewise.{part_of_output}
-use Rattle.shop_commands.proofs.RunEnding.{not_opened_by, rose_opening, written_either}
-use Rattle.open_shop.proofs.Closing.{never_contrary, since_opening, undelivered_by}
+use Rattle.shop_drain.specs.Devices.{Agencies, LeftSleeper, Sleepers, first_moment, tells_moment}
+use Rattle.shop_drain.specs.Draining.{AgreesAtStart, DiskSpan, Outcome, Span, StoreDrains, spanning}
+use Rattle.shop_commands.specs.Drain.{AllLeft, FileDrainEnds, FileDrained, LeavesTime, NothingRose, ScriptDrainEnds, file_span}
+use Rattle.shop_commands.specs.Drain.{StoreDrainEnds, drain_text}
+use Rattle.command_ends.specs.DrainEnds.{DrainRunEnds}
+use Rattle.command_ends.specs.DrainEnds.DrainRunEnds.{done, write_fault, undelivered, contradiction, disk_fault, no_memory}
+use Rattle.shop_drain.specs.Opening.{NotOpened}
+use Rattle.command_ends.proofs.RunEnding.{not_opened_by, rose_opening}
+use Rattle.shop_drain.proofs.Closing.{never_contrary, since_opening, undelivered_by}
 
 module _ {D G : Type 0} (version : Version) (issuer : List ℕ) (plan : Plan) (exact : Bool) (moment : ℕ) (s : Sinks) (k : Disks D) (a : Agencies G)
     (start : List Entry) (o : Outcome)
@@ -150,25 +147,3 @@ module _ {D C Z G : Type 0} (issuer : List ℕ) (script : Script) (s : Sinks) (k
       }) n)
       timed (inr f) = inr (subst (λ (b : Bool). FileDrained issuer script.plan b line.0 s k a end) exact
           (subst (λ (m : ℕ). FileDrained issuer script.plan leap.tells m s k a end) at f))
-
-pub either_part : (s : Sinks) (text : List ℕ) → Wrote s text ⊎ FailedIn s text → WrotePart s text
-either_part s text (inl whole) = part_of_output s text (Ok tt) whole
-either_part s text (inr failed) = failed.part
-
--- the end of a drain that failed
-pub fault_ends : (fault : DrainFault) (text : List ℕ) (s : Sinks) → Wrote s text ⊎ FailedIn s text → DrainRunEnds (Err fault) text
-    s (fault_end fault)
-fault_ends (drain.Undelivered n r) text s w = undelivered n r refl w
-fault_ends (drain.Contradiction evidence) text s w = contradiction evidence refl w
-fault_ends (drain.Store store.DiskFault) text s w = disk_fault tt w
-fault_ends (drain.Store (store.Stopped faults)) text s w = disk_fault tt w
-fault_ends (drain.Store store.NoMemory) text s w = no_memory (either_part s text w)
-fault_ends drain.NoMemory text s w = no_memory (either_part s text w)
-
-pub answer_ends : (answer : Result (Unit {0}) DrainFault) (fault : DrainFault) (text : List ℕ) (s : Sinks)
-    (written : Result (Unit {0}) Failed) (end : Detail) → answer ≡ Err fault → end ≡ fault_end fault → OutputIs s text written →
-    DrainRunEnds answer text s end
-answer_ends answer fault text s written end is ends h =
-    subst (λ (r : Result (Unit {0}) DrainFault). DrainRunEnds r text s end) (sym is)
-    (subst (λ (d : Detail). DrainRunEnds (Err fault) text s d) (sym ends)
-    (fault_ends fault text s (written_either text s written h)))

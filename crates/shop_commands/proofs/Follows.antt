@@ -1,6 +1,6 @@
 -- A copy that follows a file: what each crash leaves of it, and how that ended.
-use Rattle.std.proofs.Common.{◌≡◌, inl, inr, ℕ, ◌+◌, ◌≤◌, List, [], ◌∷◌, ◌++◌, length, refl, sym, ◌∙◌, ap, subst, subst₂, arith, Bool, IsTrue}
-use Rattle.std.proofs.Common.{Result, Ok, Err, None}
+use Rattle.std.proofs.Common.{◌≡◌, inl, inr, ℕ, ◌+◌, ◌≤◌, List, [], ◌∷◌, ◌++◌, length, refl, sym, ◌∙◌, ap, subst, subst₂, arith}
+use Rattle.std.proofs.Common.{Bool, IsTrue, Result, Ok, Err, None}
 use Rattle.chain_disk.specs.Disks.{DiskRose, Disks, this_disk}
 use Rattle.chain_disk.specs.OnDisk.{OnDisk, IsImage, IsSyncFailed, LeavesNow, LeavesOnly, synced}
 use Rattle.chain_disk.specs.Runs.{Reached, follows, on_sync, on_sync_failed, settled_image, started, weaker}
@@ -27,9 +27,8 @@ use Rattle.standby.specs.declared.causes.StandbyCause.TheVariants as cause
 use Rattle.standby.specs.Catching.{CatchesUp, IsFirstApart}
 use Rattle.standby.specs.Chains.{ChainOnDisk}
 use Rattle.standby.specs.Following.{IsFollowing}
-use Rattle.shop_commands.specs.Follow.{BesideNothing, BringsUp, CountsPrinted, FollowEnds, HasNoEntry}
-use Rattle.shop_commands.specs.Follow.{IsFollowImage, LeftOrFollowed, OnlyFollowed}
-use Rattle.shop_commands.specs.Follow.{fault_end, load_end, start_end}
+use Rattle.shop_commands.specs.Follow.{BesideNothing, BringsUp, CountsPrinted, FollowEnds, HasNoEntry, IsFollowImage}
+use Rattle.shop_commands.specs.Follow.{LeftOrFollowed, OnlyFollowed, fault_end, load_end, start_end}
 use Rattle.shop_commands.specs.Follow.FollowEnds.{copy_damaged, disk_fault, file_damaged, followed, no_memory, nothing, parted}
 use Rattle.shop_commands.specs.Follow.IsFollowImage.{as_before, front, not_begun}
 use Rattle.shop_commands.specs.Follow.IsParted.{at_entry, of_nothing, of_other}

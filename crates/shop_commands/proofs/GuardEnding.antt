@@ -22,21 +22,23 @@ use Rattle.shop_core.specs.File.Files.{StandsFor}
 use Rattle.shop_core.specs.Prefix.{IsPrefix}
 use Rattle.standby.specs.Chains.{ChainOnDisk}
 use Rattle.till_calls.specs.Root.{Parts}
-use Rattle.open_shop.specs.Crashes.{StandsSince}
-use Rattle.open_shop.specs.Devices.{Agencies, LeftSleeper, Sleepers, StoreKind}
-use Rattle.shop_commands.specs.Drain.{AgreesAtStart, NothingRose, file_span, first_moment, tells_moment}
-use Rattle.open_shop.specs.Draining.{AddsNotesAlone, DiskSpan, DrainRunEnds, Outcome, Span, spanning}
-use Rattle.open_shop.specs.Draining.DrainRunEnds.{done, write_fault, undelivered, contradiction, disk_fault, no_memory}
+use Rattle.shop_drain.specs.Crashes.{StandsSince}
+use Rattle.shop_drain.specs.Devices.{Agencies, LeftSleeper, Sleepers, first_moment, tells_moment}
+use Rattle.sender_session.specs.Kinds.{StoreKind}
+use Rattle.shop_drain.specs.Draining.{AgreesAtStart, AddsNotesAlone, DiskSpan, Outcome, Span, spanning}
+use Rattle.shop_commands.specs.Drain.{NothingRose, file_span}
+use Rattle.command_ends.specs.DrainEnds.{DrainRunEnds}
+use Rattle.command_ends.specs.DrainEnds.DrainRunEnds.{done, write_fault, undelivered, contradiction, disk_fault, no_memory}
 use Rattle.shop_commands.specs.Follow.{IsFollowImage}
 use Rattle.shop_commands.specs.Follow.IsFollowImage.{as_before, not_begun, front as image_front}
 use Rattle.shop_commands.specs.Guard.{FileGuardEnds, FileGuarded, GuardsFile, IsCopied, IsUncopied, LeftUncopied, NotCopied}
 use Rattle.shop_commands.specs.Guard.{GuardImage, ScriptGuardEnds, guard_text, whole_span}
 use Rattle.shop_commands.specs.Guard.IsUncopied.{disk_fault as copy_fault}
-use Rattle.open_shop.specs.Guarding.{ChainDrained, GuardDrains, Held}
-use Rattle.open_shop.specs.Opening.{IsOpened}
-use Rattle.open_shop.proofs.Closing.{never_in, undelivered_in}
-use Rattle.open_shop.proofs.Finishing.{since_found}
-use Rattle.shop_commands.proofs.RunEnding.{not_opened_by, rose_opening}
+use Rattle.shop_drain.specs.Guarding.{ChainDrained, GuardDrains, Held}
+use Rattle.shop_drain.specs.Opening.{IsOpened}
+use Rattle.shop_drain.proofs.Closing.{never_in, undelivered_in}
+use Rattle.shop_drain.proofs.Finishing.{since_found}
+use Rattle.command_ends.proofs.RunEnding.{not_opened_by, rose_opening}
 
 pub front_on : (xs ys zs : List Entry) → IsPrefix xs ys → IsPrefix ys zs → IsPrefix xs zs
 front_on xs ys zs p q = record {

@@ -1,5 +1,4 @@
-pub mod Bytewise
-pub mod RunEnding
+pub mod ChainEnding
 pub mod Finished
 pub mod ShopDays
 pub mod DayEnding

@@ -1,6 +1,6 @@
 -- How a dialogue with the tills of a shop ends, and what the clause of `serve` says of the whole call.
-use Rattle.std.proofs.Common.{◌≡◌, ◌⊎◌, inl, inr, ℕ, ◌+◌, ◌-◌, ◌^◌, ◌<◌, ◌≤◌, List, [], length, map, sym, ◌∙◌, ap}
-use Rattle.std.proofs.Common.{subst, refl, arith, Bool, true, false, IsTrue, Option, Some, None, Result, Ok, Err}
+use Rattle.std.proofs.Common.{◌≡◌, ◌⊎◌, inl, inr, ℕ, ◌+◌, ◌-◌, ◌^◌, ◌<◌, ◌≤◌, List, [], length, map, sym, ◌∙◌, ap, subst, refl}
+use Rattle.std.proofs.Common.{arith, Bool, true, false, IsTrue, Option, Some, None, Result, Ok, Err}
 use Rattle.std.specs.Prelude.{IsErrOf, drop}
 use Rattle.std.specs.Io.KnownBytes.{Consumes}
 use Rattle.std.specs.List.{list_any, range_with_len}
@@ -33,20 +33,23 @@ use Rattle.shop_core.specs.File.Files.{StandsFor}
 use Rattle.shop_core.specs.History.{History, recs, noted}
 use Rattle.shop_core.specs.Rising.{SerialsRise}
 use Rattle.till_calls.specs.Root.{Parts, root_of}
-use Rattle.open_shop.specs.Beside.{IsUnbegun, ShowsLast}
+use Rattle.shop_drain.specs.Opening.{IsUnbegun, IsOpened}
+use Rattle.sender_session.specs.Contradictions.{ShowsLast}
 use Rattle.shop_commands.specs.Day.{Outcome, day_with}
-use Rattle.open_shop.specs.Days.{Day, TillReplies, all_replies}
-use Rattle.open_shop.specs.Devices.{Agencies, AllDevices, Around, LeftSleeper, Sleepers, StoreKind, around}
-use Rattle.shop_commands.specs.Drain.{AgreesAtStart, NothingRose}
-use Rattle.open_shop.specs.Draining.{IsDiskAnswer, OpensSession}
-use Rattle.open_shop.specs.Opening.{IsOpened}
-use Rattle.shop_commands.specs.Serve.{Closes, FileServe, ServeEnds, ServeWays, SpeechEnds, SpeechServed}
-use Rattle.open_shop.specs.Talking.{CounterRun, IsSpeech, Speech}
-use Rattle.shop_commands.specs.Serve.{printed, source_since}
-use Rattle.shop_commands.specs.Serve.SpeechEnds.{done, read_fault, write_fault, undelivered, contradiction, disk_fault, no_memory}
-use Rattle.open_shop.specs.Tills.{has_asks, own_of}
-use Rattle.shop_commands.proofs.RunEnding.{rose_opening}
-use Rattle.shop_commands.proofs.ShopDays.{IsDayOf, ShopDid, agency_by, crashes_by, day_facts, history_by, not_asked, rose_day, sender_by, tills_by}
+use Rattle.sender_beside.specs.Days.{Day, TillReplies, all_replies}
+use Rattle.shop_drain.specs.Devices.{Agencies, AllDevices, Around, LeftSleeper, Sleepers, around}
+use Rattle.sender_session.specs.Kinds.{StoreKind}
+use Rattle.shop_drain.specs.Draining.{AgreesAtStart, OpensSession}
+use Rattle.shop_commands.specs.Drain.{NothingRose}
+use Rattle.sender_session.specs.Session.{IsDiskAnswer}
+use Rattle.shop_commands.specs.Serve.{Closes, FileServe, ServeEnds, ServeWays, SpeechEnds, SpeechServed, printed, source_since}
+use Rattle.shop_dialogue.specs.Talking.{CounterRun, IsSpeech, Speech}
+use Rattle.shop_commands.specs.Serve.SpeechEnds.{done, read_fault, write_fault, undelivered, contradiction, disk_fault}
+use Rattle.shop_commands.specs.Serve.SpeechEnds.{no_memory}
+use Rattle.sender_beside.specs.Tills.{has_asks, own_of}
+use Rattle.command_ends.proofs.RunEnding.{rose_opening}
+use Rattle.shop_commands.proofs.ShopDays.{IsDayOf, ShopDid, agency_by, crashes_by, day_facts, history_by, not_asked, rose_day}
+use Rattle.shop_commands.proofs.ShopDays.{sender_by, tills_by}
 use Rattle.shop_commands.proofs.Speeches.{quiet, told_some}
 
 -- a dialogue on an opened file, and how it ended

@@ -1,6 +1,6 @@
 -- What a day of an opened store is of the call that opened it.
-use Rattle.std.proofs.Common.{◌≡◌, ◌⊎◌, inl, inr, ℕ, ◌+◌, ◌-◌, ◌^◌, ◌<◌, ◌≤◌, List, [], ◌∷◌, length, sym, ◌∙◌}
-use Rattle.std.proofs.Common.{subst, refl, arith, Bool, true, IsTrue, Option, Some, None, Result, Ok, Err}
+use Rattle.std.proofs.Common.{◌≡◌, ◌⊎◌, inl, inr, ℕ, ◌+◌, ◌-◌, ◌^◌, ◌<◌, ◌≤◌, List, [], ◌∷◌, length, sym, ◌∙◌, subst, refl}
+use Rattle.std.proofs.Common.{arith, Bool, true, IsTrue, Option, Some, None, Result, Ok, Err}
 use Rattle.std.specs.Prelude.{◌≢◌, drop}
 use Rattle.std.specs.List.{AllByRecursion, list_any}
 use Rattle.std.proofs.lemmas.List.{append-nil}
@@ -30,24 +30,32 @@ use Rattle.shop_core.specs.Legal.{Legal}
 use Rattle.shop_core.specs.Rising.{SerialsRise}
 use Rattle.till_calls.specs.Root.{Parts, root_of}
 use Rattle.till_calls.specs.Sound.{IsLater}
-use Rattle.open_shop.specs.Beside.{IsUnbegun, SendsBeside, StaysAgreed}
+use Rattle.shop_drain.specs.Opening.{IsUnbegun, IsOpened}
+use Rattle.sender_beside.specs.Beside.{SendsBeside, StaysAgreed}
 use Rattle.chain_store.specs.Crashes.{Kept, StandsUpTo, StandsForEnd}
-use Rattle.open_shop.specs.Crashes.{StandsSince}
-use Rattle.shop_commands.specs.Day.{EachCrash, EachTillOf, HistoryGoesOn, ItsAgency, NotServed, Outcome, TellsOfSender, day_with}
-use Rattle.open_shop.specs.Days.{Day, Stop, TillReplies, all_replies, shop_day, stop_of, torn_of}
-use Rattle.open_shop.specs.Devices.{Agencies, Around, LeftSleeper, Sleepers, StoreKind}
+use Rattle.shop_drain.specs.Crashes.{StandsSince}
+use Rattle.shop_commands.specs.Day.{EachCrash, EachTillOf, HistoryGoesOn, ItsAgency, NotServed, Outcome, TellsOfSender}
+use Rattle.shop_commands.specs.Day.{day_with}
+use Rattle.sender_beside.specs.Days.{Day, Stop, TillReplies, all_replies, shop_day, stop_of, torn_of}
+use Rattle.shop_drain.specs.Devices.{Agencies, Around, LeftSleeper, Sleepers}
+use Rattle.sender_session.specs.Kinds.{StoreKind}
 use Rattle.chain_store.specs.Clocks.{this_clock}
 use Rattle.shop_commands.specs.Drain.{LeavesTime}
-use Rattle.open_shop.specs.Opening.{IsOpened}
-use Rattle.open_shop.specs.Draining.{AgreesInFile, IsDiskAnswer, OpensSession, noted_pairs, torn_in}
+use Rattle.shop_drain.specs.Draining.{AgreesInFile, OpensSession, noted_pairs, torn_in}
+use Rattle.sender_session.specs.Session.{IsDiskAnswer}
 use Rattle.chain_store.specs.Replies.{AllGoOn, Replies, is_disk_fault}
-use Rattle.open_shop.specs.Tills.{DayRun, RecordedBy, StopIs, ServedRun, TillServed, own_of}
-use Rattle.open_shop.specs.Tills.RecordedBy.{sender, till as by_till}
-use Rattle.open_shop.specs.Tills.ServedRun.{unasked, answered, torn as tears, stopped as told_stop, without_memory}
-use Rattle.open_shop.proofs.Closing.{between, either}
-use Rattle.open_shop.proofs.Each.{each_weaker}
-use Rattle.open_shop.proofs.Finishing.{since_found}
-use Rattle.open_shop.proofs.Joined.{torn_same}
+use Rattle.sender_beside.specs.Tills.{DayRun, RecordedBy, StopIs, ServedRun, TillServed, own_of}
+use Rattle.sender_beside.specs.Tills.RecordedBy.{sender, till as by_till}
+use Rattle.sender_beside.specs.Tills.ServedRun.{unasked, answered, torn as tears, stopped as told_stop, without_memory}
+use Rattle.shop_drain.proofs.Closing.{between, either}
+use Rattle.sender_session.proofs.Lists.{each_weaker}
+use Rattle.shop_drain.proofs.Finishing.{since_found}
+
+-- the entry of a store's stop
+torn_same : (stopped : Option ℕ) (torn : Option Entry) → torn_in stopped torn ≡ torn_of (stop_of stopped torn)
+torn_same (Some count) (Some torn) = refl
+torn_same (Some count) None = refl
+torn_same None torn = refl
 
 some_fault : (replies : Replies) → AllGoOn replies → list_any is_disk_fault replies ≡ true → ⊥
 some_fault [] all some = absurd (let x = some in cc)

@@ -1,6 +1,6 @@
 -- What was written of a dialogue, and the end that it comes to.
-use Rattle.std.proofs.Common.{◌≡◌, ◌⊎◌, inl, inr, ℕ, ◌+◌, ◌≤◌, false, List, ◌++◌, length, refl, sym, subst, arith}
-use Rattle.std.proofs.Common.{Option, Some, Result, Ok, Err, OnOk, take}
+use Rattle.std.proofs.Common.{◌≡◌, ◌⊎◌, inl, inr, ℕ, ◌+◌, ◌≤◌, false, List, ◌++◌, length, refl, sym, subst, arith, Option, Some}
+use Rattle.std.proofs.Common.{Result, Ok, Err, OnOk, take}
 use Rattle.std.specs.List.{list_any}
 use Rattle.std.proofs.KnownBytes.{Appends-trans}
 use Rattle.std.proofs.Math.Seq.{take-append-add, take-append_seam}
@@ -14,13 +14,15 @@ use Rattle.ports.specs.Sources.{SourceRose, Sources}
 use Rattle.report.specs.declared.status.Detail.{Detail}
 use Rattle.sender.specs.declared.answers.DrainFault.{DrainFault}
 use Rattle.sender.specs.declared.answers.DrainFault.TheVariants as drain
-use Rattle.open_shop.specs.Beside.{sender_end, sender_lacks_memory}
-use Rattle.open_shop.specs.Draining.{IsDiskAnswer}
+use Rattle.shop_commands.specs.SenderEnds.{sender_end}
+use Rattle.command_ends.specs.DrainEnds.{sender_lacks_memory}
+use Rattle.sender_session.specs.Session.{IsDiskAnswer}
 use Rattle.shop_commands.specs.Serve.{Closes, SpeechEnds, end_of, sink_to}
-use Rattle.shop_commands.specs.Serve.SpeechEnds.{done, read_fault, write_fault, undelivered, contradiction, disk_fault, no_memory}
-use Rattle.shop_commands.proofs.Bytewise.{part_of_output}
-use Rattle.shop_commands.proofs.Finished.{either_part}
-use Rattle.shop_commands.proofs.RunEnding.{all_replied, went_on}
+use Rattle.shop_commands.specs.Serve.SpeechEnds.{done, read_fault, write_fault, undelivered, contradiction, disk_fault}
+use Rattle.shop_commands.specs.Serve.SpeechEnds.{no_memory}
+use Rattle.command_ends.proofs.Bytewise.{part_of_output}
+use Rattle.command_ends.proofs.DrainAnswers.{either_part}
+use Rattle.command_ends.proofs.RunEnding.{all_replied, went_on}
 
 -- a front of the text was written, however it ended
 pub some_written : (how : SpeechEnd) (k : Sinks) (text : List ℕ) → IsWritten how k text → WrotePart k text

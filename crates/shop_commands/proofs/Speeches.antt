@@ -1,6 +1,6 @@
 -- The replies to a dialogue's commands, in the order of their lines and till by till.
-use Rattle.std.proofs.Common.{◌≡◌, ◌∙◌, ◌⊎◌, inl, inr, ℕ, ◌+◌, ◌-◌, ◌==◌, Bool, true, false, List, [], ◌∷◌, length, map}
-use Rattle.std.proofs.Common.{refl, ap, sym, subst, arith, Result}
+use Rattle.std.proofs.Common.{◌≡◌, ◌∙◌, ◌⊎◌, inl, inr, ℕ, ◌+◌, ◌-◌, ◌==◌, Bool, true, false, List, [], ◌∷◌, length, map, refl}
+use Rattle.std.proofs.Common.{ap, sym, subst, arith, Result}
 use Rattle.std.specs.Int.{IsInRange}
 use Rattle.std.specs.Prelude.{◌≢◌, ◌||◌, drop}
 use Rattle.std.specs.List.{AllByRecursion, list_any, range_with_len}
@@ -14,9 +14,9 @@ use Rattle.record_codec.specs.declared.entry.Entry.{Entry}
 use Rattle.record_codec.specs.declared.entry.TheConstants.{LAST_TILL}
 use Rattle.shop_core.specs.Answer.Requests.{Asked}
 use Rattle.shop_core.specs.declared.answer.Reply.{Reply}
-use Rattle.open_shop.specs.Days.{Day, TillReplies, all_replies}
-use Rattle.open_shop.specs.Tills.{AreTaken, TillServed, has_asks, own_of}
-use Rattle.open_shop.proofs.Each.{all_of_each, each_map}
+use Rattle.sender_beside.specs.Days.{Day, TillReplies, all_replies}
+use Rattle.sender_beside.specs.Tills.{AreTaken, TillServed, has_asks, own_of}
+use Rattle.sender_session.proofs.Lists.{all_of_each, each_map}
 
 -- a till that asks for nothing is told nothing
 no_replies : (till : ℕ) (asks : List Asked) (replies : Replies) → has_asks asks till ≡ false → replies_of till asks replies ≡ []

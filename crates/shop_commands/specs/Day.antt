@@ -27,19 +27,21 @@ use Rattle.report.specs.declared.answers.AnswerLine.TheVariants.{Saw}
 use Rattle.report.specs.declared.status.Detail.{Detail}
 use Rattle.report.specs.declared.status.Detail.TheVariants as detail
 use Rattle.shop_core.specs.Prefix.{IsPrefix}
-use Rattle.open_shop.specs.Beside.{DayRunEnds, IsUnbegun, SendsBeside, ShowsLast, StaysAgreed}
+use Rattle.shop_commands.specs.SenderEnds.{DayRunEnds}
+use Rattle.shop_drain.specs.Opening.{IsUnbegun, NotOpened}
+use Rattle.sender_beside.specs.Beside.{SendsBeside, StaysAgreed}
+use Rattle.sender_session.specs.Contradictions.{ShowsLast}
 use Rattle.chain_store.specs.Crashes.{Kept}
-use Rattle.open_shop.specs.Crashes.{StandsSince}
-use Rattle.open_shop.specs.Days.{Day, Stop, TillReplies, all_replies, torn_of}
+use Rattle.shop_drain.specs.Crashes.{StandsSince}
+use Rattle.sender_beside.specs.Days.{Day, Stop, TillReplies, all_replies, torn_of}
 use Rattle.chain_store.specs.Clocks.{LeftClock}
-use Rattle.open_shop.specs.Devices.{Agencies, AllDevices, Around, LeftAll, LeftSleeper, around}
-use Rattle.shop_commands.specs.Drain.{AgreesAtStart, AllLeft, LeavesTime, NothingRose}
-use Rattle.open_shop.specs.Draining.{AgreesInFile, OpensSession}
-use Rattle.open_shop.specs.Opening.{NotOpened}
-use Rattle.shop_commands.specs.Printed.{answers}
+use Rattle.shop_drain.specs.Devices.{Agencies, AllDevices, Around, LeftAll, LeftSleeper, around}
+use Rattle.shop_drain.specs.Draining.{AgreesAtStart, AgreesInFile, OpensSession}
+use Rattle.shop_commands.specs.Drain.{AllLeft, LeavesTime, NothingRose}
+use Rattle.command_ends.specs.Printed.{answers}
 use Rattle.chain_store.specs.Readings.{readings_of}
-use Rattle.shop_commands.specs.Scripts.{ScriptedEnds}
-use Rattle.open_shop.specs.Tills.{StopIs, TillServed, asks_of, has_asks, own_of, tills_of}
+use Rattle.command_ends.specs.Scripts.{ScriptedEnds}
+use Rattle.sender_beside.specs.Tills.{StopIs, TillServed, asks_of, has_asks, own_of, tills_of}
 
 -- what is printed of a till: the answers to its asks in line order, and how much it saw
 abbrev pub till_lines : List Asked → TillReplies → List AnswerLine

@@ -1,26 +1,43 @@
--- How `drain` ends.
-use Rattle.std.specs.Prelude.{◌≡◌, ◌⊎◌, ℕ, ◌+◌, ◌-◌, ◌^◌, ◌<◌, ◌≤◌, List, Bool, true, IsTrue, Option, Some, None}
+-- What a drain leaves of an opened store and of its agency.
+use Rattle.std.specs.Prelude.{ℕ, List, [], length, Bool, ⊤, ◌≡◌, ◌⊎◌, ◌+◌, ◌-◌, ◌^◌, ◌<◌, ◌≤◌, IsTrue, Option, Some, None}
 use Rattle.record_fields.specs.declared.versions.Version.{Version}
-use Rattle.ports.specs.Causes.{Rose}
 use Rattle.ports.specs.Sinks.{Sinks}
+use Rattle.record_codec.specs.declared.entry.Entry.{Entry}
+use Rattle.journal.specs.declared.faults.StoreFault.TheVariants as store
+use Rattle.shop_core.specs.History.{recs, noted}
+use Rattle.agency_rules.specs.declared.plans.Plan.{Plan}
+use Rattle.sender.specs.Turning.{AgencyKind, Desk}
+use Rattle.report.specs.Turns.{turns_text}
+use Rattle.report.specs.declared.status.Detail.{Detail}
+use Rattle.chain_store.specs.Crashes.{StandsUpTo}
+use Rattle.shop_drain.specs.Draining.{Outcome, spanning, Beginning, DiskSpan, StoreDrains, AgreesAtStart}
+use Rattle.command_ends.specs.DrainEnds.{DrainRunEnds}
+use Rattle.ports.specs.Causes.{Rose}
 use Rattle.chain_disk.specs.OnDisk.{synced}
 use Rattle.chain_disk.specs.Disks.{Disks, DiskRose}
-use Rattle.record_codec.specs.declared.entry.Entry.{Entry}
-use Rattle.agency_rules.specs.declared.plans.Plan.{Plan}
-use Rattle.once_world.specs.Agreement.{Agree}
 use Rattle.till_calls.specs.Sound.{IsLater}
 use Rattle.sender.specs.declared.draining.TheConstants.{MAX_LINK_FAULTS}
 use Rattle.script.specs.declared.forms.Form.TheVariants.{NoCommands}
 use Rattle.script.specs.declared.scripts.Script.{Script}
 use Rattle.recovery.specs.Opening.{IsFound}
-use Rattle.report.specs.declared.status.Detail.{Detail}
 use Rattle.report.specs.declared.status.Detail.TheVariants as detail
-use Rattle.open_shop.specs.Crashes.{StandsSince}
+use Rattle.shop_drain.specs.Crashes.{StandsSince}
 use Rattle.chain_store.specs.Clocks.{Clocks, LeftClock}
-use Rattle.open_shop.specs.Devices.{Agencies, AllDevices, LeftAgency, LeftAll, LeftSleeper, Sleepers, around}
-use Rattle.open_shop.specs.Draining.{DiskSpan, DrainRunEnds, Outcome, StoreDrains, drain_text, noted_pairs, spanning}
-use Rattle.open_shop.specs.Opening.{NotOpened}
-use Rattle.shop_commands.specs.Scripts.{ScriptedEnds}
+use Rattle.shop_drain.specs.Devices.{Agencies, AllDevices, LeftAgency, LeftAll, LeftSleeper, Sleepers, around, tells_moment}
+use Rattle.shop_drain.specs.Devices.{first_moment}
+use Rattle.shop_drain.specs.Opening.{NotOpened}
+use Rattle.command_ends.specs.Scripts.{ScriptedEnds}
+
+-- its text: the lines of its turns and the chain line
+abbrev pub drain_text : Outcome → List ℕ
+drain_text o = turns_text o.turns (length (recs o.end)) (length (noted o.end))
+
+-- an opened store with this history was drained, and this is how that ended
+abbrev pub StoreDrainEnds : Beginning → Plan → Version → List ℕ → List Entry → DiskSpan → AgencyKind → Desk → Desk → Bool → ℕ →
+    Sinks → Detail → Type 0
+StoreDrainEnds begun plan version issuer start k kind old new exact moment s end = (o : Outcome)
+    × StoreDrains (StandsUpTo version issuer) begun plan version issuer k (spanning start kind old new exact moment o)
+    × DrainRunEnds o.answer (drain_text o) s end
 
 -- the file from the sync at its opening on
 abbrev pub file_span : {D : Type 0} → Disks D → DiskSpan
@@ -31,11 +48,6 @@ file_span k = record {
   faults = k.faults k.disk;
   faults_after = k.faults k.disk_after;
 }
-
--- with the records noted in the file as what it has processed, where its kind begins so, the agency agrees with it
-abbrev pub AgreesAtStart : {G : Type 0} → Agencies G → List Entry → Type 0
-AgreesAtStart a start =
-    Agree start (a.begun a.before.ledger.processed (noted_pairs start)) a.before.ledger.sent
 
 -- no device failed in the call
 pub record NothingRose {D G : Type 0} (s : Sinks) (k : Disks D) (a : Agencies G) : Type 0 where
@@ -75,16 +87,6 @@ pub record FileDrainEnds {D C Z G : Type 0} (issuer : List ℕ) (plan : Plan) (s
   pub ends : NotOpened issuer (AllLeft t z a) s k end
       ⊎ FileDrained issuer plan z.tells (z.moment z.sleeper) s k a end
   pub clock : IsLater t.coming t.clock t.clock_after
-
--- the sleeper by a script's clock line START STEP, which replaces it by one that leaps from START: whether it tells its
--- moment, and that at the start
-abbrev pub tells_moment : {Z : Type 0} → Option (ℕ × ℕ) → Sleepers Z → Bool
-tells_moment None z = z.tells
-tells_moment (Some line) z = true
-
-abbrev pub first_moment : {Z : Type 0} → Option (ℕ × ℕ) → Sleepers Z → ℕ
-first_moment None z = z.moment z.sleeper
-first_moment (Some line) z = line.0
 
 -- a clock line replaces clock and sleeper; without one the clock is asked for no more than some readings
 abbrev pub LeavesTime : {C Z : Type 0} → Option (ℕ × ℕ) → Clocks C → Sleepers Z → Type 0

@@ -23,10 +23,10 @@ use Rattle.shop_core.specs.File.Files.{IsDamagedFile, StandsFor}
 use Rattle.shop_core.specs.Prefix.{IsPrefix}
 use Rattle.standby.specs.Catching.{IsFirstApart}
 use Rattle.file_commands.specs.Output.{PrintEnds}
-use Rattle.open_shop.specs.Devices.{AllDevices, NobodyCalled, OnlyReadsFile}
+use Rattle.shop_drain.specs.Devices.{AllDevices, NobodyCalled, OnlyReadsFile}
 use Rattle.shop_commands.specs.Further.{Further}
 use Rattle.shop_commands.specs.Migrate.{OnePost, disk_of_post}
-use Rattle.open_shop.specs.declared.posts.Post.{Post}
+use Rattle.shop_drain.specs.declared.posts.Post.{Post}
 
 -- the end that a file which can't be loaded comes to
 abbrev pub load_end : LoadFault → Detail

@@ -1,7 +1,7 @@
 -- The posts of an outside: that of the first file, and the further ones.
 use Rattle.std.specs.Prelude.{◌≡◌, List}
 use Rattle.shop_commands.specs.declared.outside.Outside.{Outside}
-use Rattle.open_shop.specs.declared.posts.Post.{Post}
+use Rattle.shop_drain.specs.declared.posts.Post.{Post}
 
 -- what an outside has of the first file
 abbrev pub own_post : {D C Z G : Type 0} → Outside D C Z G → Post D C Z G

@@ -21,17 +21,18 @@ use Rattle.shop_core.specs.History.{noted, recs}
 use Rattle.shop_core.specs.Prefix.{IsPrefix}
 use Rattle.standby.specs.Catching.{IsFirstApart}
 use Rattle.standby.specs.Chains.{ChainOnDisk}
-use Rattle.open_shop.specs.Crashes.{StandsSince}
-use Rattle.open_shop.specs.Devices.{Agencies, AllDevices, LeftAll, LeftSleeper, Sleepers, around}
+use Rattle.shop_drain.specs.Crashes.{StandsSince}
+use Rattle.shop_drain.specs.Devices.{Agencies, AllDevices, LeftAll, LeftSleeper, Sleepers, around, first_moment, tells_moment}
 use Rattle.shop_commands.specs.Further.{Further}
-use Rattle.shop_commands.specs.Drain.{AgreesAtStart, AllLeft, NothingRose, file_span, first_moment, tells_moment}
-use Rattle.open_shop.specs.Draining.{DiskSpan, DrainRunEnds, Outcome, spanning}
+use Rattle.shop_drain.specs.Draining.{AgreesAtStart, DiskSpan, Outcome, spanning}
+use Rattle.shop_commands.specs.Drain.{AllLeft, NothingRose, file_span}
+use Rattle.command_ends.specs.DrainEnds.{DrainRunEnds}
 use Rattle.shop_commands.specs.Follow.{IsFollowImage, IsSyncedAtMost}
-use Rattle.open_shop.specs.Guarding.{GuardDrains, Held}
+use Rattle.shop_drain.specs.Guarding.{GuardDrains, Held}
 use Rattle.shop_commands.specs.Migrate.{OnePost, disk_of_post}
-use Rattle.open_shop.specs.Opening.{NotOpened}
-use Rattle.shop_commands.specs.Scripts.{ScriptedEnds}
-use Rattle.open_shop.specs.declared.posts.Post.{Post}
+use Rattle.shop_drain.specs.Opening.{NotOpened}
+use Rattle.command_ends.specs.Scripts.{ScriptedEnds}
+use Rattle.shop_drain.specs.declared.posts.Post.{Post}
 
 -- What a crash at a moment of a run leaves of the copy: what it left at the start, or a file that stands for a front of the history
 -- at the end, with the torn notes, which begins with what the copy had.

@@ -1,8 +1,6 @@
-pub mod Printed
-pub mod Ending
-pub mod Scripts
 pub mod Chain
 pub mod Drain
+pub mod SenderEnds
 pub mod Day
 pub mod Serve
 pub mod Further

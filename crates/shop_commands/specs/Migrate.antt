@@ -11,9 +11,9 @@ use Rattle.report.specs.Moves.{migrated_text}
 use Rattle.report.specs.declared.status.Detail.{Detail}
 use Rattle.report.specs.declared.status.Detail.TheVariants as detail
 use Rattle.file_commands.specs.Output.{PrintEnds}
-use Rattle.open_shop.specs.Devices.{AllDevices, NobodyCalled, OnlyReadsFile}
+use Rattle.shop_drain.specs.Devices.{AllDevices, NobodyCalled, OnlyReadsFile}
 use Rattle.shop_commands.specs.Further.{Further}
-use Rattle.open_shop.specs.declared.posts.Post.{Post}
+use Rattle.shop_drain.specs.declared.posts.Post.{Post}
 
 -- the end that a cause comes to
 abbrev pub move_end : MoveCause → Detail

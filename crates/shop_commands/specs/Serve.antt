@@ -18,15 +18,18 @@ use Rattle.sender.specs.declared.answers.DrainFault.{DrainFault}
 use Rattle.sender.specs.declared.answers.DrainFault.TheVariants as drain
 use Rattle.shop_core.specs.History.{noted, recs}
 use Rattle.till_calls.specs.Root.{Parts}
-use Rattle.open_shop.specs.Beside.{sender_end, sender_lacks_memory}
-use Rattle.shop_commands.specs.Day.{EachCrash, EachTillOf, HistoryGoesOn, ItsAgency, NotServed, Outcome, TellsOfSender, day_with}
-use Rattle.open_shop.specs.Days.{Day}
-use Rattle.open_shop.specs.Devices.{AllDevices, Around, LeftAll, ReadNothing, around}
-use Rattle.shop_commands.specs.Drain.{AgreesAtStart, AllLeft, LeavesTime, NothingRose}
-use Rattle.open_shop.specs.Draining.{IsDiskAnswer}
-use Rattle.open_shop.specs.Opening.{NotOpened}
-use Rattle.open_shop.specs.Talking.{IsSpeech, Speech}
-use Rattle.open_shop.specs.declared.posts.Post.{Post}
+use Rattle.shop_commands.specs.SenderEnds.{sender_end}
+use Rattle.command_ends.specs.DrainEnds.{sender_lacks_memory}
+use Rattle.shop_commands.specs.Day.{EachCrash, EachTillOf, HistoryGoesOn, ItsAgency, NotServed, Outcome, TellsOfSender}
+use Rattle.shop_commands.specs.Day.{day_with}
+use Rattle.sender_beside.specs.Days.{Day}
+use Rattle.shop_drain.specs.Devices.{AllDevices, Around, LeftAll, ReadNothing, around}
+use Rattle.shop_drain.specs.Draining.{AgreesAtStart}
+use Rattle.shop_commands.specs.Drain.{AllLeft, LeavesTime, NothingRose}
+use Rattle.sender_session.specs.Session.{IsDiskAnswer}
+use Rattle.shop_drain.specs.Opening.{NotOpened}
+use Rattle.shop_dialogue.specs.Talking.{IsSpeech, Speech}
+use Rattle.shop_drain.specs.declared.posts.Post.{Post}
 
 -- what is printed: the answers, and the chain line behind a source that was read to its end
 abbrev pub printed : SpeechEnd → List ℕ → List ℕ → List ℕ

@@ -12,20 +12,18 @@ ghost use Rattle.chain_store.specs.Runs.{this_store};
 ghost use Rattle.chain_store.specs.Clocks.{this_clock};
 ghost use Rattle.chain_store.specs.Readings.{IsAsked, LeavesClock, readings, readings_of};
 
-use crate::ending::run_end;
-use crate::printed::told_of;
-use crate::scripts::read_source;
 use chain_disk::Disk;
 use chain_store::{Store, run_commands};
+use command_ends::{read_source, run_end, told_of};
 use file_commands::write_texts;
 use journal::StoreFault;
-use open_shop::opening_end;
 use parties::Nif;
 use ports::{Clock, CountingClock, Sink, Source};
 use recovery::open_store;
 use report::{Detail, Ended};
 use script::{Form, Script};
 use shop_core::{Ask, Reply};
+use shop_drain::opening_end;
 use std::alloc::Global;
 
 /// Reads a script from the source, opens the disk for this issuer, runs the commands on the history that it holds, keeps each

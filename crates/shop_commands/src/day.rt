@@ -7,35 +7,35 @@ ghost use Rattle.ports.specs.Sources.{this_source};
 ghost use Rattle.report.specs.Status.{status_of};
 ghost use Rattle.shop_core.specs.History.{recs, noted};
 ghost use Rattle.shop_core.specs.Answer.Requests.{Asked};
-ghost use Rattle.open_shop.specs.Beside as beside;
-ghost use Rattle.open_shop.specs.Beside.{DayRunEnds};
+ghost use Rattle.shop_commands.specs.SenderEnds as sending;
+ghost use Rattle.shop_commands.specs.SenderEnds.{DayRunEnds};
 ghost use Rattle.shop_commands.specs.Day as spec;
 ghost use Rattle.shop_commands.specs.Day.{DayEnds, FileDay, day_text};
-ghost use Rattle.open_shop.specs.Devices.{around_in, this_call};
-ghost use Rattle.shop_commands.specs.Printed.{answers};
+ghost use Rattle.shop_drain.specs.Devices.{around_in, this_call};
+ghost use Rattle.command_ends.specs.Printed.{answers};
 ghost use Rattle.chain_store.specs.Replies as reply;
-ghost use Rattle.open_shop.specs.Days.{all_replies};
-ghost use Rattle.open_shop.specs.Tills.{asks_of};
-ghost use Rattle.open_shop.specs.Works.{told_in};
+ghost use Rattle.sender_beside.specs.Days.{all_replies};
+ghost use Rattle.sender_beside.specs.Tills.{asks_of};
+ghost use Rattle.shop_day.specs.Jobs.{told_in};
 
-use crate::drain::fault_end;
-use crate::ending::{lacks_disk, lacks_memory};
-use crate::printed::RunText;
-use crate::scripts::read_source;
 use agency_port::Agency;
 use chain_disk::Disk;
+use command_ends::{
+    RunText, fault_end, lacks_disk, lacks_memory, read_source, sender_lacks_memory,
+};
 use file_commands::write_texts;
 use journal::StoreFault;
-use open_shop::{
-    Means, Post, Served, TillDay, begin, close, open, opening_end, room_for, serve,
-    what_a_disk_reads_is_an_image, who_keeps_the_rules_tells,
-};
 use parties::Nif;
 use ports::{Clock, Failed, Gate, NoMemory, Sink, Sleeper, Source};
 use report::{AnswerLine, Answers, Detail, Ended, answers_text, listing_text};
 use script::{Form, Script};
 use sender::DrainFault;
+use sender_session::Means;
 use shop_core::{Ask, Reply, State, legal_is_chained};
+use shop_day::{DayDone, TillDay, room_for, run_day};
+use shop_drain::{
+    Post, begin, close, open, opening_end, what_a_disk_reads_is_an_image, who_keeps_the_rules_tells,
+};
 use std::alloc::Global;
 use std::sync::Wait;
 use std::thread::Threads;
@@ -136,11 +136,11 @@ where
         Ok(opened) => match begin(means.alloc, &script.plan, &room.numbers, opened) {
             Err(opened) => (Detail::NoMemory, close(opened)),
             Ok(begun) => {
-                let Served {
+                let DayDone {
                     opened,
                     tills,
                     answer,
-                } = serve(means, asks, room, begun);
+                } = run_day(means, asks, room, begun);
                 let detail = print_day(
                     means.alloc,
                     asks,
@@ -257,19 +257,9 @@ fn one_lacks_disk(days: &[TillDay]) -> bool
     days.iter().any(|day| lacks_disk(&day.answers))
 }
 
-/// Whether the sender found no memory.
-pub(crate) fn sender_lacks_memory(answer: &Result<(), DrainFault>) -> bool
-    ensures { result ≡ beside.sender_lacks_memory answer.now }
-{
-    match answer {
-        Err(DrainFault::NoMemory | DrainFault::Store(StoreFault::NoMemory)) => true,
-        _ => false,
-    }
-}
-
 /// The end of a day whose sender failed so. One that gave up tells these two counts.
 pub(crate) fn sender_end(fault: DrainFault, noted: u32, records: u32) -> Detail
-    ensures { result ≡ beside.sender_end noted records fault }
+    ensures { result ≡ sending.sender_end noted records fault }
 {
     match fault {
         DrainFault::Undelivered { .. } => Detail::Undelivered { noted, records },

@@ -1,65 +1,27 @@
 // The command `drain`: reads a script without commands, opens the file, sends the records that wait to the agency, and prints a
 // line a turn and the chain line.
-ghost use Rattle.std.specs.Prelude.{◌≡◌, ℕ, List};
-ghost use Rattle.ports.specs.Sinks.{OutputIs, Sinks, this_sink};
+ghost use Rattle.std.specs.Prelude.{◌≡◌};
+ghost use Rattle.ports.specs.Sinks.{this_sink};
 ghost use Rattle.ports.specs.Sources.{this_source};
 ghost use Rattle.report.specs.Status.{status_of};
-ghost use Rattle.open_shop.specs.Devices.{agency_in, clock_in, disk_in, sleeper_in, this_call};
+ghost use Rattle.shop_drain.specs.Devices.{agency_in, clock_in, disk_in, sleeper_in, this_call};
 ghost use Rattle.shop_commands.specs.Drain.{DrainEnds, FileDrainEnds, ScriptDrainEnds};
-ghost use Rattle.open_shop.specs.Draining as spec;
-ghost use Rattle.open_shop.specs.Draining.{DrainRunEnds, drain_text};
-ghost use Rattle.open_shop.specs.Outcomes.{outcome_of};
+ghost use Rattle.command_ends.specs.DrainEnds.{DrainRunEnds};
+ghost use Rattle.shop_commands.specs.Drain.{drain_text};
+ghost use Rattle.shop_drain.specs.Outcomes.{outcome_of};
 
-use crate::scripts::read_source;
 use agency_port::Agency;
 use agency_rules::Plan;
 use chain_disk::Disk;
+use command_ends::{end_by, read_source};
 use file_commands::write_texts;
-use journal::StoreFault;
-use open_shop::{DrainEnd, Post, close, drain_opened, open, opening_end};
 use parties::Nif;
-use ports::{Clock, Failed, Sink, Sleeper, Source};
+use ports::{Clock, Sink, Sleeper, Source};
 use report::{Detail, Ended, turns_text};
 use script::{Form, Script};
-use sender::DrainFault;
+use shop_drain::{DrainEnd, Post, close, drain_opened, open, opening_end};
 use std::alloc::Global;
 use std::sync::Wait;
-
-// The end of a drain whose store failed so.
-fn store_end(fault: StoreFault) -> Detail
-    ensures { result ≡ spec.store_end fault }
-{
-    match fault {
-        StoreFault::DiskFault => Detail::DiskFault,
-        StoreFault::Stopped { .. } => Detail::DiskFault,
-        StoreFault::NoMemory => Detail::NoMemory,
-    }
-}
-
-/// The end of a drain that failed so.
-pub fn fault_end(fault: DrainFault) -> Detail
-    ensures { result ≡ spec.fault_end fault }
-{
-    match fault {
-        DrainFault::Undelivered { noted, records } => Detail::Undelivered { noted, records },
-        DrainFault::Contradiction(evidence) => Detail::Contradiction(evidence),
-        DrainFault::Store(fault) => store_end(fault),
-        DrainFault::NoMemory => Detail::NoMemory,
-    }
-}
-
-// The end of a drain with this answer, whose text was written or not.
-pub fn end_by(answer: &Result<(), DrainFault>, written: Result<(), Failed>) -> Detail
-    ensures { (text : List ℕ) (s : Sinks) → OutputIs s text written → DrainRunEnds answer.now text s result }
-{
-    match answer {
-        Err(fault) => fault_end(*fault),
-        Ok(()) => match written {
-            Ok(()) => Detail::Done,
-            Err(_) => Detail::WriteFault,
-        },
-    }
-}
 
 // Prints the lines of the turns and the chain line.
 fn print_turns<K: Sink, D: Disk, C: Clock, Z, G>(

@@ -1,7 +1,7 @@
 // All that a run works on.
 ghost use Rattle.std.specs.Prelude.{◌≡◌, ◌≤◌, ◌∷◌, [], length, vec_capacity};
 
-use open_shop::{Post, Posts};
+use shop_drain::{Post, Posts};
 
 /// What a run works on besides its source and its sink. All parts come back from each call.
 #[derive(Drop)]

@@ -13,28 +13,32 @@ ghost use Rattle.report.specs.Pieces.{chain_line};
 ghost use Rattle.report.specs.Status.{status_of};
 ghost use Rattle.shop_core.specs.History.{noted, recs};
 ghost use Rattle.till_calls.specs.Root.{parts_of};
-ghost use Rattle.open_shop.specs.Devices.{around_in, store_kind, this_call};
-ghost use Rattle.open_shop.specs.Opening.{IsOpened};
+ghost use Rattle.shop_drain.specs.Devices.{around_in, this_call};
+ghost use Rattle.sender_session.specs.Kinds.{store_kind};
+ghost use Rattle.shop_drain.specs.Opening.{IsOpened};
 ghost use Rattle.shop_commands.specs.Serve as spec;
 ghost use Rattle.shop_commands.specs.Serve.{Closes, FileServe, ServeEnds, SpeechEnds, post_with, sink_to, source_since};
-ghost use Rattle.open_shop.specs.Talking.{HasCome};
+ghost use Rattle.shop_dialogue.specs.Talking.{HasCome};
 
-use crate::day::{sender_end, sender_lacks_memory};
+use crate::day::sender_end;
 use agency_port::{Agency, Turns};
 use agency_rules::Plan;
 use chain_disk::Disk;
+use command_ends::sender_lacks_memory;
 use counter::{Listener, SpeechEnd, all_numbers, answer};
 use dialogue::Task;
-use open_shop::{
-    Means, Opened, Post, Talked, begin, close, open, opening_end, talk,
-    what_a_disk_reads_is_an_image, who_keeps_the_rules_tells,
-};
 use parties::Nif;
 use ports::{Clock, Gate, Sink, Sleeper, Source};
 use record_codec::LAST_TILL;
 use report::{Detail, Ended, turns_text};
 use sender::DrainFault;
+use sender_session::Means;
 use shop_core::{State, legal_is_chained};
+use shop_dialogue::{DialogueDone, run_dialogue};
+use shop_drain::{
+    Opened, Post, begin, close, open, opening_end, what_a_disk_reads_is_an_image,
+    who_keeps_the_rules_tells,
+};
 use std::alloc::Global;
 use std::sync::Wait;
 use std::thread::Threads;
@@ -199,12 +203,12 @@ where
     match begin(means.alloc, &Plan::plain(means.alloc), &numbers, opened) {
         Err(opened) => (Detail::NoMemory, opened),
         Ok(begun) => {
-            let Talked {
+            let DialogueDone {
                 opened,
                 how,
                 lacked,
                 answer,
-            } = talk(means, listener, held, first, source, sink, begun);
+            } = run_dialogue(means, listener, held, first, source, sink, begun);
             let closed = close_speech(means.alloc, how, opened.store.state(), sink);
             let detail = speech_end(closed, lacked, &answer, opened.store.state());
             (detail, opened)

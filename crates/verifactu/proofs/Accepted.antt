@@ -26,9 +26,9 @@ use Rattle.shop_core.specs.declared.answer.Reply.TheVariants as reply
 use Rattle.shop_core.specs.declared.answer.receipts.Receipt.{Receipt}
 use Rattle.verifactu.specs.Promise.{AreAccepted}
 use Rattle.chain_store.specs.Replies.{Replies}
-use Rattle.open_shop.specs.Tills.{AreTaken, ServedRun, is_from, own_of}
-use Rattle.open_shop.specs.Tills.ServedRun.{unasked, answered, torn, stopped, without_memory}
-use Rattle.open_shop.proofs.Each.{each_front}
+use Rattle.sender_beside.specs.Tills.{AreTaken, ServedRun, is_from, own_of}
+use Rattle.sender_beside.specs.Tills.ServedRun.{unasked, answered, torn, stopped, without_memory}
+use Rattle.sender_session.proofs.Lists.{each_front}
 
 pub accepted_append : (asks more : List Asked) (first second : Replies) (es gs : List Entry) → AreAccepted asks first es →
     AreAccepted more second gs → AreAccepted (asks ++ more) (first ++ second) (es ++ gs)

@@ -17,14 +17,15 @@ use Rattle.shop_core.specs.Answer.Replies.ChainRun.{begun, replied}
 use Rattle.shop_core.specs.Answer.Requests.{Asked}
 use Rattle.shop_core.specs.declared.answer.Reply.{Reply}
 use Rattle.shop_commands.specs.Day.{EachTill, EachTillOf}
-use Rattle.open_shop.specs.Days.{Day, TillReplies}
-use Rattle.open_shop.specs.Draining.{AddsNotesAlone, AreNotesEntry}
+use Rattle.sender_beside.specs.Days.{Day, TillReplies}
+use Rattle.shop_drain.specs.Draining.{AddsNotesAlone}
+use Rattle.sender_session.specs.Session.{AreNotesEntry}
 use Rattle.verifactu.specs.Promise.{AreAccepted, AreAskedIn, TillsGain}
 use Rattle.chain_store.specs.Replies.{Replies}
-use Rattle.open_shop.specs.Tills.{TillServed, asks_of, has_asks, is_from, own_of, tills_of}
+use Rattle.sender_beside.specs.Tills.{TillServed, asks_of, has_asks, is_from, own_of, tills_of}
 use Rattle.verifactu.proofs.Accepted.{accepted_append, all_accepted, by_reply}
-use Rattle.open_shop.proofs.Each.{each_map, each_weaker}
-use Rattle.open_shop.proofs.TillDays.{each_filtered}
+use Rattle.sender_session.proofs.Lists.{each_map, each_weaker}
+use Rattle.sender_beside.proofs.TillDays.{each_filtered}
 
 -- no till asked
 filter_none : (p : ℕ → Bool) (xs : List ℕ) → ((x : ℕ) → p x ≡ false) → [] ≡ filter p xs

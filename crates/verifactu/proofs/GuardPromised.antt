@@ -13,20 +13,20 @@ use Rattle.sender.specs.Turning.{Desk}
 use Rattle.shop_core.specs.File.Laws.{NotBegunIsNeither, OneHistory}
 use Rattle.shop_core.specs.History.{noted}
 use Rattle.shop_core.specs.Prefix.{IsPrefix}
-use Rattle.open_shop.specs.Devices.{AllDevices, LeftAgency}
-use Rattle.shop_commands.specs.Drain.{first_moment, tells_moment}
-use Rattle.open_shop.specs.Draining.{Beginning, IsSession, IsUnopened, Span, spanning}
+use Rattle.shop_drain.specs.Devices.{AllDevices, LeftAgency}
+use Rattle.shop_drain.specs.Devices.{first_moment, tells_moment}
+use Rattle.shop_drain.specs.Draining.{Beginning, IsSession, IsUnopened, Span, spanning}
 use Rattle.shop_commands.specs.Follow.{IsFollowImage}
 use Rattle.shop_commands.specs.Guard.{FileGuarded, GuardEnds, GuardsFile}
-use Rattle.open_shop.specs.Guarding.{AreHeld, Held}
+use Rattle.shop_drain.specs.Guarding.{AreHeld, Held}
 use Rattle.verifactu.specs.Promise.{AgencyKept, BatchesKept, IsOwn, OnlyGuarded, TillsGain}
 use Rattle.verifactu.specs.Promise.AgencyKept.{silent, in_session}
-use Rattle.shop_commands.specs.Scripts.ScriptedEnds.{ran, bad_line, read_fault, too_big, no_memory}
+use Rattle.command_ends.specs.Scripts.ScriptedEnds.{ran, bad_line, read_fault, too_big, no_memory}
 use Rattle.shop_commands.proofs.Follows.{untouched as untouched_image}
-use Rattle.open_shop.proofs.Finishing.{since_found}
+use Rattle.shop_drain.proofs.Finishing.{since_found}
 use Rattle.shop_commands.proofs.GuardEnding.{further_image}
 use Rattle.verifactu.proofs.Gaining.{gains_notes, gains_nothing}
-use Rattle.open_shop.proofs.Guarded.{file_agrees}
+use Rattle.shop_drain.proofs.Guarded.{file_agrees}
 use Rattle.verifactu.proofs.Promised.{AreLinked, Left, goes_on, left_disk, legal_found, not_opened, own_of, same_found, whole}
 use Rattle.verifactu.proofs.Promised.Left.{begun_in_part, grown, untouched}
 use Rattle.verifactu.proofs.Sessions.{batches_of_drain, batches_silent, left_agency, since_opening, stays_of_chain}

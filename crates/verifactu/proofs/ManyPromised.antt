@@ -23,19 +23,21 @@ use Rattle.many.specs.Scripts.{AreGoodParts}
 use Rattle.many.proofs.Kept.{agree_on, front_legal, kept_on, none_torn_noted, pairs_stay, prefix_on}
 use Rattle.many.proofs.NoNotes.{notes_nothing}
 use Rattle.once_world.specs.Agreement.{Agree}
-use Rattle.open_shop.proofs.Saying.{noted_both}
-use Rattle.open_shop.specs.Beside.{IsUnbegun}
-use Rattle.open_shop.specs.Crashes.{StandsSince}
-use Rattle.open_shop.specs.Devices.{Agencies, AllDevices, LeftAgency, agency_desk, this_call}
-use Rattle.open_shop.specs.Draining.{IsSession, IsUnopened, OpensSession, noted_pairs, spanning}
-use Rattle.open_shop.specs.Noting.{all_said}
-use Rattle.open_shop.specs.declared.posts.Post.{Post}
+use Rattle.shop_drain.proofs.Saying.{noted_both}
+use Rattle.shop_drain.specs.Opening.{IsUnbegun}
+use Rattle.shop_drain.specs.Crashes.{StandsSince}
+use Rattle.shop_drain.specs.Devices.{Agencies, AllDevices, LeftAgency, this_call}
+use Rattle.sender_session.specs.Kinds.{agency_desk}
+use Rattle.shop_drain.specs.Draining.{IsSession, IsUnopened, OpensSession, noted_pairs, spanning}
+use Rattle.sender_session.specs.Noting.{all_said}
+use Rattle.shop_drain.specs.declared.posts.Post.{Post}
 use Rattle.record_codec.specs.declared.entry.Entry.{Entry}
 use Rattle.record_fields.specs.declared.lines.Line.{Line}
 use Rattle.record_fields.specs.declared.records.Sealed.{Sealed}
 use Rattle.report.specs.declared.status.Detail.{Detail}
 use Rattle.script.specs.declared.scripts.Script.{Script}
-use Rattle.shop_commands.specs.Drain.{AgreesAtStart, first_moment, tells_moment}
+use Rattle.shop_drain.specs.Draining.{AgreesAtStart}
+use Rattle.shop_drain.specs.Devices.{first_moment, tells_moment}
 use Rattle.shop_commands.specs.Further.{Further}
 use Rattle.shop_core.specs.File.Laws.{NotBegunIsNeither, OneHistory}
 use Rattle.shop_core.specs.History.{noted, recs}

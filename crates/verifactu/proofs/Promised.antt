@@ -23,15 +23,15 @@ use Rattle.shop_core.specs.File.Files.{StandsFor}
 use Rattle.shop_core.specs.History.{recs}
 use Rattle.shop_core.specs.Legal.{Legal}
 use Rattle.chain_store.specs.Crashes.{KeptByRun, StandsForEnd}
-use Rattle.open_shop.specs.Crashes.{StandsSince}
-use Rattle.open_shop.specs.Days.{Day, Stop, torn_of}
-use Rattle.open_shop.specs.Opening.{NotOpened}
+use Rattle.shop_drain.specs.Crashes.{StandsSince}
+use Rattle.sender_beside.specs.Days.{Day, Stop, torn_of}
+use Rattle.shop_drain.specs.Opening.{NotOpened}
 use Rattle.verifactu.specs.Promise.{ChainGoesOn, Crashes, DamagedIsNotOwn, ForeignIsNotOwn, IsEither, IsFoundAgain, IsOwn}
 use Rattle.verifactu.specs.Promise.{IsUnwritten}
 use Rattle.verifactu.specs.Promise.Crashes.{unwritten, since_sync}
 use Rattle.chain_store.specs.Replies.{Replies, StopsOnce}
-use Rattle.open_shop.specs.Tills.{StopIs}
-use Rattle.open_shop.proofs.Finishing.{since_found}
+use Rattle.sender_beside.specs.Tills.{StopIs}
+use Rattle.shop_drain.proofs.Finishing.{since_found}
 
 pub whole : (start : List Entry) → IsPrefix start start
 whole start = record { rest = []; is = sym (append-nil start) }

@@ -22,19 +22,20 @@ use Rattle.shop_commands.specs.Day.{DayEnds, EachCrash, FileDay, HistoryGoesOn, 
 use Rattle.shop_commands.specs.Serve.{ServeWays}
 use Rattle.agency_rules.specs.Plans.{plain}
 use Rattle.shop_core.specs.Answer.Requests.{Asked}
-use Rattle.open_shop.specs.Days.{torn_of}
-use Rattle.open_shop.specs.Devices.{AllDevices, LeftAgency, NobodyCalled, around}
+use Rattle.sender_beside.specs.Days.{torn_of}
+use Rattle.shop_drain.specs.Devices.{AllDevices, LeftAgency, NobodyCalled, around}
 use Rattle.shop_commands.specs.Further.{Further, LeftFurther}
-use Rattle.shop_commands.specs.Drain.{AllLeft, DrainEnds, FileDrained, first_moment, tells_moment}
-use Rattle.open_shop.specs.Draining.{IsSession, IsUnopened, spanning}
+use Rattle.shop_commands.specs.Drain.{AllLeft, DrainEnds, FileDrained}
+use Rattle.shop_drain.specs.Devices.{first_moment, tells_moment}
+use Rattle.shop_drain.specs.Draining.{IsSession, IsUnopened, spanning}
 use Rattle.shop_commands.specs.Migrate.{disk_of_post}
-use Rattle.open_shop.specs.Opening.{NotOpened}
+use Rattle.shop_drain.specs.Opening.{NotOpened}
 use Rattle.verifactu.specs.Promise.{AgencyKept, BatchesKept, FileKept, FurtherKept, Grows, OthersKept, Promise, TillsGain, writes_for}
 use Rattle.chain_store.specs.Replies.{Replies}
 use Rattle.chain_store.specs.Readings.{IsComing, LeavesClock, readings_of}
 use Rattle.verifactu.specs.Running.{CommandEnds, ManyRan, OwnEnds}
-use Rattle.shop_commands.specs.Scripts.{IsGoodScript}
-use Rattle.shop_commands.specs.Scripts.ScriptedEnds.{ran, bad_line, read_fault, too_big, no_memory}
+use Rattle.command_ends.specs.Scripts.{IsGoodScript}
+use Rattle.command_ends.specs.Scripts.ScriptedEnds.{ran, bad_line, read_fault, too_big, no_memory}
 use Rattle.verifactu.specs.CommandLine.{AsksFor, IsAskedFor}
 use Rattle.verifactu.specs.declared.command_line.Command.{Command}
 use Rattle.verifactu.specs.declared.command_line.Command.TheVariants.{Chain, Day, Drain, Serve, Audit, Link, Check, Migrate, Follow, Guard, Many}

@@ -17,18 +17,19 @@ use Rattle.sender.specs.Dark.{AreRunsBy}
 use Rattle.sender.specs.Turning.{Desk}
 use Rattle.sender.specs.declared.answers.DrainFault.{DrainFault}
 use Rattle.shop_core.specs.History.{noted, recs}
-use Rattle.open_shop.specs.Beside.{IsUnbegun}
+use Rattle.shop_drain.specs.Opening.{IsUnbegun}
 use Rattle.shop_core.specs.Answer.Requests.{Asked}
 use Rattle.shop_commands.specs.Day.{ItsAgency, Outcome as DayOutcome, day_with}
-use Rattle.open_shop.specs.Days.{torn_of}
-use Rattle.open_shop.specs.Devices.{Agencies, Around}
-use Rattle.open_shop.specs.Draining.{AreOfChain, IsSession, IsUnopened, OpensSession, Outcome, SaysNothingBlindly, spanning}
-use Rattle.open_shop.specs.Noting.{NotesSaid, NotesWhatIsSaid}
+use Rattle.sender_beside.specs.Days.{torn_of}
+use Rattle.shop_drain.specs.Devices.{Agencies, Around}
+use Rattle.sender_session.specs.Session.{AreOfChain, SaysNothingBlindly}
+use Rattle.shop_drain.specs.Draining.{IsSession, IsUnopened, OpensSession, Outcome, spanning}
+use Rattle.sender_session.specs.Noting.{NotesSaid, NotesWhatIsSaid}
 use Rattle.verifactu.specs.Promise.{AgencyKept, BatchesKept, StaysOfChain}
 use Rattle.verifactu.specs.Promise.AgencyKept.{silent, in_session}
-use Rattle.open_shop.proofs.Batches.{runs_more}
-use Rattle.open_shop.proofs.Contrary.{recs_both}
-use Rattle.open_shop.proofs.Saying.{first_said, noted_both}
+use Rattle.sender_session.proofs.Batches.{runs_more}
+use Rattle.sender_session.proofs.Contrary.{recs_both}
+use Rattle.shop_drain.proofs.Saying.{first_said, noted_both}
 
 -- so do its messages
 no_batch : (plan : Plan) (count : ℕ) (old : List Message) → batches_in (old ++ Begun plan count ∷ []) ≡ batches_in old

@@ -7,13 +7,13 @@ use Rattle.journal.specs.declared.faults.StoreFault.{StoreFault}
 use Rattle.journal.specs.declared.faults.StoreFault.TheVariants.{DiskFault, Stopped, NoMemory}
 use Rattle.record_codec.specs.declared.entry.Entry.{Entry}
 use Rattle.shop_core.specs.declared.answer.Reply.{Reply}
-use Rattle.open_shop.specs.Days.{Stop, TillReplies, all_replies, torn_of}
-use Rattle.open_shop.specs.Draining.{AreNotesEntry}
+use Rattle.sender_beside.specs.Days.{Stop, TillReplies, all_replies, torn_of}
+use Rattle.sender_session.specs.Session.{AreNotesEntry}
 use Rattle.chain_store.specs.Replies.{AllGoOn, Replies, is_disk_fault}
 use Rattle.verifactu.specs.Stopping.{FaultsOnce, IsOfTill, TearsAtMostOne, TearsByAFault, TearsForTillOrSender, TearsWhereItRose}
 use Rattle.verifactu.specs.Stopping.{TellsOfItsStop}
-use Rattle.open_shop.specs.Tills.{RecordedBy, SenderFails, StopIs, is_own_fault, own_faults}
-use Rattle.open_shop.specs.Tills.RecordedBy.{sender, till as by_till}
+use Rattle.sender_beside.specs.Tills.{RecordedBy, SenderFails, StopIs, is_own_fault, own_faults}
+use Rattle.sender_beside.specs.Tills.RecordedBy.{sender, till as by_till}
 use Rattle.verifactu.proofs.Promised.{one_torn, torn_risen}
 
 -- where no reply is a fault of the disk none is one of its own record

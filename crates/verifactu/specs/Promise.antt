@@ -33,23 +33,23 @@ use Rattle.shop_core.specs.History.{noted, receipt, recs}
 use Rattle.shop_core.specs.Legal.{Legal}
 use Rattle.shop_core.specs.Answer.Requests.{Asked}
 use Rattle.shop_core.specs.declared.answer.Reply.TheVariants.{Again, Refused, Taken}
-use Rattle.open_shop.specs.Crashes.{StandsSince}
+use Rattle.shop_drain.specs.Crashes.{StandsSince}
 use Rattle.issuers.specs.declared.parts.Part.{Part}
 use Rattle.many.specs.Scripts.{AreGoodParts}
-use Rattle.open_shop.specs.Devices.{Agencies, AllDevices, NobodyCalled, this_call}
+use Rattle.shop_drain.specs.Devices.{Agencies, AllDevices, NobodyCalled, this_call}
 use Rattle.shop_commands.specs.Further.{Further, LeftFurther}
-use Rattle.shop_commands.specs.Drain.{AgreesAtStart}
-use Rattle.open_shop.specs.Draining.{AreOfChain, SaysNothingBlindly}
+use Rattle.shop_drain.specs.Draining.{AgreesAtStart}
+use Rattle.sender_session.specs.Session.{AreOfChain, SaysNothingBlindly}
 use Rattle.shop_commands.specs.Follow.{IsFollowImage, OnlyFollows}
 use Rattle.shop_commands.specs.Migrate.{OnePost, OnlyMoves, disk_of_post}
-use Rattle.open_shop.specs.Noting.{NotesWhatIsSaid}
+use Rattle.sender_session.specs.Noting.{NotesWhatIsSaid}
 use Rattle.chain_store.specs.Replies.{Replies}
-use Rattle.shop_commands.specs.Scripts.{IsGoodScript}
-use Rattle.open_shop.specs.Tills.{asks_of, has_asks, own_of, tills_of}
+use Rattle.command_ends.specs.Scripts.{IsGoodScript}
+use Rattle.sender_beside.specs.Tills.{asks_of, has_asks, own_of, tills_of}
 use Rattle.verifactu.specs.CommandLine.{IsAskedFor}
 use Rattle.verifactu.specs.declared.command_line.Command.{Command}
 use Rattle.verifactu.specs.declared.command_line.Command.TheVariants.{Chain, Day, Drain, Serve, Migrate, Follow, Guard, Many}
-use Rattle.open_shop.specs.declared.posts.Post.{Post}
+use Rattle.shop_drain.specs.declared.posts.Post.{Post}
 
 -- the first of several issuers
 abbrev pub first_of : List (List ℕ) → Option (List ℕ)

@@ -18,8 +18,8 @@ use Rattle.file_commands.specs.Statements.{StatementEnds}
 use Rattle.file_commands.specs.Output.{PrintEnds}
 use Rattle.shop_commands.specs.Chain.{ChainEnds}
 use Rattle.shop_commands.specs.Day.{DayEnds}
-use Rattle.open_shop.specs.Devices.{AllDevices, NobodyCalled, OnlyPrints, OnlyReads, OnlyReadsFile, this_call}
-use Rattle.open_shop.specs.declared.posts.Post.{Post}
+use Rattle.shop_drain.specs.Devices.{AllDevices, NobodyCalled, OnlyPrints, OnlyReads, OnlyReadsFile, this_call}
+use Rattle.shop_drain.specs.declared.posts.Post.{Post}
 use Rattle.many.specs.Ends.{ManyEnds}
 use Rattle.shop_commands.specs.Further.{Further, LeftFurther}
 use Rattle.shop_commands.specs.Drain.{DrainEnds}

@@ -3,10 +3,10 @@ use Rattle.std.specs.Prelude.{◌≡◌, ◌⊎◌, ◌≤◌, ℕ, true, [], le
 use Rattle.std.specs.List.{AllByRecursion, list_any}
 use Rattle.ports.specs.Causes.{Rose}
 use Rattle.record_codec.specs.declared.entry.Entry.{Entry}
-use Rattle.open_shop.specs.Days.{Day, TillReplies, all_replies, torn_of}
-use Rattle.open_shop.specs.Draining.{AreNotesEntry}
+use Rattle.sender_beside.specs.Days.{Day, TillReplies, all_replies, torn_of}
+use Rattle.sender_session.specs.Session.{AreNotesEntry}
 use Rattle.chain_store.specs.Replies.{AllGoOn, is_disk_fault}
-use Rattle.open_shop.specs.Tills.{IsCutOffBy, SenderFails, StopIs, asks_of, own_faults}
+use Rattle.sender_beside.specs.Tills.{IsCutOffBy, SenderFails, StopIs, asks_of, own_faults}
 
 -- at most one entry is torn
 abbrev pub TearsAtMostOne : Type 0

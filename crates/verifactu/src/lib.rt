@@ -16,8 +16,8 @@ pub use laws::{
     what_was_handed_over_stays_of_the_chain,
 };
 pub use many::many_cmd;
-pub use open_shop::{Post, Posts};
 pub use running::run;
 pub use shop_commands::{
     Outside, chain_cmd, day_cmd, drain_cmd, follow_cmd, guard_cmd, migrate_cmd, serve_cmd,
 };
+pub use shop_drain::{Post, Posts};

@@ -2,7 +2,7 @@
 ghost use Rattle.std.specs.Prelude.{◌≡◌, length, map, string_bytes};
 ghost use Rattle.ports.specs.Sinks.{this_sink};
 ghost use Rattle.ports.specs.Sources.{this_source};
-ghost use Rattle.open_shop.specs.Devices.{disk_in, this_call};
+ghost use Rattle.shop_drain.specs.Devices.{disk_in, this_call};
 ghost use Rattle.shop_commands.specs.Further.{further, own_post};
 ghost use Rattle.report.specs.Status.{status_of};
 ghost use Rattle.report.specs.declared.status.Detail.TheVariants as detail;
@@ -21,7 +21,6 @@ use chain_disk::Disk;
 use file_commands::{
     audit_cmd, check_cmd, export_cmd, generate_cmd, link_cmd, matches_cmd, print, statement_cmd,
 };
-use open_shop::{Post, what_a_disk_reads_is_an_image, who_keeps_the_rules_tells};
 use ports::{Clock, Gate, Sink, Sleeper, Source};
 use report::{Detail, Ended};
 use shop_commands::{
@@ -29,6 +28,7 @@ use shop_commands::{
     serve_cmd, take_further,
 };
 use shop_core::{a_file_has_one_meaning, a_history_notes_its_records, legal_is_chained};
+use shop_drain::{Post, what_a_disk_reads_is_an_image, who_keeps_the_rules_tells};
 use std::alloc::Global;
 use std::sync::Wait;
 use std::thread::Threads;

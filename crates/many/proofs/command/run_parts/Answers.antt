@@ -5,7 +5,7 @@ use Rattle.issuers.specs.Parts.{HasLines}
 use Rattle.issuers.specs.declared.parts.Part.{Part}
 use Rattle.many.specs.Ends.{IssuersRun, RowEnds}
 use Rattle.many.specs.Times.{AreOwnPosts}
-use Rattle.open_shop.specs.declared.posts.Post.{Post}
+use Rattle.shop_drain.specs.declared.posts.Post.{Post}
 use Rattle.many.proofs.GivenBack.{given_run}
 use Rattle.many.proofs.Times.{own_long}
 use Rattle.many.proofs.command.run_parts.Goals as goal

@@ -13,7 +13,7 @@ use Rattle.many.specs.Tasks.{IsTasked}
 use Rattle.many.specs.Work.{WorksJob}
 use Rattle.many.specs.declared.working.Done.{Done}
 use Rattle.many.specs.declared.opening.Desks.{Desks}
-use Rattle.open_shop.specs.declared.posts.Post.{Post}
+use Rattle.shop_drain.specs.declared.posts.Post.{Post}
 use Rattle.many.proofs.Run.{dones_few, installed, rows_of}
 use Rattle.many.proofs.Tasks.{sides_long}
 use Rattle.many.proofs.Pairwise.{both_long}

@@ -3,7 +3,7 @@ use Rattle.std.specs.Prelude.{vec_len}
 use Rattle.many.specs.Work.{IsWaiting, WorksJob}
 use Rattle.many.specs.Pairwise.{Both}
 use Rattle.many.specs.declared.working.Job.{Job}
-use Rattle.open_shop.proofs.Jobs.{written_back}
+use Rattle.sender_session.proofs.Lists.{written_back}
 use Rattle.many.proofs.Sent.{job_send}
 use Rattle.many.proofs.Pairwise.{both_by_index}
 use mir.Syntax.{of_param}

@@ -6,8 +6,9 @@ use Rattle.report.specs.declared.status.Detail.{Detail}
 use Rattle.script.specs.declared.forms.Form.TheVariants.{Full}
 use Rattle.shop_commands.specs.Chain.{ChainEnds, ChainRan}
 use Rattle.chain_store.specs.Clocks.{this_clock}
-use Rattle.open_shop.specs.Devices.{Devices, Untouched}
-use Rattle.shop_commands.proofs.RunEnding.{chain_ran, unread}
+use Rattle.shop_drain.specs.Devices.{Devices, Untouched}
+use Rattle.shop_commands.proofs.ChainEnding.{chain_ran}
+use Rattle.command_ends.proofs.RunEnding.{unread}
 use Rattle.shop_commands.proofs.chain.chain_cmd.Goals as goal
 
 pub returns-in-Ok-clause-ends : goal.returns-in-Ok-clause-ends

@@ -5,9 +5,9 @@ use Rattle.file_commands.proofs.Bytewise.{took_nothing}
 use Rattle.ports.specs.Sinks.{this_sink}
 use Rattle.shop_core.specs.History.{History}
 use Rattle.shop_core.specs.declared.answer.Reply.{Reply}
-use Rattle.shop_commands.specs.Ending.{RunEnds}
-use Rattle.shop_commands.specs.Ending.RunEnds.{no_memory}
-use Rattle.shop_commands.specs.Printed.{printed}
+use Rattle.command_ends.specs.Ending.{RunEnds}
+use Rattle.command_ends.specs.Ending.RunEnds.{no_memory}
+use Rattle.command_ends.specs.Printed.{printed}
 use Rattle.shop_commands.proofs.chain.play.Goals as goal
 
 pub returns-in_default-clause-end : goal.returns-in_default-clause-end

@@ -8,7 +8,8 @@ use Rattle.shop_commands.specs.Chain.{ScriptEnds}
 use Rattle.chain_store.specs.Runs.{Stores}
 use Rattle.chain_store.specs.Clocks.{this_clock}
 use Rattle.chain_store.specs.Readings.{IsAsked, readings}
-use Rattle.shop_commands.proofs.RunEnding.{not_asked, not_opened, store_ran}
+use Rattle.shop_commands.proofs.ChainEnding.{not_asked, store_ran}
+use Rattle.command_ends.proofs.RunEnding.{not_opened}
 use Rattle.shop_commands.proofs.chain.run_asks.Goals as goal
 
 pub returns-in-Err : goal.returns-in-Err

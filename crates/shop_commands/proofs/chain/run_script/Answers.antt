@@ -6,7 +6,7 @@ use Rattle.shop_core.specs.Answer.Requests.{Asked}
 use Rattle.shop_commands.specs.Chain.{ScriptEnds}
 use Rattle.chain_store.specs.Clocks.{this_clock}
 use Rattle.chain_store.specs.Readings.{IsAsked, LeavesClock, readings, readings_of}
-use Rattle.shop_commands.proofs.RunEnding.{script_by}
+use Rattle.shop_commands.proofs.ChainEnding.{script_by}
 use Rattle.shop_commands.proofs.chain.run_script.Goals as goal
 
 pub returns-in-Some : goal.returns-in-Some

@@ -4,9 +4,9 @@ use Rattle.ports.specs.Sources.{this_source}
 use Rattle.report.specs.declared.status.Detail.{Detail}
 use Rattle.script.specs.declared.forms.Form.TheVariants.{Full}
 use Rattle.shop_commands.specs.Day.{DayEnds, DayRan}
-use Rattle.open_shop.specs.Devices.{LeftAll, around, this_call}
+use Rattle.shop_drain.specs.Devices.{LeftAll, around, this_call}
 use Rattle.shop_commands.proofs.DayEnding.{day_ran}
-use Rattle.shop_commands.proofs.RunEnding.{unread}
+use Rattle.command_ends.proofs.RunEnding.{unread}
 use Rattle.shop_commands.proofs.day.day_cmd.Goals as goal
 
 pub returns-in-Ok-clause-ends : goal.returns-in-Ok-clause-ends

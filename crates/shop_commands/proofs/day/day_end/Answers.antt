@@ -1,14 +1,14 @@
 use Rattle.std.proofs.Common.{◌≡◌, ◌∙◌, map, sym, inl, subst, OnOk, Result}
 use Rattle.report.specs.declared.status.Detail.{Detail}
 use Rattle.sender.specs.declared.answers.DrainFault.{DrainFault}
-use Rattle.open_shop.specs.Beside.{DayRunEnds}
-use Rattle.open_shop.specs.Beside.DayRunEnds.{done, write_fault, disk_fault, no_memory}
+use Rattle.shop_commands.specs.SenderEnds.{DayRunEnds}
+use Rattle.shop_commands.specs.SenderEnds.DayRunEnds.{done, write_fault, disk_fault, no_memory}
 use Rattle.chain_store.specs.Replies.{is_disk_fault, is_no_memory}
-use Rattle.open_shop.specs.Days.{all_replies}
-use Rattle.open_shop.specs.Works.{told_in}
-use Rattle.shop_commands.proofs.Bytewise.{part_of_output}
+use Rattle.sender_beside.specs.Days.{all_replies}
+use Rattle.shop_day.specs.Jobs.{told_in}
+use Rattle.command_ends.proofs.Bytewise.{part_of_output}
 use Rattle.shop_commands.proofs.DayTexts.{any_reply, sender_ends}
-use Rattle.shop_commands.proofs.RunEnding.{all_replied, written_either, written_whole, written_part}
+use Rattle.command_ends.proofs.RunEnding.{all_replied, written_either, written_whole, written_part}
 use Rattle.shop_commands.proofs.day.day_end.Goals as goal
 
 pub returns-then-one_lacks_memory : goal.returns-then-one_lacks_memory

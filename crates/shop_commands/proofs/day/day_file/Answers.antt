@@ -9,19 +9,21 @@ use Rattle.ports.specs.Sinks.{this_sink}
 use Rattle.shop_core.specs.History.{History, noted, recs}
 use Rattle.shop_core.specs.Answer.Requests.{Asked}
 use Rattle.till_calls.specs.Root.{Parts, Root, parts_of, root_of}
-use Rattle.open_shop.specs.Beside.{DayRunEnds, IsUnbegun}
-use Rattle.open_shop.specs.Days.{all_replies, shop_day}
+use Rattle.shop_commands.specs.SenderEnds.{DayRunEnds}
+use Rattle.shop_drain.specs.Opening.{IsUnbegun}
+use Rattle.sender_beside.specs.Days.{all_replies, shop_day}
 use Rattle.shop_commands.specs.Day.{day_text}
-use Rattle.open_shop.specs.Devices.{agency_desk, agency_in, agency_kind, sleeper_in, store_kind}
-use Rattle.open_shop.specs.Draining.{OpensSession}
-use Rattle.open_shop.specs.Tills.{DayRun, has_asks, tills_of}
-use Rattle.open_shop.specs.Works.{told_in}
-use Rattle.open_shop.specs.declared.tills.TillDay.{TillDay}
+use Rattle.sender_session.specs.Kinds.{agency_desk, agency_kind, store_kind}
+use Rattle.shop_drain.specs.Devices.{agency_in, sleeper_in}
+use Rattle.shop_drain.specs.Draining.{OpensSession}
+use Rattle.sender_beside.specs.Tills.{DayRun, has_asks, tills_of}
+use Rattle.shop_day.specs.Jobs.{told_in}
+use Rattle.shop_day.specs.declared.tills.TillDay.{TillDay}
 use Rattle.shop_commands.proofs.DayEnding.{day_done}
 use Rattle.shop_commands.proofs.ShopDays.{ShopDid, day_facts, not_asked}
-use Rattle.open_shop.proofs.Jobs.{same_numbers}
-use Rattle.shop_commands.proofs.RunEnding.{not_opened}
-use Rattle.open_shop.proofs.TillDays.{distinct, filter_at_most, pairs_of, within}
+use Rattle.shop_day.proofs.Jobs.{same_numbers}
+use Rattle.command_ends.proofs.RunEnding.{not_opened}
+use Rattle.sender_beside.proofs.TillDays.{distinct, filter_at_most, pairs_of, within}
 use Rattle.shop_commands.proofs.day.day_file.Goals as goal
 
 pub returns-in_default : goal.returns-in_default
@@ -51,8 +53,8 @@ begin-requires-clause-few g c =
     let f = length-range_with_len 1 64 in
     omega (arith, a, e, f)
 
-pub serve-opened-requires-clause-distinct : goal.serve-opened-requires-clause-distinct
-serve-opened-requires-clause-distinct g c κs inside =
+pub run_day-opened-requires-clause-distinct : goal.run_day-opened-requires-clause-distinct
+run_day-opened-requires-clause-distinct g c κs inside =
     pairs_of (λ (d : TillDay). d.till) (λ (a b : ℕ). a ≢ b) c.in-Ok.room.days.items
     (tills_of c.as_slice-asks.result.now) c.in-Ok.ensures.tills (distinct (has_asks c.as_slice-asks.result.now) 1 64)
 
@@ -101,7 +103,7 @@ returns-in-Ok-begin g c =
     let begun = c.in-Ok-begin.ensures in
     let p0 = parts_of o.store in
     let issuer = p0.state.issuer in
-    let served = c.serve-opened.result in
+    let served = c.run_day-opened.result in
     let days = served.tills.items in
     let tills = map told_in days in
     let new = parts_of served.opened.store in
@@ -115,7 +117,7 @@ returns-in-Ok-begin g c =
     let run : Ran script.asks (root_of g.D.Disk.told g.D.Disk.faults p0) then.agency =
     subst (λ (q : List Asked). Ran q (root_of g.D.Disk.told g.D.Disk.faults p0) then.agency) same
     (subst (λ (y : g.row.G.Denot). Ran asks (root_of g.D.Disk.told g.D.Disk.faults p0) y) (sym c.close-in-Ok-begin.ensures.rest.1)
-    (subst (λ (r : Root g.row.C.Denot). Ran asks r served.opened.agency) begun.shop.root c.serve-opened.ensures.day)) in
+    (subst (λ (r : Root g.row.C.Denot). Ran asks r served.opened.agency) begun.shop.root c.run_day-opened.ensures.day)) in
     let opens = subst (λ (x : g.row.G.Denot). OpensSession kind g.G.Agency.begun script.plan p0.state.entries
     (agency_desk g.G.Agency x) (agency_desk g.G.Agency b.agency)) k.kept.1 begun.session in
     let ends : DayRunEnds (all_replies tills) served.answer (length (noted new.state.entries)) (length (recs new.state.entries))
@@ -140,6 +142,6 @@ returns-in-Ok-begin g c =
     then.clock (sleeper_in g.Z.Sleeper out then) (agency_in g.G.Agency out then) p0 sink h
     c.what_a_disk_reads_is_an_image.ensures c.who_keeps_the_rules_tells.ensures (agency_desk g.G.Agency b.agency) opens did in
     inr (inr (inr (day_done c.args.issuer.now script _ _ facts end
-    (same_numbers days ∙ c.serve-opened.ensures.same ∙ c.in-Ok.ensures.tills ∙ ap tills_of same)
+    (same_numbers days ∙ c.run_day-opened.ensures.same ∙ c.in-Ok.ensures.tills ∙ ap tills_of same)
     (subst (λ (q : List Asked). DayRunEnds (all_replies tills) served.answer (length (noted new.state.entries))
     (length (recs new.state.entries)) (day_text q tills new.state.entries) sink end) same ends))))

@@ -6,7 +6,7 @@ use Rattle.ports.specs.declared.memory.CountingClock.{CountingClock}
 use Rattle.ports.specs.declared.sleeper.LeapSleeper.{LeapSleeper}
 use Rattle.shop_commands.specs.Day.{FileDay}
 use Rattle.chain_store.specs.Clocks.{Clocks, this_clock}
-use Rattle.open_shop.specs.Devices.{Agencies, Sleepers, agency_in, around_in, disk_in}
+use Rattle.shop_drain.specs.Devices.{Agencies, Sleepers, agency_in, around_in, disk_in}
 use Rattle.shop_commands.proofs.DayEnding.{by_line}
 use Rattle.shop_commands.proofs.day.day_script.Goals as goal
 

@@ -2,11 +2,11 @@ use Rattle.std.proofs.Common.{◌++◌, ℕ, List, subst, map, length}
 use Rattle.file_commands.proofs.Bytewise.{took_nothing}
 use Rattle.ports.specs.Sinks.{this_sink}
 use Rattle.shop_core.specs.History.{recs}
-use Rattle.open_shop.specs.Beside.{DayRunEnds}
-use Rattle.open_shop.specs.Beside.DayRunEnds.{no_memory}
+use Rattle.shop_commands.specs.SenderEnds.{DayRunEnds}
+use Rattle.shop_commands.specs.SenderEnds.DayRunEnds.{no_memory}
 use Rattle.shop_commands.specs.Day.{day_text}
-use Rattle.open_shop.specs.Days.{all_replies}
-use Rattle.open_shop.specs.Works.{told_in}
+use Rattle.sender_beside.specs.Days.{all_replies}
+use Rattle.shop_day.specs.Jobs.{told_in}
 use Rattle.shop_commands.proofs.day.print_day.Goals as goal
 
 pub returns-in_default : goal.returns-in_default

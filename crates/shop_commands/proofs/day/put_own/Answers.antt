@@ -1,5 +1,5 @@
 use Rattle.std.proofs.Common.{List, ◌++◌, ◌∷◌, ap, sym, ◌∙◌}
-use Rattle.open_shop.specs.Tills.{asks_of}
+use Rattle.sender_beside.specs.Tills.{asks_of}
 use Rattle.report.specs.declared.answers.AnswerLine.{AnswerLine}
 use Rattle.shop_commands.proofs.DayTexts.{no_answers}
 use Rattle.shop_commands.proofs.day.put_own.Goals as goal

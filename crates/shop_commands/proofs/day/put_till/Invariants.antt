@@ -1,6 +1,6 @@
 use Rattle.std.proofs.Common.{◌≡◌, ◌++◌, length}
-use Rattle.shop_commands.specs.Printed.{answers}
-use Rattle.open_shop.specs.Tills.{asks_of}
+use Rattle.command_ends.specs.Printed.{answers}
+use Rattle.sender_beside.specs.Tills.{asks_of}
 use Rattle.shop_commands.proofs.day.put_till.Given as goal
 
 abbrev pub invariant-loop-asked : goal.invariant-loop-asked

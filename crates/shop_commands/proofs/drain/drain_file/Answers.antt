@@ -6,12 +6,13 @@ use Rattle.ports.specs.Sinks.{this_sink}
 use Rattle.till_calls.specs.Root.{parts_of}
 use Rattle.till_calls.specs.Sound.{IsLater}
 use Rattle.chain_store.specs.Crashes.{StandsUpTo}
-use Rattle.open_shop.specs.Devices.{agency_desk, agency_in, agency_kind, disk_in}
-use Rattle.open_shop.specs.Draining.{StoreDrains, disk_span, spanning}
-use Rattle.open_shop.specs.Outcomes.{outcome_of}
-use Rattle.open_shop.proofs.Starting.{not_later}
+use Rattle.sender_session.specs.Kinds.{agency_desk, agency_kind}
+use Rattle.shop_drain.specs.Devices.{agency_in, disk_in}
+use Rattle.shop_drain.specs.Draining.{StoreDrains, disk_span, spanning}
+use Rattle.shop_drain.specs.Outcomes.{outcome_of}
+use Rattle.shop_drain.proofs.Starting.{not_later}
 use Rattle.shop_commands.proofs.Finished.{opened_drained}
-use Rattle.shop_commands.proofs.RunEnding.{not_opened}
+use Rattle.command_ends.proofs.RunEnding.{not_opened}
 use Rattle.shop_commands.proofs.drain.drain_file.Goals as goal
 
 pub returns-in-Err : goal.returns-in-Err

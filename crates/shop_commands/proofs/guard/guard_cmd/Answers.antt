@@ -1,5 +1,5 @@
 use Rattle.std.proofs.Common.{refl}
-use Rattle.open_shop.specs.declared.posts.Post.{Post}
+use Rattle.shop_drain.specs.declared.posts.Post.{Post}
 use Rattle.shop_commands.proofs.guard.guard_cmd.Goals as goal
 
 pub returns-clause-ends : goal.returns-clause-ends

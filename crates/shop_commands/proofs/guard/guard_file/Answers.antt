@@ -8,13 +8,14 @@ use Rattle.ports.specs.Sinks.{this_sink}
 use Rattle.shop_core.specs.History.{History}
 use Rattle.standby.specs.Chains.{chain_of}
 use Rattle.till_calls.specs.Root.{parts_of}
-use Rattle.open_shop.specs.Devices.{agency_desk, agency_in, agency_kind, store_kind}
-use Rattle.open_shop.specs.Draining.{disk_span, spanning}
+use Rattle.sender_session.specs.Kinds.{agency_desk, agency_kind, store_kind}
+use Rattle.shop_drain.specs.Devices.{agency_in}
+use Rattle.shop_drain.specs.Draining.{disk_span, spanning}
 use Rattle.shop_commands.specs.Guard.{IsCopied, LeftUncopied}
-use Rattle.open_shop.specs.Guarding.{GuardDrains, held_by}
-use Rattle.open_shop.specs.Outcomes.{guard_outcome}
+use Rattle.shop_drain.specs.Guarding.{GuardDrains, held_by}
+use Rattle.shop_drain.specs.Outcomes.{guard_outcome}
 use Rattle.shop_commands.proofs.GuardEnding.{guarded_file, not_copied}
-use Rattle.shop_commands.proofs.RunEnding.{not_opened}
+use Rattle.command_ends.proofs.RunEnding.{not_opened}
 use Rattle.shop_commands.proofs.guard.guard_file.Goals as goal
 
 pub returns-in-Err : goal.returns-in-Err

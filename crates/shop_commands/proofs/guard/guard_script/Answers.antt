@@ -5,7 +5,7 @@ use Rattle.ports.specs.Sinks.{this_sink}
 use Rattle.ports.specs.declared.memory.CountingClock.{CountingClock}
 use Rattle.ports.specs.declared.sleeper.LeapSleeper.{LeapSleeper}
 use Rattle.chain_store.specs.Clocks.{Clocks, this_clock}
-use Rattle.open_shop.specs.Devices.{Agencies, Sleepers, agency_in, clock_in, disk_in, sleeper_in}
+use Rattle.shop_drain.specs.Devices.{Agencies, Sleepers, agency_in, clock_in, disk_in, sleeper_in}
 use Rattle.shop_commands.specs.Guard.{FileGuardEnds}
 use Rattle.shop_commands.proofs.GuardEnding.{guard_plain, guard_timed}
 use Rattle.shop_commands.proofs.guard.guard_script.Goals as goal

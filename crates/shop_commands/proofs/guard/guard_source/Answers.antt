@@ -5,10 +5,10 @@ use Rattle.ports.specs.Sources.{this_source}
 use Rattle.report.specs.declared.status.Detail.{Detail}
 use Rattle.script.specs.declared.forms.Form.TheVariants.{NoCommands}
 use Rattle.script.specs.declared.scripts.Script.{Script}
-use Rattle.open_shop.specs.Devices.{LeftAll, around, this_call}
+use Rattle.shop_drain.specs.Devices.{LeftAll, around, this_call}
 use Rattle.shop_commands.specs.Guard.{GuardEnds, ScriptGuardEnds}
-use Rattle.shop_commands.specs.Scripts.ScriptedEnds.{ran}
-use Rattle.shop_commands.proofs.RunEnding.{unread}
+use Rattle.command_ends.specs.Scripts.ScriptedEnds.{ran}
+use Rattle.command_ends.proofs.RunEnding.{unread}
 use Rattle.shop_commands.proofs.guard.guard_source.Goals as goal
 
 pub returns-in-Ok-clause-ends : goal.returns-in-Ok-clause-ends

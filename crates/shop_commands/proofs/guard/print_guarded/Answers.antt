@@ -1,5 +1,5 @@
 use Rattle.file_commands.proofs.Bytewise.{took_nothing}
-use Rattle.open_shop.specs.Draining.DrainRunEnds.{no_memory}
+use Rattle.command_ends.specs.DrainEnds.DrainRunEnds.{no_memory}
 use Rattle.shop_commands.proofs.guard.print_guarded.Goals as goal
 
 pub returns-in-Err : goal.returns-in-Err

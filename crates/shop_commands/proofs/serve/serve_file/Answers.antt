@@ -4,11 +4,12 @@ use Rattle.file_commands.proofs.Bytewise.{took_nothing}
 use Rattle.ports.specs.Sinks.{this_sink}
 use Rattle.ports.specs.Sources.{this_source}
 use Rattle.till_calls.specs.Root.{parts_of}
-use Rattle.open_shop.specs.Devices.{around_in, store_kind, this_call}
-use Rattle.open_shop.specs.Opening.{IsOpened}
+use Rattle.shop_drain.specs.Devices.{around_in, this_call}
+use Rattle.sender_session.specs.Kinds.{store_kind}
+use Rattle.shop_drain.specs.Opening.{IsOpened}
 use Rattle.shop_commands.specs.Serve.{FileServe, post_with}
-use Rattle.open_shop.specs.declared.posts.Post.{Post}
-use Rattle.shop_commands.proofs.RunEnding.{not_opened}
+use Rattle.shop_drain.specs.declared.posts.Post.{Post}
+use Rattle.command_ends.proofs.RunEnding.{not_opened}
 use Rattle.shop_commands.proofs.ServeEnding.{serve_ends}
 use Rattle.shop_commands.proofs.serve.serve_file.Goals as goal
 

@@ -9,7 +9,8 @@ use Rattle.ports.specs.Sinks.{this_sink}
 use Rattle.ports.specs.declared.memory.CountingClock.{CountingClock}
 use Rattle.ports.specs.declared.sleeper.LeapSleeper.{LeapSleeper}
 use Rattle.till_calls.specs.Root.{parts_of}
-use Rattle.open_shop.specs.Devices.{Agencies, Sleepers, agency_desk, agency_kind, around_in, store_kind}
+use Rattle.shop_drain.specs.Devices.{Agencies, Sleepers, around_in}
+use Rattle.sender_session.specs.Kinds.{agency_desk, agency_kind, store_kind}
 use Rattle.shop_commands.specs.Serve.{FileServe, post_with, source_since}
 use Rattle.shop_commands.proofs.ServeEnding.{opened_with, serve_by_line}
 use Rattle.shop_commands.proofs.serve.serve_first.Goals as goal

@@ -12,12 +12,13 @@ use Rattle.ports.specs.Sources.{SourceRose, Sources}
 use Rattle.report.specs.Pieces.{chain_line}
 use Rattle.shop_core.specs.History.{History, noted, recs}
 use Rattle.till_calls.specs.Root.{Root, parts_of}
-use Rattle.open_shop.specs.Beside.{IsUnbegun}
-use Rattle.open_shop.specs.Devices.{agency_desk, agency_in, agency_kind, sleeper_in, store_kind}
-use Rattle.open_shop.specs.Draining.{OpensSession}
+use Rattle.shop_drain.specs.Opening.{IsUnbegun}
+use Rattle.sender_session.specs.Kinds.{agency_desk, agency_kind, store_kind}
+use Rattle.shop_drain.specs.Devices.{agency_in, sleeper_in}
+use Rattle.shop_drain.specs.Draining.{OpensSession}
 use Rattle.shop_commands.specs.Serve.{Closes, SpeechEnds, post_with, printed, source_since}
-use Rattle.open_shop.specs.Talking.{CounterRun}
-use Rattle.open_shop.proofs.AllTills.{all_within}
+use Rattle.shop_dialogue.specs.Talking.{CounterRun}
+use Rattle.shop_dialogue.proofs.AllTills.{all_within}
 use Rattle.shop_commands.proofs.ServeEnding.{came_read, not_begun, talked}
 use Rattle.shop_commands.proofs.serve.serve_opened.Goals as goal
 
@@ -77,9 +78,9 @@ returns-in-Err g c = λ issuer disk left faults is_opened comes later cause.
 pub speech_end-detail-requires : goal.speech_end-detail-requires
 speech_end-detail-requires g c =
     let f = c.requires.first in
-    let run = c.talk-opened.ensures.run f.left f.faults f.comes f.later f.cause in
+    let run = c.run_dialogue-opened.ensures.run f.left f.faults f.comes f.later f.cause in
     record {
-      counts = subst (λ (h : History). OnOk c.talk-opened.result.answer (length (noted h.entries) ≡ length (recs h.entries)))
+      counts = subst (λ (h : History). OnOk c.run_dialogue-opened.result.answer (length (noted h.entries) ≡ length (recs h.entries)))
           (sym c.state-in-Ok-begin.ensures) run.run.all_noted;
     }
 
@@ -89,7 +90,7 @@ returns-in-Ok-begin g c = λ issuer disk left faults is_opened comes later cause
     let p = parts_of o.store in
     let b = c.in-Ok-begin.begun in
     let begun = c.in-Ok-begin.ensures in
-    let t = c.talk-opened.result in
+    let t = c.run_dialogue-opened.result in
     let then = parts_of t.opened.store in
     let old = post_with disk p o.sleeper o.agency in
     let new = post_with then.disk then t.opened.sleeper t.opened.agency in
@@ -98,11 +99,11 @@ returns-in-Ok-begin g c = λ issuer disk left faults is_opened comes later cause
     let after = agency_desk g.G.Agency t.opened.agency in
     let clock = clock_first c.args.first.now in
     let from = moment_since left faults (g.K.Sink.taken c.args.sink.now) (g.K.Sink.faults c.args.sink.now) in
-    let now = moment_of g.S.Source.left g.S.Source.faults g.K.Sink.taken g.K.Sink.faults c.talk-opened.new.source
-    c.talk-opened.new.sink in
+    let now = moment_of g.S.Source.left g.S.Source.faults g.K.Sink.taken g.K.Sink.faults c.run_dialogue-opened.new.source
+    c.run_dialogue-opened.new.sink in
     let h = store_kind g.D.Disk g.C.Clock in
     let run = subst (λ (r : Root g.row.C.Denot). CounterRun h r then clock from now kind desk after t.answer t.lacked t.how)
-    begun.shop.root (c.talk-opened.ensures.run left faults comes later cause) in
+    begun.shop.root (c.run_dialogue-opened.ensures.run left faults comes later cause) in
     let opens = subst (λ (q : Plan). OpensSession kind g.G.Agency.begun q p.state.entries (agency_desk g.G.Agency o.agency) desk)
     c.plain.ensures begun.session in
     let closed = c.close_speech-closed.result in
@@ -117,7 +118,7 @@ returns-in-Ok-begin g c = λ issuer disk left faults is_opened comes later cause
     SpeechEnds began replies t.answer (length (noted v.entries)) (length (recs v.entries)) text s k end in
     let ends = subst (λ (v : History). Comes v) c.state-in-Ok-begin.ensures c.speech_end-detail.ensures in
     talked h issuer disk p then (sleeper_in g.Z.Sleeper old new) (agency_in g.G.Agency old new)
-    (source_since left faults (g.S.Source.left c.talk-opened.new.source) (g.S.Source.faults c.talk-opened.new.source)) k clock
+    (source_since left faults (g.S.Source.left c.run_dialogue-opened.new.source) (g.S.Source.faults c.run_dialogue-opened.new.source)) k clock
     is_opened c.what_a_disk_reads_is_an_image.ensures c.who_keeps_the_rules_tells.ensures desk opens t.answer t.lacked t.how from now
     run (c.legal_is_chained.ensures.linked p.state.version p.state.issuer then.state.entries run.run.sound.legal)
     (λ till. c.legal_is_chained.ensures.rising p.state.version p.state.issuer then.state.entries till run.run.sound.legal)

@@ -3,7 +3,7 @@ use Rattle.std.specs.List.{list_any}
 use Rattle.chain_store.specs.Replies.{is_no_memory}
 use Rattle.report.specs.declared.status.Detail.{Detail}
 use Rattle.shop_core.specs.History.{noted, recs}
-use Rattle.open_shop.specs.Beside.{sender_lacks_memory}
+use Rattle.command_ends.specs.DrainEnds.{sender_lacks_memory}
 use Rattle.shop_commands.specs.Serve.{SpeechEnds}
 use Rattle.shop_commands.specs.Serve.SpeechEnds.{no_memory}
 use Rattle.shop_commands.proofs.SpeechTexts.{ended_so, some_written}

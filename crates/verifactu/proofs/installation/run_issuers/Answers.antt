@@ -5,8 +5,8 @@ use Rattle.report.specs.declared.status.Detail.{Detail}
 use Rattle.file_commands.proofs.Bytewise.{took_nothing}
 use Rattle.many.specs.Ends.{ManyEnds}
 use Rattle.many.specs.Ends.ManyEnds.{no_memory}
-use Rattle.open_shop.specs.Devices.{this_call}
-use Rattle.open_shop.specs.declared.posts.Post.{Post}
+use Rattle.shop_drain.specs.Devices.{this_call}
+use Rattle.shop_drain.specs.declared.posts.Post.{Post}
 use Rattle.shop_commands.specs.Further.{further, own_post}
 use Rattle.verifactu.specs.Running.{ManyRan}
 use Rattle.verifactu.proofs.ManyPromised.{posts_back}

@@ -1,5 +1,5 @@
 use Rattle.std.proofs.Common.{refl}
-use Rattle.open_shop.specs.declared.posts.Post.{Post}
+use Rattle.shop_drain.specs.declared.posts.Post.{Post}
 use Rattle.verifactu.proofs.running.move_to_further.Goals as goal
 
 pub returns-clause-moves : goal.returns-clause-moves

@@ -3,7 +3,8 @@ use Rattle.ports.specs.Sinks.{this_sink}
 use Rattle.ports.specs.Sources.{this_source}
 use Rattle.verifactu.specs.CommandLine.{AsksFor}
 use Rattle.shop_commands.specs.Further.{further, own_post}
-use Rattle.open_shop.specs.Devices.{agency_desk, this_call}
+use Rattle.sender_session.specs.Kinds.{agency_desk}
+use Rattle.shop_drain.specs.Devices.{this_call}
 use Rattle.verifactu.specs.declared.command_line.Command.{Command}
 use Rattle.verifactu.specs.declared.command_line.Command.TheVariants.{Follow, Many, Migrate}
 use Rattle.verifactu.proofs.CommandLine.{guard_posts, many_posts, own_of}

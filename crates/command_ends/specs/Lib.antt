@@ -1,0 +1,5 @@
+pub mod Printed
+pub mod Ending
+pub mod DrainEnds
+pub mod Scripts
+pub mod Played

@@ -1,0 +1,10 @@
+pub mod TillDays
+pub mod TillItems
+pub mod TillRuns
+pub mod StartAndStop
+pub mod ClosedShop
+pub mod Rows
+pub mod SeenAll
+pub mod DayRuns
+pub mod Joined
+pub mod SenderSent

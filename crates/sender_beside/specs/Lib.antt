@@ -1,0 +1,4 @@
+pub mod Days
+pub mod Beside
+pub mod Tills
+pub mod Works

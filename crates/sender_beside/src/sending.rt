@@ -1,0 +1,118 @@
+// A day's sender: its turns at the same time as the tills, and its drain after them.
+ghost use Rattle.std.specs.Prelude.{◌≡◌, ◌≤◌, length, OnOk};
+ghost use Rattle.once_world.specs.Outbox.{Sight, history_of};
+ghost use Rattle.shop_core.specs.History.{noted, recs};
+ghost use Rattle.sender.specs.Draining.{scene_of};
+ghost use Rattle.sender.specs.Sending.{Sending, fresh};
+ghost use Rattle.sender.specs.Turning.{Desk};
+ghost use Rattle.till_calls.specs.Mark.{mark_by, sight_by};
+ghost use Rattle.till_calls.specs.Shop.{seat_knows, seat_shop, shop_id};
+ghost use Rattle.sender_session.specs.Kinds.{agency_desk, agency_kind};
+ghost use Rattle.sender_session.specs.Session.{DrainsTo, SendsOn};
+
+use agency_port::{Agency, Turns};
+use chain_disk::Disk;
+use once_world::what_came_beside_is_records;
+use ports::{Clock, Gate, Sleeper};
+use sender::{DrainFault, Sender};
+use sender_session::{Means, send_until};
+use std::sync::Wait;
+use std::sync::atomic::AtomicBool;
+use till_calls::{SenderSeat, Shop};
+
+/// A day's sender once it has ended: its seat, all that it took along, and how it ended. Ok of its turns says that it was told to
+/// stop, and Ok of its drain that no record waits.
+#[derive(Drop)]
+pub struct Sent<D: Disk, C: Clock, G: Agency + Drop, Z: Sleeper + Drop> {
+    pub seat: SenderSeat<D, C>,
+    pub sender: Sender,
+    pub agency: G,
+    pub sleeper: Z,
+    pub answer: Result<(), DrainFault>,
+}
+
+/// Sends from this seat by a new sender until it is told to stop.
+pub(crate) fn send_part<D: Disk, C: Clock, G: Agency + Drop, Z: Sleeper + Drop, T: Gate, R: Wait>(
+    means: Means<'_, R, T>,
+    shop: &Shop<D, C>,
+    seat: SenderSeat<D, C>,
+    mut agency: G,
+    mut sleeper: Z,
+    stop: &AtomicBool,
+) -> Sent<D, C, G, Z>
+    requires own { seat_shop seat ≡ shop_id shop.now }
+    ensures mark { mark_by (seat_shop result.seat) (seat_knows result.seat) ≡ mark_by (seat_shop seat) (seat_knows seat) }
+    ensures sends { SendsOn (agency_kind G.Agency) (sight_by (seat_knows seat)) (sight_by (seat_knows result.seat))
+        (agency_desk G.Agency agency) (agency_desk G.Agency result.agency) fresh result.sender result.answer }
+{
+    let mut outbox = shop.seat_box(seat);
+    let mut sender = Sender::new();
+    let answer = send_until(
+        means,
+        &mut outbox,
+        &mut sender,
+        &mut agency,
+        &mut sleeper,
+        stop,
+    );
+    Sent {
+        seat: outbox.into_seat(),
+        sender,
+        agency,
+        sleeper,
+        answer,
+    }
+}
+
+/// Drains with the same sender, unless a fault ended its turns. It answers `Undelivered` exactly at the eighth turn of this drain
+/// that is answered with a fault of the link.
+pub fn drain_rest<D: Disk, C: Clock, G: Agency + Drop, Z: Sleeper + Drop, T, R: Wait>(
+    means: Means<'_, R, T>,
+    shop: &Shop<D, C>,
+    sent: Sent<D, C, G, Z>,
+) -> Sent<D, C, G, Z>
+    requires own { seat_shop sent.seat ≡ shop_id shop.now }
+    ensures mark { mark_by (seat_shop result.seat) (seat_knows result.seat)
+        ≡ mark_by (seat_shop sent.seat) (seat_knows sent.seat) }
+    ensures sends { (before : Sight) (old : Desk) (sending : Sending) →
+        SendsOn (agency_kind G.Agency) before (sight_by (seat_knows sent.seat)) old (agency_desk G.Agency sent.agency) sending
+        sent.sender sent.answer →
+        SendsOn (agency_kind G.Agency) before (sight_by (seat_knows result.seat)) old (agency_desk G.Agency result.agency)
+        sending result.sender result.answer }
+    ensures turns { OnOk sent.answer (DrainsTo (agency_kind G.Agency) Z.tells
+        (scene_of (agency_desk G.Agency sent.agency) (sight_by (seat_knows sent.seat)) sent.sender (Z.moment sent.sleeper))
+        (scene_of (agency_desk G.Agency result.agency) (sight_by (seat_knows result.seat)) result.sender
+        (Z.moment result.sleeper)) result.answer) }
+    ensures covers { OnOk result.answer ((seat_knows sent.seat).least ≤ length (seat_knows result.seat).seen) }
+    ensures delivered { OnOk result.answer (length (noted (history_of (sight_by (seat_knows result.seat))))
+        ≡ length (recs (history_of (sight_by (seat_knows result.seat))))) }
+{
+    what_came_beside_is_records();
+    if sent.answer.is_err() {
+        return sent;
+    }
+    let Sent {
+        seat,
+        mut sender,
+        mut agency,
+        mut sleeper,
+        answer: _,
+    } = sent;
+    let mut turns = Turns::new(means.alloc);
+    let mut outbox = shop.seat_box(seat);
+    let answer = sender.drain(
+        means.rt,
+        means.alloc,
+        &mut outbox,
+        &mut agency,
+        &mut sleeper,
+        &mut turns,
+    );
+    Sent {
+        seat: outbox.into_seat(),
+        sender,
+        agency,
+        sleeper,
+        answer,
+    }
+}

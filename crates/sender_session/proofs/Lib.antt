@@ -1,0 +1,15 @@
+pub mod Lists
+pub mod Entries
+pub mod Places
+pub mod Standing
+pub mod Walking
+pub mod Stops
+pub mod Contrary
+pub mod Noting
+pub mod NotingTurns
+pub mod Clear
+pub mod Torn
+pub mod GivingUp
+pub mod Turns
+pub mod Batches
+pub mod MeansSent

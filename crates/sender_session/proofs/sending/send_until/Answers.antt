@@ -1,0 +1,17 @@
+use Rattle.std.proofs.Common.{◌∙◌, refl}
+use Rattle.sender_session.proofs.Turns.{sends_after, sends_none}
+use Rattle.sender_session.proofs.sending.send_until.Goals as goal
+
+pub loop-init : goal.loop-init
+loop-init g c = record { next = tt; finite = tt; fixed = refl; sends = sends_none _ _ _ _ }
+
+pub loop-preserved : goal.loop-preserved
+loop-preserved g c = record {
+  next = tt;
+  finite = tt;
+  fixed = c.one_turn.ensures.fixed ∙ c.loop.invariant.fixed;
+  sends = sends_after c.in_default.is c.loop.invariant.sends c.one_turn.ensures.sends;
+}
+
+pub returns-in-Err-clause-sends : goal.returns-in-Err-clause-sends
+returns-in-Err-clause-sends g c = sends_after c.in-Err.is c.loop.invariant.sends c.one_turn.ensures.sends

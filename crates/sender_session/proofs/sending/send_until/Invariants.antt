@@ -1,0 +1,15 @@
+use Rattle.std.specs.Prelude.{◌≡◌, Ok}
+use Rattle.sender_session.specs.Kinds.{agency_desk, agency_kind}
+use Rattle.sender_session.specs.Session.{SendsOn}
+use Rattle.sender_session.proofs.sending.send_until.Given as goal
+
+-- the turns so far went on
+abbrev pub invariant-loop : goal.invariant-loop
+invariant-loop g l = record {
+  next : (goal.iterator-loop g).can_next l.iterator';
+  finite : (goal.iterator-loop g).is_finite l.iterator';
+  fixed : g.O.Outbox.fixed l.outbox ≡ g.O.Outbox.fixed l.fn.outbox;
+  sends : SendsOn (agency_kind g.G.Agency) (g.O.Outbox.sight l.fn.outbox)
+      (g.O.Outbox.sight l.outbox)
+      (agency_desk g.G.Agency l.fn.agency) (agency_desk g.G.Agency l.agency) l.fn.sender l.sender (Ok tt);
+}

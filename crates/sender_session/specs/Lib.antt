@@ -1,0 +1,5 @@
+pub mod Kinds
+pub mod Steps
+pub mod Noting
+pub mod Contradictions
+pub mod Session

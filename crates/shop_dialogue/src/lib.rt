@@ -1,0 +1,7 @@
+//! A dialogue at the counter of a shop: one thread holds all its tills and answers line by line, and a sender sends at the same time;
+//! once the dialogue has ended it drains, and the shop is closed.
+#![tactic(auto)]
+
+mod running;
+
+pub use running::{DialogueDone, run_dialogue};

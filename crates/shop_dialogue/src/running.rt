@@ -1,0 +1,226 @@
+// A dialogue at the counter of a shop, and a sender at the same time.
+ghost use Rattle.std.specs.Prelude.{◌≡◌, ◌≤◌, [], ℕ, List, Option, false, map, reverse, All, vec_capacity};
+ghost use Rattle.std.specs.List.{range_with_len};
+ghost use Rattle.counter.specs.Speech.{ComesFirst, IsCause, clock_first, moment_of, moment_since};
+ghost use Rattle.record_codec.specs.declared.entry.TheConstants.{LAST_TILL};
+ghost use Rattle.sender.specs.Sending.{fresh};
+ghost use Rattle.till_calls.specs.Mark.{mark_by, sight_by};
+ghost use Rattle.till_calls.specs.Root.{parts_of};
+ghost use Rattle.till_calls.specs.Shop.{made_tills, numbers, seat_knows, seat_shop, shop_id, shop_root, till_knows, till_number};
+ghost use Rattle.till_calls.specs.Shop.{till_shop};
+ghost use Rattle.sender_session.specs.Session.{SendsOn};
+ghost use Rattle.sender_session.specs.Kinds.{agency_desk, agency_kind, store_kind};
+ghost use Rattle.shop_dialogue.specs.Talking.{CounterRun, HasCome, SpeaksOn};
+ghost use Rattle.shop_drain.specs.Started.{IsStarted};
+
+use agency_port::Agency;
+use chain_disk::Disk;
+use chain_lock::who_sees_all_that_is_owned_sees_all;
+use counter::{Counter, Listener, SpeechEnd, converse, give_back, hold_all};
+use dialogue::Task;
+use once_world::agreement_is_kept;
+use ports::{Clock, Gate, Sink, Sleeper, Source};
+use sender::{DrainFault, a_session_begins};
+use sender_beside::{Sent, drain_rest, with_sender};
+use sender_session::Means;
+use shop_drain::{Begun, Opened};
+use std::sync::Wait;
+use std::thread::Threads;
+use till_calls::{
+    Kept, SenderSeat, Shop, Started, Till, a_run_is_told_at_the_end, a_till_adds_for_no_other,
+    a_till_adds_what_is_taken, a_till_owns_records_and_stops, a_till_owns_within_what_it_knows,
+};
+
+/// A dialogue that is done: the file that it leaves, with all that it was given, and how it and the sending ended.
+#[derive(Drop)]
+pub struct DialogueDone<D: Disk, C: Clock, Z: Sleeper + Drop, G: Agency + Drop> {
+    pub opened: Opened<D, C, Z, G>,
+    pub how: SpeechEnd,
+    /// Whether some command found no memory.
+    pub lacked: bool,
+    /// How the sending ended. Ok: no record waits.
+    pub answer: Result<(), DrainFault>,
+}
+
+// Answers line by line, and tells how it ended.
+fn converse_to<S: Source, K: Sink, D: Disk, C: Clock, T: Gate, R: Wait>(
+    means: Means<'_, R, T>,
+    shop: &Shop<D, C>,
+    counter: &mut Counter<D, C>,
+    first: &Result<Task, SpeechEnd>,
+    source: &mut S,
+    sink: &mut K,
+    how: &mut SpeechEnd,
+)
+    requires own { All (λ t. till_shop t ≡ shop_id shop.now) counter.old.held.items }
+    requires numbers { reverse (map till_number counter.old.held.items) ≡ range_with_len 1 LAST_TILL }
+    requires lacked { counter.old.lacked ≡ false }
+    ensures own { All (λ t. till_shop t ≡ shop_id shop.now) counter.new.held.items }
+    ensures numbers { map till_number counter.new.held.items ≡ map till_number counter.old.held.items }
+    ensures spoken { SpeaksOn C.coming counter.old.listener first.now
+        (moment_of S.left S.faults K.taken K.faults source.old sink.old)
+        (moment_of S.left S.faults K.taken K.faults source.new sink.new) counter.new.lacked
+        (map till_knows counter.old.held.items) (map till_knows counter.new.held.items) how.new }
+{
+    *how = converse(
+        means.rt,
+        means.alloc,
+        means.gate,
+        shop,
+        counter,
+        first,
+        source,
+        sink,
+    );
+}
+
+// Answers line by line, and sends beside.
+fn converse_beside<S, K, D, C, Z, G, T, R>(
+    means: Means<'_, R, T>,
+    shop: &Shop<D, C>,
+    counter: &mut Counter<D, C>,
+    first: &Result<Task, SpeechEnd>,
+    source: &mut S,
+    sink: &mut K,
+    how: &mut SpeechEnd,
+    seat: SenderSeat<D, C>,
+    agency: G,
+    sleeper: Z,
+) -> Sent<D, C, G, Z>
+where
+    S: Source,
+    K: Sink,
+    D: Disk + Send,
+    C: Clock + Send,
+    Z: Sleeper + Send + Drop,
+    G: Agency + Send + Drop,
+    T: Gate + Sync,
+    R: Threads + Wait + Sync,
+    requires own { All (λ t. till_shop t ≡ shop_id shop.now) counter.old.held.items }
+    requires numbers { reverse (map till_number counter.old.held.items) ≡ range_with_len 1 LAST_TILL }
+    requires lacked { counter.old.lacked ≡ false }
+    requires seat { seat_shop seat ≡ shop_id shop.now }
+    ensures own { All (λ t. till_shop t ≡ shop_id shop.now) counter.new.held.items }
+    ensures numbers { map till_number counter.new.held.items ≡ map till_number counter.old.held.items }
+    ensures spoken { SpeaksOn C.coming counter.old.listener first.now
+        (moment_of S.left S.faults K.taken K.faults source.old sink.old)
+        (moment_of S.left S.faults K.taken K.faults source.new sink.new) counter.new.lacked
+        (map till_knows counter.old.held.items) (map till_knows counter.new.held.items) how.new }
+    ensures mark { mark_by (seat_shop result.seat) (seat_knows result.seat) ≡ mark_by (seat_shop seat) (seat_knows seat) }
+    ensures sends { SendsOn (agency_kind G.Agency) (sight_by (seat_knows seat)) (sight_by (seat_knows result.seat))
+        (agency_desk G.Agency agency) (agency_desk G.Agency result.agency) fresh result.sender result.answer }
+{
+    with_sender(
+        means,
+        shop,
+        seat,
+        agency,
+        sleeper,
+        &mut move ||
+            requires { All (λ t. till_shop t ≡ shop_id shop.now) counter.now.held.items
+                × (reverse (map till_number counter.now.held.items) ≡ range_with_len 1 LAST_TILL)
+                × (counter.now.lacked ≡ false) }
+            ensures { All (λ t. till_shop t ≡ shop_id shop.entry.now) counter.exit.now.held.items
+                × (map till_number counter.exit.now.held.items ≡ map till_number counter.entry.now.held.items)
+                × SpeaksOn C.coming counter.entry.now.listener first.entry.now
+                (moment_of S.left S.faults K.taken K.faults source.entry.now sink.entry.now)
+                (moment_of S.left S.faults K.taken K.faults source.exit.now sink.exit.now) counter.exit.now.lacked
+                (map till_knows counter.entry.now.held.items) (map till_knows counter.exit.now.held.items) how.exit.now }
+        { converse_to(means, shop, counter, first, source, sink, how) },
+    )
+}
+
+/// The dialogue of a shop that has just begun, from its first answered line on, if there is one. Beside it a sender sends what
+/// waits to an agency whose session is open, and once it has ended the sender drains.
+pub fn run_dialogue<
+    S: Source,
+    K: Sink,
+    D: Disk + Send + Drop,
+    C: Clock + Send + Drop,
+    Z: Sleeper + Send + Drop,
+    G: Agency + Send + Drop,
+    T: Gate + Sync,
+    R: Threads + Wait + Sync,
+>(
+    means: Means<'_, R, T>,
+    listener: Listener,
+    mut held: Vec<Till<D, C>>,
+    first: &Result<Task, SpeechEnd>,
+    source: &mut S,
+    sink: &mut K,
+    begun: Begun<D, C, Z, G>,
+) -> DialogueDone<D, C, Z, G>
+    requires numbers { numbers begun.started.tills ≡ range_with_len 1 LAST_TILL }
+    requires made { made_tills begun.started.tills ≡ LAST_TILL }
+    requires room { (held.items ≡ []) × (LAST_TILL ≤ vec_capacity held) }
+    requires begun { IsStarted begun.started }
+    requires first { HasCome (S.left source.old) (S.faults source.old) listener first.now }
+    ensures run { (left : Option (List ℕ)) (faults : ℕ) → ComesFirst left (S.left source.old) listener first.now →
+        faults ≤ S.faults source.old → IsCause faults (S.faults source.old) first.now →
+        CounterRun (store_kind D.Disk C.Clock) (shop_root begun.started.shop) (parts_of result.opened.store)
+        (clock_first first.now) (moment_since left faults (K.taken sink.old) (K.faults sink.old))
+        (moment_of S.left S.faults K.taken K.faults source.new sink.new) (agency_kind G.Agency)
+        (agency_desk G.Agency begun.agency) (agency_desk G.Agency result.opened.agency) result.answer result.lacked result.how }
+{
+    agreement_is_kept();
+    a_session_begins();
+    a_run_is_told_at_the_end::<C>();
+    a_till_adds_what_is_taken::<C>();
+    a_till_adds_for_no_other::<C>();
+    a_till_owns_records_and_stops::<C>();
+    a_till_owns_within_what_it_knows::<C>();
+    who_sees_all_that_is_owned_sees_all::<Kept<D, C>>();
+    let Begun {
+        started,
+        sleeper,
+        agency,
+    } = begun;
+    let Started {
+        shop,
+        mut tills,
+        seat,
+    } = started;
+    hold_all(&mut tills, &mut held);
+    let mut counter = Counter {
+        listener,
+        held,
+        lacked: false,
+    };
+    let mut how = SpeechEnd::Ended;
+    let mut sent = converse_beside(
+        means,
+        &shop,
+        &mut counter,
+        first,
+        source,
+        sink,
+        &mut how,
+        seat,
+        agency,
+        sleeper,
+    );
+    let Counter {
+        listener: _,
+        held,
+        lacked,
+    } = counter;
+    give_back(&shop, &mut tills, held, &mut sent.seat);
+    let rest = drain_rest(means, &shop, sent);
+    let Sent {
+        seat,
+        sender: _,
+        agency,
+        sleeper,
+        answer,
+    } = rest;
+    DialogueDone {
+        opened: Opened {
+            store: shop.close(tills, seat),
+            sleeper,
+            agency,
+        },
+        how,
+        lacked,
+        answer,
+    }
+}

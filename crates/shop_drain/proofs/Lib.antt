@@ -1,0 +1,14 @@
+pub mod Finishing
+pub mod WithoutTills
+pub mod Agreed
+pub mod Starting
+pub mod Stopped
+pub mod DrainSteps
+pub mod Pairs
+pub mod Closing
+pub mod Saying
+pub mod NewSender
+pub mod Placed
+pub mod Paired
+pub mod Guarded
+pub mod GuardSaying

@@ -1,0 +1,212 @@
+-- What a drain leaves of an opened store and of its agency.
+use Rattle.std.specs.Prelude.{◌≡◌, ◌⊎◌, ℕ, ◌+◌, ◌*◌, ◌≤◌, List, [], ◌∷◌, ◌++◌, length, map, zip, Bool, IsTrue, ⊤, IsErrOf, OnOk}
+use Rattle.std.specs.Prelude.{Option, Some, None, Result, Ok, Err, ◌-◌}
+use Rattle.std.specs.List.{AllByRecursion}
+use Rattle.record_fields.specs.declared.versions.Version.{Version}
+use Rattle.ports.specs.Causes.{Rose}
+use Rattle.record_fields.specs.declared.records.Sealed.{Sealed}
+use Rattle.record_fields.specs.declared.lines.Line.{Line}
+use Rattle.huella.specs.Linked.{Linked}
+use Rattle.record_codec.specs.declared.entry.Entry.{Entry}
+use Rattle.chain_disk.specs.OnDisk.{OnDisk, LeavesNow}
+use Rattle.chain_disk.specs.declared.disk.Disk.{Ghosts}
+use Rattle.journal.specs.declared.faults.StoreFault.TheVariants as store
+use Rattle.shop_core.specs.File.Files.{StandsFor}
+use Rattle.shop_core.specs.History.{recs, noted, waiting}
+use Rattle.shop_core.specs.Legal.{Legal}
+use Rattle.agency_rules.specs.declared.plans.Plan.{Plan}
+use Rattle.agency_port.specs.Ledger.{Begins}
+use Rattle.agency_port.specs.Messages.{batches_in}
+use Rattle.agency_port.specs.declared.turns.Evidence.{Evidence}
+use Rattle.agency_port.specs.declared.turns.Told.{Told as TurnLine}
+use Rattle.agency_port.specs.declared.turns.Told.TheVariants as told
+use Rattle.once_world.specs.Agreement.{Agree}
+use Rattle.sender.specs.declared.answers.DrainFault.{DrainFault}
+use Rattle.sender.specs.declared.answers.DrainFault.TheVariants as drain
+use Rattle.sender.specs.Dark.{AreRunsBy}
+use Rattle.sender.specs.Draining.{IsBounded}
+use Rattle.sender.specs.Turning.{AgencyKind, Desk}
+use Rattle.chain_store.specs.Crashes.{Kept}
+use Rattle.sender_session.specs.Noting.{NotesSaid, TornSaid}
+use Rattle.sender_session.specs.Steps.{EndsSaying, Step, Steps, line_in}
+use Rattle.sender_session.specs.Session.{AreNotesEntry, IsDiskAnswer, SaysNothingBlindly, AreOfChain}
+use Rattle.shop_drain.specs.Devices.{Agencies}
+
+-- notes alone came after the history before
+pub record AddsNotesAlone (before after : List Entry) : Type 0 where
+  pub more : List Entry
+  pub is : after ≡ before ++ more
+  pub are : AllByRecursion AreNotesEntry more
+
+-- the entry whose append failed, where a shop has stopped
+abbrev pub torn_in : Option ℕ → Option Entry → List Entry
+torn_in (Some faults) (Some torn) = torn ∷ []
+torn_in (Some faults) None = []
+torn_in None torn = []
+
+-- the pairs that a history notes: its first records, each with the line noted for it
+abbrev pub noted_pairs : List Entry → List (Sealed × Line)
+noted_pairs entries = zip (recs entries) (noted entries)
+
+-- A drain: the history of its store at the start and at the end, with the notes after it whose append failed; what the
+-- agency's kind tells, and its desk at the start and at the end; whether the sleeper tells its moment, and that at the start;
+-- the lines told; and the answer.
+pub record Span : Type 0 where
+  pub start : List Entry
+  pub end : List Entry
+  pub torn : List Entry
+  pub kind : AgencyKind
+  pub old : Desk
+  pub new : Desk
+  pub exact : Bool
+  pub moment : ℕ
+  pub turns : List TurnLine
+  pub answer : Result (Unit {0}) DrainFault
+
+-- what a drain ends with
+pub record Outcome : Type 0 where
+  pub end : List Entry
+  pub torn : List Entry
+  pub turns : List TurnLine
+  pub answer : Result (Unit {0}) DrainFault
+
+-- the drain that began with this and ended with that
+abbrev pub spanning : List Entry → AgencyKind → Desk → Desk → Bool → ℕ → Outcome → Span
+spanning start kind old new exact moment o = record {
+  start = start;
+  end = o.end;
+  torn = o.torn;
+  kind = kind;
+  old = old;
+  new = new;
+  exact = exact;
+  moment = moment;
+  turns = o.turns;
+  answer = o.answer;
+}
+
+-- The disk failed at the notes of a drain's last step. Its line tells that, and so does the answer; or memory was wanting for the
+-- line, which then isn't told.
+pub record TearsLast (going last : List Step) (turns : List TurnLine) (answer : Result (Unit {0}) DrainFault) : Type 0 where
+  pub line : EndsSaying last told.Disk
+  pub printed : ((answer ≡ Err (drain.Store store.DiskFault)) × (turns ≡ map line_in (going ++ last)))
+      ⊎ ((answer ≡ Err drain.NoMemory) × (turns ≡ map line_in going))
+
+-- With an agency that keeps its rules: it agrees with the history, and with what may be torn; it contradicts itself never; and
+-- the turns are bounded by the batches that waited and by the link faults.
+pub record StillAgrees (d : Span) : Type 0 where
+  pub whole : Agree d.end d.new.ledger.processed d.new.ledger.sent
+  pub torn : Agree (d.end ++ d.torn) d.new.ledger.processed d.new.ledger.sent
+  pub no_contradiction : (evidence : Evidence) → IsErrOf d.answer (drain.Contradiction evidence) → ⊥
+  pub bound : (batches : ℕ) → length (waiting d.start) ≤ 1000 * batches → IsBounded batches [] d.turns
+
+-- What a new sender does by its turns, over an agency whose session is open.
+pub record Sends (d : Span) : Type 0 where
+  pub notes : AddsNotesAlone d.start d.end
+  pub torn_notes : AllByRecursion AreNotesEntry d.torn
+  pub at_most_one : length d.torn ≤ 1
+  -- at Ok all is noted
+  pub all_noted : OnOk d.answer (length (noted d.end) ≡ length (recs d.end))
+  -- what it said and noted, turn by turn, and the lines that stand for it
+  pub steps : Steps d.kind.tells d.exact (recs d.start) (length (noted d.start)) (length (noted d.end)) d.moment d.old d.new
+      d.turns d.answer
+  -- notes are torn only where the last step's line is the disk's fault
+  pub torn_told : (d.torn ≡ []) ⊎ TearsLast steps.going steps.last d.turns d.answer
+  -- the lines that were noted are those that its messages say, each message of the first records that waited
+  pub lines : IsTrue d.kind.tells → NotesSaid d.start d.end d.old.ledger.messages d.new.ledger.messages d.answer
+  pub torn_lines : IsTrue d.kind.tells → AllByRecursion (TornSaid d.end d.new.ledger.messages) d.torn
+  -- where shop and agency agreed they still do
+  pub agreement : IsTrue d.kind.keeps_rules → Agree d.start d.old.ledger.processed d.old.ledger.sent → StillAgrees d
+  -- no record is handed over again unless a consultation since has answered that it wasn't seen
+  pub careful : IsTrue d.kind.tells →
+      AreRunsBy (recs d.start) (length (noted d.start) + 1000) (batches_in d.old.ledger.messages) →
+      SaysNothingBlindly d.old.ledger.messages d.new.ledger.messages
+  -- where all batches were such runs of the chain they are at the end
+  pub runs : IsTrue d.kind.tells → AreOfChain d.start d.old.ledger.messages → AreOfChain d.end d.new.ledger.messages
+
+-- how an agency's kind begins: what it has processed once a session is open, by what it had and by the noted pairs
+abbrev pub Beginning : Type 0
+Beginning = List (Sealed × Line) → List (Sealed × Line) → List (Sealed × Line)
+
+-- a session was opened, with this plan and the pairs noted in the history
+pub record OpensSession (kind : AgencyKind) (begun : Beginning) (plan : Plan) (start : List Entry) (old opened : Desk) : Type 0 where
+  pub lists : IsTrue kind.tells → Begins old.ledger opened.ledger plan (length (noted start))
+  pub rules : IsTrue kind.keeps_rules → opened.ledger.processed ≡ begun old.ledger.processed (noted_pairs start)
+  pub faults : opened.faults ≡ old.faults
+
+-- memory was wanting for it, and nothing was done
+pub record IsUnopened (d : Span) : Type 0 where
+  pub answer : d.answer ≡ Err drain.NoMemory
+  pub turns : d.turns ≡ []
+  pub lists : IsTrue d.kind.tells → d.new.ledger ≡ d.old.ledger
+  pub faults : d.new.faults ≡ d.old.faults
+  pub end : d.end ≡ d.start
+  pub torn : d.torn ≡ []
+
+-- the drain from this desk of the agency on
+abbrev pub from_desk : Desk → Span → Span
+from_desk desk d = record {
+  start = d.start;
+  end = d.end;
+  torn = d.torn;
+  kind = d.kind;
+  old = desk;
+  new = d.new;
+  exact = d.exact;
+  moment = d.moment;
+  turns = d.turns;
+  answer = d.answer;
+}
+
+-- The session was opened, and all that was said and noted was by the turns of one new sender. Where shop and agency agreed
+-- once it was open, they still do.
+pub record IsSession (begun : Beginning) (plan : Plan) (d : Span) : Type 0 where
+  pub opened : Desk
+  pub opens : OpensSession d.kind begun plan d.start d.old opened
+  pub sends : Sends (from_desk opened d)
+  pub agreement : IsTrue d.kind.keeps_rules →
+      Agree d.start (begun d.old.ledger.processed (noted_pairs d.start)) d.old.ledger.sent → StillAgrees d
+
+-- the file stands for a history that agrees
+abbrev pub AgreesInFile : Version → List ℕ → Desk → List ℕ → Type 0
+AgreesInFile version issuer desk file = (entries : List Entry)
+    × StandsFor version issuer entries file × Agree entries desk.ledger.processed desk.ledger.sent
+
+-- a disk that a store is on: whether its kind tells what it holds, and what it told and its count of faults before and after
+pub record DiskSpan : Type 0 where
+  pub tells : Bool
+  pub since : OnDisk
+  pub now : OnDisk
+  pub faults : ℕ
+  pub faults_after : ℕ
+
+-- the disk of a store that was this and is that
+abbrev pub disk_span : {D : Type 0} → Ghosts D → D → D → DiskSpan
+disk_span kind old new = record {
+  tells = kind.tells;
+  since = kind.told old;
+  now = kind.told new;
+  faults = kind.faults old;
+  faults_after = kind.faults new;
+}
+
+-- The drain of an opened store. Each crash since some moment leaves what P says of the histories and the torn notes.
+pub record StoreDrains (P : List Entry → List Entry → List Entry → List ℕ → Type 0) (begun : Beginning) (plan : Plan)
+    (version : Version) (issuer : List ℕ) (k : DiskSpan) (d : Span) : Type 0 where
+  pub session : IsUnopened d ⊎ IsSession begun plan d
+  pub notes : AddsNotesAlone d.start d.end
+  pub legal : Legal version issuer d.end
+  pub linked : Linked issuer (recs d.end)
+  pub kept : IsTrue k.tells → Kept (P d.start d.end d.torn) version issuer d.end d.torn k.since k.now
+  -- where the agency agrees it does with the history of each file that a crash now leaves
+  pub images : IsTrue k.tells → StillAgrees d → LeavesNow k.now (AgreesInFile version issuer d.new)
+  -- the disk's count of faults rose where it failed
+  pub risen : IsDiskAnswer d.answer → Rose k.faults k.faults_after
+  -- and wherever notes are torn
+  pub torn_risen : (d.torn ≡ []) ⊎ Rose k.faults k.faults_after
+  pub later : k.faults ≤ k.faults_after
+
+-- with the records noted in the file as what it has processed, where its kind begins so, the agency agrees with it
+abbrev pub AgreesAtStart : {G : Type 0} → Agencies G → List Entry → Type 0
+AgreesAtStart a start =
+    Agree start (a.begun a.before.ledger.processed (noted_pairs start)) a.before.ledger.sent

@@ -1,0 +1,59 @@
+-- What a day's sender leaves of its shop and of its agency, and how a day ends.
+use Rattle.std.specs.Prelude.{◌≡◌, ◌-◌, [], IsTrue, ◌≤◌, ℕ, List}
+use Rattle.sender.specs.Turning.{Desk, AgencyKind}
+use Rattle.ports.specs.Sinks.{Sinks, WroteNothing}
+use Rattle.chain_disk.specs.Disks.{Disks, DiskRose, LeftDisk}
+use Rattle.chain_store.specs.declared.causes.OpenCause.{OpenCause}
+use Rattle.chain_store.specs.declared.causes.OpenCause.TheVariants as cause
+use Rattle.recovery.specs.Opening.{IsLeftUnopened, IsFound}
+use Rattle.report.specs.declared.status.Detail.{Detail}
+use Rattle.report.specs.declared.status.Detail.TheVariants as detail
+use Rattle.chain_disk.specs.OnDisk.{LeavesNow, LeavesOnly, synced}
+use Rattle.shop_core.specs.File.Files.{StandsFor}
+use Rattle.till_calls.specs.Root.{Parts}
+use Rattle.shop_drain.specs.Crashes.{KeepsFile}
+use Rattle.sender_session.specs.Kinds.{StoreKind}
+
+-- no session was opened
+pub record IsUnbegun (kind : AgencyKind) (old new : Desk) : Type 0 where
+  pub lists : IsTrue kind.tells → new.ledger ≡ old.ledger
+  pub faults : new.faults ≡ old.faults
+
+abbrev pub opening_end : OpenCause → Detail
+opening_end cause.DiskFault = detail.DiskFault
+opening_end (cause.Damaged at) = detail.Damaged at
+opening_end (cause.OtherIssuer held) = detail.OtherIssuer held
+opening_end cause.NoMemory = detail.NoMemory
+
+-- there was no room for what was to come: nothing was printed, and neither the file nor the rest was touched
+pub record NoRoom {D : Type 0} (left : Type 0) (s : Sinks) (k : Disks D) (end : Detail) : Type 0 where
+  pub ends : end ≡ detail.NoMemory
+  pub wrote : WroteNothing s
+  pub disk : LeftDisk k
+  pub rest : left
+
+-- the file wasn't opened, nothing was printed, and the rest wasn't touched
+pub record NotOpened {D : Type 0} (issuer : List ℕ) (left : Type 0) (s : Sinks) (k : Disks D) (end : Detail) : Type 0 where
+  pub why : OpenCause
+  pub ends : end ≡ opening_end why
+  pub risen : why ≡ cause.DiskFault → DiskRose k
+  pub left_by : IsTrue k.tells → IsLeftUnopened issuer why (k.told k.disk) (k.told k.disk_after)
+  pub every_crash : IsTrue k.tells → KeepsFile issuer (k.told k.disk) (k.told k.disk_after)
+  pub wrote : WroteNothing s
+  pub rest : left
+
+-- The file was opened: its store is this issuer's, with the history that the file stood for and its version, and the clock
+-- wasn't read. Each crash since the sync at the opening leaves what was found; now it leaves that history.
+pub record IsOpened {D C : Type 0} (issuer : List ℕ) (h : StoreKind D C) (disk : D) (clock : C) (store : Parts D C) : Type 0 where
+  pub issuer_is : store.state.issuer ≡ issuer
+  pub clock_is : store.clock ≡ clock
+  pub found : IsTrue h.tells → IsFound store.state.version issuer store.state.entries (h.told disk).content
+  pub any_moment : IsTrue h.tells →
+      LeavesOnly (synced (h.told disk)) (h.told store.disk) (IsFound store.state.version issuer store.state.entries)
+  pub every_crash : IsTrue h.tells → LeavesNow (h.told store.disk) (StandsFor store.state.version issuer store.state.entries)
+  pub later : h.faults disk ≤ h.faults store.disk
+
+-- it wasn't, and this is what the opening left of it
+pub record IsUnopened {D : Type 0} (issuer : List ℕ) (why : OpenCause) (k : Disks D) : Type 0 where
+  pub risen : why ≡ cause.DiskFault → DiskRose k
+  pub left_by : IsTrue k.tells → IsLeftUnopened issuer why (k.told k.disk) (k.told k.disk_after)
