@@ -7,7 +7,7 @@ use crate::Disk;
 use ports::{Failed, Faults, reason_of};
 use std::fs::{self, File, Files, OpenOptions, TryLockError};
 use std::io::{self, ErrorKind};
-use std::os::unix::fs::FileExt;
+use std::os::unix::fs::{FileExt, OpenOptionsExt};
 use std::path::Path;
 
 // Why a call failed, in a few words.
@@ -36,8 +36,8 @@ impl From<TryLockError> for Reason {
 }
 
 /// The file at a path. A file that isn't there reads as one of length 0, and reading leaves nothing behind: it is made,
-/// and opened for writing, at its first write or sync. The first sync also syncs the folder, so that the entry of a
-/// file made new lasts. Each error raises the count of faults.
+/// and opened for writing, at its first write or sync, for its owner alone to read and write (mode 0600). The first sync
+/// also syncs the folder, so that the entry of a file made new lasts. Each error raises the count of faults.
 ///
 /// One program at a time writes to a file: the first write or sync takes the file's exclusive lock before it touches a
 /// byte, and it is held until this is dropped. Where another holds it the call fails, and the file is as it was. Reading
@@ -64,6 +64,9 @@ fn is_there<R: Files>(rt: &R, path: &str) -> Result<bool, Reason> {
     }
 }
 
+// The permissions of a file that is made: a chain has customers' names and tax numbers.
+const OWNER_ALONE: u32 = 0o600;
+
 // The file, opened for writing and locked. It is made where it isn't there.
 fn open_locked<R: Files<File = File>>(rt: &R, path: &str) -> Result<File, Reason> {
     let is_old = is_there(rt, path)?;
@@ -71,6 +74,7 @@ fn open_locked<R: Files<File = File>>(rt: &R, path: &str) -> Result<File, Reason
         .read(true)
         .write(true)
         .create(!is_old)
+        .mode(OWNER_ALONE)
         .open(rt, path)?;
     opened.try_lock()?;
     Ok(opened)
