@@ -178,3 +178,50 @@ fn a_tax_and_its_surcharge_round_apart() -> Result<(), Fail> {
     }
     Ok(())
 }
+
+// A key, a total with its tax in cents, and the bases of its lines, which another program found by trying all.
+type Priced = (&'static str, i64, &'static [i64]);
+
+const PRICED: [Priced; 16] = [
+    ("21", 0, &[0]),
+    ("21", 1, &[1]),
+    ("21", 1000, &[413, 413]),
+    ("21", -1000, &[-413, -413]),
+    ("21", 1999, &[1652]),
+    ("10", 5, &[3, 2]),
+    ("10", 6, &[5]),
+    ("10", 16, &[11, 4]),
+    ("4", 13, &[7, 6]),
+    ("21+", 1000, &[396, 396]),
+    ("21+", 1003, &[795]),
+    ("4+", 35, &[34]),
+    ("0", 1000, &[1000]),
+    ("03/1", 15_001, &[10_001, 4999]),
+    ("03/2500", 2, &[1, 1]),
+    ("21", 9_999_999_999_999, &[]),
+];
+
+fn are_bases(found: Option<TotalLines>, bases: &[i64]) -> bool {
+    match found {
+        None => bases.is_empty(),
+        Some(TotalLines::One(line)) => bases.len() == 1 && line.base.get() == bases[0],
+        Some(TotalLines::Two(first, second)) => {
+            bases.len() == 2 && first.base.get() == bases[0] && second.base.get() == bases[1]
+        }
+    }
+}
+
+fn is_priced(row: &Priced) -> Result<(), Fail> {
+    let (Some(key), Some(total)) = (LineKey::read(row.0), Cents::new(row.1)) else {
+        return Err(Fail::new("a key and a total"));
+    };
+    holds(are_bases(lines_of_total(key, total), row.2), row.0)
+}
+
+#[test]
+fn a_total_with_its_tax_becomes_lines() -> Result<(), Fail> {
+    for row in &PRICED {
+        is_priced(row)?;
+    }
+    Ok(())
+}
