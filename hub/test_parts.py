@@ -8,6 +8,7 @@ import stat
 import sys
 import tempfile
 import unittest
+import unittest.mock
 from typing import Any, Awaitable, Callable, List
 
 import hub_forms
@@ -153,11 +154,8 @@ class PipeTest(unittest.TestCase):
             lines = [sale(1, serial, customer=("B12345674", f"Bar {serial}")) for serial in range(1, 8)]
             return await asyncio.gather(*map(shop.ask, lines)), shop.starts
 
-        most, hub_pipe.MOST_CUSTOMERS = hub_pipe.MOST_CUSTOMERS, 3
-        try:
+        with unittest.mock.patch("hub_pipe.MOST_CUSTOMERS", 3):
             receipts, starts = self.over(Program(TAKES), work)
-        finally:
-            hub_pipe.MOST_CUSTOMERS = most
         self.assertEqual((len(receipts), starts), (7, 3))
 
     def test_statuses_that_no_restart_mends_end_the_shop(self) -> None:
@@ -214,7 +212,8 @@ class FormsTest(unittest.TestCase):
     def test_what_may_not_become_a_line_is_no_request(self) -> None:
         good = {"serial": "1", "series": '"A"', "kind": '"F2"', "lines": '[{"class":"21","total":1}]',
                 "customer": '{"nif":"B12345674","name":"Bar"}', "refs": '[{"num":"A-1","date":"2025-01-01"}]', "rect": '"S"'}
-        bad_words = ['""', '"A B"', '"A\\nB"', '"A\\tB"', '"A=B"', '"A\\u0000"', '"\\u00d1"', '"A\\u2028"', '"%s"' % ("A" * 81), "1", "null", "true", "[]"]
+        bad_words = ['""', '"A B"', '"A\\nB"', '"A\\tB"', '"A=B"', '"A\\u0000"', '"\\u00d1"', '"A\\u2028"', '"%s"' % ("A" * 81), "1", "null", "true",
+                     "[]"]
         bad_numbers = ["1.0", "1e3", "true", '"1"', "null", "NaN", "Infinity", "10000000000000", "-10000000000000", "9" * 5000, "[]"]
         bad = {"series": bad_words, "kind": bad_words, "serial": bad_numbers, "rect": ['"T"', "1", "[]", "null"],
                "lines": ["1", "[1]", '[{"class":"21"}]', '[{"class":"21","base":1,"total":1}]', '[{"class":"21","base":1,"x":1}]']
@@ -222,7 +221,8 @@ class FormsTest(unittest.TestCase):
                                                                              for key in ("base", "total")],
                "customer": ["null", '{"nif":"B12345674"}', '{"nif":"B12345674","nome":"Bar"}']
                + [f'{{"nif":{word},"name":"Bar"}}' for word in bad_words]
-               + [f'{{"nif":"B12345674","name":{name}}}' for name in ('""', '"A\\nB"', '"A\\rB"', '"A\\u0085"', '"A\\u2028"', '"\\ud800"', '"%s"' % ("A" * 201), "1")],
+               + [f'{{"nif":"B12345674","name":{name}}}' for name in ('""', '"A\\nB"', '"A\\rB"', '"A\\u0085"', '"A\\u2028"', '"\\ud800"',
+                                                                       '"%s"' % ("A" * 201), "1")],
                "refs": ["{}", '[{"num":"A-1","date":"01-01-2025"}]', '[{"num":"A-1","date":"2025-01-01 "}]', '[{"num":"A 1","date":"2025-01-01"}]']}
         read_command("sale", self.body(good))
         for key, values in bad.items():

@@ -35,6 +35,14 @@ class Running(unittest.TestCase):
         self.addCleanup(found.end)
         return found
 
+    def with_one_that_waits(self) -> Hub:
+        """A hub over the program's own agency, whose pause one of two records sits out."""
+        hub = self.hub(agency=False, environment={"STAND_IN_PAUSE": "1000"})
+        for serial in (1, 2):
+            self.assertEqual(hub.sell(1, serial).status, 201)
+            until(lambda: hub.state()["noted"] >= 1, "the first one is noted")
+        return hub
+
     def rows(self) -> List[List[str]]:
         """The file's listing, once nobody writes it."""
         status, text = self.place.run("list", self.place.file, "all")
@@ -89,13 +97,12 @@ class KillTest(Running):
         return hub.port
 
     def test_the_program_dies_with_a_hub_that_is_killed(self) -> None:
-        hub = self.hub()
-        self.assertEqual(hub.sell(1, 1).status, 201)
+        hub = self.with_one_that_waits()
         program = hub.program()
         hub.process.kill()
         hub.wait()
-        until(lambda: not os.path.exists(f"/proc/{program}"), "the program has ended")
-        self.assertEqual(self.hub().sell(1, 1).json["answer"], "again")
+        until(lambda: not os.path.exists(f"/proc/{program}"), "the program has ended, its agency's pause or not", 30)
+        self.assertEqual(self.hub().sell(1, 2).json["answer"], "again")
 
 
 class OrderTest(Running):
@@ -128,7 +135,8 @@ class OrderTest(Running):
         connections = [hub.connect() for _ in range(5)]
         for serial, connection in enumerate(connections, 2):
             body = json.dumps({"serial": serial, "series": "A", "kind": "F2", "lines": [{"class": "21", "base": 1}]})
-            connection.sendall(f"POST /v1/sales HTTP/1.1\r\nHost: hub\r\nAuthorization: Bearer {self.place.till[1]}\r\nContent-Length: {len(body)}\r\n\r\n{body}".encode())
+            head = f"POST /v1/sales HTTP/1.1\r\nHost: hub\r\nAuthorization: Bearer {self.place.till[1]}\r\nContent-Length: {len(body)}\r\n\r\n"
+            connection.sendall(f"{head}{body}".encode())
             time.sleep(0.2)
         fifth = read_answer(connections[4])
         assert fifth is not None
@@ -212,11 +220,7 @@ class StopTest(Running):
         self.assertEqual((status, text), (0, "chain 2 noted 2\n"))
 
     def test_a_second_signal_kills_the_program_at_once(self) -> None:
-        silent = {"STAND_IN_PAUSE": "1000"}
-        hub = self.hub(agency=False, environment=silent)
-        for serial in (1, 2):
-            self.assertEqual(hub.sell(1, serial).status, 201)
-            until(lambda: hub.state()["noted"] >= 1, "the first one is noted")
+        hub = self.with_one_that_waits()
         hub.process.send_signal(signal.SIGINT)
         time.sleep(1)
         self.assertIsNone(hub.process.poll())
@@ -247,7 +251,7 @@ class DiskTest(Running):
         mounted = subprocess.run(["mount", "-t", "tmpfs", "-o", "size=256k", "tmpfs", disk], stderr=subprocess.DEVNULL, check=False)
         if mounted.returncode:
             self.skipTest("a small disk can't be mounted here")
-        self.addCleanup(subprocess.run, ["umount", disk], check=False)
+        self.addCleanup(subprocess.call, ["umount", disk])
         self.place.file = os.path.join(disk, "shop.chain")
         hub = self.hub()
         self.assertEqual(hub.sell(1, 1).status, 201)
@@ -279,23 +283,27 @@ class SlowTest(Running):
         hard = resource.getrlimit(resource.RLIMIT_NOFILE)[1]
         resource.setrlimit(resource.RLIMIT_NOFILE, (hard, hard))
 
-    def sell_beside(self, slow_ones: int, count: int, sellers: int) -> "tuple[Hub, List[Till], Slow]":
-        """Tills that sell beside so many slow connections."""
-        hub = self.hub()
-        some, slow = self.many(hub, sellers), Slow(hub.port, slow_ones, self.place.till[64])
+    def sell_beside(self, slow_ones: int, count: int, sellers: int, kinds: int) -> "tuple[Hub, List[Till], int]":
+        """Tills that sell beside so many slow connections, over a hub that begins with 1,024 file handles; how many it had at most."""
+        hub = self.hub(prefix=("prlimit", "--nofile=1024:8192"))
+        some, slow = self.many(hub, sellers), Slow(hub.port, slow_ones, self.place.till[64], kinds)
+        handles = 0
 
         async def work() -> None:
+            nonlocal handles
             await slow.begin()
-            await asyncio.sleep(2)
+            for _ in range(50):
+                await asyncio.sleep(0.1)
+                handles = max(handles, len(os.listdir(f"/proc/{hub.process.pid}/fd")))
             await tills.sell_together(some, count)
             slow.stop()
 
         tills.run(work())
-        return hub, some, slow
+        return hub, some, handles
 
     def test_1000_slow_connections_and_63_tills(self) -> None:
         count = max(2, Options.sales // 10)
-        hub, sellers, _ = self.sell_beside(1_000, count, TILLS - 1)
+        hub, sellers, _ = self.sell_beside(1_000, count, TILLS - 1, 3)
         with open(f"/proc/{hub.process.pid}/status", encoding="utf-8") as status:
             peak = next(int(line.split()[1]) for line in status if line.startswith("VmHWM"))
         self.assertLess(peak, 100_000)
@@ -304,9 +312,9 @@ class SlowTest(Running):
         self.stands_once(sellers, count)
 
     def test_2500_slow_connections_and_eight_tills(self) -> None:
-        hub, sellers, slow = self.sell_beside(2_500, 5, 8)
+        hub, sellers, handles = self.sell_beside(2_500, 5, 8, 2)
         # beyond 2,000 those that have owed a request longest are closed, and never a till amid its request
-        self.assertGreaterEqual(len(slow.ends), 500)
+        self.assertTrue(1_900 < handles < 2_100, handles)
         self.assertEqual(hub.stop(), 0)
         self.stands_once(sellers, 5)
 

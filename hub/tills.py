@@ -43,7 +43,7 @@ class Till:
         if status in (429, 503):
             return False
         if status not in (200, 201):
-            self.fault = f"till {self.number} serial {serial}: {status} {answer}"
+            self.fault = f"till {self.number} serial {serial}: {status} {answer.decode()}"
             raise AssertionError(self.fault)
         kept = json.loads(answer)
         self.sold[serial] = (kept["place"], kept["num"], kept["huella"])
@@ -87,10 +87,10 @@ def faults(tills: List[Till], rows: List[List[str]], count: int) -> List[str]:
 
 
 class Slow:
-    """Connections that say nothing, or send a byte a second of a head or a body."""
+    """Connections that say nothing, or send a byte a second of a head or, the third kind, of a body."""
 
-    def __init__(self, port: int, count: int, token: str, address: str = "127.0.0.1") -> None:
-        self.port, self.count, self.address = port, count, address
+    def __init__(self, port: int, count: int, token: str, kinds: int = 3, address: str = "127.0.0.1") -> None:
+        self.port, self.count, self.address, self.kinds = port, count, address, kinds
         head = f"POST /v1/sales HTTP/1.1\r\nHost: hub\r\nAuthorization: Bearer {token}\r\n"
         self.texts = [b"", head.encode(), f"{head}Content-Length: 60000\r\n\r\n".encode()]
         self.ends: List[float] = []  # seconds after which each was closed
@@ -105,12 +105,13 @@ class Slow:
         began = time.monotonic()
         try:
             reader, writer = await asyncio.open_connection(self.address, self.port)
-            text = self.texts[at % 3]
-            if at % 3 == 2:
+            kind = at % self.kinds
+            text = self.texts[kind]
+            if kind == 2:
                 writer.write(text)
             for part in range(1_000):
-                if at % 3:
-                    writer.write(text[part % len(text):][:1] if at % 3 == 1 else b" ")
+                if kind:
+                    writer.write(text[part % len(text):][:1] if kind == 1 else b" ")
                 if await self._is_closed(reader):
                     break
             writer.close()

@@ -82,8 +82,12 @@ def read_words(words: List[str]) -> Settings:
     if found.host == "real" and not found.agency:
         raise WordsFault("--host real needs --agency")
     address, port = _read_listen(found.listen)
-    return Settings(found.file, found.nif, found.tokens, tuple(found.agency) if found.agency else None, found.host or "test", address, port,
-                    tuple(found.tls) if found.tls else None, frozenset(map(_read_origin, found.origin)), found.program)
+    return Settings(found.file, found.nif, found.tokens, _pair(found.agency), found.host or "test", address, port,
+                    _pair(found.tls), frozenset(map(_read_origin, found.origin)), found.program)
+
+
+def _pair(words: Optional[List[str]]) -> Optional[Tuple[str, str]]:
+    return (words[0], words[1]) if words else None
 
 
 def _read_listen(text: str) -> Tuple[str, int]:
@@ -183,8 +187,9 @@ class Service:
 
     async def end(self) -> None:
         """Waits for a signal or the program's end; then answers what is under way, and closes the pipe."""
-        stop = asyncio.ensure_future(self.stopped.wait())
-        await asyncio.wait({stop, self.shop.ended}, return_when=asyncio.FIRST_COMPLETED)
+        stop: "asyncio.Future[Any]" = asyncio.ensure_future(self.stopped.wait())
+        ended: "asyncio.Future[Any]" = self.shop.ended
+        await asyncio.wait({stop, ended}, return_when=asyncio.FIRST_COMPLETED)
         stop.cancel()
         self.hub.stopping = True
         await self.hub.wait_until_answered(ANSWER_WITHIN + LAST_ANSWERS)

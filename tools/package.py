@@ -145,9 +145,18 @@ def tree(version: str, date: int) -> dict[str, tuple[bytes, int]]:
     folders = {"docs": f"{DOC}/docs", "examples": f"{DOC}/examples", "examples/agency": "share/verifactu/agency", "examples/systemd": UNITS}
     for folder, to in folders.items():
         for name in files_of(folder):
+            if to == UNITS and name.startswith("verifactu-hub"):  # of the hub's own package
+                continue
             path = os.path.join(ROOT, folder, name)
             made[f"{to}/{name}"] = (text_of(path), 0o755 if os.access(path, os.X_OK) and to != UNITS else 0o644)
     return made
+
+
+def hub_files() -> dict[str, tuple[bytes, int]]:
+    """What the hub's own package has, for the archive."""
+    import package_hub  # which imports this file
+
+    return package_hub.tree()
 
 
 def make_tar(made: dict[str, tuple[bytes, int]], top: str, date: int, to: str) -> None:
@@ -204,7 +213,7 @@ def package() -> list[str]:
     shutil.rmtree(PLACE, ignore_errors=True)
     os.makedirs(PLACE)
     deb, tar = f"verifactu_{version}_amd64.deb", f"verifactu-{version}-x86_64-linux.tar.gz"
-    make_tar(made, f"verifactu-{version}", date, os.path.join(PLACE, tar))
+    make_tar({**made, **hub_files()}, f"verifactu-{version}", date, os.path.join(PLACE, tar))
     size = sum(len(text) for text, _ in made.values()) // 1024 + 1
     make_deb(made, CONTROL.format(version=version, size=size, depends=", ".join(depends), kit=kit), date, os.path.join(PLACE, deb))
     with open(os.path.join(PLACE, "SHA256SUMS"), "w", encoding="ascii") as sums:

@@ -22,7 +22,15 @@ SHARE = "share/verifactu-hub"
 UNIT = "verifactu-hub@.service"
 PARTS = ("verifactu_hub.py", "hub_books.py", "hub_connections.py", "hub_forms.py", "hub_http.py", "hub_limits.py", "hub_pipe.py", "hub_tokens.py",
          "openapi.json", "page.html", "page.css", "page.js")
+LAUNCHER = b"""#!/bin/sh
+exec "$(dirname "$(readlink -f "$0")")/../share/verifactu-hub/verifactu_hub.py" "$@"
+"""
 CLIENTS = ("till.py", "till.php", "till.js", "Till.java")
+SCRIPTS = {
+    "postinst": "[ ! -d /run/systemd/system ] || systemctl daemon-reload || true",
+    "prerm": "[ ! -d /run/systemd/system ] || systemctl stop 'verifactu-hub@*.service' || true\nrm -rf /usr/share/verifactu-hub/__pycache__",
+    "postrm": "[ ! -d /run/systemd/system ] || systemctl daemon-reload || true",
+}
 CONTROL = """Package: verifactu-hub
 Version: {version}
 Architecture: all
@@ -51,28 +59,22 @@ def tree() -> dict[str, tuple[bytes, int]]:
     made.update({f"{DOC}-hub/clients/{name}": text_of(os.path.join(ROOT, "hub", "clients", name)) for name in CLIENTS})
     made[f"{DOC}-hub/HUB.md"] = text_of(os.path.join(ROOT, "docs", "HUB.md"))
     made[f"{UNITS}/{UNIT}"] = text_of(os.path.join(ROOT, "examples", "systemd", UNIT))
-    return {name: (text, 0o755 if name.endswith("/verifactu_hub.py") else 0o644) for name, text in made.items()}
+    made["bin/verifactu-hub"] = LAUNCHER
+    return {name: (text, 0o755 if name.endswith(("/verifactu_hub.py", "/verifactu-hub")) else 0o644) for name, text in made.items()}
 
 
 def make(made: dict[str, tuple[bytes, int]], date: int, to: str) -> None:
-    """The package, with the name in /usr/bin as a link."""
+    """The package."""
     with tempfile.TemporaryDirectory() as root:
         for name, (text, mode) in made.items():
             put(root, f"usr/{name}", text, mode)
-        os.makedirs(os.path.join(root, "usr/bin"))
-        os.symlink(f"../{SHARE}/verifactu_hub.py", os.path.join(root, "usr/bin/verifactu-hub"))
         size = sum(len(text) for text, _ in made.values()) // 1024 + 1
         put(root, "DEBIAN/control", CONTROL.format(version=version(), size=size).encode(), 0o644)
         sums = "".join(f"{hashlib.md5(text).hexdigest()}  usr/{name}\n" for name, (text, _) in sorted(made.items()))
         put(root, "DEBIAN/md5sums", sums.encode(), 0o644)
-        set_dates(os.path.join(root, "DEBIAN"), date)
-        for at, folders, names in os.walk(os.path.join(root, "usr"), topdown=False):
-            for name in [*folders, *names]:
-                os.utime(os.path.join(at, name), (date, date), follow_symlinks=False)
-            os.chmod(at, 0o755)
-        for at in (os.path.join(root, "usr"), root):
-            os.chmod(at, 0o755)
-            os.utime(at, (date, date))
+        for name, script in SCRIPTS.items():
+            put(root, f"DEBIAN/{name}", f"#!/bin/sh\nset -e\n{script}\n".encode(), 0o755)
+        set_dates(root, date)
         subprocess.run(["dpkg-deb", "--root-owner-group", "-Zgzip", "-z9", "--build", root, to], check=True, stdout=subprocess.DEVNULL,
                        env={**os.environ, "SOURCE_DATE_EPOCH": str(date)})
 
