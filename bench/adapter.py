@@ -4,7 +4,7 @@
     adapter.py relay TO FROM ADAPTER_TO ADAPTER_FROM LOG PLAN
     adapter.py check LOG LISTING
 
-The relay hands each message on and each answer back, and writes them to LOG, a line of JSON each. PLAN says what befalls the calls,
+The relay hands each message on and each answer back, and writes the calls to LOG, a line of JSON each. PLAN says what befalls the calls,
 submissions and consultations counted together from 1, as "2 lost, 4 taken": `lost`: the message isn't handed on; `taken`: its answer
 is lost; `stale`: the answer to the call before is given under this number; `twice`: the answer is given twice; `half`: half of it is
 given, and the program's ends are closed. In place of a lost answer the program gets a fault. LISTING is what `chain FILE NIF` prints
@@ -12,7 +12,6 @@ of the file afterwards.
 """
 import json
 import sys
-import time
 
 
 class Gone(Exception):
@@ -30,13 +29,22 @@ class Relay:
         self.answers = open(adapter_from, encoding="utf-8")
 
     def ask(self, message):
-        """The adapter's answer to this message; ones to earlier messages are passed over."""
-        self.out.write(json.dumps(message, separators=(",", ":"), sort_keys=True) + "\n")
+        """The adapter's answer to this message. Ones to earlier messages are passed over, and at a hello a begin is written again."""
+        text = "\n" + json.dumps(message, separators=(",", ":"), sort_keys=True) + "\n"
+        self.out.write(text)
         for line in self.answers:
-            answer = json.loads(line)
+            try:
+                answer = json.loads(line)
+            except ValueError:
+                continue
             if answer.get("n") == message["n"]:
                 return answer
+            if answer.get("t") == "hello" and message["t"] == "begin":
+                self.out.write(text)
         raise Gone
+
+    def write(self, out, answer):
+        out.write(json.dumps(answer, separators=(",", ":"), sort_keys=True) + "\n")
 
     def call(self, message, out):
         self.calls += 1
@@ -54,14 +62,18 @@ class Relay:
         if fate == "half":
             out.write(text[: len(text) // 2])
             raise Gone
-        out.write(text * 2 if fate == "twice" and len(text) < 30000 else text)
+        out.write(text * 2 if fate == "twice" else text)
 
     def talk(self):
         with open(self.to, encoding="utf-8") as messages, open(self.from_, "w", encoding="utf-8", buffering=1) as out:
+            out.write('\n{"t":"hello"}\n')
             for line in messages:
-                message = json.loads(line)
+                try:
+                    message = json.loads(line)
+                except ValueError:
+                    continue  # an empty line, or what is left of a message
                 if message["t"] == "begin":
-                    self.out.write(line)
+                    self.write(out, self.ask(message))
                 else:
                     self.call(message, out)
 
@@ -70,8 +82,7 @@ class Relay:
             try:
                 self.talk()
             except (Gone, BrokenPipeError):
-                # The program sees that an end was closed only while nobody has it open.
-                time.sleep(0.5)
+                pass  # the files are opened anew
 
 
 def fail(text):

@@ -83,6 +83,39 @@ for command in day serve; do
     done
 done
 
+# The practice adapter, whose agency shows by invoice the last accepted record alone. A call to the service is lost, late, or answered twice or
+# by the reply to another call: it had a refused record before accepted ones, and a sale whose fix and one whose cancellation wait behind it.
+{
+    echo "clock 1735722000 1"
+    seq 5 | sed 's/.*/sale 1 & A F2 21:1000/'
+    echo "fix 1 6 A-4 F2 21:2000"
+    echo "cancel 1 7 A-5"
+} >"$work/lost"
+for fates in "2 lost" "2 taken" "2 taken, 3 lost, 4 taken" "2 late 1" "2 late 2" "2 late 3" "2 stale, 4 late 2" "2 twice" "2 again"; do
+    rm -rf "$work/shop.chain" "$work/register"
+    mkdir "$work/register"
+    "$VERIFACTU" chain "$work/shop.chain" $nif <"$work/lost" >/dev/null
+    start "" python3 "$root/examples/agency/agency.py" --register --journal "$work/register/journal" --state "$work/register/state" \
+        --log "$work/register/log" --plan "$fates" --verdicts "A-2 1 vet 3000"
+    run "by invoice, $fates" "$work/empty" drain "$work/shop.chain" $nif
+    # The next run finds no contradiction either.
+    { echo "clock 1735722000 1"; echo "sale 1 8 A F2 21:1000"; } | "$VERIFACTU" chain "$work/shop.chain" $nif >/dev/null
+    run "by invoice, $fates, one more" "$work/empty" drain "$work/shop.chain" $nif
+    stop
+    case $fates in *taken* | *late\ 1* | *stale*) code=0 ;; *) code=3000 ;; esac
+    grep -q " A-2 .* vet $code\$" "$work/listing" || { echo "$fates: A-2 isn't noted as refused by $code" >&2; exit 1; }
+    printf '%s: ' "by invoice, $fates"
+    python3 "$root/bench/kill_adapter.py" judge "$work/register" "$work/listing"
+done
+
+# An adapter that a shell restarts at once, and that ends amid an answer. The shell holds the files.
+sales 1020
+start "" sh -c 'exec 3<"$2" 4>"$3"; trap "kill \$adapter; exit" TERM
+    while :; do python3 "$0" --state "$1" --plan "2 half" /dev/fd/3 /dev/fd/4 & adapter=$!; wait $adapter; done' \
+    "$root/examples/agency/agency.py" "$work/state"
+run "restarted at once" "$work/empty" drain "$work/shop.chain" $nif
+stop
+
 sales "$records"
 start "" "$@"
 begun=$(date +%s%N)

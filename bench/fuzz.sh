@@ -84,7 +84,7 @@ compare() {
     try link changed.chain A-1 test
     case $status:$verdict in
         0:chain* | 14:chain*) ;;
-        7:damaged*) [ "$(cat why)" = "verifactu: $verdict" ] || wrong "link: $(cat why), audit: $verdict" ;;
+        7:damaged*) [ "$(head -n 1 why)" = "verifactu: $verdict" ] || wrong "link: $(cat why), audit: $verdict" ;;
         *) wrong "link: status $status, audit: $verdict" ;;
     esac
     for reader in statement export migrate; do
@@ -95,7 +95,7 @@ compare() {
         esac
         case $reader:$status:$verdict in
             statement:0:chain* | export:0:chain* | migrate:0:chain* | migrate:16:chain*) ;;
-            *:7:damaged*) [ "$(cat why)" = "verifactu: $verdict" ] || wrong "$reader: $(cat why), audit: $verdict" ;;
+            *:7:damaged*) [ "$(head -n 1 why)" = "verifactu: $verdict" ] || wrong "$reader: $(cat why), audit: $verdict" ;;
             *) wrong "$reader: status $status, audit: $verdict" ;;
         esac
     done
@@ -110,7 +110,7 @@ compare() {
     try chain changed.chain $nif
     case $status:$verdict in
         0:chain*) [ "$(tail -n 1 text)" = "$verdict" ] || wrong "chain: $(tail -n 1 text), audit: $verdict" ;;
-        7:damaged*) [ "$(cat why)" = "verifactu: $verdict" ] || wrong "chain: $(cat why), audit: $verdict" ;;
+        7:damaged*) [ "$(head -n 1 why)" = "verifactu: $verdict" ] || wrong "chain: $(cat why), audit: $verdict" ;;
         13:chain*) ;;
         *) wrong "chain: status $status, audit: $verdict" ;;
     esac

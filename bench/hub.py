@@ -79,7 +79,7 @@ def beside_slow_ones(hub: Hub, sales: int) -> Tuple[float, int]:
     """The seconds that 64 tills take beside the slow connections, and the hub's greatest memory in kilobytes."""
 
     async def work() -> float:
-        slow = tills.Slow(hub.port, SLOW, hub.place.till[64])
+        slow = tills.Slow(hub.port, SLOW, hub.place.owner)
         await slow.begin()
         await asyncio.sleep(3)
         seconds, _ = await asyncio.get_running_loop().run_in_executor(None, sell_together, hub, sales)

@@ -27,19 +27,23 @@ class Agency:
         for path in self.paths:
             os.mkfifo(path)
         self.to, self.back = (os.open(path, os.O_RDWR | os.O_NONBLOCK) for path in self.paths)
+        os.write(self.back, b'\n{"t":"hello"}\n')
         self.thread = threading.Thread(target=self.work)
         self.thread.start()
 
-    def answer(self, message):
+    def answer(self, line):
+        if not line:
+            return None
+        message = json.loads(line)
+        if message["t"] == "begin":
+            return {"begun": True, "n": message["n"]}
         if message["t"] == "submit":
             new = [record["huella"] for record in message["records"]]
             lines = [[huella, "correcto", 0] for huella in new]
             self.had.update(dict.fromkeys(new))
             return {"lines": lines, "n": message["n"], "wait": 0}
-        if message["t"] == "consult":
-            seen = [[h, "correcto" if h in self.had else "not-seen", 0] for h in message["huellas"]]
-            return {"n": message["n"], "seen": seen}
-        return None
+        seen = [[h, "correcto" if h in self.had else "not-seen", 0] for h in message["huellas"]]
+        return {"n": message["n"], "seen": seen}
 
     def work(self):
         while not self.over:
@@ -48,7 +52,7 @@ class Agency:
             self.rest += os.read(self.to, 1 << 16)
             *lines, self.rest = self.rest.split(b"\n")
             for line in lines:
-                told = self.answer(json.loads(line))
+                told = self.answer(line)
                 if told is not None:
                     self.write(json.dumps(told, separators=(",", ":"), sort_keys=True).encode() + b"\n")
 

@@ -18,7 +18,7 @@ WHOLE_REQUEST = 75  # seconds until a request must have arrived; longer than mos
 WHOLE_ANSWER = 105  # seconds from there until its answer must have been made and taken
 MOST_PIPELINED = 16  # requests that were sent ahead of answers
 HANDSHAKE = 15  # seconds of TLS's handshake
-BACKLOG = 1_024  # connections that wait to be accepted
+BACKLOG = 256  # connections that wait to be accepted; so many may be accepted before the ones that are too many are closed
 SPARE_HANDLES = 64  # file handles beside one a connection
 
 # the program

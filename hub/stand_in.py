@@ -162,10 +162,10 @@ class Serve:
     def answer(self, raw, is_ended):
         """The answer to one line, or None where it has none."""
         self.count += 1
-        if not is_ended:
-            return f"line {self.count} unended"
         if len(raw) > LONGEST_LINE:
             return f"line {self.count} too-long"
+        if not is_ended:
+            return f"line {self.count} unended"
         text = raw[:-1] if raw.endswith(b"\r") else raw
         if not text or text.startswith(b"#"):
             return None

@@ -208,7 +208,7 @@ class StopTest(Running):
         answers: List[Answer] = []
         under_way = threading.Thread(target=lambda: answers.append(hub.sell(1, 2)))
         under_way.start()
-        time.sleep(1)
+        time.sleep(2)
         hub.process.send_signal(signal.SIGTERM)
         until(lambda: hub.ask("GET", "/health").status == 503, "new requests get 503")
         self.assertEqual(hub.sell(2, 1).status, 503)
@@ -284,26 +284,29 @@ class SlowTest(Running):
         resource.setrlimit(resource.RLIMIT_NOFILE, (hard, hard))
 
     def sell_beside(self, slow_ones: int, count: int, sellers: int, kinds: int) -> "tuple[Hub, List[Till], int]":
-        """Tills that sell beside so many slow connections, over a hub that begins with 1,024 file handles; how many it had at most."""
+        """Tills that sell beside so many slow connections, over a hub that begins with 1,024 file handles; how many it had."""
         hub = self.hub(prefix=("prlimit", "--nofile=1024:8192"))
-        some, slow = self.many(hub, sellers), Slow(hub.port, slow_ones, self.place.till[64], kinds)
+        some, slow = self.many(hub, sellers), Slow(hub.port, slow_ones, self.place.owner, kinds)
         handles = 0
 
         async def work() -> None:
             nonlocal handles
             await slow.begin()
-            for _ in range(50):
+            for _ in range(600):
                 await asyncio.sleep(0.1)
-                handles = max(handles, len(os.listdir(f"/proc/{hub.process.pid}/fd")))
+                if slow.opened == slow_ones:
+                    break
+            await asyncio.sleep(3)  # those that are too many are accepted first, and then closed
+            handles = len(os.listdir(f"/proc/{hub.process.pid}/fd"))
             await tills.sell_together(some, count)
             slow.stop()
 
         tills.run(work())
         return hub, some, handles
 
-    def test_1000_slow_connections_and_63_tills(self) -> None:
+    def test_1000_slow_connections_and_64_tills(self) -> None:
         count = max(2, Options.sales // 10)
-        hub, sellers, _ = self.sell_beside(1_000, count, TILLS - 1, 3)
+        hub, sellers, _ = self.sell_beside(1_000, count, TILLS, 3)
         with open(f"/proc/{hub.process.pid}/status", encoding="utf-8") as status:
             peak = next(int(line.split()[1]) for line in status if line.startswith("VmHWM"))
         self.assertLess(peak, 100_000)
@@ -320,7 +323,7 @@ class SlowTest(Running):
 
     def test_a_request_must_have_arrived_within_75_seconds(self) -> None:
         hub = self.hub()
-        slow = Slow(hub.port, 6, self.place.till[64])
+        slow = Slow(hub.port, 6, self.place.owner)
 
         async def work() -> None:
             await slow.begin()

@@ -87,12 +87,14 @@ def faults(tills: List[Till], rows: List[List[str]], count: int) -> List[str]:
 
 
 class Slow:
-    """Connections that say nothing, or send a byte a second of a head or, the third kind, of a body."""
+    """Connections that say nothing, or send a byte a second of a head or, the third kind, of a body: with the owner's token, since four
+    requests that are under way are all that a till, or the owner, may have."""
 
     def __init__(self, port: int, count: int, token: str, kinds: int = 3, address: str = "127.0.0.1") -> None:
         self.port, self.count, self.address, self.kinds = port, count, address, kinds
-        head = f"POST /v1/sales HTTP/1.1\r\nHost: hub\r\nAuthorization: Bearer {token}\r\n"
+        head = f"GET /v1/state HTTP/1.1\r\nHost: hub\r\nAuthorization: Bearer {token}\r\n"
         self.texts = [b"", head.encode(), f"{head}Content-Length: 60000\r\n\r\n".encode()]
+        self.opened = 0
         self.ends: List[float] = []  # seconds after which each was closed
         self.tasks: List["asyncio.Task[None]"] = []
 
@@ -105,6 +107,7 @@ class Slow:
         began = time.monotonic()
         try:
             reader, writer = await asyncio.open_connection(self.address, self.port)
+            self.opened += 1
             kind = at % self.kinds
             text = self.texts[kind]
             if kind == 2:

@@ -142,7 +142,7 @@ def raise_handles() -> int:
         most = wanted if soft == resource.RLIM_INFINITY else soft
     else:
         resource.setrlimit(resource.RLIMIT_NOFILE, (most, hard))
-    return max(1, min(MOST_CONNECTIONS, most - SPARE_HANDLES))
+    return max(1, min(MOST_CONNECTIONS, most - SPARE_HANDLES - BACKLOG))
 
 
 def notify(state: str) -> None:

@@ -153,7 +153,7 @@ class Build:
                 say(f"proved {name}, {len(self.done)} of {len(self.order)}, {clock(self.begun)}")
             else:
                 self.failed.append(name)
-                say(f"{name} wasn't proved, {clock(self.begun)}; no other crate is begun")
+                say(f"{name} wasn't proved (rt's status {status}), {clock(self.begun)}; no other crate is begun")
             self.turn.notify_all()
 
     def prove(self, lane: int, name: str) -> None:

@@ -2,7 +2,8 @@
 """Tries the wrong bodies that the gate doesn't try, those of crates/NAME/wrong-bodies: the prover must refuse each.
 
 usage: tools/wrong_bodies.py [NAME ..]      of these crates; without names of each crate that has some
-       tools/wrong_bodies.py --recorded     tries nothing, and says which records aren't of the files as they stand
+       tools/wrong_bodies.py --lacking      of each crate that has no record of its files as they stand
+       tools/wrong_bodies.py --recorded     tries nothing, and says which crates these are
 
 A line for each body, and status 1 where one isn't refused or can't be applied; standard error says what is at work. Where all of a crate's
 are refused the file crates/NAME/wrong-bodies/refused says so, and else it goes: the day, what `rt version` printed, and a sum over all
@@ -203,9 +204,14 @@ def main() -> int:
         return 1
     if words == ["--recorded"]:
         return recorded(having)
+    if words == ["--lacking"]:
+        words = [name for name in having if fault_of_record(name) is not None]
+        if not words:
+            say("each crate has a record of its files as they stand")
+            return 0
     unknown = next((it for it in words if it not in having), None)
     if unknown is not None:
-        say(f"{unknown} is no crate that has wrong bodies in crates/{unknown}/wrong-bodies; usage: tools/wrong_bodies.py [NAME ..] or --recorded")
+        say(f"{unknown} is no crate that has wrong bodies in crates/{unknown}/wrong-bodies; usage: tools/wrong_bodies.py [NAME .. or --lacking or --recorded]")
         return 2
     if shutil.which("rt") is None:
         say("the toolchain's command rt isn't on PATH")

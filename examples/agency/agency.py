@@ -13,14 +13,17 @@ What befalls its calls is planned, submissions and consultations counted togethe
   half      half the answer is given, and the adapter ends
 --verdicts "A-1 1 vet 3000, A-2 1 warn 200": what it finds wrong with the n-th record of an invoice.
 --state FILE keeps what was processed and handed over, so that it can be ended and started again.
+--log FILE is told what comes and what is answered, a line of JSON each, for bench/kill_adapter.py.
+--register: the agency shows no record by its Huella, but of an invoice the last accepted record alone, as a real service does. The
+adapter then goes by a journal of its own (--journal FILE), and calls the service with one record of an invoice at most. What a plan says
+of a submission but again, twice and half befalls the first such call of it; a reply to another call is known by its records.
 """
 import argparse
 import json
-import os
 import sys
 import time
 
-from skeleton import Adapter, Fault, MOST_RECORDS
+from skeleton import Adapter, Fault, MOST_RECORDS, invoice_of, kept_rows, message_in
 
 
 def rows(text):
@@ -29,31 +32,36 @@ def rows(text):
 
 class Practice(Adapter):
     def __init__(self, options):
+        super().__init__(options.journal)
         self.options = options
         self.fates = {int(row[0]): row[1:] for row in rows(options.plan)}
         self.verdicts = {(row[0], int(row[1])): (row[2], int(row[3])) for row in rows(options.verdicts)}
-        # what was processed: the line of each Huella, and for each invoice how many records came and the last accepted one's sort
-        self.lines, self.pasts = {}, {}
+        # what was processed: the line of each Huella; for each invoice how many records came and the last accepted one's sort, and
+        # that record's Huella
+        self.lines, self.pasts, self.register = {}, {}, {}
         self.sent, self.late = [], []  # the batches that were handed over, and those on their way with the calls that they wait for
-        self.issuer, self.complaint = None, "no session"
-        self.calls, self.fate, self.last_lines, self.due = 0, ["none"], [], 0.0
+        self.calls, self.fate, self.last_lines, self.last_reply, self.due = 0, ["none"], [], [], 0.0
+        self.log = open(options.log, "ab", buffering=0) if options.log else None
         self.load()
 
     # ---- what was processed
 
     def load(self):
-        if self.options.state and os.path.exists(self.options.state):
-            with open(self.options.state, encoding="utf-8") as state:
-                for sort, content, line in map(json.loads, state):
-                    if sort == "processed":
-                        self.keep(content, line)
-                    else:
-                        self.sent.append(content)
+        for sort, content, line in kept_rows(self.options.state) if self.options.state else []:
+            if sort == "processed":
+                self.keep(content, line)
+            else:
+                self.sent.append(content)
 
     def save(self, sort, content, line=None):
         if self.options.state:
             with open(self.options.state, "a", encoding="utf-8") as state:
                 state.write(json.dumps([sort, content, line]) + "\n")
+
+    def note(self, row):
+        """Behind an LF of its own: a run that is killed leaves half a line."""
+        if self.log:
+            self.log.write(b"\n" + json.dumps(row).encode() + b"\n")
 
     def keep(self, record, line):
         self.lines[record["huella"]] = line
@@ -61,6 +69,8 @@ class Practice(Adapter):
         count, last = self.pasts.get(name, (0, None))
         accepted = line[0] in ("correcto", "con-errores")
         self.pasts[name] = (count + 1, record["t"] if accepted else last)
+        if accepted:
+            self.register[name] = record["huella"]
 
     def judge(self, record):
         """The line of a new record: the first that holds."""
@@ -80,15 +90,19 @@ class Practice(Adapter):
             return ["not-held", 0]
         return ["con-errores", code] if verdict == "warn" else ["correcto", 0]
 
+    def line_again(self, line):
+        """The line of a record that came before. A real service keeps nothing of a refused one: it refuses it again."""
+        if line[0] in ("correcto", "con-errores"):
+            return ["duplicado-" + line[0], 0]
+        return line if self.options.register else ["duplicado-incorrecto", 0]
+
     def deliver(self, batch):
         """All records of a batch, in order; an item for each."""
         items = []
         for record in batch:
             huella = record["huella"]
             if huella in self.lines:
-                word = self.lines[huella][0]
-                state = word if word in ("correcto", "con-errores") else "incorrecto"
-                items.append([huella, "duplicado-" + state, 0])
+                items.append([huella] + self.line_again(self.lines[huella]))
             else:
                 line = self.judge(record)
                 self.keep(record, line)
@@ -105,50 +119,91 @@ class Practice(Adapter):
     def begin(self, issuer, noted):
         """The file's noted lines are the first ones of what was processed here."""
         if self.issuer not in (None, issuer):
-            self.complaint = "another issuer's session"
-        elif noted > len(self.lines):
-            self.complaint = "%d noted, %d processed" % (noted, len(self.lines))
-        else:
-            self.issuer, self.complaint = issuer, None
+            raise Fault("another issuer's session")
+        if noted > len(self.lines):
+            raise Fault("%d noted, %d processed" % (noted, len(self.lines)))
+        self.issuer = issuer
+
+    def hear(self, line, out):
+        if self.log and line.strip() and message_in(line) is None:
+            self.note({"rest": len(line)})
+        super().hear(line, out)
 
     def answer(self, message):
-        self.calls += 1
-        self.fate = self.fates.get(self.calls, ["none"])
-        if self.complaint:
-            raise Fault(self.complaint)
-        for batch in [batch for at, batch in self.late if at <= self.calls]:
-            self.deliver(batch)
-        self.late = [(at, batch) for at, batch in self.late if at > self.calls]
+        if message["t"] != "begin":
+            asked = message["huellas"] if "huellas" in message else [record["huella"] for record in message["records"]]
+            self.note({"got": {"t": message["t"], "huellas": asked}})
+            self.calls += 1
+            self.fate = self.fates.get(self.calls, ["none"])
+            for batch in [batch for at, batch in self.late if at <= self.calls]:
+                self.deliver(batch)
+            self.late = [(at, batch) for at, batch in self.late if at > self.calls]
         return super().answer(message)
 
+    # ---- the service, which shows no Huella
+
+    def send(self, records):
+        if len(set(map(invoice_of, records))) < len(records):
+            self.note({"broken": "two records of an invoice in one call"})
+        fate = self.fate
+        if fate[0] in ("lost", "taken", "late", "stale", "slow"):
+            self.fate = ["none"]
+        if fate[0] == "slow":
+            time.sleep(float(fate[1]))
+        self.hand_over(records, fate)
+        names = [(invoice_of(record), record["t"], record["huella"]) for record in records]
+        before, self.last_reply = self.last_reply, [(name, item[1:]) for name, item in zip(names, self.deliver(records))]
+        if fate[0] == "taken":
+            raise Fault("taken")
+        reply = before if fate[0] == "stale" else self.last_reply
+        if [name for name, _ in reply] != names:
+            raise Fault("a reply to another call")
+        return [line for _, line in reply], self.options.wait
+
+    def shown(self, record):
+        is_shown = self.register.get(invoice_of(record)) == record["huella"]
+        return self.lines[record["huella"]] if is_shown else None
+
+    # ---- what the program asks
+
+    def hand_over(self, records, fate):
+        """The batch is on its way, or lost."""
+        self.sent.append(records)
+        self.save("sent", records)
+        if fate[0] == "lost":
+            raise Fault("lost")
+        if fate[0] == "late":
+            self.late.append((self.calls + max(int(fate[1]), 1), records))
+            raise Fault("late")
+
     def submit(self, records):
+        if self.fate[0] == "again":
+            self.again()
+        if self.options.register:
+            return super().submit(records)
         now = time.monotonic()
         if self.options.strict and len(records) < MOST_RECORDS and now < self.due:
             raise Fault("too soon, by %d seconds" % (self.due - now + 1))
         self.due = now + self.options.wait
-        fate = self.fate[0]
-        if fate == "again":
-            self.again()
-        self.sent.append(records)
-        self.save("sent", records)
-        if fate == "lost":
-            raise Fault("lost")
-        if fate == "late":
-            self.late.append((self.calls + max(int(self.fate[1]), 1), records))
-            raise Fault("late")
+        self.hand_over(records, self.fate)
         before, self.last_lines = self.last_lines, self.deliver(records)
-        if fate == "taken":
+        if self.fate[0] == "taken":
             raise Fault("taken")
-        return (before if fate == "stale" else self.last_lines), self.options.wait
+        return (before if self.fate[0] == "stale" else self.last_lines), self.options.wait
 
-    def consult(self, huellas):
+    def consult(self, huellas, ids):
         if self.fate[0] == "again":
             self.again()
         elif self.fate[0] in ("lost", "taken", "late", "stale"):
             raise Fault(self.fate[0])
+        if self.options.register:
+            return super().consult(huellas, ids)
         return [[huella] + self.lines.get(huella, ["not-seen", 0]) for huella in huellas]
 
     def write(self, out, text):
+        answer = json.loads(text) if self.log else {"begun": True}
+        if "begun" not in answer:
+            self.note({"gives": answer})
         fate, self.fate = self.fate, ["none"]
         if fate[0] == "slow":
             time.sleep(float(fate[1]))
@@ -165,6 +220,9 @@ def main():
     parser.add_argument("--plan", default="", help="what befalls the calls, as '2 lost, 3 late 2'")
     parser.add_argument("--verdicts", default="", help="as 'A-1 1 vet 3000'")
     parser.add_argument("--state", default="", help="the file that keeps what was processed")
+    parser.add_argument("--log", default="", help="the file that is told what comes and what is answered")
+    parser.add_argument("--register", action="store_true", help="shows of an invoice the last accepted record alone")
+    parser.add_argument("--journal", default="", help="the file of the adapter's own journal, for --register")
     parser.add_argument("--wait", type=int, default=0, help="the seconds between submissions")
     parser.add_argument("--strict", action="store_true", help="refuses a submission of fewer than 1000 that comes too soon")
     parser.add_argument("--once", action="store_true", help="ends when the program closes TO, and serves no further run")

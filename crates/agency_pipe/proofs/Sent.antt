@@ -15,6 +15,7 @@ use Rattle.agency_pipe.specs.contracts.said.Asked as asked
 use Rattle.agency_pipe.specs.contracts.ends.PipeSource as pipe_source
 use Rattle.agency_pipe.specs.contracts.ends.PipeSink as pipe_sink
 use Rattle.agency_pipe.specs.contracts.pipe.PipeAgency as agency
+use Rattle.agency_pipe.specs.contracts.patient.Patient as patient
 
 asked_send : IsSend asked.the_row
 asked_send = search (sendable, crosses) depth 100 fits 20000
@@ -89,3 +90,10 @@ sink_send a R T y = let fields = sink_fields a R T y in search (sendable, crosse
 pub files_send : (a b : NamedLft) (R T : RattleType) (r : Read.Ghosts File) (w : Write.Ghosts File) (s : Seek.Ghosts File)
     (d : Read.Ghosts T.Denot) → IsSync R → IsSend (agency.the_row (pipe_source.the_row a R T r w s d) (pipe_sink.the_row b R T))
 files_send a b R T r w s d y = agency_send _ _ (source_send a R T r w s d y) (sink_send b R T y)
+
+patient_fields : (a : NamedLft) (R G : RattleType) → IsSync R → IsSend G → IsSend (Struct (shape (patient.the_type a R G)))
+patient_fields a R G y s = struct_send (shape (patient.the_type a R G)) (search (sendable, crosses, y), (s, (search (sendable, crosses), tt)))
+
+-- An agency with pauses, around one that may go.
+pub patient_send : (a : NamedLft) (R G : RattleType) → IsSync R → IsSend G → IsSend (patient.the_row a R G)
+patient_send a R G y s = let fields = patient_fields a R G y s in search (sendable, crosses, fields)

@@ -11,7 +11,7 @@ use Rattle.agency_pipe.specs.declared.said.Said.{Said}
 abbrev pub message_of : Asked → Message
 message_of (Begun plan pairs) = message.Begun plan.value pairs
 message_of (Submitted batch answer) = message.Submitted batch.value answer.value
-message_of (Consulted huellas answer) = message.Consulted huellas.value answer.value
+message_of (Consulted asked answer) = message.Consulted asked.value.huellas answer.value
 
 -- all messages, in order
 abbrev pub said_in : Said → List Message

@@ -9,7 +9,7 @@ use Rattle.export.specs.Objects.{number_of}
 use Rattle.agency_pipe.specs.Answers.{Stands}
 use Rattle.agency_pipe.specs.declared.standing.Standing.TheVariants as standing
 use Rattle.agency_pipe.specs.declared.faults.Unheard.{Unheard}
-use Rattle.agency_pipe.specs.declared.faults.Unheard.TheVariants.{Json, Earlier, Fault, Shape, NoMemory}
+use Rattle.agency_pipe.specs.declared.faults.Unheard.TheVariants.{Json, Earlier, Fault, Hello, Shape, NoMemory}
 
 -- the line's value, where it stands so
 abbrev pub Meets : ℕ → List ℕ → Result Value Unheard → Type 0
@@ -17,6 +17,7 @@ Meets number line (Ok value) = Stands number line standing.Ours (view value)
 Meets number line (Err Json) = value_read line ≡ None
 Meets number line (Err Earlier) = (d : Data) × Stands number line standing.Earlier d
 Meets number line (Err Fault) = (d : Data) × Stands number line standing.Fault d
+Meets number line (Err Hello) = (d : Data) × Stands number line standing.Hello d
 Meets number line (Err Shape) = (d : Data) × Stands number line standing.Odd d
 Meets number line (Err NoMemory) = Unit {0}
 

@@ -11,7 +11,7 @@ use crate::Unheard;
 use crate::items::all_said;
 use crate::standing::{Standing, standing_of};
 use agency_port::{Reply, ReplyLines, SeenList};
-use batches::{Batch, Huellas};
+use batches::{Batch, HuellaList, Huellas};
 use export::{LineFault, value_of};
 use ports::NoMemory;
 use serde_json::Value;
@@ -30,6 +30,7 @@ pub(crate) fn ours(alloc: Global, number: u64, line: &[u8]) -> Result<Value, Unh
         Standing::Ours => Ok(value),
         Standing::Earlier => Err(Unheard::Earlier),
         Standing::Fault => Err(Unheard::Fault),
+        Standing::Hello => Err(Unheard::Hello),
         Standing::Odd => Err(Unheard::Shape),
     }
 }
@@ -49,7 +50,7 @@ fn wait_in(value: &Value) -> Option<u32>
 pub(crate) fn reply_in(
     alloc: Global,
     value: &Value,
-    huellas: Huellas,
+    huellas: HuellaList,
 ) -> Result<Option<Reply>, NoMemory>
     ensures { IfOk result (λ reply. MatchOption reply
         ((other : Replied) → GivesReply huellas other (view value.now) → ⊥)
@@ -70,8 +71,8 @@ pub(crate) fn seen_in(
     huellas: &Huellas,
 ) -> Result<Option<SeenList>, NoMemory>
     ensures { IfOk result (λ seen. MatchOption seen
-        ((other : List AnySeen) → GivesSeen huellas.now other (view value.now) → ⊥)
-        (λ given. GivesSeen huellas.now given (view value.now))) }
+        ((other : List AnySeen) → GivesSeen huellas.now.huellas other (view value.now) → ⊥)
+        (λ given. GivesSeen huellas.now.huellas given (view value.now))) }
 {
     let Some(items) = value.get("seen") else {
         return Ok(None);
@@ -87,7 +88,7 @@ pub fn read_reply(alloc: Global, number: u64, batch: &Batch, line: &[u8]) -> Res
     ensures { IsReading (GivesReply (huellas_of batch.now)) number line.now result }
 {
     let value = ours(alloc, number, line)?;
-    let huellas = Huellas::of(alloc, batch.as_slice())?;
+    let huellas = HuellaList::of(alloc, batch.as_slice())?;
     match reply_in(alloc, &value, huellas)? {
         Some(reply) => Ok(reply),
         None => Err(Unheard::Shape),
@@ -101,7 +102,7 @@ pub fn read_seen(
     huellas: &Huellas,
     line: &[u8],
 ) -> Result<SeenList, Unheard>
-    ensures { IsReading (GivesSeen huellas.now) number line.now result }
+    ensures { IsReading (GivesSeen huellas.now.huellas) number line.now result }
 {
     let value = ours(alloc, number, line)?;
     match seen_in(alloc, &value, huellas)? {

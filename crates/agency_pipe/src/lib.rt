@@ -1,16 +1,20 @@
-//! The agency behind two streams of bytes: typed messages as lines of JSON, an answer a line. What each line is read as is a
-//! relation over serde_json's values; nothing is assumed of who writes them.
+//! The agency behind two streams of bytes: typed messages as lines of JSON, an answer a line. A message is written only once the
+//! begin of its call was answered. What each line is read as is a relation over serde_json's values; nothing is assumed of who
+//! writes them.
 #![tactic(auto)]
 
 mod answers;
 mod ends;
 mod exchange;
 mod faults;
+mod fifo;
+mod greet;
 mod hear;
 mod items;
 mod laws;
 mod log;
 mod messages;
+mod patient;
 mod pipe;
 mod reader;
 mod reasons;
@@ -23,8 +27,10 @@ pub use answers::{read_reply, read_seen};
 pub use ends::{PipeSink, PipeSource};
 pub use exchange::Quiet;
 pub use faults::Unheard;
-pub use hear::{Deaf, PASSED_OVER};
-pub use laws::may_cross_threads;
-pub use messages::{begin_line, consult_line, submit_line};
+pub use fifo::{Unfit, unfit_files};
+pub use hear::{Deaf, MOST_EARLIER};
+pub use laws::{may_cross_threads, patient_may_cross_threads};
+pub use messages::{PROTOCOL, begin_line, consult_line, opening_of, submit_line};
+pub use patient::Patient;
 pub use pipe::PipeAgency;
 pub use reader::MAX_ANSWER;

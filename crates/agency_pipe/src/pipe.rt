@@ -8,13 +8,13 @@ use crate::Unheard;
 use crate::answers::{reply_in, seen_in};
 use crate::exchange::{Quiet, exchange};
 use crate::hear::Deaf;
-use crate::messages::{begin_line, consult_line, submit_line};
+use crate::messages::{consult_line, opening_of, submit_line};
 use crate::reader::MAX_ANSWER;
 use crate::reasons::told_in;
 use crate::said::{Said, is_told};
 use agency_port::{Agency, AgencyFault, Reply, SeenList};
 use agency_rules::Plan;
-use batches::{Batch, Huellas};
+use batches::{Batch, HuellaList, Huellas};
 use parties::Nif;
 use ports::{NoMemory, Sink, Source};
 use record_fields::{Line, Sealed};
@@ -29,9 +29,9 @@ pub struct PipeAgency<S, K> {
     sink: K,
     issuer: Nif,
     host: Host,
-    // of the next message
+    // of the next call's begin
     number: u64,
-    // the count of noted records of the session, and whether its opening line was written
+    // the count of noted records of the session, and whether both files are open
     noted: u64,
     is_open: bool,
     text: Vec<u8>,
@@ -52,28 +52,61 @@ fn missed(count: &mut u64, last: &mut Option<Quiet>, why: Quiet)
     *last = Some(why);
 }
 
-// Whether the session goes on behind a message without an answer: where the other side may have gone away it is opened anew.
+// Whether the files stay open after a call without an answer: where one failed or ended both are opened anew.
 fn goes_on(why: Quiet) -> bool
     ensures { result ≡ spec.stays_open why }
 {
     match why {
-        Quiet::Sink | Quiet::Closed | Quiet::Deaf(Deaf::Source | Deaf::End) => false,
-        Quiet::Deaf(Deaf::TooLong | Deaf::Line(_) | Deaf::Earlier) => true,
+        Quiet::Sink | Quiet::Closed => false,
+        Quiet::Unbegun(Deaf::Source | Deaf::End) | Quiet::Deaf(Deaf::Source | Deaf::End) => false,
+        Quiet::Unbegun(_) | Quiet::Deaf(_) => true,
+    }
+}
+
+fn is_no_memory(why: Unheard) -> bool
+    ensures { result ≡ spec.is_no_memory why }
+{
+    match why {
+        Unheard::NoMemory => true,
+        Unheard::Json | Unheard::Earlier | Unheard::Fault | Unheard::Hello | Unheard::Shape => {
+            false
+        }
+    }
+}
+
+fn lacks_memory(why: Deaf) -> bool
+    ensures { result ≡ spec.lacks_memory why }
+{
+    match why {
+        Deaf::Line(why) => is_no_memory(why),
+        Deaf::Source | Deaf::End | Deaf::TooLong | Deaf::Earlier => false,
+    }
+}
+
+// Whether there was no memory to read a line.
+fn wants_memory(why: Quiet) -> bool
+    ensures { result ≡ spec.wants_memory why }
+{
+    match why {
+        Quiet::Sink | Quiet::Closed => false,
+        Quiet::Unbegun(why) => lacks_memory(why),
+        Quiet::Deaf(why) => lacks_memory(why),
     }
 }
 
 impl<S: Source + Drop, K: Sink + Drop> PipeAgency<S, K> {
-    ghost use Rattle.std.specs.Prelude.{◌≡◌, ◌++◌, [], false, IfOk};
+    ghost use Rattle.std.specs.Prelude.{◌≡◌, [], false, IfOk};
     ghost use Rattle.batches.specs.Batches.{huellas_of};
     ghost use Rattle.ports.specs.Sinks.{this_sink};
     ghost use Rattle.ports.specs.Sources.{this_source};
     ghost use Rattle.agency_port.specs.Ledger.{HasCause, counted};
     ghost use Rattle.agency_pipe.specs.Answers.{GivesReply, GivesSeen};
-    ghost use Rattle.agency_pipe.specs.Messages.{consult_object, line_of, submit_object};
+    ghost use Rattle.agency_pipe.specs.Calls.{consult_call, submit_call};
+    ghost use Rattle.agency_pipe.specs.Messages.{opening_of};
     ghost use Rattle.agency_pipe.specs.Said.{said_in};
-    ghost use Rattle.agency_pipe.specs.Speaking.{Asks, Speaks, after, faults_by, kept, opening_of};
+    ghost use Rattle.agency_pipe.specs.Speaking.{Asks, Speaks, after, call_of, faults_by, kept};
 
-    /// The agency behind these, whose first message has this number. It takes the memory for the longest answer.
+    /// The agency behind these, whose first begin has this number. It takes the memory for the longest answer.
     pub fn new(
         alloc: Global,
         source: S,
@@ -132,47 +165,36 @@ impl<S: Source + Drop, K: Sink + Drop> PipeAgency<S, K> {
         &self.sink
     }
 
-    // The line that opens the session, where it wasn't written yet.
-    fn opening(&self, alloc: Global) -> Result<Vec<u8>, NoMemory>
-        ensures { IfOk result (λ text. text.items ≡ opening_of self.now.is_open self.now.issuer self.now.noted) }
-    {
-        if self.is_open {
-            Ok(Vec::new(alloc))
-        } else {
-            begin_line(alloc, &self.issuer, self.noted)
-        }
-    }
-
-    // Says a message, and hears its answer. Where there is none the failure is counted.
+    // Makes a call, whose begin has this number, and hears its answer. Where there is none the failure is counted.
     fn ask(&mut self, alloc: Global, number: u64, message: &[u8]) -> Result<Value, AgencyFault>
         ensures said { said_in self.new.said ≡ said_in self.old.said }
         ensures cause { HasCause (counted self.old.fault_count) (counted self.new.fault_count) result }
         ensures asks { Asks (this_source S.left S.faults self.old.source self.new.source)
-            (this_sink K.taken K.faults self.old.sink self.new.sink) number
-            (opening_of self.old.is_open self.old.issuer self.old.noted ++ message.now) self.old.is_open self.new.is_open result }
+            (this_sink K.taken K.faults self.old.sink self.new.sink)
+            (call_of (opening_of self.old.issuer number self.old.noted) number message.now) self.old.is_open self.new.is_open result }
         ensures keeps { kept self.new.number self.new.issuer self.new.host self.new.noted self.new.fault_count
             ≡ kept self.old.number self.old.issuer self.old.host self.old.noted (faults_by result self.old.fault_count) }
     {
-        let ahead = self.opening(alloc)?;
+        let opening = opening_of(alloc, &self.issuer, number, self.noted)?;
         match exchange(
             alloc,
             &mut self.source,
             &mut self.sink,
             &mut self.text,
+            self.is_open,
             number,
-            &ahead,
+            &opening,
             message,
         ) {
             Ok(value) => {
                 self.is_open = true;
                 Ok(value)
             }
-            Err(Quiet::Deaf(Deaf::Line(Unheard::NoMemory))) => {
-                self.is_open = true;
-                Err(AgencyFault::NoMemory)
-            }
             Err(why) => {
                 self.is_open = goes_on(why);
+                if wants_memory(why) {
+                    return Err(AgencyFault::NoMemory);
+                }
                 self.told = told_in(alloc, why, &self.text);
                 missed(&mut self.fault_count, &mut self.last, why);
                 Err(AgencyFault::Failed)
@@ -184,62 +206,71 @@ impl<S: Source + Drop, K: Sink + Drop> PipeAgency<S, K> {
         ensures said { said_in self.new.said ≡ said_in self.old.said }
         ensures cause { HasCause (counted self.old.fault_count) (counted self.new.fault_count) result }
         ensures named { IfOk result (λ reply. reply.huellas ≡ huellas_of batch.now) }
-        ensures row { Speaks (GivesReply (huellas_of batch.now)) self.old.number
-            (opening_of self.old.is_open self.old.issuer self.old.noted ++ line_of (submit_object self.old.number self.old.host batch.now))
+        ensures row { Speaks (GivesReply (huellas_of batch.now))
+            (submit_call self.old.issuer self.old.number self.old.noted self.old.host batch.now)
             (this_source S.left S.faults self.old.source self.new.source)
             (this_sink K.taken K.faults self.old.sink self.new.sink) self.old.is_open self.new.is_open result }
         ensures keeps { kept self.new.number self.new.issuer self.new.host self.new.noted self.new.fault_count
             ≡ after (kept self.old.number self.old.issuer self.old.host self.old.noted self.old.fault_count) result }
     {
         let number = self.number;
-        self.number = number.saturating_add(1);
-        let line = submit_line(alloc, number, self.host, batch)?;
-        let huellas = Huellas::of(alloc, batch.as_slice())?;
-        let value = self.ask(alloc, number, &line)?;
-        match reply_in(alloc, &value, huellas)? {
-            Some(reply) => Ok(reply),
-            None => {
+        let next = number.saturating_add(1);
+        self.number = next.saturating_add(1);
+        let line = submit_line(alloc, next, self.host, batch)?;
+        let huellas = HuellaList::of(alloc, batch.as_slice())?;
+        let value = match self.ask(alloc, number, &line) {
+            Ok(value) => value,
+            Err(why) => return Err(why),
+        };
+        match reply_in(alloc, &value, huellas) {
+            Ok(Some(reply)) => Ok(reply),
+            Ok(None) => {
                 missed(&mut self.fault_count, &mut self.last, OTHER_SHAPE);
                 Err(AgencyFault::Failed)
             }
+            Err(NoMemory) => Err(AgencyFault::NoMemory),
         }
     }
 
     fn consultation(&mut self, alloc: Global, huellas: &Huellas) -> Result<SeenList, AgencyFault>
         ensures said { said_in self.new.said ≡ said_in self.old.said }
         ensures cause { HasCause (counted self.old.fault_count) (counted self.new.fault_count) result }
-        ensures row { Speaks (GivesSeen huellas.now) self.old.number
-            (opening_of self.old.is_open self.old.issuer self.old.noted ++ line_of (consult_object self.old.number huellas.now))
+        ensures row { Speaks (GivesSeen huellas.now.huellas) (consult_call self.old.issuer self.old.number self.old.noted huellas.now)
             (this_source S.left S.faults self.old.source self.new.source)
             (this_sink K.taken K.faults self.old.sink self.new.sink) self.old.is_open self.new.is_open result }
         ensures keeps { kept self.new.number self.new.issuer self.new.host self.new.noted self.new.fault_count
             ≡ after (kept self.old.number self.old.issuer self.old.host self.old.noted self.old.fault_count) result }
     {
         let number = self.number;
-        self.number = number.saturating_add(1);
-        let line = consult_line(alloc, number, huellas)?;
-        let value = self.ask(alloc, number, &line)?;
-        match seen_in(alloc, &value, huellas)? {
-            Some(seen) => Ok(seen),
-            None => {
+        let next = number.saturating_add(1);
+        self.number = next.saturating_add(1);
+        let line = consult_line(alloc, next, huellas)?;
+        let value = match self.ask(alloc, number, &line) {
+            Ok(value) => value,
+            Err(why) => return Err(why),
+        };
+        match seen_in(alloc, &value, huellas) {
+            Ok(Some(seen)) => Ok(seen),
+            Ok(None) => {
                 missed(&mut self.fault_count, &mut self.last, OTHER_SHAPE);
                 Err(AgencyFault::Failed)
             }
+            Err(NoMemory) => Err(AgencyFault::NoMemory),
         }
     }
 }
 
 impl<S: Source + Drop, K: Sink + Drop> Agency for PipeAgency<S, K> {
-    ghost use Rattle.std.specs.Prelude.{◌≡◌, ◌++◌, length, refl, false, true};
+    ghost use Rattle.std.specs.Prelude.{◌≡◌, length, refl, false, true};
     ghost use Rattle.std.proofs.Common.{rules, arith};
     ghost use Rattle.batches.specs.Batches.{huellas_of};
     ghost use Rattle.ports.specs.Sinks.{this_sink};
     ghost use Rattle.ports.specs.Sources.{this_source};
     ghost use Rattle.agency_port.specs.Ledger.{counted};
     ghost use Rattle.agency_pipe.specs.Answers.{GivesReply, GivesSeen};
-    ghost use Rattle.agency_pipe.specs.Messages.{consult_object, line_of, submit_object};
+    ghost use Rattle.agency_pipe.specs.Calls.{consult_call, submit_call};
     ghost use Rattle.agency_pipe.specs.Said.{ledger_of, said_in};
-    ghost use Rattle.agency_pipe.specs.Speaking.{Speaks, after, kept, opening_of};
+    ghost use Rattle.agency_pipe.specs.Speaking.{Speaks, after, kept};
 
     ghost tells = { true };
 
@@ -251,18 +282,17 @@ impl<S: Source + Drop, K: Sink + Drop> Agency for PipeAgency<S, K> {
 
     ghost begun = { λ processed _. processed };
 
-    ghost opening = { λ old new plan noted result. (new.is_open ≡ false) × (new.source ≡ old.source) × (new.sink ≡ old.sink)
+    ghost opening = { λ old new plan noted result. (new.is_open ≡ old.is_open) × (new.source ≡ old.source) × (new.sink ≡ old.sink)
         × ((kept new.number new.issuer new.host new.noted new.fault_count)
         ≡ kept old.number old.issuer old.host (length noted) old.fault_count) };
 
-    ghost submission = { λ old new batch result. Speaks (GivesReply (huellas_of batch)) old.number
-        (opening_of old.is_open old.issuer old.noted ++ line_of (submit_object old.number old.host batch))
+    ghost submission = { λ old new batch result. Speaks (GivesReply (huellas_of batch))
+        (submit_call old.issuer old.number old.noted old.host batch)
         (this_source S.left S.faults old.source new.source) (this_sink K.taken K.faults old.sink new.sink) old.is_open new.is_open result
         × ((kept new.number new.issuer new.host new.noted new.fault_count)
         ≡ after (kept old.number old.issuer old.host old.noted old.fault_count) result) };
 
-    ghost consultation = { λ old new huellas result. Speaks (GivesSeen huellas) old.number
-        (opening_of old.is_open old.issuer old.noted ++ line_of (consult_object old.number huellas))
+    ghost consultation = { λ old new huellas result. Speaks (GivesSeen huellas.huellas) (consult_call old.issuer old.number old.noted huellas)
         (this_source S.left S.faults old.source new.source) (this_sink K.taken K.faults old.sink new.sink) old.is_open new.is_open result
         × ((kept new.number new.issuer new.host new.noted new.fault_count)
         ≡ after (kept old.number old.issuer old.host old.noted old.fault_count) result) };
@@ -281,7 +311,6 @@ impl<S: Source + Drop, K: Sink + Drop> Agency for PipeAgency<S, K> {
     ) -> Result<(), NoMemory> {
         let pairs = noted.len() as u64;
         self.noted = pairs;
-        self.is_open = false;
         self.said.begun(plan, pairs);
         Ok(())
     }

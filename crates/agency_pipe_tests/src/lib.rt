@@ -4,6 +4,8 @@
 #[cfg(test)]
 mod lines;
 #[cfg(test)]
+mod patience;
+#[cfg(test)]
 mod sales;
 #[cfg(test)]
 mod streams;

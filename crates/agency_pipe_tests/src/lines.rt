@@ -1,31 +1,39 @@
 // Messages and answers, a line each.
-use crate::sales::{BEGIN, CONSULTATION, SUBMISSION, batch, nif, with_huella};
-use agency_pipe::{Unheard, begin_line, consult_line, read_reply, read_seen, submit_line};
-use agency_port::{ReplyLine, Seen, State3};
-use batches::Huellas;
+use crate::sales::{CONSULTATION_9, OPENING_6, SUBMISSION, batch, nif, with_huella};
+use agency_pipe::{
+    Unheard, begin_line, consult_line, opening_of, read_reply, read_seen, submit_line,
+};
+use agency_port::{Reply, ReplyLine, Seen, State3};
+use batches::{Batch, Huellas};
 use record_fields::{Cause, Line};
 use rows::holds;
+use std::alloc::Global;
 use std::test::Fail;
 use verify_link::Host;
 
 #[test]
+fn a_begin_is_written(rt: HostRuntime) -> Result<(), Fail> {
+    let opening = opening_of(rt.alloc(), &nif()?, 6, 0)?;
+    holds(opening.as_slice() == OPENING_6.as_bytes(), "an opening")?;
+    let begin = begin_line(rt.alloc(), &nif()?, 6, 0)?;
+    let line = OPENING_6.as_bytes().strip_prefix(b"\n".as_slice());
+    holds(Some(begin.as_slice()) == line, "its line")
+}
+
+#[test]
 fn messages_are_written(rt: HostRuntime) -> Result<(), Fail> {
-    let alloc = rt.alloc();
-    let batch = batch(alloc)?;
-    let huellas = Huellas::of(alloc, batch.as_slice())?;
-    let begin = begin_line(alloc, &nif()?, 0)?;
-    holds(begin.as_slice() == BEGIN.as_bytes(), "a beginning")?;
-    let submission = submit_line(alloc, 7, Host::Real, &batch)?;
+    let batch = batch(rt.alloc())?;
+    let submission = submit_line(rt.alloc(), 7, Host::Real, &batch)?;
     holds(
         submission.as_slice() == SUBMISSION.as_bytes(),
         "a submission",
     )?;
-    let consultation = consult_line(alloc, 8, &huellas)?;
+    let huellas = Huellas::of(rt.alloc(), batch.as_slice())?;
+    let consultation = consult_line(rt.alloc(), 9, &huellas)?;
     holds(
-        consultation.as_slice() == CONSULTATION.as_bytes(),
+        consultation.as_slice() == CONSULTATION_9.as_bytes(),
         "a consultation",
-    )?;
-    Ok(())
+    )
 }
 
 const REPLIES: [(&str, ReplyLine); 9] = [
@@ -55,24 +63,33 @@ const REPLIES: [(&str, ReplyLine); 9] = [
     ),
 ];
 
+// Whether the reply is this line of the sale, and 60 seconds.
+fn says(reply: &Reply, batch: &Batch, line: ReplyLine) -> bool {
+    reply.lines().as_slice().first() == Some(&line)
+        && reply.wait() == 60
+        && reply.huellas().are_of(batch.as_slice())
+}
+
+fn is_read(alloc: Global, batch: &Batch, row: &(&str, ReplyLine)) -> Result<(), Fail> {
+    let words = row.0;
+    let text = format!(in alloc; "{{\"lines\":[[\"H\",\"{words}]],\"n\":7,\"wait\":60}}")?;
+    let text = with_huella(alloc, &text)?;
+    match read_reply(alloc, 7, batch, text.as_bytes()) {
+        Ok(reply) => holds(says(&reply, batch, row.1), words),
+        Err(_) => holds(false, words),
+    }
+}
+
 #[test]
 fn replies_are_read(rt: HostRuntime) -> Result<(), Fail> {
-    let alloc = rt.alloc();
-    let batch = batch(alloc)?;
-    for (words, line) in REPLIES {
-        let text = format!(in alloc; "{{\"lines\":[[\"H\",\"{words}]],\"n\":7,\"wait\":60}}")?;
-        let text = with_huella(alloc, &text)?;
-        let reply = read_reply(alloc, 7, &batch, text.as_bytes())
-            .ok()
-            .ok_or(words)?;
-        holds(reply.lines().as_slice() == [line].as_slice(), words)?;
-        holds(reply.wait() == 60, words)?;
-        holds(reply.huellas().are_of(batch.as_slice()), words)?;
+    let batch = batch(rt.alloc())?;
+    for row in &REPLIES {
+        is_read(rt.alloc(), &batch, row)?;
     }
     Ok(())
 }
 
-const OTHERS: [(&str, Unheard); 23] = [
+const OTHERS: [(&str, Unheard); 26] = [
     ("", Unheard::Json),
     ("{", Unheard::Json),
     (
@@ -147,16 +164,25 @@ const OTHERS: [(&str, Unheard); 23] = [
         "{\"n\":7,\"seen\":[[\"H\",\"correcto\",0]]}",
         Unheard::Shape,
     ),
+    ("{\"t\":\"hello\"}", Unheard::Hello),
+    (
+        "{\"lines\":[[\"H\",\"correcto\",0]],\"n\":7,\"t\":\"hello\",\"wait\":60}",
+        Unheard::Hello,
+    ),
+    ("{\"t\":\"Hello\"}", Unheard::Shape),
 ];
+
+fn is_no_reply(alloc: Global, batch: &Batch, row: &(&str, Unheard)) -> Result<(), Fail> {
+    let text = with_huella(alloc, row.0)?;
+    let other = read_reply(alloc, 7, batch, text.as_bytes()).err();
+    holds(other == Some(row.1), row.0)
+}
 
 #[test]
 fn other_lines_are_no_replies(rt: HostRuntime) -> Result<(), Fail> {
-    let alloc = rt.alloc();
-    let batch = batch(alloc)?;
-    for (line, why) in OTHERS {
-        let text = with_huella(alloc, line)?;
-        let other = read_reply(alloc, 7, &batch, text.as_bytes()).err();
-        holds(other == Some(why), line)?;
+    let batch = batch(rt.alloc())?;
+    for row in &OTHERS {
+        is_no_reply(rt.alloc(), &batch, row)?;
     }
     Ok(())
 }
@@ -172,16 +198,19 @@ const SEEN: [(&str, Seen); 2] = [
     ),
 ];
 
+fn is_seen(alloc: Global, huellas: &Huellas, row: &(&str, Seen)) -> Result<(), Fail> {
+    let text = with_huella(alloc, row.0)?;
+    match read_seen(alloc, 7, huellas, text.as_bytes()) {
+        Ok(list) => holds(list.as_slice().first() == Some(&row.1), row.0),
+        Err(_) => holds(false, row.0),
+    }
+}
+
 #[test]
 fn what_was_seen_is_read(rt: HostRuntime) -> Result<(), Fail> {
-    let alloc = rt.alloc();
-    let huellas = Huellas::of(alloc, batch(alloc)?.as_slice())?;
-    for (line, seen) in SEEN {
-        let text = with_huella(alloc, line)?;
-        let list = read_seen(alloc, 7, &huellas, text.as_bytes())
-            .ok()
-            .ok_or(line)?;
-        holds(list.as_slice() == [seen].as_slice(), line)?;
+    let huellas = Huellas::of(rt.alloc(), batch(rt.alloc())?.as_slice())?;
+    for row in &SEEN {
+        is_seen(rt.alloc(), &huellas, row)?;
     }
     Ok(())
 }

@@ -13,10 +13,12 @@ use tax_lines::{Breakdown, Class, LineKey, TaxLine};
 pub(crate) const SUBMISSION: &str =
     "{\"n\":7,\"records\":[{\"cuota\":2100,\"customer\":null,\"day\":\"01-01-2025\",\"fix\":false,\"huella\":\"0A0A0A0A0A0A0A0A0A0A0A0A0A0A0A0A0A0A0A0A0A0A0A0A0A0A0A0A0A0A0A0A\",\"issuer\":\"89890001K\",\"kind\":\"F2\",\"lines\":[[\"21\",10000]],\"link\":null,\"num\":\"A-1\",\"offset\":60,\"qr\":\"https://www2.agenciatributaria.gob.es/wlpl/TIKE-CONT/ValidarQR?nif=89890001K&numserie=A-1&fecha=01-01-2025&importe=121.00\",\"rechazo\":\"N\",\"rect\":null,\"refs\":[],\"seconds\":1735722000,\"t\":\"alta\",\"total\":12100}],\"t\":\"submit\"}\n";
 
-pub(crate) const CONSULTATION: &str =
-    "{\"huellas\":[\"0A0A0A0A0A0A0A0A0A0A0A0A0A0A0A0A0A0A0A0A0A0A0A0A0A0A0A0A0A0A0A0A\"],\"n\":8,\"t\":\"consult\"}\n";
+pub(crate) const CONSULTATION_9: &str =
+    "{\"huellas\":[\"0A0A0A0A0A0A0A0A0A0A0A0A0A0A0A0A0A0A0A0A0A0A0A0A0A0A0A0A0A0A0A0A\"],\"ids\":[[\"A-1\",\"01-01-2025\",\"alta\"]],\"n\":9,\"t\":\"consult\"}\n";
 
-pub(crate) const BEGIN: &str = "{\"issuer\":\"89890001K\",\"noted\":0,\"t\":\"begin\"}\n";
+// What begins the call whose message is the submission: an LF, and the line.
+pub(crate) const OPENING_6: &str =
+    "\n{\"issuer\":\"89890001K\",\"n\":6,\"noted\":0,\"protocol\":2,\"t\":\"begin\"}\n";
 
 pub(crate) fn nif() -> Result<Nif, Fail> {
     Ok(Nif::read("89890001K")?)

@@ -3,6 +3,7 @@ ghost use Rattle.std.specs.Prelude.{◌≡◌, ◌≤◌, ◌-◌, ◌^◌, ℕ,
 ghost use Rattle.record_fields.specs.declared.records.Sealed.{Sealed as AnySealed};
 ghost use Rattle.record_fields.specs.declared.lines.Line.{Line as AnyLine};
 ghost use Rattle.record_fields.specs.declared.lines.TheConstants.{BATCH};
+ghost use Rattle.batches.specs.Batches.{Named};
 ghost use Rattle.ports.specs.declared.faults.NoMemory.{NoMemory as AnyNoMemory};
 ghost use Rattle.agency_rules.specs.declared.plans.Plan.{Plan as AnyPlan};
 ghost use Rattle.agency_port.specs.declared.answers.AgencyFault.{AgencyFault as AnyFault};
@@ -42,7 +43,7 @@ pub trait Agency {
 
     ghost submission: { Self → Self → List AnySealed → Result Replied AnyFault → Type 0 } = { λ _ _ _ _. ⊤ };
 
-    ghost consultation: { Self → Self → List (List ℕ) → Result (List AnySeen) AnyFault → Type 0 } = { λ _ _ _ _. ⊤ };
+    ghost consultation: { Self → Self → Named → Result (List AnySeen) AnyFault → Type 0 } = { λ _ _ _ _. ⊤ };
 
     /// Opens a session. Want of memory changes nothing that is told.
     fn begin(
@@ -69,12 +70,12 @@ pub trait Agency {
 
     /// Asks what stands under 1 to `BATCH` Huellas; one answer for each, in order. Want of memory changes nothing that is told.
     fn consult(&mut self, alloc: Global, huellas: &Huellas) -> Result<SeenList, AgencyFault>
-        requires some { 1 ≤ length huellas.now }
-        requires few { length huellas.now ≤ BATCH }
-        ensures count { IfOk result (λ seen. length seen ≡ length huellas.now) }
+        requires some { 1 ≤ length huellas.now.huellas }
+        requires few { length huellas.now.huellas ≤ BATCH }
+        ensures count { IfOk result (λ seen. length seen ≡ length huellas.now.huellas) }
         ensures cause { HasCause (faults self.old) (faults self.new) result }
-        ensures lists { IsTrue tells → Consults (ledger self.old) (ledger self.new) huellas.now result }
-        ensures rules { IsTrue keeps_rules → ConsultKeeps (ledger self.old) (ledger self.new) huellas.now result }
+        ensures lists { IsTrue tells → Consults (ledger self.old) (ledger self.new) huellas.now.huellas result }
+        ensures rules { IsTrue keeps_rules → ConsultKeeps (ledger self.old) (ledger self.new) huellas.now.huellas result }
         ensures row { consultation self.old self.new huellas.now result };
 
     /// Who keeps the rules tells what was said.

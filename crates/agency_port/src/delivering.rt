@@ -8,7 +8,7 @@ ghost use Rattle.agency_port.specs.Practice as rows;
 use crate::answers::{reply_line, seen_of};
 use crate::{Logged, Message, ReplyLines, SeenList};
 use agency_rules::{Pairs, Verdicts};
-use batches::Huellas;
+use batches::HuellaList;
 use ports::NoMemory;
 use record_fields::Sealed;
 use std::alloc::Global;

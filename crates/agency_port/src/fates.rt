@@ -7,7 +7,7 @@ ghost use Rattle.agency_port.specs.Practice as rows;
 use crate::delivering::{deliver_answered, deliver_late, deliver_sent, look};
 use crate::{AgencyFault, Logged, Message, Reply, ReplyLines, SeenList};
 use agency_rules::{Fate, Pairs, Plan, Verdicts};
-use batches::{Batch, Huellas};
+use batches::{Batch, HuellaList};
 use ports::NoMemory;
 use std::alloc::Global;
 
@@ -80,7 +80,7 @@ fn reply_to(alloc: Global, plan: &Plan, pairs: &mut Pairs, batch: &Batch) -> Res
     ensures ok { OnOk result (pairs.new ≡ delivered_all plan.now.verdicts pairs.old (batch.now ∷ [])) }
     ensures front { take (length pairs.old) pairs.new ≡ pairs.old }
 {
-    let huellas = Huellas::of(alloc, batch.as_slice())?;
+    let huellas = HuellaList::of(alloc, batch.as_slice())?;
     let lines = deliver_answered(alloc, &plan.verdicts, pairs, batch.as_slice())?;
     Ok(Reply::of(huellas, lines, plan.wait))
 }
@@ -115,7 +115,7 @@ fn last_reply(alloc: Global, log: &[Logged]) -> Result<Option<Reply>, NoMemory>
 fn empty_reply(alloc: Global, wait: u32) -> Result<Reply, NoMemory>
     ensures { IfOk result (λ reply. reply ≡ rows.empty_reply wait) }
 {
-    let huellas = Huellas::of(alloc, &[])?;
+    let huellas = HuellaList::of(alloc, &[])?;
     Ok(Reply::of(huellas, ReplyLines::of(Vec::new(alloc)), wait))
 }
 
@@ -178,7 +178,7 @@ pub(crate) fn seen_by(
     alloc: Global,
     pairs: &Pairs,
     fate: Option<Fate>,
-    huellas: &Huellas,
+    huellas: &HuellaList,
 ) -> Result<Result<SeenList, AgencyFault>, NoMemory>
     ensures { IfOk result (λ answer. answer ≡ rows.seen_by fate pairs.now huellas.now) }
 {

@@ -1,7 +1,7 @@
 // What was said to an agency, and what it answered.
 use crate::{AgencyFault, Reply, SeenList};
 use agency_rules::Plan;
-use batches::{Batch, Huellas};
+use batches::{Batch, HuellaList};
 
 /// A message to the agency and its answer.
 #[derive(Drop)]
@@ -18,7 +18,7 @@ pub enum Message {
     },
     /// It was asked for these Huellas.
     Consulted {
-        huellas: Huellas,
+        huellas: HuellaList,
         answer: Result<SeenList, AgencyFault>,
     },
 }

@@ -10,7 +10,7 @@ use crate::fates::{
 };
 use crate::{Agency, AgencyFault, Logged, Message, Reply, SeenList};
 use agency_rules::{Pairs, Plan};
-use batches::{Batch, Huellas};
+use batches::{Batch, HuellaList, Huellas};
 use ports::NoMemory;
 use record_fields::{Line, Sealed};
 use std::alloc::Global;
@@ -160,7 +160,7 @@ impl PracticeAgency {
     fn try_consultation(
         &mut self,
         alloc: Global,
-        huellas: &Huellas,
+        huellas: &HuellaList,
     ) -> Result<Result<SeenList, AgencyFault>, NoMemory>
         ensures said { IfOk result (λ answer. answer ≡ consultation_answer self.old huellas.now) }
         ensures ok { OnOk result (self.new ≡ consulted self.old huellas.now) }
@@ -182,7 +182,7 @@ impl PracticeAgency {
         Ok(answer)
     }
 
-    fn consultation(&mut self, alloc: Global, huellas: &Huellas) -> Result<SeenList, AgencyFault>
+    fn consultation(&mut self, alloc: Global, huellas: &HuellaList) -> Result<SeenList, AgencyFault>
         ensures { IsRow result (consultation_answer self.old huellas.now) self.old self.new (consulted self.old huellas.now) }
     {
         let count = self.processed_count();
@@ -215,7 +215,7 @@ impl Agency for PracticeAgency {
     ghost submission = { λ old new batch result. IsRow result (submission_answer old batch) old new (submitted old batch) };
 
     ghost consultation = { λ old new huellas result.
-        IsRow result (consultation_answer old huellas) old new (consulted old huellas) };
+        IsRow result (consultation_answer old huellas.huellas) old new (consulted old huellas.huellas) };
 
     ghost keeps_and_tells = { λ keeps. keeps };
 
@@ -238,6 +238,6 @@ impl Agency for PracticeAgency {
     }
 
     fn consult(&mut self, alloc: Global, huellas: &Huellas) -> Result<SeenList, AgencyFault> {
-        self.consultation(alloc, huellas)
+        self.consultation(alloc, huellas.list())
     }
 }

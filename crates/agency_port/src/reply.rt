@@ -2,7 +2,7 @@
 ghost use Rattle.std.specs.Prelude.{◌≡◌, length, IfOk};
 
 use crate::ReplyLines;
-use batches::Huellas;
+use batches::HuellaList;
 use ports::NoMemory;
 use std::alloc::Global;
 use std::marker::Model;
@@ -10,7 +10,7 @@ use std::marker::Model;
 /// The Huellas that it answers for, a line for each, and the seconds to wait before the next submission.
 #[derive(Drop)]
 pub struct Reply {
-    huellas: Huellas,
+    huellas: HuellaList,
     lines: ReplyLines,
     wait: u32,
 }
@@ -28,7 +28,7 @@ impl Model for Reply {
 
 impl Reply {
     /// The reply with these lines, as many as Huellas.
-    pub fn of(huellas: Huellas, lines: ReplyLines, wait: u32) -> Reply
+    pub fn of(huellas: HuellaList, lines: ReplyLines, wait: u32) -> Reply
         requires { length lines ≡ length huellas }
         ensures { result ≡ record { huellas = huellas; lines = lines; wait = wait } }
     {
@@ -40,7 +40,7 @@ impl Reply {
     }
 
     /// The Huellas that it answers for, in order.
-    pub fn huellas(&self) -> &Huellas
+    pub fn huellas(&self) -> &HuellaList
         ensures { result.now ≡ self.now.huellas }
     {
         &self.huellas

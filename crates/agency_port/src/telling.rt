@@ -4,7 +4,7 @@ ghost use Rattle.agency_port.specs.Telling as told_as;
 
 use crate::fates::is_reply_to;
 use crate::{AgencyFault, Reply, SeenList, ToldAnswer};
-use batches::{Batch, Huellas};
+use batches::{Batch, HuellaList};
 use ports::NoMemory;
 use std::alloc::Global;
 
@@ -28,7 +28,7 @@ pub(crate) fn next_reply(
 pub(crate) fn next_seen(
     alloc: Global,
     left: &[ToldAnswer],
-    huellas: &Huellas,
+    huellas: &HuellaList,
 ) -> Result<Result<SeenList, AgencyFault>, NoMemory>
     ensures { IfOk result (λ answer. answer ≡ told_as.consultation_answer left.now huellas.now) }
 {

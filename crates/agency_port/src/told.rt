@@ -8,7 +8,7 @@ use crate::fates::{copied_reply, copied_seen};
 use crate::telling::{faults_after, next_reply, next_seen};
 use crate::{Agency, AgencyFault, Message, Reply, SeenList};
 use agency_rules::Plan;
-use batches::{Batch, Huellas};
+use batches::{Batch, HuellaList, Huellas};
 use ports::NoMemory;
 use record_fields::{Line, Sealed};
 use std::alloc::Global;
@@ -127,7 +127,7 @@ impl ToldAgency {
         answer
     }
 
-    fn consultation(&mut self, alloc: Global, huellas: &Huellas) -> Result<SeenList, AgencyFault>
+    fn consultation(&mut self, alloc: Global, huellas: &HuellaList) -> Result<SeenList, AgencyFault>
         ensures { IsRow result (telling.consultation_answer self.old.answers huellas.now) self.old self.new
             (telling.consulted self.old huellas.now) }
     {
@@ -172,7 +172,7 @@ impl Agency for ToldAgency {
         IsRow result (telling.submission_answer old.answers batch) old new (telling.submitted old batch) };
 
     ghost consultation = { λ old new huellas result.
-        IsRow result (telling.consultation_answer old.answers huellas) old new (telling.consulted old huellas) };
+        IsRow result (telling.consultation_answer old.answers huellas.huellas) old new (telling.consulted old huellas.huellas) };
 
     ghost keeps_and_tells = { λ keeps. refl };
 
@@ -197,6 +197,6 @@ impl Agency for ToldAgency {
     }
 
     fn consult(&mut self, alloc: Global, huellas: &Huellas) -> Result<SeenList, AgencyFault> {
-        self.consultation(alloc, huellas)
+        self.consultation(alloc, huellas.list())
     }
 }

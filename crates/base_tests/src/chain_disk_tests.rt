@@ -1,8 +1,8 @@
-use chain_disk::{Disk, FileDisk, Fill, MemDisk};
+// The disk in memory. What `FileDisk` does over real files is shown by `examples/rows/files.row` and `.ci/longer`.
+use chain_disk::{Disk, Fill, MemDisk};
 use ports::Failed;
 use rows::holds;
 use std::alloc::Global;
-use std::fs;
 use std::test::Fail;
 
 // Whether the disk reads as these bytes.
@@ -14,7 +14,9 @@ fn reads_as<D: Disk>(disk: &mut D, want: &[u8]) -> Result<bool, Failed> {
 }
 
 // A moment, what fills its image, and the image.
-const IMAGES: [(&str, u64, Fill, &[u8]); 12] = [
+type Image = (&'static str, u64, Fill, &'static [u8]);
+
+const IMAGES: [Image; 12] = [
     ("0, old", 0, Fill::Old, b"abc"),
     ("0, ones", 0, Fill::Ones, b"abc"),
     ("1, old", 1, Fill::Old, b"abc"),
@@ -40,109 +42,17 @@ fn faulty_disk(alloc: Global) -> Result<MemDisk, Fail> {
     Ok(disk)
 }
 
-fn image_reads_as(
-    alloc: Global,
-    disk: &MemDisk,
-    moment: u64,
-    fill: Fill,
-    want: &[u8],
-) -> Result<bool, Fail> {
-    let mut image = disk.image(alloc, moment, fill)?.ok_or("no image")?;
-    Ok(reads_as(&mut image, want)?)
+fn is_image(alloc: Global, disk: &MemDisk, row: &Image) -> Result<(), Fail> {
+    let mut image = disk.image(alloc, row.1, row.2)?.ok_or("no image")?;
+    holds(reads_as(&mut image, row.3)?, row.0)
 }
 
 #[test]
 fn images_are_filled_as_asked(rt: HostRuntime) -> Result<(), Fail> {
-    let alloc = rt.alloc();
-    let disk = faulty_disk(alloc)?;
-    for (row, moment, fill, bytes) in IMAGES {
-        holds(image_reads_as(alloc, &disk, moment, fill, bytes)?, row)?;
+    let disk = faulty_disk(rt.alloc())?;
+    for row in &IMAGES {
+        is_image(rt.alloc(), &disk, row)?;
     }
-    holds(
-        disk.image(alloc, 4, Fill::New)?.is_none(),
-        "a fourth moment",
-    )?;
-    Ok(())
-}
-
-fn file_at<'a>(rt: &'a HostRuntime, path: &str) -> Result<FileDisk<'a, HostRuntime>, Fail> {
-    Ok(FileDisk::at(rt, String::from_str(rt.alloc(), path)?))
-}
-
-fn write_synced(disk: &mut FileDisk<'_, HostRuntime>, at: u64, bytes: &[u8]) -> Result<(), Failed> {
-    disk.write_at(at, bytes)?;
-    disk.sync()
-}
-
-#[test]
-fn a_file_is_made_at_its_first_write(rt: HostRuntime) -> Result<(), Fail> {
-    let mut missing = file_at(&rt, "new.chain")?;
-    holds(reads_as(&mut missing, b"")?, "no file")?;
-    holds(!fs::exists(&rt, "new.chain")?, "reading left a file")?;
-    write_synced(&mut missing, 0, b"abc")?;
-    write_synced(&mut missing, 2, b"XYZ")?;
-    holds(reads_as(&mut missing, b"abXYZ")?, "what was written")?;
-    let mut again = file_at(&rt, "new.chain")?;
-    holds(reads_as(&mut again, b"abXYZ")?, "the file again")?;
-    fs::remove_file(&rt, "new.chain")?;
-    Ok(())
-}
-
-#[test]
-fn a_file_is_made_at_its_first_sync(rt: HostRuntime) -> Result<(), Fail> {
-    let mut disk = file_at(&rt, "synced.chain")?;
-    disk.sync()?;
-    holds(fs::exists(&rt, "synced.chain")?, "a file by a sync")?;
-    fs::remove_file(&rt, "synced.chain")?;
-    Ok(())
-}
-
-// No folder to make the file in, a folder in the file's place, and a device. The first reads as length 0.
-const NO_FILES: [(&str, Result<u64, Failed>, &str); 3] = [
-    ("no/such.chain", Ok(0), "no such file"),
-    (".", Err(Failed), "is a folder"),
-    ("/dev/full", Err(Failed), "not a file"),
-];
-
-#[test]
-fn each_error_of_a_file_raises_the_count(rt: HostRuntime) -> Result<(), Fail> {
-    for (path, len, reason) in NO_FILES {
-        let mut disk = file_at(&rt, path)?;
-        holds(disk.len() == len, path)?;
-        holds(disk.missing() == len.is_ok(), path)?;
-        let before = disk.faults();
-        holds(disk.write_at(0, b"abc") == Err(Failed), path)?;
-        holds(disk.sync() == Err(Failed), path)?;
-        holds(disk.faults() == before.saturating_add(2), path)?;
-        holds(disk.reason() == Some(reason), path)?;
-    }
-    holds(!fs::exists(&rt, "no")?, "a folder was made")?;
-    Ok(())
-}
-
-// Fails where a disk whose file another one writes to can write too.
-fn is_refused(disk: &mut FileDisk<'_, HostRuntime>) -> Result<(), Fail> {
-    holds(!disk.missing(), "the file is there")?;
-    holds(disk.reason().is_none(), "no reason yet")?;
-    holds(disk.sync() == Err(Failed), "its sync")?;
-    holds(disk.write_at(0, b"X") == Err(Failed), "its write")?;
-    holds(disk.faults() == 2, "its faults")?;
-    let reason = Some("in use by another program");
-    holds(disk.reason() == reason, "its reason")
-}
-
-#[test]
-fn one_disk_at_a_time_writes_to_a_file(rt: HostRuntime) -> Result<(), Fail> {
-    let mut writer = file_at(&rt, "two.chain")?;
-    write_synced(&mut writer, 0, b"abc")?;
-    let mut other = file_at(&rt, "two.chain")?;
-    holds(reads_as(&mut other, b"abc")?, "the other reads")?;
-    is_refused(&mut other)?;
-    holds(reads_as(&mut other, b"abc")?, "nothing was written")?;
-    writer.write_at(3, b"d")?;
-    drop(writer);
-    holds(other.write_at(4, b"e") == Ok(()), "alone, it writes")?;
-    holds(reads_as(&mut other, b"abcde")?, "both wrote")?;
-    fs::remove_file(&rt, "two.chain")?;
-    Ok(())
+    let fourth = disk.image(rt.alloc(), 4, Fill::New)?;
+    holds(fourth.is_none(), "a fourth moment")
 }

@@ -1,7 +1,7 @@
 ghost use Rattle.std.specs.Prelude.{◌≡◌, ◌<◌, ◌≤◌, ◌+◌, IfOk};
 ghost use Rattle.journal.specs.Journal.{end_of};
 
-use chain_disk::{Disk, Fill, MemDisk};
+use chain_disk::{Disk, MemDisk};
 use frames::FrameBuf;
 use journal::{
     Header, Journal, JournalFault, Lost, ReadAhead, Step, StoreFault, read_header, scan, scan_ahead,
@@ -12,34 +12,6 @@ use record_fields::Version;
 use rows::holds;
 use std::alloc::Global;
 use std::test::Fail;
-
-const FILLS: [Fill; 4] = [Fill::Old, Fill::New, Fill::Zeros, Fill::Ones];
-
-// What a disk reads as, for disks of at most one body, which is then `abc`.
-#[derive(Clone, Copy, Debug, PartialEq, Eq)]
-enum Reading {
-    NotBegun,
-    Empty,
-    WithBody,
-    Other,
-}
-
-fn read_as<D: Disk>(disk: &mut D) -> Result<Reading, Failed> {
-    match read_header(disk)? {
-        Header::NotBegun => return Ok(Reading::NotBegun),
-        Header::Damaged { at: _ } => return Ok(Reading::Other),
-        Header::Begun {
-            issuer: _,
-            version: _,
-        } => {}
-    }
-    let mut body = FrameBuf::new();
-    match scan(disk, 19, &mut body)? {
-        Step::Closed => Ok(Reading::Empty),
-        Step::Counted { next: 27 } if body.as_slice() == b"abc".as_slice() => Ok(Reading::WithBody),
-        _ => Ok(Reading::Other),
-    }
-}
 
 // Whether the disk holds exactly these bytes.
 fn has_bytes<D: Disk>(disk: &mut D, want: &[u8]) -> Result<bool, Failed> {
@@ -68,14 +40,6 @@ fn created(alloc: Global, failing: u64) -> Result<Journal<MemDisk>, Fail>
     }
 }
 
-// The disk of a creation that failed at the call of this number.
-fn lost(alloc: Global, failing: u64) -> Result<MemDisk, Fail> {
-    match create(alloc, failing)? {
-        Ok(_) => Err(Fail::from("created")),
-        Err(Lost { disk }) => Ok(disk),
-    }
-}
-
 fn append(journal: &mut Journal<MemDisk>, body: &[u8; 3]) -> Result<u64, JournalFault>
     requires { end_of journal.old < 1000 }
     ensures { end_of journal.new ≤ end_of journal.old + 8 }
@@ -83,63 +47,56 @@ fn append(journal: &mut Journal<MemDisk>, body: &[u8; 3]) -> Result<u64, Journal
     journal.append(body)
 }
 
-// Whether each image from this moment on reads as one of the two, and how many images there are.
-fn images_read_as(
-    alloc: Global,
-    disk: &MemDisk,
-    since: u64,
-    before: Reading,
-    after: Reading,
-) -> Result<u64, Fail> {
-    let mut count = 0u64;
-    for moment in since..32 {
-        for fill in FILLS {
-            if let Some(image) = disk.image(alloc, moment, fill)? {
-                let mut image = image;
-                let is = read_as(&mut image)?;
-                if is != before && is != after {
-                    return Err(Fail::from("another reading"));
-                }
-                count = count.saturating_add(1);
-            }
-        }
-    }
-    Ok(count)
+// Adds the two bodies of `TWO_BODIES`.
+fn append_two(journal: &mut Journal<MemDisk>) -> Result<(), Fail>
+    requires { end_of journal.old ≡ 19 }
+{
+    holds(append(journal, b"abc") == Ok(27), "abc added")?;
+    holds(append(journal, b"def") == Ok(35), "def added")?;
+    holds(journal.stopped().is_none(), "it goes on")
 }
 
 #[test]
 fn a_journal_is_created_and_written(rt: HostRuntime) -> Result<(), Fail> {
     let mut journal = created(rt.alloc(), 0)?;
-    holds(append(&mut journal, b"abc") == Ok(27), "abc added")?;
-    holds(append(&mut journal, b"def") == Ok(35), "def added")?;
-    holds(journal.stopped().is_none(), "it goes on")?;
+    append_two(&mut journal)?;
     let mut disk = journal.into_disk();
-    holds(has_bytes(&mut disk, TWO_BODIES)?, "the file")?;
-    Ok(())
+    holds(has_bytes(&mut disk, TWO_BODIES)?, "the file")
 }
 
 const TWO_BODIES: &[u8] =
     b"\x01VFCHAIN1\x02B12345674\x01\x00\x00\x00\x03abc\x01\x00\x00\x00\x03def\x00";
 
 // A place in this file, what stands there, and its body.
-const STEPS: [(&str, u32, Step, Option<&[u8]>); 4] = [
+type StepRow = (&'static str, u32, Step, Option<&'static [u8]>);
+
+const STEPS: [StepRow; 4] = [
     ("abc", 19, Step::Counted { next: 27 }, Some(b"abc")),
     ("def", 27, Step::Counted { next: 35 }, Some(b"def")),
     ("the end", 35, Step::Closed, None),
     ("past the end", 36, Step::Damaged, None),
 ];
 
+fn is_step(disk: &mut MemDisk, body: &mut FrameBuf, row: &StepRow) -> Result<(), Fail> {
+    let step = scan(disk, u64::from(row.1), body)?;
+    let is_body = match row.3 {
+        Some(bytes) => body.as_slice() == bytes,
+        None => true,
+    };
+    holds(step == row.2 && is_body, row.0)
+}
+
+fn disk_of(alloc: Global, file: &[u8]) -> Result<MemDisk, Fail> {
+    let file = Vec::from_slice(alloc, file)?;
+    Ok(MemDisk::new(alloc, file, Vec::new(alloc)))
+}
+
 #[test]
 fn a_journal_is_read(rt: HostRuntime) -> Result<(), Fail> {
-    let alloc = rt.alloc();
-    let mut disk = MemDisk::new(alloc, TWO_BODIES.to_vec(alloc)?, Vec::new(alloc));
+    let mut disk = disk_of(rt.alloc(), TWO_BODIES)?;
     let mut body = FrameBuf::new();
-    for (row, at, wanted, read) in STEPS {
-        let step = scan(&mut disk, u64::from(at), &mut body)?;
-        holds(step == wanted, row)?;
-        if let Some(bytes) = read {
-            holds(body.as_slice() == bytes, row)?;
-        }
+    for row in &STEPS {
+        is_step(&mut disk, &mut body, row)?;
     }
     Ok(())
 }
@@ -170,7 +127,7 @@ fn frames_are_found_in_what_was_read_ahead_and_past_it(rt: HostRuntime) -> Resul
     let second = scan_ahead(&mut disk, &mut ahead, 4120, &mut body)?;
     holds(second == Step::Counted { next: 8221 }, "the second")?;
     holds(is_filled(&body, 1), "the second's body")?;
-    // It ends past the first 65,536 bytes behind the header.
+    // It ends past the first 65,536 bytes after the header.
     let sixteenth = scan_ahead(&mut disk, &mut ahead, 61_534, &mut body)?;
     holds(sixteenth == Step::Counted { next: 65_635 }, "the sixteenth")?;
     holds(is_filled(&body, 15), "the sixteenth's body")?;
@@ -183,7 +140,7 @@ fn frames_are_found_in_what_was_read_ahead_and_past_it(rt: HostRuntime) -> Resul
 
 // The header of a file of these bytes.
 fn header_of(alloc: Global, file: &[u8]) -> Result<Header, Fail> {
-    let mut disk = MemDisk::new(alloc, file.to_vec(alloc)?, Vec::new(alloc));
+    let mut disk = disk_of(alloc, file)?;
     Ok(read_header(&mut disk)?)
 }
 
@@ -230,99 +187,51 @@ const HEADERS: [(&str, &[u8], Header); 12] = [
     ),
 ];
 
-const VERSIONS: [(&str, u8); 2] = [("version 1", 1), ("version 2", 2)];
+fn issuer() -> Result<Nif, Fail> {
+    match Nif::read("B12345674") {
+        Ok(issuer) => Ok(issuer),
+        Err(_) => Err(Fail::from("a tax number")),
+    }
+}
+
+fn is_begun(alloc: Global, version: u8) -> Result<(), Fail> {
+    let mut file = *b"\x01VFCHAIN1\x00B12345674\x00";
+    file[9] = version;
+    let issuer = issuer()?;
+    let header = header_of(alloc, &file)?;
+    holds(header == Header::Begun { issuer, version }, "a version")
+}
 
 #[test]
 fn a_header_is_read_by_its_rows(rt: HostRuntime) -> Result<(), Fail> {
-    let alloc = rt.alloc();
-    let issuer = Nif::read("B12345674").ok().ok_or("a tax number")?;
-    for (row, version) in VERSIONS {
-        let mut file = *b"\x01VFCHAIN1\x00B12345674\x00";
-        file[9] = version;
-        let wanted = Header::Begun { issuer, version };
-        holds(header_of(alloc, &file)? == wanted, row)?;
-    }
-    for (row, file, wanted) in HEADERS {
-        holds(header_of(alloc, file)? == wanted, row)?;
+    is_begun(rt.alloc(), 1)?;
+    is_begun(rt.alloc(), 2)?;
+    for (row, file, wanted) in &HEADERS {
+        holds(header_of(rt.alloc(), file)? == *wanted, row)?;
     }
     Ok(())
 }
 
-// Creation asks for the length, and then writes and syncs three times. What fails, its number, and how many images there are.
-const CREATION: [(&str, u64, u64); 7] = [
-    ("the length", 1, 4),
-    ("the first write", 2, 8),
-    ("the first sync", 3, 12),
-    ("the second write", 4, 16),
-    ("the second sync", 5, 20),
-    ("the third write", 6, 24),
-    ("the third sync", 7, 28),
-];
+const STOPPED: JournalFault = JournalFault::Stopped { faults: 1 };
 
-#[test]
-fn each_call_of_a_creation_fails_in_turn(rt: HostRuntime) -> Result<(), Fail> {
-    let alloc = rt.alloc();
-    let (before, after) = (Reading::NotBegun, Reading::Empty);
-    for (row, call, images) in CREATION {
-        let disk = lost(alloc, call)?;
-        holds(disk.faults() == 1, row)?;
-        let count = images_read_as(alloc, &disk, 0, before, after)?;
-        holds(count == images, row)?;
-    }
-    Ok(())
+// Whether an append fails, and the journal stops by it.
+fn is_stopped(journal: &mut Journal<MemDisk>) -> bool
+    requires { end_of journal.old ≡ 19 }
+{
+    let failed = append(journal, b"abc");
+    let again = append(journal, b"abc");
+    let is_told = failed == Err(JournalFault::DiskFault) && again == Err(STOPPED);
+    is_told && journal.stopped() == Some(1)
 }
 
+// A creation makes seven calls, and an append four. What each image of a disk reads as, whichever fails, is shown by the tests of whole runs.
 #[test]
-fn a_creation_that_ends_leaves_no_other_image(rt: HostRuntime) -> Result<(), Fail> {
-    let alloc = rt.alloc();
-    let (before, after) = (Reading::NotBegun, Reading::Empty);
-    let disk = created(alloc, 0)?.into_disk();
-    let count = images_read_as(alloc, &disk, 0, before, after)?;
-    holds(count == 28, "without a fault")?;
-    // The image of the single byte 1.
-    let mut image = disk.image(alloc, 1, Fill::Ones)?.ok_or("no image")?;
-    holds(has_bytes(&mut image, b"\x01")?, "the byte 1")?;
-    holds(read_as(&mut image)? == before, "its reading")?;
-    Ok(())
-}
-
-// An append writes and syncs twice, by the calls 8 to 11 after the seven of creation, whose last moment is 6.
-const APPEND: [(&str, u64, u64); 4] = [
-    ("the first write", 8, 8),
-    ("the first sync", 9, 12),
-    ("the second write", 10, 16),
-    ("the second sync", 11, 20),
-];
-
-#[test]
-fn each_call_of_an_append_fails_in_turn(rt: HostRuntime) -> Result<(), Fail> {
-    let alloc = rt.alloc();
-    let stopped = JournalFault::Stopped { faults: 1 };
-    let store_fault = StoreFault::from(stopped);
+fn a_journal_stops_where_an_append_fails(rt: HostRuntime) -> Result<(), Fail> {
+    let store_fault = StoreFault::from(STOPPED);
     holds(store_fault == StoreFault::Stopped { faults: 1 }, "a stop")?;
-    for (row, call, images) in APPEND {
-        let mut journal = created(alloc, call)?;
-        let failed = append(&mut journal, b"abc");
-        holds(failed == Err(JournalFault::DiskFault), row)?;
-        holds(append(&mut journal, b"abc") == Err(stopped), row)?;
-        holds(journal.stopped() == Some(1), row)?;
-        let disk = journal.into_disk();
-        let count = images_read_as(alloc, &disk, 6, Reading::Empty, Reading::WithBody)?;
-        holds(count == images, row)?;
+    for call in 8..=11u64 {
+        let mut journal = created(rt.alloc(), call)?;
+        holds(is_stopped(&mut journal), "an append")?;
     }
-    Ok(())
-}
-
-#[test]
-fn an_append_that_ends_has_its_body_in_each_image(rt: HostRuntime) -> Result<(), Fail> {
-    let alloc = rt.alloc();
-    let mut journal = created(alloc, 0)?;
-    holds(append(&mut journal, b"abc") == Ok(27), "abc added")?;
-    let disk = journal.into_disk();
-    let (empty, with_body) = (Reading::Empty, Reading::WithBody);
-    let since_creation = images_read_as(alloc, &disk, 6, empty, with_body)?;
-    holds(since_creation == 20, "since creation")?;
-    let behind = images_read_as(alloc, &disk, 10, with_body, with_body)?;
-    holds(behind == 4, "behind the append")?;
     Ok(())
 }

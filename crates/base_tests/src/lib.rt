@@ -1,5 +1,5 @@
-//! Tests of the lowest crates, a module each: values, devices, frames, the disk, the journal and the lock. There is nothing here
-//! that a program calls.
+//! Tests of the lowest crates, a module each: values, devices, frames, the disk, the journal and the lock. What lines and links are made
+//! of is shown by `examples/rows/values.row`. There is nothing here that a program calls.
 #![tactic(auto)]
 
 #[cfg(test)]
@@ -10,8 +10,6 @@ mod chain_disk_tests;
 mod chain_lock_tests;
 #[cfg(test)]
 mod frames_tests;
-#[cfg(test)]
-mod invoice_kinds_tests;
 #[cfg(test)]
 mod journal_tests;
 #[cfg(test)]
@@ -30,3 +28,5 @@ mod series_tests;
 mod stamps_tests;
 #[cfg(test)]
 mod tax_lines_tests;
+#[cfg(test)]
+mod unended_tests;

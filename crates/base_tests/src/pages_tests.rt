@@ -2,19 +2,29 @@ use pages::Pages;
 use rows::holds;
 use std::test::Fail;
 
+// How many strings, bytes and pages there are.
+fn counts(pages: &Pages) -> (u64, u64, u32) {
+    (pages.len(), pages.bytes(), pages.pages())
+}
+
+fn push(pages: &mut Pages) -> Result<(), Fail> {
+    pages.reserve(4096)?;
+    pages.push(&[7; 4096]);
+    Ok(())
+}
+
+fn is_last(pages: &Pages) -> bool {
+    pages.get(16) == Some([7; 4096].as_slice()) && pages.get(17).is_none()
+}
+
 #[test]
 fn a_seventeenth_string_of_4096_bytes_takes_a_second_page(rt: HostRuntime) -> Result<(), Fail> {
     let mut pages = Pages::empty(rt.alloc());
-    let string = [7; 4096];
-    holds(pages.pages() == 0, "no page")?;
+    holds(counts(&pages) == (0, 0, 0), "none")?;
     for n in 1..=17u64 {
-        pages.reserve(4096)?;
-        pages.push(&string);
-        holds(pages.len() == n, "the strings")?;
-        holds(pages.bytes() == 4096 * n, "the bytes")?;
-        holds(pages.pages() == if n < 17 { 1 } else { 2 }, "the pages")?;
+        push(&mut pages)?;
+        let wanted = (n, 4096 * n, if n < 17 { 1 } else { 2 });
+        holds(counts(&pages) == wanted, "the counts")?;
     }
-    holds(pages.get(16) == Some(string.as_slice()), "the last")?;
-    holds(pages.get(17).is_none(), "one more")?;
-    Ok(())
+    holds(is_last(&pages), "the last")
 }

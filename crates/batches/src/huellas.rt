@@ -7,13 +7,13 @@ use record_fields::Sealed;
 use std::alloc::Global;
 use std::marker::Model;
 
-/// The Huellas of records, in order, each of 32 bytes.
+/// Huellas of records, in order, each of 32 bytes.
 #[derive(Drop)]
-pub struct Huellas {
+pub struct HuellaList {
     list: Vec<[u8; 32]>,
 }
 
-impl Model for Huellas {
+impl Model for HuellaList {
     ghost use Rattle.std.specs.Prelude.{ℕ, List};
 
     ghost Value = { List (List ℕ) };
@@ -21,16 +21,16 @@ impl Model for Huellas {
     ghost view = { λ h. h.list.items };
 }
 
-impl Huellas {
+impl HuellaList {
     /// Those of these records.
-    pub fn of(alloc: Global, waiting: &[Sealed]) -> Result<Huellas, NoMemory>
+    pub fn of(alloc: Global, waiting: &[Sealed]) -> Result<HuellaList, NoMemory>
         ensures { IfOk result (λ huellas. huellas ≡ huellas_of waiting.now) }
     {
         let mut list = Vec::new(alloc);
         for i in 0..waiting.len() {
             list.push(waiting[i].huella)?;
         }
-        Ok(Huellas { list })
+        Ok(HuellaList { list })
     }
 
     /// The Huellas, in order.
@@ -41,10 +41,10 @@ impl Huellas {
     }
 
     /// The same Huellas, in memory of their own.
-    pub fn copied(&self, alloc: Global) -> Result<Huellas, NoMemory>
+    pub fn copied(&self, alloc: Global) -> Result<HuellaList, NoMemory>
         ensures { IfOk result (λ huellas. huellas ≡ self.now) }
     {
-        Ok(Huellas {
+        Ok(HuellaList {
             list: Vec::from_slice(alloc, &self.list)?,
         })
     }

@@ -4,22 +4,23 @@ use Rattle.std.proofs.Common.{Bool, true, false, ◌||◌, Option, Some, None, R
 use Rattle.std.specs.List.{AllByRecursion, list_any}
 use Rattle.std.proofs.KnownBytes.{Appends-nil, Appends-trans}
 use Rattle.std.specs.Io.KnownBytes.{Appends}
-use Rattle.std.proofs.Math.Seq.{take-append-add, take-length}
 use Rattle.chain_lock.specs.Known.{Known}
 use Rattle.chain_store.specs.Replies.{AllGoOn, IsGoingOn, Replies, is_disk_fault, is_no_memory}
 use Rattle.dialogue.specs.OneLine.{form_of}
-use Rattle.dialogue.specs.Protocol.{Dialogue, Reading, clock_said, form_after, reply_text, says, too_long, wrong}
+use Rattle.dialogue.specs.Protocol.{Dialogue, Reading, clock_said, form_after, reply_text, says, too_long, unended, wrong, written_for}
 use Rattle.dialogue.specs.Protocol.Dialogue.{silence, line as one_line}
 use Rattle.dialogue.specs.Talks.{AsksOn, Talk}
 use Rattle.dialogue.specs.declared.hear.Speaker.{Speaker}
 use Rattle.dialogue.specs.declared.hear.Task.{Task}
 use Rattle.dialogue.specs.declared.hear.Task.TheVariants.{Write, Clock, Ask}
+use Rattle.dialogue.proofs.Views.{written_more}
 use Rattle.journal.specs.declared.faults.StoreFault.{StoreFault}
+use Rattle.journal.specs.declared.faults.StoreFault.TheVariants as fault
 use Rattle.line_reader.specs.Lines.{is_over, kept_of}
-use Rattle.line_reader.specs.Lists.{AreAllLines, AreLines}
-use Rattle.line_reader.specs.Read.{AreRead, HasRead, StopsBehind}
+use Rattle.line_reader.specs.Lists.{AreAllLines, AreLines, InputLine}
+use Rattle.line_reader.specs.Read.{AreRead, HasRead}
 use Rattle.line_reader.specs.declared.reader.LineReader.{LineReader}
-use Rattle.ports.specs.Sinks.{FailedIn, Wrote, WrotePart}
+use Rattle.ports.specs.Sinks.{FailedIn, Wrote, WroteNothing, WrotePart}
 use Rattle.script.specs.declared.forms.Form.{Form}
 use Rattle.script.specs.declared.forms.Form.TheVariants.{First, Later}
 use Rattle.script.specs.declared.lines.Meaning.{Meaning}
@@ -30,33 +31,40 @@ use Rattle.shop_core.specs.declared.items.Item.{Item}
 use Rattle.till_calls.specs.Root.{Root}
 use Rattle.counter.specs.InARow.{AllRan, IsOfTill}
 use Rattle.counter.proofs.InARow.{none_asked}
-use Rattle.counter.specs.Speech.{AreRepliesOf, AsksOne, ComesFirst, Goes, HasAnswered, HasHeard, HearsFirst, clock_first, HearsNone, IsFirst, clock_with, HasReadPast, HearsLine, IsAnswered, IsCause, IsEarly, IsRead, IsReadFault}
-use Rattle.counter.specs.Speech.{IsReplied, IsWritten, Moment, Obeys, Said, Spoken, sink_since}
+use Rattle.counter.specs.Speech.{AreRepliesOf, AsksOne, ComesFirst, Goes, HasAnswered, HasHeard, HearsFirst, clock_first, HearsNone, IsFirst, clock_with, FailedAtLast, HasReadPast, HasReadTo, HearsLine, IsAnswered, IsCause, IsEarly, IsRead, IsReadFault}
+use Rattle.counter.specs.Speech.{IsReplied, IsWritten, Moment, Obeys, Said, Spoken, StopsAtLast, TookToLast, sink_since}
 use Rattle.counter.specs.declared.listener.Listener.{Listener}
 use Rattle.counter.specs.declared.speaking.SpeechEnd.{SpeechEnd}
 use Rattle.counter.specs.declared.speaking.SpeechEnd.TheVariants as how
 
 -- the lines behind a reader were read
-pub read_past : (left now : Option (List ℕ)) (r : LineReader) (lines more : List (List ℕ)) → HasRead left now r (lines ++ more) →
-    HasReadPast left now lines
-read_past left now r lines more h = record {
-  more = more;
+pub read_to : (left now : Option (List ℕ)) (r : LineReader) (lines : List InputLine) → HasRead left now r lines →
+    HasReadTo left now lines
+read_to left now r lines h = record {
   taken = h.taken;
   consumed = h.consumed;
   are = by_over (is_over r) h.are;
 }
   where
-    by_over : (over : Bool) → AreRead over h.taken (lines ++ more) (kept_of r) now →
-        ((rest : List ℕ) × AreLines h.taken (lines ++ more) rest) ⊎ AreAllLines h.taken (lines ++ more)
-    by_over false a = inl (kept_of r, a)
+    by_over : (over : Bool) → AreRead over h.taken lines (kept_of r) now →
+        ((rest : List ℕ) × AreLines h.taken lines rest × (length rest ≤ 4096)) ⊎ AreAllLines h.taken lines
+    by_over false a = inl (kept_of r, a, h.few)
     by_over true a = inr a.0
 
-pub stopped_past : (left now : Option (List ℕ)) (lines : List (List ℕ)) → StopsBehind left now lines → HasReadPast left now lines
-stopped_past left now lines s = record {
+-- or one more
+pub read_past : (left now : Option (List ℕ)) (r : LineReader) (lines : List InputLine) (line : InputLine) →
+    HasRead left now r (lines ++ line ∷ []) → HasReadPast left now lines
+read_past left now r lines line h = record {
+  more = line ∷ [];
+  at_most_one = omega arith;
+  read = read_to left now r (lines ++ line ∷ []) h;
+}
+
+none_past : (left now : Option (List ℕ)) (lines : List InputLine) → HasReadTo left now lines → HasReadPast left now lines
+none_past left now lines h = record {
   more = [];
-  taken = s.taken;
-  consumed = s.consumed;
-  are = inl (s.rest, subst (λ (ls : List (List ℕ)). AreLines s.taken ls s.rest) (sym (append-nil lines)) s.are);
+  at_most_one = omega arith;
+  read = subst (λ (ls : List InputLine). HasReadTo left now ls) (sym (append-nil lines)) h;
 }
 
 -- an end that comes behind a line was read
@@ -67,28 +75,39 @@ IsLate how.WriteFault = Unit {0}
 IsLate how.NoMemory = Unit {0}
 IsLate how.Stopped = Unit {0}
 
--- what a sink took in two calls, one behind the other
-module _ (from mid now : Moment) (a b : List ℕ) (wrote : Wrote (sink_since from mid) a) (later : from.sink_faults ≤ mid.sink_faults)
-  where
-    both_wrote : Wrote (sink_since mid now) b → Wrote (sink_since from now) (a ++ b)
-    both_wrote w = Appends-trans from.taken mid.taken now.taken a b wrote w
+-- what a sink took in two calls, one behind the other: all of these texts, and what it did with one more
+module _ (from mid now : Moment) (texts : List (List ℕ)) (text : List ℕ) (wrote : Wrote (sink_since from mid) (written_for texts))
+    (later : from.sink_faults ≤ mid.sink_faults) where
+  both_wrote : Wrote (sink_since mid now) text → Wrote (sink_since from now) (written_for (texts ++ text ∷ []))
+  both_wrote w = rw (written_more texts text) (Appends-trans from.taken mid.taken now.taken (written_for texts) text wrote w)
 
-    part_on : WrotePart (sink_since mid now) b → WrotePart (sink_since from now) (a ++ b)
-    part_on p = (
-      length a + p.0,
-      rw (take-append-add a b p.0) (Appends-trans from.taken mid.taken now.taken a (take p.0 b) wrote p.1),
-    )
+  part_on : WrotePart (sink_since mid now) text → TookToLast (sink_since from now) (texts ++ text ∷ [])
+  part_on p = record {
+    before = texts;
+    last = text;
+    texts_are = refl;
+    count = p.0;
+    took = Appends-trans from.taken mid.taken now.taken (written_for texts) (take p.0 text) wrote p.1;
+  }
 
-    fails_on : FailedIn (sink_since mid now) b → FailedIn (sink_since from now) (a ++ b)
-    fails_on f = record { risen = λ below. let r = f.risen below in omega (arith, r, later); part = part_on f.part }
+  fails_on : FailedIn (sink_since mid now) text → FailedAtLast (sink_since from now) (texts ++ text ∷ [])
+  fails_on f = record { risen = λ below. let r = f.risen below in omega (arith, r, later); part = part_on f.part }
 
-    written_on : (end : SpeechEnd) → IsLate end → IsWritten end (sink_since mid now) b → IsWritten end (sink_since from now) (a ++ b)
-    written_on how.Ended late w = absurd late
-    written_on how.ReadFault late w = absurd late
-    written_on how.WriteFault late w = fails_on w
-    written_on how.NoMemory late w = part_on w
-    written_on how.Stopped late (inl w) = inl (both_wrote w)
-    written_on how.Stopped late (inr f) = inr (fails_on f)
+  -- what was taken of the one text, by how it ended
+  abbrev Ended : SpeechEnd → Type 0
+  Ended how.Ended = ⊥
+  Ended how.ReadFault = ⊥
+  Ended how.WriteFault = FailedIn (sink_since mid now) text
+  Ended how.NoMemory = WroteNothing (sink_since mid now)
+  Ended how.Stopped = Wrote (sink_since mid now) text ⊎ FailedIn (sink_since mid now) text
+
+  written_on : (end : SpeechEnd) → Ended end → IsWritten end (sink_since from now) (texts ++ text ∷ [])
+  written_on how.Ended w = absurd w
+  written_on how.ReadFault w = absurd w
+  written_on how.WriteFault w = fails_on w
+  written_on how.NoMemory w = inr (part_on (0, w))
+  written_on how.Stopped (inl w) = inl (both_wrote w)
+  written_on how.Stopped (inr f) = inr (fails_on f)
 
 any_push : {X : Type 0} (p : X → Bool) (xs : List X) (x : X) → list_any p (xs ++ x ∷ []) ≡ (list_any p xs || p x)
 any_push p [] x = or_false (p x)
@@ -102,9 +121,12 @@ any_push p (y ∷ ys) x = ap (λ (b : Bool). p y || b) (any_push p ys x) ∙ or_
     or_assoc true b c = refl
     or_assoc false b c = refl
 
-or_true : (a b : Bool) → b ≡ true → (a || b) ≡ true
-or_true true b e = refl
-or_true false b e = e
+-- a reply with which the dialogue goes on, or a fault of the disk
+goes_or_stops : (told : Result Reply StoreFault) → IsGoingOn told ⊎ (is_disk_fault told ≡ true)
+goes_or_stops (Ok reply) = inl tt
+goes_or_stops (Err fault.DiskFault) = inr refl
+goes_or_stops (Err (fault.Stopped faults)) = inr refl
+goes_or_stops (Err fault.NoMemory) = inl tt
 
 go_on_push : (replies : Replies) (told : Result Reply StoreFault) → AllGoOn replies → IsGoingOn told → AllGoOn (replies ++ told ∷ [])
 go_on_push [] told h g = (g, tt)
@@ -119,11 +141,11 @@ module _ {C : Type 0} (coming : C → ℕ → Option ℕ) (clock : Option (ℕ �
     (lacked lacked_now : Bool) (olds mids news : List (Known Item (Root C)))
     (said : Said coming clock from mid old lacked olds mids) where
   module _ (task : Task) (source_later : mid.source_faults ≤ now.source_faults) (sink_later : mid.sink_faults ≤ now.sink_faults)
-      (hears : HearsLine from.left now.left old new said.lines said.before said.asks said.replies said.text task)
+      (hears : HearsLine from.left now.left old new said.lines said.before said.asks said.replies said.answers task)
       (later : form_of new.speaker ≡ Later) where
     -- the line was heard, and this is its answer
     module _ (clock_now : Option (ℕ × ℕ)) (before : List Meaning) (asks : List Asked) (replies : Replies) (more : List ℕ)
-        (talk : Talk new.speaker (said.lines ++ hears.line ∷ []) before asks replies (said.text ++ more))
+        (talk : Talk new.speaker (said.lines ++ hears.line ∷ []) before asks replies (said.answers ++ more ∷ []))
         (clock_is : clock_said before ≡ clock_now) (ran : AllRan coming asks replies olds news) (tills : AllByRecursion IsOfTill asks)
         (lacked_is : lacked_now ≡ list_any is_no_memory replies) where
       goes_on : AllGoOn replies → Wrote (sink_since mid now) more → Said coming clock_now from now new lacked_now olds news
@@ -132,48 +154,46 @@ module _ {C : Type 0} (coming : C → ℕ → Option ℕ) (clock : Option (ℕ �
         before = before;
         asks = asks;
         replies = replies;
-        text = said.text ++ more;
+        answers = said.answers ++ more ∷ [];
         heard = record { read = hears.read; talk = talk };
         clock_is = clock_is;
         ran = ran;
         tills = tills;
         go_on = go;
         lacked_is = lacked_is;
-        wrote = both_wrote from mid now said.text more said.wrote said.sink_later w;
+        wrote = both_wrote from mid now said.answers more said.wrote said.sink_later w;
         source_later = (let a = said.source_later in omega (arith, a, source_later));
         sink_later = (let a = said.sink_later in omega (arith, a, sink_later));
       }
 
-      ends : (end : SpeechEnd) → IsLate end → AreRepliesOf end replies → IsWritten end (sink_since mid now) more →
-          Spoken coming clock_now from now lacked_now olds news end
+      ends : (end : SpeechEnd) → IsLate end → AreRepliesOf end asks replies (said.answers ++ more ∷ []) →
+          IsWritten end (sink_since from now) (said.answers ++ more ∷ []) → Spoken coming clock_now from now lacked_now olds news end
       ends end late go w = record {
         lines = said.lines ++ hears.line ∷ [];
         form = form_of new.speaker;
         before = before;
         asks = asks;
         replies = replies;
-        text = said.text ++ more;
+        answers = said.answers ++ more ∷ [];
         dialogue = talk.dialogue;
         pairs = talk.pairs;
         clock_is = clock_is;
         ran = ran;
         tills = tills;
         lacked_is = lacked_is;
-        read = read_at end late (read_past from.left now.left new.reader (said.lines ++ hears.line ∷ []) []
-            (subst (λ (ls : List (List ℕ)). HasRead from.left now.left new.reader ls)
-            (sym (append-nil (said.lines ++ hears.line ∷ []))) hears.read));
-        written = written_on from mid now said.text more said.wrote said.sink_later end late w;
+        read = read_at end late (read_to from.left now.left new.reader (said.lines ++ hears.line ∷ []) hears.read);
+        written = w;
         replies_are = go;
         read_fault = no_fault end late;
         sink_later = (let a = said.sink_later in omega (arith, a, sink_later));
       }
         where
-          read_at : (how : SpeechEnd) → IsLate how → HasReadPast from.left now.left (said.lines ++ hears.line ∷ []) →
+          read_at : (how : SpeechEnd) → IsLate how → HasReadTo from.left now.left (said.lines ++ hears.line ∷ []) →
               IsRead how from.left now.left (said.lines ++ hears.line ∷ [])
           read_at how.Ended late r = absurd late
           read_at how.ReadFault late r = absurd late
           read_at how.WriteFault late r = r
-          read_at how.NoMemory late r = r
+          read_at how.NoMemory late r = none_past from.left now.left (said.lines ++ hears.line ∷ []) r
           read_at how.Stopped late r = r
 
           no_fault : (how : SpeechEnd) → IsLate how → IsReadFault how from now
@@ -185,7 +205,7 @@ module _ {C : Type 0} (coming : C → ℕ → Option ℕ) (clock : Option (ℕ �
 
     -- a line that asks for no more than its answer
     answered : (clock_now : Option (ℕ × ℕ)) (before : List Meaning) (more : List ℕ) (end : Option SpeechEnd) →
-        Talk new.speaker (said.lines ++ hears.line ∷ []) before said.asks said.replies (said.text ++ more) →
+        Talk new.speaker (said.lines ++ hears.line ∷ []) before said.asks said.replies (said.answers ++ more ∷ []) →
         clock_said before ≡ clock_now → lacked_now ≡ lacked → news ≡ mids → IsAnswered (sink_since mid now) more end →
         Goes coming clock_now from now new lacked_now olds news end
     answered clock_now before more end talk clock_is same held a = by_end end a
@@ -196,7 +216,7 @@ module _ {C : Type 0} (coming : C → ℕ → Option ℕ) (clock : Option (ℕ �
         by_end : (o : Option SpeechEnd) → IsAnswered (sink_since mid now) more o → Goes coming clock_now from now new lacked_now olds news o
         by_end None w = (goes_on clock_now before said.asks said.replies more talk clock_is ran said.tills (same ∙ said.lacked_is) said.go_on w, later)
         by_end (Some how.WriteFault) w = ends clock_now before said.asks said.replies more talk clock_is ran said.tills (same ∙ said.lacked_is)
-            how.WriteFault tt said.go_on w
+            how.WriteFault tt said.go_on (written_on from mid now said.answers more said.wrote said.sink_later how.WriteFault w)
         by_end (Some how.Ended) w = absurd w
         by_end (Some how.ReadFault) w = absurd w
         by_end (Some how.NoMemory) w = absurd w
@@ -204,7 +224,7 @@ module _ {C : Type 0} (coming : C → ℕ → Option ℕ) (clock : Option (ℕ �
 
     -- a command
     asked_for : (ask : Asked) (end : Option SpeechEnd) (size : length olds ≡ 64)
-        (on : AsksOn new.speaker said.lines hears.line said.before said.asks said.replies said.text ask) →
+        (on : AsksOn new.speaker said.lines hears.line said.before said.asks said.replies said.answers ask) →
         AsksOne coming ask (sink_since mid now) lacked lacked_now mids news end → Goes coming clock from now new lacked_now olds news end
     asked_for ask end size on a = by_end end a.replied
       where
@@ -226,9 +246,27 @@ module _ {C : Type 0} (coming : C → ℕ → Option ℕ) (clock : Option (ℕ �
         lacked_is : lacked_now ≡ list_any is_no_memory replies
         lacked_is = a.lacked_is ∙ ap (λ (b : Bool). b || is_no_memory told) said.lacked_is ∙ sym (any_push is_no_memory said.replies told)
 
-        late : (how : SpeechEnd) → IsLate how → AreRepliesOf how replies → IsWritten how (sink_since mid now) more →
-            Spoken coming clock from now lacked_now olds news how
+        late : (how : SpeechEnd) → IsLate how → AreRepliesOf how (said.asks ++ ask ∷ []) replies (said.answers ++ more ∷ []) →
+            IsWritten how (sink_since from now) (said.answers ++ more ∷ []) → Spoken coming clock from now lacked_now olds news how
         late = ends clock said.before (said.asks ++ ask ∷ []) replies more (on.talk told) said.clock_is ran tills lacked_is
+
+        stops : is_disk_fault told ≡ true → StopsAtLast (said.asks ++ ask ∷ []) replies (said.answers ++ more ∷ [])
+        stops is = record {
+          asks_before = said.asks;
+          ask = ask;
+          asks_are = refl;
+          replies_before = said.replies;
+          told = told;
+          replies_are = refl;
+          answers_before = said.answers;
+          answers_are = refl;
+          go_on = said.go_on;
+          fault = is;
+        }
+
+        written : (how : SpeechEnd) → Ended from mid now said.answers more said.wrote said.sink_later how →
+            IsWritten how (sink_since from now) (said.answers ++ more ∷ [])
+        written = written_on from mid now said.answers more said.wrote said.sink_later
 
         by_end : (o : Option SpeechEnd) → IsReplied told (sink_since mid now) more o → Goes coming clock from now new lacked_now olds news o
         by_end None w = (
@@ -236,17 +274,20 @@ module _ {C : Type 0} (coming : C → ℕ → Option ℕ) (clock : Option (ℕ �
               (go_on_push said.replies told said.go_on w.0) w.1,
           later,
         )
-        by_end (Some how.WriteFault) w = late how.WriteFault tt (go_on_push said.replies told said.go_on w.0) w.1
-        by_end (Some how.NoMemory) w = late how.NoMemory tt tt w
-        by_end (Some how.Stopped) w = late how.Stopped tt
-            (any_push is_disk_fault said.replies told ∙ or_true (list_any is_disk_fault said.replies) (is_disk_fault told) w.0) w.1
+        by_end (Some how.WriteFault) w =
+            late how.WriteFault tt (go_on_push said.replies told said.go_on w.0) (written how.WriteFault w.1)
+        by_end (Some how.NoMemory) w = late how.NoMemory tt (elim (goes_or_stops told) [
+          | inl goes ↦ inl (go_on_push said.replies told said.go_on goes)
+          | inr is ↦ inr (stops is)
+        ]) (written how.NoMemory w)
+        by_end (Some how.Stopped) w = late how.Stopped tt (stops w.0) (written how.Stopped w.1)
         by_end (Some how.Ended) w = absurd w
         by_end (Some how.ReadFault) w = absurd w
 
   -- what a line asked for was done
   pub obeyed_so : (task : Task) (end : Option SpeechEnd) → length olds ≡ 64 → mid.source_faults ≤ now.source_faults →
       mid.sink_faults ≤ now.sink_faults →
-      HearsLine from.left now.left old new said.lines said.before said.asks said.replies said.text task →
+      HearsLine from.left now.left old new said.lines said.before said.asks said.replies said.answers task →
       form_of new.speaker ≡ Later → Obeys coming task (sink_since mid now) lacked lacked_now mids news end →
       Goes coming (clock_with task clock) from now new lacked_now olds news end
   obeyed_so (Write text) end size a b hears later o = answered (Write text) a b hears later clock (said.before ++ hears.on.left) text
@@ -258,7 +299,7 @@ module _ {C : Type 0} (coming : C → ℕ → Option ℕ) (clock : Option (ℕ �
   -- behind a line that was answered no clock line comes
   pub obeyed : (task : Task) (end : Option SpeechEnd) → length olds ≡ 64 → mid.source_faults ≤ now.source_faults →
       mid.sink_faults ≤ now.sink_faults → form_of old.speaker ≡ Later →
-      HearsLine from.left now.left old new said.lines said.before said.asks said.replies said.text task →
+      HearsLine from.left now.left old new said.lines said.before said.asks said.replies said.answers task →
       Obeys coming task (sink_since mid now) lacked lacked_now mids news end → Goes coming clock from now new lacked_now olds news end
   obeyed (Write text) end size a b later hears o = obeyed_so (Write text) end size a b hears (hears.on.later later) o
   obeyed (Clock start step text) end size a b later hears o =
@@ -277,7 +318,7 @@ ended_early {C} coming clock from mid left faults old lacked olds mids said end 
   before = said.before;
   asks = said.asks;
   replies = said.replies;
-  text = said.text;
+  answers = said.answers;
   dialogue = said.heard.talk.dialogue;
   pairs = said.heard.talk.pairs;
   clock_is = said.clock_is;
@@ -291,17 +332,17 @@ ended_early {C} coming clock from mid left faults old lacked olds mids said end 
   sink_later = said.sink_later;
 }
   where
-    written : (how : SpeechEnd) → IsEarly how → IsWritten how (sink_since from (record mid { left = left; source_faults = faults })) said.text
+    written : (how : SpeechEnd) → IsEarly how → IsWritten how (sink_since from (record mid { left = left; source_faults = faults })) said.answers
     written how.Ended e = said.wrote
     written how.ReadFault e = said.wrote
-    written how.NoMemory e = (length said.text, rw (take-length said.text) said.wrote)
+    written how.NoMemory e = inl said.wrote
     written how.WriteFault e = absurd e
     written how.Stopped e = absurd e
 
-    are : (how : SpeechEnd) → IsEarly how → AreRepliesOf how said.replies
+    are : (how : SpeechEnd) → IsEarly how → AreRepliesOf how said.asks said.replies said.answers
     are how.Ended e = said.go_on
     are how.ReadFault e = said.go_on
-    are how.NoMemory e = tt
+    are how.NoMemory e = inl said.go_on
     are how.WriteFault e = absurd e
     are how.Stopped e = absurd e
 
@@ -322,11 +363,11 @@ fault_told mid left faults how.NoMemory e = tt
 fault_told mid left faults how.Stopped e = tt
 
 -- what may be said next, as long as a dialogue goes on: a clock line at first, and none later
-two_forms : (lines : List (List ℕ)) (form : Form) (before : List Meaning) (asks : List Asked) (replies : Replies) (text : List ℕ) →
-    Dialogue lines form before asks replies text → (form ≡ First) ⊎ (form ≡ Later)
-two_forms lines form before asks replies text silence = inl refl
-two_forms lines' form' before' asks' replies' text' (one_line lines form before asks replies text l reading told d is n) =
-    after reading (two_forms lines form before asks replies text d)
+two_forms : (lines : List InputLine) (form : Form) (before : List Meaning) (asks : List Asked) (replies : Replies)
+    (answers : List (List ℕ)) → Dialogue lines form before asks replies answers → (form ≡ First) ⊎ (form ≡ Later)
+two_forms lines form before asks replies answers silence = inl refl
+two_forms lines' form' before' asks' replies' answers' (one_line lines form before asks replies answers l reading told d is n) =
+    after reading (two_forms lines form before asks replies answers d)
   where
     after : (r : Reading) → (form ≡ First) ⊎ (form ≡ Later) → (form_after form r ≡ First) ⊎ (form_after form r ≡ Later)
     after (says line.Skip) h = h
@@ -338,58 +379,62 @@ two_forms lines' form' before' asks' replies' text' (one_line lines form before 
     after (says (line.Link fate)) h = inr refl
     after (wrong word) h = inr refl
     after too_long h = inr refl
+    after unended h = inr refl
 
 not_first : Later ≡ First → ⊥
 not_first e = absurd (let x = e in cc)
 
-pub answered_now : (s : Speaker) (lines : List (List ℕ)) (before : List Meaning) (asks : List Asked) (replies : Replies)
-    (text : List ℕ) → Talk s lines before asks replies text → (form_of s ≡ First → ⊥) → form_of s ≡ Later
-answered_now s lines before asks replies text t unlike = elim (two_forms lines (form_of s) before asks replies text t.dialogue) [
-  | inl first ↦ absurd (unlike first)
-  | inr later ↦ later
-]
+pub answered_now : (s : Speaker) (lines : List InputLine) (before : List Meaning) (asks : List Asked) (replies : Replies)
+    (answers : List (List ℕ)) → Talk s lines before asks replies answers → (form_of s ≡ First → ⊥) → form_of s ≡ Later
+answered_now s lines before asks replies answers t unlike =
+    elim (two_forms lines (form_of s) before asks replies answers t.dialogue) [
+      | inl first ↦ absurd (unlike first)
+      | inr later ↦ later
+    ]
 
 -- a line that was passed over
 pub record Passes (left now : Option (List ℕ)) (l : Listener) : Type 0 where
-  pub lines : List (List ℕ)
+  pub lines : List InputLine
   pub before : List Meaning
-  pub heard : HasHeard left now l lines before [] [] []
+  pub answers : List (List ℕ)
+  pub heard : HasHeard left now l lines before [] [] answers
   pub first : IsFirst l
 
-pub passed_over : (left now : Option (List ℕ)) (old new : Listener) (lines : List (List ℕ)) (before : List Meaning) (task : Task) →
-    HearsLine left now old new lines before [] [] [] task → IsFirst new → Passes left now new
-passed_over left now old new lines before (Write text) h first = record {
+pub passed_over : (left now : Option (List ℕ)) (old new : Listener) (lines : List InputLine) (before : List Meaning)
+    (answers : List (List ℕ)) (task : Task) → HearsLine left now old new lines before [] [] answers task → IsFirst new →
+    Passes left now new
+passed_over left now old new lines before answers (Write text) h first = record {
   lines = lines ++ h.line ∷ [];
   before = before ++ h.on.left;
-  heard = record {
-    read = h.read;
-    talk = subst (λ (t : List ℕ). Talk new.speaker (lines ++ h.line ∷ []) (before ++ h.on.left) [] [] t)
-        (h.on.talk.quiet first).text_none h.on.talk;
-  };
+  answers = answers ++ text ∷ [];
+  heard = record { read = h.read; talk = h.on.talk };
   first = first;
 }
-passed_over left now old new lines before (Clock start step text) h first = absurd (not_first (sym h.on.later ∙ first))
-passed_over left now old new lines before (Ask ask) h first = absurd (not_first (sym h.on.later ∙ first))
+passed_over left now old new lines before answers (Clock start step text) h first = absurd (not_first (sym h.on.later ∙ first))
+passed_over left now old new lines before answers (Ask ask) h first = absurd (not_first (sym h.on.later ∙ first))
 
 -- a line that is answered
-line_answered : (left now : Option (List ℕ)) (old new : Listener) (lines : List (List ℕ)) (before : List Meaning) (task : Task) →
-    HearsLine left now old new lines before [] [] [] task → (IsFirst new → ⊥) → HasAnswered new
-line_answered left now old new lines before (Write text) h unlike =
-    answered_now new.speaker (lines ++ h.line ∷ []) (before ++ h.on.left) [] [] text h.on.talk unlike
-line_answered left now old new lines before (Clock start step text) h unlike = h.on.later
-line_answered left now old new lines before (Ask ask) h unlike = h.on.later
+line_answered : (left now : Option (List ℕ)) (old new : Listener) (lines : List InputLine) (before : List Meaning)
+    (answers : List (List ℕ)) (task : Task) → HearsLine left now old new lines before [] [] answers task → (IsFirst new → ⊥) →
+    HasAnswered new
+line_answered left now old new lines before answers (Write text) h unlike =
+    answered_now new.speaker (lines ++ h.line ∷ []) (before ++ h.on.left) [] [] (answers ++ text ∷ []) h.on.talk unlike
+line_answered left now old new lines before answers (Clock start step text) h unlike = h.on.later
+line_answered left now old new lines before answers (Ask ask) h unlike = h.on.later
 
 pub came_first : (left mid now : Option (List ℕ)) (old new : Listener) (task : Task) (p : Passes left mid old) →
-    HearsLine left now old new p.lines p.before [] [] [] task → (IsFirst new → ⊥) → HearsFirst left now new task
+    HearsLine left now old new p.lines p.before [] [] p.answers task → (IsFirst new → ⊥) → HearsFirst left now new task
 came_first left mid now old new task p h unlike = record {
   mid = old;
   mid_left = mid;
   lines = p.lines;
   before = p.before;
+  answers = p.answers;
+  none = (p.heard.talk.quiet p.first).text_none;
   heard = p.heard;
   hears = h;
   clock_none = (p.heard.talk.quiet p.first).clock_none;
-  later = line_answered left now old new p.lines p.before task h unlike;
+  later = line_answered left now old new p.lines p.before p.answers task h unlike;
 }
 
 pub came_none : (left mid now : Option (List ℕ)) (old : Listener) (end : SpeechEnd) (p : Passes left mid old) →
@@ -398,7 +443,9 @@ came_none left mid now old end p h = record {
   early = h.0;
   lines = p.lines;
   before = p.before;
-  dialogue = subst (λ (f : Form). Dialogue p.lines f p.before [] [] []) p.first p.heard.talk.dialogue;
+  answers = p.answers;
+  none = (p.heard.talk.quiet p.first).text_none;
+  dialogue = subst (λ (f : Form). Dialogue p.lines f p.before [] [] p.answers) p.first p.heard.talk.dialogue;
   clock_none = (p.heard.talk.quiet p.first).clock_none;
   read = h.1;
 }
@@ -416,14 +463,14 @@ first_obeyed {C} coming from now new lacked_now olds news task end size first a 
       before = first.before;
       asks = [];
       replies = [];
-      text = [];
+      answers = first.answers;
       heard = first.heard;
       clock_is = first.clock_none;
       ran = none_asked coming olds;
       tills = tt;
       go_on = tt;
       lacked_is = refl;
-      wrote = Appends-nil from.taken;
+      wrote = subst (λ (t : List ℕ). Appends from.taken from.taken t) (sym first.none) (Appends-nil from.taken);
       source_later = omega arith;
       sink_later = omega arith;
     })
@@ -439,7 +486,7 @@ none_spoken {C} coming from now olds end h same later fault = record {
   before = h.before;
   asks = [];
   replies = [];
-  text = [];
+  answers = h.answers;
   dialogue = h.dialogue;
   pairs = refl;
   clock_is = h.clock_none;
@@ -453,20 +500,21 @@ none_spoken {C} coming from now olds end h same later fault = record {
   sink_later = later;
 }
   where
-    nothing : Appends from.taken now.taken []
-    nothing = subst (λ (t : Option (List ℕ)). Appends from.taken t []) (sym same) (Appends-nil from.taken)
+    nothing : Appends from.taken now.taken (written_for h.answers)
+    nothing = subst (λ (t : List ℕ). Appends from.taken now.taken t) (sym h.none)
+        (subst (λ (t : Option (List ℕ)). Appends from.taken t []) (sym same) (Appends-nil from.taken))
 
-    written : (how : SpeechEnd) → IsEarly how → IsWritten how (sink_since from now) []
+    written : (how : SpeechEnd) → IsEarly how → IsWritten how (sink_since from now) h.answers
     written how.Ended e = nothing
     written how.ReadFault e = nothing
-    written how.NoMemory e = (0, nothing)
+    written how.NoMemory e = inl nothing
     written how.WriteFault e = absurd e
     written how.Stopped e = absurd e
 
-    are : (how : SpeechEnd) → IsEarly how → AreRepliesOf how []
+    are : (how : SpeechEnd) → IsEarly how → AreRepliesOf how [] [] h.answers
     are how.Ended e = tt
     are how.ReadFault e = tt
-    are how.NoMemory e = tt
+    are how.NoMemory e = inl tt
     are how.WriteFault e = absurd e
     are how.Stopped e = absurd e
 

@@ -1,19 +1,20 @@
 -- A dialogue with all tills of a shop.
-use Rattle.std.specs.Prelude.{◌≡◌, ◌⊎◌, ◌≤◌, ℕ, List, [], ◌∷◌, ◌++◌, length, Bool, true, ◌||◌, Option, Some, None, Result, Ok, Err}
+use Rattle.std.specs.Prelude.{◌≡◌, ◌⊎◌, ◌<◌, ◌≤◌, ℕ, List, [], ◌∷◌, ◌++◌, length, take, Bool, true, ◌||◌, Option, Some, None, Result, Ok, Err}
 use Rattle.std.specs.List.{AllByRecursion, list_any}
-use Rattle.std.specs.Io.KnownBytes.{Consumes}
+use Rattle.std.specs.Io.KnownBytes.{Appends, Consumes}
 use Rattle.chain_lock.specs.Known.{Known}
 use Rattle.chain_store.specs.Replies.{AllGoOn, IsGoingOn, Replies, is_disk_fault, is_no_memory}
 use Rattle.dialogue.specs.OneLine.{form_of}
-use Rattle.dialogue.specs.Protocol.{Dialogue, clock_said, reply_text}
+use Rattle.dialogue.specs.Protocol.{Dialogue, clock_said, reply_text, written_for}
 use Rattle.dialogue.specs.Talks.{Talk, TalksOn}
 use Rattle.dialogue.specs.declared.hear.Task.{Task}
 use Rattle.dialogue.specs.declared.hear.Task.TheVariants.{Write, Clock, Ask}
 use Rattle.journal.specs.declared.faults.StoreFault.{StoreFault}
-use Rattle.line_reader.specs.Lists.{AreAllLines, AreLines}
-use Rattle.line_reader.specs.Read.{HasRead, HasReadAll}
+use Rattle.line_reader.specs.Lists.{AreAllLines, AreLines, InputLine}
+use Rattle.line_reader.specs.Read.{HasRead, HasReadAll, StopsBehind}
+use Rattle.line_reader.specs.declared.chunk.TheConstants.{CHUNK}
 use Rattle.ports.specs.Causes.{Rose}
-use Rattle.ports.specs.Sinks.{FailedIn, Sinks, Wrote, WrotePart}
+use Rattle.ports.specs.Sinks.{FailedIn, Sinks, Wrote, WroteNothing}
 use Rattle.script.specs.declared.forms.Form.{Form}
 use Rattle.script.specs.declared.forms.Form.TheVariants.{First, Later}
 use Rattle.script.specs.declared.lines.Meaning.{Meaning}
@@ -27,25 +28,32 @@ use Rattle.counter.specs.declared.speaking.SpeechEnd.{SpeechEnd}
 use Rattle.counter.specs.declared.speaking.SpeechEnd.TheVariants as how
 
 -- these lines were read, they said so much, and the listener knows it
-pub record HasHeard (left left_now : Option (List ℕ)) (l : Listener) (lines : List (List ℕ)) (before : List Meaning)
-    (asks : List Asked) (replies : Replies) (text : List ℕ) : Type 0 where
+pub record HasHeard (left left_now : Option (List ℕ)) (l : Listener) (lines : List InputLine) (before : List Meaning)
+    (asks : List Asked) (replies : Replies) (answers : List (List ℕ)) : Type 0 where
   pub read : HasRead left left_now l.reader lines
-  pub talk : Talk l.speaker lines before asks replies text
+  pub talk : Talk l.speaker lines before asks replies answers
 
--- these lines were read, and no matter what behind them
-pub record HasReadPast (left left_now : Option (List ℕ)) (lines : List (List ℕ)) : Type 0 where
-  pub more : List (List ℕ)
+-- these lines were read, and nothing behind them but what came with them in one read: they are all of the source's lines, or fewer
+-- bytes stand behind them than one read gives
+pub record HasReadTo (left left_now : Option (List ℕ)) (lines : List InputLine) : Type 0 where
   pub taken : List ℕ
   pub consumed : Consumes left left_now taken
-  pub are : ((rest : List ℕ) × AreLines taken (lines ++ more) rest) ⊎ AreAllLines taken (lines ++ more)
+  pub are : ((rest : List ℕ) × AreLines taken lines rest × (length rest ≤ CHUNK)) ⊎ AreAllLines taken lines
 
--- how the source stands at an end: it was read to its end, or past these lines
-abbrev pub IsRead : SpeechEnd → Option (List ℕ) → Option (List ℕ) → List (List ℕ) → Type 0
+-- these lines were read, or one more, which wasn't heard
+pub record HasReadPast (left left_now : Option (List ℕ)) (lines : List InputLine) : Type 0 where
+  pub more : List InputLine
+  pub at_most_one : length more < 2
+  pub read : HasReadTo left left_now (lines ++ more)
+
+-- How the source stands at an end. It was read to its end, and these are all of its lines; it failed within the next line; or no
+-- line behind these was read, but for one that no memory was left to hear.
+abbrev pub IsRead : SpeechEnd → Option (List ℕ) → Option (List ℕ) → List InputLine → Type 0
 IsRead how.Ended left left_now lines = HasReadAll left left_now lines
-IsRead how.ReadFault left left_now lines = HasReadPast left left_now lines
-IsRead how.WriteFault left left_now lines = HasReadPast left left_now lines
+IsRead how.ReadFault left left_now lines = StopsBehind left left_now lines
+IsRead how.WriteFault left left_now lines = HasReadTo left left_now lines
 IsRead how.NoMemory left left_now lines = HasReadPast left left_now lines
-IsRead how.Stopped left left_now lines = HasReadPast left left_now lines
+IsRead how.Stopped left left_now lines = HasReadTo left left_now lines
 
 -- an end ahead of any answer
 abbrev pub IsEarly : SpeechEnd → Type 0
@@ -56,41 +64,46 @@ IsEarly how.WriteFault = ⊥
 IsEarly how.Stopped = ⊥
 
 -- one line more was read, and what it asks for
-pub record HearsLine (left left_now : Option (List ℕ)) (old new : Listener) (lines : List (List ℕ)) (before : List Meaning)
-    (asks : List Asked) (replies : Replies) (text : List ℕ) (task : Task) : Type 0 where
-  pub line : List ℕ
+pub record HearsLine (left left_now : Option (List ℕ)) (old new : Listener) (lines : List InputLine) (before : List Meaning)
+    (asks : List Asked) (replies : Replies) (answers : List (List ℕ)) (task : Task) : Type 0 where
+  pub line : InputLine
   pub read : HasRead left left_now new.reader (lines ++ line ∷ [])
-  pub on : TalksOn old.speaker new.speaker lines line before asks replies text task
+  pub on : TalksOn old.speaker new.speaker lines line before asks replies answers task
 
 -- what came behind what was heard
-abbrev pub Comes : Option (List ℕ) → Option (List ℕ) → Listener → Listener → List (List ℕ) → List Meaning → List Asked → Replies →
-    List ℕ → Result Task SpeechEnd → Type 0
-Comes left left_now old new lines before asks replies text (Ok task) = HearsLine left left_now old new lines before asks replies text task
-Comes left left_now old new lines before asks replies text (Err end) = IsEarly end × IsRead end left left_now lines
+abbrev pub Comes : Option (List ℕ) → Option (List ℕ) → Listener → Listener → List InputLine → List Meaning → List Asked → Replies →
+    List (List ℕ) → Result Task SpeechEnd → Type 0
+Comes left left_now old new lines before asks replies answers (Ok task) =
+    HearsLine left left_now old new lines before asks replies answers task
+Comes left left_now old new lines before asks replies answers (Err end) = IsEarly end × IsRead end left left_now lines
 
 abbrev pub HearsOn : Option (List ℕ) → Option (List ℕ) → Option (List ℕ) → Listener → Listener → Result Task SpeechEnd → Type 0
-HearsOn left left_old left_now old new result = (lines : List (List ℕ)) (before : List Meaning) (asks : List Asked)
-    (replies : Replies) (text : List ℕ) → HasHeard left left_old old lines before asks replies text →
-    Comes left left_now old new lines before asks replies text result
+HearsOn left left_old left_now old new result = (lines : List InputLine) (before : List Meaning) (asks : List Asked)
+    (replies : Replies) (answers : List (List ℕ)) → HasHeard left left_old old lines before asks replies answers →
+    Comes left left_now old new lines before asks replies answers result
 
 -- Lines that were passed over, and the first that is answered: what it asks for. The listener behind the last of the others, and
 -- what the source had left there.
 pub record HearsFirst (left left_now : Option (List ℕ)) (new : Listener) (task : Task) : Type 0 where
   pub mid : Listener
   pub mid_left : Option (List ℕ)
-  pub lines : List (List ℕ)
+  pub lines : List InputLine
   pub before : List Meaning
-  pub heard : HasHeard left mid_left mid lines before [] [] []
-  pub hears : HearsLine left left_now mid new lines before [] [] [] task
+  pub answers : List (List ℕ)
+  pub none : written_for answers ≡ []
+  pub heard : HasHeard left mid_left mid lines before [] [] answers
+  pub hears : HearsLine left left_now mid new lines before [] [] answers task
   pub clock_none : clock_said before ≡ None
   pub later : form_of new.speaker ≡ Later
 
 -- the source ended or failed behind lines that were passed over, or memory was wanting
 pub record HearsNone (left left_now : Option (List ℕ)) (end : SpeechEnd) : Type 0 where
   pub early : IsEarly end
-  pub lines : List (List ℕ)
+  pub lines : List InputLine
   pub before : List Meaning
-  pub dialogue : Dialogue lines First before [] [] []
+  pub answers : List (List ℕ)
+  pub none : written_for answers ≡ []
+  pub dialogue : Dialogue lines First before [] [] answers
   pub clock_none : clock_said before ≡ None
   pub read : IsRead end left left_now lines
 
@@ -147,21 +160,47 @@ sink_since from now = record {
   faults_after = now.sink_faults;
 }
 
--- what the sink took of a text, by how the dialogue ended
-abbrev pub IsWritten : SpeechEnd → Sinks → List ℕ → Type 0
-IsWritten how.Ended s text = Wrote s text
-IsWritten how.ReadFault s text = Wrote s text
-IsWritten how.WriteFault s text = FailedIn s text
-IsWritten how.NoMemory s text = WrotePart s text
-IsWritten how.Stopped s text = Wrote s text ⊎ FailedIn s text
+-- the sink took all of these texts but the last, and so many bytes of that one
+pub record TookToLast (s : Sinks) (texts : List (List ℕ)) : Type 0 where
+  pub before : List (List ℕ)
+  pub last : List ℕ
+  pub texts_are : texts ≡ before ++ last ∷ []
+  pub count : ℕ
+  pub took : Appends s.taken s.taken_after (written_for before ++ take count last)
 
--- what the replies say of how it ended: it stops at the first fault of the disk
-abbrev pub AreRepliesOf : SpeechEnd → Replies → Type 0
-AreRepliesOf how.Ended replies = AllGoOn replies
-AreRepliesOf how.ReadFault replies = AllGoOn replies
-AreRepliesOf how.WriteFault replies = AllGoOn replies
-AreRepliesOf how.NoMemory replies = Unit {0}
-AreRepliesOf how.Stopped replies = list_any is_disk_fault replies ≡ true
+-- and failed
+pub record FailedAtLast (s : Sinks) (texts : List (List ℕ)) : Type 0 where
+  pub risen : Rose s.faults s.faults_after
+  pub part : TookToLast s texts
+
+-- What the sink took of the answers, by how the dialogue ended: all of them, but where the last one couldn't be written, or made.
+abbrev pub IsWritten : SpeechEnd → Sinks → List (List ℕ) → Type 0
+IsWritten how.Ended s answers = Wrote s (written_for answers)
+IsWritten how.ReadFault s answers = Wrote s (written_for answers)
+IsWritten how.WriteFault s answers = FailedAtLast s answers
+IsWritten how.NoMemory s answers = Wrote s (written_for answers) ⊎ TookToLast s answers
+IsWritten how.Stopped s answers = Wrote s (written_for answers) ⊎ FailedAtLast s answers
+
+-- the disk failed at the last command, which is the last line, and at none before it
+pub record StopsAtLast (asks : List Asked) (replies : Replies) (answers : List (List ℕ)) : Type 0 where
+  pub asks_before : List Asked
+  pub ask : Asked
+  pub asks_are : asks ≡ asks_before ++ ask ∷ []
+  pub replies_before : Replies
+  pub told : Result Reply StoreFault
+  pub replies_are : replies ≡ replies_before ++ told ∷ []
+  pub answers_before : List (List ℕ)
+  pub answers_are : answers ≡ answers_before ++ reply_text ask told ∷ []
+  pub go_on : AllGoOn replies_before
+  pub fault : is_disk_fault told ≡ true
+
+-- What the replies say of how it ended: the first fault of the disk is the last reply, and its answer the last answer.
+abbrev pub AreRepliesOf : SpeechEnd → List Asked → Replies → List (List ℕ) → Type 0
+AreRepliesOf how.Ended asks replies answers = AllGoOn replies
+AreRepliesOf how.ReadFault asks replies answers = AllGoOn replies
+AreRepliesOf how.WriteFault asks replies answers = AllGoOn replies
+AreRepliesOf how.NoMemory asks replies answers = AllGoOn replies ⊎ StopsAtLast asks replies answers
+AreRepliesOf how.Stopped asks replies answers = StopsAtLast asks replies answers
 
 -- the source failed where the end says so
 abbrev pub IsReadFault : SpeechEnd → Moment → Moment → Type 0
@@ -172,39 +211,39 @@ IsReadFault _ from now = Unit {0}
 -- own of the commands, and no fault of the disk was told.
 pub record Said {C : Type 0} (coming : C → ℕ → Option ℕ) (clock : Option (ℕ × ℕ)) (from now : Moment) (l : Listener)
     (lacked : Bool) (olds news : List (Known Item (Root C))) : Type 0 where
-  pub lines : List (List ℕ)
+  pub lines : List InputLine
   pub before : List Meaning
   pub asks : List Asked
   pub replies : Replies
-  pub text : List ℕ
-  pub heard : HasHeard from.left now.left l lines before asks replies text
+  pub answers : List (List ℕ)
+  pub heard : HasHeard from.left now.left l lines before asks replies answers
   pub clock_is : clock_said before ≡ clock
   pub ran : AllRan coming asks replies olds news
   pub tills : AllByRecursion IsOfTill asks
   pub go_on : AllGoOn replies
   pub lacked_is : lacked ≡ list_any is_no_memory replies
-  pub wrote : Wrote (sink_since from now) text
+  pub wrote : Wrote (sink_since from now) (written_for answers)
   pub source_later : from.source_faults ≤ now.source_faults
   pub sink_later : from.sink_faults ≤ now.sink_faults
 
 -- A dialogue that ended so.
 pub record Spoken {C : Type 0} (coming : C → ℕ → Option ℕ) (clock : Option (ℕ × ℕ)) (from now : Moment)
     (lacked : Bool) (olds news : List (Known Item (Root C))) (end : SpeechEnd) : Type 0 where
-  pub lines : List (List ℕ)
+  pub lines : List InputLine
   pub form : Form
   pub before : List Meaning
   pub asks : List Asked
   pub replies : Replies
-  pub text : List ℕ
-  pub dialogue : Dialogue lines form before asks replies text
+  pub answers : List (List ℕ)
+  pub dialogue : Dialogue lines form before asks replies answers
   pub pairs : length replies ≡ length asks
   pub clock_is : clock_said before ≡ clock
   pub ran : AllRan coming asks replies olds news
   pub tills : AllByRecursion IsOfTill asks
   pub lacked_is : lacked ≡ list_any is_no_memory replies
   pub read : IsRead end from.left now.left lines
-  pub written : IsWritten end (sink_since from now) text
-  pub replies_are : AreRepliesOf end replies
+  pub written : IsWritten end (sink_since from now) answers
+  pub replies_are : AreRepliesOf end asks replies answers
   pub read_fault : IsReadFault end from now
   pub sink_later : from.sink_faults ≤ now.sink_faults
 
@@ -232,7 +271,7 @@ IsAnswered s text (Some other) = ⊥
 abbrev pub IsReplied : Result Reply StoreFault → Sinks → List ℕ → Option SpeechEnd → Type 0
 IsReplied told s text None = IsGoingOn told × Wrote s text
 IsReplied told s text (Some how.WriteFault) = IsGoingOn told × FailedIn s text
-IsReplied told s text (Some how.NoMemory) = WrotePart s text
+IsReplied told s text (Some how.NoMemory) = WroteNothing s
 IsReplied told s text (Some how.Stopped) = (is_disk_fault told ≡ true) × (Wrote s text ⊎ FailedIn s text)
 IsReplied told s text (Some other) = ⊥
 

@@ -50,6 +50,10 @@ impl Listener {
                 Ok(task) => Ok(task),
                 Err(_) => Err(SpeechEnd::NoMemory),
             },
+            Ok(Next::Unended) => match self.speaker.hear_unended(alloc) {
+                Ok(task) => Ok(task),
+                Err(_) => Err(SpeechEnd::NoMemory),
+            },
             Ok(Next::Line) => match self.speaker.hear(alloc, self.reader.line()) {
                 Ok(task) => Ok(task),
                 Err(_) => Err(SpeechEnd::NoMemory),

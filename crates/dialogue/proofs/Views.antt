@@ -1,11 +1,16 @@
--- One reply more, in line order and in the order of one till.
-use Rattle.std.proofs.Common.{◌≡◌, ◌∙◌, ℕ, List, [], ◌∷◌, ◌++◌, ◌==◌, length, map, filter, zip, refl, ap, arith}
-use Rattle.std.proofs.Common.{Bool, true, false, cond, Result, append-nil}
+-- One answer more; one reply more, in line order and in the order of one till.
+use Rattle.std.proofs.Common.{◌≡◌, ◌∙◌, ℕ, List, [], ◌∷◌, ◌++◌, ◌==◌, length, map, filter, zip, refl, ap, sym, arith}
+use Rattle.std.proofs.Common.{Bool, true, false, cond, Result, append-nil, append_assoc}
 use Rattle.std.proofs.lemmas.List.Elements.{filter-append}
 use Rattle.journal.specs.declared.faults.StoreFault.{StoreFault}
 use Rattle.shop_core.specs.Answer.Requests.{Asked}
 use Rattle.shop_core.specs.declared.answer.Reply.{Reply}
-use Rattle.dialogue.specs.Protocol.{Replies, replies_of}
+use Rattle.dialogue.specs.Protocol.{Replies, replies_of, written_for}
+
+pub written_more : (answers : List (List ℕ)) (answer : List ℕ) → written_for (answers ++ answer ∷ []) ≡ written_for answers ++ answer
+written_more [] answer = append-nil answer
+written_more (a ∷ answers) answer = ap (λ (l : List ℕ). a ++ l) (written_more answers answer)
+    ∙ sym (append_assoc a (written_for answers) answer)
 
 abbrev Pair : Type 0
 Pair = Asked × Result Reply StoreFault

@@ -7,7 +7,8 @@ use Rattle.script.specs.declared.forms.Form.{Form}
 use Rattle.script.specs.declared.forms.Form.TheVariants.{First, Later}
 use Rattle.script.specs.declared.lines.Meaning.{Meaning}
 use Rattle.script.specs.declared.lines.Meaning.TheVariants as line
-use Rattle.dialogue.specs.Protocol.{Reading, answer_text, asks_of, clock_of, form_after, leaves, reading_of, says, too_long}
+use Rattle.dialogue.specs.Protocol.{Reading, answer_text, asks_of, clock_of, form_after, leaves, reading_of, says}
+use Rattle.line_reader.specs.Lists.{InputLine}
 use Rattle.dialogue.specs.declared.hear.Speaker.{Speaker}
 use Rattle.dialogue.specs.declared.hear.Task.{Task}
 use Rattle.dialogue.specs.declared.hear.Task.TheVariants.{Write, Clock, Ask}
@@ -40,22 +41,22 @@ abbrev pub IsNext : Speaker → Speaker → Type 0
 IsNext old new = new.number ≡ min (old.number + 1) (2 ^ 64 - 1)
 
 -- the line was heard after those that said this
-pub record HeardAfter (before : List Meaning) (old new : Speaker) (line : List ℕ) (task : Task) : Type 0 where
+pub record HeardAfter (before : List Meaning) (old new : Speaker) (line : InputLine) (task : Task) : Type 0 where
   pub reading : Reading
   pub is : reading_of old.form before line ≡ reading
   pub heard : known_of new.heard ≡ above_of (before ++ leaves reading)
   pub form : new.form ≡ form_after old.form reading
   pub task_is : IsTask old.number reading task
 
-pub record Hears (old new : Speaker) (line : List ℕ) (task : Task) : Type 0 where
+pub record Hears (old new : Speaker) (line : InputLine) (task : Task) : Type 0 where
   pub next : IsNext old new
   pub ahead : IsAhead old task
   pub after : (before : List Meaning) → known_of old.heard ≡ above_of before → HeardAfter before old new line task
 
--- a line that is too long was passed over
-pub record PassesOver (old new : Speaker) (task : Task) : Type 0 where
+-- a line was passed over and told of as this, whatever stands in it
+pub record PassesOver (old new : Speaker) (reading : Reading) (task : Task) : Type 0 where
   pub next : IsNext old new
   pub ahead : IsAhead old task
   pub heard : new.heard ≡ old.heard
   pub form : new.form ≡ Later
-  pub task_is : IsTask old.number too_long task
+  pub task_is : IsTask old.number reading task

@@ -1,6 +1,6 @@
 -- What each line is answered, given the lines before it and the replies to the commands among them.
 use Rattle.std.specs.Prelude.{◌≡◌, ℕ, ◌+◌, ◌-◌, ◌^◌, List, [], ◌∷◌, ◌++◌, codes, decimal, length, map, min, nat_lt, zip}
-use Rattle.std.specs.Prelude.{if◌then◌else◌, Option, None, Result, Ok, Err, filter, ◌==◌}
+use Rattle.std.specs.Prelude.{if◌then◌else◌, Option, None, Result, Ok, Err, filter, flat_map, ◌==◌}
 use Rattle.std.specs.Str.Lines.{strip_carriage_return}
 use Rattle.journal.specs.declared.faults.StoreFault.{StoreFault}
 use Rattle.record_fields.specs.Picks.{first_of}
@@ -17,32 +17,39 @@ use Rattle.script.specs.declared.forms.Form.{Form}
 use Rattle.script.specs.declared.forms.Form.TheVariants.{First, Later}
 use Rattle.script.specs.declared.lines.Meaning.{Meaning}
 use Rattle.script.specs.declared.lines.Meaning.TheVariants.{Skip, Clock, Customer, Command}
+use Rattle.line_reader.specs.Lists.{InputLine, text_of, with_lf, without_lf}
 use Rattle.line_reader.specs.declared.reader.TheConstants.{MAX_LINE}
 
 -- the replies of a run, one an ask
 abbrev pub Replies : Type 0
 Replies = List (Result Reply StoreFault)
 
--- what a line is: a line of the grammar, a wrong one, or one that is too long
+-- what a line is: a line of the grammar, a wrong one, one that is too long, or the last one, which has no LF
 pub data Reading : Type 0 where
   says : Meaning → Reading
   wrong : Word → Reading
   too_long : Reading
+  unended : Reading
 
 abbrev pub read_as : Result Meaning Word → Reading
 read_as (Ok meaning) = says meaning
 read_as (Err word) = wrong word
 
--- a line, after what those before it leave: what they said in order, without their commands
-abbrev pub reading_of : Form → List Meaning → List ℕ → Reading
-reading_of form before line =
-    if nat_lt MAX_LINE (length line) then too_long else read_as (said form before (strip_carriage_return line))
+-- a line that isn't too long: what stands in one without an LF is never looked at
+abbrev pub short_reading : Form → List Meaning → InputLine → Reading
+short_reading form before (with_lf text) = read_as (said form before (strip_carriage_return text))
+short_reading form before (without_lf text) = unended
 
--- what later lines look at of it: a wrong line and a command leave nothing
+-- a line, after what those before it leave: what they said in order, without their commands
+abbrev pub reading_of : Form → List Meaning → InputLine → Reading
+reading_of form before line = if nat_lt MAX_LINE (length (text_of line)) then too_long else short_reading form before line
+
+-- what later lines look at of it: a command, and a line that is only told of, leave nothing
 abbrev pub leaves : Reading → List Meaning
 leaves (says meaning) = kept_in meaning
 leaves (wrong word) = []
 leaves too_long = []
+leaves unended = []
 
 -- a clock line may stand ahead of every line that is answered
 abbrev pub form_after : Form → Reading → Form
@@ -76,6 +83,7 @@ answer_text number (says (Command ask)) told = answers_text (map answered (zip (
 answer_text number (says other) told = []
 answer_text number (wrong word) told = numbered number (word_text word)
 answer_text number too_long told = numbered number (codes "too-long")
+answer_text number unended told = numbered number (codes "unended")
 
 -- the line of answer to a command
 abbrev pub reply_text : Asked → Result Reply StoreFault → List ℕ
@@ -86,14 +94,19 @@ abbrev pub clock_said : List Meaning → Option (ℕ × ℕ)
 clock_said before = first_of (map clock_in before)
 
 -- Lines that were said one by one: what they leave behind, the commands among them and the replies to these, in order, and what
--- was written for all of them.
-pub data Dialogue : List (List ℕ) → Form → List Meaning → List Asked → Replies → List ℕ → Type 0 where
+-- is written for each of them.
+pub data Dialogue : List InputLine → Form → List Meaning → List Asked → Replies → List (List ℕ) → Type 0 where
   silence : Dialogue [] First [] [] [] []
-  line : (lines : List (List ℕ)) (form : Form) (before : List Meaning) (asks : List Asked) (replies : Replies) (text : List ℕ)
-      (line : List ℕ) (reading : Reading) (told : Replies) → Dialogue lines form before asks replies text →
-      reading_of form before line ≡ reading → length told ≡ length (asks_of reading) →
+  line : (lines : List InputLine) (form : Form) (before : List Meaning) (asks : List Asked) (replies : Replies)
+      (answers : List (List ℕ)) (line : InputLine) (reading : Reading) (told : Replies) →
+      Dialogue lines form before asks replies answers → reading_of form before line ≡ reading →
+      length told ≡ length (asks_of reading) →
       Dialogue (lines ++ line ∷ []) (form_after form reading) (before ++ leaves reading) (asks ++ asks_of reading)
-      (replies ++ told) (text ++ answer_text (number_of (length lines)) reading told)
+      (replies ++ told) (answers ++ answer_text (number_of (length lines)) reading told ∷ [])
+
+-- what is written for all of them
+abbrev pub written_for : List (List ℕ) → List ℕ
+written_for answers = flat_map (λ (answer : List ℕ). answer) answers
 
 -- the replies to one till's commands, in order
 abbrev pub replies_of : ℕ → List Asked → Replies → Replies

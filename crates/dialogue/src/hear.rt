@@ -1,5 +1,5 @@
 // One line that was said.
-use crate::texts::{clock_text, meaning_text, too_long_text, wrong_text};
+use crate::texts::{clock_text, meaning_text, too_long_text, unended_text, wrong_text};
 use ports::NoMemory;
 use record_fields::Text;
 use script::{Fault, Form, Heard, Meaning};
@@ -29,7 +29,9 @@ impl Speaker {
     ghost use Rattle.std.specs.Prelude.{◌≡◌, ◌≤◌, ◌<◌, ◌+◌, ◌-◌, ◌^◌, ◌↔◌, ℕ, List, [], length, min, IfOk, IsTrue};
     ghost use Rattle.script.specs.declared.forms.Form.TheVariants.{First};
     ghost use Rattle.dialogue.specs.OneLine.{Begins, Hears, PassesOver, form_of};
+    ghost use Rattle.dialogue.specs.Protocol.{too_long, unended};
     ghost use Rattle.dialogue.specs.Talks.{Talk, Talks};
+    ghost use Rattle.line_reader.specs.Lists.{InputLine, text_of, with_lf, without_lf};
     ghost use Rattle.line_reader.specs.declared.reader.TheConstants.{MAX_LINE};
 
     /// A dialogue in which nothing was said.
@@ -61,10 +63,10 @@ impl Speaker {
         number
     }
 
-    // What a line asks of its reader.
+    // What a line that ended at its LF asks of its reader.
     fn take(&mut self, alloc: Global, line: &[u8]) -> Result<Task, NoMemory>
         requires { length line.now ≤ MAX_LINE }
-        ensures { IfOk result (λ task. Hears self.old self.new line.now task) }
+        ensures { IfOk result (λ task. Hears self.old self.new (with_lf line.now) task) }
     {
         let number = self.go_on();
         match self.heard.say(alloc, self.form, line) {
@@ -97,28 +99,46 @@ impl Speaker {
     }
 
     // The answer to a line that is too long.
-    fn pass_over(&mut self, alloc: Global) -> Result<Task, NoMemory>
-        ensures { IfOk result (λ task. PassesOver self.old self.new task) }
+    fn pass_too_long(&mut self, alloc: Global) -> Result<Task, NoMemory>
+        ensures { IfOk result (λ task. PassesOver self.old self.new too_long task) }
     {
         let number = self.go_on();
         self.form = Form::Later;
         Ok(Task::Write(too_long_text(alloc, number)?))
     }
 
-    /// What a line asks of its reader. Behind want of memory the dialogue doesn't go on.
+    // The answer to a last line that has no LF.
+    fn pass_unended(&mut self, alloc: Global) -> Result<Task, NoMemory>
+        ensures { IfOk result (λ task. PassesOver self.old self.new unended task) }
+    {
+        let number = self.go_on();
+        self.form = Form::Later;
+        Ok(Task::Write(unended_text(alloc, number)?))
+    }
+
+    /// What a line that ended at its LF asks of its reader; the LF isn't handed in. Behind want of memory the dialogue doesn't go on.
     pub fn hear(&mut self, alloc: Global, line: &[u8]) -> Result<Task, NoMemory>
         requires { length line.now ≤ MAX_LINE }
-        ensures hears { IfOk result (λ task. Hears self.old self.new line.now task) }
-        ensures talks { IfOk result (λ task. Talks self.old self.new line.now task) }
+        ensures hears { IfOk result (λ task. Hears self.old self.new (with_lf line.now) task) }
+        ensures talks { IfOk result (λ task. Talks self.old self.new (with_lf line.now) task) }
     {
         self.take(alloc, line)
     }
 
-    /// The same of a line that is too long.
+    /// The same of a line that is too long, with an LF or without.
     pub fn hear_too_long(&mut self, alloc: Global) -> Result<Task, NoMemory>
-        ensures passes { IfOk result (λ task. PassesOver self.old self.new task) }
-        ensures talks { (line : List ℕ) → MAX_LINE < length line → IfOk result (λ task. Talks self.old self.new line task) }
+        ensures passes { IfOk result (λ task. PassesOver self.old self.new too_long task) }
+        ensures talks { (line : InputLine) → MAX_LINE < length (text_of line) → IfOk result (λ task. Talks self.old self.new line task) }
     {
-        self.pass_over(alloc)
+        self.pass_too_long(alloc)
+    }
+
+    /// The same of a last line that has no LF, whatever stands in it.
+    pub fn hear_unended(&mut self, alloc: Global) -> Result<Task, NoMemory>
+        ensures passes { IfOk result (λ task. PassesOver self.old self.new unended task) }
+        ensures talks { (text : List ℕ) → length text ≤ MAX_LINE →
+            IfOk result (λ task. Talks self.old self.new (without_lf text) task) }
+    {
+        self.pass_unended(alloc)
     }
 }

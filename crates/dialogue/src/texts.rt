@@ -1,7 +1,7 @@
 // The texts of answers.
 ghost use Rattle.std.specs.Prelude.{◌≡◌, ◌++◌, ◌∷◌, [], OnOk, IfOk, codes, decimal};
 ghost use Rattle.dialogue.specs.Protocol as spec;
-ghost use Rattle.dialogue.specs.Protocol.{says, too_long, wrong};
+ghost use Rattle.dialogue.specs.Protocol.{says, too_long, unended, wrong};
 ghost use Rattle.script.specs.declared.lines.Meaning.TheVariants.{Clock, Command};
 
 use itoa::Buffer;
@@ -73,6 +73,13 @@ pub fn too_long_text(alloc: Global, number: u64) -> Result<Text, NoMemory>
     ensures { IfOk result (λ text. text ≡ spec.answer_text number too_long []) }
 {
     numbered(alloc, number, b"too-long")
+}
+
+/// The answer to a last line without its LF.
+pub fn unended_text(alloc: Global, number: u64) -> Result<Text, NoMemory>
+    ensures { IfOk result (λ text. text ≡ spec.answer_text number unended []) }
+{
+    numbered(alloc, number, b"unended")
 }
 
 /// The answer to a line that is no command.

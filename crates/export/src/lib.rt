@@ -21,4 +21,4 @@ pub use lines::{
     entry_text, head_text, is_entry_line, is_head_line, read_entry, read_head, value_of,
 };
 pub use objects::sealed_members;
-pub use values::{huella_value, nif_value, text_value};
+pub use values::{day_value, huella_value, nif_value, num_value, text_value};

@@ -34,13 +34,15 @@ pub fn nif_value(alloc: Global, nif: &Nif) -> Result<Value, AllocError>
     text_value(alloc, nif.bytes().as_slice())
 }
 
-pub(crate) fn num_value(alloc: Global, num: &NumSerie) -> Result<Value, AllocError>
+/// The value of a number of an invoice.
+pub fn num_value(alloc: Global, num: &NumSerie) -> Result<Value, AllocError>
     ensures { IfOk result (λ v. view v ≡ spec.word num.now) }
 {
     text_value(alloc, num.as_slice())
 }
 
-pub(crate) fn day_value(alloc: Global, day: Day) -> Result<Value, AllocError>
+/// The value of a day: DD-MM-YYYY.
+pub fn day_value(alloc: Global, day: Day) -> Result<Value, AllocError>
     ensures { IfOk result (λ v. view v ≡ spec.day_value day) }
 {
     let _date = day.date();

@@ -6,14 +6,15 @@ use Rattle.std.proofs.lemmas.List.Folds.{list_any-append}
 use Rattle.std.proofs.Math.Seq.{drop-append_seam}
 use Rattle.std.specs.Io.KnownBytes.{Consumes, IsAtEnd}
 use Rattle.ports.specs.Sources.{Sources}
+use Rattle.line_reader.specs.Held.{Held, nothing, taken_from}
 use Rattle.line_reader.specs.Reading.{Absorbs, Cuts, IsUnderway, has_lf}
-use Rattle.line_reader.specs.Lines.{AtEnd, Came, Gave, IsLetGo, IsSpent, LastLine, Nothing, Paused, Turns, drops, front_of}
-use Rattle.line_reader.specs.Lines.{is_dropping, is_over, kept_of}
+use Rattle.line_reader.specs.Lines.{AtEnd, Came, Gave, IsAskedFor, IsLetGo, IsSpent, LastLine, Nothing, Paused, Turns, drops}
+use Rattle.line_reader.specs.Lines.{front_of, is_dropping, is_over, kept_of, last_read}
 use Rattle.line_reader.specs.declared.parts.Stage.{Stage}
 use Rattle.line_reader.specs.declared.parts.Stage.TheVariants.{Whole, Part, Dropping}
 use Rattle.line_reader.specs.declared.reader.LineReader.{LineReader}
 use Rattle.line_reader.specs.declared.reader.Next.{Next}
-use Rattle.line_reader.specs.declared.reader.Next.TheVariants.{Line, TooLong, End}
+use Rattle.line_reader.specs.declared.reader.Next.TheVariants.{Line, Unended, TooLong, End}
 
 pub clean_both : (a b : List ℕ) → has_lf a ≡ false → has_lf b ≡ false → has_lf (a ++ b) ≡ false
 clean_both a b p q = list_any-append (λ x. x == 10) a b ∙ ap (λ v. v || has_lf b) p ∙ q
@@ -94,56 +95,55 @@ pub record Given (kept taken : List ℕ) (dropping : Bool) (stage : Stage) (text
   pub parts : kept ++ taken ≡ given ++ (front_of stage text ++ chunk)
   pub gave : Gave dropping text given same spent told
   pub going_on : drops stage ≡ false
+  pub front_none : front_of stage text ≡ []
 
 -- the line ends at an LF
 pub at_an_lf : (kept taken let_go : List ℕ) (dropping : Bool) (stage after : Stage) (text text_after rest : List ℕ) (told : Next)
     (same spent : Type 0) → Underway kept taken let_go dropping stage text (10 ∷ rest) → has_lf text ≡ false → length text ≤ 65536 →
-    Turns stage text after text_after told → same → Given kept taken dropping after text_after rest same spent told
+    Turns Line stage text after text_after told → same → Given kept taken dropping after text_after rest same spent told
 at_an_lf kept taken let_go dropping Whole after text text_after rest told same spent u p w t s = absurd u.going
-at_an_lf kept taken let_go dropping Part after text text_after rest Line same spent u p w t s = rw (t.0, t.1) (record {
+at_an_lf kept taken let_go dropping Part after text text_after rest told same spent u p w t s = rw (t.0, t.1, t.2) (record {
   given = text ++ 10 ∷ [];
   parts = u.parts ∙ ap (λ l. l ++ (text ++ 10 ∷ rest)) u.fits.1 ∙ sym (append_assoc text (10 ∷ []) rest);
-  gave = record { fresh = u.fits.0; clean = p; within = w; ends = inl (refl, s) };
+  gave = record { fresh = u.fits.0; clean = p; within = w; ends = refl; same_is = s };
   going_on = refl;
+  front_none = refl;
 })
-at_an_lf kept taken let_go dropping Part after text text_after rest TooLong same spent u p w t s = absurd t
-at_an_lf kept taken let_go dropping Part after text text_after rest End same spent u p w t s = absurd t
-at_an_lf kept taken let_go dropping Dropping after text text_after rest Line same spent u p w t s = absurd t
-at_an_lf kept taken let_go dropping Dropping after text text_after rest TooLong same spent u p w t s = rw (t.0, t.1) (record {
+at_an_lf kept taken let_go dropping Dropping after text text_after rest told same spent u p w t s = rw (t.0, t.1, t.2) (record {
   given = let_go ++ 10 ∷ [];
   parts = u.parts ∙ sym (append_assoc let_go (10 ∷ []) rest);
   gave = record { long = let_go; clean = u.clean; past = u.fits; ends = inl (refl, s) };
   going_on = refl;
+  front_none = refl;
 })
-at_an_lf kept taken let_go dropping Dropping after text text_after rest End same spent u p w t s = absurd t
 
 -- it ends with the source
 pub at_the_end : (kept taken let_go : List ℕ) (dropping : Bool) (stage after : Stage) (text text_after : List ℕ) (told : Next)
     (same spent : Type 0) → Underway kept taken let_go dropping stage text [] → has_lf text ≡ false → length text ≤ 65536 →
-    Turns stage text after text_after told → (0 < length text) ⊎ (stage ≡ Dropping) → spent →
+    Turns Unended stage text after text_after told → (0 < length text) ⊎ (stage ≡ Dropping) → spent →
     Given kept taken dropping after text_after [] same spent told
 at_the_end kept taken let_go dropping Whole after text text_after told same spent u p w t some s = absurd u.going
-at_the_end kept taken let_go dropping Part after text text_after Line same spent u p w t some s = rw (t.0, t.1) (record {
+at_the_end kept taken let_go dropping Part after text text_after told same spent u p w t some s = rw (t.0, t.1, t.2) (record {
   given = text;
   parts = u.parts ∙ ap (λ l. l ++ (text ++ [])) u.fits.1;
   gave = record {
     fresh = u.fits.0;
     clean = p;
     within = w;
-    ends = elim some [ inl more ↦ inr (more, refl, s) | inr other ↦ absurd cc ];
+    some = elim some [ inl more ↦ more | inr other ↦ absurd cc ];
+    is = refl;
+    spent_is = s;
   };
   going_on = refl;
+  front_none = refl;
 })
-at_the_end kept taken let_go dropping Part after text text_after TooLong same spent u p w t some s = absurd t
-at_the_end kept taken let_go dropping Part after text text_after End same spent u p w t some s = absurd t
-at_the_end kept taken let_go dropping Dropping after text text_after Line same spent u p w t some s = absurd t
-at_the_end kept taken let_go dropping Dropping after text text_after TooLong same spent u p w t some s = rw (t.0, t.1) (record {
+at_the_end kept taken let_go dropping Dropping after text text_after told same spent u p w t some s = rw (t.0, t.1, t.2) (record {
   given = let_go;
   parts = u.parts;
   gave = record { long = let_go; clean = u.clean; past = u.fits; ends = inr (refl, s) };
   going_on = refl;
+  front_none = refl;
 })
-at_the_end kept taken let_go dropping Dropping after text text_after End same spent u p w t some s = absurd t
 
 -- what a cut says where it found an LF, and where it found none
 pub found_there : (bytes part : List ℕ) (found : Bool) → found ≡ true → Cuts bytes part found →
@@ -172,10 +172,15 @@ pub all_of : (chunk part : List ℕ) → chunk ≡ part → chunk ≡ part ++ []
 all_of chunk part e = e ∙ sym (append-nil part)
 
 -- what is left behind an LF that is taken
-pub left_behind : (chunk part rest mid new : List ℕ) → chunk ≡ part ++ 10 ∷ rest → mid ≡ drop (length part) chunk →
-    new ≡ drop 1 mid → new ≡ rest
-left_behind chunk part rest mid new e d f =
-    f ∙ ap (λ m. drop 1 m) (d ∙ ap (λ ch. drop (length part) ch) e ∙ drop-append_seam part (10 ∷ rest))
+pub left_behind : (part rest : List ℕ) (chunk mid new : Held) → chunk.rest ≡ part ++ 10 ∷ rest → mid ≡ taken_from (length part) chunk →
+    new ≡ taken_from 1 mid → new.rest ≡ rest
+left_behind part rest chunk mid new e d f =
+    ap (λ (h : Held). h.rest) f ∙ ap (λ (h : Held). drop 1 h.rest) d ∙ ap (λ ch. drop 1 (drop (length part) ch)) e
+    ∙ ap (λ m. drop 1 m) (drop-append_seam part (10 ∷ rest))
+
+-- the last read is that of before
+pub same_given : (count : ℕ) (chunk mid : Held) → mid ≡ taken_from count chunk → mid.given ≡ chunk.given
+same_given count chunk mid d = ap (λ (h : Held). h.given) d
 
 -- the source gave nothing
 pub spent_on : (kept taken let_go more : List ℕ) (dropping : Bool) (stage : Stage) (text : List ℕ) → more ≡ [] →
@@ -195,50 +200,68 @@ at_no_line kept taken let_go dropping Part text told same spent u p e t s = rw (
   parts = u.parts ∙ ap (λ l. l ++ (text ++ [])) u.fits.1 ∙ ap (λ l. l ++ []) e;
   gave = record { fresh = u.fits.0; none = refl; spent_is = s };
   going_on = refl;
+  front_none = refl;
 })
 
 -- no front of a line stands behind one that was given
-pub none_stands : (stage after : Stage) (text text_after chunk : List ℕ) (told : Next) → Turns stage text after text_after told →
-    chunk ≡ [] → front_of after text_after ++ chunk ≡ []
-none_stands Whole after text text_after chunk told t e = absurd t
-none_stands Part after text text_after chunk Line t e = rw (t.0, e) refl
-none_stands Part after text text_after chunk TooLong t e = absurd t
-none_stands Part after text text_after chunk End t e = absurd t
-none_stands Dropping after text text_after chunk Line t e = absurd t
-none_stands Dropping after text text_after chunk TooLong t e = rw (t.0, t.1, e) refl
-none_stands Dropping after text text_after chunk End t e = absurd t
+pub none_stands : (kind : Next) (stage after : Stage) (text text_after chunk : List ℕ) (told : Next) →
+    Turns kind stage text after text_after told → chunk ≡ [] → front_of after text_after ++ chunk ≡ []
+none_stands kind Whole after text text_after chunk told t e = absurd t
+none_stands kind Part after text text_after chunk told t e = rw (t.0, e) refl
+none_stands kind Dropping after text text_after chunk told t e = rw (t.0, t.1, e) refl
+
+front_clean : (stage : Stage) (text : List ℕ) → has_lf text ≡ false → has_lf (front_of stage text) ≡ false
+front_clean Whole text p = refl
+front_clean Part text p = p
+front_clean Dropping text p = refl
+
+-- all that was kept and taken of a line that goes on holds no LF
+pub all_clean : (kept taken let_go : List ℕ) (dropping : Bool) (stage : Stage) (text : List ℕ) →
+    Underway kept taken let_go dropping stage text [] → has_lf text ≡ false → has_lf (kept ++ taken) ≡ false
+all_clean kept taken let_go dropping stage text u p =
+    ap has_lf u.parts ∙ clean_both let_go (front_of stage text ++ []) u.clean
+    (ap has_lf (append-nil (front_of stage text)) ∙ front_clean stage text p)
 
 pub with_chunk : (kept taken given front rest chunk : List ℕ) → kept ++ taken ≡ given ++ (front ++ rest) → chunk ≡ rest →
     kept ++ taken ≡ given ++ (front ++ chunk)
 with_chunk kept taken given front rest chunk h e = h ∙ ap (λ r. given ++ (front ++ r)) (sym e)
 
 -- no byte is left where all were taken
-pub none_left : (chunk part mid : List ℕ) → chunk ≡ part → mid ≡ drop (length part) chunk → mid ≡ []
-none_left chunk part mid e d = d ∙ ap (λ ch. drop (length part) ch) (all_of chunk part e) ∙ drop-append_seam part []
+pub none_left : (part : List ℕ) (chunk mid : Held) → chunk.rest ≡ part → mid ≡ taken_from (length part) chunk → mid.rest ≡ []
+none_left part chunk mid e d = ap (λ (h : Held). h.rest) d ∙ ap (λ ch. drop (length part) ch) (all_of chunk.rest part e)
+    ∙ drop-append_seam part []
 
 -- what came, by what was given
 pub came : (s : Sources) (old new : LineReader) (taken rest : List ℕ) (told : Next) → Consumes s.left s.left_after taken →
-    (is_over old ≡ true → taken ≡ []) → Given (kept_of old) taken (is_dropping old) new.stage new.text.items rest
-    (is_over new ≡ is_over old) (IsSpent s old new) told → new.chunk ≡ rest → Came s old new told
-came s old new taken rest told e rests end chunk = record {
+    (is_over old ≡ true → taken ≡ []) → IsAskedFor (kept_of old) taken (last_read new) → Given (kept_of old) taken (is_dropping old) new.stage new.text.items rest
+    (is_over new ≡ is_over old) (IsSpent s old new) told → new.chunk.rest ≡ rest → Came s old new told
+came s old new taken rest told e rests asked end chunk = record {
   given = end.given;
   took = record {
     taken = taken;
     consumed = e;
-    parts = with_chunk (kept_of old) taken end.given (front_of new.stage new.text.items) rest new.chunk end.parts chunk;
+    parts = with_chunk (kept_of old) taken end.given (front_of new.stage new.text.items) rest new.chunk.rest end.parts chunk;
     rests = rests;
+    asked_for = asked;
   };
   gave = end.gave;
   going_on = end.going_on;
+  few = (let same = ap (λ (f : List ℕ). length (f ++ new.chunk.rest)) end.front_none in let short = new.few in omega (arith, same, short));
 }
 
+-- the last read is as it was
+pub asked_same : (kept taken : List ℕ) (mid new : LineReader) → IsAskedFor kept taken (last_read mid) → new.chunk ≡ mid.chunk →
+    IsAskedFor kept taken (last_read new)
+asked_same kept taken mid new asked same =
+    subst (λ (h : Held). IsAskedFor kept taken h.given) (sym same) asked
+
 pub came_at_lf : (s : Sources) (old mid new : LineReader) (taken let_go rest : List ℕ) (told : Next) →
-    Consumes s.left s.left_after taken → (is_over old ≡ true → taken ≡ []) →
+    Consumes s.left s.left_after taken → (is_over old ≡ true → taken ≡ []) → IsAskedFor (kept_of old) taken (last_read new) →
     Underway (kept_of old) taken let_go (is_dropping old) mid.stage mid.text.items (10 ∷ rest) →
     has_lf mid.text.items ≡ false → length mid.text.items ≤ 65536 →
-    Turns mid.stage mid.text.items new.stage new.text.items told → is_over new ≡ is_over old → new.chunk ≡ rest →
+    Turns Line mid.stage mid.text.items new.stage new.text.items told → is_over new ≡ is_over old → new.chunk.rest ≡ rest →
     Came s old new told
-came_at_lf s old mid new taken let_go rest told e rests u p w t same chunk = came s old new taken rest told e rests
+came_at_lf s old mid new taken let_go rest told e rests asked u p w t same chunk = came s old new taken rest told e rests asked
     (at_an_lf (kept_of old) taken let_go (is_dropping old) mid.stage new.stage mid.text.items new.text.items rest told
     (is_over new ≡ is_over old) (IsSpent s old new) u p w t same) chunk
 
@@ -247,47 +270,50 @@ abbrev Ends : Sources → LineReader → Type 0
 Ends s old = is_over old ≡ false → IsAtEnd s.left_after
 
 came_last : (s : Sources) (old mid new : LineReader) (taken let_go : List ℕ) (told : Next) →
-    Consumes s.left s.left_after taken → (is_over old ≡ true → taken ≡ []) → Ends s old →
+    Consumes s.left s.left_after taken → (is_over old ≡ true → taken ≡ []) → IsAskedFor (kept_of old) taken (last_read new) →
+    Ends s old →
     Underway (kept_of old) taken let_go (is_dropping old) mid.stage mid.text.items [] →
-    has_lf mid.text.items ≡ false → length mid.text.items ≤ 65536 → mid.chunk ≡ [] → LastLine mid new told → Came s old new told
-came_last s old mid new taken let_go told e rests z u p w none last = came s old new taken [] told e rests
+    has_lf mid.text.items ≡ false → length mid.text.items ≤ 65536 → mid.chunk.rest ≡ [] → LastLine mid new told →
+    Came s old new told
+came_last s old mid new taken let_go told e rests asked z u p w none last = came s old new taken [] told e rests asked
     (at_the_end (kept_of old) taken let_go (is_dropping old) mid.stage new.stage mid.text.items new.text.items told
     (is_over new ≡ is_over old) (IsSpent s old new) u p w last.turns last.some (record {
-      none = none_stands mid.stage new.stage mid.text.items new.text.items new.chunk told last.turns (last.chunk ∙ none);
+      none = none_stands Unended mid.stage new.stage mid.text.items new.text.items new.chunk.rest told last.turns
+          (ap (λ (h : Held). h.rest) last.chunk ∙ none);
       over = last.over;
       at_end = z;
-    })) (last.chunk ∙ none)
+    })) (ap (λ (h : Held). h.rest) last.chunk ∙ none)
 
 no_front : (stage : Stage) (text chunk : List ℕ) → stage ≡ Part → text ≡ [] → chunk ≡ [] → front_of stage text ++ chunk ≡ []
 no_front stage text chunk p e n = rw (p, e, n) refl
 
 came_none : (s : Sources) (old mid new : LineReader) (taken let_go : List ℕ) (told : Next) →
-    Consumes s.left s.left_after taken → (is_over old ≡ true → taken ≡ []) → Ends s old →
-    Underway (kept_of old) taken let_go (is_dropping old) mid.stage mid.text.items [] → mid.chunk ≡ [] → Nothing mid new told →
-    Came s old new told
-came_none s old mid new taken let_go told e rests z u none end =
+    Consumes s.left s.left_after taken → (is_over old ≡ true → taken ≡ []) → IsAskedFor (kept_of old) taken (last_read new) →
+    Ends s old → Underway (kept_of old) taken let_go (is_dropping old) mid.stage mid.text.items [] → mid.chunk.rest ≡ [] →
+    Nothing mid new told → Came s old new told
+came_none s old mid new taken let_go told e rests asked z u none end =
     let stage = end.stage_after ∙ end.stage in
     let text = end.text_after ∙ end.text in
     let under : Underway (kept_of old) taken let_go (is_dropping old) new.stage new.text.items [] =
     subst (λ (t : List ℕ). Underway (kept_of old) taken let_go (is_dropping old) new.stage t []) (sym end.text_after)
     (subst (λ (t : Stage). Underway (kept_of old) taken let_go (is_dropping old) t mid.text.items []) (sym end.stage_after) u) in
-    came s old new taken [] told e rests
+    came s old new taken [] told e rests asked
     (at_no_line (kept_of old) taken let_go (is_dropping old) new.stage new.text.items told (is_over new ≡ is_over old)
     (IsSpent s old new) under stage text end.is (record {
-      none = no_front new.stage new.text.items new.chunk stage text (end.chunk ∙ none);
+      none = no_front new.stage new.text.items new.chunk.rest stage text (ap (λ (h : Held). h.rest) end.chunk ∙ none);
       over = end.over;
       at_end = z;
-    })) (end.chunk ∙ none)
+    })) (ap (λ (h : Held). h.rest) end.chunk ∙ none)
 
 -- the source has no more to give
 pub came_at_end : (s : Sources) (old mid new : LineReader) (taken let_go : List ℕ) (told : Next) →
-    Consumes s.left s.left_after taken → (is_over old ≡ true → taken ≡ []) → Ends s old →
-    Underway (kept_of old) taken let_go (is_dropping old) mid.stage mid.text.items [] →
-    has_lf mid.text.items ≡ false → length mid.text.items ≤ 65536 → mid.chunk ≡ [] → AtEnd mid new told → Came s old new told
-came_at_end s old mid new taken let_go told e rests z u p w none (inl end) =
-    came_none s old mid new taken let_go told e rests z u none end
-came_at_end s old mid new taken let_go told e rests z u p w none (inr last) =
-    came_last s old mid new taken let_go told e rests z u p w none last
+    Consumes s.left s.left_after taken → (is_over old ≡ true → taken ≡ []) → IsAskedFor (kept_of old) taken (last_read mid) →
+    Ends s old → Underway (kept_of old) taken let_go (is_dropping old) mid.stage mid.text.items [] →
+    has_lf mid.text.items ≡ false → length mid.text.items ≤ 65536 → mid.chunk.rest ≡ [] → AtEnd mid new told → Came s old new told
+came_at_end s old mid new taken let_go told e rests asked z u p w none (inl end) =
+    came_none s old mid new taken let_go told e rests (asked_same (kept_of old) taken mid new asked end.chunk) z u none end
+came_at_end s old mid new taken let_go told e rests asked z u p w none (inr last) =
+    came_last s old mid new taken let_go told e rests (asked_same (kept_of old) taken mid new asked last.chunk) z u p w none last
 
 pub other_way : (b : Bool) → b ≡ false → b ≡ true → ⊥
 other_way true e f = absurd cc
@@ -295,19 +321,29 @@ other_way false e f = absurd cc
 
 pub paused : (s : Sources) (old new : LineReader) (taken let_go : List ℕ) → Consumes s.left s.left_after taken →
     is_over old ≡ false → is_over new ≡ is_over old →
-    Underway (kept_of old) taken let_go (is_dropping old) new.stage new.text.items [] → new.chunk ≡ [] → Paused s old new
-paused s old new taken let_go e going same u none = record {
-  given = let_go;
-  took = record {
-    taken = taken;
-    consumed = e;
-    parts = with_chunk (kept_of old) taken let_go (front_of new.stage new.text.items) [] new.chunk u.parts none;
-    rests = λ over. absurd (other_way (is_over old) going over);
-  };
-  clean = u.clean;
-  let_go = u.fits;
-  over = (going, same ∙ going);
-}
+    Underway (kept_of old) taken let_go (is_dropping old) new.stage new.text.items [] → has_lf new.text.items ≡ false →
+    new.chunk ≡ nothing → Paused s old new
+paused s old new taken let_go e going same u clean none =
+    let gone : new.chunk.rest ≡ [] = ap (λ (h : Held). h.rest) none in
+    record {
+      given = let_go;
+      took = record {
+        taken = taken;
+        consumed = e;
+        parts = with_chunk (kept_of old) taken let_go (front_of new.stage new.text.items) [] new.chunk.rest u.parts gone;
+        rests = λ over. absurd (other_way (is_over old) going over);
+        asked_for = inr (
+          taken,
+          sym (ap (λ (h : Held). taken ++ h.given) none ∙ append-nil taken),
+          all_clean (kept_of old) taken let_go (is_dropping old) new.stage new.text.items u clean,
+        );
+      };
+      clean = u.clean;
+      kept_clean = ap (λ (r : List ℕ). has_lf (front_of new.stage new.text.items ++ r)) gone
+          ∙ ap has_lf (append-nil (front_of new.stage new.text.items)) ∙ front_clean new.stage new.text.items clean;
+      let_go = u.fits;
+      over = (going, same ∙ going);
+    }
 
 no_items : (bytes : List ℕ) → (length bytes == 0) ≡ true → bytes ≡ []
 no_items [] e = refl

@@ -3,27 +3,45 @@ use Rattle.std.specs.Prelude.{◌≡◌, ℕ, ◌<◌, List, [], ◌∷◌, ◌+
 use Rattle.std.specs.List.{AllByRecursion}
 use Rattle.line_reader.specs.Reading.{has_lf}
 
-abbrev pub with_lf : List ℕ → List ℕ
-with_lf line = line ++ 10 ∷ []
+-- a line: what stands up to its LF, or what stands behind the last LF and has none
+pub data InputLine : Type 0 where
+  with_lf : List ℕ → InputLine
+  without_lf : List ℕ → InputLine
 
-abbrev pub IsLine : List ℕ → Type 0
-IsLine line = has_lf line ≡ false
+-- the line itself
+abbrev pub text_of : InputLine → List ℕ
+text_of (with_lf text) = text
+text_of (without_lf text) = text
 
--- these lines, each up to its LF, and what stands behind the last LF
-pub record AreLines (bytes : List ℕ) (lines : List (List ℕ)) (rest : List ℕ) : Type 0 where
+abbrev pub bytes_of : InputLine → List ℕ
+bytes_of (with_lf text) = text ++ 10 ∷ []
+bytes_of (without_lf text) = text
+
+-- a line that ends at its LF, the only one in it
+abbrev pub IsLine : InputLine → Type 0
+IsLine (with_lf text) = has_lf text ≡ false
+IsLine (without_lf text) = ⊥
+
+-- the line behind the last LF: where nothing stands there, there is none
+abbrev pub IsLast : InputLine → Type 0
+IsLast (with_lf text) = ⊥
+IsLast (without_lf text) = (has_lf text ≡ false) × (0 < length text)
+
+-- these lines, each up to its LF, and what stands behind them
+pub record AreLines (bytes : List ℕ) (lines : List InputLine) (rest : List ℕ) : Type 0 where
   pub each : AllByRecursion IsLine lines
-  pub is : bytes ≡ flat_map with_lf lines ++ rest
+  pub is : bytes ≡ flat_map bytes_of lines ++ rest
 
--- the same of bytes that are all: a last line without an LF isn't empty
-pub record AreAllLines (bytes : List ℕ) (lines : List (List ℕ)) : Type 0 where
-  pub each : AllByRecursion IsLine lines
-  pub whole : List (List ℕ)
-  pub last : List (List ℕ)
+-- the lines of bytes that are all: each up to its LF, and at most one more without
+pub record AreAllLines (bytes : List ℕ) (lines : List InputLine) : Type 0 where
+  pub whole : List InputLine
+  pub last : List InputLine
   pub lines_are : lines ≡ whole ++ last
+  pub each : AllByRecursion IsLine whole
   pub at_most_one : length last < 2
-  pub some : AllByRecursion (λ (line : List ℕ). 0 < length line) last
-  pub is : bytes ≡ flat_map with_lf whole ++ flat_map (λ (line : List ℕ). line) last
+  pub last_is : AllByRecursion IsLast last
+  pub is : bytes ≡ flat_map bytes_of whole ++ flat_map bytes_of last
 
 -- bytes have one list of lines
 abbrev pub HaveOneList : List ℕ → Type 0
-HaveOneList bytes = (lines others : List (List ℕ)) → AreAllLines bytes lines → AreAllLines bytes others → lines ≡ others
+HaveOneList bytes = (lines others : List InputLine) → AreAllLines bytes lines → AreAllLines bytes others → lines ≡ others

@@ -14,9 +14,11 @@ pub const MAX_LINE: usize = 65_536;
 /// What comes next of a source.
 #[derive(Clone, Copy, Debug, PartialEq, Eq)]
 pub enum Next {
-    /// A line, which `LineReader::line` gives.
+    /// A line up to its LF, which `LineReader::line` gives.
     Line,
-    /// A line of more than `MAX_LINE` bytes.
+    /// What stands behind the last LF of the source and has none, which `LineReader::line` gives. It isn't empty.
+    Unended,
+    /// A line of more than `MAX_LINE` bytes, with an LF or without.
     TooLong,
     /// The end of the source.
     End,
@@ -32,6 +34,7 @@ pub struct LineReader {
     ghost no_lf: { has_lf text.items ≡ false },
     ghost within: { length text.items ≤ 65536 },
     ghost room: { 65536 ≤ vec_capacity text },
+    ghost few: { length chunk.rest ≤ 4096 },
 }
 
 impl LineReader {
@@ -40,6 +43,7 @@ impl LineReader {
     ghost use Rattle.ports.specs.Sources.{this_source};
     ghost use Rattle.line_reader.specs.Reading.{has_lf, IsUnderway};
     ghost use Rattle.line_reader.specs.Lines.{AtEnd, AtLf, Begins, NextIs, TakesPart, Wholes, is_over, kept_of, line_of};
+    ghost use Rattle.line_reader.specs.Lists.{InputLine};
     ghost use Rattle.line_reader.specs.Read.{HasRead, HasReadOn};
 
     /// A reader that has read nothing. It takes no more memory.
@@ -83,10 +87,10 @@ impl LineReader {
         found
     }
 
-    // The coming line was read to its end.
-    fn whole(&mut self) -> Next
+    // The coming line was read to its end, and is told as of this kind, or as too long.
+    fn whole(&mut self, kind: Next) -> Next
         requires { IsUnderway self.old.stage }
-        ensures { Wholes self.old self.new result }
+        ensures { Wholes self.old self.new kind result }
     {
         match self.stage {
             Stage::Dropping => {
@@ -96,7 +100,7 @@ impl LineReader {
             }
             _ => {
                 self.stage = Stage::Whole;
-                Next::Line
+                kind
             }
         }
     }
@@ -104,11 +108,11 @@ impl LineReader {
     // It ends at an LF.
     fn at_lf(&mut self) -> Next
         requires underway { IsUnderway self.old.stage }
-        requires some { 0 < length self.old.chunk }
+        requires some { 0 < length self.old.chunk.rest }
         ensures { AtLf self.old self.new result }
     {
         self.chunk.skip(1);
-        self.whole()
+        self.whole(Next::Line)
     }
 
     // It ends with the source, or there is none.
@@ -119,7 +123,7 @@ impl LineReader {
         self.over = true;
         match self.stage {
             Stage::Part if self.text.is_empty() => Next::End,
-            _ => self.whole(),
+            _ => self.whole(Next::Unended),
         }
     }
 
@@ -150,11 +154,11 @@ impl LineReader {
         unreachable!()
     }
 
-    /// The next line. After an `Err` the reader is where it was in the line, and goes on there. Once the source had no more to
-    /// give it isn't asked again.
+    /// The next line. The source is asked for more only while no whole line is at hand. After an `Err` the reader is where it was in
+    /// the line, and goes on there. Once the source had no more to give it isn't asked again.
     pub fn next_line<S: Source, R: Wait>(&mut self, rt: &R, source: &mut S) -> Result<Next, Failed>
         ensures next { NextIs (this_source S.left S.faults source.old source.new) self.old self.new result }
-        ensures read { (left : Option (List ℕ)) (lines : List (List ℕ)) → HasRead left (S.left source.old) self.old lines →
+        ensures read { (left : Option (List ℕ)) (lines : List InputLine) → HasRead left (S.left source.old) self.old lines →
             HasReadOn left (S.left source.new) self.new lines result }
         ensures unread { has_lf (kept_of self.old) ≡ true → source.new ≡ source.old }
         ensures over { is_over self.old ≡ true → source.new ≡ source.old }

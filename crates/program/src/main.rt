@@ -5,35 +5,42 @@
 ghost use Rattle.std.specs.Prelude.{◌≡◌, IfOk, map, string_bytes, vec_len};
 ghost use Rattle.verifactu.specs.CommandLine.{posts_needed};
 
+mod link;
 mod option;
 mod showing;
-mod usage;
 
+use crate::link::{agencies_behind, agency_behind, status_of_unfit};
 use crate::option::{PipeFiles, split_option};
 use crate::showing::{ShownDisk, ShownSleeper};
-use crate::usage::form_of;
-use agency_pipe::{PipeAgency, PipeSink, PipeSource};
+use advice::{WordsFault, fault_in, form_of, next_step};
 use agency_port::{Agency, PracticeAgency};
 use parties::Nif;
-use ports::{Clock, NoMemory, OpenGate, StdSink, StdSource, SystemClock};
-use report::{Detail, Ended, fault_text, status_of};
+use ports::{NoMemory, OpenGate, StdSink, StdSource, SystemClock};
+use report::{Detail, Ended, fault_text};
 use std::env;
 use std::io::{ErrorKind, Write};
 use std::process::ExitCode;
 use std::sync::Wait;
 use std::thread::Threads;
-use verifactu::{Outside, Post, Posts, posts_needed, run};
-use verify_link::Host;
+use verifactu::{Outside, Post, Posts, asks_to_send, posts_needed, run};
+
+// Why nothing was run.
+enum NotRun<'a> {
+    Usage(WordsFault<'a>),
+    NoMemory,
+}
 
 // The words behind the program's name. One that isn't UTF-8 is no word of a command.
-fn words_of(rt: &HostRuntime) -> Result<Vec<String>, Detail> {
+fn words_of(rt: &HostRuntime) -> Result<Vec<String>, NotRun<'static>> {
     match env::args(rt) {
         Ok(args) => match args.skip(1).collect(rt.alloc()) {
             Ok(words) => Ok(words),
-            Err(_) => Err(Detail::NoMemory),
+            Err(_) => Err(NotRun::NoMemory),
         },
-        Err(fault) if fault.kind() == ErrorKind::InvalidData => Err(Detail::Usage),
-        Err(_) => Err(Detail::NoMemory),
+        Err(fault) if fault.kind() == ErrorKind::InvalidData => {
+            Err(NotRun::Usage(WordsFault::NoText))
+        }
+        Err(_) => Err(NotRun::NoMemory),
     }
 }
 
@@ -73,14 +80,30 @@ fn print_reason(rt: &HostRuntime, thing: &str, reason: Option<&str>) {
     }
 }
 
-// How a run ended, where it didn't end well.
+// That these words are no command, why, and what the command wants.
+fn print_usage(rt: &HostRuntime, words: &[String], fault: WordsFault<'_>) {
+    print_fault(rt, &Detail::Usage);
+    let _ = eprintln!(rt; "verifactu: {fault}");
+    print_form(rt, words);
+}
+
+// How a run ended, where it didn't end well, and what to do about it.
 fn print_end(rt: &HostRuntime, words: &[String], ended: &Ended) {
-    if ended.status != 0 {
-        print_fault(rt, &ended.detail);
-    }
     if matches!(ended.detail, Detail::Usage) {
-        print_form(rt, words);
+        print_usage(rt, words, fault_in(words));
+    } else if ended.status != 0 {
+        print_fault(rt, &ended.detail);
+        if let Some(step) = next_step(&ended.detail) {
+            let _ = eprintln!(rt; "verifactu: {step}");
+        }
     }
+}
+
+// Said as a command begins that sends to the practice agency.
+fn print_practice(rt: &HostRuntime) {
+    let _ = rt.stderr().write_all(
+        b"verifactu: practice agency: what it answers for is never sent to the tax agency\n",
+    );
 }
 
 // Why the parts failed, where they did. Commands that only look at a file don't make it: a mistyped name must not look like a
@@ -208,39 +231,6 @@ fn run_with<R: Threads + Wait + Sync, G: Agency + Send + Drop>(
     Ok((ended.status, outside.agency))
 }
 
-// The number of the first message rises from run to run: answers that an earlier run left are passed over.
-fn first_number(rt: &HostRuntime) -> u64 {
-    SystemClock::new(rt).now().saturating_mul(1_000_000)
-}
-
-// The agency behind these files. Nothing is opened yet.
-fn agency_behind<'a>(
-    rt: &'a HostRuntime,
-    files: PipeFiles<'_>,
-    issuer: Nif,
-) -> Result<PipeAgency<PipeSource<'a, HostRuntime>, PipeSink<'a, HostRuntime>>, NoMemory> {
-    let alloc = rt.alloc();
-    let source = PipeSource::at(rt, String::from_str(alloc, files.from)?);
-    let sink = PipeSink::at(rt, String::from_str(alloc, files.to)?);
-    PipeAgency::new(alloc, source, sink, issuer, Host::Real, first_number(rt))
-}
-
-// So many of them, for the further files. They are never asked.
-fn agencies_behind<'a>(
-    rt: &'a HostRuntime,
-    count: u16,
-    files: PipeFiles<'_>,
-    issuer: Nif,
-) -> Result<Vec<PipeAgency<PipeSource<'a, HostRuntime>, PipeSink<'a, HostRuntime>>>, NoMemory>
-    ensures { IfOk result (λ spares. vec_len spares ≡ count) }
-{
-    let mut spares = Vec::new(rt.alloc());
-    for made in 0..count {
-        spares.push(agency_behind(rt, files, issuer)?)?;
-    }
-    Ok(spares)
-}
-
 // So many practice agencies.
 fn practice_agencies(rt: &HostRuntime, count: u16) -> Result<Vec<PracticeAgency>, NoMemory>
     ensures { IfOk result (λ spares. vec_len spares ≡ count) }
@@ -263,30 +253,39 @@ fn run_by_pipe<R: Threads + Wait + Sync>(
     let agency = agency_behind(rt, files, issuer)?;
     let spares = agencies_behind(rt, posts_needed(words), files, issuer)?;
     let (status, agency) = run_with(handle, rt, words, agency, spares)?;
-    print_reason(rt, "the agency", agency.reason());
+    print_reason(rt, "the agency", agency.inner().reason());
     Ok(status)
 }
 
-// Runs the command with a practice agency.
+// Runs the command with a practice agency, and says so where one is asked.
 fn run_by_practice<R: Threads + Wait + Sync>(
     handle: &R,
     rt: &HostRuntime,
     words: &[String],
 ) -> Result<u8, NoMemory> {
+    if asks_to_send(words) {
+        print_practice(rt);
+    }
     let agency = PracticeAgency::new(rt.alloc());
     let spares = practice_agencies(rt, posts_needed(words))?;
     let (status, _) = run_with(handle, rt, words, agency, spares)?;
     Ok(status)
 }
 
-fn run_words<R: Threads + Wait + Sync>(
+fn run_words<'a, R: Threads + Wait + Sync>(
     handle: &R,
     rt: &HostRuntime,
-    words: &[String],
-) -> Result<u8, Detail> {
-    let (files, words) = split_option(words)?;
+    words: &'a [String],
+) -> Result<u8, NotRun<'a>> {
+    let (files, words) = match split_option(words) {
+        Ok(split) => split,
+        Err(fault) => return Err(NotRun::Usage(fault)),
+    };
     if files.is_some() && is_for_many(words) {
-        return Err(Detail::Usage);
+        return Err(NotRun::Usage(WordsFault::AgencyOfMany));
+    }
+    if let Some(status) = status_of_unfit(rt, files) {
+        return Ok(status);
     }
     let status = match (files, issuer_of(words)) {
         (Some(files), Some(issuer)) => run_by_pipe(handle, rt, words, files, issuer),
@@ -294,26 +293,32 @@ fn run_words<R: Threads + Wait + Sync>(
     };
     match status {
         Ok(status) => Ok(status),
-        Err(NoMemory) => Err(Detail::NoMemory),
+        Err(NoMemory) => Err(NotRun::NoMemory),
+    }
+}
+
+// Says why nothing was run, and gives the status of it.
+fn end_of(rt: &HostRuntime, words: &[String], reason: NotRun<'_>) -> u8 {
+    match reason {
+        NotRun::Usage(fault) => {
+            print_usage(rt, words, fault);
+            Ended::of(Detail::Usage).status
+        }
+        NotRun::NoMemory => {
+            print_fault(rt, &Detail::NoMemory);
+            Ended::of(Detail::NoMemory).status
+        }
     }
 }
 
 fn main(rt: HostRuntime) -> ExitCode {
     let words = match words_of(&rt) {
         Ok(words) => words,
-        Err(detail) => {
-            print_fault(&rt, &detail);
-            return ExitCode::from(status_of(&detail));
-        }
+        Err(reason) => return ExitCode::from(end_of(&rt, &[], reason)),
     };
-    match run_words(&rt, &rt, &words) {
-        Ok(status) => ExitCode::from(status),
-        Err(detail) => {
-            print_fault(&rt, &detail);
-            if matches!(detail, Detail::Usage) {
-                print_form(&rt, &words);
-            }
-            ExitCode::from(status_of(&detail))
-        }
-    }
+    let status = match run_words(&rt, &rt, &words) {
+        Ok(status) => status,
+        Err(reason) => end_of(&rt, &words, reason),
+    };
+    ExitCode::from(status)
 }

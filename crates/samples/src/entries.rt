@@ -239,18 +239,24 @@ fn entry_of(alloc: Global, what: Made) -> Result<Entry, Fail>
     }
 }
 
-const CODED: [(&str, Made, &[u8]); 4] = [
+type Coded = (&'static str, Made, &'static [u8]);
+
+const CODED: [Coded; 4] = [
     ("a sale", Made::Sale, &SALE),
     ("a rectification", Made::Rectified, &RECTIFIED),
     ("a cancellation", Made::Cancelled, &CANCELLED),
     ("notes", Made::Noted, &NOTED),
 ];
 
+fn has_bytes(alloc: Global, row: &Coded) -> Result<(), Fail> {
+    let entry = entry_of(alloc, row.1)?;
+    holds(is_coded(alloc, &entry, row.2)?, row.0)
+}
+
 #[test]
 fn entries_have_their_bytes(rt: HostRuntime) -> Result<(), Fail> {
-    for (name, what, bytes) in CODED {
-        let entry = entry_of(rt.alloc(), what)?;
-        holds(is_coded(rt.alloc(), &entry, bytes)?, name)?;
+    for row in &CODED {
+        has_bytes(rt.alloc(), row)?;
     }
     Ok(())
 }
@@ -259,10 +265,11 @@ fn entries_have_their_bytes(rt: HostRuntime) -> Result<(), Fail> {
 fn the_first_sale_is_written_in_73_bytes(rt: HostRuntime) -> Result<(), Fail> {
     let mut out = [0; 4096];
     let sale = sale(rt.alloc(), "21")?;
-    holds(fits(Version::One, &sale), "it fits")?;
+    if !fits(Version::One, &sale) {
+        return Err(Fail::from("it fits"));
+    }
     let n = write_entry(Version::One, &sale, &mut out);
-    holds(n == 73, "its length")?;
-    holds(out.starts_with(&SALE), "its bytes")
+    holds(n == 73 && out.starts_with(&SALE), "its bytes")
 }
 
 // The place of the first wrong field, None where the bytes are an entry's.
@@ -352,28 +359,28 @@ const OF_NOTED: [Change; 9] = [
     (24, 1, 22),
 ];
 
-// Each change names its field.
-fn are_named(alloc: Global, bytes: &[u8], changes: &[Change]) -> Result<bool, Fail> {
-    for (place, byte, at) in changes {
-        if fault_with(alloc, Version::One, bytes, *place, *byte)? != Some(*at) {
-            return Ok(false);
-        }
-    }
-    Ok(true)
+fn is_named(alloc: Global, bytes: &[u8], change: &Change, row: &str) -> Result<(), Fail> {
+    let at = fault_with(alloc, Version::One, bytes, change.0, change.1)?;
+    holds(at == Some(change.2), row)
 }
 
-// Each front of the bytes names its field.
-fn are_cut(alloc: Global, bytes: &[u8], cuts: &[(usize, usize)]) -> Result<bool, Fail> {
-    for (length, at) in cuts {
-        let front = bytes.get(..*length).ok_or("a front")?;
-        if fault(alloc, Version::One, front)? != Some(*at) {
-            return Ok(false);
-        }
+// Fails where a change doesn't name its field.
+fn are_named(alloc: Global, bytes: &[u8], changes: &[Change], row: &str) -> Result<(), Fail> {
+    for change in changes {
+        is_named(alloc, bytes, change, row)?;
     }
-    Ok(true)
+    Ok(())
 }
 
-const CUTS: [(usize, usize); 7] = [(0, 0), (1, 1), (5, 2), (9, 6), (26, 20), (40, 39), (72, 41)];
+fn is_cut(alloc: Global, bytes: &[u8], cut: &Cut) -> Result<(), Fail> {
+    let front = bytes.get(..cut.0).ok_or("a front")?;
+    holds(fault(alloc, Version::One, front)? == Some(cut.1), "a front")
+}
+
+// How many bytes are left, and the place of the field that is then wrong.
+type Cut = (usize, usize);
+
+const CUTS: [Cut; 7] = [(0, 0), (1, 1), (5, 2), (9, 6), (26, 20), (40, 39), (72, 41)];
 
 const CHANGES: [(&str, &[u8], &[Change]); 4] = [
     ("the sale", &SALE, &OF_SALE),
@@ -384,26 +391,39 @@ const CHANGES: [(&str, &[u8], &[Change]); 4] = [
 
 #[test]
 fn the_first_wrong_field_is_named(rt: HostRuntime) -> Result<(), Fail> {
-    let alloc = rt.alloc();
-    for (name, bytes, changes) in CHANGES {
-        holds(are_named(alloc, bytes, changes)?, name)?;
+    for (row, bytes, changes) in &CHANGES {
+        are_named(rt.alloc(), bytes, changes, row)?;
     }
-    holds(are_cut(alloc, &SALE, &CUTS)?, "the sale that is cut")?;
-    let mut more = SALE.to_vec(alloc)?;
+    Ok(())
+}
+
+#[test]
+fn a_front_and_more_bytes_are_no_entry(rt: HostRuntime) -> Result<(), Fail> {
+    for cut in &CUTS {
+        is_cut(rt.alloc(), &SALE, cut)?;
+    }
+    let mut more = Vec::from_slice(rt.alloc(), &SALE)?;
     more.push(0)?;
-    let at = fault(alloc, Version::One, &more)?;
+    let at = fault(rt.alloc(), Version::One, &more)?;
     holds(at == Some(73), "the sale and a byte")
 }
 
-// The bytes of a sale in version two have this line.
-fn has_line(alloc: Global, word: &str, line: &[u8]) -> Result<bool, Fail> {
+// The bytes of a sale in version two.
+fn new_bytes(alloc: Global, word: &str) -> Result<Vec<u8>, Fail> {
     let entry = sale(alloc, word)?;
-    let bytes = written(alloc, Version::Two, &entry)?;
-    Ok(bytes.len() == 76 && &bytes[19..31] == line)
+    written(alloc, Version::Two, &entry)
+}
+
+// The bytes of a sale in version two have this line.
+fn has_line(alloc: Global, word: &str, line: &[u8]) -> Result<(), Fail> {
+    let bytes = new_bytes(alloc, word)?;
+    holds(bytes.len() == 76 && &bytes[19..31] == line, word)
 }
 
 // The place, the byte that it is changed to, and the field that is then wrong.
-const OF_LINE: [(&str, usize, u8, Option<usize>); 6] = [
+type LineChange = (&'static str, usize, u8, Option<usize>);
+
+const OF_LINE: [LineChange; 6] = [
     ("no change", 99, 0, None),
     ("tax 0", 19, 0, Some(19)),
     ("tax 4", 19, 4, Some(19)),
@@ -422,28 +442,25 @@ const LINES: [(&str, [u8; 12]); 2] = [
 
 #[test]
 fn a_line_has_its_tax_its_class_and_its_rate_in_version_two(rt: HostRuntime) -> Result<(), Fail> {
-    let alloc = rt.alloc();
-    let fits = fits(Version::One, &sale(alloc, "03/700")?);
+    let fits = fits(Version::One, &sale(rt.alloc(), "03/700")?);
     holds(!fits, "version one")?;
-    for (word, line) in LINES {
-        holds(has_line(alloc, word, &line)?, word)?;
+    for (word, line) in &LINES {
+        has_line(rt.alloc(), word, line)?;
     }
     Ok(())
 }
 
-// The bytes of the sale in version two.
-fn new_bytes(alloc: Global) -> Result<Vec<u8>, Fail> {
-    let entry = sale(alloc, "21")?;
-    written(alloc, Version::Two, &entry)
+fn is_named_in(alloc: Global, bytes: &[u8], row: &LineChange) -> Result<(), Fail> {
+    let found = fault_with(alloc, Version::Two, bytes, row.1, row.2)?;
+    holds(found == row.3, row.0)
 }
 
 #[test]
 fn a_wrong_tax_class_or_rate_is_named(rt: HostRuntime) -> Result<(), Fail> {
-    let bytes = new_bytes(rt.alloc())?;
+    let bytes = new_bytes(rt.alloc(), "21")?;
     holds(head_of(&bytes) == head_of(&SALE), "the head")?;
-    for (name, place, byte, at) in OF_LINE {
-        let found = fault_with(rt.alloc(), Version::Two, &bytes, place, byte)?;
-        holds(found == at, name)?;
+    for row in &OF_LINE {
+        is_named_in(rt.alloc(), &bytes, row)?;
     }
     Ok(())
 }

@@ -54,27 +54,39 @@ const NO_HEADS: [&str; 8] = [
 
 #[test]
 fn a_head_is_written_and_read(rt: HostRuntime) -> Result<(), Fail> {
-    let alloc = rt.alloc();
     let issuer = issuer()?;
     let version = Version::Two;
-    let text = head_text(alloc, &issuer, version)?;
-    holds(text.as_slice() == HEAD.as_bytes(), "written")?;
-    let head = Head { issuer, version };
-    holds(read_head(alloc, text.as_slice()) == Ok(head), "read")?;
-    for line in NO_HEADS {
-        let fault = read_head(alloc, line.as_bytes()).err();
-        holds(fault == Some(LineFault::Shape), line)?;
-    }
-    let fault = read_head(alloc, b"{").err();
-    holds(fault == Some(LineFault::Json), "{")
+    let text = head_text(rt.alloc(), &issuer, version)?;
+    let is_read = read_head(rt.alloc(), HEAD.as_bytes()) == Ok(Head { issuer, version });
+    holds(is_read && text.as_slice() == HEAD.as_bytes(), HEAD)
 }
 
-// The entry has this text, is read of it, and has it again.
-fn is_line(alloc: Global, entry: &Entry, line: &str) -> Result<bool, Fail> {
+fn is_no_head(alloc: Global, line: &str, fault: LineFault) -> Result<(), Fail> {
+    let found = read_head(alloc, line.as_bytes()).err();
+    holds(found == Some(fault), line)
+}
+
+#[test]
+fn lines_of_no_head_are_named(rt: HostRuntime) -> Result<(), Fail> {
+    for line in &NO_HEADS {
+        is_no_head(rt.alloc(), line, LineFault::Shape)?;
+    }
+    is_no_head(rt.alloc(), "{", LineFault::Json)
+}
+
+// The entry has this text.
+fn has_text(alloc: Global, entry: &Entry, line: &str) -> Result<(), Fail> {
     let text = entry_text(alloc, entry)?;
-    let read = read_entry(alloc, Version::Two, &issuer()?, line.as_bytes());
-    let again = entry_text(alloc, &read.ok().ok_or("an entry")?)?;
-    Ok(text.as_slice() == line.as_bytes() && again.as_slice() == line.as_bytes())
+    holds(text.as_slice() == line.as_bytes(), line)
+}
+
+// The entry that is read of this text.
+fn entry_in(alloc: Global, line: &str) -> Result<Entry, Fail> {
+    let issuer = issuer()?;
+    match read_entry(alloc, Version::Two, &issuer, line.as_bytes()) {
+        Ok(entry) => Ok(entry),
+        Err(_) => Err(Fail::from("an entry")),
+    }
 }
 
 #[derive(Clone, Copy)]
@@ -95,7 +107,15 @@ fn entry_of(alloc: Global, what: Made) -> Result<Entry, Fail> {
     }
 }
 
-const LINES: [(Made, &str); 4] = [
+type Written = (Made, &'static str);
+
+// The entry has its text, is read of it, and has it again.
+fn is_line(alloc: Global, row: &Written) -> Result<(), Fail> {
+    has_text(alloc, &entry_of(alloc, row.0)?, row.1)?;
+    has_text(alloc, &entry_in(alloc, row.1)?, row.1)
+}
+
+const LINES: [Written; 4] = [
     (Made::TwoTaxes, TWO_TAXES),
     (Made::Rectified, RECTIFIED),
     (Made::Cancelled, CANCELLED),
@@ -104,9 +124,8 @@ const LINES: [(Made, &str); 4] = [
 
 #[test]
 fn entries_are_written_and_read(rt: HostRuntime) -> Result<(), Fail> {
-    for (what, line) in LINES {
-        let entry = entry_of(rt.alloc(), what)?;
-        holds(is_line(rt.alloc(), &entry, line)?, line)?;
+    for row in &LINES {
+        is_line(rt.alloc(), row)?;
     }
     Ok(())
 }
@@ -139,7 +158,9 @@ fn nested(alloc: Global, levels: usize) -> Result<Vec<u8>, Fail> {
 }
 
 // What stands in a line, and what stands in its place in a line of no entry.
-const WRONG: [(&str, &str, &str); 30] = [
+type Wrong = (&'static str, &'static str, &'static str);
+
+const WRONG: [Wrong; 30] = [
     (NOTED, "7", "\"7\""),
     (NOTED, "7", "7.0"),
     (NOTED, "7", "-0"),
@@ -199,37 +220,42 @@ fn has_fault(alloc: Global, line: &[u8], fault: LineFault, row: &str) -> Result<
 
 #[test]
 fn lines_of_no_entry_are_named(rt: HostRuntime) -> Result<(), Fail> {
-    let alloc = rt.alloc();
-    for line in NO_JSON {
-        has_fault(alloc, line.as_bytes(), LineFault::Json, line)?;
+    for line in &NO_JSON {
+        has_fault(rt.alloc(), line.as_bytes(), LineFault::Json, line)?;
     }
-    for line in NO_ENTRIES {
-        has_fault(alloc, line.as_bytes(), LineFault::Shape, line)?;
+    for line in &NO_ENTRIES {
+        has_fault(rt.alloc(), line.as_bytes(), LineFault::Shape, line)?;
     }
-    has_fault(alloc, b"\"\xff\"", LineFault::Json, "no UTF-8")
+    has_fault(rt.alloc(), b"\"\xff\"", LineFault::Json, "no UTF-8")
 }
 
-// Fails where one of the changes leaves a line of an entry, or none of the language.
-fn are_wrong(alloc: Global, changes: &[(&str, &str, &str)]) -> Result<(), Fail> {
-    for (text, old, new) in changes {
-        let line = with(alloc, text, old, new)?;
-        has_fault(alloc, line.as_bytes(), LineFault::Shape, line.as_str())?;
-    }
-    Ok(())
+// Fails where a change leaves a line of an entry, or none of the language.
+fn is_wrong(alloc: Global, change: &Wrong) -> Result<(), Fail> {
+    let line = with(alloc, change.0, change.1, change.2)?;
+    has_fault(alloc, line.as_bytes(), LineFault::Shape, line.as_str())
 }
 
-const NESTED: [(&str, usize, LineFault); 2] = [
+type Nested = (&'static str, usize, LineFault);
+
+const NESTED: [Nested; 2] = [
     ("200 levels", 200, LineFault::Json),
     ("100 levels", 100, LineFault::Shape),
 ];
 
+fn is_nested(alloc: Global, row: &Nested) -> Result<(), Fail> {
+    let line = nested(alloc, row.1)?;
+    has_fault(alloc, &line, row.2, row.0)
+}
+
 #[test]
 fn changed_and_nested_lines_are_named(rt: HostRuntime) -> Result<(), Fail> {
-    for (name, levels, fault) in NESTED {
-        let line = nested(rt.alloc(), levels)?;
-        has_fault(rt.alloc(), &line, fault, name)?;
+    for row in &NESTED {
+        is_nested(rt.alloc(), row)?;
     }
-    are_wrong(rt.alloc(), &WRONG)
+    for change in &WRONG {
+        is_wrong(rt.alloc(), change)?;
+    }
+    Ok(())
 }
 
 const IN_VERSION_ONE: [(&str, Option<LineFault>); 3] = [
@@ -240,9 +266,9 @@ const IN_VERSION_ONE: [(&str, Option<LineFault>); 3] = [
 
 #[test]
 fn a_line_of_another_tax_is_none_of_version_one(rt: HostRuntime) -> Result<(), Fail> {
-    for (line, fault) in IN_VERSION_ONE {
+    for (line, fault) in &IN_VERSION_ONE {
         let found = fault_in(rt.alloc(), Version::One, line.as_bytes())?;
-        holds(found == fault, line)?;
+        holds(found == *fault, line)?;
     }
     Ok(())
 }

@@ -34,19 +34,20 @@ fn invoiced(alloc: Global, num: &str, link: Link, seconds: u64) -> Result<Record
     Ok(Record::Alta(alta(issuer()?, id, draft, link, moment(seconds)?)))
 }
 
-// The record has this field text and this Huella.
-fn says(alloc: Global, record: &Record, text: &str, huella: &str) -> Result<bool, Fail> {
-    let has_text = field_text(alloc, record)?.as_slice() == text.as_bytes();
-    Ok(has_text && huella_text(&huella_of(record)).as_slice() == huella.as_bytes())
+// Fails where the record has another field text or Huella.
+fn says(alloc: Global, record: &Record, text: &str, huella: &str) -> Result<(), Fail> {
+    let own = field_text(alloc, record)?;
+    let has_huella = huella_text(&huella_of(record)).as_slice() == huella.as_bytes();
+    holds(has_huella && own.as_slice() == text.as_bytes(), text)
 }
 
-// The link of what comes behind this record. Fails where it has another field text or Huella.
-fn behind(alloc: Global, record: Record, text: &str, huella: &str) -> Result<Link, Fail> {
-    holds(says(alloc, &record, text, huella)?, text)?;
+// The link of what comes after this record. Fails where it has another field text or Huella.
+fn link_after(alloc: Global, record: Record, text: &str, huella: &str) -> Result<Link, Fail> {
+    says(alloc, &record, text, huella)?;
     Ok(after(&seal(record)))
 }
 
-// The cancellation of the second invoice, behind its record.
+// The cancellation of the second invoice, after its record.
 fn cancelled(link: Link) -> Result<Record, Fail> {
     let id = id("12345679/G34", "01-01-2024")?;
     Ok(Record::Anulacion(anulacion(issuer()?, id, link, moment(1_704_133_240)?)))
@@ -54,13 +55,11 @@ fn cancelled(link: Link) -> Result<Record, Fail> {
 
 #[test]
 fn the_published_examples(rt: HostRuntime) -> Result<(), Fail> {
-    let alloc = rt.alloc();
-    let first = invoiced(alloc, "12345678/G33", Link::First, 1_704_133_230)?;
-    let link = behind(alloc, first, FIRST_TEXT, FIRST)?;
-    let second = invoiced(alloc, "12345679/G34", link, 1_704_133_235)?;
-    let link = behind(alloc, second, SECOND_TEXT, SECOND)?;
-    let third = cancelled(link)?;
-    holds(says(alloc, &third, THIRD_TEXT, THIRD)?, THIRD_TEXT)
+    let first = invoiced(rt.alloc(), "12345678/G33", Link::First, 1_704_133_230)?;
+    let link = link_after(rt.alloc(), first, FIRST_TEXT, FIRST)?;
+    let second = invoiced(rt.alloc(), "12345679/G34", link, 1_704_133_235)?;
+    let link = link_after(rt.alloc(), second, SECOND_TEXT, SECOND)?;
+    says(rt.alloc(), &cancelled(link)?, THIRD_TEXT, THIRD)
 }
 
 #[test]

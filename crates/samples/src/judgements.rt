@@ -80,17 +80,23 @@ const OF_ALTAS: [OfAlta; 15] = [
     ("fix, S", true, false, None, true, Previo::S, Line::Correcto),
 ];
 
+fn is_judged(alloc: Global, row: &OfAlta) -> Result<(), Fail> {
+    let body = alta(alloc, DAY, row.4, row.5)?;
+    holds(judge(&past(row.1, row.2), row.3, &body) == row.6, row.0)
+}
+
 #[test]
 fn altas_are_judged(rt: HostRuntime) -> Result<(), Fail> {
-    for (name, held, gone, verdict, subsanacion, rechazo, line) in OF_ALTAS {
-        let body = alta(rt.alloc(), "01-01-2025", subsanacion, rechazo)?;
-        holds(judge(&past(held, gone), verdict, &body) == line, name)?;
+    for row in &OF_ALTAS {
+        is_judged(rt.alloc(), row)?;
     }
     Ok(())
 }
 
 // The table: whether the invoice is held, whether it is gone, the verdict, SinRegistroPrevio, and the line.
-const OF_ANULACIONES: [(&str, bool, bool, Option<Verdict>, bool, Line); 8] = [
+type OfAnulacion = (&'static str, bool, bool, Option<Verdict>, bool, Line);
+
+const OF_ANULACIONES: [OfAnulacion; 8] = [
     ("vetted", true, false, VET, false, VETTED),
     ("gone", false, true, None, false, GONE),
     ("gone, not registered", false, true, None, true, GONE),
@@ -101,11 +107,15 @@ const OF_ANULACIONES: [(&str, bool, bool, Option<Verdict>, bool, Line); 8] = [
     ("not registered", false, false, None, true, Line::Correcto),
 ];
 
+fn is_judged_so(row: &OfAnulacion) -> Result<(), Fail> {
+    let body = cancelled(DAY, row.4)?;
+    holds(judge(&past(row.1, row.2), row.3, &body) == row.5, row.0)
+}
+
 #[test]
 fn anulaciones_are_judged() -> Result<(), Fail> {
-    for (name, held, gone, verdict, sin_registro, line) in OF_ANULACIONES {
-        let body = cancelled("01-01-2025", sin_registro)?;
-        holds(judge(&past(held, gone), verdict, &body) == line, name)?;
+    for row in &OF_ANULACIONES {
+        is_judged_so(row)?;
     }
     Ok(())
 }
@@ -150,12 +160,15 @@ const ARRIVALS: [Arrival; 6] = [
 ];
 
 // Fails where a record that arrives meets something else.
-fn arrives(alloc: Global, pairs: &mut Pairs, arrival: Arrival) -> Result<(), Fail> {
-    let (name, day, cancels, flag, n, expected) = arrival;
-    let verdicts = verdicts(alloc)?;
-    let sealed = record(alloc, day, cancels, flag, n)?;
-    let met = pairs.deliver_record(alloc, &verdicts, &sealed)?;
-    holds(met == expected, name)
+fn arrives(
+    alloc: Global,
+    pairs: &mut Pairs,
+    verdicts: &Verdicts,
+    row: &Arrival,
+) -> Result<(), Fail> {
+    let sealed = record(alloc, row.1, row.2, row.3, row.4)?;
+    let met = pairs.deliver_record(alloc, verdicts, &sealed)?;
+    holds(met == row.5, row.0)
 }
 
 const PAST: Past = Past {
@@ -166,13 +179,13 @@ const PAST: Past = Past {
 
 #[test]
 fn records_are_delivered(rt: HostRuntime) -> Result<(), Fail> {
+    let verdicts = verdicts(rt.alloc())?;
     let mut pairs = Pairs::new(rt.alloc());
-    for arrival in ARRIVALS {
-        arrives(rt.alloc(), &mut pairs, arrival)?;
+    for arrival in &ARRIVALS {
+        arrives(rt.alloc(), &mut pairs, &verdicts, arrival)?;
     }
     let id = id("A-1", DAY)?;
-    holds(pairs.past_of(&id) == PAST, "the past of the invoice")?;
-    holds(pairs.len() == 5, "five records")
+    holds(pairs.past_of(&id) == PAST && pairs.len() == 5, "the past")
 }
 
 // A cancellation that finds nothing is delivered to an agency that has processed nothing.

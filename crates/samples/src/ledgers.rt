@@ -79,7 +79,9 @@ fn sums(ledger: &Ledger, month: u8) -> Result<(i64, i64), Fail> {
 
 const REFUSED: Line = Line::Incorrecto(Cause::Vet(4100));
 
-const STEPS: [(&str, Step, i64, i64); 6] = [
+type Row = (&'static str, Step, i64, i64);
+
+const STEPS: [Row; 6] = [
     ("the sale", Step::Sale(10_000), 10_000, 2_100),
     ("the fix", Step::Fix(20_000), 20_000, 4_200),
     ("its line", Step::Note(Line::Correcto), 20_000, 4_200),
@@ -88,14 +90,22 @@ const STEPS: [(&str, Step, i64, i64); 6] = [
     ("that refused", Step::Note(REFUSED), 10_000, 2_100),
 ];
 
+fn leads_to(alloc: Global, ledger: &mut Ledger, row: &Row) -> Result<(), Fail> {
+    push(alloc, ledger, row.1)?;
+    let are_sums = sums(ledger, 1)? == (row.2, row.3) && sums(ledger, 2)? == (0, 0);
+    holds(are_sums, row.0)
+}
+
+fn empty(alloc: Global) -> Result<Ledger, Fail> {
+    let issuer = issuer()?;
+    Ok(Ledger::of(alloc, State::empty(alloc, &issuer, Version::One))?)
+}
+
 #[test]
 fn a_refused_fix_brings_the_sale_back(rt: HostRuntime) -> Result<(), Fail> {
-    let alloc = rt.alloc();
-    let mut ledger = Ledger::of(alloc, State::empty(alloc, &issuer()?, Version::One))?;
-    for (name, step, base, tax) in STEPS {
-        push(alloc, &mut ledger, step)?;
-        holds(sums(&ledger, 1)? == (base, tax), name)?;
-        holds(sums(&ledger, 2)? == (0, 0), name)?;
+    let mut ledger = empty(rt.alloc())?;
+    for row in &STEPS {
+        leads_to(rt.alloc(), &mut ledger, row)?;
     }
     Ok(())
 }

@@ -78,18 +78,24 @@ const FIRST: &[u8; 64] = b"D88B42F8D11C4EA2112502EC992F055A7E94F796D67095359B946
 
 const OF_IGIC: &[u8; 64] = b"357E582BB1783E5B1657FEB345467B88EA84552B9B1E6CC279FDFB2911BCDD5E";
 
-const FIRST_SALES: [(&str, Version, &str, u64, &[u8; 64]); 3] = [
+type FirstSale = (&'static str, Version, &'static str, u64, &'static [u8; 64]);
+
+const FIRST_SALES: [FirstSale; 3] = [
     ("in version 1", Version::One, "21", 73, FIRST),
     ("in version 2", Version::Two, "21", 76, FIRST),
     ("of another tax", Version::Two, "03/700", 76, OF_IGIC),
 ];
 
+fn is_first(alloc: Global, row: &FirstSale) -> Result<(), Fail> {
+    let (huella, counts) = first_sale(alloc, row.1, row.2)?;
+    let are_right = counts == (1, 1, 1, row.3, true);
+    holds(huella == *row.4 && are_right, row.0)
+}
+
 #[test]
 fn a_sale_takes_one_page_and_73_or_76_bytes(rt: HostRuntime) -> Result<(), Fail> {
-    for (name, version, word, bytes, wanted) in FIRST_SALES {
-        let (huella, counts) = first_sale(rt.alloc(), version, word)?;
-        let are_right = counts == (1, 1, 1, bytes, true);
-        holds(huella == *wanted && are_right, name)?;
+    for row in &FIRST_SALES {
+        is_first(rt.alloc(), row)?;
     }
     Ok(())
 }

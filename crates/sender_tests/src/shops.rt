@@ -2,7 +2,7 @@
 use agency_port::{Agency, PracticeAgency};
 use agency_rules::{Fates, Plan, PlannedFate, Verdicts};
 use amounts::Cents;
-use batches::Huellas;
+use batches::HuellaList;
 use invoice_kinds::Kind;
 use once_world::PlainOutbox;
 use parties::Nif;
@@ -89,9 +89,9 @@ pub fn shop_of(alloc: Global, sales: u32) -> Result<PlainOutbox, Fail> {
 }
 
 /// The Huellas of the first records of a shop that wait.
-pub fn waiting_huellas(alloc: Global, shop: &PlainOutbox, max: u16) -> Result<Huellas, Fail> {
+pub fn waiting_huellas(alloc: Global, shop: &PlainOutbox, max: u16) -> Result<HuellaList, Fail> {
     let records = shop.state().waiting_records(alloc, max)?;
-    Ok(Huellas::of(alloc, &records)?)
+    Ok(HuellaList::of(alloc, &records)?)
 }
 
 /// An agency that has processed nothing, whose calls these fates befall.

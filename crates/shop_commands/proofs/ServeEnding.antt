@@ -29,6 +29,7 @@ use Rattle.sender.specs.declared.answers.DrainFault.{DrainFault}
 use Rattle.sender.specs.declared.answers.DrainFault.TheVariants as drain
 use Rattle.sender.specs.declared.draining.TheConstants.{MAX_LINK_FAULTS}
 use Rattle.recovery.specs.Opening.{IsFound}
+use Rattle.shop_core.specs.Answer.Requests.{Asked}
 use Rattle.shop_core.specs.File.Files.{StandsFor}
 use Rattle.shop_core.specs.History.{History, recs, noted}
 use Rattle.shop_core.specs.Rising.{SerialsRise}
@@ -64,7 +65,7 @@ module _ {D C Z G : Type 0} (issuer : List ℕ) (clock : Option (ℕ × ℕ)) (s
 
   abbrev Ends : Detail → Type 0
   Ends how = SpeechEnds x.how x.replies o.answer (length (noted o.end)) (length (recs o.end))
-      (printed x.how x.text (chain_line (length (recs o.end)) (length (noted o.end)))) s c.sink how
+      (printed x.how x.answers (chain_line (length (recs o.end)) (length (noted o.end)))) s c.sink how
 
   failed : (how : Detail) → Ends how → (n m : ℕ) → how ≡ detail.Undelivered n m → Failing n m
   failed how (undelivered a b all e w) n m is =
@@ -86,7 +87,7 @@ module _ {D C Z G : Type 0} (issuer : List ℕ) (clock : Option (ℕ × ℕ)) (s
       IsTrue c.agency.kind.keeps_rules → AgreesAtStart c.agency o.start → (how ≡ detail.Done) ⊎ (how ≡ detail.NoMemory)
   completed how (done is all e same w) read none keeps agree = inl refl
   completed how (no_memory w) read none keeps agree = inr refl
-  completed how (read_fault rose all e same w) read none keeps agree = absurd (read rose)
+  completed how (read_fault h rose all e same w) read none keeps agree = absurd (read rose)
   completed how (write_fault all e same w) read none keeps agree = absurd (none.sink w.risen)
   completed how (undelivered n m all e w) read none keeps agree =
       let u = f.gives_up n m e in
@@ -113,8 +114,8 @@ module _ {D C Z G : Type 0} (issuer : List ℕ) (clock : Option (ℕ × ℕ)) (s
           (how ≡ detail.Contradiction evidence) ⊎ (how ≡ detail.NoMemory) ⊎ (how ≡ detail.DiskFault)
       by_answer how (done i all e same w) (inl is) = absurd (let v = sym e ∙ is in cc)
       by_answer how (done i all e same w) (inr none) = absurd (let v = sym e ∙ none in cc)
-      by_answer how (read_fault i all e same w) (inl is) = absurd (let v = sym e ∙ is in cc)
-      by_answer how (read_fault i all e same w) (inr none) = absurd (let v = sym e ∙ none in cc)
+      by_answer how (read_fault h i all e same w) (inl is) = absurd (let v = sym e ∙ is in cc)
+      by_answer how (read_fault h i all e same w) (inr none) = absurd (let v = sym e ∙ none in cc)
       by_answer how (write_fault all e same w) (inl is) = absurd (let v = sym e ∙ is in cc)
       by_answer how (write_fault all e same w) (inr none) = absurd (let v = sym e ∙ none in cc)
       by_answer how (undelivered n m all e w) (inl is) = absurd (let v = sym e ∙ is in cc)
@@ -158,7 +159,7 @@ came_read left now l (Err end) h = by_end end h.read
     by_end speech.Ended r = (r.taken, r.consumed)
     by_end speech.ReadFault r = (r.taken, r.consumed)
     by_end speech.WriteFault r = (r.taken, r.consumed)
-    by_end speech.NoMemory r = (r.taken, r.consumed)
+    by_end speech.NoMemory r = (r.read.taken, r.read.consumed)
     by_end speech.Stopped r = (r.taken, r.consumed)
 
 -- an opened file, before its dialogue and behind it
@@ -206,10 +207,11 @@ module _ {D C Z G : Type 0} (h : StoreKind D C) (issuer : List ℕ) (disk : D) (
 
     -- its lines were answered
     pub talked : (closed : SpeechEnd) (end : Detail) → s ≡ source_since from.left from.source_faults now.left now.source_faults →
-        Closes how closed → IsWritten closed k (printed how run.speech.text (chain_line records lines)) →
-        ((began : SpeechEnd) (replies : Replies) (text : List ℕ) (s : Sources) (k : Sinks) → Closes began closed →
-        AreRepliesOf began replies → lacked ≡ list_any is_no_memory replies → (began ≡ speech.ReadFault → SourceRose s) →
-        IsWritten closed k text → SpeechEnds began replies answer lines records text s k end) →
+        Closes how closed → IsWritten closed k (printed how run.speech.answers (chain_line records lines)) →
+        ((began : SpeechEnd) (asks : List Asked) (replies : Replies) (answers texts : List (List ℕ)) (s : Sources) (k : Sinks) →
+        Closes began closed → AreRepliesOf began asks replies answers → lacked ≡ list_any is_no_memory replies →
+        (began ≡ speech.ReadFault → SourceRose s) → IsWritten closed k texts →
+        SpeechEnds began replies answer lines records texts s k end) →
         FileServe issuer None clock s opened_call end
     talked closed end same closes written ends =
         let x = run.speech in
@@ -227,10 +229,10 @@ module _ {D C Z G : Type 0} (h : StoreKind D C) (issuer : List ℕ) (disk : D) (
         in
         let spoken : IsSpeech clock s run.tills x = subst (λ (v : Sources). IsSpeech clock v run.tills x) (sym same) run.spoken in
         let closes' : Closes x.how closed = subst (λ (b : SpeechEnd). Closes b closed) (sym run.how_is) closes in
-        let written' : IsWritten closed k (printed x.how x.text (chain_line records lines)) =
-        subst (λ (b : SpeechEnd). IsWritten closed k (printed b x.text (chain_line records lines))) (sym run.how_is) written in
+        let written' : IsWritten closed k (printed x.how x.answers (chain_line records lines)) =
+        subst (λ (b : SpeechEnd). IsWritten closed k (printed b x.answers (chain_line records lines))) (sym run.how_is) written in
         inr (speech_done issuer clock s opened_call x _ facts spoken run.are end
-        (ends x.how x.replies (printed x.how x.text (chain_line records lines)) s k closes' spoken.replies_are run.lacked_is
+        (ends x.how x.asks x.replies x.answers (printed x.how x.answers (chain_line records lines)) s k closes' spoken.replies_are run.lacked_is
         spoken.read_fault written'))
 
 -- what an opening left, said of the same store with another clock
@@ -312,7 +314,7 @@ module _ {D C Z G : Type 0} (issuer : List ℕ) (line said : Option (ℕ × ℕ)
           o.stop h.crashes.stop (inr disk)
 
       by_end : (how : Detail) → SpeechEnds x.how x.replies o.answer (length (noted o.end)) (length (recs o.end))
-          (printed x.how x.text (chain_line (length (recs o.end)) (length (noted o.end)))) s c.sink how →
+          (printed x.how x.answers (chain_line (length (recs o.end)) (length (noted o.end)))) s c.sink how →
           how ≡ detail.DiskFault → DiskRose c.disk
       by_end how (disk_fault memory kept some w) is = rose some
       by_end how _ is = absurd cc

@@ -1,14 +1,16 @@
 -- How `serve` ends.
-use Rattle.std.specs.Prelude.{◌≡◌, ◌⊎◌, ℕ, true, false, List, ◌++◌, length, IsTrue, Option, Result, Ok, Err}
+use Rattle.std.specs.Prelude.{◌≡◌, ◌⊎◌, ℕ, true, false, List, [], ◌∷◌, ◌++◌, length, IsTrue, Option, Result, Ok, Err}
 use Rattle.std.specs.Io.KnownBytes.{Consumes}
 use Rattle.std.specs.List.{list_any, range_with_len}
 use Rattle.agency_port.specs.declared.turns.Evidence.{Evidence}
 use Rattle.agency_rules.specs.Plans.{plain}
 use Rattle.chain_disk.specs.Disks.{DiskRose}
 use Rattle.chain_store.specs.Replies.{AllReplied, Replies, is_disk_fault, is_no_memory}
+use Rattle.counter.specs.Speech.{FailedAtLast, TookToLast}
 use Rattle.counter.specs.declared.speaking.SpeechEnd.{SpeechEnd}
 use Rattle.counter.specs.declared.speaking.SpeechEnd.TheVariants as speech
-use Rattle.ports.specs.Sinks.{FailedIn, Sinks, Wrote, WrotePart}
+use Rattle.dialogue.specs.Protocol.{written_for}
+use Rattle.ports.specs.Sinks.{Sinks, Wrote}
 use Rattle.ports.specs.Sources.{SourceRose, Sources}
 use Rattle.record_codec.specs.declared.entry.TheConstants.{LAST_TILL}
 use Rattle.report.specs.Pieces.{chain_line}
@@ -31,13 +33,13 @@ use Rattle.shop_drain.specs.Opening.{NotOpened}
 use Rattle.shop_dialogue.specs.Talking.{IsSpeech, Speech}
 use Rattle.shop_drain.specs.declared.posts.Post.{Post}
 
--- what is printed: the answers, and the chain line behind a source that was read to its end
-abbrev pub printed : SpeechEnd → List ℕ → List ℕ → List ℕ
-printed speech.Ended text chain = text ++ chain
-printed speech.ReadFault text chain = text
-printed speech.WriteFault text chain = text
-printed speech.NoMemory text chain = text
-printed speech.Stopped text chain = text
+-- what is printed: the answers, one after another, and the chain line behind a source that was read to its end
+abbrev pub printed : SpeechEnd → List (List ℕ) → List ℕ → List (List ℕ)
+printed speech.Ended answers chain = answers ++ chain ∷ []
+printed speech.ReadFault answers chain = answers
+printed speech.WriteFault answers chain = answers
+printed speech.NoMemory answers chain = answers
+printed speech.Stopped answers chain = answers
 
 -- how it ends once the chain line is written, which comes behind the end of the source alone
 abbrev pub Closes : SpeechEnd → SpeechEnd → Type 0
@@ -64,31 +66,33 @@ end_of speech.WriteFault noted_count records_count answer = sent_end noted_count
 end_of speech.NoMemory noted_count records_count answer = detail.NoMemory
 end_of speech.Stopped noted_count records_count answer = detail.DiskFault
 
--- How it ends, by the replies and the sender's answer, by how the reading ended, and by what the sink took of the text: want of
+-- How it ends, by the replies and the sender's answer, by how the reading ended, and by what the sink took of the texts: want of
 -- memory before a fault of the disk, that before a contradiction and an undelivered drain, and these before a fault of the source
 -- or of the sink. It is done only where the source was read to its end and all records have noted lines.
 pub data SpeechEnds (how : SpeechEnd) (replies : Replies) (answer : Result (Unit {0}) DrainFault) (noted_count records_count : ℕ)
-    (text : List ℕ) (s : Sources) (k : Sinks) : Detail → Type 0 where
-  done : how ≡ speech.Ended → AllReplied replies → answer ≡ Ok tt → noted_count ≡ records_count → Wrote k text →
-      SpeechEnds how replies answer noted_count records_count text s k detail.Done
-  read_fault : SourceRose s → AllReplied replies → answer ≡ Ok tt → noted_count ≡ records_count → Wrote k text →
-      SpeechEnds how replies answer noted_count records_count text s k detail.ReadFault
-  write_fault : AllReplied replies → answer ≡ Ok tt → noted_count ≡ records_count → FailedIn k text →
-      SpeechEnds how replies answer noted_count records_count text s k detail.WriteFault
-  undelivered : (n r : ℕ) → AllReplied replies → answer ≡ Err (drain.Undelivered n r) → Wrote k text ⊎ FailedIn k text →
-      SpeechEnds how replies answer noted_count records_count text s k (detail.Undelivered noted_count records_count)
+    (texts : List (List ℕ)) (s : Sources) (k : Sinks) : Detail → Type 0 where
+  done : how ≡ speech.Ended → AllReplied replies → answer ≡ Ok tt → noted_count ≡ records_count → Wrote k (written_for texts) →
+      SpeechEnds how replies answer noted_count records_count texts s k detail.Done
+  read_fault : how ≡ speech.ReadFault → SourceRose s → AllReplied replies → answer ≡ Ok tt → noted_count ≡ records_count →
+      Wrote k (written_for texts) → SpeechEnds how replies answer noted_count records_count texts s k detail.ReadFault
+  write_fault : AllReplied replies → answer ≡ Ok tt → noted_count ≡ records_count → FailedAtLast k texts →
+      SpeechEnds how replies answer noted_count records_count texts s k detail.WriteFault
+  undelivered : (n r : ℕ) → AllReplied replies → answer ≡ Err (drain.Undelivered n r) →
+      Wrote k (written_for texts) ⊎ FailedAtLast k texts →
+      SpeechEnds how replies answer noted_count records_count texts s k (detail.Undelivered noted_count records_count)
   contradiction : (evidence : Evidence) → AllReplied replies → answer ≡ Err (drain.Contradiction evidence) →
-      Wrote k text ⊎ FailedIn k text →
-      SpeechEnds how replies answer noted_count records_count text s k (detail.Contradiction evidence)
+      Wrote k (written_for texts) ⊎ FailedAtLast k texts →
+      SpeechEnds how replies answer noted_count records_count texts s k (detail.Contradiction evidence)
   disk_fault : list_any is_no_memory replies ≡ false → sender_lacks_memory answer ≡ false →
-      (list_any is_disk_fault replies ≡ true) ⊎ IsDiskAnswer answer → Wrote k text ⊎ FailedIn k text →
-      SpeechEnds how replies answer noted_count records_count text s k detail.DiskFault
-  no_memory : WrotePart k text → SpeechEnds how replies answer noted_count records_count text s k detail.NoMemory
+      (list_any is_disk_fault replies ≡ true) ⊎ IsDiskAnswer answer → Wrote k (written_for texts) ⊎ FailedAtLast k texts →
+      SpeechEnds how replies answer noted_count records_count texts s k detail.DiskFault
+  no_memory : Wrote k (written_for texts) ⊎ TookToLast k texts →
+      SpeechEnds how replies answer noted_count records_count texts s k detail.NoMemory
 
 -- how it ends, for this day of the shop
 pub record EndsAsSpoken {D C Z G : Type 0} (d : Day) (x : Speech) (s : Sources) (c : Around D C Z G) (end : Detail) : Type 0 where
   pub cause : SpeechEnds x.how x.replies d.answer (length (noted d.end)) (length (recs d.end))
-      (printed x.how x.text (chain_line (length (recs d.end)) (length (noted d.end)))) s c.sink end
+      (printed x.how x.answers (chain_line (length (recs d.end)) (length (noted d.end)))) s c.sink end
   pub sender : TellsOfSender d c.agency.before end
   -- where no device fails and the agency keeps its rules and agrees, it is done, or memory was wanting
   pub complete : (SourceRose s → ⊥) → NothingRose c.sink c.disk c.agency → IsTrue d.kind.keeps_rules →

@@ -1,16 +1,18 @@
 // The command `serve`: opens the file, begins the agency's session, and answers the lines of the source one by one, with a sender
 // beside, until the source ends. Then it drains, and prints the chain line.
-ghost use Rattle.std.specs.Prelude.{◌≡◌, ◌≤◌, ◌++◌, ℕ, List, length, Option, OnOk, None};
+ghost use Rattle.std.specs.Prelude.{◌≡◌, ◌≤◌, ◌∷◌, ◌++◌, [], ℕ, List, length, Option, OnOk, None};
 ghost use Rattle.std.specs.List.{list_any};
 ghost use Rattle.chain_store.specs.Replies.{Replies, is_no_memory};
 ghost use Rattle.chain_store.specs.Store.{Ready, journal_of};
 ghost use Rattle.counter.specs.Speech.{AreRepliesOf, ComesFirst, IsCause, IsWritten, clock_first};
 ghost use Rattle.counter.specs.declared.speaking.SpeechEnd.TheVariants as speech;
+ghost use Rattle.dialogue.specs.Protocol.{written_for};
 ghost use Rattle.journal.specs.Journal.{stopped_of};
 ghost use Rattle.ports.specs.Sinks.{Sinks, Wrote, this_sink};
 ghost use Rattle.ports.specs.Sources.{SourceRose, Sources, this_source};
 ghost use Rattle.report.specs.Pieces.{chain_line};
 ghost use Rattle.report.specs.Status.{status_of};
+ghost use Rattle.shop_core.specs.Answer.Requests.{Asked};
 ghost use Rattle.shop_core.specs.History.{noted, recs};
 ghost use Rattle.till_calls.specs.Root.{parts_of};
 ghost use Rattle.shop_drain.specs.Devices.{around_in, this_call};
@@ -219,10 +221,10 @@ where
 // Writes the chain line behind a source that was read to its end.
 fn close_speech<K: Sink>(alloc: Global, how: SpeechEnd, state: &State, sink: &mut K) -> SpeechEnd
     ensures closes { Closes how result }
-    ensures printed { (taken : Option (List ℕ)) (faults : ℕ) (text : List ℕ) →
-        IsWritten how (sink_to taken faults (K.taken sink.old) (K.faults sink.old)) text → faults ≤ K.faults sink.old →
+    ensures printed { (taken : Option (List ℕ)) (faults : ℕ) (answers : List (List ℕ)) →
+        IsWritten how (sink_to taken faults (K.taken sink.old) (K.faults sink.old)) answers → faults ≤ K.faults sink.old →
         IsWritten result (sink_to taken faults (K.taken sink.new) (K.faults sink.new))
-        (spec.printed how text (chain_line (length (recs state.now.entries)) (length (noted state.now.entries)))) }
+        (spec.printed how answers (chain_line (length (recs state.now.entries)) (length (noted state.now.entries)))) }
 {
     match how {
         SpeechEnd::Ended => write_chain(alloc, state, sink),
@@ -235,10 +237,10 @@ fn close_speech<K: Sink>(alloc: Global, how: SpeechEnd, state: &State, sink: &mu
 
 fn write_chain<K: Sink>(alloc: Global, state: &State, sink: &mut K) -> SpeechEnd
     ensures closes { Closes speech.Ended result }
-    ensures written { (taken : Option (List ℕ)) (faults : ℕ) (text : List ℕ) →
-        Wrote (sink_to taken faults (K.taken sink.old) (K.faults sink.old)) text → faults ≤ K.faults sink.old →
+    ensures written { (taken : Option (List ℕ)) (faults : ℕ) (answers : List (List ℕ)) →
+        Wrote (sink_to taken faults (K.taken sink.old) (K.faults sink.old)) (written_for answers) → faults ≤ K.faults sink.old →
         IsWritten result (sink_to taken faults (K.taken sink.new) (K.faults sink.new))
-        (text ++ chain_line (length (recs state.now.entries)) (length (noted state.now.entries))) }
+        (answers ++ chain_line (length (recs state.now.entries)) (length (noted state.now.entries)) ∷ []) }
 {
     match turns_text(alloc, &Turns::new(alloc), state.records(), state.noted()) {
         Err(_) => SpeechEnd::NoMemory,
@@ -253,10 +255,10 @@ fn write_chain<K: Sink>(alloc: Global, state: &State, sink: &mut K) -> SpeechEnd
 // contradiction and an undelivered drain, and these before a fault of the source or of the sink.
 fn speech_end(how: SpeechEnd, lacked: bool, sent: &Result<(), DrainFault>, state: &State) -> Detail
     requires counts { OnOk sent.now (length (noted state.now.entries) ≡ length (recs state.now.entries)) }
-    ensures { (began : SpeechEnd) (replies : Replies) (text : List ℕ) (s : Sources) (k : Sinks) → Closes began how →
-        AreRepliesOf began replies → lacked ≡ list_any is_no_memory replies → (began ≡ speech.ReadFault → SourceRose s) →
-        IsWritten how k text → SpeechEnds began replies sent.now (length (noted state.now.entries))
-        (length (recs state.now.entries)) text s k result }
+    ensures { (began : SpeechEnd) (asks : List Asked) (replies : Replies) (answers texts : List (List ℕ)) (s : Sources) (k : Sinks) →
+        Closes began how → AreRepliesOf began asks replies answers → lacked ≡ list_any is_no_memory replies →
+        (began ≡ speech.ReadFault → SourceRose s) → IsWritten how k texts →
+        SpeechEnds began replies sent.now (length (noted state.now.entries)) (length (recs state.now.entries)) texts s k result }
 {
     if lacked {
         return Detail::NoMemory;

@@ -11,6 +11,7 @@ use Rattle.counter.specs.declared.speaking.SpeechEnd.{SpeechEnd}
 use Rattle.counter.specs.declared.speaking.SpeechEnd.TheVariants as speech
 use Rattle.dialogue.specs.Protocol.{Dialogue, clock_said}
 use Rattle.dialogue.specs.declared.hear.Task.{Task}
+use Rattle.line_reader.specs.Lists.{InputLine}
 use Rattle.ports.specs.Sources.{SourceRose, Sources}
 use Rattle.record_codec.specs.declared.entry.TheConstants.{LAST_TILL}
 use Rattle.script.specs.declared.forms.Form.{Form}
@@ -24,27 +25,27 @@ use Rattle.sender_beside.specs.Days.{TillReplies, shop_day}
 use Rattle.sender_session.specs.Kinds.{StoreKind}
 use Rattle.sender_beside.specs.Tills.{DayRun}
 
--- What was said at a shop's counter: the lines that were read whole, and what may be said after them; what they say to later
--- lines; the commands among them, the replies to these, and what is written for all of them; and how it ended.
+-- What was said at a shop's counter: the lines that were read, and what may be said after them; what they say to later lines; the
+-- commands among them, the replies to these, and what is written for each of them; and how it ended.
 pub record Speech : Type 0 where
-  pub lines : List (List ℕ)
+  pub lines : List InputLine
   pub form : Form
   pub before : List Meaning
   pub asks : List Asked
   pub replies : Replies
-  pub text : List ℕ
+  pub answers : List (List ℕ)
   pub how : SpeechEnd
 
 -- The lines are those of the source, one after another; what is written is the answer to each; each till was told its own of the
--- replies, in this order; and this is the clock line among them, or none.
+-- replies, in this order, and the first fault of the disk is the last of them; and this is the clock line among them, or none.
 pub record IsSpeech (clock : Option (ℕ × ℕ)) (s : Sources) (tills : List TillReplies) (x : Speech) : Type 0 where
-  pub dialogue : Dialogue x.lines x.form x.before x.asks x.replies x.text
+  pub dialogue : Dialogue x.lines x.form x.before x.asks x.replies x.answers
   pub pairs : length x.replies ≡ length x.asks
   pub clock_is : clock_said x.before ≡ clock
   pub of_tills : AllByRecursion IsOfTill x.asks
   pub told : AllByRecursion (λ (t : TillReplies). t.replies ≡ replies_of t.till x.asks x.replies) tills
   pub read : IsRead x.how s.left s.left_after x.lines
-  pub replies_are : AreRepliesOf x.how x.replies
+  pub replies_are : AreRepliesOf x.how x.asks x.replies x.answers
   pub read_fault : x.how ≡ speech.ReadFault → SourceRose s
 
 -- The first line that is answered has come from a source, or an end ahead of it: the source, which had so much to give at first and
@@ -79,6 +80,6 @@ pub record CounterRun {D C : Type 0} (h : StoreKind D C) (root : Root C) (new : 
   }) tills speech
   pub are : map (λ (t : TillReplies). t.till) tills ≡ range_with_len 1 LAST_TILL
   pub lacked_is : lacked ≡ list_any is_no_memory speech.replies
-  pub written : IsWritten how (sink_since from now) speech.text
+  pub written : IsWritten how (sink_since from now) speech.answers
   pub sink_later : from.sink_faults ≤ now.sink_faults
   pub run : DayRun h root new (shop_day h.coming speech.asks root new tills kind opened after answer)

@@ -10,7 +10,7 @@ use chain_store::Store;
 use invoice_kinds::Kind;
 use journal::{Journal, StoreFault};
 use parties::Nif;
-use ports::{Clock, CountingClock};
+use ports::{Clock, CountingClock, NoMemory};
 use record_codec::Version;
 use record_fields::{Draft, Refs};
 use rows::holds;
@@ -20,7 +20,7 @@ use std::alloc::Global;
 use std::sync::Wait;
 use std::test::Fail;
 use tax_lines::{Breakdown, Class, LineKey, TaxLine};
-use till_calls::{Shop, Started};
+use till_calls::{Question, Shop, Started};
 
 // 2025-01-01, 10:00 on the peninsular clock.
 const TEN: u64 = 1_735_722_000;
@@ -62,6 +62,22 @@ fn begun<D: Disk + Drop, C: Clock + Drop>(alloc: Global, disk: D, clock: C) -> O
     }
 }
 
+// How many records are there?
+struct Records;
+
+impl Question for Records {
+    type Learnt = u32;
+
+    ghost use Rattle.std.specs.Prelude.{◌≡◌, length};
+    ghost use Rattle.shop_core.specs.History.{recs};
+
+    ghost learns = { λ question version issuer entries learnt. learnt ≡ length (recs entries) };
+
+    fn learn(&self, _alloc: Global, state: &State) -> Result<u32, NoMemory> {
+        Ok(state.records())
+    }
+}
+
 // What two tills were told, one after the other, and the store at the end.
 #[derive(Drop)]
 struct Ran<D: Disk, C: Clock> {
@@ -70,6 +86,8 @@ struct Ran<D: Disk, C: Clock> {
     again: Result<Reply, StoreFault>,
     // How many items till 2 knew of before till 1 was answered, and behind that, when it had asked for nothing.
     seen: (u64, u64),
+    // How many records till 2 saw then.
+    looked: Result<u32, NoMemory>,
     count: u64,
     store: Store<D, C>,
 }
@@ -101,6 +119,8 @@ fn run_in_turns<D: Disk + Drop, C: Clock + Drop, R: Wait>(
     let before = shop.count_now(&mut two);
     let first = shop.ask(rt, alloc, &mut one, 1, request);
     let behind = shop.count_now(&mut two);
+    shop.inform(&mut one, &mut two);
+    let looked = shop.look(rt, alloc, &mut two, &Records);
     let second = shop.ask(rt, alloc, &mut two, 1, request);
     let again = shop.ask(rt, alloc, &mut one, 1, request);
     let count = shop.count_now(&mut two);
@@ -111,6 +131,7 @@ fn run_in_turns<D: Disk + Drop, C: Clock + Drop, R: Wait>(
         second,
         again,
         seen: (before, behind),
+        looked,
         count,
         store: shop.close(tills, seat),
     })
@@ -146,6 +167,14 @@ fn again_at(reply: &Result<Reply, StoreFault>) -> u32 {
     }
 }
 
+// Whether a look showed so many records.
+fn shows(looked: &Result<u32, NoMemory>, records: u32) -> bool {
+    match looked {
+        Ok(n) => *n == records,
+        Err(_) => false,
+    }
+}
+
 fn is_stopped(reply: &Result<Reply, StoreFault>) -> bool {
     matches!(reply, Err(StoreFault::Stopped { .. }))
 }
@@ -157,6 +186,10 @@ fn is_disk_fault(reply: &Result<Reply, StoreFault>) -> bool {
 // Whether the disk of a run never failed. Fails where the tills were told something else than the store has.
 fn is_whole(ran: &Ran<MemDisk, CountingClock>) -> Result<bool, Fail> {
     let records = u64::from(ran.store.state().records());
+    holds(
+        shows(&ran.looked, taken_at(&ran.first)),
+        "what till 2 looks at",
+    )?;
     if ran.store.stopped().is_none() {
         holds(ran.count == 2 && records == 2, "two records")?;
         holds(taken_at(&ran.first) == 1, "till 1")?;

@@ -8,4 +8,6 @@ pub mod Serving
 mod Adding
 mod Seating
 mod Looking
+mod Learning
+mod Seeing
 mod Noting

@@ -43,7 +43,7 @@ stop_stays seen items starts s = record {
       starts.0;
 }
 
-trans : (a b c : List Item) → StartsWith a b → StartsWith b c → StartsWith a c
+pub trans : (a b c : List Item) → StartsWith a b → StartsWith b c → StartsWith a c
 trans a b c p q = (q.0 ++ p.0, p.1 ∙ ap (λ (l : List Item). l ++ p.0) q.1 ∙ append_assoc c q.0 p.0)
 
 no_shorter : (a b : List Item) → StartsWith a b → length b ≤ length a

@@ -8,6 +8,8 @@ use Rattle.shop_core.specs.declared.answer.Reply.{Reply}
 use Rattle.shop_core.specs.declared.items.Item.{Item}
 use Rattle.till_calls.specs.Own.{AreTaken, OwnsNone, OwnsOnly, records_of}
 use Rattle.till_calls.specs.Root.{Root}
+use Rattle.till_calls.specs.Seen.{SeesOn}
+use Rattle.till_calls.specs.Shop.{Asks}
 use Rattle.till_calls.specs.Client.{TillRun, TillTold}
 
 -- a run of a new till is told of the list at the end
@@ -43,3 +45,16 @@ abbrev pub OwnsWithinKnown : {C : Type 0} → (C → ℕ → Option ℕ) → Typ
 OwnsWithinKnown {C} coming = (till : ℕ) (root : Root C) (items : List Item) (old new : Known Item (Root C))
     (asks : List Asked) (replies : List (Result Reply StoreFault)) → IsNew items root old →
     TillRun coming old asks replies new → All (λ (a : Asked). a.till ≡ till) asks → OwnsBelow new.least new
+
+-- who sees on twice sees on
+abbrev pub SeesOnTwice : Type 0 → Type 0
+SeesOnTwice C = (old mid new : Known Item (Root C)) → SeesOn old mid → SeesOn mid new → SeesOn old new
+
+-- an ask of a till that saw on is one of what it knew before
+abbrev pub AsksFromBefore : {C : Type 0} → (C → ℕ → Option ℕ) → Type 0
+AsksFromBefore {C} coming = (ask : Asked) (reply : Result Reply StoreFault) (old mid new : Known Item (Root C)) →
+    SeesOn old mid → Asks coming ask reply mid new → Asks coming ask reply old new
+
+-- a list that fits what a till has seen on to fits what it knew before
+abbrev pub FitsBefore : Type 0 → Type 0
+FitsBefore C = (log : List Item) (old new : Known Item (Root C)) → SeesOn old new → Fits log new → Fits log old

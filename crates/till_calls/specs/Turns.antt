@@ -9,6 +9,7 @@ use Rattle.ports.specs.declared.faults.NoMemory.{NoMemory as NoRoom}
 use Rattle.record_codec.specs.declared.entry.Entry.{Entry}
 use Rattle.record_codec.specs.declared.entry.Entry.TheVariants.{Notes}
 use Rattle.record_fields.specs.declared.lines.Line.{Line}
+use Rattle.record_fields.specs.declared.versions.Version.{Version}
 use Rattle.shop_core.specs.History.{noted, recs, waiting}
 use Rattle.shop_core.specs.declared.waiting.Waiting.{Waiting}
 use Rattle.shop_core.specs.Answer.Plans.{answer}
@@ -125,3 +126,11 @@ pub record LookTurn {C : Type 0} (max : ℕ) (shown : Result Waiting NoRoom) (ro
   pub list : IsShopList root after
   pub same : after ≡ before
   pub shows : IfOk shown (Shows (entries_of before) max)
+
+-- The turn of a till that asks a question: nothing is added, and the answer is that at the history which stands there, by its
+-- version, its issuer and its entries
+pub record LearnTurn {C L : Type 0} (learns : Version → List ℕ → List Entry → L → Type 0) (learnt : Result L NoRoom)
+    (root : Root C) (before after : List Item) : Type 0 where
+  pub list : IsShopList root after
+  pub same : after ≡ before
+  pub answer : IfOk learnt (learns root.version root.issuer (entries_of before))

@@ -6,8 +6,9 @@ ghost use Rattle.journal.specs.Journal.{stopped_of};
 ghost use Rattle.record_fields.specs.declared.lines.TheConstants.{BATCH};
 ghost use Rattle.till_calls.specs.Root.{items_in, parts_of, root_of};
 ghost use Rattle.till_calls.specs.Sound.{IsSound};
-ghost use Rattle.till_calls.specs.Turns.{LookTurn, SeatTurn, TillTurn};
+ghost use Rattle.till_calls.specs.Turns.{LearnTurn, LookTurn, SeatTurn, TillTurn};
 
+use crate::questions::Question;
 use crate::root::ShopRoot;
 use chain_disk::Disk;
 use chain_lock::Recorded;
@@ -85,6 +86,17 @@ impl<D: Disk, C: Clock> Kept<D, C> {
         ensures turn { LookTurn max result self.old.root (items_in self.old.parts) (items_in self.new.parts) }
     {
         self.store.waiting(alloc, max)
+    }
+
+    // One question of a till.
+    pub(crate) fn learn<Q: Question>(
+        &self,
+        alloc: Global,
+        question: &Q,
+    ) -> Result<Q::Learnt, NoMemory>
+        ensures turn { LearnTurn (Q.learns question.now) result self.now.root (items_in self.now.parts) (items_in self.now.parts) }
+    {
+        question.learn(alloc, self.store.state())
     }
 
     pub(crate) fn into_store(self) -> Store<D, C>

@@ -1,5 +1,6 @@
 // What holds of runs alone.
 ghost use Rattle.till_calls.specs.Laws.{AddsForNoOther, AddsWhatIsTaken, OwnsRecordsAndStops, OwnsWithinKnown, ToldAtTheEnd};
+ghost use Rattle.till_calls.specs.Laws.{AsksFromBefore, FitsBefore, SeesOnTwice};
 
 use ports::Clock;
 
@@ -27,4 +28,19 @@ pub fn a_till_owns_records_and_stops<C: Clock>()
 /// All that a till's run leaves it stands within as many items as it knows of.
 pub fn a_till_owns_within_what_it_knows<C: Clock>()
     ensures { OwnsWithinKnown C.coming }
+{}
+
+/// Who sees on twice sees on.
+pub fn who_sees_on_twice_sees_on<C: Clock>()
+    ensures { SeesOnTwice C }
+{}
+
+/// An ask of a till that saw on is one of what it knew before: what it saw between its asks changes nothing of its run.
+pub fn an_ask_goes_on_from_what_was_known_before<C: Clock>()
+    ensures { AsksFromBefore C.coming }
+{}
+
+/// A list that fits what a till has seen on to fits what it knew before.
+pub fn a_list_fits_what_was_known_before<C: Clock>()
+    ensures { FitsBefore C }
 {}

@@ -11,13 +11,14 @@ ghost use Rattle.till_calls.specs.Root.{items_in, parts_of, root_of};
 ghost use Rattle.till_calls.specs.Sound.{IsSound};
 
 use crate::kept::Kept;
+use crate::questions::Question;
 use crate::tills::{SenderSeat, Till, TillNumber, Tills};
-use crate::turns::Taking;
+use crate::turns::{Learning, Taking};
 use chain_disk::Disk;
 use chain_lock::{ChainLock, Refused};
 use chain_store::Store;
 use journal::StoreFault;
-use ports::Clock;
+use ports::{Clock, NoMemory};
 use shop_core::{Asking, Reply, Request};
 use std::alloc::Global;
 use std::sync::Wait;
@@ -43,6 +44,7 @@ pub struct StartRefused<D: Disk, C: Clock> {
 }
 
 impl<D: Disk, C: Clock> Shop<D, C> {
+    ghost use Rattle.till_calls.specs.Seen.{Looks};
     ghost use Rattle.till_calls.specs.Shop.{Asks, first_items, made_tills, numbers, places, shop_id, shop_root};
     ghost use Rattle.till_calls.specs.Shop.{seat_knows, seat_shop, till_knows, till_number, till_shop, tills_know, tills_shop};
 
@@ -68,6 +70,36 @@ impl<D: Disk, C: Clock> Shop<D, C> {
             ask: Asking::new(till.number(), serial, request),
         };
         self.lock.turn(rt, &mut till.pass, &mut taking)
+    }
+
+    /// The answer to a till's question at a history that goes on from all that the till has seen, and which it has then seen.
+    /// Nothing is added. A shop that has stopped answers too.
+    pub fn look<Q: Question, R: Wait>(
+        &self,
+        rt: &R,
+        alloc: Global,
+        till: &mut Till<D, C>,
+        question: &Q,
+    ) -> Result<Q::Learnt, NoMemory>
+        requires own { till_shop till.old ≡ shop_id self.now }
+        ensures same { (till_shop till.new ≡ till_shop till.old) × (till_number till.new ≡ till_number till.old) }
+        ensures looks { Looks (Q.learns question.now) result (till_knows till.old) (till_knows till.new) }
+    {
+        let mut learning = Learning { alloc, question };
+        self.lock.turn(rt, &mut till.pass, &mut learning)
+    }
+
+    /// A till tells another of how many items it knows. What the other is answered next is at a list of as many, or more. It
+    /// waits for nobody.
+    pub fn inform(&self, from: &mut Till<D, C>, to: &mut Till<D, C>)
+        requires own { (till_shop from.old ≡ shop_id self.now) × (till_shop to.old ≡ shop_id self.now) }
+        ensures from { (till_shop from.new ≡ till_shop from.old) × (till_number from.new ≡ till_number from.old) }
+        ensures to { (till_shop to.new ≡ till_shop to.old) × (till_number to.new ≡ till_number to.old) }
+        ensures knows { till_knows from.new ≡ till_knows from.old }
+        ensures raised { till_knows to.new
+            ≡ record (till_knows to.old) { least = max (till_knows to.old).least (till_knows from.old).least } }
+    {
+        self.lock.inform(&mut from.pass, &mut to.pass);
     }
 
     /// How many items there are, without waiting: the entries, and one more where the shop has stopped. The till then knows of

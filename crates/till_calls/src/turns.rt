@@ -4,6 +4,7 @@ ghost use Rattle.std.specs.Prelude.{length};
 ghost use Rattle.record_fields.specs.declared.lines.TheConstants.{BATCH};
 
 use crate::kept::Kept;
+use crate::questions::Question;
 use chain_disk::Disk;
 use chain_lock::Act;
 use journal::StoreFault;
@@ -67,5 +68,24 @@ impl<D: Disk, C: Clock> Act<Kept<D, C>> for Looking {
 
     fn act(&mut self, value: &mut Kept<D, C>) -> Result<Waiting, NoMemory> {
         value.look(self.alloc, self.max)
+    }
+}
+
+/// A till's question. It tells what was learnt.
+#[derive(Drop)]
+pub(crate) struct Learning<'a, Q: Question> {
+    pub(crate) alloc: Global,
+    pub(crate) question: &'a Q,
+}
+
+impl<D: Disk, C: Clock, Q: Question> Act<Kept<D, C>> for Learning<'_, Q> {
+    type Told = Result<Q::Learnt, NoMemory>;
+
+    ghost use Rattle.till_calls.specs.Turns.{LearnTurn};
+
+    ghost relates = { λ old root before new after told. LearnTurn (Q.learns old.question.now) told root before after };
+
+    fn act(&mut self, value: &mut Kept<D, C>) -> Result<Q::Learnt, NoMemory> {
+        value.learn(self.alloc, self.question)
     }
 }

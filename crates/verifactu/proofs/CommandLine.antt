@@ -1,41 +1,43 @@
 -- Words that are no command.
-use Rattle.std.proofs.Common.{◌≡◌, ℕ, zero, suc, ◌==◌, false, ◌<◌, ◌≤◌, List, [], ◌∷◌, length, get_or, map, refl, sym, ◌∙◌, ap, subst, arith, None}
+use Rattle.std.proofs.Common.{◌≡◌, ℕ, zero, suc, ◌==◌, false, ◌<◌, ◌≤◌, List, [], ◌∷◌, length, get_or, map, refl, sym, ◌∙◌, ap, subst, arith, Option, Some, None}
 use Rattle.std.proofs.Common.{Bool, true, codes, bytes_eq, nat_lt, if◌then◌else◌, ◌+◌, ◌-◌, ◌/◌}
 use Rattle.std.proofs.lemmas.Bool.Decides.{nat_tests}
 use Rattle.std.proofs.lemmas.Slice.Eq.{bytes_eq-Decides}
 use Rattle.parties.specs.Nif.{IsNif}
-use Rattle.verifactu.specs.CommandLine.{IsAskedFor, AsksFor, IsChain, IsDay, IsDrain, IsServe, IsWithin, IsGuard, IsGuarding, IsMany, further_pairs, posts_needed}
+use Rattle.std.specs.List.{list_any}
+use Rattle.verifactu.specs.CommandLine.{AsksFor, IsAskedFor, IsHelpAsked, IsSaid, Says, asks_help, IsChain, IsDay, IsDrain, IsServe, IsWithin, IsGuard, IsGuarding, IsMany, further_pairs, posts_needed}
 use Rattle.file_pairs.specs.Pairs.{ArePairs, AreApart, IsPairs}
 use Rattle.issuers.specs.Office.{AreOwn}
 use Rattle.verifactu.specs.declared.command_line.Command.{Command}
 use Rattle.verifactu.specs.declared.command_line.Command.TheVariants.{Chain, Day, Drain, Serve, Audit, Link, Check, Migrate, Follow, Guard, Many}
-use Rattle.verifactu.specs.declared.command_line.Command.TheVariants.{Statement, Export, Matches, Generate, Help, Version}
+use Rattle.verifactu.specs.declared.command_line.Command.TheVariants.{Statement, Export, Matches, Generate, Help, HelpOn, Version}
 
 length_map : {A B : Type 0} (f : A → B) (xs : List A) → length (map f xs) ≡ length xs
 length_map f [] = refl
 length_map f (x ∷ xs) = ap suc (length_map f xs)
 
 -- words of another count than those of every command
-not_asked : (words : List (List ℕ)) → (length words ≡ 1 → ⊥) → (length words ≡ 2 → ⊥) → (length words ≡ 3 → ⊥) →
+not_said : (words : List (List ℕ)) → (length words ≡ 1 → ⊥) → (length words ≡ 2 → ⊥) → (length words ≡ 3 → ⊥) →
     (length words ≡ 4 → ⊥) → ((issuers : List (List ℕ)) → IsMany words issuers → ⊥) → (command : Command) →
-    AsksFor words command → ⊥
-not_asked words one two three four many (Chain issuer) h = three (ap length h.words_are)
-not_asked words one two three four many (Day issuer) h = three (ap length h.words_are)
-not_asked words one two three four many (Drain issuer) h = three (ap length h.words_are)
-not_asked words one two three four many (Serve issuer) h = three (ap length h.words_are)
-not_asked words one two three four many Audit h = two (ap length h.words_are)
-not_asked words one two three four many (Link num host) h = four (ap length h.words_are)
-not_asked words one two three four many (Check workers) h = three (ap length h.words_are)
-not_asked words one two three four many Migrate h = three (ap length h.words_are)
-not_asked words one two three four many Follow h = three (ap length h.words_are)
-not_asked words one two three four many (Guard issuer) h = four (ap length h.words_are)
-not_asked words one two three four many (Many issuers) h = many issuers h
-not_asked words one two three four many (Statement month) h = three (ap length h.words_are)
-not_asked words one two three four many Export h = two (ap length h.words_are)
-not_asked words one two three four many Matches h = two (ap length h.words_are)
-not_asked words one two three four many (Generate n) h = two (ap length h.words_are)
-not_asked words one two three four many Help h = one (ap length h)
-not_asked words one two three four many Version h = one (ap length h)
+    Says words command → ⊥
+not_said words one two three four many (Chain issuer) h = three (ap length h.words_are)
+not_said words one two three four many (Day issuer) h = three (ap length h.words_are)
+not_said words one two three four many (Drain issuer) h = three (ap length h.words_are)
+not_said words one two three four many (Serve issuer) h = three (ap length h.words_are)
+not_said words one two three four many Audit h = two (ap length h.words_are)
+not_said words one two three four many (Link num host) h = four (ap length h.words_are)
+not_said words one two three four many (Check workers) h = three (ap length h.words_are)
+not_said words one two three four many Migrate h = three (ap length h.words_are)
+not_said words one two three four many Follow h = three (ap length h.words_are)
+not_said words one two three four many (Guard issuer) h = four (ap length h.words_are)
+not_said words one two three four many (Many issuers) h = many issuers h
+not_said words one two three four many (Statement month) h = three (ap length h.words_are)
+not_said words one two three four many Export h = two (ap length h.words_are)
+not_said words one two three four many Matches h = two (ap length h.words_are)
+not_said words one two three four many (Generate n) h = two (ap length h.words_are)
+not_said words one two three four many Help h = absurd h
+not_said words one two three four many (HelpOn topic) h = absurd h
+not_said words one two three four many Version h = one (ap length h)
 
 -- pairs are two words each
 pairs_long : (words issuers : List (List ℕ)) → ArePairs words issuers → length words ≡ length issuers + length issuers
@@ -53,19 +55,19 @@ many_long words issuers h =
     let several = h.are.several in
     omega (arith, size, two, several)
 
-pub no_command : {A : Type 0} (f : A → List ℕ) (words : List A) → (length words ≡ 1 → ⊥) → (length words ≡ 2 → ⊥) →
-    (length words ≡ 3 → ⊥) → (length words ≡ 4 → ⊥) → length words ≤ 4 → IsAskedFor (map f words) None
-no_command f words one two three four few =
+pub none_said : {A : Type 0} (f : A → List ℕ) (words : List A) → (length words ≡ 1 → ⊥) → (length words ≡ 2 → ⊥) →
+    (length words ≡ 3 → ⊥) → (length words ≡ 4 → ⊥) → length words ≤ 4 → IsSaid (map f words) None
+none_said f words one two three four few =
     let same = length_map f words in
-    not_asked (map f words) (λ e. one (sym same ∙ e)) (λ e. two (sym same ∙ e)) (λ e. three (sym same ∙ e))
+    not_said (map f words) (λ e. one (sym same ∙ e)) (λ e. two (sym same ∙ e)) (λ e. three (sym same ∙ e))
     (λ e. four (sym same ∙ e)) (λ issuers h. let long = many_long (map f words) issuers h in omega (arith, same, long, few))
 
 -- words of another count than those of every command but `many`, which they aren't
 pub not_many : {A : Type 0} (f : A → List ℕ) (words pairs : List A) (name : A) → words ≡ name ∷ pairs → 4 < length words →
-    ((issuers : List (List ℕ)) → f name ≡ codes "many" → IsPairs (map f pairs) issuers → ⊥) → IsAskedFor (map f words) None
+    ((issuers : List (List ℕ)) → f name ≡ codes "many" → IsPairs (map f pairs) issuers → ⊥) → IsSaid (map f words) None
 not_many {A} f words pairs name is long none =
     let same = length_map f words in
-    not_asked (map f words) (λ e. omega (arith, same, e, long)) (λ e. omega (arith, same, e, long)) (λ e. omega (arith, same, e, long))
+    not_said (map f words) (λ e. omega (arith, same, e, long)) (λ e. omega (arith, same, e, long)) (λ e. omega (arith, same, e, long))
     (λ e. omega (arith, same, e, long)) (λ issuers h. apart issuers h)
   where
     apart : (issuers : List (List ℕ)) → IsMany (map f words) issuers → ⊥
@@ -225,7 +227,7 @@ is_guard file nif new issuer named filed apart h = record {
 -- the words of `guard` name one file more
 pub guard_posts : (words : List (List ℕ)) (command : Command) → AsksFor words command → IsGuarding command →
     posts_needed words ≡ 1
-guard_posts words (Guard issuer) h is = ap (λ (ws : List (List ℕ)). posts_needed ws) h.words_are
+guard_posts words (Guard issuer) h is = ap (λ (ws : List (List ℕ)). posts_needed ws) h.0.words_are
 guard_posts words _ h is = absurd is
 
 pub within : (words : List (List ℕ)) (command : Command) → AsksFor words command → IsWithin command
@@ -235,6 +237,22 @@ within words (Drain issuer) h = tt
 within words (Serve issuer) h = tt
 within words Audit h = tt
 within words (Link num host) h = tt
-within words (Check workers) h = (h.number.count.range.0, h.number.few)
-within words (Generate n) h = h.number.range
+within words (Check workers) h = (h.0.number.count.range.0, h.0.number.few)
+within words (Generate n) h = h.0.number.range
 within words _ h = tt
+
+asks_nothing : (words : List (List ℕ)) → IsHelpAsked words None → IsSaid words None → (command : Command) → AsksFor words command → ⊥
+asks_nothing words none said Help h = none.0 h
+asks_nothing words none said (HelpOn topic) h = none.1 topic h
+asks_nothing words none said command h = said command h.0
+
+asks_said : (words : List (List ℕ)) (command : Command) → list_any asks_help words ≡ false → Says words command → AsksFor words command
+asks_said words Help without said = absurd said
+asks_said words (HelpOn topic) without said = absurd said
+asks_said words command without said = (said, without)
+
+-- words that ask for no help ask for what they say
+pub asked_as_said : (words : List (List ℕ)) (command : Option Command) → IsHelpAsked words None → list_any asks_help words ≡ false →
+    IsSaid words command → IsAskedFor words command
+asked_as_said words None none without said = λ command h. asks_nothing words none said command h
+asked_as_said words (Some command) none without said = asks_said words command without said

@@ -39,7 +39,7 @@ use Rattle.command_ends.specs.Scripts.ScriptedEnds.{ran, bad_line, read_fault, t
 use Rattle.verifactu.specs.CommandLine.{AsksFor, IsAskedFor}
 use Rattle.verifactu.specs.declared.command_line.Command.{Command}
 use Rattle.verifactu.specs.declared.command_line.Command.TheVariants.{Chain, Day, Drain, Serve, Audit, Link, Check, Migrate, Follow, Guard, Many}
-use Rattle.verifactu.specs.declared.command_line.Command.TheVariants.{Statement, Export, Matches, Generate, Help, Version}
+use Rattle.verifactu.specs.declared.command_line.Command.TheVariants.{Statement, Export, Matches, Generate, Help, HelpOn, Version}
 use Rattle.verifactu.proofs.Sessions.{batches_not_served, batches_of_day, batches_of_drain, batches_silent, left_agency, not_served, of_day, of_drain}
 use Rattle.verifactu.proofs.Gaining.{gains_all, gains_day, gains_notes, gains_nothing, gains_run}
 use Rattle.many.proofs.NoNotes.{notes_nothing}
@@ -155,7 +155,7 @@ module _ {D C Z G : Type 0} (chained : AreLinked) (a : AllDevices D C Z G)
           form = x.form;
           before = x.before;
           replies = x.replies;
-          text = x.text;
+          answers = x.answers;
           how = x.how;
           dialogue = h.spoken.dialogue;
           read = h.spoken.read;
@@ -253,6 +253,7 @@ module _ {D C Z G : Type 0} (chained : AreLinked) (a : AllDevices D C Z G)
   own_kept one neither rules Matches end h = by_reading h.1.disk h.2
   own_kept one neither rules (Generate n) end h = by_reading (ap a.devices.disk.told h.1.disk) h.2
   own_kept one neither rules Help end h = by_reading (ap a.devices.disk.told h.1.disk) h.2
+  own_kept one neither rules (HelpOn topic) end h = by_reading (ap a.devices.disk.told h.1.disk) h.2
   own_kept one neither rules Version end h = by_reading (ap a.devices.disk.told h.1.disk) h.2
 
   -- a disk reads as a crash may leave it

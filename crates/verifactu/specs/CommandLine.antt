@@ -1,5 +1,7 @@
 -- What the words of the command line ask for. The commands are this project's own.
 use Rattle.std.specs.Prelude.{◌≡◌, if◌then◌else◌, ℕ, ◌<◌, ◌≤◌, ◌/◌, ◌-◌, nat_lt, List, [], ◌∷◌, length, bytes_eq, codes, decimal, IsTrue, Option, Some, None}
+use Rattle.std.specs.Prelude.{◌⊎◌, ◌||◌, Bool, true, false}
+use Rattle.std.specs.List.{list_any}
 use Rattle.std.specs.Int.{IsInRange}
 use Rattle.parties.specs.Nif.{IsNif}
 use Rattle.file_pairs.specs.Pairs.{IsPairs}
@@ -10,7 +12,9 @@ use Rattle.verify_link.specs.declared.parts.Host.TheVariants.{Real, Practice}
 use Rattle.link_check.specs.declared.all.TheConstants.{MAX_WORKERS}
 use Rattle.verifactu.specs.declared.command_line.Command.{Command}
 use Rattle.verifactu.specs.declared.command_line.Command.TheVariants.{Chain, Day, Drain, Serve, Audit, Link, Check, Migrate, Follow, Guard, Many}
-use Rattle.verifactu.specs.declared.command_line.Command.TheVariants.{Statement, Export, Matches, Generate, Help, Version}
+use Rattle.verifactu.specs.declared.command_line.Command.TheVariants.{Statement, Export, Matches, Generate, Help, HelpOn, Version}
+use Rattle.verifactu.specs.declared.topics.Topic.{Topic}
+use Rattle.verifactu.specs.Topics.{topic_name}
 use Rattle.file_commands.specs.declared.generated.TheConstants.{MOST}
 
 -- `chain FILE NIF`: a file's name, which isn't empty, and a tax number
@@ -149,25 +153,58 @@ pub record IsMatches (words : List (List ℕ)) : Type 0 where
   pub words_are : words ≡ codes "matches" ∷ (file ∷ [])
   pub named : 0 < length file
 
--- the words of this command
+-- the words of this command, whatever its file is called
+abbrev pub Says : List (List ℕ) → Command → Type 0
+Says words (Chain issuer) = IsChain words issuer
+Says words (Day issuer) = IsDay words issuer
+Says words (Drain issuer) = IsDrain words issuer
+Says words (Serve issuer) = IsServe words issuer
+Says words Audit = IsAudit words
+Says words (Link num host) = IsLink words num host
+Says words (Check workers) = IsCheck words workers
+Says words Migrate = IsMigrate words
+Says words Follow = IsFollow words
+Says words (Guard issuer) = IsGuard words issuer
+Says words (Many issuers) = IsMany words issuers
+Says words (Statement month) = IsStatement words month
+Says words Export = IsExport words
+Says words Matches = IsMatches words
+Says words (Generate n) = IsGenerate words n
+Says words Version = words ≡ codes "--version" ∷ []
+Says words Help = ⊥
+Says words (HelpOn topic) = ⊥
+
+-- the command that the words say so; none where they say none
+abbrev pub IsSaid : List (List ℕ) → Option Command → Type 0
+IsSaid words None = (command : Command) → Says words command → ⊥
+IsSaid words (Some command) = Says words command
+
+-- `--help` or `-h`, which ask for help and name no file
+abbrev pub asks_help : List ℕ → Bool
+asks_help word = bytes_eq word (codes "--help") || bytes_eq word (codes "-h")
+
+-- the one word `--help`, `-h` or `help`
+abbrev pub IsHelp : List (List ℕ) → Type 0
+IsHelp words = (words ≡ codes "--help" ∷ []) ⊎ (words ≡ codes "-h" ∷ []) ⊎ (words ≡ codes "help" ∷ [])
+
+-- `COMMAND --help`, `COMMAND -h` or `help COMMAND`
+abbrev pub IsHelpOn : List (List ℕ) → Topic → Type 0
+IsHelpOn words topic =
+    (words ≡ topic_name topic ∷ (codes "--help" ∷ [])) ⊎ (words ≡ topic_name topic ∷ (codes "-h" ∷ []))
+    ⊎ (words ≡ codes "help" ∷ (topic_name topic ∷ []))
+
+-- the help that the words ask for; none where they ask for none
+abbrev pub IsHelpAsked : List (List ℕ) → Option Command → Type 0
+IsHelpAsked words None = (IsHelp words → ⊥) × ((topic : Topic) → IsHelpOn words topic → ⊥)
+IsHelpAsked words (Some Help) = IsHelp words
+IsHelpAsked words (Some (HelpOn topic)) = IsHelpOn words topic
+IsHelpAsked words _ = ⊥
+
+-- the words of this command; only those of a help ask for help
 abbrev pub AsksFor : List (List ℕ) → Command → Type 0
-AsksFor words (Chain issuer) = IsChain words issuer
-AsksFor words (Day issuer) = IsDay words issuer
-AsksFor words (Drain issuer) = IsDrain words issuer
-AsksFor words (Serve issuer) = IsServe words issuer
-AsksFor words Audit = IsAudit words
-AsksFor words (Link num host) = IsLink words num host
-AsksFor words (Check workers) = IsCheck words workers
-AsksFor words Migrate = IsMigrate words
-AsksFor words Follow = IsFollow words
-AsksFor words (Guard issuer) = IsGuard words issuer
-AsksFor words (Many issuers) = IsMany words issuers
-AsksFor words (Statement month) = IsStatement words month
-AsksFor words Export = IsExport words
-AsksFor words Matches = IsMatches words
-AsksFor words (Generate n) = IsGenerate words n
-AsksFor words Help = words ≡ codes "--help" ∷ []
-AsksFor words Version = words ≡ codes "--version" ∷ []
+AsksFor words Help = IsHelp words
+AsksFor words (HelpOn topic) = IsHelpOn words topic
+AsksFor words command = Says words command × (list_any asks_help words ≡ false)
 
 -- the command that the words ask for; none where they ask for no command
 abbrev pub IsAskedFor : List (List ℕ) → Option Command → Type 0
@@ -212,3 +249,18 @@ abbrev pub IsWithin : Command → Type 0
 IsWithin (Check workers) = IsInRange 1 MAX_WORKERS workers
 IsWithin (Generate n) = IsInRange 1 MOST n
 IsWithin _ = Unit {0}
+
+-- a command that hands what waits to its agency
+abbrev pub is_sending : Option Command → Bool
+is_sending (Some (Day issuer)) = true
+is_sending (Some (Drain issuer)) = true
+is_sending (Some (Serve issuer)) = true
+is_sending (Some (Guard issuer)) = true
+is_sending (Some (Many issuers)) = true
+is_sending _ = false
+
+-- whether the words ask for such a command
+pub record AsksToSend (words : List (List ℕ)) (sends : Bool) : Type 0 where
+  pub command : Option Command
+  pub asked : IsAskedFor words command
+  pub is : sends ≡ is_sending command

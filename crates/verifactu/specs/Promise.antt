@@ -10,6 +10,7 @@ use Rattle.chain_disk.specs.OnDisk.{IsLeft, IsSettled, IsSyncFailed, LeavesNow, 
 use Rattle.counter.specs.Speech.{IsRead}
 use Rattle.counter.specs.declared.speaking.SpeechEnd.{SpeechEnd}
 use Rattle.dialogue.specs.Protocol.{Dialogue}
+use Rattle.line_reader.specs.Lists.{InputLine}
 use Rattle.huella.specs.Linked.{Linked}
 use Rattle.journal.specs.File.{IsNotBegun}
 use Rattle.shop_core.specs.Prefix.{IsPrefix}
@@ -114,13 +115,13 @@ AreAccepted _ _ gained = ⊥
 
 -- the commands among lines that were read of the source, each after those before it
 pub record AreAskedByLine (s : Sources) (asks : List Asked) : Type 0 where
-  pub lines : List (List ℕ)
+  pub lines : List InputLine
   pub form : Form
   pub before : List Meaning
   pub replies : Replies
-  pub text : List ℕ
+  pub answers : List (List ℕ)
   pub how : SpeechEnd
-  pub dialogue : Dialogue lines form before asks replies text
+  pub dialogue : Dialogue lines form before asks replies answers
   pub read : IsRead how s.left s.left_after lines
 
 -- the commands of an issuer's part of the script for several that the source gave, or the first of them

@@ -24,7 +24,7 @@ use Rattle.many.specs.Ends.{ManyEnds}
 use Rattle.shop_commands.specs.Further.{Further, LeftFurther}
 use Rattle.shop_commands.specs.Drain.{DrainEnds}
 use Rattle.file_commands.specs.Generate.{GenerateEnds}
-use Rattle.verifactu.specs.Help.{help_text, version_text}
+use Rattle.verifactu.specs.Help.{help_on, help_text, version_text}
 use Rattle.shop_commands.specs.Follow.{FollowRan}
 use Rattle.shop_commands.specs.Guard.{GuardRan}
 use Rattle.shop_commands.specs.Migrate.{MigrateRan}
@@ -32,7 +32,7 @@ use Rattle.shop_commands.specs.Serve.{ServeEnds}
 use Rattle.verifactu.specs.CommandLine.{IsAskedFor}
 use Rattle.verifactu.specs.declared.command_line.Command.{Command}
 use Rattle.verifactu.specs.declared.command_line.Command.TheVariants.{Chain, Day, Drain, Serve, Audit, Link, Check, Migrate, Follow, Guard, Many}
-use Rattle.verifactu.specs.declared.command_line.Command.TheVariants.{Statement, Export, Matches, Generate, Help, Version}
+use Rattle.verifactu.specs.declared.command_line.Command.TheVariants.{Statement, Export, Matches, Generate, Help, HelpOn, Version}
 
 -- when a command that works on one file ends in this way
 abbrev pub OwnEnds : {D C Z G : Type 0} → Command → AllDevices D C Z G → Detail → Type 0
@@ -55,6 +55,7 @@ OwnEnds Matches a end =
     MatchesEnds a.devices.source a.devices.sink a.devices.disk end × OnlyReads a.devices × NobodyCalled a
 OwnEnds (Generate n) a end = GenerateEnds n a.devices.sink end × OnlyPrints a.devices × NobodyCalled a
 OwnEnds Help a end = PrintEnds help_text detail.Done a.devices.sink end × OnlyPrints a.devices × NobodyCalled a
+OwnEnds (HelpOn topic) a end = PrintEnds (help_on topic) detail.Done a.devices.sink end × OnlyPrints a.devices × NobodyCalled a
 OwnEnds Version a end = PrintEnds version_text detail.Done a.devices.sink end × OnlyPrints a.devices × NobodyCalled a
 
 -- words that are no command

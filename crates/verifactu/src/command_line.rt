@@ -1,8 +1,10 @@
 // The words of the command line.
 ghost use Rattle.std.specs.Prelude.{◌≡◌, ◌<◌, ◌≤◌, ◌∷◌, [], map, string_bytes, bytes_eq, codes, false, length};
-ghost use Rattle.verifactu.specs.CommandLine.{IsAskedFor, IsCount, IsHost, IsWorkers};
+ghost use Rattle.std.specs.List.{list_any};
+ghost use Rattle.verifactu.specs.CommandLine.{AsksToSend, IsAskedFor, IsCount, IsHelpAsked, IsHost, IsSaid, IsWorkers};
 ghost use Rattle.verifactu.specs.CommandLine as spec;
 
+use crate::topics::{Topic, topic_of};
 use amounts::read_whole;
 use file_commands::MOST;
 use file_pairs::{Nifs, read_pairs};
@@ -45,8 +47,10 @@ pub enum Command {
     Matches,
     /// `generate N`, for the first N commands of the generator.
     Generate(u32),
-    /// `--help`.
+    /// `--help`, `-h` or `help`.
     Help,
+    /// `COMMAND --help`, `COMMAND -h` or `help COMMAND`.
+    HelpOn(Topic),
     /// `--version`.
     Version,
 }
@@ -57,12 +61,9 @@ fn is_word(word: &str, name: &[u8]) -> bool
     word.as_bytes() == name
 }
 
-fn option_of(word: &str) -> Option<Command>
-    ensures { IsAskedFor (word.now ∷ []) result }
+fn version_of(word: &str) -> Option<Command>
+    ensures { IsSaid (word.now ∷ []) result }
 {
-    if is_word(word, b"--help") {
-        return Some(Command::Help);
-    }
     if is_word(word, b"--version") {
         return Some(Command::Version);
     }
@@ -75,7 +76,7 @@ fn of_issuer(name: &str, file: &str, nif: &str) -> Option<Command>
     requires neither { bytes_eq name.now (codes "migrate") ≡ false }
     requires no_copy { bytes_eq name.now (codes "follow") ≡ false }
     requires nor { bytes_eq name.now (codes "statement") ≡ false }
-    ensures { IsAskedFor (name.now ∷ (file.now ∷ (nif.now ∷ []))) result }
+    ensures { IsSaid (name.now ∷ (file.now ∷ (nif.now ∷ []))) result }
 {
     let Ok(issuer) = Nif::read(nif) else {
         return None;
@@ -107,7 +108,7 @@ fn workers_of(word: &str) -> Option<u8>
 
 fn check_of(file: &str, workers: &str) -> Option<Command>
     requires { 0 < length file.now }
-    ensures { IsAskedFor (codes "check" ∷ (file.now ∷ (workers.now ∷ []))) result }
+    ensures { IsSaid (codes "check" ∷ (file.now ∷ (workers.now ∷ []))) result }
 {
     match workers_of(workers) {
         Some(workers) => Some(Command::Check(workers)),
@@ -117,7 +118,7 @@ fn check_of(file: &str, workers: &str) -> Option<Command>
 
 fn migrate_of(file: &str, new: &str) -> Option<Command>
     requires { 0 < length file.now }
-    ensures { IsAskedFor (codes "migrate" ∷ (file.now ∷ (new.now ∷ []))) result }
+    ensures { IsSaid (codes "migrate" ∷ (file.now ∷ (new.now ∷ []))) result }
 {
     if new.is_empty() {
         return None;
@@ -127,7 +128,7 @@ fn migrate_of(file: &str, new: &str) -> Option<Command>
 
 fn follow_of(file: &str, new: &str) -> Option<Command>
     requires { 0 < length file.now }
-    ensures { IsAskedFor (codes "follow" ∷ (file.now ∷ (new.now ∷ []))) result }
+    ensures { IsSaid (codes "follow" ∷ (file.now ∷ (new.now ∷ []))) result }
 {
     if new.is_empty() || is_word(new, file.as_bytes()) {
         return None;
@@ -137,7 +138,7 @@ fn follow_of(file: &str, new: &str) -> Option<Command>
 
 fn statement_of(file: &str, month: &str) -> Option<Command>
     requires { 0 < length file.now }
-    ensures { IsAskedFor (codes "statement" ∷ (file.now ∷ (month.now ∷ []))) result }
+    ensures { IsSaid (codes "statement" ∷ (file.now ∷ (month.now ∷ []))) result }
 {
     match Month::read(month) {
         Some(month) => Some(Command::Statement(month)),
@@ -146,7 +147,7 @@ fn statement_of(file: &str, month: &str) -> Option<Command>
 }
 
 fn three_of(name: &str, file: &str, word: &str) -> Option<Command>
-    ensures { IsAskedFor (name.now ∷ (file.now ∷ (word.now ∷ []))) result }
+    ensures { IsSaid (name.now ∷ (file.now ∷ (word.now ∷ []))) result }
 {
     if file.is_empty() {
         return None;
@@ -167,7 +168,7 @@ fn three_of(name: &str, file: &str, word: &str) -> Option<Command>
 }
 
 fn audit_of(file: &str) -> Option<Command>
-    ensures { IsAskedFor (codes "audit" ∷ (file.now ∷ [])) result }
+    ensures { IsSaid (codes "audit" ∷ (file.now ∷ [])) result }
 {
     if file.is_empty() {
         return None;
@@ -176,7 +177,7 @@ fn audit_of(file: &str) -> Option<Command>
 }
 
 fn export_of(file: &str) -> Option<Command>
-    ensures { IsAskedFor (codes "export" ∷ (file.now ∷ [])) result }
+    ensures { IsSaid (codes "export" ∷ (file.now ∷ [])) result }
 {
     if file.is_empty() {
         return None;
@@ -185,7 +186,7 @@ fn export_of(file: &str) -> Option<Command>
 }
 
 fn matches_of(file: &str) -> Option<Command>
-    ensures { IsAskedFor (codes "matches" ∷ (file.now ∷ [])) result }
+    ensures { IsSaid (codes "matches" ∷ (file.now ∷ [])) result }
 {
     if file.is_empty() {
         return None;
@@ -207,7 +208,7 @@ fn count_of(word: &str) -> Option<u32>
 }
 
 fn generate_of(count: &str) -> Option<Command>
-    ensures { IsAskedFor (codes "generate" ∷ (count.now ∷ [])) result }
+    ensures { IsSaid (codes "generate" ∷ (count.now ∷ [])) result }
 {
     match count_of(count) {
         Some(n) => Some(Command::Generate(n)),
@@ -216,7 +217,7 @@ fn generate_of(count: &str) -> Option<Command>
 }
 
 fn two_of(name: &str, word: &str) -> Option<Command>
-    ensures { IsAskedFor (name.now ∷ (word.now ∷ [])) result }
+    ensures { IsSaid (name.now ∷ (word.now ∷ [])) result }
 {
     if is_word(name, b"audit") {
         return audit_of(word);
@@ -247,7 +248,7 @@ fn host_of(word: &str) -> Option<Host>
 
 fn link_of(file: &str, num: &str, host: &str) -> Option<Command>
     requires { 0 < length file.now }
-    ensures { IsAskedFor (codes "link" ∷ (file.now ∷ (num.now ∷ (host.now ∷ [])))) result }
+    ensures { IsSaid (codes "link" ∷ (file.now ∷ (num.now ∷ (host.now ∷ [])))) result }
 {
     let Some(num) = NumSerie::read(num) else {
         return None;
@@ -260,7 +261,7 @@ fn link_of(file: &str, num: &str, host: &str) -> Option<Command>
 
 fn guard_of(file: &str, nif: &str, new: &str) -> Option<Command>
     requires { 0 < length file.now }
-    ensures { IsAskedFor (codes "guard" ∷ (file.now ∷ (nif.now ∷ (new.now ∷ [])))) result }
+    ensures { IsSaid (codes "guard" ∷ (file.now ∷ (nif.now ∷ (new.now ∷ [])))) result }
 {
     if new.is_empty() || is_word(new, file.as_bytes()) {
         return None;
@@ -272,7 +273,7 @@ fn guard_of(file: &str, nif: &str, new: &str) -> Option<Command>
 }
 
 fn four_of(name: &str, file: &str, word: &str, last: &str) -> Option<Command>
-    ensures { IsAskedFor (name.now ∷ (file.now ∷ (word.now ∷ (last.now ∷ [])))) result }
+    ensures { IsSaid (name.now ∷ (file.now ∷ (word.now ∷ (last.now ∷ [])))) result }
 {
     if file.is_empty() {
         return None;
@@ -289,7 +290,7 @@ fn four_of(name: &str, file: &str, word: &str, last: &str) -> Option<Command>
 // Five words or more: those of `many`, or of no command.
 fn many_of(words: &[String]) -> Option<Command>
     requires { 4 < length words.now }
-    ensures { IsAskedFor (map string_bytes words.now) result }
+    ensures { IsSaid (map string_bytes words.now) result }
 {
     let Some((name, pairs)) = words.split_first() else {
         return None;
@@ -338,20 +339,98 @@ pub fn posts_needed(words: &[String]) -> u16
     }
 }
 
-/// The command that the words ask for, None exactly where they ask for none.
-pub fn command_of(words: &[String]) -> Option<Command>
-    ensures { IsAskedFor (map string_bytes words.now) result }
+// The command that the words say, where none of them asks for help.
+fn said_by(words: &[String]) -> Option<Command>
+    ensures { IsSaid (map string_bytes words.now) result }
 {
     if words.len() > 4 {
         return many_of(words);
     }
     match words {
-        [word] => option_of(word.as_str()),
+        [word] => version_of(word.as_str()),
         [name, word] => two_of(name.as_str(), word.as_str()),
         [name, file, word] => three_of(name.as_str(), file.as_str(), word.as_str()),
         [name, file, num, host] => {
             four_of(name.as_str(), file.as_str(), num.as_str(), host.as_str())
         }
         _ => None,
+    }
+}
+
+fn asks_help(word: &str) -> bool
+    ensures { result ≡ spec.asks_help word.now }
+{
+    is_word(word, b"--help") || is_word(word, b"-h")
+}
+
+// A word asks for help.
+fn has_help(words: &[String]) -> bool
+    ensures { result ≡ list_any spec.asks_help (map string_bytes words.now) }
+{
+    let Some((word, others)) = words.split_first() else {
+        return false;
+    };
+    asks_help(word.as_str()) || has_help(others)
+}
+
+// The help that one word asks for.
+fn help_of(word: &str) -> Option<Command>
+    ensures { IsHelpAsked (word.now ∷ []) result }
+{
+    if asks_help(word) || is_word(word, b"help") {
+        return Some(Command::Help);
+    }
+    None
+}
+
+// The help that two words ask for.
+fn help_on_of(first: &str, second: &str) -> Option<Command>
+    ensures { IsHelpAsked (first.now ∷ (second.now ∷ [])) result }
+{
+    let name = if asks_help(second) {
+        first
+    } else if is_word(first, b"help") {
+        second
+    } else {
+        return None;
+    };
+    match topic_of(name) {
+        Some(topic) => Some(Command::HelpOn(topic)),
+        None => None,
+    }
+}
+
+// The help that the words ask for.
+fn help_by(words: &[String]) -> Option<Command>
+    ensures { IsHelpAsked (map string_bytes words.now) result }
+{
+    match words {
+        [word] => help_of(word.as_str()),
+        [first, second] => help_on_of(first.as_str(), second.as_str()),
+        _ => None,
+    }
+}
+
+/// The command that the words ask for, None exactly where they ask for none.
+pub fn command_of(words: &[String]) -> Option<Command>
+    ensures { IsAskedFor (map string_bytes words.now) result }
+{
+    if let Some(help) = help_by(words) {
+        return Some(help);
+    }
+    if has_help(words) {
+        return None;
+    }
+    said_by(words)
+}
+
+/// Whether a run by these words hands what waits to its agency: those of `day`, `serve`, `drain`, `guard` and `many` do.
+pub fn asks_to_send(words: &[String]) -> bool
+    ensures { AsksToSend (map string_bytes words.now) result }
+{
+    match command_of(words) {
+        Some(Command::Day(_)) | Some(Command::Serve(_)) | Some(Command::Drain(_)) => true,
+        Some(Command::Guard(_)) | Some(Command::Many(_)) => true,
+        _ => false,
     }
 }

@@ -5,11 +5,13 @@
 
 mod command_line;
 mod help;
+mod helps;
 mod installation;
 mod laws;
 mod running;
+mod topics;
 
-pub use command_line::posts_needed;
+pub use command_line::{asks_to_send, posts_needed};
 pub use file_commands::generate_cmd;
 pub use laws::{
     a_day_stops_once, a_strange_file_is_not_own, what_a_run_left_is_found_again,

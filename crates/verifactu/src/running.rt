@@ -15,6 +15,7 @@ ghost use Rattle.verifactu.specs.CommandLine.{IsForIssuerOrOneFile, IsGuarding, 
 
 use crate::command_line::{Command, command_of};
 use crate::help::{help_text, version_text};
+use crate::helps::help_on;
 use crate::installation::run_issuers;
 use agency_port::Agency;
 use chain_disk::Disk;
@@ -39,7 +40,7 @@ use std::thread::Threads;
 /// `chain_cmd` for this issuer, `day FILE NIF` `day_cmd`, `drain FILE NIF` `drain_cmd`, and `serve FILE NIF` `serve_cmd`;
 /// `migrate FILE NEW` is `migrate_cmd`, `follow FILE NEW` `follow_cmd`, and `guard FILE NIF NEW` `guard_cmd`, whose new file is that
 /// of the one further post; `many FILE NIF FILE NIF ..` is `many_cmd` for these issuers, whose files are the first one and those of
-/// the further posts; `generate N` is `generate_cmd`, whose disk is its own; `--help` and `--version` print their texts. FILE
+/// the further posts; `generate N` is `generate_cmd`, whose disk is its own; `--help`, `COMMAND --help` and `--version` print their texts. FILE
 /// itself is the caller's: it names the disk. The outside has as many further posts as `posts_needed` says of the words. All its
 /// parts come back. How each command ends is in `ends`; what every run keeps of the file, of its tills and of the agency, in
 /// `promise`.
@@ -273,6 +274,7 @@ where
         }
         Command::Generate(n) => (generate_cmd(alloc, n, sink), post),
         Command::Help => (print_text(help_text(), sink), post),
+        Command::HelpOn(topic) => (print_text(help_on(topic), sink), post),
         Command::Version => (print_text(version_text(), sink), post),
     }
 }

@@ -6,8 +6,10 @@ use crate::runs::{
 use agency_port::{Message, PracticeAgency};
 use chain_disk::{Fill, MemDisk};
 use ports::{Gate, OpenGate};
+use record_fields::{Line, Sealed};
 use rows::holds;
 use std::alloc::Global;
+use std::fmt::Write;
 use std::hint::spin_loop;
 use std::sync::Wait;
 use std::sync::atomic::{AtomicU64, Ordering};
@@ -76,7 +78,9 @@ fn without_counts(
 }
 
 // The script; who is held, and until whom; how few entries each till may see, and how many at most; and what is printed.
-const HELD: [(&str, (u8, u8), [u64; 2], u64, &str); 3] = [
+type Held = (&'static str, (u8, u8), [u64; 2], u64, &'static str);
+
+const HELD: [Held; 3] = [
     (
         "sale 1 1 A F2 21:10000\nsale 2 1 B F2 21:10000\n",
         (1, 2),
@@ -101,40 +105,68 @@ const HELD: [(&str, (u8, u8), [u64; 2], u64, &str); 3] = [
     ),
 ];
 
+// Whether a text is this row's, but for the counts, which are within its bounds.
+fn is_text(alloc: Global, text: &str, row: &Held) -> Result<bool, Fail> {
+    let (lines, are_within) = without_counts(alloc, text, row.2, row.3)?;
+    Ok(are_within && lines.as_str() == row.4)
+}
+
+fn asks_after(rt: &(impl AllocGlobal + Threads + Wait + Sync), row: &Held) -> Result<(), Fail> {
+    let gate = Holding {
+        held: row.1.0,
+        until: row.1.1,
+        seen: AtomicU64::new(0),
+        late: AtomicU64::new(0),
+    };
+    let disk = disk_of(rt.alloc(), &[], 0)?;
+    let agency = PracticeAgency::new(rt.alloc());
+    let left = run_with(rt, DAY, row.0, (0, 0), disk, agency, &gate)?;
+    let is_done = left.ended.status == 0 && gate.late.load(Ordering::SeqCst) == 0;
+    let is_text = is_text(rt.alloc(), left.text.as_str(), row)?;
+    holds(is_done && is_text, row.0)
+}
+
 #[test]
 fn a_till_that_is_held_asks_after_the_other(rt: HostRuntime) -> Result<(), Fail> {
-    let alloc = rt.alloc();
-    for (script, (held, until), fewest, most, text) in HELD {
-        let gate = Holding {
-            held,
-            until,
-            seen: AtomicU64::new(0),
-            late: AtomicU64::new(0),
-        };
-        let agency = PracticeAgency::new(alloc);
-        let disk = disk_of(alloc, &[], 0)?;
-        let left = run_with(&rt, DAY, script, (0, 0), disk, agency, &gate)?;
-        let is_done = left.ended.status == 0 && gate.late.load(Ordering::SeqCst) == 0;
-        let (lines, are_within) = without_counts(alloc, left.text.as_str(), fewest, most)?;
-        holds(is_done && are_within && lines.as_str() == text, script)?;
+    for row in &HELD {
+        asks_after(&rt, row)?;
     }
     Ok(())
 }
 
 const TILLS: &str = "sale 1 1 A F2 21:10000\nsale 2 1 B F2 21:10000\nsale 3 1 C F2 21:10000\n";
 
+// The number and the Huella that a text tells of the record at this place.
+fn told_at<'a>(
+    alloc: Global,
+    text: &'a str,
+    place: &str,
+) -> Result<Option<(&'a str, &'a str)>, Fail> {
+    let mark = format!(in alloc; " taken {place} ")?;
+    let Some((_, rest)) = text.split_once(mark.as_str()) else {
+        return Ok(None);
+    };
+    let (record, _) = rest.split_once("\n").ok_or("a line")?;
+    Ok(Some(record.split_once(" ").ok_or("a Huella")?))
+}
+
+fn put_record(told: &mut String, place: &str, record: (&str, &str)) -> Result<(), Fail> {
+    let (num, huella) = record;
+    write!(
+        told,
+        "{place} alta {num} 01-01-2025 F2 21.00 121.00 N N {huella}\n"
+    )?;
+    Ok(())
+}
+
+const PLACES: [&str; 3] = ["1", "2", "3"];
+
 // The lines of the records that a text tells as taken, in the order of their places, without their states.
 fn told_in(alloc: Global, text: &str) -> Result<String, Fail> {
     let mut told = String::new(alloc);
-    for place in 1..=3u32 {
-        let mark = format!(in alloc; " taken {place} ")?;
-        if let Some((_, rest)) = text.split_once(mark.as_str()) {
-            let (record, _) = rest.split_once("\n").ok_or("a line")?;
-            let (num, huella) = record.split_once(" ").ok_or("a Huella")?;
-            let line = format!(in alloc;
-                "{place} alta {num} 01-01-2025 F2 21.00 121.00 N N {huella}\n"
-            )?;
-            told.push_str(line.as_str())?;
+    for place in &PLACES {
+        if let Some(record) = told_at(alloc, text, place)? {
+            put_record(&mut told, place, record)?;
         }
     }
     Ok(told)
@@ -154,6 +186,27 @@ fn held_by(rt: &(impl AllocGlobal + Threads + Wait + Sync), disk: MemDisk) -> Re
     Ok(held)
 }
 
+// The lines of the records that the image of a moment holds.
+fn held_at(
+    rt: &(impl AllocGlobal + Threads + Wait + Sync),
+    disk: &MemDisk,
+    moment: u64,
+    fill: Fill,
+) -> Result<String, Fail> {
+    match image_at(rt.alloc(), disk, moment, fill)? {
+        Some(image) => held_by(rt, image),
+        None => Err(Fail::from("an image")),
+    }
+}
+
+// Whether what is held is what was told, or that and one record.
+fn is_all_of(held: &str, told: &str) -> bool {
+    match held.strip_prefix(told) {
+        Some(more) => more.lines().count() <= 1,
+        None => false,
+    }
+}
+
 // The image of the last moment of a disk, filled so, which holds these records, or these and one. None where it doesn't, or where
 // the image of one of the moments before isn't a front of these, nor these and one. As the calls fail in turn, each moment is once
 // among the last ones.
@@ -166,10 +219,8 @@ fn last_image(
     let last = last_moment(rt.alloc(), disk)?;
     let mut is_all = false;
     for moment in last.saturating_sub(6)..=last {
-        let image = image_at(rt.alloc(), disk, moment, fill)?.ok_or("an image")?;
-        let held = held_by(rt, image)?;
-        let more = held.strip_prefix(told).map(|more| more.lines().count());
-        is_all = more.is_some_and(|more| more <= 1);
+        let held = held_at(rt, disk, moment, fill)?;
+        is_all = is_all_of(held.as_str(), told);
         if !is_all && !told.starts_with(held.as_str()) {
             return Ok(None);
         }
@@ -180,20 +231,31 @@ fn last_image(
     image_at(rt.alloc(), disk, last, fill)
 }
 
+// How many of the records have this Huella.
+fn times(pairs: &[(Sealed, Line)], huella: &[u8; 32]) -> u32 {
+    let mut count = 0u32;
+    for (record, _) in pairs {
+        if record.huella == *huella {
+            count = count.saturating_add(1);
+        }
+    }
+    count
+}
+
 // Whether an agency has processed so many records, none of them twice, in so many sessions.
 fn are_once(agency: &PracticeAgency, records: usize, sessions: usize) -> bool {
+    let mut begun = 0usize;
+    for entry in agency.log() {
+        if matches!(entry.message, Message::Begun { .. }) {
+            begun = begun.saturating_add(1);
+        }
+    }
     let pairs = agency.processed();
-    let begun = agency
-        .log()
-        .iter()
-        .filter(|entry| matches!(entry.message, Message::Begun { .. }));
-    let are_new = pairs.iter().all(|(record, _)| {
-        let same = pairs
-            .iter()
-            .filter(|(other, _)| other.huella == record.huella);
-        same.count() == 1
-    });
-    are_new && pairs.len() == records && begun.count() == sessions
+    let mut is_once = pairs.len() == records && begun == sessions;
+    for (record, _) in pairs {
+        is_once = is_once && times(pairs, &record.huella) == 1;
+    }
+    is_once
 }
 
 // The image of the last moment that a run of three tills left, where each image has what the run told.
@@ -212,12 +274,9 @@ fn all_noted(
     rt: &(impl AllocGlobal + Threads + Wait + Sync),
     disk: MemDisk,
 ) -> Result<(usize, String), Fail> {
-    let held = held_by(rt, disk)?;
-    let records = held.lines().count();
-    Ok((
-        records,
-        format!(in rt.alloc(); "chain {records} noted {records}\n")?,
-    ))
+    let records = held_by(rt, disk)?.lines().count();
+    let chain = format!(in rt.alloc(); "chain {records} noted {records}\n")?;
+    Ok((records, chain))
 }
 
 // Whether a drain of this file leaves each of its records with the agency, once.
@@ -271,24 +330,37 @@ fn is_told(text: &str, words: &str) -> bool {
         && text.contains(" saw ") == (words == DAY)
 }
 
+// Whether a run's disk failed at this call.
+fn fails_at(
+    rt: &(impl AllocGlobal + Threads + Wait + Sync),
+    words: &str,
+    failing: u64,
+    fill: Fill,
+) -> Result<bool, Fail> {
+    let left = ran(rt, words, TILLS, disk_of(rt.alloc(), &[], failing)?)?;
+    let is_done = left.ended.status == 0;
+    let is_told = if is_done {
+        is_told(left.text.as_str(), words)
+    } else {
+        left.ended.status == 6
+    };
+    let are_kept = are_kept(rt, left, fill)?;
+    holds_at(is_told && are_kept, words, failing)?;
+    Ok(!is_done)
+}
+
+const COMMANDS: [&str; 2] = [DAY, SERVE];
+
 #[test]
 fn a_disk_that_fails_keeps_what_was_told_and_each_record_is_sent_once(
     rt: HostRuntime,
 ) -> Result<(), Fail> {
-    for words in [DAY, SERVE] {
+    for words in &COMMANDS {
         let mut failed = 0u32;
         for failing in 1..40u64 {
-            for fill in FILLS {
-                let left = ran(&rt, words, TILLS, disk_of(rt.alloc(), &[], failing)?)?;
-                let done = left.ended.status == 0;
-                let is_told = if done {
-                    is_told(left.text.as_str(), words)
-                } else {
-                    left.ended.status == 6
-                };
-                failed = failed.saturating_add(u32::from(!done));
-                let are_kept = are_kept(&rt, left, fill)?;
-                holds_at(is_told && are_kept, words, failing)?;
+            for fill in &FILLS {
+                let fails = fails_at(&rt, words, failing, *fill)?;
+                failed = failed.saturating_add(u32::from(fails));
             }
         }
         // An opening makes nine calls, and each of three sales and of one note at least four.

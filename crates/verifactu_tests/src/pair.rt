@@ -118,14 +118,22 @@ fn leads_to(
     wanted: &[u8],
 ) -> Result<bool, Fail> {
     let alloc = rt.alloc();
-    let Pair {
-        status,
-        mut disk,
-        mut copy,
-        ..
-    } = paired(rt, words, disk_of(alloc, file, 0)?, copy)?;
-    let is_file = has(alloc, &mut disk, wanted)?;
-    Ok(status == 0 && is_file && has(alloc, &mut copy, wanted)?)
+    let mut pair = paired(rt, words, disk_of(alloc, file, 0)?, copy)?;
+    let is_file = pair.status == 0 && has(alloc, &mut pair.disk, wanted)?;
+    Ok(is_file && has(alloc, &mut pair.copy, wanted)?)
+}
+
+fn follows_on(
+    rt: &(impl AllocGlobal + Threads + Wait + Sync),
+    file: &[u8],
+    copy: &MemDisk,
+    moment: u64,
+    fill: Fill,
+) -> Result<bool, Fail> {
+    match image_at(rt.alloc(), copy, moment, fill)? {
+        Some(image) => leads_to(rt, FOLLOW, file, image, file),
+        None => Err(Fail::from("an image")),
+    }
 }
 
 // Whether each image of the last moments of a copy is one that may be followed on, to the whole file. As the calls fail in turn,
@@ -136,15 +144,13 @@ fn goes_on(
     copy: &MemDisk,
 ) -> Result<bool, Fail> {
     let last = last_moment(rt.alloc(), copy)?;
+    let mut is_led = true;
     for moment in last.saturating_sub(6)..=last {
-        for fill in FILLS {
-            let image = image_at(rt.alloc(), copy, moment, fill)?.ok_or("an image")?;
-            if !leads_to(rt, FOLLOW, file, image, file)? {
-                return Ok(false);
-            }
+        for fill in &FILLS {
+            is_led = is_led && follows_on(rt, file, copy, moment, *fill)?;
         }
     }
-    Ok(true)
+    Ok(is_led)
 }
 
 // Whether a disk was only read.
@@ -176,30 +182,62 @@ fn is_mended(
 }
 
 // The words, how many calls of a disk they make at most, and what is printed.
-const RUNS: [(&str, u64, &str); 2] = [
+type Run = (&'static str, u64, &'static str);
+
+const RUNS: [Run; 2] = [
     (FOLLOW, 29, "followed 2 entries 2\n"),
     (GUARD, 39, "cleared\nnoted 2\nchain 2 noted 2\n"),
 ];
 
+// A run over this file and an empty copy, each of whose disks fails at the call of its number.
+fn ran(
+    rt: &(impl AllocGlobal + Threads + Wait + Sync),
+    words: &str,
+    file: &[u8],
+    failing: (u64, u64),
+) -> Result<Pair, Fail> {
+    let copy = disk_of(rt.alloc(), &[], failing.1)?;
+    match disk_of(rt.alloc(), file, failing.0) {
+        Ok(disk) => paired(rt, words, disk, copy),
+        Err(fail) => Err(fail),
+    }
+}
+
+// The file that a run leaves over disks that don't fail.
+fn whole(
+    rt: &(impl AllocGlobal + Threads + Wait + Sync),
+    run: &Run,
+    file: &[u8],
+) -> Result<Vec<u8>, Fail> {
+    let mut pair = ran(rt, run.0, file, (0, 0))?;
+    let is_text = pair.text.as_slice() == run.2.as_bytes();
+    holds(is_text && pair.status == 0, run.0)?;
+    bytes_of(rt.alloc(), &mut pair.disk)
+}
+
+fn fails_at(
+    rt: &(impl AllocGlobal + Threads + Wait + Sync),
+    run: &Run,
+    file: &[u8],
+    wanted: &[u8],
+    failing: (u64, u64),
+) -> Result<(), Fail> {
+    let call = failing.0.max(failing.1);
+    let pair = ran(rt, run.0, file, failing)?;
+    let failed = has_failed(&pair);
+    let is_due = (call > 1 || failed) && (call < run.1 || !failed);
+    let is_mended = is_mended(rt, run.0, file, pair, wanted)?;
+    holds_at(is_due && is_mended, run.0, call)
+}
+
 #[test]
 fn each_call_of_either_disk_fails_in_turn(rt: HostRuntime) -> Result<(), Fail> {
-    let alloc = rt.alloc();
-    let file = bytes_of(alloc, &mut file_of(&rt, TWO)?)?;
-    for (words, calls, text) in RUNS {
-        let disk = disk_of(alloc, &file, 0)?;
-        let mut whole = paired(&rt, words, disk, disk_of(alloc, &[], 0)?)?;
-        let wanted = bytes_of(alloc, &mut whole.disk)?;
-        let is_text = whole.text.as_slice() == text.as_bytes();
-        holds(is_text && whole.status == 0, words)?;
-        for call in 1..=calls {
-            for (of_shop, of_copy) in [(call, 0), (0, call)] {
-                let disk = disk_of(alloc, &file, of_shop)?;
-                let pair = paired(&rt, words, disk, disk_of(alloc, &[], of_copy)?)?;
-                let failed = has_failed(&pair);
-                let is_due = (call > 1 || failed) && (call < calls || !failed);
-                let is_mended = is_mended(&rt, words, &file, pair, &wanted)?;
-                holds_at(is_due && is_mended, words, call)?;
-            }
+    let file = bytes_of(rt.alloc(), &mut file_of(&rt, TWO)?)?;
+    for run in &RUNS {
+        let wanted = whole(&rt, run, &file)?;
+        for call in 1..=run.1 {
+            fails_at(&rt, run, &file, &wanted, (call, 0))?;
+            fails_at(&rt, run, &file, &wanted, (0, call))?;
         }
     }
     Ok(())

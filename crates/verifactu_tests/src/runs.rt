@@ -51,11 +51,9 @@ pub struct Left<G> {
 
 /// A disk that holds these bytes, and fails at the call of this number, from 1.
 pub fn disk_of(alloc: Global, bytes: &[u8], failing: u64) -> Result<MemDisk, Fail> {
-    Ok(MemDisk::new(
-        alloc,
-        Vec::from_slice(alloc, bytes)?,
-        Vec::from_slice(alloc, &[failing])?,
-    ))
+    let bytes = Vec::from_slice(alloc, bytes)?;
+    let failing = Vec::from_slice(alloc, &[failing])?;
+    Ok(MemDisk::new(alloc, bytes, failing))
 }
 
 /// The image of a moment, filled so. None where the moment is not yet.
@@ -94,14 +92,19 @@ pub fn run_in<
     outside: Outside<D, C, LeapSleeper, G>,
     gate: &T,
 ) -> Result<(Ended, Outside<D, C, LeapSleeper, G>), Fail> {
-    let mut list = Vec::new(rt.alloc());
-    for word in words.split(' ') {
-        list.push(String::from_str(rt.alloc(), word)?)?;
-    }
+    let list = words_of(rt.alloc(), words)?;
     if outside.more.len() != usize::from(posts_needed(&list)) {
         return Err(Fail::from("another count of files"));
     }
     Ok(run(rt, rt.alloc(), &list, source, sink, outside, gate))
+}
+
+fn words_of(alloc: Global, words: &str) -> Result<Vec<String>, Fail> {
+    let mut list = Vec::new(alloc);
+    for word in words.split(' ') {
+        list.push(String::from_str(alloc, word)?)?;
+    }
+    Ok(list)
 }
 
 /// Runs the words over a source of this script and a sink, each of which fails at the call of its number, from 1. The clock
@@ -115,23 +118,59 @@ pub fn run_with<G: Agency + Send + Drop, T: Gate + Sync>(
     agency: G,
     gate: &T,
 ) -> Result<Left<G>, Fail> {
-    let alloc = rt.alloc();
-    let outside = Outside {
+    let outside = outside_of(rt.alloc(), disk, agency);
+    let mut source = source_of(rt.alloc(), script, failing.0)?;
+    let mut sink = sink_of(rt.alloc(), failing.1)?;
+    match run_in(rt, words, &mut source, &mut sink, outside, gate) {
+        Ok((ended, outside)) => left_by(rt.alloc(), ended, outside, &sink),
+        Err(fail) => Err(fail),
+    }
+}
+
+// All that is outside a run over this disk and this agency.
+fn outside_of<G: Agency + Send + Drop>(
+    alloc: Global,
+    disk: MemDisk,
+    agency: G,
+) -> Outside<MemDisk, CountingClock, LeapSleeper, G> {
+    Outside {
         disk,
         clock: CountingClock::new(TEN, 0),
         sleeper: LeapSleeper::new(NEXT_DAY),
         agency,
         more: Posts::of(Vec::new(alloc)),
-    };
+    }
+}
+
+fn source_of(alloc: Global, script: &str, failing: u64) -> Result<MemSource, Fail> {
     let bytes = Vec::from_slice(alloc, script.as_bytes())?;
-    let mut source = MemSource::new(alloc, bytes, Vec::from_slice(alloc, &[failing.0])?);
-    let mut sink = MemSink::new(alloc, Vec::from_slice(alloc, &[failing.1])?);
-    let (ended, outside) = run_in(rt, words, &mut source, &mut sink, outside, gate)?;
+    let failing = Vec::from_slice(alloc, &[failing])?;
+    Ok(MemSource::new(alloc, bytes, failing))
+}
+
+fn sink_of(alloc: Global, failing: u64) -> Result<MemSink, Fail> {
+    let failing = Vec::from_slice(alloc, &[failing])?;
+    Ok(MemSink::new(alloc, failing))
+}
+
+fn text_of(alloc: Global, sink: &MemSink) -> Result<String, Fail> {
+    match String::from_utf8(Vec::from_slice(alloc, sink.bytes())?) {
+        Ok(text) => Ok(text),
+        Err(_) => Err(Fail::from("a text")),
+    }
+}
+
+fn left_by<G: Agency + Send + Drop>(
+    alloc: Global,
+    ended: Ended,
+    outside: Outside<MemDisk, CountingClock, LeapSleeper, G>,
+    sink: &MemSink,
+) -> Result<Left<G>, Fail> {
+    let text = text_of(alloc, sink)?;
     let Outside { disk, agency, .. } = outside;
-    let text = String::from_utf8(Vec::from_slice(alloc, sink.bytes())?);
     Ok(Left {
         ended,
-        text: text.ok().ok_or("a text")?,
+        text,
         disk,
         agency,
     })
@@ -178,8 +217,17 @@ const ANSWERS: &str =
     "till 1 serial 2 taken 2 A-2 4DB9BA37C07D44D4DAFC79742BD454AE86D5C6A354352780573CF06FACADE438\ntill 1 serial 3 taken 3 A-3 8D67231369C8F2A30232EE5EBB99BB2391568F2F51A85DF05CF8129E898F6C8A\n";
 
 // On a file of one sale: the words, what they read, the calls that fail, the status, what was printed, and the chain line of the
-// file behind it. A source gives all of this in one call, and the end in a second.
-const FAULTS: [(&str, &str, (u64, u64), u8, &str, &str); 12] = [
+// file after it. A source gives all of this in one call, and the end in a second.
+type Fault = (
+    &'static str,
+    &'static str,
+    (u64, u64),
+    u8,
+    &'static str,
+    &'static str,
+);
+
+const FAULTS: [Fault; 12] = [
     ("--help", "", (1, 1), 5, "", "\nchain 1 noted 0\n"),
     ("audit shop.chain", "", (1, 1), 5, "", "\nchain 1 noted 0\n"),
     ("generate 1", "", (1, 1), 5, "", "\nchain 1 noted 0\n"),
@@ -194,15 +242,30 @@ const FAULTS: [(&str, &str, (u64, u64), u8, &str, &str); 12] = [
     (SERVE, MORE, (0, 3), 5, ANSWERS, "\nchain 3 noted 3\n"),
 ];
 
+// The disk that a run left. Fails where it told something else than this.
+fn told_so(left: Left<PracticeAgency>, row: &Fault) -> Result<MemDisk, Fail> {
+    holds(
+        left.ended.status == row.3 && left.text.as_str() == row.4,
+        row.0,
+    )?;
+    Ok(left.disk)
+}
+
+fn stands(
+    rt: &(impl AllocGlobal + Threads + Wait + Sync),
+    row: &Fault,
+    file: MemDisk,
+) -> Result<(), Fail> {
+    let agency = PracticeAgency::new(rt.alloc());
+    let left = run_with(rt, row.0, row.1, row.2, file, agency, &OpenGate)?;
+    let listing = listing_of(rt, told_so(left, row)?)?;
+    holds(listing.ends_with(row.5), row.0)
+}
+
 #[test]
 fn what_was_asked_stands_where_a_source_or_a_sink_fails(rt: HostRuntime) -> Result<(), Fail> {
-    for (words, script, failing, status, text, chain) in FAULTS {
-        let agency = PracticeAgency::new(rt.alloc());
-        let file = file_of(&rt, ONE)?;
-        let left = run_with(&rt, words, script, failing, file, agency, &OpenGate)?;
-        let is_told = left.ended.status == status && left.text.as_str() == text;
-        let listing = listing_of(&rt, left.disk)?;
-        holds(is_told && listing.ends_with(chain), words)?;
+    for row in &FAULTS {
+        stands(&rt, row, file_of(&rt, ONE)?)?;
     }
     Ok(())
 }

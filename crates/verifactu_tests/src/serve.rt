@@ -9,8 +9,10 @@ use chain_disk::Disk;
 use ports::{Clock, Failed, LeapSleeper, OpenGate, Sink, Source};
 use rows::holds;
 use std::alloc::Global;
+use std::sync::Wait;
 use std::sync::atomic::{AtomicU64, Ordering};
 use std::test::Fail;
+use std::thread::Threads;
 use verifactu::{Outside, Posts};
 
 // A disk in memory that tells nothing, and counts its syncs where others see it.
@@ -116,6 +118,17 @@ struct LockstepSource<'a> {
     early: u64,
 }
 
+impl<'a> LockstepSource<'a> {
+    fn of(bytes: &'a [u8], answers: &'a AtomicU64) -> LockstepSource<'a> {
+        LockstepSource {
+            bytes,
+            answers,
+            due: 0,
+            early: 0,
+        }
+    }
+}
+
 impl<'a> Source for LockstepSource<'a> {
     ghost use Rattle.std.specs.Prelude.{None};
     ghost use Rattle.std.proofs.Common.{rules, arith};
@@ -150,6 +163,18 @@ struct LockstepSink<'a> {
     syncs: &'a AtomicU64,
     at: Vec<u64>,
     lost: bool,
+}
+
+impl<'a> LockstepSink<'a> {
+    fn of(alloc: Global, answers: &'a AtomicU64, syncs: &'a AtomicU64) -> LockstepSink<'a> {
+        LockstepSink {
+            bytes: Vec::new(alloc),
+            answers,
+            syncs,
+            at: Vec::new(alloc),
+            lost: false,
+        }
+    }
 }
 
 impl<'a> Sink for LockstepSink<'a> {
@@ -188,9 +213,47 @@ fn synced_in(text: &str, syncs: &[u64]) -> (u64, bool) {
     (taken, are_synced)
 }
 
+// Whether a sink took this front of a text, each of the three records synced before its line.
+fn is_told(sink: &LockstepSink<'_>, text: &str) -> bool {
+    match str::from_utf8(sink.bytes.as_slice()) {
+        Ok(printed) => {
+            let are_synced = synced_in(printed, sink.at.as_slice()) == (3, true);
+            are_synced && !sink.lost && printed.starts_with(text)
+        }
+        Err(_) => false,
+    }
+}
+
 // An agency that never answers: no line is noted, and none of the syncs is the sender's.
 fn silent(alloc: Global) -> ToldAgency {
     ToldAgency::new(alloc, ToldAnswers::of(Vec::new(alloc)))
+}
+
+fn disk_of(alloc: Global, syncs: &AtomicU64) -> CountedDisk<'_> {
+    CountedDisk {
+        bytes: Vec::new(alloc),
+        faults: 0,
+        syncs,
+    }
+}
+
+// All that is outside a run whose syncs are counted here.
+fn outside_of(
+    alloc: Global,
+    syncs: &AtomicU64,
+) -> Outside<CountedDisk<'_>, WatchingClock<'_>, LeapSleeper, ToldAgency> {
+    Outside {
+        disk: disk_of(alloc, syncs),
+        clock: WatchingClock {
+            syncs,
+            sales: 3,
+            readings: 0,
+            early: 0,
+        },
+        sleeper: LeapSleeper::new(NEXT_DAY),
+        agency: silent(alloc),
+        more: Posts::of(Vec::new(alloc)),
+    }
 }
 
 const SALES: &str = "sale 1 1 A F2 21:10000\nsale 1 2 A F2 21:10000\nsale 1 3 A F2 21:10000\n";
@@ -206,58 +269,43 @@ const ANSWERS: &str =
 
 // The words, what they read, the front of what is printed, the readings of the clock, and the status: the agency never answers,
 // which `chain` doesn't ask.
-const RUNS: [(&str, &str, &str, u64, u8); 3] = [
+type Run = (&'static str, &'static str, &'static str, u64, u8);
+
+const RUNS: [Run; 3] = [
     (CHAIN, SALES, TAKEN, 3, 0),
     (DAY, SALES, TAKEN, 3, 8),
     (SERVE, LINES, ANSWERS, 5, 8),
 ];
 
+// Whether a clock was read as often, and never before a record was synced.
+fn is_read(clock: &WatchingClock<'_>, readings: u64) -> bool {
+    clock.readings == readings && clock.early == 0
+}
+
+// Fails where a record isn't synced before its answer and before the next command.
+fn keeps_order(rt: &(impl AllocGlobal + Threads + Wait + Sync), row: &Run) -> Result<(), Fail> {
+    let syncs = AtomicU64::new(0);
+    let answers = AtomicU64::new(0);
+    let mut source = LockstepSource::of(row.1.as_bytes(), &answers);
+    let mut sink = LockstepSink::of(rt.alloc(), &answers, &syncs);
+    let outside = outside_of(rt.alloc(), &syncs);
+    match run_in(rt, row.0, &mut source, &mut sink, outside, &OpenGate) {
+        Ok((ended, outside)) => {
+            let is_done = ended.status == row.4 && is_read(&outside.clock, row.3);
+            // The other two read their script to its end first.
+            let is_lockstep = (source.early == 0) == (row.0 == SERVE);
+            holds(is_done && is_lockstep && is_told(&sink, row.2), row.0)
+        }
+        Err(fail) => Err(fail),
+    }
+}
+
 #[test]
 fn each_record_is_synced_before_its_answer_and_the_next_command(
     rt: HostRuntime,
 ) -> Result<(), Fail> {
-    let alloc = rt.alloc();
-    for (words, lines, text, readings, status) in RUNS {
-        let syncs = AtomicU64::new(0);
-        let answers = AtomicU64::new(0);
-        let mut source = LockstepSource {
-            bytes: lines.as_bytes(),
-            answers: &answers,
-            due: 0,
-            early: 0,
-        };
-        let mut sink = LockstepSink {
-            bytes: Vec::new(alloc),
-            answers: &answers,
-            syncs: &syncs,
-            at: Vec::new(alloc),
-            lost: false,
-        };
-        let outside = Outside {
-            disk: CountedDisk {
-                bytes: Vec::new(alloc),
-                faults: 0,
-                syncs: &syncs,
-            },
-            clock: WatchingClock {
-                syncs: &syncs,
-                sales: 3,
-                readings: 0,
-                early: 0,
-            },
-            sleeper: LeapSleeper::new(NEXT_DAY),
-            agency: silent(alloc),
-            more: Posts::of(Vec::new(alloc)),
-        };
-        let (ended, outside) = run_in(&rt, words, &mut source, &mut sink, outside, &OpenGate)?;
-        let printed = str::from_utf8(sink.bytes.as_slice()).ok().ok_or("a text")?;
-        let is_told = !sink.lost && printed.starts_with(text) && ended.status == status;
-        let is_synced = synced_in(printed, sink.at.as_slice()) == (3, true);
-        let clock = &outside.clock;
-        let is_read = clock.readings == readings && clock.early == 0;
-        // The other two read their script to its end first.
-        let is_lockstep = (source.early == 0) == (words == SERVE);
-        holds(is_told && is_synced && is_read && is_lockstep, words)?;
+    for row in &RUNS {
+        keeps_order(&rt, row)?;
     }
     Ok(())
 }

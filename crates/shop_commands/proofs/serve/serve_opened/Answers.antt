@@ -10,6 +10,7 @@ use Rattle.file_commands.proofs.Bytewise.{took_nothing}
 use Rattle.ports.specs.Sinks.{Sinks, this_sink}
 use Rattle.ports.specs.Sources.{SourceRose, Sources}
 use Rattle.report.specs.Pieces.{chain_line}
+use Rattle.shop_core.specs.Answer.Requests.{Asked}
 use Rattle.shop_core.specs.History.{History, noted, recs}
 use Rattle.till_calls.specs.Root.{Root, parts_of}
 use Rattle.shop_drain.specs.Opening.{IsUnbegun}
@@ -109,13 +110,13 @@ returns-in-Ok-begin g c = λ issuer disk left faults is_opened comes later cause
     let closed = c.close_speech-closed.result in
     let end = c.speech_end-detail.result in
     let k = this_sink g.K.Sink.taken g.K.Sink.faults c.args.sink.now c.close_speech-closed.new.sink in
-    let written = subst (λ (v : History). IsWritten closed k (printed t.how run.speech.text (chain_line (length (recs v.entries))
+    let written = subst (λ (v : History). IsWritten closed k (printed t.how run.speech.answers (chain_line (length (recs v.entries))
     (length (noted v.entries))))) c.state.ensures
-    (c.close_speech-closed.ensures.printed from.taken from.sink_faults run.speech.text run.written run.sink_later) in
-    let Comes : History → Type 0 = λ v. (began : SpeechEnd) (replies : Replies) (text : List ℕ) (s : Sources) (k : Sinks) →
-    Closes began closed → AreRepliesOf began replies → t.lacked ≡ list_any is_no_memory replies →
-    (began ≡ speech.ReadFault → SourceRose s) → IsWritten closed k text →
-    SpeechEnds began replies t.answer (length (noted v.entries)) (length (recs v.entries)) text s k end in
+    (c.close_speech-closed.ensures.printed from.taken from.sink_faults run.speech.answers run.written run.sink_later) in
+    let Comes : History → Type 0 = λ v. (began : SpeechEnd) (asks : List Asked) (replies : Replies) (answers texts : List (List ℕ))
+    (s : Sources) (k : Sinks) → Closes began closed → AreRepliesOf began asks replies answers → t.lacked ≡ list_any is_no_memory replies →
+    (began ≡ speech.ReadFault → SourceRose s) → IsWritten closed k texts →
+    SpeechEnds began replies t.answer (length (noted v.entries)) (length (recs v.entries)) texts s k end in
     let ends = subst (λ (v : History). Comes v) c.state-in-Ok-begin.ensures c.speech_end-detail.ensures in
     talked h issuer disk p then (sleeper_in g.Z.Sleeper old new) (agency_in g.G.Agency old new)
     (source_since left faults (g.S.Source.left c.run_dialogue-opened.new.source) (g.S.Source.faults c.run_dialogue-opened.new.source)) k clock

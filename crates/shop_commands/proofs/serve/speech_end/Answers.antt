@@ -10,17 +10,17 @@ use Rattle.shop_commands.proofs.SpeechTexts.{ended_so, some_written}
 use Rattle.shop_commands.proofs.serve.speech_end.Goals as goal
 
 pub returns-then-lacked : goal.returns-then-lacked
-returns-then-lacked c = λ began replies text s k closes are lacked rose w. no_memory (some_written c.args.how k text w)
+returns-then-lacked c = λ began asks replies answers texts s k closes are lacked rose w. no_memory (some_written c.args.how k texts w)
 
 pub returns-then-sender_lacks_memory : goal.returns-then-sender_lacks_memory
-returns-then-sender_lacks_memory c = λ began replies text s k closes are lacked rose w.
-    no_memory (some_written c.args.how k text w)
+returns-then-sender_lacks_memory c = λ began asks replies answers texts s k closes are lacked rose w.
+    no_memory (some_written c.args.how k texts w)
 
 pub returns : goal.returns
-returns c = λ began replies text s k closes are lacked rose w.
+returns c = λ began asks replies answers texts s k closes are lacked rose w.
     let n = length (noted c.args.state.now.entries) in
     let r = length (recs c.args.state.now.entries) in
     let memory : list_any is_no_memory replies ≡ false = sym lacked ∙ c.if-lacked.false in
     let sender : sender_lacks_memory c.args.sent.now ≡ false = sym c.sender_lacks_memory.ensures ∙ c.if-sender_lacks_memory.false in
-    subst (λ (d : Detail). SpeechEnds began replies c.args.sent.now n r text s k d) (sym c.end_of.ensures)
-    (ended_so began replies c.args.sent.now n r text s k memory sender c.args.how c.requires.counts closes are rose w)
+    subst (λ (d : Detail). SpeechEnds began replies c.args.sent.now n r texts s k d) (sym c.end_of.ensures)
+    (ended_so began asks replies answers c.args.sent.now n r texts s k memory sender c.args.how c.requires.counts closes are rose w)

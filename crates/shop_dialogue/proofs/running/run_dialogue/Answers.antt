@@ -119,7 +119,7 @@ returns g c = record {
           before = spoken.before;
           asks = spoken.asks;
           replies = spoken.replies;
-          text = spoken.text;
+          answers = spoken.answers;
           how = c.converse_beside-sent.new.how;
         };
         tills = told;

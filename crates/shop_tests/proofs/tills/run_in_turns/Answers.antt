@@ -35,7 +35,9 @@ close-requires-clause-whole g c = λ n l.
     (till_knows c.in-Some-pull.one) (till_knows c.in-Some.two) (seat_knows s.seat) _ _
     c.in-Some.ensures.knows c.in-Some-pull.ensures.knows (c.hand_back-2.ensures.knows ∙
     ap (λ l. l ++ till_knows c.count_now-count.new.till ∷ []) c.hand_back.ensures.knows)
-    (ap numbers_of c.ask-again.ensures.asks.after ∙ ap numbers_of c.ask-first.ensures.asks.after)
+    (ap numbers_of c.ask-again.ensures.asks.after ∙ (ap numbers_of c.inform.ensures.knows ∙
+    ap numbers_of c.ask-first.ensures.asks.after))
     (ap numbers_of c.count_now-count.ensures.raised ∙ (ap numbers_of c.ask-second.ensures.asks.after ∙
-    (ap numbers_of c.count_now-behind.ensures.raised ∙ ap numbers_of c.count_now-before.ensures.raised)))
+    (ap numbers_of c.look-looked.ensures.looks.sees.same ∙ (ap numbers_of c.inform.ensures.raised ∙
+    (ap numbers_of c.count_now-behind.ensures.raised ∙ ap numbers_of c.count_now-before.ensures.raised)))))
     (c.in-Ok.ensures.whole n l)

@@ -93,14 +93,14 @@ run_issuers-requires-clause-distinct g c κs within =
     let words = map (string_bytes {Z = Global}) c.args.words.now in
     let asked = subst (λ (k : Command). AsksFor words k) (c.in-Some-Many.field-0-is ∙ ap Many (sym c.as_slice.ensures.all))
     c.in-Some-Many.ensures in
-    own_of c.as_slice.result.now asked.are.issuers_apart
+    own_of c.as_slice.result.now asked.0.are.issuers_apart
 
 pub run_issuers-requires-clause-one_each : goal.run_issuers-requires-clause-one_each
 run_issuers-requires-clause-one_each g c κs within =
     let words = map (string_bytes {Z = Global}) c.args.words.now in
     let asked = subst (λ (k : Command). AsksFor words k) (c.in-Some-Many.field-0-is ∙ ap Many (sym c.as_slice.ensures.all))
     c.in-Some-Many.ensures in
-    ap (λ (n : ℕ). n + 1) c.requires ∙ many_posts words c.as_slice.result.now asked
+    ap (λ (n : ℕ). n + 1) c.requires ∙ many_posts words c.as_slice.result.now asked.0
 
 pub returns-in-Some-Many-clause-ends : goal.returns-in-Some-Many-clause-ends
 returns-in-Some-Many-clause-ends g c =

@@ -6,7 +6,7 @@ pub loop-init : goal.loop-init
 loop-init g c = record {
   next = tt;
   finite = tt;
-  passes = λ left heard first. record { lines = []; before = []; heard = heard; first = first };
+  passes = λ left heard first. record { lines = []; before = []; answers = []; heard = heard; first = first };
   later = search rules;
 }
 
@@ -14,13 +14,13 @@ pub returns-in-Err-clause-first : goal.returns-in-Err-clause-first
 returns-in-Err-clause-first g c = λ left heard first.
     let p = c.loop.invariant.passes left heard first in
     came_none left (g.S.Source.left c.loop.source) (g.S.Source.left c.hear.new.source) c.loop.self c.in-Err.end p
-    (c.in-Err.ensures.hears left p.lines p.before [] [] [] p.heard)
+    (c.in-Err.ensures.hears left p.lines p.before [] [] p.answers p.heard)
 
 pub returns-then-not-is_first-clause-first : goal.returns-then-not-is_first-clause-first
 returns-then-not-is_first-clause-first g c = λ left heard first.
     let p = c.loop.invariant.passes left heard first in
     came_first left (g.S.Source.left c.loop.source) (g.S.Source.left c.hear.new.source) c.loop.self c.hear.new.self c.in-Ok.task p
-    (c.in-Ok.ensures.hears left p.lines p.before [] [] [] p.heard) (λ e. search rules)
+    (c.in-Ok.ensures.hears left p.lines p.before [] [] p.answers p.heard) (λ e. search rules)
 
 pub loop-preserved : goal.loop-preserved
 loop-preserved g c = record {
@@ -28,7 +28,7 @@ loop-preserved g c = record {
   finite = tt;
   passes = λ left heard first.
       let p = c.loop.invariant.passes left heard first in
-      passed_over left (g.S.Source.left c.hear.new.source) c.loop.self c.hear.new.self p.lines p.before c.in-Ok.task
-      (c.in-Ok.ensures.hears left p.lines p.before [] [] [] p.heard) (search rules);
+      passed_over left (g.S.Source.left c.hear.new.source) c.loop.self c.hear.new.self p.lines p.before p.answers c.in-Ok.task
+      (c.in-Ok.ensures.hears left p.lines p.before [] [] p.answers p.heard) (search rules);
   later = (let a = c.loop.invariant.later in let b = c.hear.ensures.later in omega (arith, a, b));
 }

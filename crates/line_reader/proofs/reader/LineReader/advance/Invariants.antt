@@ -1,6 +1,6 @@
 use Rattle.std.proofs.Common.{◌≡◌, ◌≤◌, List, [], ℕ, true}
 use Rattle.std.specs.Io.KnownBytes.{Consumes}
-use Rattle.line_reader.specs.Lines.{is_dropping, kept_of}
+use Rattle.line_reader.specs.Lines.{IsAskedFor, is_dropping, kept_of, last_read}
 use Rattle.line_reader.specs.Reading.{has_lf}
 use Rattle.line_reader.proofs.Underway.{Underway}
 use Rattle.line_reader.proofs.reader.LineReader.advance.Given as goal
@@ -12,8 +12,9 @@ invariant-loop g l = record {
   taken : List ℕ;
   let_go : List ℕ;
   consumed : Consumes (g.S.Source.left l.fn.source) (g.S.Source.left l.source) taken;
-  underway : Underway (kept_of l.fn.self) taken let_go (is_dropping l.fn.self) l.self.stage l.self.text.items l.self.chunk;
-  unread : has_lf (kept_of l.fn.self) ≡ true → (l.source ≡ l.fn.source) × (has_lf l.self.chunk ≡ true);
+  underway : Underway (kept_of l.fn.self) taken let_go (is_dropping l.fn.self) l.self.stage l.self.text.items l.self.chunk.rest;
+  asked : IsAskedFor (kept_of l.fn.self) taken (last_read l.self);
+  unread : has_lf (kept_of l.fn.self) ≡ true → (l.source ≡ l.fn.source) × (has_lf l.self.chunk.rest ≡ true);
   over : l.self.over ≡ l.fn.self.over;
   rests : l.fn.self.over ≡ true → taken ≡ [];
   asleep : l.fn.self.over ≡ true → l.source ≡ l.fn.source;
