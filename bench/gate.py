@@ -8,6 +8,7 @@ before.
     bench/gate.py [COMMAND ..]      the command's own output goes to standard error
 """
 import os
+import resource
 import subprocess
 import sys
 import threading
@@ -79,7 +80,9 @@ def main():
     ended.set()
     watcher.join()
     table(seen)
-    print(f"Minutes from its start to its end: {(time.monotonic() - begun) / 60:.0f}, by {os.cpu_count()} processors; status {status}")
+    used = resource.getrusage(resource.RUSAGE_CHILDREN)
+    print(f"Processor minutes of all that it started, rt itself among it: {(used.ru_utime + used.ru_stime) / 60:.0f}")
+    print(f"Minutes from its start to its end: {(time.monotonic() - begun) / 60:.0f}, by {len(os.sched_getaffinity(0))} processors; status {status}")
     return status
 
 

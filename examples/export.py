@@ -1,10 +1,10 @@
 #!/usr/bin/env python3
-"""Computes each Huella of an export again, from the fields beside it, without the program.
+"""Computes each Huella of an export again, from the record's fields, without the program.
 
     ./verifactu export shop.chain | python3 examples/export.py
 
 Prints `N records`; or the first record that doesn't name the one before it, or whose Huella isn't that of its fields, and ends
-with status 1. The keys are those of docs/FORMAT.md (Lines of JSON), the field text is that of docs/AUDITORS.md.
+with status 1. The keys are those of docs/FORMAT.md (Lines of JSON), the field text is that of docs/HUELLA.md.
 """
 import hashlib
 import json

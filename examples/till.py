@@ -4,8 +4,9 @@
     python3 examples/till.py till.chain 89890001K
 
 It sells twice, has the program killed between a sale and its answer, asks again, and prints the link of each ticket. The serial of a
-command stands on the till's own disk (till.chain.serial) before the command is asked. With CLOCK="START STEP" it is tried by a
-clock that leaps, so that the end doesn't sit out the agency's pause.
+command stands on the till's own disk (till.chain.serial) before the command is asked. A till that may be killed itself keeps the whole
+line there (docs/TILLS.md), so that it can ask the same again. With CLOCK="START STEP" it is tried by a clock that leaps, so that
+the end doesn't sit out the agency's pause.
 """
 import os
 import subprocess
@@ -15,7 +16,7 @@ PROGRAM = os.environ.get("VERIFACTU", os.path.join(os.path.dirname(os.path.abspa
 
 
 class Shop:
-    """The program behind two pipes. Where it has ended it is started again, and asked the same once more."""
+    """The program over two pipes. Where it has ended it is started again, and asked the same once more."""
 
     def __init__(self, chain, issuer):
         self.words = [PROGRAM, "serve", chain, issuer]

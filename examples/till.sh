@@ -1,7 +1,8 @@
 #!/bin/sh
 # A till that speaks with `verifactu serve`, line by line. It sells twice, has the program killed between a sale and its answer, asks
-# again, and prints the link of each ticket. The serial of a command stands on the till's own disk before the command is asked.
-# With CLOCK="START STEP" it is tried by a clock that leaps, so that the end doesn't sit out the agency's pause.
+# again, and prints the link of each ticket. The serial of a command stands on the till's own disk before the command is asked; a till that
+# may be killed itself keeps the whole line there (docs/TILLS.md). With CLOCK="START STEP" it is tried by a clock that leaps, so that the
+# end doesn't sit out the agency's pause.
 # usage: examples/till.sh till.chain 89890001K
 set -eu
 : "${VERIFACTU:=$(dirname -- "$0")/../verifactu}"

@@ -17,6 +17,7 @@ const WHAT_TO_DO = {
   "not-held": "La Agencia no tiene la factura que se corrige o se anula. Avise a su técnico.",
   gone: "La Agencia tiene esta factura como anulada. Avise a su técnico.",
 };
+const WHAT_TO_DO_WITH_A_CANCELLATION = "Busque el código en la lista de errores de la Agencia. La factura no está anulada: vuelva a anularla en la caja.";
 
 const part = (id) => document.getElementById(id);
 const euros = (cents) => new Intl.NumberFormat("es-ES", { style: "currency", currency: "EUR", useGrouping: "always" }).format(cents / 100);
@@ -70,6 +71,10 @@ function kindOf(row) {
   return row.record === "anulacion" ? "anulación" : row.kind;
 }
 
+function whatToDo(row) {
+  return row.record === "anulacion" && row.state === "vet" ? WHAT_TO_DO_WITH_A_CANCELLATION : WHAT_TO_DO[row.state];
+}
+
 function showWaiting(state) {
   const waiting = state.records - state.noted;
   part("waiting").textContent = count(waiting);
@@ -87,7 +92,7 @@ function showRefused(rows) {
     const first = document.createElement("p");
     const total = row.total === undefined ? "" : `, ${euros(row.total)}`;
     first.append(element("strong", row.num), ` del ${day(row.date)} (${kindOf(row)}${total}), registro ${count(row.place)}: ${stateText(row)}.`);
-    item.append(first, element("p", WHAT_TO_DO[row.state], "note"));
+    item.append(first, element("p", whatToDo(row), "note"));
     return item;
   }));
 }

@@ -5,32 +5,42 @@
 
 The program is the stand-in unless --program (or VERIFACTU) names the real one; N is how many sales each of 64 tills makes (200). NAMEs are of
 modules, classes or tests, as unittest has them. A Debian package that is missing is installed where that may be; under CI, where the variable
-CI is set, its want is a failure. Tests that want a language, nginx, or the right to mount and to make network namespaces are left out without.
+CI is set, its want is a failure, and nginx, PHP and iproute2 are installed too. Tests that want a language, nginx, or the right to mount and to
+make network namespaces are left out without.
 """
 from __future__ import annotations
 
 import argparse
 import importlib.util
 import os
+import shutil
 import subprocess
 import sys
 import unittest
-from typing import Any, Iterator
+from typing import Any, Iterator, List
 
 PACKAGES = {"aiohttp": "python3-aiohttp", "jsonschema": "python3-jsonschema"}
+COMMANDS = {"curl": "curl", "ip": "iproute2", "nginx": "nginx-light", "openssl": "openssl", "php": "php-cli"}  # that CI wants
 MODULES = ["test_parts", "test_requests", "test_running", "test_machines", "test_clients"]
-# these wait for 75 and 30 seconds, and run beside the others
-WAITING = ["test_running.SlowTest.test_a_request_must_have_arrived_within_75_seconds", "test_running.LimitTest"]
+# each of these in a process of its own, beside the others; the first two wait for 75 and 30 seconds
+BESIDE = ["test_running.SlowTest.test_a_request_must_have_arrived_within_75_seconds", "test_running.LimitTest", "test_requests"]
+
+
+def missing_packages() -> List[str]:
+    """The packages that the tests want and that aren't there."""
+    importlib.invalidate_caches()
+    missing = [package for module, package in PACKAGES.items() if importlib.util.find_spec(module) is None]
+    return missing + [package for command, package in COMMANDS.items() if "CI" in os.environ and shutil.which(command) is None]
 
 
 def have_packages() -> bool:
     """Whether the packages are there, after an attempt to install those that aren't."""
-    missing = [package for module, package in PACKAGES.items() if importlib.util.find_spec(module) is None]
+    missing = missing_packages()
     if missing and os.geteuid() == 0:
         for words in (["update"], ["install", "-y", "--no-install-recommends", *missing]):
-            subprocess.run(["apt-get", *words], stdout=subprocess.DEVNULL, stderr=subprocess.DEVNULL, check=False)
-        importlib.invalidate_caches()
-        missing = [package for module, package in PACKAGES.items() if importlib.util.find_spec(module) is None]
+            subprocess.run(["apt-get", *words], stdin=subprocess.DEVNULL, stdout=subprocess.DEVNULL, stderr=subprocess.DEVNULL, check=False,
+                           env={**os.environ, "DEBIAN_FRONTEND": "noninteractive"})
+        missing = missing_packages()
     if missing:
         print("the hub's tests need " + " ".join(missing))
     return not missing
@@ -50,14 +60,14 @@ def main() -> int:
 
     trying.Options.program = os.path.realpath(options.program) if options.program else trying.STAND_IN
     trying.Options.sales = options.sales
-    beside = None if options.names else subprocess.Popen([sys.executable, os.path.realpath(__file__), *sys.argv[1:], *WAITING])
+    runs = [] if options.names else [subprocess.Popen([sys.executable, os.path.realpath(__file__), *sys.argv[1:], name]) for name in BESIDE]
     passed = run(unittest.defaultTestLoader.loadTestsFromNames(options.names or MODULES), options)
-    return 1 if (beside is not None and beside.wait()) or not passed else 0
+    return 0 if not any([process.wait() for process in runs]) and passed else 1
 
 
 def run(suite: unittest.TestSuite, options: argparse.Namespace) -> bool:
     """Runs tests, without those that run beside them, and says which couldn't be run here."""
-    chosen = unittest.TestSuite(test for test in tests_of(suite) if options.names or not is_waiting(test))
+    chosen = unittest.TestSuite(test for test in tests_of(suite) if options.names or not is_beside(test))
     result = unittest.TextTestRunner(verbosity=2 if options.verbose else 1, warnings="ignore").run(chosen)  # type: ignore[arg-type]
     for test, reason in result.skipped:
         print(f"not run: {test.id()}: {reason}")
@@ -70,9 +80,9 @@ def tests_of(suite: Any) -> Iterator[unittest.TestCase]:
         yield from tests_of(test) if isinstance(test, unittest.TestSuite) else (test,)
 
 
-def is_waiting(test: unittest.TestCase) -> bool:
-    """Whether it is one of WAITING."""
-    return any(test.id() == name or test.id().startswith(name + ".") for name in WAITING)
+def is_beside(test: unittest.TestCase) -> bool:
+    """Whether it is one of BESIDE."""
+    return any(test.id() == name or test.id().startswith(name + ".") for name in BESIDE)
 
 
 if __name__ == "__main__":

@@ -3,11 +3,12 @@
 # The words that may stand at place $1 of a command, $2; files are said as FILE.
 _verifactu_words() {
     case $2:$1 in
-        :*) echo 'chain day serve many drain guard audit link check statement export matches generate follow migrate help --agency --help --version' ;;
+        :*) echo 'chain day serve many drain guard audit link list check statement export matches generate follow migrate help --agency --help --version' ;;
         generate:*) ;;
-        help:1) echo 'chain day serve many drain guard audit link check statement export matches generate follow migrate' ;;
+        help:1) echo 'chain day serve many drain guard audit link list check statement export matches generate follow migrate' ;;
         *:1 | follow:2 | migrate:2 | guard:3 | many:3 | many:5 | many:7 | many:9 | many:11 | many:13 | many:15) echo FILE ;;
         link:3) echo 'real test' ;;
+        list:2) echo 'all waiting refused' ;;
         check:2) echo '1 2 4 8 16' ;;
     esac
 }

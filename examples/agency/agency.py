@@ -1,5 +1,5 @@
 #!/usr/bin/env python3
-"""A practice adapter: an agency in memory behind two FIFOs, `agency.py TO FROM`. Standard library alone.
+"""A practice adapter: an agency in memory, spoken to over two FIFOs, `agency.py TO FROM`. Standard library alone.
 
 It keeps the agency's rules: a batch is processed whole and in order, a record that came before is a duplicate with the state of
 its line and changes nothing, and a consultation tells what was processed. It refuses a batch that isn't linked, and a record whose
@@ -59,7 +59,7 @@ class Practice(Adapter):
                 state.write(json.dumps([sort, content, line]) + "\n")
 
     def note(self, row):
-        """Behind an LF of its own: a run that is killed leaves half a line."""
+        """After an LF of its own: a run that is killed leaves half a line."""
         if self.log:
             self.log.write(b"\n" + json.dumps(row).encode() + b"\n")
 

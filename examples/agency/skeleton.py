@@ -189,7 +189,7 @@ class Adapter:
 
     def submit(self, records):
         """Hands a checked batch over: an item [huella, word, code] for each record in order, and the seconds to wait. No further call goes
-        out behind one that leaves a record without its line: the service would show that record no more."""
+        out after one that leaves a record without its line: the service would show that record no more."""
         items, wait = [], 0
         for call in calls_of(records):
             if any(item[0] not in self.journal.lines for item in items):

@@ -1,19 +1,17 @@
-// Which word of a command line is wrong, the first from the left.
+//! Which word of a command line is wrong, the first from the left.
 use crate::forms::places_of;
 use crate::places::{Place, WordsFault};
 use amounts::read_whole;
-use parties::Nif;
+use parties::{MAX_ISSUERS, Nif};
 use series::NumSerie;
-use statements::Month;
+use statements::Period;
 
 // The most that `generate` and `check` take.
 const MOST_COMMANDS: u64 = 100_000;
 
 const MOST_WORKERS: u64 = 16;
 
-// The most pairs of `many`, and how many it has at least.
-const MOST_PAIRS: usize = 8;
-
+// How many pairs `many` has at least. It has `MAX_ISSUERS` at most.
 const FEWEST_PAIRS: usize = 2;
 
 fn asks_help(word: &str) -> bool {
@@ -32,8 +30,9 @@ fn fits(place: Place, word: &str) -> bool {
     match place {
         Place::Num => NumSerie::read(word).is_some(),
         Place::Host => word == "real" || word == "test",
+        Place::Which => word == "all" || word == "waiting" || word == "refused",
         Place::Workers => is_count(word, MOST_WORKERS),
-        Place::Month => Month::read(word).is_some(),
+        Place::Period => Period::read(word).is_some(),
         Place::Count => is_count(word, MOST_COMMANDS),
         Place::To | Place::From | Place::File | Place::New | Place::Nif => !word.is_empty(),
     }
@@ -59,7 +58,7 @@ pub fn place_fault(place: Place, word: &str) -> Option<WordsFault<'_>> {
     None
 }
 
-// What is wrong with a word behind the last place.
+// What is wrong with a word after the last place.
 fn further(word: &str) -> WordsFault<'_> {
     if asks_help(word) {
         WordsFault::Help(word)
@@ -99,7 +98,7 @@ fn stands_ahead(words: &[String], number: usize, word: &str) -> bool {
 
 // What is wrong with the words of `many`.
 fn pairs_fault(words: &[String]) -> Option<WordsFault<'_>> {
-    for number in 0..2 * MOST_PAIRS {
+    for number in 0..2 * MAX_ISSUERS {
         let place = if number % 2 == 0 {
             Place::File
         } else {
@@ -121,7 +120,7 @@ fn pairs_fault(words: &[String]) -> Option<WordsFault<'_>> {
             return Some(WordsFault::Twice(word));
         }
     }
-    match words.get(2 * MOST_PAIRS) {
+    match words.get(2 * MAX_ISSUERS) {
         Some(word) => Some(further(word.as_str())),
         None => None,
     }
@@ -143,7 +142,7 @@ fn same_file<'a>(name: &str, words: &'a [String]) -> Option<WordsFault<'a>> {
     }
 }
 
-// What is wrong with the words behind `help`.
+// What is wrong with the words after `help`.
 fn help_fault(words: &[String]) -> Option<WordsFault<'_>> {
     let word = words.first()?.as_str();
     if asks_help(word) {
@@ -158,7 +157,7 @@ fn help_fault(words: &[String]) -> Option<WordsFault<'_>> {
     }
 }
 
-// What is wrong with the words behind the one of `--version` or of a help.
+// What is wrong with the words after the one of `--version` or of a help.
 fn alone_fault(words: &[String]) -> Option<WordsFault<'_>> {
     match words.first() {
         Some(word) => Some(further(word.as_str())),
@@ -166,7 +165,7 @@ fn alone_fault(words: &[String]) -> Option<WordsFault<'_>> {
     }
 }
 
-// What is wrong with the words behind this name.
+// What is wrong with the words after this name.
 fn fault_behind<'a>(name: &'a str, words: &'a [String]) -> Option<WordsFault<'a>> {
     if asks_help(name) {
         return Some(WordsFault::Help(name));

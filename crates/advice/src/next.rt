@@ -1,4 +1,4 @@
-// What to do about a status, in a sentence.
+//! What to do about a status, in a sentence.
 use report::Detail;
 use shop_core::Word;
 

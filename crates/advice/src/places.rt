@@ -1,8 +1,8 @@
-// What the words of a command line stand for, and what is wrong with one.
+//! What the words of a command line stand for, and what is wrong with one.
 use parties::NifFault;
 use std::fmt;
 
-/// What a word behind a command's name stands for.
+/// What a word after a command's name stands for.
 #[derive(Clone, Copy, Debug, PartialEq, Eq)]
 pub enum Place {
     /// The file that the adapter reads, of `--agency TO FROM`.
@@ -14,8 +14,9 @@ pub enum Place {
     Nif,
     Num,
     Host,
+    Which,
     Workers,
-    Month,
+    Period,
     Count,
 }
 
@@ -29,8 +30,9 @@ impl Place {
                 "1 to 60 printable characters without \" ' < > =, and no blank at either end"
             }
             Place::Host => "real or test",
+            Place::Which => "all, waiting or refused",
             Place::Workers => "a number from 1 to 16, without leading zeros",
-            Place::Month => "a month from 01-2024 to 12-2100",
+            Place::Period => "a month from 01-2024 to 12-2100, or a day of one",
             Place::Count => "a number from 1 to 100000, without leading zeros",
         }
     }
@@ -46,8 +48,9 @@ impl fmt::Display for Place {
             Place::Nif => "NIF",
             Place::Num => "NUM",
             Place::Host => "HOST",
+            Place::Which => "WHICH",
             Place::Workers => "WORKERS",
-            Place::Month => "MM-YYYY",
+            Place::Period => "MM-YYYY or DD-MM-YYYY",
             Place::Count => "N",
         })
     }

@@ -11,14 +11,14 @@ use Rattle.serde_json.specs.declared.value.Value.{Value}
 use Rattle.agency_pipe.specs.Greeting.{Began, FailedToOpen, GivesPiece, Greets, IsPassed, NotBegun, Passed, Piece, Steps, Stopped, Stops, TooMany, again, bytes_of, openings, rest_of}
 use Rattle.agency_pipe.specs.Hearing.{Behind, Gave, GaveFront, Hears}
 use Rattle.agency_pipe.specs.Lines.{with_lf}
-use Rattle.agency_pipe.specs.Speaking.{Call, Converses, Exchanges, Knocks, Meets, call_of}
+use Rattle.agency_pipe.specs.Speaking.{Call, SendsAndReads, Exchanges, Knocks, Meets, call_of}
 use Rattle.agency_pipe.specs.declared.exchange.Quiet.{Quiet}
 use Rattle.agency_pipe.specs.declared.exchange.Quiet.TheVariants as quiet
 use Rattle.agency_pipe.specs.declared.faults.Unheard.{Unheard}
 use Rattle.agency_pipe.specs.declared.faults.Unheard.TheVariants as unheard
-use Rattle.agency_pipe.specs.declared.hear.Deaf.{Deaf}
-use Rattle.agency_pipe.specs.declared.hear.TheConstants.{MOST_EARLIER}
-use Rattle.agency_pipe.specs.declared.hear.Deaf.TheVariants as deaf
+use Rattle.agency_pipe.specs.declared.answer_reader.Deaf.{Deaf}
+use Rattle.agency_pipe.specs.declared.answer_reader.TheConstants.{MOST_EARLIER}
+use Rattle.agency_pipe.specs.declared.answer_reader.Deaf.TheVariants as deaf
 use Rattle.agency_pipe.proofs.Bytewise.{failed_after}
 use Rattle.agency_pipe.proofs.ListLemmas.{small_more}
 
@@ -269,7 +269,7 @@ began_still n left mid after b still = record {
 -- the begin was answered, and then the message was written and an answer waited for
 pub conversed : (c : Call) (left mid after : Option (List ℕ)) (f g h : ℕ) (taken tmid tafter : Option (List ℕ)) (p q r : ℕ)
     (result : Result Value Quiet) → (b : Began c.number left mid) → Appends taken tmid (openings c.opening c.number b.passed) → f ≤ g → p ≤ q
-    → Converses (source_of mid after g h) (sink_of tmid tafter q r) (counted_up c.number) c.message result
+    → SendsAndReads (source_of mid after g h) (sink_of tmid tafter q r) (counted_up c.number) c.message result
     → Exchanges (source_of left after f h) (sink_of taken tafter p r) c result
 conversed c left mid after f g h taken tmid tafter p q r (Ok value) b wrote later sink_later is = (
   mid,

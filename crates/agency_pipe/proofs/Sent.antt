@@ -10,8 +10,8 @@ use Rattle.std.specs.declared.io.traits.Read as Read
 use Rattle.std.specs.declared.io.traits.Write as Write
 use Rattle.std.specs.declared.io.traits.Seek as Seek
 use Rattle.agency_pipe.proofs.log.Log.TheSendSync.{the_send as log_send}
-use Rattle.agency_pipe.specs.contracts.said.Said as said
-use Rattle.agency_pipe.specs.contracts.said.Asked as asked
+use Rattle.agency_pipe.specs.contracts.message_log.MessageLog as said
+use Rattle.agency_pipe.specs.contracts.message_log.Asked as asked
 use Rattle.agency_pipe.specs.contracts.ends.PipeSource as pipe_source
 use Rattle.agency_pipe.specs.contracts.ends.PipeSink as pipe_sink
 use Rattle.agency_pipe.specs.contracts.pipe.PipeAgency as agency

@@ -9,9 +9,9 @@ use Rattle.export.specs.Lines.{value_read}
 use Rattle.agency_pipe.specs.Lines.{has_lf, with_lf}
 use Rattle.agency_pipe.specs.Standing.{standing_of, tells_begun}
 use Rattle.agency_pipe.specs.declared.faults.Unheard.TheVariants as unheard
-use Rattle.agency_pipe.specs.declared.hear.Deaf.{Deaf}
-use Rattle.agency_pipe.specs.declared.hear.Deaf.TheVariants as deaf
-use Rattle.agency_pipe.specs.declared.hear.TheConstants.{MOST_EARLIER}
+use Rattle.agency_pipe.specs.declared.answer_reader.Deaf.{Deaf}
+use Rattle.agency_pipe.specs.declared.answer_reader.Deaf.TheVariants as deaf
+use Rattle.agency_pipe.specs.declared.answer_reader.TheConstants.{MOST_EARLIER}
 use Rattle.agency_pipe.specs.declared.reader.TheConstants.{MAX_ANSWER}
 use Rattle.agency_pipe.specs.declared.standing.Standing.{Standing}
 use Rattle.agency_pipe.specs.declared.standing.Standing.TheVariants as standing

@@ -3,7 +3,7 @@ use Rattle.std.specs.Prelude.{ℕ, ◌+◌, ◌-◌, ◌^◌, if◌then◌else�
 use Rattle.agency_port.specs.declared.answers.AgencyFault.{AgencyFault}
 use Rattle.agency_port.specs.declared.answers.AgencyFault.TheVariants.{Failed, NoMemory}
 
--- the seconds that are waited after so many failed calls
+-- the seconds that are waited after this many failed calls
 abbrev pub pause_after : ℕ → ℕ
 pause_after failed =
     if nat_lt failed 1 then 0 else (if nat_lt failed 2 then 1 else (if nat_lt failed 3 then 2 else (if nat_lt failed 4 then 4 else 8)))

@@ -16,8 +16,8 @@ use Rattle.agency_pipe.specs.Hearing.{Behind, Gave, Hears}
 use Rattle.agency_pipe.specs.Lines.{with_lf}
 use Rattle.agency_pipe.specs.declared.faults.Unheard.{Unheard}
 use Rattle.agency_pipe.specs.declared.faults.Unheard.TheVariants as unheard
-use Rattle.agency_pipe.specs.declared.hear.Deaf.{Deaf}
-use Rattle.agency_pipe.specs.declared.hear.Deaf.TheVariants as deaf
+use Rattle.agency_pipe.specs.declared.answer_reader.Deaf.{Deaf}
+use Rattle.agency_pipe.specs.declared.answer_reader.Deaf.TheVariants as deaf
 use Rattle.agency_pipe.specs.declared.exchange.Quiet.{Quiet}
 use Rattle.agency_pipe.specs.declared.exchange.Quiet.TheVariants as quiet
 
@@ -80,12 +80,12 @@ Meets s k n opening (Err quiet.Closed) = Closed s k
 Meets s k n opening other = Greets s k n opening other
 
 -- the same of the message alone, once the begin was answered
-abbrev pub Converses : Sources → Sinks → ℕ → List ℕ → Result Value Quiet → Type 0
-Converses s k n message (Ok value) = Wrote k message × Gave s n (Ok value)
-Converses s k n message (Err quiet.Sink) = FailedIn k message × Consumes s.left s.left_after []
-Converses s k n message (Err quiet.Closed) = ⊥
-Converses s k n message (Err (quiet.Unbegun why)) = ⊥
-Converses s k n message (Err (quiet.Deaf why)) = Wrote k message × Hears s n (Err why)
+abbrev pub SendsAndReads : Sources → Sinks → ℕ → List ℕ → Result Value Quiet → Type 0
+SendsAndReads s k n message (Ok value) = Wrote k message × Gave s n (Ok value)
+SendsAndReads s k n message (Err quiet.Sink) = FailedIn k message × Consumes s.left s.left_after []
+SendsAndReads s k n message (Err quiet.Closed) = ⊥
+SendsAndReads s k n message (Err (quiet.Unbegun why)) = ⊥
+SendsAndReads s k n message (Err (quiet.Deaf why)) = Wrote k message × Hears s n (Err why)
 
 abbrev pub is_no_memory : Unheard → Bool
 is_no_memory unheard.Json = false
@@ -168,14 +168,14 @@ Speaks gives c s k was is (Err Failed) =
 Speaks gives c s k was is (Err NoMemory) = WithoutMemory s k c was is
 
 -- what an agency keeps of its calls: the number of the next one's begin, the session, and the count of its faults
-pub record Kept : Type 0 where
+pub record PipeState : Type 0 where
   pub number : ℕ
   pub issuer : List ℕ
   pub host : Host
   pub noted : ℕ
   pub faults : ℕ
 
-abbrev pub kept : ℕ → List ℕ → Host → ℕ → ℕ → Kept
+abbrev pub kept : ℕ → List ℕ → Host → ℕ → ℕ → PipeState
 kept number issuer host noted faults = record { number = number; issuer = issuer; host = host; noted = noted; faults = faults }
 
 -- a failure is counted, and nothing else
@@ -185,5 +185,5 @@ faults_by (Err Failed) faults = counted_up faults
 faults_by (Err NoMemory) faults = faults
 
 -- what a call makes of it: its begin and its message have a number each
-abbrev pub after : {A : Type 0} → Kept → Result A AgencyFault → Kept
+abbrev pub after : {A : Type 0} → PipeState → Result A AgencyFault → PipeState
 after old result = kept (counted_up (counted_up old.number)) old.issuer old.host old.noted (faults_by result old.faults)

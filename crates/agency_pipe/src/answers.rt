@@ -1,4 +1,4 @@
-// What the line of an answer is read as.
+//! What the line of an answer is read as.
 ghost use Rattle.std.specs.Prelude.{List, IfOk, MatchOption};
 ghost use Rattle.serde_json.specs.View.{view};
 ghost use Rattle.batches.specs.Batches.{huellas_of};

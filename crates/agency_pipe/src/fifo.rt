@@ -1,4 +1,4 @@
-// FIFOs by their paths. Nothing is claimed of what stands in the file system.
+//! FIFOs by their paths. Nothing is claimed of what stands in the file system.
 use ports::reason_of;
 use std::fs::{self, File, Files, Metadata, OpenOptions, TryLockError};
 use std::os::unix::fs::{FileTypeExt, MetadataExt};

@@ -1,4 +1,4 @@
-// Begins a call: nothing of its message is written before the other side has answered the begin.
+//! Begins a call: nothing of its message is written before the other side has answered the begin.
 ghost use Rattle.std.specs.Prelude.{◌≡◌, ◌≤◌, IfOk, vec_capacity};
 ghost use Rattle.serde_json.specs.View.{view};
 ghost use Rattle.export.specs.Lines.{value_read};
@@ -9,8 +9,8 @@ ghost use Rattle.agency_pipe.specs.Greeting.{Greets, Heeds, Steps, greeting_by, 
 ghost use Rattle.agency_pipe.specs.declared.reader.TheConstants.{MAX_ANSWER};
 
 use crate::Unheard;
+use crate::answer_reader::{Deaf, MOST_EARLIER};
 use crate::exchange::Quiet;
-use crate::hear::{Deaf, MOST_EARLIER};
 use crate::reader::{Came, read_line};
 use crate::standing::{Standing, standing_of};
 use crate::write::write_text;

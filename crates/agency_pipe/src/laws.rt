@@ -1,4 +1,4 @@
-// What goes to another thread.
+//! What goes to another thread.
 use crate::ends::{PipeSink, PipeSource};
 use crate::patient::Patient;
 use crate::pipe::PipeAgency;

@@ -1,4 +1,4 @@
-// An agency that isn't hurried: before a call that follows failed ones it waits. Nothing is claimed of time.
+//! An agency that isn't hurried: before a call that follows failed ones it waits. Nothing is claimed of time.
 ghost use Rattle.std.specs.Prelude.{◌≡◌};
 ghost use Rattle.agency_pipe.specs.Patience as spec;
 
@@ -11,7 +11,7 @@ use std::alloc::Global;
 use std::thread;
 use std::time::{Clock, Duration};
 
-// The seconds that are waited after so many failed calls: 1, 2, 4, and then 8.
+// The seconds that are waited after this many failed calls: 1, 2, 4, and then 8.
 fn pause_after(failed: u32) -> u64
     ensures { result ≡ spec.pause_after failed }
 {

@@ -1,17 +1,17 @@
-// The agency behind a source and a sink.
+//! The agency behind a source and a sink.
 ghost use Rattle.std.specs.Prelude.{◌≡◌, ◌≤◌, vec_capacity};
 ghost use Rattle.ports.specs.Memory.{counted_up};
 ghost use Rattle.agency_pipe.specs.Speaking as spec;
 ghost use Rattle.agency_pipe.specs.declared.reader.TheConstants.{MAX_ANSWER};
 
 use crate::Unheard;
+use crate::answer_reader::Deaf;
 use crate::answers::{reply_in, seen_in};
 use crate::exchange::{Quiet, exchange};
-use crate::hear::Deaf;
+use crate::message_log::{MessageLog, is_told};
 use crate::messages::{consult_line, opening_of, submit_line};
 use crate::reader::MAX_ANSWER;
 use crate::reasons::told_in;
-use crate::said::{Said, is_told};
 use agency_port::{Agency, AgencyFault, Reply, SeenList};
 use agency_rules::Plan;
 use batches::{Batch, HuellaList, Huellas};
@@ -38,7 +38,7 @@ pub struct PipeAgency<S, K> {
     fault_count: u64,
     last: Option<Quiet>,
     told: Option<String>,
-    said: Said,
+    said: MessageLog,
     ghost room: { MAX_ANSWER ≤ vec_capacity text },
 }
 
@@ -103,7 +103,7 @@ impl<S: Source + Drop, K: Sink + Drop> PipeAgency<S, K> {
     ghost use Rattle.agency_pipe.specs.Answers.{GivesReply, GivesSeen};
     ghost use Rattle.agency_pipe.specs.Calls.{consult_call, submit_call};
     ghost use Rattle.agency_pipe.specs.Messages.{opening_of};
-    ghost use Rattle.agency_pipe.specs.Said.{said_in};
+    ghost use Rattle.agency_pipe.specs.MessageLog.{said_in};
     ghost use Rattle.agency_pipe.specs.Speaking.{Asks, Speaks, after, call_of, faults_by, kept};
 
     /// The agency behind these, whose first begin has this number. It takes the memory for the longest answer.
@@ -134,7 +134,7 @@ impl<S: Source + Drop, K: Sink + Drop> PipeAgency<S, K> {
             fault_count: 0,
             last: None,
             told: None,
-            said: Said::nothing(),
+            said: MessageLog::nothing(),
         })
     }
 
@@ -165,7 +165,7 @@ impl<S: Source + Drop, K: Sink + Drop> PipeAgency<S, K> {
         &self.sink
     }
 
-    // Makes a call, whose begin has this number, and hears its answer. Where there is none the failure is counted.
+    // Makes a call, whose begin has this number, and reads its answer. Where there is none the failure is counted.
     fn ask(&mut self, alloc: Global, number: u64, message: &[u8]) -> Result<Value, AgencyFault>
         ensures said { said_in self.new.said ≡ said_in self.old.said }
         ensures cause { HasCause (counted self.old.fault_count) (counted self.new.fault_count) result }
@@ -269,7 +269,7 @@ impl<S: Source + Drop, K: Sink + Drop> Agency for PipeAgency<S, K> {
     ghost use Rattle.agency_port.specs.Ledger.{counted};
     ghost use Rattle.agency_pipe.specs.Answers.{GivesReply, GivesSeen};
     ghost use Rattle.agency_pipe.specs.Calls.{consult_call, submit_call};
-    ghost use Rattle.agency_pipe.specs.Said.{ledger_of, said_in};
+    ghost use Rattle.agency_pipe.specs.MessageLog.{ledger_of, said_in};
     ghost use Rattle.agency_pipe.specs.Speaking.{Speaks, after, kept};
 
     ghost tells = { true };

@@ -1,8 +1,8 @@
-// Why a message has no answer, in words. Nothing is claimed of them.
+//! Why a message has no answer, in words. Nothing is claimed of them.
 use crate::Unheard;
+use crate::answer_reader::Deaf;
 use crate::ends::{PipeSink, PipeSource};
 use crate::exchange::Quiet;
-use crate::hear::Deaf;
 use crate::pipe::PipeAgency;
 use export::value_of;
 use std::alloc::{AllocError, AllocFailed, Global};

@@ -1,4 +1,4 @@
-// Writes a message.
+//! Writes a message.
 ghost use Rattle.std.specs.Prelude.{◌≤◌};
 ghost use Rattle.ports.specs.Sinks.{this_sink, OutputIs};
 

@@ -1,4 +1,4 @@
-// Messages and answers, a line each.
+//! Messages and answers, a line each.
 use crate::sales::{CONSULTATION_9, OPENING_6, SUBMISSION, batch, nif, with_huella};
 use agency_pipe::{
     Unheard, begin_line, consult_line, opening_of, read_reply, read_seen, submit_line,
@@ -6,9 +6,9 @@ use agency_pipe::{
 use agency_port::{Reply, ReplyLine, Seen, State3};
 use batches::{Batch, Huellas};
 use record_fields::{Cause, Line};
-use rows::holds;
 use std::alloc::Global;
 use std::test::Fail;
+use test_rows::holds;
 use verify_link::Host;
 
 #[test]

@@ -1,14 +1,14 @@
-// Pauses before calls that follow failed ones, by a clock of the test's own.
+//! Pauses before calls that follow failed ones, by a clock of the test's own.
 use crate::sales::batch;
 use agency_pipe::Patient;
 use agency_port::{Agency, Seen, SeenList, ToldAgency, ToldAnswer, ToldAnswers};
 use batches::{Batch, Huellas};
-use rows::holds;
 use std::alloc::Global;
 use std::cell::Cell;
 use std::io;
 use std::test::Fail;
 use std::time::{Clock, Duration};
+use test_rows::holds;
 
 // The seconds of each pause, a decimal digit each, the last one last.
 #[derive(Drop)]
@@ -34,7 +34,7 @@ impl Clock for Pauses {
 
 type PatientAgency<'a> = Patient<'a, Pauses, ToldAgency>;
 
-// So many times a submission, and then a consultation.
+// This many times a submission, and then a consultation.
 fn ask(
     alloc: Global,
     agency: &mut PatientAgency<'_>,
@@ -49,7 +49,7 @@ fn ask(
     Ok(())
 }
 
-// The pauses before so many pairs of calls to an agency that gives these answers, and then none.
+// The pauses before this many pairs of calls to an agency that gives these answers, and then none.
 fn pauses_before(alloc: Global, answers: Vec<ToldAnswer>, times: u32) -> Result<u64, Fail> {
     let clock = Pauses {
         digits: Cell::new(0),
@@ -66,7 +66,7 @@ fn failed_calls_are_followed_by_pauses(rt: HostRuntime) -> Result<(), Fail> {
     holds(pauses == 1_248_888, "eight failed calls")
 }
 
-// What the agency says of so many records.
+// What the agency says of this many records.
 fn seen(alloc: Global, records: usize) -> Result<ToldAnswer, Fail> {
     let mut list = Vec::new(alloc);
     for _ in 0..records {
@@ -77,7 +77,7 @@ fn seen(alloc: Global, records: usize) -> Result<ToldAnswer, Fail> {
 
 #[test]
 fn no_pause_follows_a_call_that_succeeds(rt: HostRuntime) -> Result<(), Fail> {
-    // None that fits the first submission, and one that fits the consultation behind it.
+    // None that fits the first submission, and one that fits the consultation after it.
     let mut answers = Vec::new(rt.alloc());
     answers.push(seen(rt.alloc(), 0)?)?;
     answers.push(seen(rt.alloc(), 1)?)?;

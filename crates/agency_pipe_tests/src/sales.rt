@@ -1,4 +1,4 @@
-// A sale, and what is said of it.
+//! A sale, and what is said of it.
 use amounts::Cents;
 use batches::{Batch, are_linked};
 use invoice_kinds::Kind;

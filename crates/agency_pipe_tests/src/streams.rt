@@ -1,4 +1,4 @@
-// An agency over streams in memory. Lines as long as may be, and files that are no FIFOs, are shown by `.ci/fifos`.
+//! An agency over streams in memory. Lines as long as may be, and files that are no FIFOs, are shown by `.ci/fifos`.
 use crate::sales::{CONSULTATION_9, OPENING_6, SUBMISSION, batch, nif, with_huella};
 use agency_pipe::{
     Deaf, MOST_EARLIER, PipeAgency, PipeSink, PipeSource, Quiet, Unheard, may_cross_threads,
@@ -9,9 +9,9 @@ use agency_rules::Plan;
 use batches::Huellas;
 use ports::{MemSink, MemSource};
 use record_fields::Line;
-use rows::holds;
 use std::alloc::Global;
 use std::test::Fail;
+use test_rows::holds;
 use verify_link::Host;
 
 type MemAgency = PipeAgency<MemSource, MemSink>;
@@ -29,7 +29,7 @@ const OPENING_10: &str =
 const CONSULTATION_11: &str =
     "{\"huellas\":[\"0A0A0A0A0A0A0A0A0A0A0A0A0A0A0A0A0A0A0A0A0A0A0A0A0A0A0A0A0A0A0A0A\"],\"ids\":[[\"A-1\",\"01-01-2025\",\"alta\"]],\"n\":11,\"t\":\"consult\"}\n";
 
-// An agency in a session without noted records, which hears these answers. The calls of these numbers fail.
+// An agency in a session without noted records, which reads these answers. The calls of these numbers fail.
 fn agency(alloc: Global, answers: &str, read: u64, write: u64) -> Result<MemAgency, Fail> {
     let answers = with_huella(alloc, answers)?.into_bytes();
     let source = MemSource::new(alloc, answers, Vec::from_slice(alloc, &[read])?);
@@ -351,7 +351,7 @@ fn a_message_waits_until_its_begin_is_answered(rt: HostRuntime) -> Result<(), Fa
     )
 }
 
-// What comes before so many lines, these lines, what comes before the rest of the answers, and the rest; what comes of a submission, and what
+// What comes before this many lines, these lines, what comes before the rest of the answers, and the rest; what comes of a submission, and what
 // is said.
 type Many = (
     &'static str,

@@ -7,5 +7,5 @@ pub mod Submissions
 pub mod Consultations
 pub mod Tellings
 pub mod Sessions
-pub mod Kept
+pub mod LastNamed
 pub mod Duplicados

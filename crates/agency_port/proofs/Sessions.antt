@@ -14,7 +14,7 @@ use Rattle.agency_port.specs.declared.answers.Seen.{Seen}
 use Rattle.agency_port.specs.declared.messages.Message.{Message}
 use Rattle.agency_port.specs.declared.messages.Message.TheVariants.{Begun, Submitted, Consulted}
 
--- one more behind a list
+-- one more after a list
 any_then : (messages more : List Message) (a b : Bool) → list_any is_begin messages ≡ a → list_any is_begin more ≡ b →
     list_any is_begin (messages ++ more) ≡ (a || b)
 any_then messages more a b e f = rw (list_any-append is_begin messages more, e, f) refl

@@ -59,7 +59,7 @@ ok_counted (told.Submitted reply ∷ rest) huellas seen e = absurd cc
 ok_counted (told.Consulted kept ∷ rest) huellas seen e = counts_by (length kept == length huellas) (length kept) (length huellas)
     kept seen refl refl e
 
--- the count after an answer that isn't want of memory
+-- the count after an answer that isn't lack of memory
 count_cause : {A : Type 0} (r answer : Result A AgencyFault) (n m : ℕ) → r ≡ answer → m ≡ faults_after answer n →
     (r ≡ Err NoMemory → ⊥) → HasCause (counted n) (counted m) r
 count_cause (Ok value) answer n m e is other = record {

@@ -15,7 +15,7 @@ use Rattle.agency_port.specs.declared.answers.ReplyLine.TheVariants.{First}
 use Rattle.agency_port.specs.declared.messages.Message.{Message}
 use Rattle.agency_port.specs.declared.messages.Message.TheVariants.{Begun}
 
--- what stands behind an opening, and holds no other one, is the session
+-- what stands after an opening, and holds no other one, is the session
 abbrev pub SessionFollowsItsBegin : Type 0
 SessionFollowsItsBegin = (past session : List Message) (plan : Plan) (pairs : ℕ) → list_any is_begin session ≡ false →
     session_of (past ++ Begun plan pairs ∷ session) ≡ session

@@ -1,5 +1,5 @@
 -- What an agency tells, and what each call adds to it.
-use Rattle.std.specs.Prelude.{◌≡◌, ◌⊎◌, ℕ, ◌≤◌, ◌-◌, ◌^◌, min, List, [], ◌∷◌, ◌++◌, ⊤, Result, Ok, Err, IfOk}
+use Rattle.std.specs.Prelude.{◌≡◌, ◌⊎◌, ℕ, ◌≤◌, min, List, [], ◌∷◌, ◌++◌, ⊤, Result, Ok, Err, IfOk}
 use Rattle.ports.specs.Causes.{Rose}
 use Rattle.record_fields.specs.declared.records.Sealed.{Sealed}
 use Rattle.record_fields.specs.declared.lines.Line.{Line}
@@ -12,6 +12,7 @@ use Rattle.agency_port.specs.declared.answers.AgencyFault.{AgencyFault}
 use Rattle.agency_port.specs.declared.answers.AgencyFault.TheVariants.{Failed, NoMemory}
 use Rattle.agency_port.specs.declared.messages.Message.{Message}
 use Rattle.agency_port.specs.declared.messages.Message.TheVariants.{Begun, Submitted, Consulted}
+use Rattle.ports.specs.Causes.{greatest_u64}
 
 -- the processed records with their lines, the batches that were ever handed over, the verdicts, and all messages
 pub record Ledger : Type 0 where
@@ -22,14 +23,14 @@ pub record Ledger : Type 0 where
 
 -- a count of faults as a u64 holds it
 abbrev pub counted : ℕ → ℕ
-counted faults = min faults (2 ^ 64 - 1)
+counted faults = min faults greatest_u64
 
 -- the fact holds where the answer is Failed
 abbrev pub OnFailed : {T : Type 0} → Result T AgencyFault → Type 0 → Type 0
 OnFailed (Err Failed) P = P
 OnFailed other P = ⊤
 
--- The count of faults never falls, and Failed shows in it. Want of memory leaves it as it was.
+-- The count of faults never falls, and Failed shows in it. Lack of memory leaves it as it was.
 pub record HasCause {T : Type 0} (before now : ℕ) (result : Result T AgencyFault) : Type 0 where
   pub later : before ≤ now
   pub failed : OnFailed result (Rose before now)
@@ -58,7 +59,7 @@ pub record HandsOver (old new : Ledger) (batch : List Sealed) (answer : Result R
   pub sent : new.sent ≡ old.sent ++ batch ∷ []
   pub messages : new.messages ≡ old.messages ++ Submitted batch answer ∷ []
 
--- a batch for whose submission memory was wanting counts as handed over, or not
+-- a batch for whose submission memory ran out counts as handed over, or not
 abbrev pub Submits : Ledger → Ledger → List Sealed → Result Replied AgencyFault → Type 0
 Submits old new batch (Ok reply) = HandsOver old new batch (Ok reply)
 Submits old new batch (Err Failed) = HandsOver old new batch (Err Failed)
@@ -69,7 +70,7 @@ pub record IsAsked (old new : Ledger) (huellas : List (List ℕ)) (answer : Resu
   pub sent : new.sent ≡ old.sent
   pub messages : new.messages ≡ old.messages ++ Consulted huellas answer ∷ []
 
--- a consultation for which memory was wanting changes nothing
+-- a consultation for which memory ran out changes nothing
 abbrev pub Consults : Ledger → Ledger → List (List ℕ) → Result (List Seen) AgencyFault → Type 0
 Consults old new huellas (Ok seen) = IsAsked old new huellas (Ok seen)
 Consults old new huellas (Err Failed) = IsAsked old new huellas (Err Failed)

@@ -83,7 +83,7 @@ is_faulty None = false
 is_faulty (Some Again) = false
 is_faulty other = true
 
--- the call at whose start a batch that is late by so many calls comes: at the next one at least
+-- the call at whose start a batch that is late by this many calls comes: at the next one at least
 abbrev pub comes_at : Option Fate → ℕ → Option ℕ
 comes_at (Some (Late calls)) call = Some (call + max calls 1)
 comes_at other call = None
@@ -193,7 +193,7 @@ opened a plan noted = record {
   faults = a.faults;
 }
 
--- Want of memory leaves all as it was; else this is the answer, and the agency is then the next one.
+-- Lack of memory leaves all as it was; else this is the answer, and the agency is then the next one.
 abbrev pub IsRow : {A S : Type 0} → Result A AgencyFault → Result A AgencyFault → S → S → S → Type 0
 IsRow (Err NoMemory) answer old new next = new ≡ old
 IsRow (Err Failed) answer old new next = (Err Failed ≡ answer) × (new ≡ next)
@@ -206,7 +206,7 @@ pub record IsCutShort (old new : Practice) : Type 0 where
   pub faults : new.faults ≡ old.faults
   pub front : take (length old.processed) new.processed ≡ old.processed
 
--- A session is open. Want of memory leaves all as it was.
+-- A session is open. Lack of memory leaves all as it was.
 abbrev pub IsOpened : {S : Type 0} → Result ⊤ NoMemoryAt → S → S → S → Type 0
 IsOpened (Ok done) old new next = new ≡ next
 IsOpened (Err why) old new next = new ≡ old

@@ -18,7 +18,7 @@ abbrev pub is_begin : Message → Bool
 is_begin (Begun plan pairs) = true
 is_begin other = false
 
--- the session: the messages behind the last opening, or all where none was opened
+-- the session: the messages after the last opening, or all where none was opened
 abbrev pub session_of : List Message → List Message
 session_of [] = []
 session_of (m ∷ messages) = if list_any is_begin (m ∷ messages) then session_of messages else m ∷ messages

@@ -31,7 +31,7 @@ submission_answer [] batch = Err Failed
 submission_answer (told.Consulted seen ∷ rest) batch = Err Failed
 submission_answer (told.Submitted reply ∷ rest) batch = if is_reply_to reply batch then Ok reply else Err Failed
 
--- the next answer, where it is one for so many Huellas
+-- the next answer, where it is one for this many Huellas
 abbrev pub consultation_answer : List ToldAnswer → List (List ℕ) → Result (List Seen) AgencyFault
 consultation_answer [] huellas = Err Failed
 consultation_answer (told.Submitted reply ∷ rest) huellas = Err Failed

@@ -1,8 +1,8 @@
-// The trait of an agency.
+//! The trait of an agency.
 ghost use Rattle.std.specs.Prelude.{◌≡◌, ◌≤◌, ◌-◌, ◌^◌, ℕ, List, Bool, IsTrue, length, Result, IfOk, OnOk, OnErr, ⊤};
 ghost use Rattle.record_fields.specs.declared.records.Sealed.{Sealed as AnySealed};
 ghost use Rattle.record_fields.specs.declared.lines.Line.{Line as AnyLine};
-ghost use Rattle.record_fields.specs.declared.lines.TheConstants.{BATCH};
+ghost use Rattle.agency_port.specs.declared.agency.TheConstants.{MAX_CONSULTED};
 ghost use Rattle.batches.specs.Batches.{Named};
 ghost use Rattle.ports.specs.declared.faults.NoMemory.{NoMemory as AnyNoMemory};
 ghost use Rattle.agency_rules.specs.declared.plans.Plan.{Plan as AnyPlan};
@@ -19,6 +19,10 @@ use batches::{Batch, Huellas};
 use ports::NoMemory;
 use record_fields::{Line, Sealed};
 use std::alloc::Global;
+
+/// The most Huellas of one consultation, by the tax agency's description of the submission service. A sender asks for a batch at a
+/// time, so it is to be no less than `MAX_BATCH`.
+pub const MAX_CONSULTED: u16 = 1000;
 
 /// Takes batches of records and answers for them. Each failure is counted.
 pub trait Agency {
@@ -45,7 +49,7 @@ pub trait Agency {
 
     ghost consultation: { Self → Self → Named → Result (List AnySeen) AnyFault → Type 0 } = { λ _ _ _ _. ⊤ };
 
-    /// Opens a session. Want of memory changes nothing that is told.
+    /// Opens a session. Lack of memory changes nothing that is told.
     fn begin(
         &mut self,
         alloc: Global,
@@ -68,10 +72,10 @@ pub trait Agency {
         ensures rules { IsTrue keeps_rules → SubmitKeeps (ledger self.old) (ledger self.new) batch.now result }
         ensures row { submission self.old self.new batch.now result };
 
-    /// Asks what stands under 1 to `BATCH` Huellas; one answer for each, in order. Want of memory changes nothing that is told.
+    /// Asks what stands under 1 to `MAX_CONSULTED` Huellas; one answer for each, in order. Lack of memory changes nothing that is told.
     fn consult(&mut self, alloc: Global, huellas: &Huellas) -> Result<SeenList, AgencyFault>
         requires some { 1 ≤ length huellas.now.huellas }
-        requires few { length huellas.now.huellas ≤ BATCH }
+        requires few { length huellas.now.huellas ≤ MAX_CONSULTED }
         ensures count { IfOk result (λ seen. length seen ≡ length huellas.now.huellas) }
         ensures cause { HasCause (faults self.old) (faults self.new) result }
         ensures lists { IsTrue tells → Consults (ledger self.old) (ledger self.new) huellas.now.huellas result }

@@ -1,4 +1,4 @@
-// What the agency answers for each record.
+//! What the agency answers for each record.
 ghost use Rattle.std.specs.Prelude.{◌≡◌, IfOk};
 ghost use Rattle.agency_port.specs.Answers as spec;
 

@@ -1,4 +1,4 @@
-// What comes to an agency, and what it answers.
+//! What comes to an agency, and what it answers.
 ghost use Rattle.std.specs.Prelude.{◌≡◌, ◌+◌, length, take, option_to_list, IfOk, OnOk};
 ghost use Rattle.agency_rules.specs.Pairs.{delivered, delivered_all};
 ghost use Rattle.agency_port.specs.Answers as spec;

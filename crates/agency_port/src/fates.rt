@@ -1,4 +1,4 @@
-// What a fate makes of a call.
+//! What a fate makes of a call.
 ghost use Rattle.std.specs.Prelude.{◌≡◌, ◌^◌, ◌<◌, [], ◌∷◌, length, take, IfOk, OnOk};
 ghost use Rattle.agency_rules.specs.Pairs.{delivered_all};
 ghost use Rattle.agency_rules.specs.Plans.{fate_at};

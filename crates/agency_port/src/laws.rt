@@ -1,9 +1,9 @@
-// What holds of every list of messages, and of every answer to a batch.
+//! What holds of every list of messages, and of every answer to a batch.
 ghost use Rattle.agency_port.specs.Laws as law;
 
 use agency_rules::{deliveries_join, only_what_came_comes_again};
 
-/// A session is what stands behind the last `begin`, and each other message goes on with it.
+/// A session is what stands after the last `begin`, and each other message goes on with it.
 pub fn a_session_follows_its_begin()
     ensures begins { law.SessionFollowsItsBegin }
     ensures goes_on { law.SessionGoesOn }

@@ -16,7 +16,7 @@ mod telling;
 mod told;
 mod turns;
 
-pub use agency::Agency;
+pub use agency::{Agency, MAX_CONSULTED};
 pub use answers::{AgencyFault, ReplyLine, ReplyLines, Seen, SeenList, State3};
 pub use laws::{
     a_record_may_go_unless_dark, a_session_follows_its_begin, only_what_came_is_duplicado,

@@ -1,4 +1,4 @@
-// What was said to an agency, and what it answered.
+//! What was said to an agency, and what it answered.
 use crate::{AgencyFault, Reply, SeenList};
 use agency_rules::Plan;
 use batches::{Batch, HuellaList};
@@ -6,7 +6,7 @@ use batches::{Batch, HuellaList};
 /// A message to the agency and its answer.
 #[derive(Drop)]
 pub enum Message {
-    /// A session was opened, with this plan and so many noted records.
+    /// A session was opened, with this plan and this many noted records.
     Begun {
         plan: Plan,
         pairs: u64,

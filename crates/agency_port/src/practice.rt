@@ -1,4 +1,4 @@
-// The agency that a shop practises with.
+//! The agency that a shop practises with.
 ghost use Rattle.std.specs.Prelude.{◌≡◌, ◌<◌, ◌≤◌, ◌^◌, [], true, length, IsTrue, IfOk, OnOk, OnErr};
 ghost use Rattle.std.proofs.Common.{rules, arith};
 ghost use Rattle.agency_port.specs.Ledger.{counted};

@@ -1,4 +1,4 @@
-// The reply to a submission.
+//! The reply to a submission.
 ghost use Rattle.std.specs.Prelude.{◌≡◌, length, IfOk};
 
 use crate::ReplyLines;

@@ -1,4 +1,4 @@
-// The answers that an agency was told, as they fit.
+//! The answers that an agency was told, as they fit.
 ghost use Rattle.std.specs.Prelude.{◌≡◌, IfOk};
 ghost use Rattle.agency_port.specs.Telling as told_as;
 

@@ -1,4 +1,4 @@
-// An agency that was told its answers.
+//! An agency that was told its answers.
 ghost use Rattle.std.specs.Prelude.{◌≡◌, ◌<◌, ◌≤◌, ◌^◌, [], true, false, length, IsTrue, IfOk, OnOk, OnErr};
 ghost use Rattle.std.proofs.Common.{rules, arith};
 ghost use Rattle.agency_port.specs.Ledger.{counted};

@@ -1,4 +1,4 @@
-// What is told of the sender's turns.
+//! What is told of the sender's turns.
 ghost use Rattle.std.specs.Prelude.{◌≡◌, [], ◌∷◌, ◌++◌, OnOk, OnErr};
 
 use crate::ReplyLine;

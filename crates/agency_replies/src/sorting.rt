@@ -1,8 +1,8 @@
-// A reply, sorted.
+//! A reply, sorted.
 ghost use Rattle.std.specs.Prelude.{◌≡◌, ◌≤◌, length, map, IfOk, MatchResult};
 ghost use Rattle.agency_port.specs.declared.answers.ReplyLine.TheVariants.{First};
 ghost use Rattle.agency_replies.specs.Sorting.{SortedAs, IsFirstAgain};
-ghost use Rattle.record_fields.specs.declared.lines.TheConstants.{BATCH};
+ghost use Rattle.pacing.specs.declared.pace.TheConstants.{MAX_BATCH};
 
 use agency_port::{Reply, ReplyLine};
 use batches::Batch;
@@ -21,9 +21,9 @@ pub enum Sorted {
     All(Lines),
 }
 
-// The lines of at most `BATCH` answers, or the first one that is no line.
+// The lines of at most `MAX_BATCH` answers, or the first one that is no line.
 fn sort_lines(alloc: Global, lines: &[ReplyLine]) -> Result<Result<Lines, u32>, NoMemory>
-    requires { length lines.now ≤ BATCH }
+    requires { length lines.now ≤ MAX_BATCH }
     ensures { IfOk result (λ sorted. MatchResult sorted (λ first. lines.now ≡ map First first) (IsFirstAgain lines.now)) }
 {
     let mut first = Vec::new(alloc);

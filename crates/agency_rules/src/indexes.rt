@@ -1,4 +1,4 @@
-// Tables over the list of processed records: where a Huella stands, and the past of an invoice.
+//! Tables over the list of processed records: where a Huella stands, and the past of an invoice.
 ghost use Rattle.std.specs.Prelude.{◌≡◌, ℕ, ◌<◌, List, None, Some, OnOk, OnErr, bytes_eq, if◌then◌else◌};
 ghost use Rattle.series.specs.declared.numbers.InvoiceId.{InvoiceId as AnyId};
 ghost use Rattle.agency_rules.specs.Judging.{same_id};

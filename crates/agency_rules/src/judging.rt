@@ -1,4 +1,4 @@
-// The agency's line for a record, and the past of its invoice.
+//! The agency's line for a record, and the past of its invoice.
 ghost use Rattle.std.specs.Prelude.{◌≡◌, ◌+◌, ◌-◌, ◌^◌, ◌<◌, [], ◌∷◌, ◌++◌, List, None, unwrap_or};
 ghost use Rattle.record_fields.specs.Records.{id_of};
 ghost use Rattle.record_fields.specs.declared.records.Sealed.{Sealed};

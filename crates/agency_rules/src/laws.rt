@@ -1,4 +1,4 @@
-// What holds of every delivery.
+//! What holds of every delivery.
 ghost use Rattle.agency_rules.specs.Laws as law;
 
 /// To deliver two batches in one is to deliver them one after the other, and so are the answers.

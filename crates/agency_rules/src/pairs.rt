@@ -1,4 +1,4 @@
-// The records that the agency has processed, each with its line.
+//! The records that the agency has processed, each with its line.
 ghost use Rattle.std.specs.Prelude.{◌≡◌, ◌≤◌, ◌+◌, ◌-◌, ◌^◌, ◌<◌, [], ◌∷◌, ◌++◌, length, take, true, false, IfOk, OnOk, OnErr};
 ghost use Rattle.record_fields.specs.Records.{id_of};
 ghost use Rattle.agency_rules.specs.Judging as spec;
@@ -58,7 +58,7 @@ impl Pairs {
         }
     }
 
-    /// The list of these pairs, in memory of its own. Want of memory where they are more than there may be.
+    /// The list of these pairs, in memory of its own. Lack of memory where they are more than there may be.
     pub fn of(alloc: Global, pairs: &[(Sealed, Line)]) -> Result<Pairs, NoMemory>
         ensures { IfOk result (λ list. list ≡ pairs.now) }
     {
@@ -152,7 +152,7 @@ impl Pairs {
         Ok(Delivered::First(line))
     }
 
-    /// A batch arrives, its records in order. Without memory a front of it has arrived, and no record behind it.
+    /// A batch arrives, its records in order. Without memory a front of it has arrived, and no record after it.
     pub fn deliver(
         &mut self,
         alloc: Global,

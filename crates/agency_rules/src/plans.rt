@@ -1,4 +1,4 @@
-// The plan of the practice agency.
+//! The plan of the practice agency.
 ghost use Rattle.std.specs.Prelude.{◌≡◌, IfOk};
 ghost use Rattle.agency_rules.specs.Judging.{verdict_for};
 ghost use Rattle.agency_rules.specs.Plans.{fate_at};
@@ -39,7 +39,7 @@ pub enum Fate {
     Stale,
     /// It arrives and is answered, and all batches handed over before it arrive once more, in front of it.
     Again,
-    /// It fails, and arrives so many calls later, with 0 at the next one. In a script that was read these are 1 to 1000.
+    /// It fails, and arrives this many calls later, with 0 at the next one. In a script that was read these are 1 to 1000.
     Late(u32),
 }
 

@@ -7,7 +7,7 @@ unfoldable pub whole_text : ℕ → List ℕ
 whole_text zero = codes "0"
 whole_text (suc n) = map (λ d. 48 + d) (digits_of 10 (suc n))
 
--- so many cents: euros, a point, and two digits
+-- this many cents: euros, a point, and two digits
 unfoldable pub cents_text : ℕ → List ℕ
 cents_text n = whole_text (n / 100) ++ codes "." ++ ((48 + n % 100 / 10) ∷ (48 + n % 10) ∷ [])
 

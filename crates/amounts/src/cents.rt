@@ -26,7 +26,7 @@ impl Model for Cents {
 }
 
 impl Cents {
-    /// So many cents, `None` exactly where they are more than `MAX_CENTS` in absolute value.
+    /// This many cents, `None` exactly where they are more than `MAX_CENTS` in absolute value.
     pub fn new(v: i64) -> Option<Cents>
         ensures valid { IsSome result ↔ IsCents v }
         ensures value { IfSome result (λ c. c ≡ v) }
@@ -38,7 +38,7 @@ impl Cents {
         }
     }
 
-    /// So many cents, where the caller knows that they are within the limit.
+    /// This many cents, where the caller knows that they are within the limit.
     pub fn of(v: i64) -> Cents
         requires { IsCents v }
         ensures { result ≡ v }
@@ -54,7 +54,7 @@ impl Cents {
         self.cents
     }
 
-    // So many cents, none of them owed.
+    // This many cents, none of them owed.
     pub(crate) fn of_size(size: u64) -> Cents
         requires { size ≤ MAX_CENTS }
         ensures { result ≡ pos size }

@@ -21,7 +21,7 @@ impl Model for Rate {
 }
 
 impl Rate {
-    /// So many hundredths of a percent, `None` exactly where they are more than 2500.
+    /// This many hundredths of a percent, `None` exactly where they are more than 2500.
     pub fn new(v: u16) -> Option<Rate>
         ensures valid { IsSome result ↔ IsRate v }
         ensures value { IfSome result (λ r. r ≡ v) }
@@ -33,7 +33,7 @@ impl Rate {
         }
     }
 
-    /// So many hundredths of a percent, where the caller knows that they are at most 2500.
+    /// This many hundredths of a percent, where the caller knows that they are at most 2500.
     pub fn of(v: u16) -> Rate
         requires { IsRate v }
         ensures { result ≡ v }

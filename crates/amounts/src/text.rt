@@ -32,7 +32,7 @@ impl AmountText {
     }
 }
 
-// Writes so many cents to the end of the buffer, and returns where the text starts.
+// Writes this many cents to the end of the buffer, and returns where the text starts.
 fn write_cents(size: u64, bytes: &mut [u8; 15]) -> usize
     requires { size ≤ MAX_CENTS }
     ensures start { IsInRange 1 12 result }

@@ -1,4 +1,4 @@
-// The verdict on a file, from what is read of it.
+//! The verdict on a file, from what is read of it.
 ghost use Rattle.std.specs.Prelude.{◌≡◌, ◌≤◌, IsTrue, IfOk, IsErrOf};
 ghost use Rattle.ports.specs.Causes.{Rose};
 ghost use Rattle.audit.specs.Auditing.{IsVerdict, sound_end};
@@ -11,9 +11,9 @@ use std::alloc::Global;
 
 /// The verdict on a file: sound where it isn't begun or stands for a legal history, else its first break. It writes nothing.
 pub fn audit<D: Disk>(alloc: Global, disk: &mut D) -> Result<AuditEnd, AuditFault>
-    ensures verdict { IfOk result (λ end. IsTrue D.tells → IsVerdict (D.told disk.old).content end) }
+    ensures verdict { IfOk result (λ end. IsTrue D.tells → IsVerdict (D.on_disk disk.old).content end) }
     ensures fault { IsErrOf result AuditFault.DiskFault → Rose (D.faults disk.old) (D.faults disk.new) }
-    ensures same { D.told disk.new ≡ D.told disk.old }
+    ensures same { D.on_disk disk.new ≡ D.on_disk disk.old }
     ensures later { D.faults disk.old ≤ D.faults disk.new }
 {
     match read_file(alloc, disk) {

@@ -1,4 +1,4 @@
-// Why there is no verdict.
+//! Why there is no verdict.
 use thiserror::Error;
 
 /// Why a file was not read to its end or its first break.

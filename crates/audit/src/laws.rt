@@ -1,4 +1,4 @@
-// What holds of verdicts by their definition alone.
+//! What holds of verdicts by their definition alone.
 ghost use Rattle.audit.specs.Laws.{OneVerdict, VerdictTells};
 
 use frames::bytes_begin_with_one_frame;

@@ -1,6 +1,6 @@
 use amounts::*;
-use rows::holds;
 use std::test::Fail;
+use test_rows::holds;
 
 // What is wrong with a text that is no amount.
 const NO_AMOUNTS: [(&str, AmountFault); 4] = [

@@ -1,9 +1,9 @@
-// The disk in memory. What `FileDisk` does over real files is shown by `examples/rows/files.row` and `.ci/longer`.
+//! The disk in memory. What `FileDisk` does over real files is shown by `examples/rows/files.row` and `.ci/longer`.
 use chain_disk::{Disk, Fill, MemDisk};
 use ports::Failed;
-use rows::holds;
 use std::alloc::Global;
 use std::test::Fail;
+use test_rows::holds;
 
 // Whether the disk reads as these bytes.
 fn reads_as<D: Disk>(disk: &mut D, want: &[u8]) -> Result<bool, Failed> {

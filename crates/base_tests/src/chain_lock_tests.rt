@@ -2,12 +2,12 @@ ghost use Rattle.std.specs.Prelude.{◌≡◌};
 ghost use Rattle.chain_lock.specs.Words.{known, lock_id, pass_lock};
 
 use chain_lock::*;
-use rows::holds;
 use std::alloc::{AllocError, Global};
 use std::process::Abort;
 use std::sync::Wait;
 use std::test::*;
 use std::thread::{Threads, join};
+use test_rows::holds;
 
 const TURNS: u64 = 1_000;
 

@@ -1,6 +1,6 @@
 use frames::{Frame, FrameBuf, frame_bytes, read_frame};
-use rows::holds;
 use std::test::Fail;
+use test_rows::holds;
 
 const WINDOWS: [(&str, &[u8], Frame); 9] = [
     ("no gate", b"", Frame::Damaged),

@@ -9,9 +9,9 @@ use journal::{
 use parties::Nif;
 use ports::Failed;
 use record_fields::Version;
-use rows::holds;
 use std::alloc::Global;
 use std::test::Fail;
+use test_rows::holds;
 
 // Whether the disk holds exactly these bytes.
 fn has_bytes<D: Disk>(disk: &mut D, want: &[u8]) -> Result<bool, Failed> {

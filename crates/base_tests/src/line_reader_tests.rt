@@ -1,9 +1,9 @@
 use line_reader::{LineReader, Next, bytes_have_one_list_of_lines};
 use ports::{Failed, MemSource, Source};
-use rows::holds;
 use std::alloc::Global;
 use std::sync::Wait;
 use std::test::Fail;
+use test_rows::holds;
 
 const END: u8 = 4;
 
@@ -168,7 +168,7 @@ fn lines_are_cut_at_each_lf_however_the_reads_fall(rt: HostRuntime) -> Result<()
 }
 
 // How many bytes, what comes after them, which read fails, and the lines. The second read comes in the middle of a line of 5,000
-// bytes, the nineteenth where the front of a longer one was let go.
+// bytes, the nineteenth where the front of a longer one was dropped.
 type Run = (&'static str, usize, &'static str, u64, &'static str);
 
 const RUNS: [Run; 12] = [

@@ -1,6 +1,6 @@
 use pacing::{Pace, WaitUntil};
-use rows::holds;
 use std::test::Fail;
+use test_rows::holds;
 
 // A second, how many records wait then, and what is due.
 type Due = (&'static str, u64, u32, Result<(), WaitUntil>);

@@ -1,6 +1,6 @@
 use pages::Pages;
-use rows::holds;
 use std::test::Fail;
+use test_rows::holds;
 
 // How many strings, bytes and pages there are.
 fn counts(pages: &Pages) -> (u64, u64, u32) {

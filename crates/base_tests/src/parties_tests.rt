@@ -1,7 +1,7 @@
 use parties::*;
-use rows::holds;
 use std::alloc::Global;
 use std::test::Fail;
+use test_rows::holds;
 
 const NO_NUMBERS: [(&str, NifFault); 5] = [
     ("89890001L", NifFault::Control { wanted: b'K' }),

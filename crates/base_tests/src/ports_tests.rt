@@ -2,12 +2,12 @@ use ports::{
     Clock, CountingClock, Failed, Gate, LeapSleeper, ListClock, MemSink, MemSource, OpenGate, Sink,
     Sleeper, Source, StdSink, StdSource, SystemClock, ThreadSleeper, reason_of,
 };
-use rows::holds;
 use std::alloc::Global;
 use std::io::ErrorKind;
 use std::sync::Wait;
 use std::test::Fail;
 use std::time::{SystemTime, UNIX_EPOCH};
+use test_rows::holds;
 
 fn read_once<S: Source>(source: &mut S, room: usize) -> Result<([u8; 8], usize), Failed> {
     let mut buf = [b'.'; 8];

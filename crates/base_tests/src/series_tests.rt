@@ -1,6 +1,6 @@
-use rows::holds;
 use series::*;
 use std::test::Fail;
+use test_rows::holds;
 
 // A series, a place in it, and the number that is made of both.
 type Numbered = (&'static str, u32, &'static str);

@@ -1,7 +1,7 @@
 use jiff::Timestamp;
-use rows::holds;
 use stamps::*;
 use std::test::Fail;
+use test_rows::holds;
 
 // Seconds since 1970, the moment, and its offset in seconds.
 type Moment = (u64, &'static str, i32);

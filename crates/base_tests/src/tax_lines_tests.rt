@@ -1,8 +1,8 @@
 use amounts::Cents;
-use rows::holds;
 use std::alloc::Global;
 use std::test::Fail;
 use tax_lines::*;
+use test_rows::holds;
 
 fn breakdown(alloc: Global, lines: &[TaxLine]) -> Result<Breakdown, &'static str> {
     match Breakdown::of(alloc, lines) {

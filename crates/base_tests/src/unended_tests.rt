@@ -1,11 +1,11 @@
-// A last line without its LF, and how often a source is asked.
+//! A last line without its LF, and how often a source is asked.
 use line_reader::{LineReader, MAX_LINE, Next};
 use ports::{Failed, MemSource, Source};
 use std::alloc::Global;
 use std::sync::Wait;
 use std::test::Fail;
 
-// What comes of a source of so many bytes and this tail.
+// What comes of a source of this many bytes and this tail.
 fn first_of<R: Wait>(rt: &R, alloc: Global, count: usize, tail: &[u8]) -> Result<Next, Fail> {
     let mut bytes = vec![in alloc; b'#'; count]?;
     bytes.extend_from_slice(tail)?;

@@ -1,4 +1,4 @@
--- Batches as the agency takes them: at most BATCH records (Orden HAC/1177/2024, the size of a submission), in the order of
+-- Batches as the agency takes them: at most MAX_BATCH records (Orden HAC/1177/2024, the size of a submission), in the order of
 -- their chain.
 use Rattle.std.specs.Prelude.{ℕ, ◌≤◌, List, length, map}
 use Rattle.record_fields.specs.declared.records.Record.{Record}
@@ -9,11 +9,11 @@ use Rattle.batches.specs.declared.asked.RecordId.{RecordId}
 use Rattle.batches.specs.declared.asked.Sort.{Sort}
 use Rattle.batches.specs.declared.asked.Sort.TheVariants as sort
 use Rattle.record_fields.specs.Links.{LinkedRun}
-use Rattle.record_fields.specs.declared.lines.TheConstants.{BATCH}
+use Rattle.pacing.specs.declared.pace.TheConstants.{MAX_BATCH}
 
 pub record IsBatch (records : List Sealed) : Type 0 where
   pub some : 1 ≤ length records
-  pub few : length records ≤ BATCH
+  pub few : length records ≤ MAX_BATCH
   pub linked : LinkedRun records
 
 -- their Huellas, in order

@@ -1,4 +1,4 @@
-// What a consultation asks for.
+//! What a consultation asks for.
 ghost use Rattle.std.specs.Prelude.{◌≡◌, IfOk};
 ghost use Rattle.batches.specs.Batches.{huellas_of, id_in, ids_of, sort_of};
 

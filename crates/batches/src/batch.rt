@@ -1,15 +1,16 @@
-// A batch of records.
+//! A batch of records.
 ghost use Rattle.std.specs.Prelude.{◌≡◌, ◌↔◌, [], ◌∷◌, ◌++◌, take, IfOk, OnOk, OnErr, IfSome, IsNone};
 ghost use Rattle.record_fields.specs.Links.{LinkedRun};
-ghost use Rattle.record_fields.specs.declared.lines.TheConstants.{BATCH};
+ghost use Rattle.pacing.specs.declared.pace.TheConstants.{MAX_BATCH};
 ghost use Rattle.batches.specs.Batches.{IsBatch};
 
+use pacing::MAX_BATCH;
 use ports::NoMemory;
-use record_fields::{BATCH, Sealed};
+use record_fields::Sealed;
 use std::alloc::Global;
 use std::marker::Model;
 
-/// The records of one submission: 1 to `BATCH`, each linked to the one before it.
+/// The records of one submission: 1 to `MAX_BATCH`, each linked to the one before it.
 #[derive(Drop)]
 pub struct Batch {
     records: Vec<Sealed>,
@@ -28,11 +29,11 @@ impl Model for Batch {
 }
 
 impl Batch {
-    /// The first `BATCH` waiting records, or all of them; None exactly where none waits.
+    /// The first `MAX_BATCH` waiting records, or all of them; None exactly where none waits.
     pub fn cut(alloc: Global, waiting: &[Sealed]) -> Result<Option<Batch>, NoMemory>
         requires { LinkedRun waiting.now }
         ensures none { IfOk result (λ cut. IsNone cut ↔ (waiting.now ≡ [])) }
-        ensures some { IfOk result (λ cut. IfSome cut (λ batch. batch ≡ take BATCH waiting.now)) }
+        ensures some { IfOk result (λ cut. IfSome cut (λ batch. batch ≡ take MAX_BATCH waiting.now)) }
     {
         if waiting.is_empty() {
             return Ok(None);
@@ -61,12 +62,12 @@ impl Batch {
 }
 
 fn first_of(records: &[Sealed]) -> &[Sealed]
-    ensures { result.now ≡ take BATCH records.now }
+    ensures { result.now ≡ take MAX_BATCH records.now }
 {
-    if records.len() <= BATCH as usize {
+    if records.len() <= MAX_BATCH as usize {
         return records;
     }
-    &records[..BATCH as usize]
+    &records[..MAX_BATCH as usize]
 }
 
 fn copied_records(alloc: Global, records: &[Sealed]) -> Result<Vec<Sealed>, NoMemory>

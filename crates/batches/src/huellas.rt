@@ -1,4 +1,4 @@
-// Lists of Huellas.
+//! Lists of Huellas.
 ghost use Rattle.std.specs.Prelude.{◌≡◌, ◌↔◌, IfOk, IsTrue};
 ghost use Rattle.batches.specs.Batches.{huellas_of};
 

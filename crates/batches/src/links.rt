@@ -1,4 +1,4 @@
-// Records that name the one before them.
+//! Records that name the one before them.
 ghost use Rattle.std.specs.Prelude.{◌≡◌, ◌↔◌, IsTrue};
 ghost use Rattle.record_fields.specs.Records.{link_of};
 ghost use Rattle.record_fields.specs.Links.{LinkedRun, link_to};

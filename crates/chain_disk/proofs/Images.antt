@@ -8,7 +8,7 @@ use Rattle.chain_disk.specs.Fill.{IsInDoubt, IsFilled, fill_byte, filled_length}
 use Rattle.chain_disk.specs.MemoryReads.{furthest_least}
 use Rattle.chain_disk.specs.declared.image.Fill.{Fill}
 use Rattle.chain_disk.specs.declared.image.Fill.TheVariants.{Old, New, Zeros, Ones}
-use Rattle.chain_disk.specs.Memory.{after, replayed, told_by, fresh}
+use Rattle.chain_disk.specs.Memory.{after, replayed, on_disk_by, fresh}
 use Rattle.chain_disk.specs.Image.{IsState, IsStep}
 use Rattle.chain_disk.specs.declared.event.Event.{Event}
 use Rattle.chain_disk.specs.declared.event.Event.TheVariants.{Wrote, Tore, Synced, Unsynced}
@@ -31,7 +31,7 @@ moment_replayed : (events : List Event) (t : OnDisk) → moment (replayed events
 moment_replayed [] t = omega arith
 moment_replayed (e ∷ events) t = omega (arith, moment_replayed events (after e t), moment_after e t)
 
-pub moment_told : (first : List ℕ) (events : List Event) → moment (told_by first events) ≡ length events
+pub moment_told : (first : List ℕ) (events : List Event) → moment (on_disk_by first events) ≡ length events
 moment_told first events = omega (arith, moment_replayed events (fresh first))
 
 left_after : (event : Event) (t : OnDisk) (m : ℕ) (c : List ℕ) → IsLeft t m c → IsLeft (after event t) m c
@@ -50,24 +50,24 @@ replayed-append (e ∷ a) b t = replayed-append a b (after e t)
 
 -- an image of the state after the first events is left at their moment
 pub image_left : (first : List ℕ) (events : List Event) (m : ℕ) (c : List ℕ) → m ≤ length events →
-    IsImage (told_by first (take m events)).now c → IsLeft (told_by first events) m c
+    IsImage (on_disk_by first (take m events)).now c → IsLeft (on_disk_by first events) m c
 image_left first events m c within image =
-    let t = told_by first (take m events) in
+    let t = on_disk_by first (take m events) in
     let at : m ≡ moment t = omega (arith, moment_replayed (take m events) (fresh first), length-take-le m events within) in
     let left : IsLeft t m c = inl (at, image) in
-    let all : replayed (drop m events) t ≡ told_by first events = sym (replayed-append (take m events) (drop m events)
+    let all : replayed (drop m events) t ≡ on_disk_by first events = sym (replayed-append (take m events) (drop m events)
     (fresh first)) ∙ ap (λ (l : List Event). replayed l (fresh first)) (take-append-drop m events) in
     subst (λ (u : OnDisk). IsLeft u m c) all (left_replayed (drop m events) t m c left)
 
 pub state_start : (first : List ℕ) (state : State) → state.content.items ≡ first → state.synced.items ≡ first →
-    state.ranges.items ≡ [] → IsState state (told_by first [])
+    state.ranges.items ≡ [] → IsState state (on_disk_by first [])
 state_start first state content synced ranges = record { content = content; synced = synced; ranges = ranges }
 
 pub state_more : (first : List ℕ) (events : List Event) (i : ℕ) (event : Event) (old new : State) → take (i + 1) events ≡ take i
-    events ++ event ∷ [] → IsState old (told_by first (take i events)) → IsStep event old new →
-    IsState new (told_by first (take (i + 1) events))
+    events ++ event ∷ [] → IsState old (on_disk_by first (take i events)) → IsStep event old new →
+    IsState new (on_disk_by first (take (i + 1) events))
 state_more first events i event old new more is step = subst (λ (t : OnDisk). IsState new t)
-    (sym (told_push first (take i events) (take (i + 1) events) event more)) (step (told_by first (take i events)) is)
+    (sym (told_push first (take i events) (take (i + 1) events) event more)) (step (on_disk_by first (take i events)) is)
 
 -- the bytes so far
 pub record AreFilled (fill : Fill) (content : List ℕ) (p : Pending) (c : List ℕ) : Type 0 where

@@ -3,18 +3,18 @@ use Rattle.std.specs.Prelude.{◌≡◌, ◌⊎◌, ◌<◌, ◌≤◌, ◌-◌,
 use Rattle.ports.specs.Memory.{counted_up}
 use Rattle.ports.specs.Reasons.{count_of}
 use Rattle.chain_disk.specs.OnDisk.{OnDisk, IsLeft, moment, ranged}
-use Rattle.chain_disk.specs.Memory.{told_by, fresh}
+use Rattle.chain_disk.specs.Memory.{on_disk_by, fresh}
 use Rattle.chain_disk.specs.Fill.{IsFilled}
 use Rattle.chain_disk.specs.declared.image.Fill.{Fill}
 use Rattle.chain_disk.specs.declared.memory.MemDisk.{MemDisk}
 
 -- what it tells
-abbrev pub told_of : MemDisk → OnDisk
-told_of disk = told_by disk.first.items disk.events.items
+abbrev pub on_disk_of : MemDisk → OnDisk
+on_disk_of disk = on_disk_by disk.first.items disk.events.items
 
 -- what it told at this moment
 abbrev pub told_at : MemDisk → ℕ → OnDisk
-told_at disk m = told_by disk.first.items (take m disk.events.items)
+told_at disk m = on_disk_by disk.first.items (take m disk.events.items)
 
 -- the numbers of the calls that fail
 abbrev pub failing_of : MemDisk → List ℕ
@@ -38,8 +38,8 @@ torn at n t = ranged at n t.content t
 
 -- a failure that is listed is recorded so where there is room, and else is so or not at all
 pub record IsRecorded (old new : MemDisk) (recorded : OnDisk) : Type 0 where
-  pub with_room : 0 < room_of old → told_of new ≡ recorded
-  pub or_not : (told_of new ≡ told_of old) ⊎ (told_of new ≡ recorded)
+  pub with_room : 0 < room_of old → on_disk_of new ≡ recorded
+  pub or_not : (on_disk_of new ≡ on_disk_of old) ⊎ (on_disk_of new ≡ recorded)
 
 -- how often it has failed
 abbrev pub faults_of : MemDisk → ℕ
@@ -53,14 +53,14 @@ pub record IsOneCall {T E : Type 0} (old new : MemDisk) (result : Result T E) : 
 
 -- the moment of now
 abbrev pub latest : MemDisk → ℕ
-latest disk = moment (told_of disk)
+latest disk = moment (on_disk_of disk)
 
 -- A disk that holds the image of a moment, so filled, with nothing pending. It is one that a crash then may leave.
 pub record IsImageAt (disk : MemDisk) (m : ℕ) (fill : Fill) (image : MemDisk) : Type 0 where
   pub already : m ≤ latest disk
-  pub told : told_of image ≡ fresh (told_of image).content
-  pub filled : IsFilled fill (told_at disk m).content (told_at disk m).now (told_of image).content
-  pub left : IsLeft (told_of disk) m (told_of image).content
+  pub told : on_disk_of image ≡ fresh (on_disk_of image).content
+  pub filled : IsFilled fill (told_at disk m).content (told_at disk m).now (on_disk_of image).content
+  pub left : IsLeft (on_disk_of disk) m (on_disk_of image).content
   pub failing : failing_of image ≡ []
   pub calls : calls_of image ≡ 0
   pub faults : faults_of image ≡ 0

@@ -5,7 +5,7 @@ use Rattle.std.proofs.lemmas.List.{places, length-take}
 use Rattle.std.proofs.lemmas.Bool.{cases_lt}
 use Rattle.chain_disk.specs.declared.range.Range.{Range}
 use Rattle.chain_disk.specs.OnDisk.{OnDisk, IsImage, furthest, pasted, ranged}
-use Rattle.chain_disk.specs.Memory.{after, replayed, fresh, told_by}
+use Rattle.chain_disk.specs.Memory.{after, replayed, fresh, on_disk_by}
 use Rattle.chain_disk.specs.declared.event.Event.{Event}
 use Rattle.chain_disk.specs.declared.event.Event.TheVariants.{Wrote, Tore, Synced, Unsynced}
 
@@ -67,7 +67,7 @@ replayed_reads : (events : List Event) (t : OnDisk) → IsImage t.now t.content 
 replayed_reads [] t image = image
 replayed_reads (event ∷ events) t image = replayed_reads events (after event t) (after_reads event t image)
 
-pub memory_reads : (first : List ℕ) (events : List Event) → IsImage (told_by first events).now (told_by first events).content
+pub memory_reads : (first : List ℕ) (events : List Event) → IsImage (on_disk_by first events).now (on_disk_by first events).content
 memory_reads first events = replayed_reads events (fresh first) (record {
   no_shorter = omega arith;
   no_longer = omega arith;

@@ -1,4 +1,4 @@
-// The trait of a disk.
+//! The trait of a disk.
 ghost use Rattle.std.specs.Prelude.{◌≡◌, ◌≤◌, ◌-◌, ◌^◌, ℕ, Bool, IsTrue, length, IfOk, OnOk, OnErr};
 ghost use Rattle.ports.specs.Causes.{HasCause};
 ghost use Rattle.chain_disk.specs.OnDisk.{OnDisk, written, synced, IsWriteFailed, IsSyncFailed, IsRead, IsImage};
@@ -16,40 +16,40 @@ pub trait Disk {
     /// Whether disks of this type tell what they hold and what a crash may leave. A real file doesn't.
     ghost tells: { Bool };
 
-    /// What it tells, where it does.
-    ghost told: { Self → OnDisk };
+    /// What is on it, where it tells that.
+    ghost on_disk: { Self → OnDisk };
 
     /// The count of faults, which never falls.
     ghost faults: { Self → ℕ };
 
     /// How many bytes it holds.
     fn len(&mut self) -> Result<u64, Failed>
-        ensures same { told self.new ≡ told self.old }
-        ensures length { IfOk result (λ n. IsTrue tells → n ≡ length (told self.old).content) }
+        ensures same { on_disk self.new ≡ on_disk self.old }
+        ensures length { IfOk result (λ n. IsTrue tells → n ≡ length (on_disk self.old).content) }
         ensures cause { HasCause (faults self.old) (faults self.new) result };
 
     /// Fills the buffer with as much as the content has from this place on, and answers how many bytes
     /// that is.
     fn read_at(&mut self, at: u64, buf: &mut [u8]) -> Result<usize, Failed>
-        ensures same { told self.new ≡ told self.old }
+        ensures same { on_disk self.new ≡ on_disk self.old }
         ensures fits { IfOk result (λ n. n ≤ length buf.old) }
         ensures bytes { IfOk result (λ n. IsTrue tells →
-            IsRead (told self.old).content at n buf.old buf.new) }
+            IsRead (on_disk self.old).content at n buf.old buf.new) }
         ensures cause { HasCause (faults self.old) (faults self.new) result };
 
     /// Writes over what is there, and past the end. Until a sync, a crash may leave any bytes in the
     /// range. After a failure the range may hold any bytes.
     fn write_at(&mut self, at: u64, bytes: &[u8]) -> Result<(), Failed>
-        requires { IsTrue tells → at ≤ length (told self.old).content }
-        ensures ok { OnOk result (IsTrue tells → told self.new ≡ written at bytes.now (told self.old)) }
+        requires { IsTrue tells → at ≤ length (on_disk self.old).content }
+        ensures ok { OnOk result (IsTrue tells → on_disk self.new ≡ written at bytes.now (on_disk self.old)) }
         ensures err { OnErr result (IsTrue tells →
-            IsWriteFailed at (length bytes.now) (told self.old) (told self.new)) }
+            IsWriteFailed at (length bytes.now) (on_disk self.old) (on_disk self.new)) }
         ensures cause { HasCause (faults self.old) (faults self.new) result };
 
     /// After it a crash leaves what a read gives. After a failure all that was pending stays pending.
     fn sync(&mut self) -> Result<(), Failed>
-        ensures ok { OnOk result (IsTrue tells → told self.new ≡ synced (told self.old)) }
-        ensures err { OnErr result (IsTrue tells → IsSyncFailed (told self.old) (told self.new)) }
+        ensures ok { OnOk result (IsTrue tells → on_disk self.new ≡ synced (on_disk self.old)) }
+        ensures err { OnErr result (IsTrue tells → IsSyncFailed (on_disk self.old) (on_disk self.new)) }
         ensures cause { HasCause (faults self.old) (faults self.new) result };
 
     /// How often it has failed. At the greatest u64 the count stays.
@@ -57,7 +57,7 @@ pub trait Disk {
         ensures { result ≡ faults self.now };
 
     /// The disk as it reads is one of its images of now.
-    ghost reads_an_image: { (disk : Self) → IsTrue tells → IsImage (told disk).now (told disk).content };
+    ghost reads_an_image: { (disk : Self) → IsTrue tells → IsImage (on_disk disk).now (on_disk disk).content };
 
     /// The count of faults is one that a u64 holds.
     ghost few_faults: { (disk : Self) → faults disk ≤ 2 ^ 64 - 1 };

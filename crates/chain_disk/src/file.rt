@@ -1,7 +1,7 @@
-// A disk that is a file. It tells nothing of content.
+//! A disk that is a file. It tells nothing of content.
 ghost use Rattle.std.specs.Prelude.{◌≡◌, ◌≤◌, IfOk, length, false};
 ghost use Rattle.ports.specs.Reasons.{count_of};
-ghost use Rattle.chain_disk.specs.File.{untold, untold_reads};
+ghost use Rattle.chain_disk.specs.File.{nothing_on_disk, nothing_reads};
 
 use crate::Disk;
 use ports::{Failed, Faults, reason_of};
@@ -41,7 +41,7 @@ impl From<TryLockError> for Reason {
 ///
 /// One program at a time writes to a file: the first write or sync takes the file's exclusive lock before it touches a
 /// byte, and it is held until this is dropped. Where another holds it the call fails, and the file is as it was. Reading
-/// alone takes no lock, and goes on beside a writer. What isn't a regular file is a fault, at whose end nobody waits.
+/// alone takes no lock, and goes on while another writes. What isn't a regular file is a fault, at whose end nobody waits.
 #[derive(Drop)]
 pub struct FileDisk<'a, R: Files<File = File>> {
     rt: &'a R,
@@ -212,11 +212,11 @@ impl<'a, R: Files<File = File>> FileDisk<'a, R> {
 impl<'a, R: Files<File = File>> Disk for FileDisk<'a, R> {
     ghost tells = { false };
 
-    ghost told = { λ d. untold };
+    ghost on_disk = { λ d. nothing_on_disk };
 
     ghost faults = { λ d. count_of d.faults };
 
-    ghost reads_an_image = { λ d tells. untold_reads };
+    ghost reads_an_image = { λ d tells. nothing_reads };
 
     ghost few_faults = { λ d. d.faults.few };
 

@@ -1,9 +1,9 @@
-// One of the images that a crash may leave, made of the record of a disk in memory.
+//! One of the images that a crash may leave, made of the record of a disk in memory.
 ghost use Rattle.std.specs.Prelude.{◌≡◌, ◌<◌, ◌≤◌, ◌↔◌, ◌∷◌, List, ℕ, slice_index, IsTrue, IfOk, OnOk, length};
 ghost use Rattle.chain_disk.specs.OnDisk.{IsCovered, furthest, pasted};
 ghost use Rattle.chain_disk.specs.Image.{IsState, IsStep};
 ghost use Rattle.chain_disk.specs.Fill.{IsFilled, IsInDoubt, fill_byte, filled_length};
-ghost use Rattle.chain_disk.specs.Memory.{told_by};
+ghost use Rattle.chain_disk.specs.Memory.{on_disk_by};
 
 use crate::Range;
 use crate::event::Event;
@@ -47,7 +47,7 @@ fn is_covered(ranges: &[Range], i: u64) -> bool
     }
 }
 
-// The furthest end. One that no memory can hold is want of memory.
+// The furthest end. One that no memory can hold is lack of memory.
 fn far(len: usize, ranges: &[Range]) -> Result<usize, NoMemory>
     ensures { IfOk result (λ end. end ≡ furthest len ranges.now) }
 {
@@ -104,8 +104,8 @@ pub(crate) fn image_of(
     events: &[Event],
     fill: Fill,
 ) -> Result<Vec<u8>, NoMemory>
-    ensures { let told = told_by first.now events.now in
-        IfOk result (λ c. IsFilled fill told.content told.now c.items) }
+    ensures { let held = on_disk_by first.now events.now in
+        IfOk result (λ c. IsFilled fill held.content held.now c.items) }
 {
     let mut state = State {
         content: first.to_vec(alloc)?,

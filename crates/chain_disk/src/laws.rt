@@ -1,4 +1,4 @@
-// Laws of what a disk tells: what a crash may leave while calls follow one another.
+//! Laws of what a disk tells: what a crash may leave while calls follow one another.
 ghost use Rattle.chain_disk.specs.Laws.{SettledLeaves, NoCallIsARun, CallIsARun, RunsFollow};
 
 /// Where nothing is pending, a crash leaves the content and nothing else.

@@ -1,9 +1,9 @@
-// A disk in memory. It keeps a record of its writes and syncs, so that it answers for every moment.
+//! A disk in memory. It keeps a record of its writes and syncs, so that it answers for every moment.
 ghost use Rattle.std.specs.Prelude.{◌≡◌, ◌<◌, ◌≤◌, ◌+◌, [], ◌∷◌, ◌++◌, true, MatchOption, vec_len, vec_capacity, IsTrue, IsErr};
 ghost use Rattle.std.specs.Prelude.{Contains, ◌↔◌, length, IfOk, OnOk, OnErr};
 ghost use Rattle.ports.specs.Causes.{HasCause};
 ghost use Rattle.chain_disk.specs.OnDisk.{pasted, IsRead, later, synced, written, IsSyncFailed, IsWriteFailed};
-ghost use Rattle.chain_disk.specs.Memory.{told_by, content_of, fresh};
+ghost use Rattle.chain_disk.specs.Memory.{on_disk_by, content_of, fresh};
 ghost use Rattle.ports.specs.Memory.{counted_up};
 ghost use Rattle.chain_disk.specs.MemoryReads.{memory_reads};
 ghost use Rattle.chain_disk.specs.declared.event.Event.TheVariants.{Wrote};
@@ -32,15 +32,15 @@ pub struct MemDisk {
     failing: Vec<u64>,
     calls: u64,
     faults: Faults,
-    ghost content: { content_of first.items current ≡ (told_by first.items events.items).content },
+    ghost content: { content_of first.items current ≡ (on_disk_by first.items events.items).content },
 }
 
 impl MemDisk {
-    ghost use Rattle.chain_disk.specs.MemDisk.{told_of, failing_of, calls_of, faults_of, latest, IsImageAt};
+    ghost use Rattle.chain_disk.specs.MemDisk.{on_disk_of, failing_of, calls_of, faults_of, latest, IsImageAt};
 
     /// A disk with these bytes and nothing pending. The calls with these numbers, from 1, fail.
     pub fn new(alloc: Global, bytes: Vec<u8>, failing: Vec<u64>) -> MemDisk
-        ensures told { told_of result ≡ fresh bytes.items }
+        ensures told { on_disk_of result ≡ fresh bytes.items }
         ensures failing { failing_of result ≡ failing.items }
         ensures calls { calls_of result ≡ 0 }
         ensures faults { faults_of result ≡ 0 }
@@ -90,7 +90,7 @@ fn bytes_of<'a>(first: &'a [u8], current: &'a Option<Vec<u8>>) -> &'a [u8]
     }
 }
 
-// Records an event, or finds no room for it and for that of a failure behind it.
+// Records an event, or finds no room for it and for that of a failure after it.
 fn note(events: &mut Vec<Event>, event: Event) -> Result<(), AllocError>
     ensures ok { OnOk result (events.new.items ≡ events.old.items ++ event ∷ []) }
     ensures room { OnOk result (vec_len events.new < vec_capacity events.new) }
@@ -170,11 +170,11 @@ fn fill(content: &[u8], at: u64, buf: &mut [u8]) -> usize
 }
 
 impl Disk for MemDisk {
-    ghost use Rattle.chain_disk.specs.MemDisk.{told_of, faults_of, room_of, torn, FailsNext, IsOneCall, IsRecorded};
+    ghost use Rattle.chain_disk.specs.MemDisk.{on_disk_of, faults_of, room_of, torn, FailsNext, IsOneCall, IsRecorded};
 
     ghost tells = { true };
 
-    ghost told = { told_of };
+    ghost on_disk = { on_disk_of };
 
     ghost faults = { faults_of };
 
@@ -183,8 +183,8 @@ impl Disk for MemDisk {
     ghost few_faults = { λ m. m.faults.few };
 
     fn len(&mut self) -> Result<u64, Failed>
-        ensures same { told_of self.new ≡ told_of self.old }
-        ensures length { IfOk result (λ n. IsTrue true → n ≡ length (told_of self.old).content) }
+        ensures same { on_disk_of self.new ≡ on_disk_of self.old }
+        ensures length { IfOk result (λ n. IsTrue true → n ≡ length (on_disk_of self.old).content) }
         ensures cause { HasCause (faults_of self.old) (faults_of self.new) result }
         ensures exactly { IsErr result ↔ FailsNext self.old }
         ensures room { room_of self.new ≡ room_of self.old }
@@ -197,10 +197,10 @@ impl Disk for MemDisk {
     }
 
     fn read_at(&mut self, at: u64, buf: &mut [u8]) -> Result<usize, Failed>
-        ensures same { told_of self.new ≡ told_of self.old }
+        ensures same { on_disk_of self.new ≡ on_disk_of self.old }
         ensures fits { IfOk result (λ n. n ≤ length buf.old) }
         ensures bytes { IfOk result (λ n. IsTrue true →
-            IsRead (told_of self.old).content at n buf.old buf.new) }
+            IsRead (on_disk_of self.old).content at n buf.old buf.new) }
         ensures cause { HasCause (faults_of self.old) (faults_of self.new) result }
         ensures exactly { IsErr result ↔ FailsNext self.old }
         ensures room { room_of self.new ≡ room_of self.old }
@@ -213,20 +213,20 @@ impl Disk for MemDisk {
     }
 
     fn write_at(&mut self, at: u64, bytes: &[u8]) -> Result<(), Failed>
-        requires { IsTrue true → at ≤ length (told_of self.old).content }
+        requires { IsTrue true → at ≤ length (on_disk_of self.old).content }
         ensures ok { OnOk result (IsTrue true →
-            told_of self.new ≡ written at bytes.now (told_of self.old)) }
+            on_disk_of self.new ≡ written at bytes.now (on_disk_of self.old)) }
         ensures err { OnErr result (IsTrue true →
-            IsWriteFailed at (length bytes.now) (told_of self.old) (told_of self.new)) }
+            IsWriteFailed at (length bytes.now) (on_disk_of self.old) (on_disk_of self.new)) }
         ensures cause { HasCause (faults_of self.old) (faults_of self.new) result }
         ensures listed { FailsNext self.old → IsErr result }
         ensures recorded { FailsNext self.old →
-            IsRecorded self.old self.new (torn at (length bytes.now) (told_of self.old)) }
+            IsRecorded self.old self.new (torn at (length bytes.now) (on_disk_of self.old)) }
         // The failure of the next call finds room.
         ensures room { OnOk result (0 < room_of self.new) }
-        // Want of memory changes nothing but the counts.
+        // Lack of memory changes nothing but the counts.
         ensures no_room { (FailsNext self.old → ⊥) →
-            OnErr result (told_of self.new ≡ told_of self.old) }
+            OnErr result (on_disk_of self.new ≡ on_disk_of self.old) }
         ensures call { IsOneCall self.old self.new result }
     {
         if next_fails(&mut self.calls, &self.failing) {
@@ -248,17 +248,17 @@ impl Disk for MemDisk {
     }
 
     fn sync(&mut self) -> Result<(), Failed>
-        ensures ok { OnOk result (IsTrue true → told_of self.new ≡ synced (told_of self.old)) }
-        ensures err { OnErr result (IsTrue true → IsSyncFailed (told_of self.old) (told_of self.new)) }
+        ensures ok { OnOk result (IsTrue true → on_disk_of self.new ≡ synced (on_disk_of self.old)) }
+        ensures err { OnErr result (IsTrue true → IsSyncFailed (on_disk_of self.old) (on_disk_of self.new)) }
         ensures cause { HasCause (faults_of self.old) (faults_of self.new) result }
         ensures listed { FailsNext self.old → IsErr result }
         ensures recorded { FailsNext self.old →
-            IsRecorded self.old self.new (later (told_of self.old)) }
+            IsRecorded self.old self.new (later (on_disk_of self.old)) }
         // The failure of the next call finds room.
         ensures room { OnOk result (0 < room_of self.new) }
-        // Want of memory changes nothing but the counts.
+        // Lack of memory changes nothing but the counts.
         ensures no_room { (FailsNext self.old → ⊥) →
-            OnErr result (told_of self.new ≡ told_of self.old) }
+            OnErr result (on_disk_of self.new ≡ on_disk_of self.old) }
         ensures call { IsOneCall self.old self.new result }
     {
         if next_fails(&mut self.calls, &self.failing) {

@@ -13,7 +13,7 @@ use Rattle.atomic_table.specs.Table.{Joins, opening, Final, Seen}
 use Rattle.atomic_table.proofs.Lists.{at_set, set_else, at_snoc, at_longer}
 use Rattle.chain_lock.specs.declared.view.View.{View}
 use Rattle.chain_lock.specs.Lists.{MayAdd, StartsWith, times, placed, total}
-use Rattle.chain_lock.specs.Rule.{first_view, Knows, Kept, glanced, tried, marked, freed, with_turn, with_added, split_left}
+use Rattle.chain_lock.specs.Rule.{first_view, Knows, KeptByLock, glanced, tried, marked, freed, with_turn, with_added, split_left}
 use Rattle.chain_lock.specs.Rule.{split_right, joined, note_of, raised, spent_view, known_of, Counted, FitsAll, HasTurn}
 use Rattle.chain_lock.specs.Known.{Fits, Turns}
 use Rattle.chain_lock.proofs.Lists.{total_set, total_snoc, total_two, total_only, times_append, times_cut, placed_append}
@@ -113,7 +113,7 @@ module _ {V I R : Type 0} (items : V → List I) (root : V → R) (base : List I
   Homes = List (maybe.Option (Option V))
 
   abbrev Rule : St → Type 0
-  Rule = Kept items root base home count
+  Rule = KeptByLock items root base home count
 
   abbrev Numbers : ℕ → List D → ℕ
   Numbers k vs = total (λ (d : D). times k d.numbers) vs
@@ -552,8 +552,8 @@ module _ {V I R : Type 0} (items : V → List I) (root : V → R) (count : ℕ) 
   -- the table as `new` lays it
   pub opens_as : (value said : V) (n : ℕ) (slots : List (Option V)) → 0 < count → said ≡ value → n ≡ length (items value) →
       slots ≡ Some value ∷ []
-      → Kept items root (items said) (root said) count (opening (n ∷ 0 ∷ []) slots (first_view (items said) (root said) count))
+      → KeptByLock items root (items said) (root said) count (opening (n ∷ 0 ∷ []) slots (first_view (items said) (root said) count))
   opens_as value said n slots some_passes is len are =
-      subst (λ (z : V × ℕ × List (Option V)). Kept items root (items z.0) (root z.0) count
+      subst (λ (z : V × ℕ × List (Option V)). KeptByLock items root (items z.0) (root z.0) count
       (opening (z.1 ∷ 0 ∷ []) z.2 (first_view (items z.0) (root z.0) count)))
       (λ i. (sym is i, sym len i, sym are i)) (opens items root (items value) (root value) count value some_passes refl refl)

@@ -8,7 +8,7 @@ pub record Known (I R : Type 0) : Type 0 where
   pub numbers : List ℕ
   -- the list as it was at opening, or as the last turn of this pass left it
   pub seen : List I
-  -- the list has at least so many items
+  -- the list has at least this many items
   pub least : ℕ
   -- what this pass added, each item with its place in the list
   pub own : List (ℕ × I)

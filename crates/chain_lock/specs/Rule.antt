@@ -37,7 +37,7 @@ module _ {I R : Type 0} where
     pub stand : Stand log d.own
 
 -- What holds between any two steps, of the list `base` and the root `home` at opening and the count of passes
-pub record Kept {V I R : Type 0} (items : V → List I) (root : V → R) (base : List I) (home : R) (count : ℕ)
+pub record KeptByLock {V I R : Type 0} (items : V → List I) (root : V → R) (base : List I) (home : R) (count : ℕ)
     (s : State (Option V) (View I R)) : Type 0 where
   pub log : List I
   pub turn : ℕ

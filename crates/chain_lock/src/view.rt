@@ -17,7 +17,7 @@ pub struct View<I, R> {
     pub seen: LinkedList<I>,
     /// What the passes had seen that were joined into it.
     pub met: LinkedList<LinkedList<I>>,
-    /// The list has at least so many items.
+    /// The list has at least this many items.
     pub least: u64,
     /// The items that it has added, each with its place in the list.
     pub own: LinkedList<(u64, I)>,
@@ -37,9 +37,9 @@ pub struct LockRule<V> {
 }
 
 impl<V: Recorded> TableRule<Option<V>, View<V::Item, V::Root>, Opening<V>> for LockRule<V> {
-    ghost use Rattle.chain_lock.specs.Rule.{Kept, first_view};
+    ghost use Rattle.chain_lock.specs.Rule.{KeptByLock, first_view};
 
-    ghost holds = { λ key. Kept V.items V.root (V.items key.value.value) (V.root key.value.value) key.count };
+    ghost holds = { λ key. KeptByLock V.items V.root (V.items key.value.value) (V.root key.value.value) key.count };
 
     ghost first = { λ key. first_view (V.items key.value.value) (V.root key.value.value) key.count };
 }

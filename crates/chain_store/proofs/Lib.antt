@@ -3,7 +3,7 @@ mod Opens
 mod Readies
 mod Stores
 mod Taking
-mod Each
+mod EachElement
 mod Stepping
 mod Finishing
 mod Taken

@@ -50,7 +50,7 @@ pub holds_on : (created version : Version) (issuer : List ℕ) (entries : List E
 holds_on created version issuer entries t stands quiet =
     started_settled t (IsFound created version issuer entries) quiet (inr stands)
 
--- what was loaded behind a sync, which the loading left
+-- what was loaded after a sync, which the loading left
 pub loaded_settled : (t u v : OnDisk) (loaded : Loaded) → u ≡ synced t → v ≡ u → IsLoaded u.content loaded →
     IsLoaded v.content loaded × IsSettled v
 loaded_settled t u v loaded ok same is = (

@@ -28,7 +28,7 @@ use Rattle.shop_core.specs.Prefix.{IsPrefix}
 use Rattle.chain_store.specs.Crashes.{IsCutOff, StandsUpTo, StandsForEnd}
 use Rattle.chain_store.specs.Readings.{IsComing, has_read, readings}
 use Rattle.chain_store.specs.Replies.{IsGoingOn, IsStopped, StopsByFault}
-use Rattle.chain_store.proofs.Each.{each_weaker}
+use Rattle.chain_store.proofs.EachElement.{each_weaker}
 use Rattle.chain_store.specs.Progress.{Origin, Point, GoingOn, Torn, Halted, Progress, SoFar, Step, call_at}
 
 abbrev Told_reply : Type 0
@@ -234,14 +234,14 @@ replies_of_asks version issuer R start (replied asks replies entries ask told ga
     let so_far = replies_of_asks version issuer R start run in
     omega (arith, so_far, length-append asks (ask ∷ []), length-append replies (told ∷ []))
 
--- the last ask of a list is behind the others
+-- the last ask of a list is after the others
 asked_last : (asks : List Asked) (ask : Asked) (place : ℕ) → length asks ≡ place → slice_get (asks ++ ask ∷ []) place ≡ Some ask
 asked_last asks ask place is =
     let more = length-append asks (ask ∷ []) in
     slice_get_read (asks ++ ask ∷ []) (length (asks ++ ask ∷ [])) place ask refl (omega (arith, is, more))
     (sym (subst (λ (n : ℕ). get_or (asks ++ ask ∷ []) n ask ≡ ask) is (get_or-append_seam asks ask [] ask)))
 
--- an ask keeps its place where others come behind it
+-- an ask keeps its place where others come after it
 asked_before : (asks more : List Asked) (ask : Asked) (place : ℕ) → slice_get asks place ≡ Some ask →
     slice_get (asks ++ more) place ≡ Some ask
 asked_before asks more ask place is =

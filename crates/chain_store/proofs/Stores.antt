@@ -123,10 +123,10 @@ pub ready_stopped : (tells : Bool) (history : History) (stopped : Option ℕ) (g
 ready_stopped tells history stopped gate t faults place e = record { place = place; holds = λ none said. absurd cc }
 
 -- with nothing pending, a crash leaves the history
-pub on_disk : (history : History) (gate : ℕ) (t : OnDisk) → Holds history gate t →
+pub leaves_its_history : (history : History) (gate : ℕ) (t : OnDisk) → Holds history gate t →
     Legal history.version history.issuer history.entries →
     LeavesNow t (StandsFor history.version history.issuer history.entries)
-on_disk history gate t h legal = leaves_now t (StandsFor history.version history.issuer history.entries) h.file.nothing_pending
+leaves_its_history history gate t h legal = leaves_now t (StandsFor history.version history.issuer history.entries) h.file.nothing_pending
     (stands history gate t h legal)
 
 -- room that is made changes nothing of it

@@ -27,7 +27,7 @@ use Rattle.chain_store.specs.Replies.{AllGoOn, Replies}
 use Rattle.chain_store.specs.Runs.{this_store}
 use Rattle.chain_store.specs.Taking.{Fails, FailsOnce, GoesOrFails, OwnRun, RunsBy}
 use Rattle.chain_store.specs.Took.{Took}
-use Rattle.chain_store.proofs.Each.{each_snoc}
+use Rattle.chain_store.proofs.EachElement.{each_snoc}
 use Rattle.chain_store.proofs.Finishing.{begins, kept, stands, stops}
 use Rattle.chain_store.proofs.Stepping.{step, untouched}
 
@@ -37,7 +37,7 @@ none_some none some = absurd cc
 module _ {D C : Type 0} (d : disk.Ghosts D) (c : clock.Ghosts C) where
   -- one ask more at a store whose journal went on, where it has stopped by then
   fails_now : (first old new : Store D C d) (asks : List Asked) (replies : Replies) (ask : Asked)
-      (told : Result Reply StoreFault) (count : ℕ) → stopped_of (journal_of old) ≡ None → Ready d.tells d.told old →
+      (told : Result Reply StoreFault) (count : ℕ) → stopped_of (journal_of old) ≡ None → Ready d.tells d.on_disk old →
       GoesOrFails d c first old asks replies → Took d c old new ask told → stopped_of (journal_of new) ≡ Some count →
       Fails d c first new (asks ++ ask ∷ []) (replies ++ told ∷ [])
   fails_now first old new asks replies ask (Ok reply) count none ready run took is = absurd (none_some took.going_on.1 is)
@@ -80,7 +80,7 @@ module _ {D C : Type 0} (d : disk.Ghosts D) (c : clock.Ghosts C) where
   }
 
   fails_more : (x : Option ℕ) (first old new : Store D C d) (asks : List Asked) (replies : Replies) (ask : Asked)
-      (told : Result Reply StoreFault) (count : ℕ) → stopped_of (journal_of old) ≡ x → Ready d.tells d.told old →
+      (told : Result Reply StoreFault) (count : ℕ) → stopped_of (journal_of old) ≡ x → Ready d.tells d.on_disk old →
       GoesOrFails d c first old asks replies → Took d c old new ask told → stopped_of (journal_of new) ≡ Some count →
       Fails d c first new (asks ++ ask ∷ []) (replies ++ told ∷ [])
   fails_more None first old new asks replies ask told count was ready run took is =
@@ -89,11 +89,11 @@ module _ {D C : Type 0} (d : disk.Ghosts D) (c : clock.Ghosts C) where
       fails_still first old new asks replies ask told
       (took.untouched (subst (λ (x : Option ℕ). IsSome x) (sym was) refl)) (run.fails n was)
 
-  begins_by : (x : Option ℕ) (s : Store D C d) → stopped_of (journal_of s) ≡ x → Ready d.tells d.told s →
+  begins_by : (x : Option ℕ) (s : Store D C d) → stopped_of (journal_of s) ≡ x → Ready d.tells d.on_disk s →
       Legal (state_of s).version (state_of s).issuer (state_of s).entries → RunsBy x d c s s [] []
   begins_by None s is ready legal =
-      let o = origin_of d.tells d.told d.faults c.coming s in
-      let p = point_of d.told d.faults c.coming s in
+      let o = origin_of d.tells d.on_disk d.faults c.coming s in
+      let p = point_of d.on_disk d.faults c.coming s in
       record {
         goes = record {
           so_far = begins o p [] (end_of (journal_of s)) refl refl refl refl refl refl is (λ k. refl) legal
@@ -104,28 +104,28 @@ module _ {D C : Type 0} (d : disk.Ghosts D) (c : clock.Ghosts C) where
       }
   begins_by (Some count) s is ready legal = record { each = tt; one_each = refl; same = refl }
 
-  pub run_begins : (s : Store D C d) → Ready d.tells d.told s → Legal (state_of s).version (state_of s).issuer
+  pub run_begins : (s : Store D C d) → Ready d.tells d.on_disk s → Legal (state_of s).version (state_of s).issuer
       (state_of s).entries →
       RunsBy (stopped_of (journal_of s)) d c s s [] []
   run_begins s ready legal = begins_by (stopped_of (journal_of s)) s refl ready legal
 
   goes_by : (x : Option ℕ) (first old new : Store D C d) (asks : List Asked) (replies : Replies) (ask : Asked)
-      (told : Result Reply StoreFault) → stopped_of (journal_of first) ≡ x → Ready d.tells d.told old →
+      (told : Result Reply StoreFault) → stopped_of (journal_of first) ≡ x → Ready d.tells d.on_disk old →
       RunsBy x d c first old asks replies →
       Took d c old new ask told → RunsBy x d c first new (asks ++ ask ∷ []) (replies ++ told ∷ [])
   goes_by None first old new asks replies ask told is ready run took =
-      let o = origin_of d.tells d.told d.faults c.coming first in
-      let p = point_of d.told d.faults c.coming old in
-      let q = point_of d.told d.faults c.coming new in
+      let o = origin_of d.tells d.on_disk d.faults c.coming first in
+      let p = point_of d.on_disk d.faults c.coming old in
+      let q = point_of d.on_disk d.faults c.coming new in
       let one : Step d.tells p ask told q = record {
         takes = took.takes;
         going_on = took.going_on;
         no_memory = λ is. let same = took.no_memory is in
-            (ap (λ j. d.told (disk_of j)) same, ap (λ j. stopped_of j) same);
+            (ap (λ j. d.on_disk (disk_of j)) same, ap (λ j. stopped_of j) same);
         fault = took.fault;
         tears = λ is. (torn_of new, took.torn is);
         stops = took.stopped;
-        untouched = λ is. ap (λ s. point_of d.told d.faults c.coming s) (took.untouched is);
+        untouched = λ is. ap (λ s. point_of d.on_disk d.faults c.coming s) (took.untouched is);
         later = took.later;
       } in
       record {
@@ -148,7 +148,7 @@ module _ {D C : Type 0} (d : disk.Ghosts D) (c : clock.Ghosts C) where
       }
 
   pub run_goes : (first old new : Store D C d) (asks : List Asked) (replies : Replies) (ask : Asked)
-      (told : Result Reply StoreFault) → Ready d.tells d.told old →
+      (told : Result Reply StoreFault) → Ready d.tells d.on_disk old →
       RunsBy (stopped_of (journal_of first)) d c first old asks replies → Took d c old new ask told →
       RunsBy (stopped_of (journal_of first)) d c first new (asks ++ ask ∷ []) (replies ++ told ∷ [])
   run_goes first old new asks replies ask told ready run took =
@@ -164,8 +164,8 @@ module _ {D C : Type 0} (d : disk.Ghosts D) (c : clock.Ghosts C) where
   fails_by : (x : Option ℕ) (first now : Store D C d) (asks : List Asked) (replies : Replies) → stopped_of (journal_of now) ≡ x →
       GoesOrFails d c first now asks replies → FailsOnce d c first now asks replies
   fails_by None first now asks replies is run =
-      let o = origin_of d.tells d.told d.faults c.coming first in
-      let p = point_of d.told d.faults c.coming now in
+      let o = origin_of d.tells d.on_disk d.faults c.coming first in
+      let p = point_of d.on_disk d.faults c.coming now in
       let going : Progress o asks replies p None =
       subst (λ (x : Option ℕ). Progress o asks replies p x) is run.goes.so_far.progress in
       inl going.go_on
@@ -175,13 +175,13 @@ module _ {D C : Type 0} (d : disk.Ghosts D) (c : clock.Ghosts C) where
   fails_in : (first now : Store D C d) (asks : List Asked) (replies : Replies) →
       Legal (state_of now).version (state_of now).issuer (state_of now).entries → GoesOrFails d c first now asks replies →
       FailsOnce d c first now asks replies →
-      AllGoOn replies ⊎ FailsIn (this_disk d.tells d.told d.faults (disk_of (journal_of first)) (disk_of (journal_of now)))
+      AllGoOn replies ⊎ FailsIn (this_disk d.tells d.on_disk d.faults (disk_of (journal_of first)) (disk_of (journal_of now)))
       (state_of first).version (state_of first).issuer (state_of now).entries
   fails_in first now asks replies own run (inl all) = inl all
   fails_in first now asks replies own run (inr f) =
       let t = f.took.takes f.going_on in
       let found = state_of f.found in
-      let at = d.told (disk_of (journal_of f.found)) in
+      let at = d.on_disk (disk_of (journal_of f.found)) in
       let same : (state_of now).entries ≡ found.entries =
       t.entries ∙ ap (λ (es : List Entry). found.entries ++ es) t.reply ∙ append-nil found.entries in
       let issuer : found.issuer ≡ (state_of first).issuer = f.run.so_far.own in
@@ -206,13 +206,13 @@ module _ {D C : Type 0} (d : disk.Ghosts D) (c : clock.Ghosts C) where
       })
 
   ends_by : (x : Option ℕ) (first now : Store D C d) (asks : List Asked) (replies : Replies) →
-      RunsBy x d c first now asks replies → Ready d.tells d.told now →
+      RunsBy x d c first now asks replies → Ready d.tells d.on_disk now →
       Legal (state_of now).version (state_of now).issuer (state_of now).entries → Chained →
-      (IsTrue d.tells → IsImage (d.told (disk_of (journal_of now))).now (d.told (disk_of (journal_of now))).content) →
-      OwnRun x asks replies (this_store d.tells d.told d.faults c.coming first now)
+      (IsTrue d.tells → IsImage (d.on_disk (disk_of (journal_of now))).now (d.on_disk (disk_of (journal_of now))).content) →
+      OwnRun x asks replies (this_store d.tells d.on_disk d.faults c.coming first now)
   ends_by None first now asks replies run ready own chained image =
-      let o = origin_of d.tells d.told d.faults c.coming first in
-      let p = point_of d.told d.faults c.coming now in
+      let o = origin_of d.tells d.on_disk d.faults c.coming first in
+      let p = point_of d.on_disk d.faults c.coming now in
       let so_far = run.goes.so_far in
       let legal : Legal o.version o.issuer (state_of now).entries =
       subst (λ (v : Version). Legal v o.issuer (state_of now).entries) so_far.version
@@ -238,10 +238,10 @@ module _ {D C : Type 0} (d : disk.Ghosts D) (c : clock.Ghosts C) where
   }
 
   pub run_ends : (first now : Store D C d) (asks : List Asked) (replies : Replies) →
-      RunsBy (stopped_of (journal_of first)) d c first now asks replies → Ready d.tells d.told now →
+      RunsBy (stopped_of (journal_of first)) d c first now asks replies → Ready d.tells d.on_disk now →
       Legal (state_of now).version (state_of now).issuer (state_of now).entries → Chained →
-      (IsTrue d.tells → IsImage (d.told (disk_of (journal_of now))).now (d.told (disk_of (journal_of now))).content) →
-      OwnRun (stopped_of (journal_of first)) asks replies (this_store d.tells d.told d.faults c.coming first now)
+      (IsTrue d.tells → IsImage (d.on_disk (disk_of (journal_of now))).now (d.on_disk (disk_of (journal_of now))).content) →
+      OwnRun (stopped_of (journal_of first)) asks replies (this_store d.tells d.on_disk d.faults c.coming first now)
   run_ends first now asks replies run ready own chained image =
       ends_by (stopped_of (journal_of first)) first now asks replies run ready own chained image
 

@@ -21,7 +21,7 @@ pub record StandsBetween (version : Version) (issuer : List ℕ) (start end : Li
   pub begins : IsPrefix start history
   pub within : IsPrefix history end
 
--- the same of a run: its history at the end, with the torn entry behind it
+-- the same of a run: its history at the end, with the torn entry after it
 abbrev pub StandsUpTo : Version → List ℕ → List Entry → List Entry → List Entry → List ℕ → Type 0
 StandsUpTo version issuer start end torn file = StandsBetween version issuer start (end ++ torn) file
 
@@ -45,7 +45,7 @@ pub record IsCutOff (version : Version) (issuer : List ℕ) (IsReading : Replies
 
 -- Since some moment each crash leaves a file with P; now it leaves the history at the end, or that with the torn entry, and so
 -- reads the disk.
-pub record Kept (P : List ℕ → Type 0) (version : Version) (issuer : List ℕ) (end torn : List Entry) (since now : OnDisk) :
+pub record SurvivesCrashes (P : List ℕ → Type 0) (version : Version) (issuer : List ℕ) (end torn : List Entry) (since now : OnDisk) :
     Type 0 where
   pub each_moment : LeavesOnly since now P
   pub every_crash : LeavesNow now (StandsForEnd version issuer end torn)
@@ -58,14 +58,14 @@ pub record KeptByRun (P : List Entry → List ℕ → Type 0) (IsTorn : Entry �
   pub at_most_one : length torn ≤ 1
   pub by_a_fault : AllGoOn replies → torn ≡ []
   pub made : AllByRecursion IsTorn torn
-  pub kept : Kept (P torn) version issuer end torn since now
+  pub kept : SurvivesCrashes (P torn) version issuer end torn since now
 
 -- The disk as the call found it in which it failed first, and as that call left it. The disk that was found held this history,
 -- and in the call the count of faults rose.
 pub record FailsIn {D : Type 0} (k : Disks D) (version : Version) (issuer : List ℕ) (history : List Entry) : Type 0 where
   pub found : D
   pub left : D
-  pub held : IsTrue k.tells → LeavesNow (k.told found) (StandsFor version issuer history)
+  pub held : IsTrue k.tells → LeavesNow (k.on_disk found) (StandsFor version issuer history)
   pub early : k.faults k.disk ≤ k.faults found
   pub risen : Rose (k.faults found) (k.faults left)
   pub late : k.faults left ≤ k.faults k.disk_after

@@ -13,17 +13,17 @@ use Rattle.chain_store.specs.Ready.{IsReady}
 -- At Ok the history has the entry, and every crash leaves it. After a fault of the disk the history is as it was, the journal
 -- is stopped, and the file may have the entry. A crash at any moment of the call leaves the history before it, or that with
 -- the entry.
-pub record Keeps {D E : Type 0} {g : Ghosts D} (tells : Bool) (told : D → OnDisk) (faults : D → ℕ) (old new : History)
+pub record Keeps {D E : Type 0} {g : Ghosts D} (tells : Bool) (on_disk : D → OnDisk) (faults : D → ℕ) (old new : History)
     (journal after : Journal D g) (entry : Entry) (result : Result (Unit {0}) E) : Type 0 where
-  pub ready : IsReady tells new (stopped_of after) (end_of after) (told (disk_of after))
+  pub ready : IsReady tells new (stopped_of after) (end_of after) (on_disk (disk_of after))
   pub issuer : new.issuer ≡ old.issuer
   pub version : new.version ≡ old.version
   pub added : OnOk result ((stopped_of after ≡ None) × (new.entries ≡ old.entries ++ entry ∷ []))
   pub same : OnErr result (new ≡ old)
-  pub any_moment : IsTrue tells → LeavesOnly (told (disk_of journal)) (told (disk_of after))
+  pub any_moment : IsTrue tells → LeavesOnly (on_disk (disk_of journal)) (on_disk (disk_of after))
       (StandsBeforeOrWith old.version old.issuer old.entries entry)
   pub acknowledged : OnOk result (IsTrue tells →
-      LeavesNow (told (disk_of after)) (StandsFor new.version new.issuer new.entries))
+      LeavesNow (on_disk (disk_of after)) (StandsFor new.version new.issuer new.entries))
   pub fault : OnErr result (Rose (faults (disk_of journal)) (faults (disk_of after))
       × (stopped_of after ≡ Some (faults (disk_of after))))
   pub later : faults (disk_of journal) ≤ faults (disk_of after)

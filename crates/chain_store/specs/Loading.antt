@@ -16,7 +16,7 @@ IsLoaded file (Begun history end) =
     StandsFor history.version history.issuer history.entries file
     × (end ≡ closing_gate (bodies_of history.version history.entries))
 
--- the closing gate stands no further than so many entries can be long
+-- the closing gate stands no further than this many entries can be long
 abbrev pub HasNearGate : Loaded → Type 0
 HasNearGate NotBegun = Unit {0}
 HasNearGate (Begun history end) = end ≤ furthest_gate history.entries

@@ -87,31 +87,31 @@ pub record SoFar (o : Origin) (asks : List Asked) (replies : List (Result Reply 
   pub progress : Progress o asks replies p p.stopped
 
 -- one ask more
-pub record Step (tells : Bool) (p : Point) (ask : Asked) (told : Result Reply StoreFault) (q : Point) : Type 0 where
-  pub takes : p.stopped ≡ None → Takes (call_at tells p q) ask told
-  pub going_on : OnOk told ((p.stopped ≡ None) × (q.stopped ≡ None))
-  pub no_memory : told ≡ Err NoMemory → (q.now ≡ p.now) × (q.stopped ≡ p.stopped)
-  pub fault : told ≡ Err DiskFault → Rose p.faults q.faults × (q.stopped ≡ Some q.faults)
-  pub tears : told ≡ Err DiskFault → (torn : Option Entry) × Tears (call_at tells p q) ask torn
-  pub stops : (count : ℕ) → (told ≡ Err (Stopped count)) ↔ (p.stopped ≡ Some count)
+pub record Step (tells : Bool) (p : Point) (ask : Asked) (replied : Result Reply StoreFault) (q : Point) : Type 0 where
+  pub takes : p.stopped ≡ None → Takes (call_at tells p q) ask replied
+  pub going_on : OnOk replied ((p.stopped ≡ None) × (q.stopped ≡ None))
+  pub no_memory : replied ≡ Err NoMemory → (q.now ≡ p.now) × (q.stopped ≡ p.stopped)
+  pub fault : replied ≡ Err DiskFault → Rose p.faults q.faults × (q.stopped ≡ Some q.faults)
+  pub tears : replied ≡ Err DiskFault → (torn : Option Entry) × Tears (call_at tells p q) ask torn
+  pub stops : (count : ℕ) → (replied ≡ Err (Stopped count)) ↔ (p.stopped ≡ Some count)
   pub untouched : IsSome p.stopped → q ≡ p
   pub later : p.faults ≤ q.faults
 
 abbrev pub origin_of : {D C : Type 0} {g : Ghosts D} → Bool → (D → OnDisk) → (D → ℕ) → (C → ℕ → Option ℕ) → Store D C g → Origin
-origin_of tells told faults coming store = record {
+origin_of tells on_disk faults coming store = record {
   issuer = (state_of store).issuer;
   version = (state_of store).version;
   start = (state_of store).entries;
   tells = tells;
-  since = told (disk_of (journal_of store));
+  since = on_disk (disk_of (journal_of store));
   at_faults = faults (disk_of (journal_of store));
   coming = coming (clock_of store);
 }
 
 abbrev pub point_of : {D C : Type 0} {g : Ghosts D} → (D → OnDisk) → (D → ℕ) → (C → ℕ → Option ℕ) → Store D C g → Point
-point_of told faults coming store = record {
+point_of on_disk faults coming store = record {
   history = state_of store;
-  now = told (disk_of (journal_of store));
+  now = on_disk (disk_of (journal_of store));
   faults = faults (disk_of (journal_of store));
   stopped = stopped_of (journal_of store);
   next = coming (clock_of store);

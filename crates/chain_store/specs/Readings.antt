@@ -17,7 +17,7 @@ has_read _ = true
 abbrev pub readings : Replies → ℕ
 readings replies = count_by has_read replies
 
--- the reading behind these replies: the clock's coming answer of their number of readings
+-- the reading after these replies: the clock's coming answer of their number of readings
 abbrev pub IsComing : (ℕ → Option ℕ) → Replies → ℕ → Type 0
 IsComing coming replies seconds = IsTold (coming (readings replies)) seconds
 

@@ -43,7 +43,7 @@ CrashesLeave k P = IsTrue k.tells → LeavesOnly k.disk k.disk_after P
 
 -- One ask at a journal that goes on. The clock is read once. The reply is the answer at that reading, the history gains
 -- what it makes, and a crash at any moment of the call leaves the history before it, or that with the entry made.
-pub record Takes (k : StoreCall) (ask : Asked) (told : Result Reply StoreFault) : Type 0 where
+pub record Takes (k : StoreCall) (ask : Asked) (replied : Result Reply StoreFault) : Type 0 where
   pub seconds : ℕ
   pub reading : IsTold (k.coming 0) seconds
   pub moved : MovedBy 1 k.coming k.coming_after
@@ -51,7 +51,7 @@ pub record Takes (k : StoreCall) (ask : Asked) (told : Result Reply StoreFault) 
   pub version : k.new.version ≡ k.old.version
   pub gained : List Entry
   pub entries : k.new.entries ≡ k.old.entries ++ gained
-  pub reply : IsReply k.old.version k.old.issuer k.old.entries ask seconds told gained
+  pub reply : IsReply k.old.version k.old.issuer k.old.entries ask seconds replied gained
   pub any_moment : CrashesLeave k (StandsAround k.old.version k.old.issuer k.old.entries
       (answer k.old.version k.old.issuer k.old.entries ask seconds))
 

@@ -37,17 +37,17 @@ pub record Stores (D C : Type 0) : Type 0 where
 -- this store in this call: of its kind, before and after
 abbrev pub this_store : {D C : Type 0} {g : Ghosts D} → Bool → (D → OnDisk) → (D → ℕ) → (C → ℕ → Option ℕ) →
     Store D C g → Store D C g → Stores D C
-this_store tells told faults coming old new = record {
+this_store tells on_disk faults coming old new = record {
   issuer = (state_of old).issuer;
   version = (state_of old).version;
   start = (state_of old).entries;
   end = (state_of new).entries;
   tells = tells;
-  since = told (disk_of (journal_of old));
-  now = told (disk_of (journal_of new));
+  since = on_disk (disk_of (journal_of old));
+  now = on_disk (disk_of (journal_of new));
   faults = faults (disk_of (journal_of old));
   faults_after = faults (disk_of (journal_of new));
-  disk = this_disk tells told faults (disk_of (journal_of old)) (disk_of (journal_of new));
+  disk = this_disk tells on_disk faults (disk_of (journal_of old)) (disk_of (journal_of new));
   clock = this_clock coming (clock_of old) (clock_of new);
 }
 

@@ -31,26 +31,26 @@ torn_of store = option_map (λ s. s.value) store.torn
 
 -- where its journal isn't stopped and its disk tells what it holds, that is its history
 abbrev pub Ready : {D C : Type 0} {g : Ghosts D} → Bool → (D → OnDisk) → Store D C g → Type 0
-Ready tells told store =
-    IsReady tells store.state (stopped_of store.journal) (end_of store.journal) (told (disk_of store.journal))
+Ready tells on_disk store =
+    IsReady tells store.state (stopped_of store.journal) (end_of store.journal) (on_disk (disk_of store.journal))
 
 -- this call of a store: of its kinds of disk and clock, before and after
 abbrev pub this_call : {D C : Type 0} {g : Ghosts D} → Bool → (D → OnDisk) → (C → ℕ → Option ℕ) → Store D C g → Store D C g →
     StoreCall
-this_call tells told coming old new = record {
+this_call tells on_disk coming old new = record {
   old = old.state;
   new = new.state;
   coming = coming old.clock;
   coming_after = coming new.clock;
   tells = tells;
-  disk = told (disk_of old.journal);
-  disk_after = told (disk_of new.journal);
+  disk = on_disk (disk_of old.journal);
+  disk_after = on_disk (disk_of new.journal);
 }
 
 -- where its disk tells what it holds, every crash from now on leaves its whole history
 abbrev pub Acknowledged : {D C : Type 0} {g : Ghosts D} → Bool → (D → OnDisk) → Store D C g → Type 0
-Acknowledged tells told store = IsTrue tells →
-    LeavesNow (told (disk_of store.journal)) (StandsFor store.state.version store.state.issuer store.state.entries)
+Acknowledged tells on_disk store = IsTrue tells →
+    LeavesNow (on_disk (disk_of store.journal)) (StandsFor store.state.version store.state.issuer store.state.entries)
 
 -- its journal went on, and goes on
 abbrev pub GoesOn : {D C : Type 0} {g : Ghosts D} → Store D C g → Store D C g → Type 0
@@ -67,17 +67,17 @@ IsLater faults old new = faults (disk_of old.journal) ≤ faults (disk_of new.jo
 
 -- What adding this entry leaves of a store that goes on. At Ok the history has it, and every crash leaves it; otherwise the
 -- history is as it was, and after a fault of the disk the entry is the torn one, which may be in the file.
-pub record Adds {D C X : Type 0} {g : Ghosts D} (tells : Bool) (told : D → OnDisk) (faults : D → ℕ) (old new : Store D C g)
+pub record Adds {D C X : Type 0} {g : Ghosts D} (tells : Bool) (on_disk : D → OnDisk) (faults : D → ℕ) (old new : Store D C g)
     (entry : Entry) (result : Result X StoreFault) : Type 0 where
-  pub ready : Ready tells told new
+  pub ready : Ready tells on_disk new
   pub issuer : new.state.issuer ≡ old.state.issuer
   pub version : new.state.version ≡ old.state.version
   pub clock : new.clock ≡ old.clock
   pub added : OnOk result ((stopped_of new.journal ≡ None) × (new.state.entries ≡ old.state.entries ++ entry ∷ []))
   pub same : OnErr result (new.state.entries ≡ old.state.entries)
-  pub any_moment : IsTrue tells → LeavesOnly (told (disk_of old.journal)) (told (disk_of new.journal))
+  pub any_moment : IsTrue tells → LeavesOnly (on_disk (disk_of old.journal)) (on_disk (disk_of new.journal))
       (StandsBeforeOrWith old.state.version old.state.issuer old.state.entries entry)
-  pub acknowledged : OnOk result (Acknowledged tells told new)
+  pub acknowledged : OnOk result (Acknowledged tells on_disk new)
   pub no_memory : IsErrOf result StoreFault.NoMemory → new.journal ≡ old.journal
   pub fault : IsErrOf result StoreFault.DiskFault → IsStoppedByFault faults old new
   pub torn : IsErrOf result StoreFault.DiskFault → torn_of new ≡ Some entry

@@ -22,7 +22,7 @@ module _ {D C : Type 0} where
   -- a run of a store whose journal went on as it began
   pub record Goes (d : disk.Ghosts D) (c : clock.Ghosts C) (first now : Store D C d) (asks : List Asked) (replies : Replies) :
       Type 0 where
-    pub so_far : SoFar (origin_of d.tells d.told d.faults c.coming first) asks replies (point_of d.told d.faults c.coming now)
+    pub so_far : SoFar (origin_of d.tells d.on_disk d.faults c.coming first) asks replies (point_of d.on_disk d.faults c.coming now)
     pub unread : readings replies ≡ 0 → clock_of now ≡ clock_of first
 
   -- The call in which the disk failed first. The asks before it had come to the store that it found, whose journal went on; the
@@ -37,7 +37,7 @@ module _ {D C : Type 0} where
     pub later : List Asked
     pub asks_are : asks ≡ earlier ++ ask ∷ later
     pub found : Store D C d
-    pub ready : Ready d.tells d.told found
+    pub ready : Ready d.tells d.on_disk found
     pub going_on : stopped_of (journal_of found) ≡ None
     pub run : Goes d c first found earlier before
     pub took : Took d c found now ask (Err DiskFault)
@@ -66,7 +66,7 @@ module _ {D C : Type 0} where
   -- a run of a store, which was this at first and is that now: the asks so far and their replies
   pub record Along (d : disk.Ghosts D) (c : clock.Ghosts C) (first now : Store D C d) (asks : List Asked) (replies : Replies) :
       Type 0 where
-    pub ready : Ready d.tells d.told now
+    pub ready : Ready d.tells d.on_disk now
     pub run : RunsBy (stopped_of (journal_of first)) d c first now asks replies
 
 -- the replies of a store whose journal had stopped at this count of faults: each says so, and neither disk nor clock was asked

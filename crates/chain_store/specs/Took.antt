@@ -13,17 +13,17 @@ use Rattle.chain_store.specs.declared.store.Store.{Store}
 
 -- one ask, of a store as it was and as it is then
 pub record Took {D C : Type 0} (d : disk.Ghosts D) (c : clock.Ghosts C) (old new : Store D C d) (ask : Asked)
-    (told : Result Reply StoreFault) : Type 0 where
-  pub ready : Ready d.tells d.told new
-  pub takes : stopped_of (journal_of old) ≡ None → Takes (this_call d.tells d.told c.coming old new) ask told
+    (replied : Result Reply StoreFault) : Type 0 where
+  pub ready : Ready d.tells d.on_disk new
+  pub takes : stopped_of (journal_of old) ≡ None → Takes (this_call d.tells d.on_disk c.coming old new) ask replied
   -- after Ok every crash leaves the whole history
-  pub acknowledged : OnOk told (Acknowledged d.tells d.told new)
-  pub going_on : OnOk told (GoesOn old new)
-  pub nothing_taken : IfOk told (λ reply. IfNothingTaken reply (journal_of new ≡ journal_of old))
-  pub no_memory : IsErrOf told NoMemory → journal_of new ≡ journal_of old
+  pub acknowledged : OnOk replied (Acknowledged d.tells d.on_disk new)
+  pub going_on : OnOk replied (GoesOn old new)
+  pub nothing_taken : IfOk replied (λ reply. IfNothingTaken reply (journal_of new ≡ journal_of old))
+  pub no_memory : IsErrOf replied NoMemory → journal_of new ≡ journal_of old
   -- a fault of the disk stops the journal for good; from then on nothing is asked of the disk or the clock
-  pub fault : IsErrOf told DiskFault → IsStoppedByFault d.faults old new
-  pub torn : IsErrOf told DiskFault → Tears (this_call d.tells d.told c.coming old new) ask (torn_of new)
-  pub stopped : (count : ℕ) → IsErrOf told (Stopped count) ↔ (stopped_of (journal_of old) ≡ Some count)
+  pub fault : IsErrOf replied DiskFault → IsStoppedByFault d.faults old new
+  pub torn : IsErrOf replied DiskFault → Tears (this_call d.tells d.on_disk c.coming old new) ask (torn_of new)
+  pub stopped : (count : ℕ) → IsErrOf replied (Stopped count) ↔ (stopped_of (journal_of old) ≡ Some count)
   pub untouched : IsSome (stopped_of (journal_of old)) → new ≡ old
   pub later : IsLater d.faults old new

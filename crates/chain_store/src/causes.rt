@@ -1,4 +1,4 @@
-// Why a file can't be loaded, and why it can't be opened.
+//! Why a file can't be loaded, and why it can't be opened.
 ghost use Rattle.std.specs.Prelude.{◌≡◌};
 ghost use Rattle.chain_store.specs.Loading.{open_cause};
 

@@ -1,4 +1,4 @@
-// Keeps an entry in a journal and then in the state, in two halves: what needs memory, and what calls the disk.
+//! Keeps an entry in a journal and then in the state, in two halves: what needs memory, and what calls the disk.
 ghost use Rattle.std.specs.Prelude.{◌≡◌, IfOk, OnOk, OnErr, Some, None};
 ghost use Rattle.journal.specs.Journal.{disk_of, end_of, stopped_of};
 ghost use Rattle.record_codec.specs.Writing.{entry_bytes};
@@ -43,11 +43,11 @@ pub fn keep<D: Disk>(
     bytes: &[u8],
 ) -> Result<(), Failed>
     requires going_on { stopped_of journal.old ≡ None }
-    requires ready { IsReady D.tells state.old None (end_of journal.old) (D.told (disk_of journal.old)) }
+    requires ready { IsReady D.tells state.old None (end_of journal.old) (D.on_disk (disk_of journal.old)) }
     requires continues { Continues state.old.version state.old.issuer state.old.entries entry }
     requires room { state.old.room ≡ Some entry }
     requires encoding { bytes.now ≡ entry_bytes state.old.version entry }
-    ensures { Keeps D.tells D.told D.faults state.old state.new journal.old journal.new entry result }
+    ensures { Keeps D.tells D.on_disk D.faults state.old state.new journal.old journal.new entry result }
 {
     a_legal_history_goes_on();
     what_continues_fits_its_bytes();

@@ -1,4 +1,4 @@
-// The history that a file stands for.
+//! The history that a file stands for.
 ghost use Rattle.std.specs.Prelude.{◌≡◌, ◌≤◌, ℕ, IsTrue, IfOk, IsErrOf};
 ghost use Rattle.ports.specs.Causes.{Rose};
 ghost use Rattle.shop_core.specs.File.Files.{IsDamagedFile};
@@ -21,12 +21,12 @@ pub enum Loaded {
 
 /// Loads what a file stands for. It writes nothing.
 pub fn load<D: Disk>(alloc: Global, disk: &mut D) -> Result<Loaded, LoadFault>
-    ensures content { IfOk result (λ loaded. IsTrue D.tells → IsLoaded (D.told disk.old).content loaded) }
+    ensures content { IfOk result (λ loaded. IsTrue D.tells → IsLoaded (D.on_disk disk.old).content loaded) }
     ensures near { IfOk result HasNearGate }
     ensures damaged { (at : ℕ) → IsErrOf result (LoadFault.Damaged at) → IsTrue D.tells →
-        IsDamagedFile (D.told disk.old).content at }
+        IsDamagedFile (D.on_disk disk.old).content at }
     ensures fault { IsErrOf result LoadFault.DiskFault → Rose (D.faults disk.old) (D.faults disk.new) }
-    ensures same { D.told disk.new ≡ D.told disk.old }
+    ensures same { D.on_disk disk.new ≡ D.on_disk disk.old }
     ensures later { D.faults disk.old ≤ D.faults disk.new }
 {
     a_broken_file_is_damaged();

@@ -1,4 +1,4 @@
-// Opens a file for an issuer: its history and its journal.
+//! Opens a file for an issuer: its history and its journal.
 ghost use Rattle.std.specs.Prelude.{◌≡◌, ◌≢◌, ◌≤◌, [], IsTrue, IfOk, IfErr, None};
 ghost use Rattle.ports.specs.Causes.{Rose};
 ghost use Rattle.chain_disk.specs.OnDisk.{IsSettled, LeavesNow, LeavesOnly, synced};
@@ -43,25 +43,25 @@ pub fn open_journal<D: Disk>(
     created: Version,
 ) -> Result<Opened<D>, NotOpened<D>>
     ensures ready { IfOk result (λ opened.
-        IsReady D.tells opened.state None (end_of opened.journal) (D.told (disk_of opened.journal))) }
+        IsReady D.tells opened.state None (end_of opened.journal) (D.on_disk (disk_of opened.journal))) }
     ensures going_on { IfOk result (λ opened. stopped_of opened.journal ≡ None) }
     ensures issuer { IfOk result (λ opened. opened.state.issuer ≡ issuer.now) }
     ensures found { IfOk result (λ opened. IsTrue D.tells →
-        IsFound created opened.state.version issuer.now opened.state.entries (D.told disk).content) }
+        IsFound created opened.state.version issuer.now opened.state.entries (D.on_disk disk).content) }
     ensures every_crash { IfOk result (λ opened. IsTrue D.tells →
-        LeavesNow (D.told (disk_of opened.journal)) (StandsFor opened.state.version issuer.now opened.state.entries)) }
+        LeavesNow (D.on_disk (disk_of opened.journal)) (StandsFor opened.state.version issuer.now opened.state.entries)) }
 
     // From its first sync on, a crash at any moment of the call leaves what was found.
     ensures any_moment { IfOk result (λ opened. IsTrue D.tells →
-        LeavesOnly (synced (D.told disk)) (D.told (disk_of opened.journal))
+        LeavesOnly (synced (D.on_disk disk)) (D.on_disk (disk_of opened.journal))
         (IsFound created opened.state.version issuer.now opened.state.entries)) }
     ensures unwritten { IfOk result (λ opened. IsTrue D.tells →
-        IsOnlySynced (D.told disk) (D.told (disk_of opened.journal))) }
+        IsOnlySynced (D.on_disk disk) (D.on_disk (disk_of opened.journal))) }
     ensures later { IfOk result (λ opened. D.faults disk ≤ D.faults (disk_of opened.journal)) }
 
     // What the file is, by the cause, and what the calls of the disk left of it.
     ensures left { IfErr result (λ fault. IsTrue D.tells →
-        IsLeftUnopened created issuer.now fault.cause (D.told disk) (D.told fault.disk)) }
+        IsLeftUnopened created issuer.now fault.cause (D.on_disk disk) (D.on_disk fault.disk)) }
     ensures disk_fault { IfErr result (λ fault. fault.cause ≡ cause.DiskFault → Rose (D.faults disk) (D.faults fault.disk)) }
     ensures later_err { IfErr result (λ fault. D.faults disk ≤ D.faults fault.disk) }
 {
@@ -92,16 +92,16 @@ fn open_held<D: Disk>(
     end: u64,
 ) -> Result<Opened<D>, NotOpened<D>>
     requires near { end ≤ furthest_gate state.entries }
-    requires holds { IsTrue D.tells → IsLoaded (D.told disk).content (Begun state end) × IsSettled (D.told disk) }
+    requires holds { IsTrue D.tells → IsLoaded (D.on_disk disk).content (Begun state end) × IsSettled (D.on_disk disk) }
     ensures ready { IfOk result (λ opened.
-        IsReady D.tells opened.state None (end_of opened.journal) (D.told (disk_of opened.journal))) }
+        IsReady D.tells opened.state None (end_of opened.journal) (D.on_disk (disk_of opened.journal))) }
     ensures going_on { IfOk result (λ opened. stopped_of opened.journal ≡ None) }
     ensures same { IfOk result (λ opened. (state.issuer ≡ issuer.now) × (opened.state ≡ state)
         × (disk_of opened.journal ≡ disk)) }
     ensures every_crash { IfOk result (λ opened. IsTrue D.tells →
-        LeavesNow (D.told (disk_of opened.journal)) (StandsFor opened.state.version issuer.now opened.state.entries)) }
+        LeavesNow (D.on_disk (disk_of opened.journal)) (StandsFor opened.state.version issuer.now opened.state.entries)) }
     ensures any_moment { IfOk result (λ opened. IsTrue D.tells →
-        LeavesOnly (D.told disk) (D.told (disk_of opened.journal))
+        LeavesOnly (D.on_disk disk) (D.on_disk (disk_of opened.journal))
         (IsFound created opened.state.version issuer.now opened.state.entries)) }
     ensures other { IfErr result (λ fault. (fault.cause ≡ cause.OtherIssuer state.issuer) × (state.issuer ≢ issuer.now)
         × (fault.disk ≡ disk)) }
@@ -127,19 +127,19 @@ fn begin<D: Disk>(
     issuer: &Nif,
     created: Version,
 ) -> Result<Opened<D>, NotOpened<D>>
-    requires { IsTrue D.tells → IsNotBegun (D.told disk).content × IsSettled (D.told disk) }
+    requires { IsTrue D.tells → IsNotBegun (D.on_disk disk).content × IsSettled (D.on_disk disk) }
     ensures ready { IfOk result (λ opened.
-        IsReady D.tells opened.state None (end_of opened.journal) (D.told (disk_of opened.journal))) }
+        IsReady D.tells opened.state None (end_of opened.journal) (D.on_disk (disk_of opened.journal))) }
     ensures going_on { IfOk result (λ opened. stopped_of opened.journal ≡ None) }
     ensures empty { IfOk result (λ opened. (opened.state.issuer ≡ issuer.now) × (opened.state.version ≡ created)
         × (opened.state.entries ≡ [])) }
     ensures every_crash { IfOk result (λ opened. IsTrue D.tells →
-        LeavesNow (D.told (disk_of opened.journal)) (StandsFor opened.state.version issuer.now opened.state.entries)) }
+        LeavesNow (D.on_disk (disk_of opened.journal)) (StandsFor opened.state.version issuer.now opened.state.entries)) }
     ensures any_moment { IfOk result (λ opened. IsTrue D.tells →
-        LeavesOnly (D.told disk) (D.told (disk_of opened.journal))
+        LeavesOnly (D.on_disk disk) (D.on_disk (disk_of opened.journal))
         (IsFound created opened.state.version issuer.now opened.state.entries)) }
     ensures in_part { IfErr result (λ fault. IsTrue D.tells →
-        IsBegunInPart created issuer.now (D.told disk) (D.told fault.disk)) }
+        IsBegunInPart created issuer.now (D.on_disk disk) (D.on_disk fault.disk)) }
     ensures lost { IfErr result (λ fault. (fault.cause ≡ cause.DiskFault) × Rose (D.faults disk) (D.faults fault.disk)) }
     ensures later { IfOk result (λ opened. D.faults disk ≤ D.faults (disk_of opened.journal)) }
     ensures later_err { IfErr result (λ fault. D.faults disk ≤ D.faults fault.disk) }

@@ -1,4 +1,4 @@
-// Runs of one thread over a store: the asks of all tills, one after another, and what their replies leave.
+//! Runs of one thread over a store: the asks of all tills, one after another, and what their replies leave.
 ghost use Rattle.std.specs.Prelude.{◌≡◌, ◌≤◌, [], ◌∷◌, ◌++◌, List, None, length, vec_capacity};
 ghost use Rattle.journal.specs.Journal.{stopped_of};
 ghost use Rattle.shop_core.specs.Answer.Requests.{Asked};
@@ -18,7 +18,7 @@ use std::alloc::Global;
 
 /// Where a run of a store begins: no ask, and no reply.
 pub fn a_run_begins<D: Disk, C: Clock>(store: &Store<D, C>)
-    requires { Ready D.tells D.told store.now }
+    requires { Ready D.tells D.on_disk store.now }
     ensures { Along D.Disk C.Clock store.now store.now [] [] }
 {
     store.state().is_legal();
@@ -30,7 +30,7 @@ pub fn take_next<D: Disk, C: Clock>(
     store: &mut Store<D, C>,
     ask: &Ask,
 ) -> Result<Reply, StoreFault>
-    requires { Ready D.tells D.told store.old }
+    requires { Ready D.tells D.on_disk store.old }
     ensures took { Took D.Disk C.Clock store.old store.new ask.now result }
     ensures along { (first : AnyStore D C D.Disk) (asks : List Asked) (replies : Replies) →
         Along D.Disk C.Clock first store.old asks replies →
@@ -44,7 +44,7 @@ pub fn a_run_ends<D: Disk, C: Clock>(store: &Store<D, C>)
     ensures own { (first : AnyStore D C D.Disk) (asks : List Asked) (replies : Replies) →
         Along D.Disk C.Clock first store.now asks replies →
         OwnRun (stopped_of (journal_of first)) asks replies
-        (this_store D.tells D.told D.faults C.coming first store.now) }
+        (this_store D.tells D.on_disk D.faults C.coming first store.now) }
     ensures fails { (first : AnyStore D C D.Disk) (asks : List Asked) (replies : Replies) →
         Along D.Disk C.Clock first store.now asks replies → stopped_of (journal_of first) ≡ None →
         FailsOnce D.Disk C.Clock first store.now asks replies }
@@ -60,13 +60,13 @@ pub fn run_commands<D: Disk, C: Clock>(
     asks: &[Ask],
     replies: &mut Vec<Result<Reply, StoreFault>>,
 )
-    requires ready { Ready D.tells D.told store.old }
+    requires ready { Ready D.tells D.on_disk store.old }
     requires going_on { stopped_of (journal_of store.old) ≡ None }
     requires none { replies.old.items ≡ [] }
     requires room { length asks.now ≤ vec_capacity replies.old }
     ensures issuer { (state_of store.new).issuer ≡ (state_of store.old).issuer }
     ensures version { (state_of store.new).version ≡ (state_of store.old).version }
-    ensures answers { Answers asks.now replies.new.items (this_store D.tells D.told D.faults C.coming store.old store.new) }
+    ensures answers { Answers asks.now replies.new.items (this_store D.tells D.on_disk D.faults C.coming store.old store.new) }
     ensures fails { FailsOnce D.Disk C.Clock store.old store.new asks.now replies.new.items }
 {
     a_run_begins(store);

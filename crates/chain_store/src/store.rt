@@ -1,4 +1,4 @@
-// A history on disk: the state, the journal that keeps it, and the clock that dates its records.
+//! A history on disk: the state, the journal that keeps it, and the clock that dates its records.
 ghost use Rattle.std.specs.Prelude.{◌≡◌, ◌≤◌, ◌+◌, ◌++◌, ◌∷◌, [], ◌↔◌, true, ℕ, length, take, drop};
 ghost use Rattle.std.specs.Prelude.{IsTrue, IfOk, OnOk, OnErr, IsErrOf, IsSome, None, Some};
 ghost use Rattle.record_codec.specs.Writing.{entry_bytes};
@@ -9,7 +9,7 @@ ghost use Rattle.std.specs.Int.{IsInRange};
 ghost use Rattle.shop_core.specs.Legal.{Continues};
 ghost use Rattle.shop_core.specs.File.Files.{StandsBeforeOrWith};
 ghost use Rattle.chain_store.specs.Ready.{IsReady, TearsLines, noted_next};
-ghost use Rattle.record_fields.specs.declared.lines.TheConstants.{BATCH};
+ghost use Rattle.record_codec.specs.declared.entry.TheConstants.{MAX_NOTES};
 
 use crate::keeping::{keep, prepare};
 use chain_disk::Disk;
@@ -42,7 +42,7 @@ impl<D: Disk, C: Clock> Store<D, C> {
     /// The store of a journal that goes on and keeps this history.
     pub fn of(state: State, journal: Journal<D>, clock: C) -> Store<D, C>
         requires going_on { stopped_of journal ≡ None }
-        requires ready { IsReady D.tells state None (end_of journal) (D.told (disk_of journal)) }
+        requires ready { IsReady D.tells state None (end_of journal) (D.on_disk (disk_of journal)) }
         ensures parts { (result.state ≡ state) × (result.journal ≡ journal) × (result.clock ≡ clock) }
         ensures no_torn { torn_of result ≡ None }
     {
@@ -101,9 +101,9 @@ impl<D: Disk, C: Clock> Store<D, C> {
     }
 
     /// Answers an ask at the history and one reading of the clock, and keeps the record that is made, in the journal first.
-    /// A journal that stopped answers so before the clock is read. Want of memory comes before the first call of the disk.
+    /// A journal that stopped answers so before the clock is read. Lack of memory comes before the first call of the disk.
     pub fn take(&mut self, alloc: Global, ask: &Ask) -> Result<Reply, StoreFault>
-        requires { Ready D.tells D.told self.old }
+        requires { Ready D.tells D.on_disk self.old }
         ensures { Took D.Disk C.Clock self.old self.new ask.now result }
     {
         self.take_asking(alloc, &ask.borrowed())
@@ -111,7 +111,7 @@ impl<D: Disk, C: Clock> Store<D, C> {
 
     /// The same for an ask whose request stays with who asks.
     pub fn take_asking(&mut self, alloc: Global, ask: &Asking) -> Result<Reply, StoreFault>
-        requires { Ready D.tells D.told self.old }
+        requires { Ready D.tells D.on_disk self.old }
         ensures { Took D.Disk C.Clock self.old self.new ask.now result }
     {
         if let Some(faults) = self.journal.stopped() {
@@ -131,10 +131,10 @@ impl<D: Disk, C: Clock> Store<D, C> {
     // Keeps the record that an answer made.
     fn take_made(&mut self, alloc: Global, entry: Entry) -> Result<Reply, StoreFault>
         requires going_on { stopped_of self.old.journal ≡ None }
-        requires ready { IsReady D.tells self.old.state None (end_of self.old.journal) (D.told (disk_of self.old.journal)) }
+        requires ready { IsReady D.tells self.old.state None (end_of self.old.journal) (D.on_disk (disk_of self.old.journal)) }
         requires continues { Continues self.old.state.version self.old.state.issuer self.old.state.entries entry }
         requires of_record { is_record entry ≡ true }
-        ensures adds { Adds D.tells D.told D.faults self.old self.new entry result }
+        ensures adds { Adds D.tells D.on_disk D.faults self.old self.new entry result }
         ensures reply { IfOk result (λ reply. IsTaken self.old.state.entries entry reply) }
     {
         let reply = taken(self.state.records() + 1, &entry);
@@ -147,12 +147,12 @@ impl<D: Disk, C: Clock> Store<D, C> {
         }
     }
 
-    /// Keeps the agency's lines for the first records that have none: 1 to `BATCH` lines, and no more than such records.
+    /// Keeps the agency's lines for the first records that have none: 1 to `MAX_NOTES` lines, and no more than such records.
     pub fn note(&mut self, alloc: Global, lines: &[Line]) -> Result<(), StoreFault>
-        requires ready { Ready D.tells D.told self.old }
-        requires count { IsInRange 1 BATCH (length lines.now) }
+        requires ready { Ready D.tells D.on_disk self.old }
+        requires count { IsInRange 1 MAX_NOTES (length lines.now) }
         requires within { length (noted self.old.state.entries) + length lines.now ≤ length (recs self.old.state.entries) }
-        ensures ready { Ready D.tells D.told self.new }
+        ensures ready { Ready D.tells D.on_disk self.new }
         ensures issuer { self.new.state.issuer ≡ self.old.state.issuer }
         ensures version { self.new.state.version ≡ self.old.state.version }
         ensures noted { OnOk result (self.new.state.entries
@@ -162,15 +162,15 @@ impl<D: Disk, C: Clock> Store<D, C> {
 
         // A crash at any moment of the call leaves the history before it, or that with these lines.
         ensures any_moment { stopped_of self.old.journal ≡ None → IsTrue D.tells →
-            LeavesOnly (D.told (disk_of self.old.journal)) (D.told (disk_of self.new.journal))
+            LeavesOnly (D.on_disk (disk_of self.old.journal)) (D.on_disk (disk_of self.new.journal))
             (StandsBeforeOrWith self.old.state.version self.old.state.issuer self.old.state.entries
             (noted_next self.old.state.entries lines.now)) }
-        ensures acknowledged { OnOk result (Acknowledged D.tells D.told self.new) }
+        ensures acknowledged { OnOk result (Acknowledged D.tells D.on_disk self.new) }
         ensures going_on { OnOk result (GoesOn self.old self.new) }
         ensures no_memory { IsErrOf result StoreFault.NoMemory → self.new.journal ≡ self.old.journal }
         ensures fault { IsErrOf result StoreFault.DiskFault → IsStoppedByFault D.faults self.old self.new }
         ensures torn { IsErrOf result StoreFault.DiskFault →
-            TearsLines (this_call D.tells D.told C.coming self.old self.new) lines.now (torn_of self.new) }
+            TearsLines (this_call D.tells D.on_disk C.coming self.old self.new) lines.now (torn_of self.new) }
         ensures stopped { (faults : ℕ) →
             IsErrOf result (StoreFault.Stopped faults) ↔ (stopped_of self.old.journal ≡ Some faults) }
         ensures untouched { IsSome (stopped_of self.old.journal) → self.new ≡ self.old }
@@ -193,7 +193,7 @@ impl<D: Disk, C: Clock> Store<D, C> {
         )
     }
 
-    /// The counts of the history, and at most so many of the first records that have no noted line.
+    /// The counts of the history, and at most this many of the first records that have no noted line.
     pub fn waiting(&self, alloc: Global, max: u16) -> Result<Waiting, NoMemory>
         ensures { IfOk result (λ waiting. (waiting.noted ≡ length (noted self.now.state.entries))
             × (waiting.records ≡ length (recs self.now.state.entries))
@@ -210,9 +210,9 @@ impl<D: Disk, C: Clock> Store<D, C> {
     /// Makes room for an entry that continues the history, and gives its bytes. Then `keep` takes no memory. Neither the disk
     /// nor the clock is called.
     pub fn prepare(&mut self, alloc: Global, entry: &Entry) -> Result<Bytes, NoMemory>
-        requires ready { Ready D.tells D.told self.old }
+        requires ready { Ready D.tells D.on_disk self.old }
         requires continues { Continues self.old.state.version self.old.state.issuer self.old.state.entries entry.now }
-        ensures ready { Ready D.tells D.told self.new }
+        ensures ready { Ready D.tells D.on_disk self.new }
         ensures bytes { IfOk result (λ bytes. bytes ≡ entry_bytes self.old.state.version entry.now) }
         ensures room { OnOk result (self.new.state ≡ record {
           issuer = self.old.state.issuer;
@@ -231,11 +231,11 @@ impl<D: Disk, C: Clock> Store<D, C> {
     /// bytes are its encoding. It takes no memory.
     pub fn keep(&mut self, entry: Entry, bytes: &[u8]) -> Result<(), StoreFault>
         requires going_on { stopped_of self.old.journal ≡ None }
-        requires ready { Ready D.tells D.told self.old }
+        requires ready { Ready D.tells D.on_disk self.old }
         requires continues { Continues self.old.state.version self.old.state.issuer self.old.state.entries entry }
         requires room { self.old.state.room ≡ Some entry }
         requires encoding { bytes.now ≡ entry_bytes self.old.state.version entry }
-        ensures adds { Adds D.tells D.told D.faults self.old self.new entry result }
+        ensures adds { Adds D.tells D.on_disk D.faults self.old self.new entry result }
         ensures memory { IsErrOf result StoreFault.NoMemory → ⊥ }
     {
         let torn = Snapshot::of(&entry);
@@ -252,9 +252,9 @@ impl<D: Disk, C: Clock> Store<D, C> {
     // first call of the disk.
     fn add(&mut self, alloc: Global, entry: Entry) -> Result<(), StoreFault>
         requires going_on { stopped_of self.old.journal ≡ None }
-        requires ready { IsReady D.tells self.old.state None (end_of self.old.journal) (D.told (disk_of self.old.journal)) }
+        requires ready { IsReady D.tells self.old.state None (end_of self.old.journal) (D.on_disk (disk_of self.old.journal)) }
         requires continues { Continues self.old.state.version self.old.state.issuer self.old.state.entries entry }
-        ensures { Adds D.tells D.told D.faults self.old self.new entry result }
+        ensures { Adds D.tells D.on_disk D.faults self.old self.new entry result }
     {
         self.state.is_legal();
         let Ok(bytes) = self.prepare(alloc, &entry) else {

@@ -29,7 +29,7 @@ use Rattle.script.specs.declared.forms.Form.{Form}
 use Rattle.script.specs.declared.scripts.Script.{Script}
 use Rattle.ports.specs.Sources.{Sources}
 
--- no reply is want of memory, and none a fault of the disk
+-- no reply is lack of memory, and none a fault of the disk
 pub all_replied : (replies : List (Result Reply StoreFault)) → list_any is_no_memory replies ≡ false →
     list_any is_disk_fault replies ≡ false → AllReplied replies
 all_replied [] memory disk = tt
@@ -82,14 +82,14 @@ keeps_file issuer cause.NoMemory old new h = as_it_stood issuer old new h
 -- an opening that failed, by what it answers
 pub not_opened : {D : Type 0} {issuer : List ℕ} {left : Type 0} {s : Sinks} {k : Disks D} {end : Detail} (why : OpenCause) →
     end ≡ opening_end why → (why ≡ cause.DiskFault → DiskRose k) →
-    (IsTrue k.tells → IsLeftUnopened issuer why (k.told k.disk) (k.told k.disk_after)) → WroteNothing s → left →
+    (IsTrue k.tells → IsLeftUnopened issuer why (k.on_disk k.disk) (k.on_disk k.disk_after)) → WroteNothing s → left →
     NotOpened issuer left s k end
 not_opened {D} {issuer} {left} {s} {k} {end} why ends risen left_by wrote rest = record {
   why = why;
   ends = ends;
   risen = risen;
   left_by = left_by;
-  every_crash = λ says. keeps_file issuer why (k.told k.disk) (k.told k.disk_after) (left_by says);
+  every_crash = λ says. keeps_file issuer why (k.on_disk k.disk) (k.on_disk k.disk_after) (left_by says);
   wrote = wrote;
   rest = rest;
 }

@@ -28,7 +28,7 @@ fault_end (drain.Contradiction evidence) = detail.Contradiction evidence
 fault_end (drain.Store fault) = store_end fault
 fault_end drain.NoMemory = detail.NoMemory
 
--- How the run of a drain ends, by its answer and by what the sink took of its text: want of memory before a fault of the disk,
+-- How the run of a drain ends, by its answer and by what the sink took of its text: lack of memory before a fault of the disk,
 -- and the others before one of the sink.
 pub data DrainRunEnds (answer : Result (Unit {0}) DrainFault) (text : List ℕ) (s : Sinks) : Detail → Type 0 where
   done : answer ≡ Ok tt → Wrote s text → DrainRunEnds answer text s detail.Done

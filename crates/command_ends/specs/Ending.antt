@@ -6,7 +6,7 @@ use Rattle.report.specs.declared.status.Detail.{Detail}
 use Rattle.report.specs.declared.status.Detail.TheVariants as detail
 use Rattle.chain_store.specs.Replies.{Replies, AllReplied, is_no_memory, is_disk_fault}
 
--- by its replies and what the sink took of its text: want of memory before a fault of the disk, and that before one of the sink
+-- by its replies and what the sink took of its text: lack of memory before a fault of the disk, and that before one of the sink
 pub data RunEnds (replies : Replies) (text : List ℕ) (s : Sinks) : Detail → Type 0 where
   done : AllReplied replies → Wrote s text → RunEnds replies text s detail.Done
   write_fault : AllReplied replies → FailedIn s text → RunEnds replies text s detail.WriteFault

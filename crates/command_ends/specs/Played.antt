@@ -26,7 +26,7 @@ pub record Played {D : Type 0} (issuer : List ℕ) (asks : List Asked) (coming :
   pub start : List Entry
   pub replies : Replies
   pub end : List Entry
-  pub found : IsTrue k.tells → IsFound version issuer start (k.told k.disk).content
+  pub found : IsTrue k.tells → IsFound version issuer start (k.on_disk k.disk).content
   pub run : ChainRun version issuer (IsComing coming) start asks replies end
   pub begins : IsPrefix start end
   pub legal : Legal version issuer end
@@ -35,7 +35,7 @@ pub record Played {D : Type 0} (issuer : List ℕ) (asks : List Asked) (coming :
   pub stops : StopsOnce (k.faults k.disk) (k.faults k.disk_after) replies
   pub fails : AllGoOn replies ⊎ FailsIn k version issuer end
   pub kept : IsTrue k.tells →
-      KeptByRun (StandsSince version issuer start end) (IsCutOff version issuer (IsComing coming) asks end replies) version issuer
-      end replies
-      (synced (k.told k.disk)) (k.told k.disk_after)
+      KeptByRun (StandsSince (k.on_disk k.disk).content version issuer start end)
+      (IsCutOff version issuer (IsComing coming) asks end replies) version issuer end replies
+      (synced (k.on_disk k.disk)) (k.on_disk k.disk_after)
   pub clock : Leaves replies

@@ -1,4 +1,4 @@
-// How a command ends by the answer of a drain, or of a day's sender.
+//! How a command ends by the answer of a drain, or of a day's sender.
 ghost use Rattle.std.specs.Prelude.{◌≡◌, ℕ, List};
 ghost use Rattle.ports.specs.Sinks.{OutputIs, Sinks};
 ghost use Rattle.command_ends.specs.DrainEnds as spec;

@@ -1,4 +1,4 @@
-// How a run ends.
+//! How a run ends.
 ghost use Rattle.std.specs.Prelude.{◌≡◌, ℕ, List};
 ghost use Rattle.std.specs.List.{list_any};
 ghost use Rattle.ports.specs.Sinks.{OutputIs, Sinks};
@@ -40,7 +40,7 @@ pub fn lacks_disk(replies: &[Result<Reply, StoreFault>]) -> bool
     replies.iter().any(|reply| is_disk_fault(reply))
 }
 
-/// The end of a run with these replies, whose text was written or not: want of memory before a fault of the disk, and that
+/// The end of a run with these replies, whose text was written or not: lack of memory before a fault of the disk, and that
 /// before one of the sink.
 pub fn run_end(replies: &[Result<Reply, StoreFault>], written: Result<(), Failed>) -> Detail
     ensures { (text : List ℕ) (s : Sinks) → OutputIs s text written → RunEnds replies.now text s result }

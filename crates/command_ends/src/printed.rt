@@ -1,4 +1,4 @@
-// What is printed of a run.
+//! What is printed of a run.
 ghost use Rattle.std.specs.Prelude.{◌≡◌, ◌++◌, IfOk};
 ghost use Rattle.command_ends.specs.Printed as spec;
 

@@ -1,4 +1,4 @@
-// Reads a source as a script.
+//! Reads a source as a script.
 ghost use Rattle.std.specs.Prelude.{◌≡◌};
 ghost use Rattle.ports.specs.Sources.{this_source};
 ghost use Rattle.command_ends.specs.Scripts.{ScriptIs};

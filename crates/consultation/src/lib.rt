@@ -1,5 +1,5 @@
-//! What a consultation says of records that stand one behind the other in a chain: the lines of those in front, and that the
-//! agency hasn't seen the others. A record that was seen behind one that wasn't is a hole: no agency that keeps the order of
+//! What a consultation says of records that stand one after the other in a chain: the lines of those in front, and that the
+//! agency hasn't seen the others. A record that was seen after one that wasn't is a hole: no agency that keeps the order of
 //! the chain shows one, so its caller stops there.
 #![tactic(auto)]
 

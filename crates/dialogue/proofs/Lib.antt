@@ -1,2 +1,2 @@
-mod Talking
+mod Dialogues
 pub mod Views

@@ -32,7 +32,7 @@ one_of : (till : ℕ) (p : Pair) (b : Bool) → (p.0.till == till) ≡ b →
 one_of till p true e = rw e refl
 one_of till p false e = rw e refl
 
--- the replies to one till behind a command, by whether it is its own
+-- the replies to one till after a command, by whether it is its own
 pub replies_more : (till : ℕ) (asks : List Asked) (replies : Replies) (ask : Asked) (told : Result Reply StoreFault) (own : Bool) →
     length replies ≡ length asks → (ask.till == till) ≡ own →
     replies_of till (asks ++ ask ∷ []) (replies ++ told ∷ []) ≡ replies_of till asks replies ++ cond own (told ∷ []) []

@@ -1,3 +1,3 @@
 pub mod Protocol
 pub mod OneLine
-pub mod Talks
+pub mod Continuing

@@ -1,8 +1,8 @@
 //! What tills say line by line, and what each line is answered.
 #![tactic(auto)]
 
-mod hear;
+mod speaker;
 mod texts;
 
-pub use hear::{Speaker, Task};
+pub use speaker::{Action, Speaker};
 pub use texts::command_text;

@@ -1,12 +1,13 @@
-// The texts of answers.
+//! The texts of answers.
 ghost use Rattle.std.specs.Prelude.{◌≡◌, ◌++◌, ◌∷◌, [], OnOk, IfOk, codes, decimal};
 ghost use Rattle.dialogue.specs.Protocol as spec;
-ghost use Rattle.dialogue.specs.Protocol.{says, too_long, unended, wrong};
+ghost use Rattle.dialogue.specs.Protocol.{says, too_long, unended, wrong, wrong_question};
 ghost use Rattle.script.specs.declared.lines.Meaning.TheVariants.{Clock, Command};
 
 use itoa::Buffer;
 use journal::StoreFault;
 use ports::NoMemory;
+use questions::QuestionFault;
 use record_fields::Text;
 use report::{AnswerLine, Answers, answers_text, word_text};
 use script::Meaning;
@@ -66,6 +67,17 @@ pub fn wrong_text(alloc: Global, number: u64, word: Word) -> Result<Text, NoMemo
     ensures { IfOk result (λ text. text ≡ spec.answer_text number (wrong word) []) }
 {
     numbered(alloc, number, word_text(word))
+}
+
+/// The answer to a question's line with a fault.
+pub fn wrong_question_text(
+    alloc: Global,
+    number: u64,
+    fault: QuestionFault,
+) -> Result<Text, NoMemory>
+    ensures { IfOk result (λ text. text ≡ spec.answer_text number (wrong_question fault) []) }
+{
+    numbered(alloc, number, fault.text())
 }
 
 /// The answer to a line that is too long.

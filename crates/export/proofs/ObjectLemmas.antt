@@ -133,7 +133,7 @@ pub one_of_three : (entry : Entry) → (sort_of entry ≡ codes "alta" → ⊥) 
 one_of_three (Rec till serial sealed) a b c = one_of sealed.body a b
 one_of_three (Notes first lines) a b c = c refl
 
--- lines of a breakdown are one, want of memory aside
+-- lines of a breakdown are one, lack of memory aside
 pub only_memory : (lines : List TaxLine) (fault : LinesFault) → IsBreakdown lines → IsBreakdownOf lines (Err fault)
     → (fault ≡ lines_fault.NoMemory → ⊥) → ⊥
 only_memory lines lines_fault.NoLines is of other = let few = is.few.0 in absurd (omega (arith, rw of at few))

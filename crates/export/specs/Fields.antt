@@ -29,7 +29,7 @@ abbrev pub IsMemory : Unread → Type 0
 IsMemory unread.Shape = ⊥
 IsMemory unread.NoMemory = Unit {0}
 
--- the call gives this, seen by view, want of memory aside
+-- the call gives this, seen by view, lack of memory aside
 abbrev pub GivesBy : {X Y : Type 0} → (X → Y) → Y → Result X Unread → Type 0
 GivesBy view wanted (Ok given) = view given ≡ wanted
 GivesBy view wanted (Err fault) = IsMemory fault

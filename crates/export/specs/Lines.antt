@@ -38,7 +38,7 @@ pub record IsLineOf (version : Version) (nif : List ℕ) (entry : Entry) (line :
   pub value : value_read line ≡ Some (object_of entry)
 
 -- the entry of the line; `Json` exactly where serde_json reads no value, `Shape` exactly where the value is the object of no such
--- entry, want of memory aside
+-- entry, lack of memory aside
 abbrev pub IsLineReading : Version → List ℕ → List ℕ → Result Entry LineFault → Type 0
 IsLineReading version issuer line (Ok entry) = IsLineOf version issuer entry line
 IsLineReading version issuer line (Err Json) = value_read line ≡ None

@@ -1,4 +1,4 @@
-// Why a line isn't taken.
+//! Why a line isn't taken.
 ghost use Rattle.std.specs.Prelude.{◌≡◌};
 ghost use Rattle.export.specs.declared.faults.LineFault.TheVariants.{NoMemory as no_memory};
 ghost use Rattle.export.specs.declared.faults.Unread.TheVariants.{NoMemory as unread_memory};

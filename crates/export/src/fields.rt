@@ -1,4 +1,4 @@
-// What the fields of an object say. Each reader gives the field's value where the object has it.
+//! What the fields of an object say. Each reader gives the field's value where the object has it.
 ghost use Rattle.std.specs.Prelude.{◌≡◌, ℕ, ◌≤◌, ◌<◌, ◌^◌, ℤ, List, Bool, Option, Some, IsTrue, codes};
 ghost use Rattle.std.specs.Option.{ForSome};
 ghost use Rattle.serde_json.specs.Data.{Data, boolean, number, string};

@@ -1,4 +1,4 @@
-// What the first line of a file says.
+//! What the first line of a file says.
 
 use parties::Nif;
 use record_codec::Version;

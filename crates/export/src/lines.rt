@@ -1,4 +1,4 @@
-// Lines of JSON.
+//! Lines of JSON.
 ghost use Rattle.std.specs.Prelude.{◌≡◌, ◌↔◌, ◌≤◌, IfOk, IfErr, List, ℕ, IsTrue, MatchResult, Some, false};
 ghost use Rattle.serde_json.specs.Data.{depth};
 ghost use Rattle.serde_json.specs.Read.{max_depth};

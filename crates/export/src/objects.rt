@@ -1,4 +1,4 @@
-// The objects of a history.
+//! The objects of a history.
 ghost use Rattle.std.specs.Prelude.{◌≡◌, IfOk, OnOk};
 ghost use Rattle.serde_json.specs.View.{members_view, view};
 ghost use Rattle.export.specs.Building as building;

@@ -1,4 +1,4 @@
-// Pairs: what an invoice refers to, its lines, and the agency's lines.
+//! Pairs: what an invoice refers to, its lines, and the agency's lines.
 ghost use Rattle.std.specs.Prelude.{◌≡◌, ◌≤◌, ℤ, IfOk, Some, unsigned_abs};
 ghost use Rattle.serde_json.specs.Data.{Data, number};
 ghost use Rattle.serde_json.specs.Find.{of_integer};

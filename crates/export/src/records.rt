@@ -1,4 +1,4 @@
-// The entry whose object a value is, if it is one. Whether it is, is left to the caller.
+//! The entry whose object a value is, if it is one. Whether it is, is left to the caller.
 ghost use Rattle.std.specs.Prelude.{◌≡◌, ◌↔◌, ℕ, ◌≤◌, ◌<◌, ◌^◌, List, IfOk, Some, IsTrue, codes};
 ghost use Rattle.serde_json.specs.Find.{get};
 ghost use Rattle.serde_json.specs.View.{view};
@@ -26,8 +26,8 @@ use crate::fields::{
     previo_at, rect_at, text_at,
 };
 use parties::Nif;
-use record_codec::{Entry, LAST_TILL};
-use record_fields::{Alta, Anulacion, BATCH, Draft, Lines, MAX_REFS, Record, Refs, Sealed};
+use record_codec::{Entry, LAST_TILL, MAX_NOTES};
+use record_fields::{Alta, Anulacion, Draft, Lines, MAX_REFS, Record, Refs, Sealed};
 use serde_json::Value;
 use std::alloc::Global;
 use tax_lines::{Breakdown, LinesFault};
@@ -171,7 +171,7 @@ pub(crate) fn is_in_ranges(entry: &Entry) -> bool
             serial,
             sealed,
         } => 1 <= *till && *till <= LAST_TILL && 1 <= *serial && has_few_refs(&sealed.body),
-        Entry::Notes { lines, .. } => 1 <= lines.len() && lines.len() <= BATCH as usize,
+        Entry::Notes { lines, .. } => 1 <= lines.len() && lines.len() <= MAX_NOTES as usize,
     }
 }
 

@@ -27,7 +27,7 @@ not_below a b e = grind (arith, nat_tests)
 pub rest_is : (text : List ℕ) (at : ℕ) → take (length text - at) (drop at text) ≡ drop at text
 rest_is text at = rw (← length-drop at text) (take-length (drop at text))
 
--- what is left behind the LF at this place
+-- what is left after the LF at this place
 abbrev behind : ℕ → List ℕ → List ℕ
 behind i text = take (length text - (i + 1)) (drop (i + 1) text)
 

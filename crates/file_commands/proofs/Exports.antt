@@ -27,7 +27,7 @@ exports file read (no_frame version issuer entries at sound damaged) = tt
 exports file read (no_entry version issuer entries at body sound counted none) = tt
 exports file read (not_next version issuer entries at body entry why sound counted encoding not broken) = tt
 
--- ---- the text of so many entries
+-- ---- the text of this many entries
 
 pub no_lines : lines_text (objects_of nothing) ≡ []
 unfolding lines_text

@@ -22,12 +22,12 @@ holds file read (no_entry version issuer entries at body sound counted none) = t
 holds file read (not_next version issuer entries at body entry why sound counted encoding not broken) = tt
 
 -- What links are held against.
-abbrev pub Kept : List ℕ → FileRead → Type 0
-Kept file NotBegun = IsChainOf none_begun file
-Kept file (Sound history end) = IsChainOf (begun history.issuer history.entries) file
-Kept file (Broken place at what) = Unit {0}
+abbrev pub HoldsChain : List ℕ → FileRead → Type 0
+HoldsChain file NotBegun = IsChainOf none_begun file
+HoldsChain file (Sound history end) = IsChainOf (begun history.issuer history.entries) file
+HoldsChain file (Broken place at what) = Unit {0}
 
-pub kept : (file : List ℕ) (read : FileRead) → IsRead file read → Kept file read
+pub kept : (file : List ℕ) (read : FileRead) → IsRead file read → HoldsChain file read
 kept file read (not_begun none) = none
 kept file read (stands history end h gate) = (history.version, h)
 kept file read (in_header at h) = tt

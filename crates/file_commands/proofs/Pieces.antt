@@ -1,4 +1,4 @@
--- The answers of pieces of the lines, one behind the other.
+-- The answers of pieces of the lines, one after the other.
 use Rattle.std.proofs.Common.{◌≡◌, ◌∙◌, ℕ, suc, ◌+◌, ◌<◌, List, [], ◌∷◌, ◌++◌, length, take, get_or, refl, sym, ap, subst, arith}
 use Rattle.std.proofs.Common.{append-nil, flat_map, Result, Ok, Err, IfOk, IsOk, is_ok, All, Bor}
 use Rattle.std.proofs.lemmas.Grind.{flat_map-append}

@@ -86,7 +86,7 @@ neither lines objects n e f = subst (λ (o : Option (List ℕ)). AreOne o (slice
 
 -- ---- the lines so far
 
--- the first so many lines are those of their places, and these are left
+-- the first lines, this many, are those of their places, and these are left
 pub record SameSoFar (lines : List (List ℕ)) (objects : List Data) (n : ℕ) (left : List (List ℕ)) : Type 0 where
   pub rest : drop n lines ≡ left
   pub each : (i : ℕ) → i < n → AreOneAt lines objects i

@@ -1,4 +1,4 @@
--- A text cut behind one of its LFs.
+-- A text cut after one of its LFs.
 use Rattle.std.proofs.Common.{◌≡◌, ◌∙◌, ℕ, zero, suc, ◌+◌, ◌-◌, ◌<◌, ◌≤◌, List, [], ◌∷◌, ◌++◌, length, take, drop, get_or, refl, sym, ap}
 use Rattle.std.proofs.Common.{inl, inr, arith, map, Some, true, false, ◌==◌, position, append-nil, add-one, length-drop}
 use Rattle.std.specs.List.{onto_first, slice_split}
@@ -69,7 +69,7 @@ cut_behind text i lt e = rw add-one
     (ap (map strip_carriage_return) (raw_cut text i 0 lt e)
     ∙ map-append strip_carriage_return (raw_lines (take (suc i) text)) (raw_lines (drop (suc i) text)))
 
--- behind the first LF at a place or behind it
+-- after the first LF at a place or after it
 pub split_there : (text : List ℕ) (at more : ℕ) → at ≤ length text →
     position (λ b. b == 10) (take (length text - at) (drop at text)) ≡ Some more →
     (lines_of text ≡ lines_of (take (at + more + 1) text) ++ lines_of (drop (at + more + 1) text)) × (at + more < length text)

@@ -12,7 +12,7 @@ use Rattle.file_commands.specs.Output.{PrintEnds}
 
 -- this is the verdict on the file
 abbrev pub IsVerdictOn : {D : Type 0} → Disks D → AuditEnd → Type 0
-IsVerdictOn k verdict = IsTrue k.tells → IsVerdict (k.told k.disk).content verdict
+IsVerdictOn k verdict = IsTrue k.tells → IsVerdict (k.on_disk k.disk).content verdict
 
 -- the end that a printed verdict comes to
 abbrev pub verdict_end : AuditEnd → Detail

@@ -34,9 +34,9 @@ pub data AnswersPrinted (chain : Chain) (lines : List (List ℕ)) (s : Sinks) : 
 
 -- the lines of these bytes were held against the file; or why it couldn't be read
 pub data AnswersFrom {D : Type 0} (bytes : List ℕ) (s : Sinks) (k : Disks D) : Detail → Type 0 where
-  read : (chain : Chain) (end : Detail) → (IsTrue k.tells → IsChainOf chain (k.told k.disk).content) →
+  read : (chain : Chain) (end : Detail) → (IsTrue k.tells → IsChainOf chain (k.on_disk k.disk).content) →
       AnswersPrinted chain (lines_of bytes) s end → AnswersFrom bytes s k end
-  damaged : (at : ℕ) → (IsTrue k.tells → IsDamagedFile (k.told k.disk).content at) → WroteNothing s →
+  damaged : (at : ℕ) → (IsTrue k.tells → IsDamagedFile (k.on_disk k.disk).content at) → WroteNothing s →
       AnswersFrom bytes s k (detail.Damaged at)
   disk_fault : DiskRose k → WroteNothing s → AnswersFrom bytes s k detail.DiskFault
   no_memory : WroteNothing s → AnswersFrom bytes s k detail.NoMemory

@@ -38,9 +38,9 @@ pub data LinesPrinted (exported : Exported) (s : Sinks) : Detail → Type 0 wher
 
 -- the lines of the file's history were printed; or why it couldn't be read
 pub data ExportEnds {D : Type 0} (s : Sinks) (k : Disks D) : Detail → Type 0 where
-  read : (exported : Exported) (end : Detail) → (IsTrue k.tells → IsExportOf exported (k.told k.disk).content) →
+  read : (exported : Exported) (end : Detail) → (IsTrue k.tells → IsExportOf exported (k.on_disk k.disk).content) →
       LinesPrinted exported s end → ExportEnds s k end
-  damaged : (at : ℕ) → (IsTrue k.tells → IsDamagedFile (k.told k.disk).content at) → WroteNothing s →
+  damaged : (at : ℕ) → (IsTrue k.tells → IsDamagedFile (k.on_disk k.disk).content at) → WroteNothing s →
       ExportEnds s k (detail.Damaged at)
   disk_fault : DiskRose k → WroteNothing s → ExportEnds s k detail.DiskFault
   no_memory : WroteNothing s → ExportEnds s k detail.NoMemory

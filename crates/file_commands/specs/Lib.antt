@@ -10,3 +10,4 @@ pub mod Generate
 pub mod Exporting
 pub mod Matching
 pub mod Statements
+pub mod Listing

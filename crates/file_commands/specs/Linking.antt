@@ -38,9 +38,9 @@ pub data LinkedFrom (entries : List Entry) (num : List ℕ) (host : Host) (s : S
 
 -- that of the file's history; or why the file couldn't be read
 pub data LinkEnds {D : Type 0} (num : List ℕ) (host : Host) (s : Sinks) (k : Disks D) : Detail → Type 0 where
-  read : (entries : List Entry) (end : Detail) → (IsTrue k.tells → IsHistoryOf entries (k.told k.disk).content) →
+  read : (entries : List Entry) (end : Detail) → (IsTrue k.tells → IsHistoryOf entries (k.on_disk k.disk).content) →
       LinkedFrom entries num host s end → LinkEnds num host s k end
-  damaged : (at : ℕ) → (IsTrue k.tells → IsDamagedFile (k.told k.disk).content at) → WroteNothing s →
+  damaged : (at : ℕ) → (IsTrue k.tells → IsDamagedFile (k.on_disk k.disk).content at) → WroteNothing s →
       LinkEnds num host s k (detail.Damaged at)
   disk_fault : DiskRose k → WroteNothing s → LinkEnds num host s k detail.DiskFault
   no_memory : WroteNothing s → LinkEnds num host s k detail.NoMemory

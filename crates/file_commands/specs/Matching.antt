@@ -58,9 +58,9 @@ pub data Compared (exported : Exported) (lines : List (List ℕ)) (s : Sinks) : 
 -- The lines of these bytes were compared with those of the file's history, of which there are none where it isn't begun; or why it
 -- couldn't be read.
 pub data ComparedWith {D : Type 0} (bytes : List ℕ) (s : Sinks) (k : Disks D) : Detail → Type 0 where
-  read : (exported : Exported) (end : Detail) → (IsTrue k.tells → IsExportOf exported (k.told k.disk).content) →
+  read : (exported : Exported) (end : Detail) → (IsTrue k.tells → IsExportOf exported (k.on_disk k.disk).content) →
       Compared exported (lines_of bytes) s end → ComparedWith bytes s k end
-  damaged : (at : ℕ) → (IsTrue k.tells → IsDamagedFile (k.told k.disk).content at) → WroteNothing s →
+  damaged : (at : ℕ) → (IsTrue k.tells → IsDamagedFile (k.on_disk k.disk).content at) → WroteNothing s →
       ComparedWith bytes s k (detail.Damaged at)
   disk_fault : DiskRose k → WroteNothing s → ComparedWith bytes s k detail.DiskFault
   no_memory : WroteNothing s → ComparedWith bytes s k detail.NoMemory

@@ -1,4 +1,4 @@
-// The answers of scanned links, worked in pieces beside each other.
+//! The answers of scanned links, worked in pieces at the same time.
 ghost use Rattle.std.specs.Prelude.{◌≡◌, IfOk, IsOk, All, flat_map};
 ghost use Rattle.std.specs.Int.{IsInRange};
 ghost use Rattle.link_check.specs.Checking.Chain.{begun};
@@ -14,7 +14,7 @@ use shop_core::State;
 use std::alloc::Global;
 use std::thread::{Threads, map_vec};
 
-/// The answers of the lines of these bytes, as they are printed. The bytes are cut behind lines' ends, into at most as many
+/// The answers of the lines of these bytes, as they are printed. The bytes are cut after lines' ends, into at most as many
 /// pieces as there are workers, each worked in a thread of its own where one can be made.
 pub(crate) fn answered<R: Threads + Sync>(
     rt: &R,
@@ -48,7 +48,7 @@ fn answer_piece(alloc: Global, state: &State, piece: &[u8]) -> Result<Text, NoMe
     checks_text(alloc, &CheckedList::of(answers))
 }
 
-// All the texts, one behind the other, where each is there.
+// All the texts, one after the other, where each is there.
 fn joined(alloc: Global, texts: &[Result<Text, NoMemory>]) -> Result<Text, NoMemory>
     ensures each { IfOk result (λ text. All (λ t. IsOk t) texts.now) }
     ensures all { IfOk result (λ text. text ≡ flat_map text_in texts.now) }

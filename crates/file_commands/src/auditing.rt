@@ -1,4 +1,4 @@
-// The command `audit`: prints the verdict on a file.
+//! The command `audit`: prints the verdict on a file.
 ghost use Rattle.std.specs.Prelude.{◌≡◌};
 ghost use Rattle.chain_disk.specs.Disks.{this_disk};
 ghost use Rattle.ports.specs.Sinks.{this_sink};
@@ -18,8 +18,8 @@ use std::alloc::Global;
 pub fn audit_cmd<K: Sink, D: Disk>(alloc: Global, sink: &mut K, disk: D) -> (Ended, D)
     ensures status { result.0.status ≡ status_of result.0.detail }
     ensures ends { AuditEnds (this_sink K.taken K.faults sink.old sink.new)
-        (this_disk D.tells D.told D.faults disk result.1) result.0.detail }
-    ensures same { D.told result.1 ≡ D.told disk }
+        (this_disk D.tells D.on_disk D.faults disk result.1) result.0.detail }
+    ensures same { D.on_disk result.1 ≡ D.on_disk disk }
 {
     let mut disk = disk;
     let detail = audited(alloc, sink, &mut disk);
@@ -29,8 +29,8 @@ pub fn audit_cmd<K: Sink, D: Disk>(alloc: Global, sink: &mut K, disk: D) -> (End
 // Looks at the file and prints the verdict.
 fn audited<K: Sink, D: Disk>(alloc: Global, sink: &mut K, disk: &mut D) -> Detail
     ensures ends { AuditEnds (this_sink K.taken K.faults sink.old sink.new)
-        (this_disk D.tells D.told D.faults disk.old disk.new) result }
-    ensures same { D.told disk.new ≡ D.told disk.old }
+        (this_disk D.tells D.on_disk D.faults disk.old disk.new) result }
+    ensures same { D.on_disk disk.new ≡ D.on_disk disk.old }
 {
     let verdict = match audit(alloc, disk) {
         Ok(verdict) => verdict,

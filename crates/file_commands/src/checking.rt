@@ -1,4 +1,4 @@
-// The command `check`: answers scanned links.
+//! The command `check`: answers scanned links.
 ghost use Rattle.std.specs.Prelude.{◌≡◌};
 ghost use Rattle.std.specs.Int.{IsInRange};
 ghost use Rattle.chain_disk.specs.Disks.{this_disk};
@@ -23,7 +23,7 @@ use std::alloc::Global;
 use std::thread::Threads;
 
 /// Reads the source to its end, each line as a scanned link, and prints what each is answered, a line each, in their order. The
-/// lines are worked in so many pieces beside each other. The source comes first, then the file, which is only read; where it
+/// lines are worked in this many pieces at the same time. The source comes first, then the file, which is only read; where it
 /// isn't begun, each readable link is unknown.
 pub fn check_cmd<S: Source, K: Sink, D: Disk, R: Threads + Sync>(
     rt: &R,
@@ -37,8 +37,8 @@ pub fn check_cmd<S: Source, K: Sink, D: Disk, R: Threads + Sync>(
     ensures status { result.0.status ≡ status_of result.0.detail }
     ensures ends { CheckEnds (this_source S.left S.faults source.old source.new)
         (this_sink K.taken K.faults sink.old sink.new)
-        (this_disk D.tells D.told D.faults disk result.1) result.0.detail }
-    ensures same { D.told result.1 ≡ D.told disk }
+        (this_disk D.tells D.on_disk D.faults disk result.1) result.0.detail }
+    ensures same { D.on_disk result.1 ≡ D.on_disk disk }
 {
     let mut disk = disk;
     let detail = check_source(rt, alloc, workers, source, sink, &mut disk);
@@ -57,8 +57,8 @@ fn check_source<S: Source, K: Sink, D: Disk, R: Threads + Sync>(
     requires { IsInRange 1 MAX_WORKERS workers }
     ensures ends { CheckEnds (this_source S.left S.faults source.old source.new)
         (this_sink K.taken K.faults sink.old sink.new)
-        (this_disk D.tells D.told D.faults disk.old disk.new) result }
-    ensures same { D.told disk.new ≡ D.told disk.old }
+        (this_disk D.tells D.on_disk D.faults disk.old disk.new) result }
+    ensures same { D.on_disk disk.new ≡ D.on_disk disk.old }
 {
     match read_input(alloc, source) {
         Ok(bytes) => check_bytes(rt, alloc, workers, &bytes, sink, disk),
@@ -79,8 +79,8 @@ fn check_bytes<K: Sink, D: Disk, R: Threads + Sync>(
 ) -> Detail
     requires { IsInRange 1 MAX_WORKERS workers }
     ensures ends { AnswersFrom bytes.now (this_sink K.taken K.faults sink.old sink.new)
-        (this_disk D.tells D.told D.faults disk.old disk.new) result }
-    ensures same { D.told disk.new ≡ D.told disk.old }
+        (this_disk D.tells D.on_disk D.faults disk.old disk.new) result }
+    ensures same { D.on_disk disk.new ≡ D.on_disk disk.old }
 {
     a_broken_file_is_damaged();
     match read_file(alloc, disk) {

@@ -1,4 +1,4 @@
-// The command `export`: prints a file's history as lines of JSON.
+//! The command `export`: prints a file's history as lines of JSON.
 ghost use Rattle.std.specs.Prelude.{◌≡◌, ◌++◌, ◌∷◌, [], IfOk, OnOk};
 ghost use Rattle.chain_disk.specs.Disks.{this_disk};
 ghost use Rattle.ports.specs.Sinks.{this_sink};
@@ -15,12 +15,12 @@ use shop_core::{FileRead, ReadFault, State, a_broken_file_is_damaged, read_file}
 use std::alloc::{AllocError, Global};
 
 /// Prints a line of JSON for the issuer and the version of the file's history, and one for each of its entries. The file is only
-/// read; one that isn't begun has no lines. Want of memory is found before anything is printed.
+/// read; one that isn't begun has no lines. Lack of memory is found before anything is printed.
 pub fn export_cmd<K: Sink, D: Disk>(alloc: Global, sink: &mut K, disk: D) -> (Ended, D)
     ensures status { result.0.status ≡ status_of result.0.detail }
     ensures ends { ExportEnds (this_sink K.taken K.faults sink.old sink.new)
-        (this_disk D.tells D.told D.faults disk result.1) result.0.detail }
-    ensures same { D.told result.1 ≡ D.told disk }
+        (this_disk D.tells D.on_disk D.faults disk result.1) result.0.detail }
+    ensures same { D.on_disk result.1 ≡ D.on_disk disk }
 {
     let mut disk = disk;
     let detail = exported(alloc, sink, &mut disk);
@@ -30,8 +30,8 @@ pub fn export_cmd<K: Sink, D: Disk>(alloc: Global, sink: &mut K, disk: D) -> (En
 // Reads the history and prints its lines.
 fn exported<K: Sink, D: Disk>(alloc: Global, sink: &mut K, disk: &mut D) -> Detail
     ensures ends { ExportEnds (this_sink K.taken K.faults sink.old sink.new)
-        (this_disk D.tells D.told D.faults disk.old disk.new) result }
-    ensures same { D.told disk.new ≡ D.told disk.old }
+        (this_disk D.tells D.on_disk D.faults disk.old disk.new) result }
+    ensures same { D.on_disk disk.new ≡ D.on_disk disk.old }
 {
     a_broken_file_is_damaged();
     match read_file(alloc, disk) {

@@ -1,8 +1,8 @@
-// The command `generate`: runs the generator's commands on a memory disk and prints the summary of the chain.
+//! The command `generate`: runs the generator's commands on a memory disk and prints the summary of the chain.
 ghost use Rattle.std.specs.Prelude.{◌≡◌, ◌≤◌, ℕ, [], None, Some, IfOk, IsTrue, true};
 ghost use Rattle.ports.specs.Counting.{counting};
 ghost use Rattle.ports.specs.Sinks.{this_sink};
-ghost use Rattle.chain_disk.specs.MemDisk.{told_of};
+ghost use Rattle.chain_disk.specs.MemDisk.{on_disk_of};
 ghost use Rattle.journal.specs.Journal.{stopped_of};
 ghost use Rattle.record_fields.specs.declared.versions.Version.TheVariants.{Two};
 ghost use Rattle.chain_store.specs.Store.{Ready, clock_of, journal_of, state_of};
@@ -41,9 +41,9 @@ fn issuer() -> Nif
     }
 }
 
-// The store of an empty memory disk, which nothing but want of memory keeps from being begun.
+// The store of an empty memory disk, which nothing but lack of memory keeps from being begun.
 fn begun(alloc: Global) -> Result<Store<MemDisk, CountingClock>, NoMemory>
-    ensures ready { IfOk result (λ store. Ready true told_of store) }
+    ensures ready { IfOk result (λ store. Ready true on_disk_of store) }
     ensures going_on { IfOk result (λ store. stopped_of (journal_of store) ≡ None) }
     ensures issuer { IfOk result (λ store. (state_of store).issuer ≡ spec.issuer) }
     ensures version { IfOk result (λ store. (state_of store).version ≡ Two) }
@@ -67,7 +67,7 @@ fn all_replied(replies: &[Result<Reply, StoreFault>]) -> bool
     replies.iter().all(|reply| reply.is_ok())
 }
 
-// The history after the first n commands. A memory disk fails for want of memory alone.
+// The history after the first n commands. A memory disk fails for lack of memory alone.
 fn generated(alloc: Global, n: u32) -> Result<State, NoMemory>
     requires { n ≤ MOST }
     ensures { IfOk result (λ state. Generated n state.entries) }

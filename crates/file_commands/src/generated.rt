@@ -1,4 +1,4 @@
-// The commands of the generator, which are this project's own.
+//! The commands of the generator, which are this project's own.
 ghost use Rattle.std.specs.Prelude.{◌≡◌, ◌≤◌, IfOk, codes};
 ghost use Rattle.std.specs.Int.{IsInRange};
 ghost use Rattle.file_commands.specs.Generated as spec;

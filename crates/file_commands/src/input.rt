@@ -1,4 +1,4 @@
-// Reads a source to its end.
+//! Reads a source to its end.
 ghost use Rattle.std.specs.Prelude.{◌≡◌, ◌≤◌};
 ghost use Rattle.ports.specs.Sources.{this_source};
 ghost use Rattle.file_commands.specs.Input.{InputIs};

@@ -1,15 +1,15 @@
-// The lines of a source.
+//! The lines of a source.
 ghost use Rattle.std.specs.Prelude.{◌≡◌, ◌≢◌, ◌<◌, ◌≤◌, ◌==◌, [], ◌∷◌, ◌++◌, ◌+◌, IfOk, MatchOption, flat_map, length, position};
 ghost use Rattle.std.specs.Str.Lines.{strip_carriage_return};
 ghost use Rattle.file_commands.specs.Lines.{lines_of};
 
-use link_check::ScannedLines;
+use link_check::LinkLines;
 use ports::NoMemory;
 use record_fields::Bytes;
 use std::alloc::Global;
 
 /// The lines of these bytes, each in memory of its own.
-pub(crate) fn read_lines(alloc: Global, bytes: &[u8]) -> Result<ScannedLines, NoMemory>
+pub(crate) fn read_lines(alloc: Global, bytes: &[u8]) -> Result<LinkLines, NoMemory>
     ensures { IfOk result (λ lines. lines ≡ lines_of bytes.now) }
 {
     let mut lines = Vec::new(alloc);
@@ -19,10 +19,10 @@ pub(crate) fn read_lines(alloc: Global, bytes: &[u8]) -> Result<ScannedLines, No
         lines.push(Bytes::of(Vec::from_slice(alloc, line)?))?;
         rest = after;
     }
-    Ok(ScannedLines::of(lines))
+    Ok(LinkLines::of(lines))
 }
 
-/// The bytes in at most so many pieces, each cut behind a line's end.
+/// The bytes in at most this many pieces, each cut after a line's end.
 pub(crate) fn cut(alloc: Global, bytes: &[u8], most: usize) -> Result<Vec<&[u8]>, NoMemory>
     requires { 0 < most }
     ensures lines { IfOk result (λ pieces. flat_map (λ p. lines_of p.now) pieces.items ≡ lines_of bytes.now) }
@@ -40,7 +40,7 @@ pub(crate) fn cut(alloc: Global, bytes: &[u8], most: usize) -> Result<Vec<&[u8]>
     Ok(pieces)
 }
 
-// What goes up to the first LF at this place or behind it, and what is left.
+// What goes up to the first LF at this place or after it, and what is left.
 fn split_behind_line(text: &[u8], at: usize) -> (&[u8], &[u8])
     requires { at ≤ length text.now }
     ensures lines { lines_of text.now ≡ lines_of result.0.now ++ lines_of result.1.now }
@@ -52,7 +52,7 @@ fn split_behind_line(text: &[u8], at: usize) -> (&[u8], &[u8])
     }
 }
 
-/// The first line, and what is left behind its LF; None where there is no line.
+/// The first line, and what is left after its LF; None where there is no line.
 pub(crate) fn next_line(text: &[u8]) -> Option<(&[u8], &[u8])>
     ensures { MatchOption result
         (lines_of text.now ≡ [])
@@ -64,7 +64,7 @@ pub(crate) fn next_line(text: &[u8]) -> Option<(&[u8], &[u8])>
     Some(first_line(text))
 }
 
-// The first line, and what is left behind its LF.
+// The first line, and what is left after its LF.
 fn first_line(text: &[u8]) -> (&[u8], &[u8])
     requires { text.now ≢ [] }
     ensures line { lines_of text.now ≡ result.0.now ∷ lines_of result.1.now }

@@ -1,4 +1,4 @@
-// The command `link`: prints the verification link of an invoice.
+//! The command `link`: prints the verification link of an invoice.
 ghost use Rattle.std.specs.Prelude.{◌≡◌};
 ghost use Rattle.chain_disk.specs.Disks.{this_disk};
 ghost use Rattle.ports.specs.Sinks.{this_sink};
@@ -26,8 +26,8 @@ pub fn link_cmd<K: Sink, D: Disk>(
 ) -> (Ended, D)
     ensures status { result.0.status ≡ status_of result.0.detail }
     ensures ends { LinkEnds num.now host (this_sink K.taken K.faults sink.old sink.new)
-        (this_disk D.tells D.told D.faults disk result.1) result.0.detail }
-    ensures same { D.told result.1 ≡ D.told disk }
+        (this_disk D.tells D.on_disk D.faults disk result.1) result.0.detail }
+    ensures same { D.on_disk result.1 ≡ D.on_disk disk }
 {
     let mut disk = disk;
     let detail = linked(alloc, num, host, sink, &mut disk);
@@ -43,8 +43,8 @@ fn linked<K: Sink, D: Disk>(
     disk: &mut D,
 ) -> Detail
     ensures ends { LinkEnds num.now host (this_sink K.taken K.faults sink.old sink.new)
-        (this_disk D.tells D.told D.faults disk.old disk.new) result }
-    ensures same { D.told disk.new ≡ D.told disk.old }
+        (this_disk D.tells D.on_disk D.faults disk.old disk.new) result }
+    ensures same { D.on_disk disk.new ≡ D.on_disk disk.old }
 {
     a_broken_file_is_damaged();
     match read_file(alloc, disk) {

@@ -1,4 +1,4 @@
-// The command `matches`: compares lines of JSON with a file's history.
+//! The command `matches`: compares lines of JSON with a file's history.
 ghost use Rattle.std.specs.Prelude.{◌≡◌, ℕ, IfOk, MatchOption};
 ghost use Rattle.chain_disk.specs.Disks.{this_disk};
 ghost use Rattle.ports.specs.Sinks.{this_sink};
@@ -32,8 +32,8 @@ pub fn matches_cmd<S: Source, K: Sink, D: Disk>(
     ensures status { result.0.status ≡ status_of result.0.detail }
     ensures ends { MatchesEnds (this_source S.left S.faults source.old source.new)
         (this_sink K.taken K.faults sink.old sink.new)
-        (this_disk D.tells D.told D.faults disk result.1) result.0.detail }
-    ensures same { D.told result.1 ≡ D.told disk }
+        (this_disk D.tells D.on_disk D.faults disk result.1) result.0.detail }
+    ensures same { D.on_disk result.1 ≡ D.on_disk disk }
 {
     let mut disk = disk;
     let detail = compare_source(alloc, source, sink, &mut disk);
@@ -49,8 +49,8 @@ fn compare_source<S: Source, K: Sink, D: Disk>(
 ) -> Detail
     ensures ends { MatchesEnds (this_source S.left S.faults source.old source.new)
         (this_sink K.taken K.faults sink.old sink.new)
-        (this_disk D.tells D.told D.faults disk.old disk.new) result }
-    ensures same { D.told disk.new ≡ D.told disk.old }
+        (this_disk D.tells D.on_disk D.faults disk.old disk.new) result }
+    ensures same { D.on_disk disk.new ≡ D.on_disk disk.old }
 {
     match read_input(alloc, source) {
         Ok(bytes) => compare_bytes(alloc, &bytes, sink, disk),
@@ -68,8 +68,8 @@ fn compare_bytes<K: Sink, D: Disk>(
     disk: &mut D,
 ) -> Detail
     ensures ends { ComparedWith bytes.now (this_sink K.taken K.faults sink.old sink.new)
-        (this_disk D.tells D.told D.faults disk.old disk.new) result }
-    ensures same { D.told disk.new ≡ D.told disk.old }
+        (this_disk D.tells D.on_disk D.faults disk.old disk.new) result }
+    ensures same { D.on_disk disk.new ≡ D.on_disk disk.old }
 {
     a_broken_file_is_damaged();
     match read_file(alloc, disk) {

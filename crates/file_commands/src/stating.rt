@@ -1,4 +1,4 @@
-// The command `statement`: prints the statement of a month.
+//! The command `statement`: prints the statement of a period, a month or a day.
 ghost use Rattle.std.specs.Prelude.{◌≡◌, IfOk, map};
 ghost use Rattle.chain_disk.specs.Disks.{this_disk};
 ghost use Rattle.ports.specs.Sinks.{this_sink};
@@ -12,67 +12,71 @@ use ports::{NoMemory, Sink};
 use record_fields::Text;
 use report::{Detail, Ended, StatementLine, statement_text};
 use shop_core::{FileRead, ReadFault, State, a_broken_file_is_damaged, read_file};
-use statements::{Ledger, Month, Row};
+use stamps::date_text;
+use statements::{Period, Row, rows_of};
 use std::alloc::Global;
 
-/// Prints the statement of the month: a line for each key that lines of its invoices have, and one of the sums. The file is
+/// Prints the statement of the period: a line for each key that lines of its invoices have, and one of the sums. The file is
 /// only read; one that isn't there has no invoice and is left missing.
 pub fn statement_cmd<K: Sink, D: Disk>(
     alloc: Global,
-    month: Month,
+    period: Period,
     sink: &mut K,
     disk: D,
 ) -> (Ended, D)
     ensures status { result.0.status ≡ status_of result.0.detail }
-    ensures ends { StatementEnds month (this_sink K.taken K.faults sink.old sink.new)
-        (this_disk D.tells D.told D.faults disk result.1) result.0.detail }
-    ensures same { D.told result.1 ≡ D.told disk }
+    ensures ends { StatementEnds period (this_sink K.taken K.faults sink.old sink.new)
+        (this_disk D.tells D.on_disk D.faults disk result.1) result.0.detail }
+    ensures same { D.on_disk result.1 ≡ D.on_disk disk }
 {
     let mut disk = disk;
-    let detail = stated(alloc, month, sink, &mut disk);
+    let detail = stated(alloc, &period, sink, &mut disk);
     (Ended::of(detail), disk)
 }
 
 // Reads the history and prints the statement.
-fn stated<K: Sink, D: Disk>(alloc: Global, month: Month, sink: &mut K, disk: &mut D) -> Detail
-    ensures ends { StatementEnds month (this_sink K.taken K.faults sink.old sink.new)
-        (this_disk D.tells D.told D.faults disk.old disk.new) result }
-    ensures same { D.told disk.new ≡ D.told disk.old }
+fn stated<K: Sink, D: Disk>(alloc: Global, period: &Period, sink: &mut K, disk: &mut D) -> Detail
+    ensures ends { StatementEnds period.now (this_sink K.taken K.faults sink.old sink.new)
+        (this_disk D.tells D.on_disk D.faults disk.old disk.new) result }
+    ensures same { D.on_disk disk.new ≡ D.on_disk disk.old }
 {
     a_broken_file_is_damaged();
     match read_file(alloc, disk) {
-        Ok(FileRead::Sound { state, .. }) => state_month(alloc, month, state, sink),
-        Ok(FileRead::NotBegun) => print_rows(alloc, month, &[], sink),
+        Ok(FileRead::Sound { state, .. }) => state_period(alloc, period, &state, sink),
+        Ok(FileRead::NotBegun) => print_rows(alloc, period, &[], sink),
         Ok(FileRead::Broken { at, .. }) => Detail::Damaged { at },
         Err(ReadFault::DiskFault) => Detail::DiskFault,
         Err(ReadFault::NoMemory) => Detail::NoMemory,
     }
 }
 
-// Prints the statement of the month in the history.
-fn state_month<K: Sink>(alloc: Global, month: Month, state: State, sink: &mut K) -> Detail
-    ensures { StatementPrinted state.entries month (this_sink K.taken K.faults sink.old sink.new) result }
+// Prints the statement of the period in the history.
+fn state_period<K: Sink>(alloc: Global, period: &Period, state: &State, sink: &mut K) -> Detail
+    ensures { StatementPrinted state.now.entries period.now (this_sink K.taken K.faults sink.old sink.new) result }
 {
-    match Ledger::of(alloc, state) {
-        Ok(ledger) => print_rows(alloc, month, ledger.rows(month).as_slice(), sink),
+    match rows_of(alloc, state, *period) {
+        Ok(rows) => print_rows(alloc, period, rows.as_slice(), sink),
         Err(NoMemory) => Detail::NoMemory,
     }
 }
 
-fn print_rows<K: Sink>(alloc: Global, month: Month, rows: &[Row], sink: &mut K) -> Detail
-    ensures { RowsPrinted month rows.now (this_sink K.taken K.faults sink.old sink.new) result }
+fn print_rows<K: Sink>(alloc: Global, period: &Period, rows: &[Row], sink: &mut K) -> Detail
+    ensures { RowsPrinted period.now rows.now (this_sink K.taken K.faults sink.old sink.new) result }
 {
-    match rows_text(alloc, month, rows) {
+    match rows_text(alloc, period, rows) {
         Ok(text) => print(text.as_slice(), Detail::Done, sink),
         Err(NoMemory) => Detail::NoMemory,
     }
 }
 
-fn rows_text(alloc: Global, month: Month, rows: &[Row]) -> Result<Text, NoMemory>
-    ensures { IfOk result (λ text. text ≡ spec.statement_text month rows.now) }
+fn rows_text(alloc: Global, period: &Period, rows: &[Row]) -> Result<Text, NoMemory>
+    ensures { IfOk result (λ text. text ≡ spec.statement_text period.now rows.now) }
 {
     let lines = lines_of(alloc, rows)?;
-    statement_text(alloc, &month.text(), &lines)
+    match period {
+        Period::Month(month) => statement_text(alloc, &month.text(), &lines),
+        Period::Day(day) => statement_text(alloc, &date_text(*day), &lines),
+    }
 }
 
 // The rows as they are printed.

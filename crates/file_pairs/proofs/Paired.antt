@@ -19,7 +19,7 @@ one_list (file ∷ []) (x ∷ xs) ys a b = absurd a
 one_list (file ∷ (nif ∷ words)) [] ys a b = absurd a
 one_list (file ∷ (nif ∷ words)) (x ∷ xs) [] a b = absurd b
 
--- the tax numbers behind the first
+-- the tax numbers after the first
 pub record Behind (words own : List (List ℕ)) : Type 0 where
   pub issuer : List ℕ
   pub more : List (List ℕ)

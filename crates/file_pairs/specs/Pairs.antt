@@ -1,8 +1,8 @@
--- Pairs of a file's name and a tax number, one word behind the other.
+-- Pairs of a file's name and a tax number, one word after the other.
 use Rattle.std.specs.Prelude.{◌≡◌, ◌≢◌, ◌<◌, ◌≤◌, ℕ, List, [], ◌∷◌, length, Option, Some, None}
 use Rattle.std.specs.List.{AllByRecursion}
 use Rattle.parties.specs.Nif.{IsNif}
-use Rattle.file_pairs.specs.declared.nifs.TheConstants.{MOST_PAIRS}
+use Rattle.parties.specs.declared.limits.TheConstants.{MAX_ISSUERS}
 
 -- the names of the files: the first word, and each second one from there on
 abbrev pub files_in : List (List ℕ) → List (List ℕ)
@@ -24,7 +24,7 @@ AreApart (word ∷ words) = AllByRecursion (λ (other : List ℕ). word ≢ othe
 pub record IsPairs (words issuers : List (List ℕ)) : Type 0 where
   pub pairs : ArePairs words issuers
   pub several : 2 ≤ length issuers
-  pub few : length issuers ≤ MOST_PAIRS
+  pub few : length issuers ≤ MAX_ISSUERS
   pub files_apart : AreApart (files_in words)
   pub issuers_apart : AreApart issuers
 

@@ -4,5 +4,5 @@
 mod nifs;
 mod pairs;
 
-pub use nifs::{MOST_PAIRS, Nifs};
+pub use nifs::Nifs;
 pub use pairs::read_pairs;

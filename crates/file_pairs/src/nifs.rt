@@ -1,17 +1,14 @@
-// A few tax numbers, in order.
+//! A few tax numbers, in order.
 ghost use Rattle.std.specs.Prelude.{◌≡◌, ◌<◌, ◌≤◌, ◌∷◌, ◌++◌, ◌==◌, [], false, length};
-ghost use Rattle.file_pairs.specs.declared.nifs.TheConstants.{MOST_PAIRS};
+ghost use Rattle.parties.specs.declared.limits.TheConstants.{MAX_ISSUERS};
 
-use parties::Nif;
+use parties::{MAX_ISSUERS, Nif};
 use std::marker::Model;
 
-/// So many at most.
-pub const MOST_PAIRS: usize = 8;
-
-/// One to eight tax numbers, in their order.
+/// 1 to `MAX_ISSUERS` tax numbers, in their order.
 #[derive(Drop)]
 pub struct Nifs {
-    nifs: [Nif; 8],
+    nifs: [Nif; MAX_ISSUERS],
     count: usize,
 }
 
@@ -31,22 +28,22 @@ impl Nifs {
         ensures { result ≡ nif ∷ [] }
     {
         Nifs {
-            nifs: [nif; 8],
+            nifs: [nif; MAX_ISSUERS],
             count: 1,
         }
     }
 
     /// There are as many as there may be.
     pub fn is_full(&self) -> bool
-        ensures full { result ≡ (length self.now == MOST_PAIRS) }
-        ensures room { result ≡ false → length self.now < MOST_PAIRS }
+        ensures full { result ≡ (length self.now == MAX_ISSUERS) }
+        ensures room { result ≡ false → length self.now < MAX_ISSUERS }
     {
-        self.count == MOST_PAIRS
+        self.count == MAX_ISSUERS
     }
 
-    /// One more behind the others.
+    /// One more after the others.
     pub fn add(&mut self, nif: Nif)
-        requires { length self.old < MOST_PAIRS }
+        requires { length self.old < MAX_ISSUERS }
         ensures { self.new ≡ self.old ++ nif ∷ [] }
     {
         self.nifs[self.count] = nif;
@@ -56,7 +53,7 @@ impl Nifs {
     /// All of them.
     pub fn as_slice(&self) -> &[Nif]
         ensures all { result.now ≡ self.now }
-        ensures few { length result.now ≤ MOST_PAIRS }
+        ensures few { length result.now ≤ MAX_ISSUERS }
     {
         &self.nifs[..self.count]
     }

@@ -1,8 +1,8 @@
-// Pairs of words.
+//! Pairs of words.
 ghost use Rattle.std.specs.Prelude.{◌≡◌, ◌≤◌, ◌<◌, ◌∷◌, ◌++◌, ◌+◌, ◌↔◌, [], ℕ, List, IfSome, None, bytes_eq, false, length, map, string_bytes, true};
 ghost use Rattle.std.specs.List.{list_any};
 ghost use Rattle.file_pairs.specs.Pairs.{ArePairs, AreApart, IsRead, files_in};
-ghost use Rattle.file_pairs.specs.declared.nifs.TheConstants.{MOST_PAIRS};
+ghost use Rattle.parties.specs.declared.limits.TheConstants.{MAX_ISSUERS};
 
 use crate::nifs::Nifs;
 use parties::Nif;
@@ -66,7 +66,7 @@ fn is_unnamed(word: &String) -> bool
 fn add_pairs(words: &[String], nifs: &mut Nifs) -> bool
     ensures pairs { result ≡ true → (own : List (List ℕ)) × (nifs.new ≡ nifs.old ++ own) × ArePairs (map string_bytes words.now) own }
     ensures none { result ≡ false → (own : List (List ℕ)) → ArePairs (map string_bytes words.now) own →
-        length nifs.old + length own ≤ MOST_PAIRS → ⊥ }
+        length nifs.old + length own ≤ MAX_ISSUERS → ⊥ }
 {
     let Some((file, others)) = words.split_first() else {
         return true;
@@ -90,7 +90,7 @@ fn add_pairs(words: &[String], nifs: &mut Nifs) -> bool
 fn read_from(first: Nif, rest: &[String]) -> Option<Nifs>
     ensures some { IfSome result (λ nifs. (own : List (List ℕ)) × (nifs ≡ first ∷ own) × ArePairs (map string_bytes rest.now) own) }
     ensures none { result ≡ None → (own : List (List ℕ)) → ArePairs (map string_bytes rest.now) own →
-        length own < MOST_PAIRS → ⊥ }
+        length own < MAX_ISSUERS → ⊥ }
 {
     let mut nifs = Nifs::of(first);
     if add_pairs(rest, &mut nifs) {
@@ -104,7 +104,7 @@ fn read_from(first: Nif, rest: &[String]) -> Option<Nifs>
 fn read_first(words: &[String]) -> Option<Nifs>
     ensures some { IfSome result (λ nifs. ArePairs (map string_bytes words.now) nifs) }
     ensures none { result ≡ None → (own : List (List ℕ)) → ArePairs (map string_bytes words.now) own →
-        1 ≤ length own → length own ≤ MOST_PAIRS → ⊥ }
+        1 ≤ length own → length own ≤ MAX_ISSUERS → ⊥ }
 {
     let Some((file, others)) = words.split_first() else {
         return None;

@@ -1,9 +1,9 @@
-// A disk that fails while a file is read.
+//! A disk that fails while a file is read.
 use crate::files::{FILE, disk_of};
 use audit::{AuditFault, audit};
 use chain_store::{LoadFault, load};
-use rows::holds;
 use std::test::Fail;
+use test_rows::holds;
 
 // The two calls of an audit and of a load.
 const CALLS: [(&str, u64); 2] = [("the header", 1), ("the frames", 2)];

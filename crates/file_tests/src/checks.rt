@@ -1,13 +1,13 @@
-// The command `check` over a source, a sink and a file that fail.
+//! The command `check` over a source, a sink and a file that fail.
 use crate::files::disk_of;
 use chain_disk::MemDisk;
 use file_commands::check_cmd;
 use ports::{MemSink, MemSource};
 use report::Detail;
-use rows::holds;
 use std::alloc::Global;
 use std::test::Fail;
 use std::thread::Threads;
+use test_rows::holds;
 
 // What the command comes to with four workers. The source and the sink fail at the calls of these numbers, from 1.
 fn checked<R: Threads + Sync>(

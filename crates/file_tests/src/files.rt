@@ -1,4 +1,4 @@
-// The bytes of the file were made by another program, and its Huellas are SHA-256 of the field texts by that program.
+//! The bytes of the file were made by another program, and its Huellas are SHA-256 of the field texts by that program.
 use audit::audit;
 use chain_disk::MemDisk;
 use chain_store::{LoadFault, Loaded, load};
@@ -17,7 +17,7 @@ pub const FILE: &[u8; 222] = b"\
 C\xabz\x8di\x98\xf4\x96-\x87\xf4\xc4\xf3\xc7\xa7\x1f\xa9\x10\xca\xb9\x82\xcd\xb1\xe0\x8a\xe6\xbf\x91\x8b\xaewc\
 \x00";
 
-// What a reader finds: so many records, or a damage at a byte.
+// What a reader finds: this many records, or a damage at a byte.
 #[derive(Clone, Copy, PartialEq, Eq)]
 enum Found {
     Records(u32),
@@ -112,7 +112,7 @@ fn each_byte_of_a_file_changes_in_turn(rt: HostRuntime) -> Result<(), Fail> {
     Ok(())
 }
 
-// What is found of so many first bytes of the file.
+// What is found of this many first bytes of the file.
 fn cut_to(left: usize) -> Found {
     match left {
         0..=1 => Found::Records(0),

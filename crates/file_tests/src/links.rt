@@ -1,12 +1,12 @@
-// Lines of their own, read as links and held against a file by so many workers.
+//! Lines of their own, read as links and held against a file by this many workers.
 use crate::files::FILE;
 use chain_disk::MemDisk;
-use link_check::{Checked, CheckedList, ScannedLines, check_all, check_unbegun};
+use link_check::{Checked, CheckedList, LinkLines, check_all, check_unbegun};
 use record_fields::Bytes;
-use rows::holds;
 use shop_core::{FileRead, State, read_file};
 use std::alloc::Global;
 use std::test::Fail;
+use test_rows::holds;
 
 // The file has A-1 of 121.00 and A-2 of 11.00, both of one day.
 const LINKS: [(&[u8], Checked); 5] = [
@@ -29,12 +29,12 @@ const LINKS: [(&[u8], Checked); 5] = [
     (b"\xff", Checked::NotText),
 ];
 
-fn scanned(alloc: Global) -> Result<ScannedLines, Fail> {
+fn scanned(alloc: Global) -> Result<LinkLines, Fail> {
     let mut lines = Vec::new(alloc);
     for (line, _) in LINKS {
         lines.push(Bytes::of(Vec::from_slice(alloc, line)?))?;
     }
-    Ok(ScannedLines::of(lines))
+    Ok(LinkLines::of(lines))
 }
 
 fn state_of(alloc: Global) -> Result<State, Fail> {

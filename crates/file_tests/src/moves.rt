@@ -1,4 +1,4 @@
-// Files of version 1 that are moved to new files while a disk fails. The bytes were made by another program.
+//! Files of version 1 that are moved to new files while a disk fails. The bytes were made by another program.
 use crate::files::{disk_of, holds_at};
 use chain_disk::{Disk, Fill, MemDisk};
 use chain_store::OpenCause;
@@ -58,7 +58,7 @@ fn opens_as(alloc: Global, disk: MemDisk) -> Result<Found, Fail> {
     }
 }
 
-// How the new disk opens at a moment, filled so. None behind its last moment. What isn't whole is moved again, and is whole then.
+// How the new disk opens at a moment, filled so. None after its last moment. What isn't whole is moved again, and is whole then.
 fn found_at(alloc: Global, new: &MemDisk, moment: u64, fill: Fill) -> Result<Option<Found>, Fail> {
     let Some(image) = new.image(alloc, moment, fill)? else {
         return Ok(None);

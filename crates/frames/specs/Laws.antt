@@ -3,7 +3,7 @@ use Rattle.std.specs.Prelude.{◌≡◌, ◌+◌, ℕ, List, ◌∷◌, ◌++◌
 use Rattle.frames.specs.Frames.{frame, IsBody, IsFrame, IsCounted}
 use Rattle.frames.specs.declared.Frame.{Frame}
 
--- behind a gate that is 1 a frame reads as it was written, whatever follows it
+-- after a gate that is 1 a frame reads as it was written, whatever follows it
 abbrev pub ReadsAsWritten : Type 0
 ReadsAsWritten = (body rest : List ℕ) → IsBody body → IsCounted (1 ∷ (frame body ++ rest)) body
 

@@ -1,7 +1,7 @@
-// What holds of the frames' definitions alone.
+//! What holds of the frames' definitions alone.
 ghost use Rattle.frames.specs.Laws.{ReadsAsWritten, IsFiveLonger, OneFrame};
 
-/// Behind a gate that is 1 a frame reads as it was written.
+/// After a gate that is 1 a frame reads as it was written.
 pub fn a_frame_reads_as_written()
     ensures { ReadsAsWritten }
 {}

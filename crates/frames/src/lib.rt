@@ -1,5 +1,5 @@
 //! The frames of a journal's file. A frame is a gate byte, the length of its body as a u32, big end first, and the body
-//! of 1 to 4096 bytes. It counts where its gate is 1, and the next gate stands behind it. `frame_bytes` writes what
+//! of 1 to 4096 bytes. It counts where its gate is 1, and the next gate stands after it. `frame_bytes` writes what
 //! follows a gate, with the next one closed; `read_frame` says what stands at a gate, of a window that is the file from
 //! there on. Neither touches a disk.
 #![tactic(auto)]
@@ -22,7 +22,7 @@ pub const WINDOW: usize = FRAME + 6;
 /// What stands at a gate.
 #[derive(Clone, Copy, Debug, PartialEq, Eq)]
 pub enum Frame {
-    /// The gate is 1, and a body of this length lies behind it, with the next gate.
+    /// The gate is 1, and a body of this length lies after it, with the next gate.
     Counted { len: u16 },
     /// The gate isn't 1. What follows has no meaning.
     Closed,

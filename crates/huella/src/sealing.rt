@@ -1,4 +1,4 @@
-// The Huella of a record: its field text is fed to the hasher piece by piece, and never joined.
+//! The Huella of a record: its field text is fed to the hasher piece by piece, and never joined.
 ghost use Rattle.std.specs.Prelude.{◌≡◌, ◌++◌, ℕ, List, codes};
 ghost use Rattle.sha2.specs.Hashers.{Holds256};
 ghost use Rattle.sha2.specs.Sha256.{sha256};

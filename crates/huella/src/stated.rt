@@ -1,4 +1,4 @@
-// What every record keeps, as the law of field texts asks for it.
+//! What every record keeps, as the law of field texts asks for it.
 ghost use Rattle.parties.specs.Nif.{IsNif};
 ghost use Rattle.record_fields.specs.Valid.{IsHuella, IsId, IsMoment};
 ghost use Rattle.huella.specs.Stated.{HoldsHuella, IsStated};

@@ -1,4 +1,4 @@
-// The field text, as a text.
+//! The field text, as a text.
 ghost use Rattle.std.specs.Prelude.{◌≡◌, ◌++◌, IfOk, OnOk, codes, option_copied};
 ghost use Rattle.huella.specs.Texts as spec;
 

@@ -1,20 +1,20 @@
-// Several issuers in one installation. Huellas are SHA-256, by another program, of the records' field texts.
+//! Several issuers in one installation. Huellas are SHA-256, by another program, of the records' field texts.
 ghost use Rattle.std.specs.Prelude.{◌≡◌, All, IfOk, OnOk};
 ghost use Rattle.chain_store.specs.Store.{Ready};
 
 use chain_disk::{Disk, MemDisk};
 use chain_store::Store;
 use huella::huella_text;
-use issuers::{MAX_ISSUERS, Office, OfficeAnswer, OfficeAnswers, Stores, are_distinct, read_many};
+use issuers::{Office, OfficeAnswer, OfficeAnswers, Stores, are_distinct, read_many};
 use journal::StoreFault;
-use parties::Nif;
+use parties::{MAX_ISSUERS, Nif};
 use ports::{Clock, CountingClock};
 use recovery::open_store;
-use rows::holds;
 use script::MAX_SCRIPT;
 use shop_core::Reply;
 use std::alloc::Global;
 use std::test::Fail;
+use test_rows::holds;
 
 // 2025-01-01, 10:00 on the peninsular clock.
 const TEN: u64 = 1_735_722_000;
@@ -54,7 +54,7 @@ fn open_more<D: Disk + Drop, C: Clock + Drop>(
     clock: C,
     issuer: &Nif,
 ) -> Result<(), &'static str>
-    ensures { All (Ready D.tells D.told) stores.old.items → OnOk result (All (Ready D.tells D.told) stores.new.items) }
+    ensures { All (Ready D.tells D.on_disk) stores.old.items → OnOk result (All (Ready D.tells D.on_disk) stores.new.items) }
 {
     match open_store(alloc, disk, clock, issuer) {
         Ok(store) => match stores.push(store) {
@@ -71,7 +71,7 @@ fn opened<D: Disk + Drop>(
     issuers: &[Nif],
     disks: Vec<D>,
 ) -> Result<Vec<Store<D, CountingClock>>, &'static str>
-    ensures { IfOk result (λ stores. All (Ready D.tells D.told) stores.items) }
+    ensures { IfOk result (λ stores. All (Ready D.tells D.on_disk) stores.items) }
 {
     let mut disks = disks;
     let mut stores = Vec::new(alloc);
@@ -89,7 +89,7 @@ fn served<D: Disk + Drop, C: Clock + Drop>(
     issuers: &[Nif],
     bytes: &[u8],
 ) -> Result<(OfficeAnswers, Stores<D, C>), &'static str>
-    requires { All (Ready D.tells D.told) stores.items }
+    requires { All (Ready D.tells D.on_disk) stores.items }
 {
     let count = stores.len();
     if count == 0 || count > MAX_ISSUERS || !are_distinct(&stores) || bytes.len() > MAX_SCRIPT {

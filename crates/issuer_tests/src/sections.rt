@@ -1,11 +1,11 @@
-// Scripts for several issuers, and the lines that commands stand in.
+//! Scripts for several issuers, and the lines that commands stand in.
 use issuers::{Part, read_many};
 use parties::Nif;
-use rows::holds;
 use script::{Form, MAX_SCRIPT, ScriptFault, read_numbered};
 use shop_core::Word;
 use std::alloc::Global;
 use std::test::Fail;
+use test_rows::holds;
 
 fn issuers() -> Option<[Nif; 2]> {
     let first = Nif::read("89890001K").ok()?;

@@ -30,7 +30,7 @@ use Rattle.chain_store.specs.Taking.{OwnRun}
 use Rattle.issuers.specs.Serving.{replies_to}
 use Rattle.issuers.specs.Turns.{asks_in, mine}
 use Rattle.issuers.specs.Worlds.{OwnWorlds}
-use Rattle.issuers.proofs.Each.{each_both, each_front}
+use Rattle.issuers.proofs.EachElement.{each_both, each_front}
 
 abbrev Told : Type 0
 Told = Result Reply StoreFault
@@ -41,7 +41,7 @@ ok_by (Err DiskFault) on apart = absurd on
 ok_by (Err (Stopped faults)) on apart = absurd on
 ok_by (Err NoMemory) on apart = absurd (apart refl)
 
--- without a fault of the disk and without want of memory each answer is a reply
+-- without a fault of the disk and without lack of memory each answer is a reply
 all_replied : (faults after : ℕ) (replies : Replies) → StopsOnce faults after replies → (Rose faults after → ⊥) →
     AllByRecursion (λ (r : Told). r ≢ Err NoMemory) replies → AllByRecursion (λ (r : Told). IsOk r) replies
 all_replied faults after replies (inl on) none memory =
@@ -136,10 +136,10 @@ told_alike a b second x y is is' p q =
 
 own_answers : {D C : Type 0} (d : disk.Ghosts D) (c : clock.Ghosts C) (old new : Store D C d) (asks : List Asked) (replies : Replies) →
     stopped_of (journal_of old) ≡ None →
-    OwnRun (stopped_of (journal_of old)) asks replies (this_store d.tells d.told d.faults c.coming old new) →
-    Answers asks replies (this_store d.tells d.told d.faults c.coming old new)
+    OwnRun (stopped_of (journal_of old)) asks replies (this_store d.tells d.on_disk d.faults c.coming old new) →
+    Answers asks replies (this_store d.tells d.on_disk d.faults c.coming old new)
 own_answers d c old new asks replies going run =
-    subst (λ (x : Option ℕ). OwnRun x asks replies (this_store d.tells d.told d.faults c.coming old new)) going run
+    subst (λ (x : Option ℕ). OwnRun x asks replies (this_store d.tells d.on_disk d.faults c.coming old new)) going run
 
 -- a run of one history is one of an equal one
 run_alike : (S : Replies → ℕ → Type 0) (one other : History) (asks : List Asked) (replies : Replies) (end : List Entry) →

@@ -27,7 +27,7 @@ pub went_on : {D C : Type 0} (d : disk.Ghosts D) (c : clock.Ghosts C) (first now
     stopped_of (journal_of now) ≡ None
 went_on d c first now asks replies along going all =
     let run : GoesOrFails d c first now asks replies = subst (λ (o : Option ℕ). RunsBy o d c first now asks replies) going along.run in
-    not_stopped (origin_of d.tells d.told d.faults c.coming first) asks replies (point_of d.told d.faults c.coming now)
+    not_stopped (origin_of d.tells d.on_disk d.faults c.coming first) asks replies (point_of d.on_disk d.faults c.coming now)
     (stopped_of (journal_of now)) run.goes.so_far.progress all
 
 own_by : {D C : Type 0} (d : disk.Ghosts D) (c : clock.Ghosts C) (first now : Store D C d) (asks : List Asked) (replies : Replies)

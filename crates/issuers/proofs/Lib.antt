@@ -1,4 +1,4 @@
-mod Each
+mod EachElement
 mod Going
 mod Orders
 mod Choosing

@@ -14,7 +14,7 @@ use Rattle.issuers.specs.Parts.{HasLines}
 use Rattle.script.specs.Numbered.{Rising}
 use Rattle.issuers.specs.Turns.{Before, InOrder, IsFront, Turn, asks_in, mine, own_turns, turn_of, turns_of}
 use Rattle.issuers.specs.declared.parts.Part.{Part}
-use Rattle.issuers.proofs.Each.{each_both, each_of, each_snoc}
+use Rattle.issuers.proofs.EachElement.{each_both, each_of, each_snoc}
 
 -- the turns of these asks in these lines
 abbrev turns : ℕ → List ℕ → List Asked → List Turn
@@ -37,7 +37,7 @@ mine_other index made t isnt =
     filter-append (λ (t : Turn). eqb t.index index) made (t ∷ []) ∙ ap (λ (r : List Turn). mine index made ++ r) one ∙
     append-nil (mine index made)
 
--- the next turn, and those behind it
+-- the next turn, and those after it
 dropped : (index : ℕ) (lines : List ℕ) (asks : List Asked) (place : ℕ) (line : ℕ) (ask : Asked) →
     slice_get lines place ≡ Some line → slice_get asks place ≡ Some ask →
     drop place (turns index lines asks) ≡ turn_of index (line, ask) ∷ drop (suc place) (turns index lines asks)
@@ -50,7 +50,7 @@ dropped index (l ∷ lines) (q ∷ asks) zero line ask a b =
     ap (λ (k : Asked). turn_of index (line, k) ∷ turns index lines asks) y
 dropped index (l ∷ lines) (q ∷ asks) (suc place) line ask a b = dropped index lines asks place line ask a b
 
--- what stands behind a line comes later than its turn
+-- what stands after a line comes later than its turn
 later_all : (index : ℕ) (lines : List ℕ) (asks : List Asked) (t : Turn) (line : ℕ) → t.line ≤ line →
     AllByRecursion (λ (other : ℕ). line < other) lines → AllByRecursion (Before t) (turns index lines asks)
 later_all index [] asks t line below h = tt
@@ -73,7 +73,7 @@ left_behind index (l ∷ lines) (q ∷ asks) zero t rising head =
     (first, later_all index lines asks t l below rising.0)
 left_behind index (l ∷ lines) (q ∷ asks) (suc place) t rising head = left_behind index lines asks place t rising.1 head
 
--- a line stands behind the one before it
+-- a line stands after the one before it
 rising_next : (lines : List ℕ) (place x y : ℕ) → Rising lines → slice_get lines place ≡ Some x →
     slice_get lines (suc place) ≡ Some y → x < y
 rising_next [] place x y rising a b = absurd cc

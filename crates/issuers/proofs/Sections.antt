@@ -19,7 +19,7 @@ use Rattle.issuers.specs.Reading.{Adds, AreFirstFaults, IsFirstFault, IsSoonest,
 use Rattle.issuers.specs.Parts.{HasLines}
 use Rattle.issuers.specs.declared.parts.Part.{Part}
 use Rattle.issuers.specs.declared.reading.BadLine.{BadLine}
-use Rattle.issuers.proofs.Each.{each_snoc, each_weaker}
+use Rattle.issuers.proofs.EachElement.{each_snoc, each_weaker}
 
 pub enumerate_push : {X : Type 0} (n : ℕ) (xs : List X) (x : X) →
     enumerate_from n (xs ++ x ∷ []) ≡ enumerate_from n xs ++ (n + length xs, x) ∷ []
@@ -284,7 +284,7 @@ at_end part true nif before lines whole none is =
 at_end part false nif before lines whole none is =
     sym (append-nil part) ∙ ap (λ (l : List (List ℕ)). part ++ glue false (own_lines nif before l)) (sym none) ∙ is
 
--- one line more is behind the others
+-- one line more is after the others
 pub split_on : (all front left rest : List (List ℕ)) (line : List ℕ) → all ≡ front ++ left → left ≡ line ∷ rest →
     all ≡ (front ++ line ∷ []) ++ rest
 split_on all front left rest line is next =

@@ -28,11 +28,11 @@ AreOwn (issuer ∷ issuers) = AllByRecursion (λ (other : List ℕ). issuer ≢ 
 
 -- The store of this index was asked, as a store alone is, and every other store is as before. A run that has come to it goes on.
 pub record TookAt {D C : Type 0} (d : disk.Ghosts D) (c : clock.Ghosts C) (before after : List (Store D C d)) (index : ℕ)
-    (ask : Asked) (told : Result Reply StoreFault) : Type 0 where
+    (ask : Asked) (replied : Result Reply StoreFault) : Type 0 where
   pub old : Store D C d
   pub new : Store D C d
   pub there : slice_get before index ≡ Some old
   pub changed : after ≡ slice_set before index new
-  pub took : Took d c old new ask told
+  pub took : Took d c old new ask replied
   pub along : (first : Store D C d) (asks : List Asked) (replies : Replies) → Along d c first old asks replies →
-      Along d c first new (asks ++ ask ∷ []) (replies ++ told ∷ [])
+      Along d c first new (asks ++ ask ∷ []) (replies ++ replied ∷ [])

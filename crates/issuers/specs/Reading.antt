@@ -19,7 +19,7 @@ use Rattle.script.specs.declared.scripts.ScriptFault.TheVariants as script_fault
 use Rattle.issuers.specs.declared.parts.Part.{Part}
 use Rattle.issuers.specs.declared.reading.BadLine.{BadLine}
 
--- the fields behind a first one that is `issuer`
+-- the fields after a first one that is `issuer`
 abbrev pub behind_issuer : List (List ℕ) → Option (List (List ℕ))
 behind_issuer [] = None
 behind_issuer (verb ∷ fields) = when (bytes_eq verb (codes "issuer")) fields
@@ -27,7 +27,7 @@ behind_issuer (verb ∷ fields) = when (bytes_eq verb (codes "issuer")) fields
 abbrev pub section_in : List ℕ → Option (List (List ℕ))
 section_in text = if is_utf8 text then behind_issuer (fields_of text) else None
 
--- A line `issuer NIF` begins a section: its fields behind the first one. A line that isn't UTF-8 begins none.
+-- A line `issuer NIF` begins a section: its fields after the first one. A line that isn't UTF-8 begins none.
 abbrev pub section_of : List ℕ → Option (List (List ℕ))
 section_of line = section_in (strip_carriage_return line)
 
@@ -56,7 +56,7 @@ part_of nif bytes = join_with_byte 10 (own_lines nif [] (parts_of 10 bytes))
 abbrev pub is_one_of : List ℕ → List (List ℕ) → Bool
 is_one_of name issuers = list_any (λ nif. bytes_eq name nif) issuers
 
--- what is wrong in a line that begins a section, by its fields behind the first one
+-- what is wrong in a line that begins a section, by its fields after the first one
 abbrev pub section_fault : List (List ℕ) → List (List ℕ) → Option Word
 section_fault issuers (name ∷ []) = when (not (is_one_of name issuers)) Nif
 section_fault issuers fields = Some Fields
@@ -98,7 +98,7 @@ pub record SoonestBad (issuers : List (List ℕ)) (bytes : List ℕ) (bad : Opti
   pub each : AreFirstFaults bytes issuers faults
   pub soonest : IsSoonest (section_faults issuers (parts_of 10 bytes) ++ filter_map (λ fault. fault) faults) bad
 
--- the parts of these bytes, or the bad line of the smallest number, or want of memory
+-- the parts of these bytes, or the bad line of the smallest number, or lack of memory
 abbrev pub ManyIs : List (List ℕ) → List ℕ → Result (List Part) ScriptFault → Type 0
 ManyIs issuers bytes (Ok parts) = SoonestBad issuers bytes None × PartsAre bytes issuers parts
 ManyIs issuers bytes (Err (script_fault.BadLine line fault)) =

@@ -56,7 +56,7 @@ module _ {D C : Type 0} where
     pub stores : length after ≡ length before
     pub own : (index : ℕ) (old new : Store D C d) → slice_get before index ≡ Some old → slice_get after index ≡ Some new →
         OwnRun (stopped_of (journal_of old)) (asks_in (mine index made)) (replies_to index answers)
-        (this_store d.tells d.told d.faults c.coming old new)
+        (this_store d.tells d.on_disk d.faults c.coming old new)
     pub stays : (index : ℕ) (old new : Store D C d) → slice_get before index ≡ Some old → slice_get after index ≡ Some new →
         StaysOwn old new
     -- and where its disk failed, it failed first in one call
@@ -66,7 +66,7 @@ module _ {D C : Type 0} where
     pub goes_on : (index : ℕ) (old new : Store D C d) → slice_get before index ≡ Some old → slice_get after index ≡ Some new →
         stopped_of (journal_of old) ≡ None → AllGoOn (replies_to index answers) → stopped_of (journal_of new) ≡ None
 
-  -- the same on the way, with so many asks of each issuer taken
+  -- the same on the way, with this many asks of each issuer taken
   pub record Serving (d : disk.Ghosts D) (c : clock.Ghosts C) (parts : List Part) (before after : List (Store D C d))
       (places : List ℕ) (answers : List OfficeAnswer) : Type 0 where
     pub made : List Turn
@@ -79,7 +79,7 @@ module _ {D C : Type 0} where
   -- what each run that has come to this store comes to
   pub record ComesTo (d : disk.Ghosts D) (c : clock.Ghosts C) (now : Store D C d) : Type 0 where
     pub own : (first : Store D C d) (asks : List Asked) (replies : Replies) → Along d c first now asks replies →
-        OwnRun (stopped_of (journal_of first)) asks replies (this_store d.tells d.told d.faults c.coming first now)
+        OwnRun (stopped_of (journal_of first)) asks replies (this_store d.tells d.on_disk d.faults c.coming first now)
     pub fails : (first : Store D C d) (asks : List Asked) (replies : Replies) → Along d c first now asks replies →
         stopped_of (journal_of first) ≡ None → FailsOnce d c first now asks replies
     pub stays : (first : Store D C d) (asks : List Asked) (replies : Replies) → Along d c first now asks replies → StaysOwn first now

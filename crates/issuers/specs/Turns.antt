@@ -15,7 +15,7 @@ pub record Turn : Type 0 where
 abbrev pub Before : Turn → Turn → Type 0
 Before a b = (a.line < b.line) ⊎ ((a.line ≡ b.line) × (a.index < b.index))
 
--- each turn comes before those behind it
+-- each turn comes before those after it
 abbrev pub InOrder : List Turn → Type 0
 InOrder [] = Unit {0}
 InOrder (turn ∷ turns) = AllByRecursion (Before turn) turns × InOrder turns
@@ -38,7 +38,7 @@ mine index turns = filter (λ t. t.index == index) turns
 abbrev pub asks_in : List Turn → List Asked
 asks_in turns = map (λ (t : Turn). t.ask) turns
 
--- These turns were made, in their order, and those of each issuer that are left come behind them. Where none is left they are the
+-- These turns were made, in their order, and those of each issuer that are left come after them. Where none is left they are the
 -- asks of all parts, in order of line, at one line in order of the issuers.
 pub record IsFront (parts : List Part) (made : List Turn) (left : ℕ → List Turn) : Type 0 where
   pub own : (index : ℕ) → own_turns parts index ≡ mine index made ++ left index

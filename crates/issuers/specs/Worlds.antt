@@ -28,7 +28,7 @@ pub record Seat {D C : Type 0} (d : disk.Ghosts D) (c : clock.Ghosts C) (parts :
   pub is : slice_get after index ≡ Some new
   pub own : slice_get parts index ≡ Some part
 
--- its journal wasn't stopped at the start, its disk had no fault, and no answer to it was want of memory
+-- its journal wasn't stopped at the start, its disk had no fault, and no answer to it was lack of memory
 pub record IsUndisturbed {D C : Type 0} (d : disk.Ghosts D) (old new : Store D C d) (replies : Replies) : Type 0 where
   pub going_on : stopped_of (journal_of old) ≡ None
   pub no_fault : Rose (d.faults (disk_of (journal_of old))) (d.faults (disk_of (journal_of new))) → ⊥

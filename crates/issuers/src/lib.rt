@@ -11,7 +11,7 @@ mod reading;
 
 pub use answers::{OfficeAnswer, OfficeAnswers};
 pub use laws::an_issuer_has_its_own_world;
-pub use office::{MAX_ISSUERS, Office, Stores, are_distinct};
+pub use office::{Office, Stores, are_distinct};
 pub use parts::{Part, Parts};
 pub use reading::read_many;
 pub use script::LineNumbers;

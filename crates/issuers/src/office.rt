@@ -1,4 +1,4 @@
-// Several stores, one an issuer.
+//! Several stores, one an issuer.
 ghost use Rattle.std.specs.Prelude.{◌≡◌, ◌<◌, ◌≤◌, ◌↔◌, [], List, All, OnOk, bytes_eq, length, map, slice_get, true};
 ghost use Rattle.std.specs.List.{list_any};
 ghost use Rattle.std.specs.Int.{IsInRange};
@@ -10,6 +10,7 @@ ghost use Rattle.issuers.specs.Parts.{HasLines};
 ghost use Rattle.issuers.specs.Serving as spec;
 ghost use Rattle.issuers.specs.Serving.{ComesTo, NoneLeft, Served, Serving};
 ghost use Rattle.issuers.specs.Worlds.{HasOwnWorlds};
+ghost use Rattle.parties.specs.declared.limits.TheConstants.{MAX_ISSUERS};
 
 use crate::answers::{OfficeAnswer, OfficeAnswers};
 use crate::laws::an_issuer_has_its_own_world;
@@ -18,14 +19,11 @@ use crate::parts::{Part, Parts};
 use chain_disk::Disk;
 use chain_store::{Store, a_run_begins, a_run_ends, take_next};
 use journal::StoreFault;
-use parties::Nif;
+use parties::{MAX_ISSUERS, Nif};
 use ports::{Clock, NoMemory};
 use record_fields::ListOf;
 use shop_core::{Ask, Reply};
 use std::alloc::Global;
-
-/// The most issuers of an installation.
-pub const MAX_ISSUERS: usize = 8;
 
 /// Stores, one an issuer.
 pub type Stores<D, C> = ListOf<Store<D, C>>;
@@ -79,15 +77,15 @@ impl<D: Disk, C: Clock> Office<D, C> {
     /// Answers an ask of the issuer of this index, from 0, as its store does. Every other store stays as it was.
     pub fn take(&mut self, alloc: Global, index: u16, ask: &Ask) -> Result<Reply, StoreFault>
         requires index { index < length (stores_of self.old) }
-        requires ready { All (Ready D.tells D.told) (stores_of self.old) }
-        ensures ready { All (Ready D.tells D.told) (stores_of self.new) }
+        requires ready { All (Ready D.tells D.on_disk) (stores_of self.old) }
+        ensures ready { All (Ready D.tells D.on_disk) (stores_of self.new) }
         ensures took { TookAt D.Disk C.Clock (stores_of self.old) (stores_of self.new) index ask.now result }
     {
         take_next(alloc, &mut self.stores[index as usize], ask)
     }
 
-    /// Takes the asks of all parts in order of line, at one line in order of the issuers: one answer an ask. Where memory is
-    /// wanting the answers so far stand, and the stores hold what they took.
+    /// Takes the asks of all parts in order of line, at one line in order of the issuers: one answer an ask. Where memory
+    /// runs out the answers so far stand, and the stores hold what they took.
     pub fn serve(
         &mut self,
         alloc: Global,
@@ -98,8 +96,8 @@ impl<D: Disk, C: Clock> Office<D, C> {
         requires one_each { length parts.now ≡ length (stores_of self.old) }
         requires lines { All HasLines parts.now }
         requires none { answers.old ≡ [] }
-        requires ready { All (Ready D.tells D.told) (stores_of self.old) }
-        ensures ready { All (Ready D.tells D.told) (stores_of self.new) }
+        requires ready { All (Ready D.tells D.on_disk) (stores_of self.old) }
+        ensures ready { All (Ready D.tells D.on_disk) (stores_of self.new) }
         ensures served { Served D.Disk C.Clock parts.now (stores_of self.old) (stores_of self.new) answers.new result }
         // What each issuer gets doesn't depend on the others.
         ensures world { OnOk result (HasOwnWorlds D.Disk C.Clock parts.now (stores_of self.old) (stores_of self.new) answers.new) }
@@ -124,8 +122,8 @@ impl<D: Disk, C: Clock> Office<D, C> {
         requires one_each { length parts.now ≡ length (stores_of self.old) }
         requires lines { All HasLines parts.now }
         requires places { length places.old ≡ MAX_ISSUERS }
-        requires ready { All (Ready D.tells D.told) (stores_of self.old) }
-        ensures ready { All (Ready D.tells D.told) (stores_of self.new) }
+        requires ready { All (Ready D.tells D.on_disk) (stores_of self.old) }
+        ensures ready { All (Ready D.tells D.on_disk) (stores_of self.new) }
         ensures served { (before : List (AnyStore D C D.Disk)) →
             Serving D.Disk C.Clock parts.now before (stores_of self.old) places.old answers.old.items →
             Serving D.Disk C.Clock parts.now before (stores_of self.new) places.new answers.new.items }
@@ -166,7 +164,7 @@ fn answer_to(index: u16, ask: &Ask, reply: Result<Reply, StoreFault>) -> OfficeA
 
 // Where the runs of all stores begin.
 fn all_begin<D: Disk, C: Clock>(stores: &[Store<D, C>])
-    requires { All (Ready D.tells D.told) stores.now }
+    requires { All (Ready D.tells D.on_disk) stores.now }
     ensures { All (λ store. Along D.Disk C.Clock store store [] []) stores.now }
 {
     for store in stores {

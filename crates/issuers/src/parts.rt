@@ -1,4 +1,4 @@
-// What a script says for each issuer.
+//! What a script says for each issuer.
 use record_fields::ListOf;
 use script::{LineNumbers, Script};
 

@@ -1,4 +1,4 @@
-// A script for several issuers.
+//! A script for several issuers.
 ghost use Rattle.std.specs.Prelude.{◌≡◌, ◌≤◌, ◌<◌, ◌++◌, ◌∷◌, ◌&&◌, ℕ, List, [], not, is_some, All, IfOk, OnOk, length, if◌then◌else◌};
 ghost use Rattle.std.specs.Option.{option_map_or};
 ghost use Rattle.record_fields.specs.Picks.{when};
@@ -22,7 +22,7 @@ pub(crate) struct BadLine {
     pub fault: Word,
 }
 
-// The fields behind a first one that is `issuer`.
+// The fields after a first one that is `issuer`.
 fn behind_issuer(text: &str) -> Option<Fields<'_>>
     ensures { result ≡ spec.behind_issuer (fields_of text.now) }
 {
@@ -33,7 +33,7 @@ fn behind_issuer(text: &str) -> Option<Fields<'_>>
     }
 }
 
-// The fields of a line that begins a section, behind its first one.
+// The fields of a line that begins a section, after its first one.
 fn section_of(line: &[u8]) -> Option<Fields<'_>>
     ensures { result ≡ spec.section_of line.now }
 {
@@ -72,7 +72,7 @@ fn name_fault(name: &[u8], issuers: &[Nif]) -> Option<Word>
     }
 }
 
-// What is wrong in a line that begins a section, by its fields behind the first one.
+// What is wrong in a line that begins a section, by its fields after the first one.
 fn section_fault(mut fields: Fields, issuers: &[Nif]) -> Option<Word>
     ensures { result ≡ spec.section_fault issuers.now fields.entry }
 {

@@ -116,7 +116,7 @@ module _ (version : Version) (issuer bytes : List ℕ) (nif : IsNif issuer) (sam
   creating t u v first shut second = follows t u v IsNotBegun _ (IsNotBegunOrEmpty version issuer) first second (λ c not. inl not)
       (λ c left. image u c shut left)
 
--- what is there is closed first, or is closed already, and then committed behind
+-- what is there is closed first, or is closed already, and then committed after
 pub creation_takes : (t u v : OnDisk) → (length t.content ≤ 1 → moment u ≡ moment t + 2) → (1 < length t.content → moment u ≡
     moment t) → moment v ≡ moment u + 4 → CreationTakes t v
 creation_takes t u v writes leaves commits = record {

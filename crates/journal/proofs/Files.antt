@@ -70,7 +70,7 @@ module _ (version : Version) (issuer : List ℕ) (bodies : List (List ℕ)) (con
     frame_parts rest = append_assoc (length_bytes (length body) ++ body) (0 ∷ []) rest ∙ append_assoc (length_bytes (length body))
         body (0 ∷ rest)
 
-    -- behind an open gate it counts
+    -- after an open gate it counts
     pub opened : (rest : List ℕ) → IsFile version issuer (bodies ++ body ∷ []) (take (closing_gate bodies) content ++
         (1 ∷ (frame body ++ rest)))
     opened rest = record {

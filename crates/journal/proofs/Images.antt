@@ -6,7 +6,7 @@ use Rattle.chain_disk.specs.OnDisk.{IsImage, pasted, settled, wider}
 use Rattle.chain_disk.specs.Runs.{settled_image, range_image}
 use Rattle.journal.specs.Commit.{IsCommitImage, gated}
 
--- the first write, behind the gate
+-- the first write, after the gate
 pub behind_image : (content c bytes : List ℕ) (gate : ℕ) → gate < length content →
     IsImage (wider (gate + 1) (length bytes) (settled content)) c → IsCommitImage content gate bytes c
 behind_image content c bytes gate within image =
@@ -18,7 +18,7 @@ start_image content c bytes gate image =
     let same = settled_image content c image in
     inl (record { same = ap (λ (l : List ℕ). take (gate + 1) l) same; no_longer = omega (arith, ap length same) })
 
--- the gate as it was, and the bytes behind it
+-- the gate as it was, and the bytes after it
 pub staged_is : (content bytes : List ℕ) (gate : ℕ) → gate < length content → pasted (gate + 1) bytes content ≡ gated content gate
     (get_or content gate 0) bytes
 staged_is content bytes gate within =

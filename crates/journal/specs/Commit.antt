@@ -1,9 +1,9 @@
--- Bytes written behind a gate byte, and then the gate opened.
+-- Bytes written after a gate byte, and then the gate opened.
 use Rattle.std.specs.Prelude.{◌≡◌, ◌⊎◌, ◌+◌, ◌≤◌, max, ℕ, List, ◌∷◌, ◌++◌, length, take, drop}
 use Rattle.chain_disk.specs.OnDisk.{OnDisk, IsSettled}
 use Rattle.journal.specs.declared.TheConstants.{HEADER}
 
--- the content with this gate byte and these bytes behind it
+-- the content with this gate byte and these bytes after it
 abbrev pub gated : List ℕ → ℕ → ℕ → List ℕ → List ℕ
 gated content gate x bytes = take gate content ++ (x ∷ (bytes ++ drop (gate + 1 + length bytes) content))
 

@@ -8,6 +8,6 @@ abbrev pub store_fault : JournalFault → StoreFault
 store_fault DiskFault = store.DiskFault
 store_fault (Stopped faults) = store.Stopped faults
 
--- want of memory
+-- lack of memory
 abbrev pub no_memory : StoreFault
 no_memory = store.NoMemory

@@ -20,7 +20,7 @@ abbrev pub AreBodies : List (List ℕ) → Type 0
 AreBodies [] = Unit {0}
 AreBodies (body ∷ bodies) = IsBody body × AreBodies bodies
 
--- a begun file of this version and issuer: its header, counted frames of these bodies, and a closed gate with anything behind it
+-- a begun file of this version and issuer: its header, counted frames of these bodies, and a closed gate with anything after it
 pub record IsFile (version : Version) (issuer : List ℕ) (bodies : List (List ℕ)) (file : List ℕ) : Type 0 where
   pub gate : ℕ
   pub rest : List ℕ

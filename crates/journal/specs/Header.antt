@@ -8,7 +8,7 @@ use Rattle.journal.specs.declared.TheConstants.{HEADER}
 use Rattle.journal.specs.declared.reading.Header.{Header}
 use Rattle.journal.specs.declared.reading.Header.TheVariants.{NotBegun, Begun, Damaged}
 
--- byte 0 is 1, and the mark stands behind it
+-- byte 0 is 1, and the mark stands after it
 pub record HasMark (file : List ℕ) : Type 0 where
   pub long : 10 ≤ length file
   pub first : slice_index file 0 ≡ 1

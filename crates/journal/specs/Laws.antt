@@ -29,7 +29,7 @@ OneHeader = (file : List ℕ) (a b : Header) → IsHeader file a → IsHeader fi
 abbrev pub OneVersion : Type 0
 OneVersion = (file : List ℕ) (version another : Version) → HasVersion version file → HasVersion another file → version ≡ another
 
--- a walk over the frames begins behind the header with none
+-- a walk over the frames begins after the header with none
 abbrev pub WalkBegins : Type 0
 WalkBegins = (file : List ℕ) → AreFrames file [] HEADER
 

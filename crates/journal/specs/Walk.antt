@@ -4,7 +4,7 @@ use Rattle.frames.specs.Frames.{IsCounted}
 use Rattle.journal.specs.declared.TheConstants.{HEADER}
 use Rattle.journal.specs.File.{framed, AreBodies, closing_gate}
 
--- behind the header there are counted frames of these bodies, up to this place, and a byte follows each of them
+-- after the header there are counted frames of these bodies, up to this place, and a byte follows each of them
 pub record AreFrames (content : List ℕ) (bodies : List (List ℕ)) (at : ℕ) : Type 0 where
   pub sizes : AreBodies bodies
   pub place : at ≡ closing_gate bodies

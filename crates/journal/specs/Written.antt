@@ -5,7 +5,7 @@ use Rattle.frames.specs.Frames.{frame}
 use Rattle.record_fields.specs.declared.versions.Version.{Version}
 use Rattle.journal.specs.File.{header}
 
--- a frame more at this gate: the bytes up to it, the gate as 1, the frame with its closed gate, and what stood behind that
+-- a frame more at this gate: the bytes up to it, the gate as 1, the frame with its closed gate, and what stood after that
 abbrev pub with_frame : List ℕ → ℕ → List ℕ → List ℕ
 with_frame file gate body = take gate file ++ (1 ∷ (frame body ++ drop (gate + 1 + length (frame body)) file))
 

@@ -1,8 +1,8 @@
-// A file read in larger pieces than its frames, so that a walk over it makes few calls of the disk.
-ghost use Rattle.std.specs.Prelude.{◌≡◌, ◌<◌, ◌-◌, [], IsTrue, OnOk, OnErr, length, take, drop};
+//! A file read in larger pieces than its frames, so that a walk over it makes few calls of the disk.
+ghost use Rattle.std.specs.Prelude.{◌≡◌, ◌↔◌, ◌-◌, [], IsTrue, OnOk, OnErr, length, take, drop};
 ghost use Rattle.ports.specs.Causes.{HasCause};
 ghost use Rattle.frames.specs.declared.TheConstants.{WINDOW};
-ghost use Rattle.journal.specs.Ahead.{Covers, IsAheadIn};
+ghost use Rattle.journal.specs.Ahead.{Covers, IsAheadIn, IsAtHand};
 
 use chain_disk::Disk;
 use frames::WINDOW;
@@ -45,7 +45,7 @@ impl ReadAhead {
     }
 
     fn covers(&self, at: u64) -> bool
-        ensures { IsTrue result → Covers self.now at × (0 < length self.now.bytes) }
+        ensures { IsTrue result ↔ IsAtHand self.now at }
     {
         self.start <= at
             && at - self.start < self.len as u64
@@ -55,9 +55,9 @@ impl ReadAhead {
     // Reads from this place on.
     fn fill<D: Disk>(&mut self, disk: &mut D, at: u64) -> Result<(), Failed>
         ensures covers { OnOk result (Covers self.new at) }
-        ensures ok { OnOk result (IsTrue D.tells → self.new.bytes ≡ take AHEAD (drop self.new.start (D.told disk.old).content)) }
+        ensures ok { OnOk result (IsTrue D.tells → self.new.bytes ≡ take AHEAD (drop self.new.start (D.on_disk disk.old).content)) }
         ensures err { OnErr result (self.new.bytes ≡ []) }
-        ensures same { D.told disk.new ≡ D.told disk.old }
+        ensures same { D.on_disk disk.new ≡ D.on_disk disk.old }
         ensures cause { HasCause (D.faults disk.old) (D.faults disk.new) result }
     {
         self.len = 0;
@@ -68,11 +68,12 @@ impl ReadAhead {
 
     /// Makes sure of the bytes of a frame at this place.
     pub(crate) fn reach<D: Disk>(&mut self, disk: &mut D, at: u64) -> Result<(), Failed>
-        requires { IsTrue D.tells → IsAheadIn (D.told disk.old).content self.old }
+        requires { IsTrue D.tells → IsAheadIn (D.on_disk disk.old).content self.old }
         ensures covers { OnOk result (Covers self.new at) }
-        ensures ok { OnOk result (IsTrue D.tells → self.new.bytes ≡ take AHEAD (drop self.new.start (D.told disk.old).content)) }
-        ensures ahead { IsTrue D.tells → IsAheadIn (D.told disk.old).content self.new }
-        ensures same { D.told disk.new ≡ D.told disk.old }
+        ensures ok { OnOk result (IsTrue D.tells → self.new.bytes ≡ take AHEAD (drop self.new.start (D.on_disk disk.old).content)) }
+        ensures ahead { IsTrue D.tells → IsAheadIn (D.on_disk disk.old).content self.new }
+        ensures kept { IsAtHand self.old at → (self.new ≡ self.old) × (disk.new ≡ disk.old) }
+        ensures same { D.on_disk disk.new ≡ D.on_disk disk.old }
         ensures cause { HasCause (D.faults disk.old) (D.faults disk.new) result }
     {
         if self.covers(at) {

@@ -1,4 +1,4 @@
-// The creation of a file.
+//! The creation of a file.
 ghost use Rattle.std.specs.Prelude.{◌≡◌, ◌<◌, ◌≤◌, ◌+◌, ◌^◌, ◌++◌, [], ◌∷◌, length, OnOk, IsTrue};
 ghost use Rattle.ports.specs.Causes.{HasCause};
 ghost use Rattle.chain_disk.specs.OnDisk.{LeavesOnly, IsSettled, moment};
@@ -29,13 +29,13 @@ fn header_bytes(issuer: &Nif, version: Version) -> [u8; HEADER]
 
 // Writes a closed first byte where the file has at most one.
 fn shut_first<D: Disk>(disk: &mut D) -> Result<(), Failed>
-    requires { IsTrue D.tells → IsNotBegun (D.told disk.old).content × IsSettled (D.told disk.old) }
-    ensures ok { OnOk result (IsTrue D.tells → IsShut (D.told disk.new)) }
-    ensures writes { OnOk result (IsTrue D.tells → length (D.told disk.old).content ≤ 1 →
-        moment (D.told disk.new) ≡ moment (D.told disk.old) + 2) }
-    ensures leaves { OnOk result (IsTrue D.tells → 1 < length (D.told disk.old).content →
-        moment (D.told disk.new) ≡ moment (D.told disk.old)) }
-    ensures any_moment { IsTrue D.tells → LeavesOnly (D.told disk.old) (D.told disk.new) IsNotBegun }
+    requires { IsTrue D.tells → IsNotBegun (D.on_disk disk.old).content × IsSettled (D.on_disk disk.old) }
+    ensures ok { OnOk result (IsTrue D.tells → IsShut (D.on_disk disk.new)) }
+    ensures writes { OnOk result (IsTrue D.tells → length (D.on_disk disk.old).content ≤ 1 →
+        moment (D.on_disk disk.new) ≡ moment (D.on_disk disk.old) + 2) }
+    ensures leaves { OnOk result (IsTrue D.tells → 1 < length (D.on_disk disk.old).content →
+        moment (D.on_disk disk.new) ≡ moment (D.on_disk disk.old)) }
+    ensures any_moment { IsTrue D.tells → LeavesOnly (D.on_disk disk.old) (D.on_disk disk.new) IsNotBegun }
     ensures cause { HasCause (D.faults disk.old) (D.faults disk.new) result }
 {
     if disk.len()? > 1 {
@@ -47,12 +47,12 @@ fn shut_first<D: Disk>(disk: &mut D) -> Result<(), Failed>
 }
 
 pub(crate) fn set_up<D: Disk>(disk: &mut D, issuer: &Nif, version: Version) -> Result<(), Failed>
-    requires { IsTrue D.tells → IsNotBegun (D.told disk.old).content × IsSettled (D.told disk.old) }
-    ensures ok { OnOk result (IsTrue D.tells → IsAt version issuer.now [] HEADER (D.told disk.new)) }
-    ensures content { OnOk result (IsTrue D.tells → (D.told disk.new).content ≡ empty_file version issuer.now) }
-    ensures moments { OnOk result (IsTrue D.tells → CreationTakes (D.told disk.old) (D.told disk.new)) }
+    requires { IsTrue D.tells → IsNotBegun (D.on_disk disk.old).content × IsSettled (D.on_disk disk.old) }
+    ensures ok { OnOk result (IsTrue D.tells → IsAt version issuer.now [] HEADER (D.on_disk disk.new)) }
+    ensures content { OnOk result (IsTrue D.tells → (D.on_disk disk.new).content ≡ empty_file version issuer.now) }
+    ensures moments { OnOk result (IsTrue D.tells → CreationTakes (D.on_disk disk.old) (D.on_disk disk.new)) }
     ensures any_moment { IsTrue D.tells →
-        LeavesOnly (D.told disk.old) (D.told disk.new) (IsNotBegunOrEmpty version issuer.now) }
+        LeavesOnly (D.on_disk disk.old) (D.on_disk disk.new) (IsNotBegunOrEmpty version issuer.now) }
     ensures cause { HasCause (D.faults disk.old) (D.faults disk.new) result }
 {
     shut_first(disk)?;

@@ -1,4 +1,4 @@
-// The faults of the layers above the journal.
+//! The faults of the layers above the journal.
 ghost use Rattle.std.specs.Prelude.{◌≡◌};
 ghost use Rattle.journal.specs.Faults.{store_fault, no_memory};
 

@@ -1,4 +1,4 @@
-// The journal: a file of frames, and where the next one goes.
+//! The journal: a file of frames, and where the next one goes.
 ghost use Rattle.std.specs.Prelude.{◌≡◌, ◌<◌, ◌≤◌, ◌+◌, ◌^◌, ◌++◌, ◌∷◌, [], ◌↔◌, List, ℕ, length, IfOk, IfErr, OnOk, OnErr};
 ghost use Rattle.std.specs.Prelude.{IsErrOf, IsSome, IsTrue, None, Some};
 ghost use Rattle.ports.specs.Causes.{Rose};
@@ -34,7 +34,7 @@ pub struct Journal<D: Disk> {
     // The frame that was written last.
     frame: FrameBuf,
     /// Where it isn't stopped, its file is a chain with nothing pending, which closes at its end.
-    pub ghost ready: { stopped ≡ None → IsTrue D.tells → IsAtSome end (D.told disk) },
+    pub ghost ready: { stopped ≡ None → IsTrue D.tells → IsAtSome end (D.on_disk disk) },
 }
 
 /// The disk of a journal that could not be created.
@@ -48,28 +48,28 @@ impl<D: Disk> Journal<D> {
     ghost use Rattle.journal.specs.Journal.{disk_of, end_of, stopped_of};
 
     /// A journal of this issuer and version on a file that isn't begun. First a closed byte 0 is made sure of, then
-    /// the header is written behind it, and then byte 0 is opened, with a sync after each.
+    /// the header is written after it, and then byte 0 is opened, with a sync after each.
     pub fn create(disk: D, issuer: &Nif, version: Version) -> Result<Journal<D>, Lost<D>>
-        requires { IsTrue D.tells → IsNotBegun (D.told disk).content × IsSettled (D.told disk) }
+        requires { IsTrue D.tells → IsNotBegun (D.on_disk disk).content × IsSettled (D.on_disk disk) }
 
         ensures empty { IfOk result (λ journal. IsTrue D.tells →
-            IsAt version issuer.now [] (end_of journal) (D.told (disk_of journal))) }
+            IsAt version issuer.now [] (end_of journal) (D.on_disk (disk_of journal))) }
         ensures every_crash { IfOk result (λ journal. IsTrue D.tells →
-            LeavesNow (D.told (disk_of journal)) (IsFile version issuer.now [])) }
+            LeavesNow (D.on_disk (disk_of journal)) (IsFile version issuer.now [])) }
         ensures content { IfOk result (λ journal. IsTrue D.tells →
-            (D.told (disk_of journal)).content ≡ empty_file version issuer.now) }
+            (D.on_disk (disk_of journal)).content ≡ empty_file version issuer.now) }
         ensures moments { IfOk result (λ journal. IsTrue D.tells →
-            CreationTakes (D.told disk) (D.told (disk_of journal))) }
+            CreationTakes (D.on_disk disk) (D.on_disk (disk_of journal))) }
         ensures place { IfOk result (λ journal. end_of journal ≡ HEADER) }
         ensures going_on { IfOk result (λ journal. stopped_of journal ≡ None) }
 
         // A crash at any moment of the call leaves a file that isn't begun, or is begun and empty.
         ensures any_moment { IfOk result (λ journal. IsTrue D.tells →
-            LeavesOnly (D.told disk) (D.told (disk_of journal)) (IsNotBegunOrEmpty version issuer.now)) }
+            LeavesOnly (D.on_disk disk) (D.on_disk (disk_of journal)) (IsNotBegunOrEmpty version issuer.now)) }
         ensures any_moment_err { IfErr result (λ lost. IsTrue D.tells →
-            LeavesOnly (D.told disk) (D.told lost.disk) (IsNotBegunOrEmpty version issuer.now)) }
+            LeavesOnly (D.on_disk disk) (D.on_disk lost.disk) (IsNotBegunOrEmpty version issuer.now)) }
         ensures content_err { IfErr result (λ lost. IsTrue D.tells →
-            IsNotBegunOrEmpty version issuer.now (D.told lost.disk).content) }
+            IsNotBegunOrEmpty version issuer.now (D.on_disk lost.disk).content) }
 
         ensures lost { IfErr result (λ lost. Rose (D.faults disk) (D.faults lost.disk)) }
         ensures later { IfOk result (λ journal. D.faults disk ≤ D.faults (disk_of journal)) }
@@ -89,7 +89,7 @@ impl<D: Disk> Journal<D> {
 
     /// The journal of a begun file, with nothing pending, whose closing gate is at this place.
     pub fn at(disk: D, end: u64) -> Journal<D>
-        requires { IsTrue D.tells → IsAtSome end (D.told disk) }
+        requires { IsTrue D.tells → IsAtSome end (D.on_disk disk) }
         ensures parts { (disk_of result ≡ disk) × (end_of result ≡ end) × (stopped_of result ≡ None) }
     {
         Journal {
@@ -121,7 +121,7 @@ impl<D: Disk> Journal<D> {
     }
 
     /// Adds a frame of this body. At `Ok` it is acknowledged, and the answer is the place of the new
-    /// closing gate. The frame is written behind the closing gate, and then the gate is opened, with a
+    /// closing gate. The frame is written after the closing gate, and then the gate is opened, with a
     /// sync after each.
     pub fn append(&mut self, body: &[u8]) -> Result<u64, JournalFault>
         requires size { IsBody body.now }
@@ -129,16 +129,16 @@ impl<D: Disk> Journal<D> {
 
         // After Ok every crash leaves this body too.
         ensures acknowledged { OnOk result (IsTrue D.tells → (version : AnyVersion) (issuer : List ℕ) (bodies : List (List ℕ)) →
-            IsAt version issuer bodies (end_of self.old) (D.told (disk_of self.old)) →
-            IsAt version issuer (bodies ++ body.now ∷ []) (end_of self.new) (D.told (disk_of self.new))) }
+            IsAt version issuer bodies (end_of self.old) (D.on_disk (disk_of self.old)) →
+            IsAt version issuer (bodies ++ body.now ∷ []) (end_of self.new) (D.on_disk (disk_of self.new))) }
         ensures every_crash { OnOk result (IsTrue D.tells → (version : AnyVersion) (issuer : List ℕ) (bodies : List (List ℕ)) →
-            IsAt version issuer bodies (end_of self.old) (D.told (disk_of self.old)) →
-            LeavesNow (D.told (disk_of self.new)) (IsFile version issuer (bodies ++ body.now ∷ []))) }
-        ensures content { OnOk result (IsTrue D.tells → (D.told (disk_of self.new)).content
-            ≡ with_frame (D.told (disk_of self.old)).content (end_of self.old) body.now) }
+            IsAt version issuer bodies (end_of self.old) (D.on_disk (disk_of self.old)) →
+            LeavesNow (D.on_disk (disk_of self.new)) (IsFile version issuer (bodies ++ body.now ∷ []))) }
+        ensures content { OnOk result (IsTrue D.tells → (D.on_disk (disk_of self.new)).content
+            ≡ with_frame (D.on_disk (disk_of self.old)).content (end_of self.old) body.now) }
         // Two writes, with a sync after each.
         ensures moments { OnOk result (IsTrue D.tells →
-            moment (D.told (disk_of self.new)) ≡ moment (D.told (disk_of self.old)) + 4) }
+            moment (D.on_disk (disk_of self.new)) ≡ moment (D.on_disk (disk_of self.old)) + 4) }
         ensures answer { IfOk result (λ at. at ≡ end_of self.new) }
         ensures place { OnOk result (end_of self.new ≡ end_of self.old + 5 + length body.now) }
         ensures going_on { OnOk result ((stopped_of self.old ≡ None) × (stopped_of self.new ≡ None)) }
@@ -146,8 +146,8 @@ impl<D: Disk> Journal<D> {
         // A crash at any moment of the call leaves the bodies from before it, or those and this one.
         ensures any_moment { stopped_of self.old ≡ None → IsTrue D.tells →
             (version : AnyVersion) (issuer : List ℕ) (bodies : List (List ℕ)) →
-            IsAt version issuer bodies (end_of self.old) (D.told (disk_of self.old)) →
-            LeavesOnly (D.told (disk_of self.old)) (D.told (disk_of self.new))
+            IsAt version issuer bodies (end_of self.old) (D.on_disk (disk_of self.old)) →
+            LeavesOnly (D.on_disk (disk_of self.old)) (D.on_disk (disk_of self.new))
             (IsBeforeOrAfter version issuer bodies body.now) }
 
         // A fault of the disk stops the journal for good. From then on no call of the disk is made.

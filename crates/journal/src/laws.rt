@@ -1,4 +1,4 @@
-// What holds of the file's definitions alone.
+//! What holds of the file's definitions alone.
 ghost use Rattle.journal.specs.Laws.{OneChain, NoChain, OneHeader, OneVersion};
 ghost use Rattle.journal.specs.Laws.{WalkBegins, WalkGoesOn, WalkEnds, OneWalk, WalksAgree};
 

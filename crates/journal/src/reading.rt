@@ -1,9 +1,9 @@
-// Reads a file frame by frame.
+//! Reads a file frame by frame.
 ghost use Rattle.std.specs.Prelude.{◌≡◌, ◌<◌, ◌^◌, ◌≤◌, ◌↔◌, slice_index, length, drop, codes, IsTrue, IfOk, IfSome, IfNone};
 ghost use Rattle.std.specs.Prelude.{MatchResult};
 ghost use Rattle.ports.specs.Causes.{HasCause};
 ghost use Rattle.parties.specs.Nif.{IsNif};
-ghost use Rattle.journal.specs.Ahead.{IsAheadIn};
+ghost use Rattle.journal.specs.Ahead.{IsAheadIn, IsAtHand};
 ghost use Rattle.journal.specs.Step.{IsStep, IsNext, KeepsBuffer};
 ghost use Rattle.journal.specs.Header.{IsHeader, SaysAVersion};
 
@@ -43,9 +43,9 @@ const LOOK: usize = HEADER + 2;
 
 /// What the first bytes of the file stand for. It reads at most 21 of them.
 pub fn read_header<D: Disk>(disk: &mut D) -> Result<Header, Failed>
-    ensures header { IfOk result (λ header. IsTrue D.tells → IsHeader (D.told disk.old).content header) }
+    ensures header { IfOk result (λ header. IsTrue D.tells → IsHeader (D.on_disk disk.old).content header) }
     ensures version { IfOk result SaysAVersion }
-    ensures same { D.told disk.new ≡ D.told disk.old }
+    ensures same { D.on_disk disk.new ≡ D.on_disk disk.old }
     ensures cause { HasCause (D.faults disk.old) (D.faults disk.new) result }
 {
     let mut room = [0; LOOK];
@@ -123,12 +123,12 @@ fn header_behind(file: &[u8]) -> Header
 pub fn scan<D: Disk>(disk: &mut D, at: u64, body: &mut FrameBuf) -> Result<Step, Failed>
     requires { at < 2 ^ 63 }
     ensures step { IfOk result (λ step. IsTrue D.tells →
-        IsStep (drop at (D.told disk.old).content) step body.new) }
+        IsStep (drop at (D.on_disk disk.old).content) step body.new) }
     ensures place { IfOk result (λ step. IsNext at step body.new) }
     ensures buffer { MatchResult result
         (λ step. KeepsBuffer step body.old body.new)
         (λ _. body.new ≡ body.old) }
-    ensures same { D.told disk.new ≡ D.told disk.old }
+    ensures same { D.on_disk disk.new ≡ D.on_disk disk.old }
     ensures cause { HasCause (D.faults disk.old) (D.faults disk.new) result }
 {
     let mut room = [0; WINDOW];
@@ -144,15 +144,18 @@ pub fn scan_ahead<D: Disk>(
     body: &mut FrameBuf,
 ) -> Result<Step, Failed>
     requires far { at < 2 ^ 63 }
-    requires ahead { IsTrue D.tells → IsAheadIn (D.told disk.old).content ahead.old }
+    requires ahead { IsTrue D.tells → IsAheadIn (D.on_disk disk.old).content ahead.old }
     ensures step { IfOk result (λ step. IsTrue D.tells →
-        IsStep (drop at (D.told disk.old).content) step body.new) }
+        IsStep (drop at (D.on_disk disk.old).content) step body.new) }
     ensures place { IfOk result (λ step. IsNext at step body.new) }
     ensures buffer { MatchResult result
         (λ step. KeepsBuffer step body.old body.new)
         (λ _. body.new ≡ body.old) }
-    ensures ahead { IsTrue D.tells → IsAheadIn (D.told disk.old).content ahead.new }
-    ensures same { D.told disk.new ≡ D.told disk.old }
+    ensures ahead { IsTrue D.tells → IsAheadIn (D.on_disk disk.old).content ahead.new }
+
+    // Where the frame is at hand the disk isn't called.
+    ensures kept { IsAtHand ahead.old at → (ahead.new ≡ ahead.old) × (disk.new ≡ disk.old) }
+    ensures same { D.on_disk disk.new ≡ D.on_disk disk.old }
     ensures cause { HasCause (D.faults disk.old) (D.faults disk.new) result }
 {
     ahead.reach(disk, at)?;

@@ -19,7 +19,7 @@ use Rattle.line_reader.specs.declared.reader.Next.TheVariants.{Line, Unended, To
 pub clean_both : (a b : List ℕ) → has_lf a ≡ false → has_lf b ≡ false → has_lf (a ++ b) ≡ false
 clean_both a b p q = list_any-append (λ x. x == 10) a b ∙ ap (λ v. v || has_lf b) p ∙ q
 
--- what was kept and taken is what was let go, the front of the line that stands, and what no part took yet
+-- what was kept and taken is what was dropped, the front of the line that stands, and what no part took yet
 pub record Underway (kept taken let_go : List ℕ) (dropping : Bool) (stage : Stage) (text chunk : List ℕ) : Type 0 where
   pub parts : kept ++ taken ≡ let_go ++ (front_of stage text ++ chunk)
   pub clean : has_lf let_go ≡ false
@@ -156,7 +156,7 @@ pub found_nowhere : (bytes part : List ℕ) (found : Bool) → found ≡ false �
 found_nowhere bytes part true e c = absurd cc
 found_nowhere bytes part false e c = c
 
--- an LF that is kept stands behind the front of the line
+-- an LF that is kept stands after the front of the line
 pub lf_behind : (stage : Stage) (text chunk : List ℕ) → has_lf text ≡ false → has_lf (front_of stage text ++ chunk) ≡ true →
     has_lf chunk ≡ true
 lf_behind Whole text chunk p h = h
@@ -167,11 +167,11 @@ lf_behind Dropping text chunk p h = h
 pub clash : (chunk part : List ℕ) → has_lf part ≡ false → chunk ≡ part → has_lf chunk ≡ true → ⊥
 clash chunk part p e h = let same = ap has_lf e in absurd cc
 
--- no byte is left behind a part that is all
+-- no byte is left after a part that is all
 pub all_of : (chunk part : List ℕ) → chunk ≡ part → chunk ≡ part ++ []
 all_of chunk part e = e ∙ sym (append-nil part)
 
--- what is left behind an LF that is taken
+-- what is left after an LF that is taken
 pub left_behind : (part rest : List ℕ) (chunk mid new : Held) → chunk.rest ≡ part ++ 10 ∷ rest → mid ≡ taken_from (length part) chunk →
     new ≡ taken_from 1 mid → new.rest ≡ rest
 left_behind part rest chunk mid new e d f =
@@ -203,7 +203,7 @@ at_no_line kept taken let_go dropping Part text told same spent u p e t s = rw (
   front_none = refl;
 })
 
--- no front of a line stands behind one that was given
+-- no front of a line stands after one that was given
 pub none_stands : (kind : Next) (stage after : Stage) (text text_after chunk : List ℕ) (told : Next) →
     Turns kind stage text after text_after told → chunk ≡ [] → front_of after text_after ++ chunk ≡ []
 none_stands kind Whole after text text_after chunk told t e = absurd t

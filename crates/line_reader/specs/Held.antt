@@ -10,6 +10,6 @@ pub record Held : Type 0 where
 abbrev pub nothing : Held
 nothing = record { given = []; rest = [] }
 
--- so many of the first bytes were taken
+-- this many of the first bytes were taken
 abbrev pub taken_from : ℕ → Held → Held
 taken_from count held = record held { rest = drop count held.rest }

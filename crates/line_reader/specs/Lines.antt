@@ -36,7 +36,7 @@ last_read r = r.chunk.given
 abbrev pub line_of : LineReader → List ℕ
 line_of r = r.text.items
 
--- the coming line is too long, and its front was let go
+-- the coming line is too long, and its front was dropped
 abbrev pub is_dropping : LineReader → Bool
 is_dropping r = drops r.stage
 
@@ -44,7 +44,7 @@ is_dropping r = drops r.stage
 abbrev pub is_over : LineReader → Bool
 is_over r = r.over
 
--- the last line was let go
+-- the last line was dropped
 pub record Begins (old new : LineReader) : Type 0 where
   pub front : front_of new.stage new.text.items ≡ front_of old.stage old.text.items
   pub chunk : new.chunk ≡ old.chunk
@@ -66,23 +66,23 @@ pub record TakesPart (old new : LineReader) (found : Bool) : Type 0 where
 
 -- the coming line was read to its end, and told as of this kind; or it was too long
 abbrev pub Turns : Next → Stage → List ℕ → Stage → List ℕ → Next → Type 0
-Turns kind Whole text stage after told = ⊥
-Turns kind Part text stage after told = (stage ≡ Whole) × (after ≡ text) × (told ≡ kind)
-Turns kind Dropping text stage after told = (stage ≡ Part) × (after ≡ []) × (told ≡ next.TooLong)
+Turns kind Whole text stage after answer = ⊥
+Turns kind Part text stage after answer = (stage ≡ Whole) × (after ≡ text) × (answer ≡ kind)
+Turns kind Dropping text stage after answer = (stage ≡ Part) × (after ≡ []) × (answer ≡ next.TooLong)
 
-pub record Wholes (old new : LineReader) (kind told : Next) : Type 0 where
-  pub turns : Turns kind old.stage old.text.items new.stage new.text.items told
+pub record Wholes (old new : LineReader) (kind answer : Next) : Type 0 where
+  pub turns : Turns kind old.stage old.text.items new.stage new.text.items answer
   pub chunk : new.chunk ≡ old.chunk
   pub over : is_over new ≡ is_over old
 
-pub record AtLf (old new : LineReader) (told : Next) : Type 0 where
-  pub turns : Turns next.Line old.stage old.text.items new.stage new.text.items told
+pub record AtLf (old new : LineReader) (answer : Next) : Type 0 where
+  pub turns : Turns next.Line old.stage old.text.items new.stage new.text.items answer
   pub chunk : new.chunk ≡ taken_from 1 old.chunk
   pub over : is_over new ≡ is_over old
 
 -- there was no coming line
-pub record Nothing (old new : LineReader) (told : Next) : Type 0 where
-  pub is : told ≡ next.End
+pub record Nothing (old new : LineReader) (answer : Next) : Type 0 where
+  pub is : answer ≡ next.End
   pub stage : old.stage ≡ Part
   pub text : old.text.items ≡ []
   pub stage_after : new.stage ≡ old.stage
@@ -91,14 +91,14 @@ pub record Nothing (old new : LineReader) (told : Next) : Type 0 where
   pub over : is_over new ≡ true
 
 -- or it has no LF, and isn't empty
-pub record LastLine (old new : LineReader) (told : Next) : Type 0 where
-  pub turns : Turns next.Unended old.stage old.text.items new.stage new.text.items told
+pub record LastLine (old new : LineReader) (answer : Next) : Type 0 where
+  pub turns : Turns next.Unended old.stage old.text.items new.stage new.text.items answer
   pub chunk : new.chunk ≡ old.chunk
   pub over : is_over new ≡ true
   pub some : (0 < length old.text.items) ⊎ (old.stage ≡ Dropping)
 
 abbrev pub AtEnd : LineReader → LineReader → Next → Type 0
-AtEnd old new told = Nothing old new told ⊎ LastLine old new told
+AtEnd old new answer = Nothing old new answer ⊎ LastLine old new answer
 
 -- what was kept, and what these bytes taken had ahead of the last read's, hold no LF: the source is asked for more only while no
 -- whole line is at hand
@@ -156,20 +156,20 @@ Gave dropping line given same spent next.Unended = GaveUnended dropping line giv
 Gave dropping line given same spent next.TooLong = GaveTooLong dropping given same spent
 Gave dropping line given same spent next.End = GaveEnd dropping given spent
 
--- the front of the coming line was let go where it is too long, and nothing else
+-- the front of the coming line was dropped where it is too long, and nothing else
 abbrev pub IsLetGo : Bool → Bool → List ℕ → Type 0
 IsLetGo before true given = (before ≡ true) ⊎ (MAX_LINE < length given)
 IsLetGo before false given = (before ≡ false) × (given ≡ [])
 
 -- what came next
-pub record Came (s : Sources) (old new : LineReader) (told : Next) : Type 0 where
+pub record Came (s : Sources) (old new : LineReader) (answer : Next) : Type 0 where
   pub given : List ℕ
   pub took : Took s old new given
-  pub gave : Gave (is_dropping old) (line_of new) given (is_over new ≡ is_over old) (IsSpent s old new) told
+  pub gave : Gave (is_dropping old) (line_of new) given (is_over new ≡ is_over old) (IsSpent s old new) answer
   pub going_on : is_dropping new ≡ false
   pub few : length (kept_of new) ≤ CHUNK
 
--- the source failed in the middle of a line, of which only a front that is too long was let go
+-- the source failed in the middle of a line, of which only a front that is too long was dropped
 pub record Paused (s : Sources) (old new : LineReader) : Type 0 where
   pub given : List ℕ
   pub took : Took s old new given
@@ -179,5 +179,5 @@ pub record Paused (s : Sources) (old new : LineReader) : Type 0 where
   pub over : (is_over old ≡ false) × (is_over new ≡ false)
 
 abbrev pub NextIs : Sources → LineReader → LineReader → Result Next Failed → Type 0
-NextIs s old new (Ok told) = Came s old new told
+NextIs s old new (Ok answer) = Came s old new answer
 NextIs s old new (Err e) = Paused s old new

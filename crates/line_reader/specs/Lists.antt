@@ -3,7 +3,7 @@ use Rattle.std.specs.Prelude.{◌≡◌, ℕ, ◌<◌, List, [], ◌∷◌, ◌+
 use Rattle.std.specs.List.{AllByRecursion}
 use Rattle.line_reader.specs.Reading.{has_lf}
 
--- a line: what stands up to its LF, or what stands behind the last LF and has none
+-- a line: what stands up to its LF, or what stands after the last LF and has none
 pub data InputLine : Type 0 where
   with_lf : List ℕ → InputLine
   without_lf : List ℕ → InputLine
@@ -22,12 +22,12 @@ abbrev pub IsLine : InputLine → Type 0
 IsLine (with_lf text) = has_lf text ≡ false
 IsLine (without_lf text) = ⊥
 
--- the line behind the last LF: where nothing stands there, there is none
+-- the line after the last LF: where nothing stands there, there is none
 abbrev pub IsLast : InputLine → Type 0
 IsLast (with_lf text) = ⊥
 IsLast (without_lf text) = (has_lf text ≡ false) × (0 < length text)
 
--- these lines, each up to its LF, and what stands behind them
+-- these lines, each up to its LF, and what stands after them
 pub record AreLines (bytes : List ℕ) (lines : List InputLine) (rest : List ℕ) : Type 0 where
   pub each : AllByRecursion IsLine lines
   pub is : bytes ≡ flat_map bytes_of lines ++ rest

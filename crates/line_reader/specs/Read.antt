@@ -16,7 +16,7 @@ abbrev pub AreRead : Bool → List ℕ → List InputLine → List ℕ → Optio
 AreRead false taken lines kept left = AreLines taken lines kept
 AreRead true taken lines kept left = AreAllLines taken lines × (kept ≡ []) × IsAtEnd left
 
--- a source, which had so much to give at first and has so much now, was read to the end of these lines; what is kept behind them
+-- a source, which had so much to give at first and has so much now, was read to the end of these lines; what is kept after them
 -- came with one read
 pub record HasRead (left left_now : Option (List ℕ)) (r : LineReader) (lines : List InputLine) : Type 0 where
   pub taken : List ℕ
@@ -25,7 +25,7 @@ pub record HasRead (left left_now : Option (List ℕ)) (r : LineReader) (lines :
   pub few : length (kept_of r) ≤ CHUNK
   pub fresh : is_dropping r ≡ false
 
--- the source failed behind these lines, within the next one
+-- the source failed after these lines, within the next one
 pub record StopsBehind (left left_now : Option (List ℕ)) (lines : List InputLine) : Type 0 where
   pub taken : List ℕ
   pub rest : List ℕ
@@ -56,7 +56,7 @@ pub record ReadsTooLong (left left_now : Option (List ℕ)) (r : LineReader) (li
   pub past : MAX_LINE < length (text_of long)
   pub read : HasRead left left_now r (lines ++ long ∷ [])
 
--- what came behind these lines
+-- what came after these lines
 abbrev pub HasReadOn : Option (List ℕ) → Option (List ℕ) → LineReader → List InputLine → Result Next Failed → Type 0
 HasReadOn left left_now r lines (Ok next.Line) = ReadsLine left left_now r lines
 HasReadOn left left_now r lines (Ok next.Unended) = ReadsUnended left left_now r lines

@@ -1,4 +1,4 @@
-// Laws of lines.
+//! Laws of lines.
 ghost use Rattle.line_reader.specs.Lists.{HaveOneList};
 
 /// Bytes have one list of lines.

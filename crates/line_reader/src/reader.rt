@@ -1,4 +1,4 @@
-// The reader of lines.
+//! The reader of lines.
 ghost use Rattle.std.specs.Prelude.{◌≡◌, ◌≤◌, false, length, vec_capacity};
 ghost use Rattle.line_reader.specs.Reading.{has_lf};
 
@@ -16,7 +16,7 @@ pub const MAX_LINE: usize = 65_536;
 pub enum Next {
     /// A line up to its LF, which `LineReader::line` gives.
     Line,
-    /// What stands behind the last LF of the source and has none, which `LineReader::line` gives. It isn't empty.
+    /// What stands after the last LF of the source and has none, which `LineReader::line` gives. It isn't empty.
     Unended,
     /// A line of more than `MAX_LINE` bytes, with an LF or without.
     TooLong,

@@ -66,7 +66,7 @@ from_pieces chain lines size n (piece ∷ pieces) le each =
     ∙ take-append-drop size (drop (n * size) lines) in
     subst (λ (xs : List (List ℕ)). AreChecked chain xs (answers_in piece ++ flat_map answers_in pieces)) whole joined
 
--- so many pieces of this size are all of it
+-- this many pieces of this size are all of it
 covers : (len size : ℕ) → 0 < size → len ≤ (len / size + min 1 (len % size)) * size
 covers len size some = grind arith
 

@@ -12,7 +12,7 @@ use Rattle.shop_core.specs.Standing.{is_known_on, last_accepted}
 use Rattle.verify_link.specs.declared.parts.LinkParts.{LinkParts}
 use Rattle.link_check.specs.Checking.{answer_to, compared, last_accepted_alta}
 use Rattle.link_check.specs.Checking.Chain.{begun}
-use Rattle.link_check.specs.Said.{settled}
+use Rattle.link_check.specs.BeforeChain.{settled}
 use Rattle.link_check.specs.declared.checked.Checked.{Checked}
 use Rattle.link_check.specs.declared.checked.Checked.TheVariants.{Cancelled, Refused, Unknown, OtherIssuer}
 use Rattle.link_check.proofs.Lasts.{held_is_last}

@@ -1,4 +1,4 @@
 pub mod Checking
 pub mod Texts
-pub mod Said
+pub mod BeforeChain
 pub mod Pieces

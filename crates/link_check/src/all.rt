@@ -1,4 +1,4 @@
-// All lines, in pieces that are worked beside each other.
+//! All lines, in pieces that are worked at the same time.
 ghost use Rattle.std.specs.Prelude.{◌≡◌, IfOk, IsOk, All, flat_map};
 ghost use Rattle.std.specs.Int.{IsInRange};
 ghost use Rattle.link_check.specs.Checking.{AreChecked};
@@ -7,7 +7,7 @@ ghost use Rattle.link_check.specs.Pieces.{answers_in};
 ghost use Rattle.link_check.specs.declared.all.TheConstants.{MAX_WORKERS};
 
 use crate::checking::{check_link, check_unheld};
-use crate::{Checked, CheckedList, ScannedLines};
+use crate::{Checked, CheckedList, LinkLines};
 use ports::NoMemory;
 use record_fields::Bytes;
 use shop_core::State;
@@ -23,7 +23,7 @@ pub fn check_all<R: Threads + Sync>(
     rt: &R,
     alloc: Global,
     state: &State,
-    lines: &ScannedLines,
+    lines: &LinkLines,
     workers: u8,
 ) -> Result<CheckedList, NoMemory>
     requires { IsInRange 1 MAX_WORKERS workers }
@@ -39,7 +39,7 @@ pub fn check_all<R: Threads + Sync>(
 }
 
 /// The same where the file isn't begun, and so has no issuer: each readable link is unknown.
-pub fn check_unbegun(alloc: Global, lines: &ScannedLines) -> Result<CheckedList, NoMemory>
+pub fn check_unbegun(alloc: Global, lines: &LinkLines) -> Result<CheckedList, NoMemory>
     ensures { IfOk result (AreChecked not_begun lines.now) }
 {
     let mut answers = Vec::new(alloc);

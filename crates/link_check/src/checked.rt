@@ -1,4 +1,4 @@
-// What is checked, and what it is answered.
+//! What is checked, and what it is answered.
 use record_fields::{Bytes, ListOf};
 use verify_link::LinkFault;
 
@@ -18,14 +18,14 @@ pub enum Checked {
     Unknown,
     /// The link's tax number isn't the chain's.
     OtherIssuer,
-    /// The line is no link. It is never want of memory.
+    /// The line is no link. It is never lack of memory.
     BadLink(LinkFault),
     /// The line isn't UTF-8.
     NotText,
 }
 
 /// Lines, each to be read as a link.
-pub type ScannedLines = ListOf<Bytes>;
+pub type LinkLines = ListOf<Bytes>;
 
 /// The answers of lines, in their order.
 pub type CheckedList = ListOf<Checked>;

@@ -1,8 +1,8 @@
-// A line that is read as a link, and held against the chain.
+//! A line that is read as a link, and held against the chain.
 ghost use Rattle.std.specs.Prelude.{◌≡◌, IfOk, Some};
 ghost use Rattle.link_check.specs.Checking.{answer_to, IsChecked};
 ghost use Rattle.link_check.specs.Checking.Chain.{begun, not_begun};
-ghost use Rattle.link_check.specs.Said.{IsSaid, settled};
+ghost use Rattle.link_check.specs.BeforeChain.{IsSaid, settled};
 
 use crate::Checked;
 use amounts::Cents;

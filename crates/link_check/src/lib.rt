@@ -9,7 +9,7 @@ mod laws;
 mod texts;
 
 pub use all::{MAX_WORKERS, check_all, check_unbegun};
-pub use checked::{Checked, CheckedList, ScannedLines};
+pub use checked::{Checked, CheckedList, LinkLines};
 pub use checking::check_link;
 pub use laws::answers_are_one;
 pub use texts::checks_text;

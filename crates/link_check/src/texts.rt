@@ -1,4 +1,4 @@
-// The answers as they are printed.
+//! The answers as they are printed.
 ghost use Rattle.std.specs.Prelude.{◌≡◌, ◌++◌, OnOk, IfOk, decimal};
 ghost use Rattle.link_check.specs.Texts as spec;
 

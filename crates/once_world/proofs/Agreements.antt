@@ -136,7 +136,7 @@ agree_noted entries processed sent lines agree next =
     (runs_wider (recs entries) (length processed) (length (noted entries) + 1000) (length processed)
     (length (noted entries ++ lines) + 1000) sent (omega arith) (omega arith) agree.batches)
 
--- the records, cut where the noted ones end and where so many more do
+-- the records, cut where the noted ones end and where this many more do
 pub waiting_split : (entries : List Entry) (count : ℕ) → recs entries ≡ take (length (noted entries)) (recs entries) ++
     (take count (waiting entries) ++ drop count (waiting entries))
 waiting_split entries count =
@@ -144,7 +144,7 @@ waiting_split entries count =
     sym (take-append-drop (length (noted entries)) (recs entries)) ∙ ap (λ (xs : List Sealed). before ++ xs)
     (sym (take-append-drop count (waiting entries)))
 
--- the first so many waiting records are a run that begins where the noted ones end
+-- the first this many waiting records are a run that begins where the noted ones end
 sent_run : (entries : List Entry) (processed : List (Sealed × Line)) (count : ℕ) → count ≤ 1000 → IsPrefix (records_of processed)
     (recs entries) → IsPrefix (noted entries) (lines_of processed) →
     IsRun (recs entries) (take count (waiting entries)) (length processed) (length (noted entries) + 1000)

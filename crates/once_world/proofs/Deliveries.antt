@@ -47,7 +47,7 @@ chain_of linked sales version issuer entries legal = record {
   sales = λ before after s e sale. sales version issuer entries before after s legal e sale;
 }
 
--- a record that stands past so many is the next one, or is there already
+-- a record that stands past this many is the next one, or is there already
 pub record IsIn (xs before : List Sealed) (s : Sealed) : Type 0 where
   pub more : List Sealed
   pub is : xs ≡ before ++ s ∷ more

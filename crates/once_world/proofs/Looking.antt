@@ -1,4 +1,4 @@
--- A look at the waiting records: the lines in front are the next ones, and behind a record that isn't seen none is.
+-- A look at the waiting records: the lines in front are the next ones, and after a record that isn't seen none is.
 use Rattle.std.proofs.Common.{◌≡◌, ◌≢◌, ℕ, List, [], ◌∷◌, ◌++◌, refl, sym, ◌∙◌, ap, subst, Option, Some, None, length, take, drop}
 use Rattle.std.proofs.Common.{◌≤◌, arith, append_assoc, append-nil}
 use Rattle.std.proofs.lemmas.List.{map-append, length-map, length-take, take-append-drop}

@@ -27,7 +27,7 @@ own_none at (recorded.Stop faults torn ∷ items) own = own_none (at + 1) items 
 one_place : (p at : ℕ) → Contains (p ∷ []) at → p ≡ at
 one_place p at (k, lt, is) = let z : k ≡ 0 = omega arith in subst (λ (j : ℕ). get_or (p ∷ []) j at ≡ at) z is
 
--- one place behind them
+-- one place after them
 own_before : (p at : ℕ) (items last : List Item) → p ≡ at + length items → AreOwnNotes (p ∷ []) at (items ++ last) →
     AreRecords (entries_of items)
 own_before p at [] last e own = tt

@@ -7,7 +7,8 @@ use Rattle.record_fields.specs.declared.lines.Line.{Line}
 use Rattle.record_fields.specs.declared.lines.Line.TheVariants.{Correcto, ConErrores, Incorrecto}
 use Rattle.record_fields.specs.declared.lines.Cause.{Cause}
 use Rattle.record_fields.specs.declared.lines.Cause.TheVariants.{Vet, Held, NotHeld, Gone}
-use Rattle.record_fields.specs.declared.lines.TheConstants.{BATCH}
+use Rattle.pacing.specs.declared.pace.TheConstants.{MAX_BATCH}
+use Rattle.record_codec.specs.declared.entry.TheConstants.{MAX_NOTES}
 use Rattle.record_codec.specs.declared.entry.Entry.{Entry}
 use Rattle.shop_core.specs.History.{recs, noted}
 use Rattle.shop_core.specs.Prefix.{IsPrefix}
@@ -19,7 +20,7 @@ records_of processed = map (λ (p : Sealed × Line). p.0) processed
 abbrev pub lines_of : List (Sealed × Line) → List Line
 lines_of processed = map (λ (p : Sealed × Line). p.1) processed
 
--- the batch is a run of the records that begins at most after so many of them and ends at most at that place
+-- the batch is a run of the records that begins at most after this many of them and ends at most at that place
 pub record IsRun (records batch : List Sealed) (from to : ℕ) : Type 0 where
   pub before : List Sealed
   pub after : List Sealed
@@ -28,18 +29,18 @@ pub record IsRun (records batch : List Sealed) (from to : ℕ) : Type 0 where
   pub ends : length before + length batch ≤ to
 
 -- The processed records are the first ones of the chain. The noted lines are the first ones of theirs. Each batch that was
--- sent is a run of the chain that begins no later than just past the processed ones and ends at most BATCH past the noted ones.
+-- sent is a run of the chain that begins no later than just past the processed ones and ends at most MAX_BATCH past the noted ones.
 pub record Agree (entries : List Entry) (processed : List (Sealed × Line)) (sent : List (List Sealed)) : Type 0 where
   pub records : IsPrefix (records_of processed) (recs entries)
   pub lines : IsPrefix (noted entries) (lines_of processed)
   pub batches : AllByRecursion (λ (batch : List Sealed). IsRun (recs entries) batch (length processed)
-      (length (noted entries) + BATCH)) sent
+      (length (noted entries) + MAX_BATCH)) sent
 
--- the lines are the agency's next ones: those just past the noted ones, 1 to BATCH of them
+-- the lines are the agency's next ones: those just past the noted ones, 1 to MAX_NOTES of them
 pub record AreNextLines (entries : List Entry) (processed : List (Sealed × Line)) (lines : List Line) : Type 0 where
   pub run : IsPrefix (noted entries ++ lines) (lines_of processed)
   pub some : 1 ≤ length lines
-  pub few : length lines ≤ BATCH
+  pub few : length lines ≤ MAX_NOTES
 
 -- the lines that were learnt, where some were
 abbrev pub IsLearnt : List Entry → List (Sealed × Line) → Option (List Line) → Type 0

@@ -5,7 +5,7 @@ use Rattle.record_fields.specs.declared.versions.Version.{Version}
 use Rattle.record_fields.specs.declared.versions.Version.TheVariants.{Two}
 use Rattle.record_fields.specs.declared.records.Sealed.{Sealed}
 use Rattle.record_fields.specs.declared.lines.Line.{Line}
-use Rattle.record_fields.specs.declared.lines.TheConstants.{BATCH}
+use Rattle.pacing.specs.declared.pace.TheConstants.{MAX_BATCH}
 use Rattle.record_codec.specs.declared.entry.Entry.{Entry}
 use Rattle.record_codec.specs.declared.entry.Entry.TheVariants.{Notes}
 use Rattle.shop_core.specs.History.{recs, noted, is_record, waiting}
@@ -52,14 +52,14 @@ RecordsKeepAgreement = (entries more : List Entry) (processed : List (Sealed × 
 
 abbrev pub SendingKeepsAgreement : Type 0
 SendingKeepsAgreement = (entries : List Entry) (processed : List (Sealed × Line)) (sent : List (List Sealed)) (count : ℕ) →
-    Agree entries processed sent → count ≤ BATCH → Agree entries processed (sent ++ take count (waiting entries) ∷ [])
+    Agree entries processed sent → count ≤ MAX_BATCH → Agree entries processed (sent ++ take count (waiting entries) ∷ [])
 
 abbrev pub NotingKeepsAgreement : Type 0
 NotingKeepsAgreement = (entries : List Entry) (processed : List (Sealed × Line)) (sent : List (List Sealed)) (lines : List Line) →
     Agree entries processed sent → AreNextLines entries processed lines →
     Agree (entries ++ Notes (length (noted entries)) lines ∷ []) processed sent
 
--- the next lines are the next ones also behind more records
+-- the next lines are the next ones also after more records
 abbrev pub RecordsKeepNextLines : Type 0
 RecordsKeepNextLines = (entries more : List Entry) (processed : List (Sealed × Line)) (lines : List Line) →
     AreNextLines entries processed lines → AreRecords more → AreNextLines (entries ++ more) processed lines

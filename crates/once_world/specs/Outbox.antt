@@ -44,7 +44,7 @@ pub record ShowsWaiting (seen : Sight) (max : ℕ) (shown : Waiting) : Type 0 wh
   pub records_count : shown.records ≡ length (recs (history_of seen))
   pub first : shown.list ≡ take max (waiting (history_of seen))
 
--- these lines as the next ones behind these items
+-- these lines as the next ones after these items
 abbrev pub notes_behind : List Item → List Line → Entry
 notes_behind items lines = Notes (length (noted (entries_of items))) lines
 
@@ -56,7 +56,7 @@ IsEntry (recorded.Stop faults torn) = ⊥
 abbrev pub HasNoStop : List Item → Type 0
 HasNoStop items = AllByRecursion IsEntry items
 
--- one item more, its own, behind those that others added; nothing had stopped the shop before
+-- one item more, its own, after those that others added; nothing had stopped the shop before
 pub record AddsOwn (old new : Sight) (item : List Item → Item) : Type 0 where
   pub others : List Item
   pub going_on : HasNoStop (old.items ++ others)

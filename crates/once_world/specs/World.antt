@@ -5,7 +5,8 @@ use Rattle.std.specs.Prelude.{slice_get, is_none, if◌then◌else◌}
 use Rattle.record_fields.specs.declared.versions.Version.TheVariants.{Two}
 use Rattle.record_fields.specs.declared.records.Sealed.{Sealed}
 use Rattle.record_fields.specs.declared.lines.Line.{Line}
-use Rattle.record_fields.specs.declared.lines.TheConstants.{BATCH}
+use Rattle.pacing.specs.declared.pace.TheConstants.{MAX_BATCH}
+use Rattle.agency_port.specs.declared.agency.TheConstants.{MAX_CONSULTED}
 use Rattle.record_codec.specs.declared.entry.Entry.{Entry}
 use Rattle.record_codec.specs.declared.entry.Entry.TheVariants.{Notes}
 use Rattle.shop_core.specs.Answer.Plans.{answer}
@@ -47,7 +48,7 @@ torn w kept (Again receipt) = w
 torn w kept (Refused why) = w
 
 abbrev pub may_send : World → ℕ → Bool
-may_send w count = w.up && not w.doubt && is_none w.learnt && nat_le 1 count && nat_le count BATCH
+may_send w count = w.up && not w.doubt && is_none w.learnt && nat_le 1 count && nat_le count MAX_BATCH
     && nat_le count (length (waiting w.state.entries))
 
 -- the first waiting records go out, and whether they came is in doubt
@@ -64,11 +65,11 @@ abbrev pub learnt_lines : List Line → Option (List Line)
 learnt_lines [] = None
 learnt_lines (line ∷ lines) = Some (line ∷ lines)
 
--- the agency is asked for the first BATCH waiting records
+-- the agency is asked for the first MAX_CONSULTED waiting records
 abbrev pub after_look : World → World
 after_look w = record w {
   learnt = learnt_lines
-      (lines_in_front (answers_for w.processed (take BATCH (waiting w.state.entries))));
+      (lines_in_front (answers_for w.processed (take MAX_CONSULTED (waiting w.state.entries))));
   doubt = false;
 }
 

@@ -1,4 +1,4 @@
-// What may happen to a shop and its agency.
+//! What may happen to a shop and its agency.
 ghost use Rattle.once_world.specs.Laws.{IsEvent};
 
 use shop_core::Ask;
@@ -8,11 +8,11 @@ use shop_core::Ask;
 pub enum Event {
     /// The shop answers an ask, with the clock at these seconds since 1970, and keeps the record that is made.
     Append { ask: Ask, seconds: u64 },
-    /// The first `count` waiting records, 1 to `BATCH`, are sent as a batch.
+    /// The first `count` waiting records, 1 to `MAX_BATCH`, are sent as a batch.
     Send { count: u16 },
     /// The batch of this index, from 0, among those that were ever sent comes to the agency.
     Deliver { index: u32 },
-    /// The agency is asked for the first `BATCH` waiting records.
+    /// The agency is asked for the first `MAX_CONSULTED` waiting records.
     Look,
     /// The lines that were learnt are noted.
     Note,

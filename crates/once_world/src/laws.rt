@@ -1,4 +1,4 @@
-// What holds of every shop and agency that agree, and of every world of theirs.
+//! What holds of every shop and agency that agree, and of every world of theirs.
 ghost use Rattle.once_world.specs.Laws as law;
 
 use shop_core::{

@@ -1,4 +1,4 @@
-// What the agency says of records, one after another.
+//! What the agency says of records, one after another.
 ghost use Rattle.std.specs.Prelude.{◌≡◌, IfOk};
 ghost use Rattle.once_world.specs.Looks as spec;
 

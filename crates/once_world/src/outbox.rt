@@ -1,8 +1,8 @@
-// What the sender sees of a shop, and how it notes.
+//! What the sender sees of a shop, and how it notes.
 ghost use Rattle.std.specs.Prelude.{◌≡◌, ◌≤◌, ◌↔◌, ℕ, length, IfOk, IsErrOf};
 ghost use Rattle.shop_core.specs.History as history;
 ghost use Rattle.once_world.specs.Outbox.{Sight, Grows, OwnWithin, HasStopped, ShowsWaiting, NotedBy, history_of};
-ghost use Rattle.record_fields.specs.declared.lines.TheConstants.{BATCH};
+ghost use Rattle.record_codec.specs.declared.entry.TheConstants.{MAX_NOTES};
 
 use journal::StoreFault;
 use ports::NoMemory;
@@ -21,10 +21,10 @@ pub trait Outbox {
     /// The issuer, the items seen so far, and which of them its own notes added.
     ghost sight: { Self → Sight };
 
-    /// The shop has at least so many items.
+    /// The shop has at least this many items.
     ghost least: { Self → ℕ };
 
-    /// The counts, and at most so many of the first records that have no noted line.
+    /// The counts, and at most this many of the first records that have no noted line.
     fn waiting<R: Wait>(&mut self, rt: &R, alloc: Global, max: u16) -> Result<Waiting, NoMemory>
         ensures fixed { fixed self.new ≡ fixed self.old }
         ensures grows { Grows (sight self.old) (sight self.new) }
@@ -33,12 +33,12 @@ pub trait Outbox {
         ensures within { OwnWithin (sight self.new) }
         ensures shows { IfOk result (ShowsWaiting (sight self.new) max) };
 
-    /// Notes the lines of the next records, 1 to `BATCH` and no more than wait in what was seen. After `DiskFault` the shop has
+    /// Notes the lines of the next records, 1 to `MAX_NOTES` and no more than wait in what was seen. After `DiskFault` the shop has
     /// stopped, and these lines may stand in its file. `Stopped` comes exactly where an earlier call stopped it. Where notes
     /// of others came in between and the lines fit no more, nothing is added, as without memory.
     fn note<R: Wait>(&mut self, rt: &R, alloc: Global, lines: &[Line]) -> Result<(), StoreFault>
         requires some { 1 ≤ length lines.now }
-        requires few { length lines.now ≤ BATCH }
+        requires few { length lines.now ≤ MAX_NOTES }
         requires fits { length lines.now ≤ length (history.waiting (history_of (sight self.old))) }
         ensures fixed { fixed self.new ≡ fixed self.old }
         ensures grows { Grows (sight self.old) (sight self.new) }

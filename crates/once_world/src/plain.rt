@@ -1,4 +1,4 @@
-// A shop in memory alone, as its sender sees it.
+//! A shop in memory alone, as its sender sees it.
 ghost use Rattle.std.specs.Prelude.{◌≡◌, ◌++◌, ◌∷◌, [], length, IfOk, OnOk, OnErr, ℕ, ◌<◌, All};
 ghost use Rattle.record_codec.specs.declared.entry.Entry.TheVariants.{Notes};
 ghost use Rattle.shop_core.specs.History.{noted};

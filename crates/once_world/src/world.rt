@@ -1,4 +1,4 @@
-// The world of a shop and its agency, event by event.
+//! The world of a shop and its agency, event by event.
 ghost use Rattle.std.specs.Prelude.{◌≡◌, ◌++◌, ◌∷◌, [], IfOk, OnOk, IfSome, length, None, slice_get, take, true, if◌then◌else◌};
 ghost use Rattle.record_codec.specs.declared.entry.Entry.{Entry as AnyEntry};
 ghost use Rattle.record_fields.specs.declared.versions.Version.TheVariants.{Two};
@@ -10,12 +10,14 @@ ghost use Rattle.once_world.specs.World as spec;
 
 use crate::Event;
 use crate::looks::lines_in_front;
+use agency_port::MAX_CONSULTED;
 use agency_rules::{Pairs, Plan};
 use batches::{Batch, Batches};
+use pacing::MAX_BATCH;
 use parties::Nif;
 use ports::NoMemory;
 use record_codec::{Entry, Version};
-use record_fields::{BATCH, Lines};
+use record_fields::Lines;
 use shop_core::{
     Ask, Planned, State, a_run_of_a_history_is_linked, a_sale_has_a_new_number, legal_is_chained,
     what_is_made_is_a_record,
@@ -103,11 +105,11 @@ impl World {
             && !self.doubt
             && self.learnt.is_none()
             && 1 <= count
-            && count <= BATCH
+            && count <= MAX_BATCH
             && u32::from(count) <= waiting
     }
 
-    // The first so many waiting records.
+    // The first waiting records, this many of them.
     fn next_batch(&self, alloc: Global, count: u16) -> Result<Batch, NoMemory>
         requires { spec.may_send self.now count ≡ true }
         ensures { IfOk result (λ batch. batch ≡ take count (history.waiting self.now.state.entries)) }
@@ -146,7 +148,7 @@ impl World {
     fn look(&mut self, alloc: Global) -> Result<(), NoMemory>
         ensures { OnOk result (self.new ≡ spec.after_look self.old) }
     {
-        let records = self.state.waiting_records(alloc, BATCH)?;
+        let records = self.state.waiting_records(alloc, MAX_CONSULTED)?;
         let lines = lines_in_front(alloc, &self.processed, &records)?;
         self.learnt = if lines.is_empty() {
             None

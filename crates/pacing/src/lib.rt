@@ -3,4 +3,4 @@
 
 mod pace;
 
-pub use pace::{FIRST_WAIT, FULL_BATCH, Pace, WaitUntil};
+pub use pace::{FIRST_WAIT, MAX_BATCH, Pace, WaitUntil};

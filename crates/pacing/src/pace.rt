@@ -1,4 +1,4 @@
-// The waiting time between submissions, by the tax agency's description of the submission service.
+//! The waiting time between submissions, by the tax agency's description of the submission service.
 ghost use Rattle.std.specs.Prelude.{◌≡◌, MatchResult, true, false};
 ghost use Rattle.pacing.specs.Pace.{is_due, due_at};
 ghost use Rattle.pacing.specs.declared.pace.TheConstants.{FIRST_WAIT};
@@ -6,8 +6,9 @@ ghost use Rattle.pacing.specs.declared.pace.TheConstants.{FIRST_WAIT};
 /// The agency's first waiting time, in seconds: it holds until a reply sets another.
 pub const FIRST_WAIT: u32 = 60;
 
-/// So many waiting records make a submission due at once: the most records in a batch.
-pub const FULL_BATCH: u32 = 1000;
+/// The most records of one submission, by the tax agency's description of the submission service. Where this many wait, one is due
+/// at once. The agency takes no more; fewer would only make more submissions.
+pub const MAX_BATCH: u16 = 1000;
 
 /// No submission is due before this second.
 #[derive(Clone, Copy, Debug, PartialEq, Eq)]
@@ -31,15 +32,15 @@ impl Pace {
         }
     }
 
-    /// Whether a submission is due at this second, with so many records waiting. Refused exactly where fewer than
-    /// `FULL_BATCH` wait and the waiting time hasn't passed, with the second at which it will have passed.
+    /// Whether a submission is due at this second, with this many records waiting. Refused exactly where fewer than
+    /// `MAX_BATCH` wait and the waiting time hasn't passed, with the second at which it will have passed.
     pub fn due(&self, now: u64, waiting: u32) -> Result<(), WaitUntil>
         ensures { MatchResult result
             (λ _. is_due self.now now waiting ≡ true)
             (λ w. (is_due self.now now waiting ≡ false) × (w.0 ≡ due_at self.now)) }
     {
         let at = self.last.saturating_add(self.wait);
-        if waiting < FULL_BATCH && now < at {
+        if waiting < MAX_BATCH as u32 && now < at {
             return Err(WaitUntil(at));
         }
         Ok(())

@@ -5,7 +5,7 @@ use Rattle.parties.specs.declared.name.NameFault.{NameFault}
 use Rattle.parties.specs.declared.name.NameFault.TheVariants.{Length, Char, Edge, NoMemory}
 use Rattle.parties.specs.NameForm.{is_control, IsName, HasBlankEdge}
 
--- the name that the text is; else the first of the three that is wrong with it. Want of memory comes only where none is
+-- the name that the text is; else the first of the three that is wrong with it. Lack of memory comes only where none is
 abbrev pub IsNameReading : List ℕ → Result (List ℕ) NameFault → Type 0
 IsNameReading t (Ok name) = IsName t × (name ≡ t)
 IsNameReading t (Err (Length n)) = (n ≡ length t) × IsOutOfRange 1 120 n

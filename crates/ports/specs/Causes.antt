@@ -1,9 +1,13 @@
 -- Faults of a device are counted; a count stands still at the greatest u64.
 use Rattle.std.specs.Prelude.{ℕ, ◌-◌, ◌^◌, ◌<◌, ◌≤◌, Result, OnErr}
 
+-- the greatest u64: a count that has come to it stays there
+abbrev pub greatest_u64 : ℕ
+greatest_u64 = 2 ^ 64 - 1
+
 -- the count rose; at its greatest value it stays there, and a failure then counts as a rise
 abbrev pub Rose : ℕ → ℕ → Type 0
-Rose before now = now < 2 ^ 64 - 1 → before < now
+Rose before now = now < greatest_u64 → before < now
 
 -- a count never falls, and a failure of the call shows in it
 pub record HasCause {T E : Type 0} (before now : ℕ) (result : Result T E) : Type 0 where

@@ -1,5 +1,6 @@
 -- What a device in memory holds, and what one call of it leaves.
-use Rattle.std.specs.Prelude.{◌≡◌, ℕ, ◌+◌, ◌-◌, ◌^◌, min, List, Contains, Result, MatchResult}
+use Rattle.std.specs.Prelude.{◌≡◌, ℕ, ◌+◌, min, List, Contains, Result, MatchResult}
+use Rattle.ports.specs.Causes.{greatest_u64}
 
 -- the bytes (a source's are those still to come, a sink's those it took), the numbers of the calls that fail, and the calls and
 -- failures so far
@@ -11,11 +12,11 @@ pub record Held : Type 0 where
 
 -- one more, up to the greatest u64
 abbrev pub counted_up : ℕ → ℕ
-counted_up n = min (n + 1) (2 ^ 64 - 1)
+counted_up n = min (n + 1) greatest_u64
 
 -- the count of failures, which a u64 holds
 abbrev pub counted : Held → ℕ
-counted held = min held.faults (2 ^ 64 - 1)
+counted held = min held.faults greatest_u64
 
 -- the coming call is one of those that fail
 abbrev pub IsListed : Held → Type 0

@@ -1,4 +1,4 @@
-// Devices over the standard streams and the system's clock, which tell nothing of content.
+//! Devices over the standard streams and the system's clock, which tell nothing of content.
 ghost use Rattle.std.specs.Prelude.{◌≡◌, None};
 ghost use Rattle.ports.specs.Reasons.{count_of};
 

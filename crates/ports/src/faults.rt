@@ -1,4 +1,4 @@
-// The two faults that every layer knows.
+//! The two faults that every layer knows.
 ghost use Rattle.std.specs.Prelude.{◌≡◌, ◌≤◌};
 ghost use Rattle.ports.specs.Causes.{Rose};
 ghost use Rattle.ports.specs.Memory.{counted_up};

@@ -1,4 +1,4 @@
-// What the threads of a day pass.
+//! What the threads of a day pass.
 use std::sync::Wait;
 
 /// Each till is asked ahead of a command and after it, and the sender after each turn that noted lines. It may hold
@@ -10,7 +10,7 @@ pub trait Gate {
     /// Once that command is answered.
     fn after<R>(&self, rt: &R, till: u8, serial: u32);
 
-    /// Once the sender has noted so many lines in a turn.
+    /// Once the sender has noted this many lines in a turn.
     fn noted<R>(&self, rt: &R, count: u32);
 }
 

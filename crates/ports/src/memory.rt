@@ -1,4 +1,4 @@
-// Devices in memory, which tell what they hold.
+//! Devices in memory, which tell what they hold.
 ghost use Rattle.std.specs.Prelude.{◌≡◌, ℕ, ◌+◌, ◌*◌, ◌-◌, ◌^◌, ◌<◌, ◌≤◌, ◌↔◌, [], drop, take, length, min, vec_len, Some};
 ghost use Rattle.std.specs.Prelude.{slice_index, IsErr, IfOk};
 ghost use Rattle.ports.specs.Causes.{HasCause};
@@ -90,7 +90,7 @@ impl Source for MemSource {
 }
 
 /// A sink that keeps what it takes. It fails at the calls whose numbers, counted from 1, are listed, and otherwise
-/// for want of memory alone.
+/// for lack of memory alone.
 #[derive(Drop)]
 pub struct MemSink {
     content: Vec<u8>,
@@ -140,7 +140,7 @@ impl Sink for MemSink {
 
     ghost few_faults = { Prim.search (rules, arith) };
 
-    /// Takes all of the bytes or none. Want of memory is a fault as any other.
+    /// Takes all of the bytes or none. Lack of memory is a fault as any other.
     fn write(&mut self, bytes: &[u8]) -> Result<usize, Failed>
         ensures within { IsWithin result bytes.now }
         ensures bytes { Writes (Some self.old.bytes) (Some self.new.bytes) result bytes.now }

@@ -1,4 +1,4 @@
-// What an adapter keeps of the faults of the real thing.
+//! What an adapter keeps of the faults of the real thing.
 ghost use Rattle.std.specs.Prelude.{◌≡◌, ◌-◌, ◌^◌, ◌≤◌};
 
 use crate::Failed;

@@ -1,4 +1,4 @@
-// A clock that waits, in memory and over the system's.
+//! A clock that waits, in memory and over the system's.
 ghost use Rattle.std.specs.Prelude.{◌≡◌, ◌≤◌, ℕ, Bool, IsTrue, max};
 
 use crate::adapters::seconds_of;

@@ -1,4 +1,4 @@
-// The agency behind two files, and whether they are such as one can be spoken with by.
+//! The agency behind two files, and whether they are such as one can be spoken with by.
 ghost use Rattle.std.specs.Prelude.{◌≡◌, IfOk, vec_len};
 
 use crate::option::PipeFiles;
@@ -42,7 +42,7 @@ pub fn agency_behind<'a>(
     Ok(Patient::new(rt, agency))
 }
 
-/// So many of them, for the further files. They are never asked.
+/// This many of them, for the further files. They are never asked.
 pub fn agencies_behind<'a>(
     rt: &'a HostRuntime,
     count: u16,

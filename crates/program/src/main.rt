@@ -30,7 +30,7 @@ enum NotRun<'a> {
     NoMemory,
 }
 
-// The words behind the program's name. One that isn't UTF-8 is no word of a command.
+// The words after the program's name. One that isn't UTF-8 is no word of a command.
 fn words_of(rt: &HostRuntime) -> Result<Vec<String>, NotRun<'static>> {
     match env::args(rt) {
         Ok(args) => match args.skip(1).collect(rt.alloc()) {
@@ -44,7 +44,7 @@ fn words_of(rt: &HostRuntime) -> Result<Vec<String>, NotRun<'static>> {
     }
 }
 
-// FILE, the word behind the command's, or the one behind it. Where there is none, no call touches the disk.
+// FILE, the word after the command's, or the one after it. Where there is none, no call touches the disk.
 fn file_of(words: &[String], place: usize) -> &str {
     match words.get(place) {
         Some(file) => file.as_str(),
@@ -52,7 +52,7 @@ fn file_of(words: &[String], place: usize) -> &str {
     }
 }
 
-// The further file of this number, from 0: NEW is the word behind FILE, and in `guard` the one behind NIF, where the second file of
+// The further file of this number, from 0: NEW is the word after FILE, and in `guard` the one after NIF, where the second file of
 // `many` stands too.
 fn further_of(words: &[String], number: usize) -> &str {
     match words.first() {
@@ -137,7 +137,7 @@ fn print_form(rt: &HostRuntime, words: &[String]) {
     };
 }
 
-// NIF, the word behind FILE. Where there is none, no call asks an agency.
+// NIF, the word after FILE. Where there is none, no call asks an agency.
 fn issuer_of(words: &[String]) -> Option<Nif> {
     match Nif::read(words.get(2)?.as_str()) {
         Ok(issuer) => Some(issuer),
@@ -231,7 +231,7 @@ fn run_with<R: Threads + Wait + Sync, G: Agency + Send + Drop>(
     Ok((ended.status, outside.agency))
 }
 
-// So many practice agencies.
+// This many practice agencies.
 fn practice_agencies(rt: &HostRuntime, count: u16) -> Result<Vec<PracticeAgency>, NoMemory>
     ensures { IfOk result (λ spares. vec_len spares ≡ count) }
 {

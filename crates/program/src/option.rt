@@ -1,4 +1,4 @@
-// The option ahead of a command's words.
+//! The option ahead of a command's words.
 use advice::{Place, WordsFault, place_fault};
 
 /// The files by which an agency is spoken with: it reads `to` and writes `from`.
@@ -26,7 +26,7 @@ fn file_at(words: &[String], number: usize, place: Place) -> Result<&str, WordsF
     }
 }
 
-/// What `--agency TO FROM` names, and the command's words behind it. Without a file it is no option.
+/// What `--agency TO FROM` names, and the command's words after it. Without a file it is no option.
 pub fn split_option(
     words: &[String],
 ) -> Result<(Option<PipeFiles<'_>>, &[String]), WordsFault<'_>> {

@@ -1,7 +1,7 @@
-// Long work shows itself on a terminal: a file and a sleeper that say on standard error how far they are, and are else those of
-// `chain_disk` and `ports`. Nothing is claimed of what they print.
+//! Long work shows itself on a terminal: a file and a sleeper that say on standard error how far they are, and are else those of
+//! `chain_disk` and `ports`. Nothing is claimed of what they print.
 ghost use Rattle.std.specs.Prelude.{false};
-ghost use Rattle.chain_disk.specs.File.{untold, untold_reads};
+ghost use Rattle.chain_disk.specs.File.{nothing_on_disk, nothing_reads};
 
 use chain_disk::{Disk, FileDisk};
 use ports::{Failed, Sleeper, ThreadSleeper};
@@ -11,7 +11,7 @@ use std::io::{IsTerminal, Write};
 use std::sync::Wait;
 use std::time::{Duration, Instant};
 
-// Work of less than so many milliseconds shows nothing, and a line is written again after a fifth of it.
+// Work of less than this many milliseconds shows nothing, and a line is written again after a fifth of it.
 const PATIENCE: u64 = 1000;
 
 const PAUSE: u64 = 200;
@@ -55,7 +55,7 @@ impl<'a> Line<'a> {
         is_due
     }
 
-    // Shows that so many bytes are read, of as many as the file had.
+    // Shows that this many bytes are read, of as many as the file had.
     fn show_read(&mut self, name: &str, done: u64, length: u64) {
         if done >= length {
             self.clear();
@@ -66,7 +66,7 @@ impl<'a> Line<'a> {
         }
     }
 
-    // Shows that so many bytes are written.
+    // Shows that this many bytes are written.
     fn show_written(&mut self, name: &str, done: u64) {
         if self.is_due() {
             let megabytes = done / 1_000_000;
@@ -127,11 +127,11 @@ impl<'a> ShownDisk<'a> {
 impl<'a> Disk for ShownDisk<'a> {
     ghost tells = { false };
 
-    ghost told = { λ d. untold };
+    ghost on_disk = { λ d. nothing_on_disk };
 
     ghost faults = { λ d. ⟦<FileDisk<'a, HostRuntime> as Disk>⟧.faults d.disk };
 
-    ghost reads_an_image = { λ d tells. untold_reads };
+    ghost reads_an_image = { λ d tells. nothing_reads };
 
     ghost few_faults = { λ d. d.disk.faults.few };
 

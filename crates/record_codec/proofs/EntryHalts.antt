@@ -25,7 +25,7 @@ use Rattle.record_fields.specs.Valid.{IsId}
 use Rattle.record_fields.specs.declared.checks.TheConstants.{MAX_REFS}
 use Rattle.record_fields.specs.declared.drafts.Draft.{Draft}
 use Rattle.record_fields.specs.declared.lines.Line.{Line}
-use Rattle.record_fields.specs.declared.lines.TheConstants.{BATCH}
+use Rattle.record_codec.specs.declared.entry.TheConstants.{MAX_NOTES}
 use Rattle.record_fields.specs.declared.records.Link.{Link}
 use Rattle.record_fields.specs.declared.records.Link.TheVariants.{First, After}
 use Rattle.record_fields.specs.declared.records.Previo.{Previo}
@@ -489,9 +489,9 @@ rec_halts version alta issuer =
 lines_halt : Halts counted_lines (λ lines. to_be_bytes w16 (length lines) ∷ flat_map (λ (line : Line). line_bytes line ∷ [])
     lines) AreLines
 lines_halt =
-    Halts-counted (number_at w16 1 BATCH) (fixed_at 3 line_in) (to_be_bytes w16) line_bytes (λ (line : Line). line_bytes line ∷
-    []) (IsInRange 1 BATCH) IsLine
-    (Reads-number w16 (2 ^ 16) wide16 1 BATCH (omega arith)) (Halts-number w16 (2 ^ 16) wide16 1 BATCH (omega arith)
+    Halts-counted (number_at w16 1 MAX_NOTES) (fixed_at 3 line_in) (to_be_bytes w16) line_bytes (λ (line : Line). line_bytes line ∷
+    []) (IsInRange 1 MAX_NOTES) IsLine
+    (Reads-number w16 (2 ^ 16) wide16 1 MAX_NOTES (omega arith)) (Halts-number w16 (2 ^ 16) wide16 1 MAX_NOTES (omega arith)
     (omega arith))
     line_reads (λ line. alone (line_bytes line)) line_halts
 

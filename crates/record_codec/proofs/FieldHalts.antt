@@ -134,7 +134,7 @@ offset_halts = fixed_halts 2 offset_in (λ minutes. to_be_bytes w16 (cast_unsign
 pub line_halts : Halts (fixed_at 3 line_in) (λ line. line_bytes line ∷ []) IsLine
 line_halts = fixed_halts 3 line_in line_bytes IsLine line_reads Correcto tt
 
--- ---- so many of them
+-- ---- this many of them
 
 abbrev both_of : {A : Type 0} → A × List A → List A
 both_of p = p.0 ∷ p.1
@@ -168,7 +168,7 @@ Halts-many {A} item spell parts Fits reads spelled halts (suc n) =
     (λ p fits. ((ap suc fits.1.0, (fits.0, fits.1.1)), refl)) (cons_parted Fits n))
     (many_is item n)
 
--- behind their number
+-- after their number
 pub Halts-counted : {A : Type 0} (count : List ℕ → Reading ℕ) (item : List ℕ → Reading A) (spell_count : ℕ → List ℕ) (spell : A →
     List ℕ)
     (parts : A → List (List ℕ)) (IsCount : ℕ → Type 0) (Fits : A → Type 0)

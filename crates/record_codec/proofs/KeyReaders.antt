@@ -173,7 +173,7 @@ iva_key_halts =
     Halts-through (byte_at (class_in Iva)) iva_key (λ class. byte_field (class_code class) ∷ []) (key_fields One) (HasClass Iva)
     (KeyFits One) (class_halts Iva) (λ class has. (iva_fits class has, refl)) iva_parted
 
--- ---- version Two: a rate behind a class behind a tax
+-- ---- version Two: a rate after a class after a tax
 
 rate_bytes : Key → List ℕ
 rate_bytes key = to_be_bytes w16 key.rate

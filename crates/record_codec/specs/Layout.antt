@@ -1,4 +1,4 @@
--- The fields of an entry, each with its bytes: a number, a code, a tax number, a Huella, a text behind its length and a line of
+-- The fields of an entry, each with its bytes: a number, a code, a tax number, a Huella, a text after its length and a line of
 -- the agency is one field each.
 use Rattle.std.specs.Prelude.{ℕ, ◌≤◌, List, [], ◌∷◌, ◌++◌, length, take, Option, Some, None, ◌≡◌}
 use Rattle.std.specs.Int.{w16, w32, w64, to_be_bytes, cast_unsigned}
@@ -95,7 +95,7 @@ entry_fields version (Notes first lines) =
 abbrev pub front_of : Version → ℕ → Entry → List ℕ
 front_of version n entry = concat (take n (entry_fields version entry))
 
--- so many of the bytes are, whole, the first fields of an entry of this issuer, and the first fields of no such entry are more
+-- this many of the bytes are, whole, the first fields of an entry of this issuer, and the first fields of no such entry are more
 pub record IsLongestFront (version : Version) (issuer bytes : List ℕ) (at : ℕ) : Type 0 where
   pub within : at ≤ length bytes
   pub begun : (entry : Entry) × (n : ℕ) ×

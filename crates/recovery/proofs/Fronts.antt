@@ -29,7 +29,7 @@ kept_front n p c within past image = ext_get_or 0 (take n c) (take n p.synced)
     get_or-take n c i 0 below ∙ image.kept i (omega (arith, below, within))
     (λ covered. not_covered n p.ranges i past below covered) ∙ sym (get_or-take n p.synced i 0 below))
 
--- a closed first byte with the header behind it
+-- a closed first byte with the header after it
 pub shut_front : (issuer c : List ℕ) (first : ℕ) → (first ≡ 1 → ⊥) → take 19 c ≡ first ∷ header Two issuer → IsHeldShut issuer c
 shut_front issuer [] first shut front = inl tt
 shut_front issuer (x ∷ rest) first shut front =
@@ -58,7 +58,7 @@ module _ (issuer bytes : List ℕ) (at : ℕ) (t : OnDisk) (is : IsWriting issue
     length-take at t.content,
   )
 
-  -- with more ranges behind the header
+  -- with more ranges after the header
   pub writing_image : (p : Pending) (c : List ℕ) → p.synced ≡ t.now.synced → BeginPast 19 p.ranges → IsImage p c →
       IsHeldShut issuer c
   writing_image p c same past image = shut_front issuer c is.first is.shut
@@ -131,7 +131,7 @@ writing_less issuer bytes more at place t is here =
 pub both_runs : (t u v : OnDisk) (P : List ℕ → Type 0) → LeavesOnly t u P → LeavesOnly u v P → LeavesOnly t v P
 both_runs t u v P first second = follows t u v P P P first second (λ c is. is) (λ c is. is)
 
--- an open gate and a frame behind the others are one frame more
+-- an open gate and a frame after the others are one frame more
 pub writing_frame : (issuer : List ℕ) (bodies : List (List ℕ)) (body bytes : List ℕ) (place next : ℕ) (t : OnDisk) →
     bytes ≡ frame body → IsWriting issuer ((framed bodies ++ 1 ∷ []) ++ bytes) place t → (at : ℕ) →
     at ≡ 19 + length (framed bodies) → next ≡ at + 5 + length body → IsWriting issuer (framed (bodies ++ body ∷ [])) next t

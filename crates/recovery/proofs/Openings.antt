@@ -1,4 +1,4 @@
--- The first bytes of a file that is written anew: the header behind a closed byte 0, and that byte opened last.
+-- The first bytes of a file that is written anew: the header after a closed byte 0, and that byte opened last.
 use Rattle.std.proofs.Common.{◌≡◌, ◌<◌, ◌≤◌, ◌+◌, inl, inr, ℕ, List, [], ◌∷◌, ◌++◌, length, take, drop, refl, sym, ◌∙◌, ap, subst}
 use Rattle.std.proofs.Common.{arith, append_assoc, length-append, take-append-drop}
 use Rattle.std.proofs.lemmas.Bool.{cases_eq}

@@ -48,7 +48,7 @@ pub holds_on : (version : Version) (issuer : List ℕ) (entries : List Entry) (t
     StandsFor version issuer entries t.content → IsSettled t → LeavesOnly t t (IsFound version issuer entries)
 holds_on version issuer entries t stands quiet = started_settled t (IsFound version issuer entries) quiet (inr stands)
 
--- what was loaded behind a sync, which the loading left
+-- what was loaded after a sync, which the loading left
 pub loaded_settled : (t u v : OnDisk) (loaded : Loaded) → u ≡ synced t → v ≡ u → IsLoaded u.content loaded →
     IsLoaded v.content loaded × IsSettled v
 loaded_settled t u v loaded ok same is = (

@@ -1,11 +1,11 @@
--- The header of an unfinished migration, and the history written behind it.
-use Rattle.std.proofs.Common.{◌≡◌, inl, ℕ, List, [], ◌∷◌, take, refl, sym, ◌∙◌, ap, subst, arith}
+-- The header of an unfinished migration, and the history written after it.
+use Rattle.std.proofs.Common.{◌≡◌, inl, inr, ℕ, List, [], ◌∷◌, take, refl, sym, ◌∙◌, ap, subst, arith}
 use Rattle.std.proofs.lemmas.List.{append-nil}
 use Rattle.chain_disk.specs.OnDisk.{OnDisk, IsSettled, LeavesOnly}
-use Rattle.chain_disk.specs.Runs.{started_settled}
+use Rattle.chain_disk.specs.Runs.{started_settled, weaker}
 use Rattle.parties.specs.Nif.{IsNif}
 use Rattle.record_fields.specs.declared.versions.Version.TheVariants.{Two}
-use Rattle.journal.specs.File.{header}
+use Rattle.journal.specs.File.{IsNotBegun, header}
 use Rattle.recovery.specs.Moving.{BeginPast, IsUnfinished, IsSameOrShut, IsWriting}
 
 -- byte 0 and the header of an unfinished migration
@@ -30,3 +30,9 @@ unfinished_writing issuer t u same nif is quiet =
 pub same_started : (issuer : List ℕ) (t u : OnDisk) → u ≡ t → IsSettled t → LeavesOnly t u (IsSameOrShut issuer t.content)
 same_started issuer t u same quiet = subst (λ (d : OnDisk). LeavesOnly t d (IsSameOrShut issuer t.content)) (sym same)
     (started_settled t (IsSameOrShut issuer t.content) quiet (inl refl))
+
+-- a file that wasn't begun is held shut while its header is written
+pub begun_shut : (issuer : List ℕ) (t u v : OnDisk) → u ≡ t → IsNotBegun t.content → LeavesOnly u v IsNotBegun →
+    LeavesOnly t v (IsSameOrShut issuer t.content)
+begun_shut issuer t u v same none only = subst (λ (d : OnDisk). LeavesOnly d v (IsSameOrShut issuer t.content)) same
+    (weaker u v IsNotBegun (IsSameOrShut issuer t.content) only (λ c is. inr (inl none, inl is)))

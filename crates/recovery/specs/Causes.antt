@@ -48,19 +48,19 @@ NoCause = (old new : List ℕ) (cause : MoveCause) → Prevents old new cause �
 -- Why a migration ended early. Where the old file can't be moved or read, no call of the new disk was made; where the new file
 -- is occupied, its disk was synced and nothing else.
 abbrev pub IsMoveCause : {D M : Type 0} → Disks D → Disks M → MoveCause → Type 0
-IsMoveCause old new (Damaged at) = (IsTrue old.tells → IsDamagedFile (old.told old.disk).content at) × LeftDisk new
-IsMoveCause old new (NotOld held) = (IsTrue old.tells → IsNotOld (old.told old.disk).content held) × LeftDisk new
+IsMoveCause old new (Damaged at) = (IsTrue old.tells → IsDamagedFile (old.on_disk old.disk).content at) × LeftDisk new
+IsMoveCause old new (NotOld held) = (IsTrue old.tells → IsNotOld (old.on_disk old.disk).content held) × LeftDisk new
 IsMoveCause old new (Occupied size) = IsTrue new.tells →
-    (IsTrue old.tells → IsOccupiedOf (old.told old.disk).content (new.told new.disk).content size)
-    × (new.told new.disk_after ≡ synced (new.told new.disk))
+    (IsTrue old.tells → IsOccupiedOf (old.on_disk old.disk).content (new.on_disk new.disk).content size)
+    × (new.on_disk new.disk_after ≡ synced (new.on_disk new.disk))
 IsMoveCause old new OldFault = DiskRose old × LeftDisk new
 IsMoveCause old new NewFault = DiskRose new
 IsMoveCause old new NoMemory = Unit {0}
 
 -- the same of the parts of a migration: while the old file is read
 abbrev pub IsReadCause : {D : Type 0} → Disks D → MoveCause → Type 0
-IsReadCause k (Damaged at) = IsTrue k.tells → IsDamagedFile (k.told k.disk).content at
-IsReadCause k (NotOld held) = IsTrue k.tells → IsNotOld (k.told k.disk).content held
+IsReadCause k (Damaged at) = IsTrue k.tells → IsDamagedFile (k.on_disk k.disk).content at
+IsReadCause k (NotOld held) = IsTrue k.tells → IsNotOld (k.on_disk k.disk).content held
 IsReadCause k (Occupied size) = ⊥
 IsReadCause k OldFault = DiskRose k
 IsReadCause k NewFault = ⊥
@@ -70,12 +70,12 @@ IsReadCause k NoMemory = Unit {0}
 abbrev pub IsPrepareCause : {M : Type 0} → List ℕ → Disks M → MoveCause → Type 0
 IsPrepareCause issuer k (Damaged at) = ⊥
 IsPrepareCause issuer k (NotOld held) = ⊥
-IsPrepareCause issuer k (Occupied size) = (IsTrue k.tells → IsOccupied issuer (k.told k.disk).content size) × OnlyRead k
+IsPrepareCause issuer k (Occupied size) = (IsTrue k.tells → IsOccupied issuer (k.on_disk k.disk).content size) × OnlyRead k
 IsPrepareCause issuer k OldFault = ⊥
 IsPrepareCause issuer k NewFault = DiskRose k
 IsPrepareCause issuer k NoMemory = ⊥
 
--- while the history is written behind the header
+-- while the history is written after the header
 abbrev pub IsWriteCause : {M : Type 0} → Disks M → MoveCause → Type 0
 IsWriteCause k (Damaged at) = ⊥
 IsWriteCause k (NotOld held) = ⊥
@@ -89,7 +89,7 @@ abbrev pub IsMoveStateCause : {M : Type 0} → List ℕ → Disks M → MoveCaus
 IsMoveStateCause issuer k (Damaged at) = ⊥
 IsMoveStateCause issuer k (NotOld held) = ⊥
 IsMoveStateCause issuer k (Occupied size) = IsTrue k.tells →
-    IsOccupied issuer (k.told k.disk).content size × (k.told k.disk_after ≡ synced (k.told k.disk))
+    IsOccupied issuer (k.on_disk k.disk).content size × (k.on_disk k.disk_after ≡ synced (k.on_disk k.disk))
 IsMoveStateCause issuer k OldFault = ⊥
 IsMoveStateCause issuer k NewFault = DiskRose k
 IsMoveStateCause issuer k NoMemory = Unit {0}

@@ -1,4 +1,4 @@
-// What a file holds where a migration is to go.
+//! What a file holds where a migration is to go.
 ghost use Rattle.std.specs.Prelude.{◌≡◌, ◌↔◌, ℕ, List, IsTrue, IfOk, length, take, slice_index};
 ghost use Rattle.ports.specs.Causes.{HasCause};
 ghost use Rattle.record_fields.specs.declared.versions.Version.TheVariants.{Two};
@@ -58,8 +58,8 @@ fn held_in(window: &[u8], size: u64, issuer: &Nif) -> Held
 }
 
 pub(crate) fn look<M: Disk>(disk: &mut M, issuer: &Nif) -> Result<Held, Failed>
-    ensures held { IfOk result (λ held. IsTrue M.tells → IsHeldAs issuer.now (M.told disk.old).content held) }
-    ensures same { M.told disk.new ≡ M.told disk.old }
+    ensures held { IfOk result (λ held. IsTrue M.tells → IsHeldAs issuer.now (M.on_disk disk.old).content held) }
+    ensures same { M.on_disk disk.new ≡ M.on_disk disk.old }
     ensures cause { HasCause (M.faults disk.old) (M.faults disk.new) result }
 {
     let length = disk.len()?;

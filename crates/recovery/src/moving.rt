@@ -1,4 +1,4 @@
-// Moves the history of a file of version One to a second disk, in version Two.
+//! Moves the history of a file of version One to a second disk, in version Two.
 ghost use Rattle.std.specs.Prelude.{◌≡◌, ◌≤◌, [], List, ℕ, IsTrue, IfOk, IfErr, OnOk};
 ghost use Rattle.chain_disk.specs.Disks.{this_disk};
 ghost use Rattle.chain_disk.specs.OnDisk.{IsSettled, LeavesNow, LeavesOnly};
@@ -8,7 +8,7 @@ ghost use Rattle.shop_core.specs.File.Files.{StandsFor, bodies_of};
 ghost use Rattle.recovery.specs.Causes.{IsMoveCause, IsMoveStateCause, IsPrepareCause, IsReadCause, IsWriteCause};
 ghost use Rattle.recovery.specs.Causes.{NoCause, OneCause};
 ghost use Rattle.recovery.specs.Moving.{HasCounts, IsHeldShut, IsMoved, IsMoveImage, IsSameOrShut, IsShutOrWhole, IsWriting};
-ghost use Rattle.recovery.specs.Moving.{MayBeMoved, Moves};
+ghost use Rattle.recovery.specs.Moving.{KeptUnlessFree, KeptUnlessShut, MayBeMoved, Moves};
 ghost use Rattle.recovery.specs.declared.moving.MoveCause.TheVariants as cause_of;
 
 use crate::looking::{Held, look};
@@ -58,9 +58,9 @@ impl From<NoMemory> for MoveCause {
 // The history of the old file, where that is of version One.
 fn load_old<D: Disk>(alloc: Global, old: &mut D) -> Result<State, MoveCause>
     ensures stands { IfOk result (λ state. IsTrue D.tells →
-        StandsFor One state.issuer state.entries (D.told old.old).content) }
-    ensures cause { IfErr result (IsReadCause (this_disk D.tells D.told D.faults old.old old.new)) }
-    ensures same { D.told old.new ≡ D.told old.old }
+        StandsFor One state.issuer state.entries (D.on_disk old.old).content) }
+    ensures cause { IfErr result (IsReadCause (this_disk D.tells D.on_disk D.faults old.old old.new)) }
+    ensures same { D.on_disk old.new ≡ D.on_disk old.old }
     ensures later { D.faults old.old ≤ D.faults old.new }
 {
     match load(alloc, old) {
@@ -75,14 +75,15 @@ fn load_old<D: Disk>(alloc: Global, old: &mut D) -> Result<State, MoveCause>
     }
 }
 
-// Makes sure of the header behind a closed byte 0, unless an unfinished migration has it already.
+// Makes sure of the header after a closed byte 0, unless an unfinished migration has it already.
 fn prepare<M: Disk>(disk: &mut M, issuer: &Nif) -> Result<(), MoveCause>
-    requires { IsTrue M.tells → IsSettled (M.told disk.old) }
-    ensures ok { OnOk result (IsTrue M.tells → IsWriting issuer.now [] 19 (M.told disk.new)) }
-    ensures free { OnOk result (IsTrue M.tells → IsHeldShut issuer.now (M.told disk.old).content) }
+    requires { IsTrue M.tells → IsSettled (M.on_disk disk.old) }
+    ensures ok { OnOk result (IsTrue M.tells → IsWriting issuer.now [] 19 (M.on_disk disk.new)) }
+    ensures free { OnOk result (IsTrue M.tells → IsHeldShut issuer.now (M.on_disk disk.old).content) }
     ensures any_moment { IsTrue M.tells →
-        LeavesOnly (M.told disk.old) (M.told disk.new) (IsSameOrShut issuer.now (M.told disk.old).content) }
-    ensures cause { IfErr result (IsPrepareCause issuer.now (this_disk M.tells M.told M.faults disk.old disk.new)) }
+        LeavesOnly (M.on_disk disk.old) (M.on_disk disk.new) (IsSameOrShut issuer.now (M.on_disk disk.old).content) }
+    ensures kept { IsTrue M.tells → (IsHeldShut issuer.now (M.on_disk disk.old).content → ⊥) → M.on_disk disk.new ≡ M.on_disk disk.old }
+    ensures cause { IfErr result (IsPrepareCause issuer.now (this_disk M.tells M.on_disk M.faults disk.old disk.new)) }
     ensures later { M.faults disk.old ≤ M.faults disk.new }
 {
     let _nine = issuer.bytes();
@@ -97,14 +98,14 @@ fn prepare<M: Disk>(disk: &mut M, issuer: &Nif) -> Result<(), MoveCause>
     }
 }
 
-// Writes the history behind the header, and opens the file.
+// Writes the history after the header, and opens the file.
 fn rewrite<M: Disk>(alloc: Global, state: &State, disk: &mut M) -> Result<(), MoveCause>
-    requires { IsTrue M.tells → IsWriting state.now.issuer [] 19 (M.told disk.old) }
+    requires { IsTrue M.tells → IsWriting state.now.issuer [] 19 (M.on_disk disk.old) }
     ensures ok { OnOk result (IsTrue M.tells → AreBodies (bodies_of Two state.now.entries) →
-        LeavesNow (M.told disk.new) (IsFile Two state.now.issuer (bodies_of Two state.now.entries))) }
+        LeavesNow (M.on_disk disk.new) (IsFile Two state.now.issuer (bodies_of Two state.now.entries))) }
     ensures any_moment { IsTrue M.tells → AreBodies (bodies_of Two state.now.entries) →
-        LeavesOnly (M.told disk.old) (M.told disk.new) (IsShutOrWhole state.now.issuer (bodies_of Two state.now.entries)) }
-    ensures cause { IfErr result (IsWriteCause (this_disk M.tells M.told M.faults disk.old disk.new)) }
+        LeavesOnly (M.on_disk disk.old) (M.on_disk disk.new) (IsShutOrWhole state.now.issuer (bodies_of Two state.now.entries)) }
+    ensures cause { IfErr result (IsWriteCause (this_disk M.tells M.on_disk M.faults disk.old disk.new)) }
     ensures later { M.faults disk.old ≤ M.faults disk.new }
 {
     let at = write_entries(alloc, state, disk)?;
@@ -115,12 +116,13 @@ fn rewrite<M: Disk>(alloc: Global, state: &State, disk: &mut M) -> Result<(), Mo
 // Moves the history of a file of version One to a disk: first a sync, then the header, the frames, and byte 0.
 fn move_state<M: Disk>(alloc: Global, state: &State, disk: &mut M) -> Result<(), MoveCause>
     ensures ok { OnOk result (IsTrue M.tells → (file : List ℕ) → StandsFor One state.now.issuer state.now.entries file →
-        LeavesNow (M.told disk.new) (StandsFor Two state.now.issuer state.now.entries)) }
-    ensures free { OnOk result (IsTrue M.tells → IsHeldShut state.now.issuer (M.told disk.old).content) }
+        LeavesNow (M.on_disk disk.new) (StandsFor Two state.now.issuer state.now.entries)) }
+    ensures free { OnOk result (IsTrue M.tells → IsHeldShut state.now.issuer (M.on_disk disk.old).content) }
     ensures any_moment { IsTrue M.tells → (file : List ℕ) → StandsFor One state.now.issuer state.now.entries file →
-        LeavesOnly (M.told disk.old) (M.told disk.new)
-        (IsMoveImage state.now.issuer state.now.entries (M.told disk.old)) }
-    ensures cause { IfErr result (IsMoveStateCause state.now.issuer (this_disk M.tells M.told M.faults disk.old disk.new)) }
+        LeavesOnly (M.on_disk disk.old) (M.on_disk disk.new)
+        (IsMoveImage state.now.issuer state.now.entries (M.on_disk disk.old)) }
+    ensures kept { IsTrue M.tells → KeptUnlessShut state.now.issuer (M.on_disk disk.old) (M.on_disk disk.new) }
+    ensures cause { IfErr result (IsMoveStateCause state.now.issuer (this_disk M.tells M.on_disk M.faults disk.old disk.new)) }
     ensures later { M.faults disk.old ≤ M.faults disk.new }
 {
     an_encoding_is_a_body();
@@ -147,33 +149,37 @@ pub struct Moved<M: Disk> {
 }
 
 /// Moves the history of a file of version One to a second disk, in version Two. The old disk is only read. The new file's header
-/// is made sure of behind a closed byte 0, and isn't written again over an unfinished migration of the same issuer. Then come the
+/// is made sure of after a closed byte 0, and isn't written again over an unfinished migration of the same issuer. Then come the
 /// frames, a closed gate and a sync, and byte 0 last.
 pub fn migrate_counted<D: Disk, M: Disk>(
     alloc: Global,
     old: &mut D,
     new: M,
 ) -> Result<Moved<M>, MoveFault<M>>
-    // A crash at any moment leaves the new file as it was, not begun, an unfinished migration, or the whole history.
+    // A crash at any moment leaves the new file as it was; or, where it was free, not begun, an unfinished migration, or the whole
+    // history.
     ensures any_moment { IfOk result (λ moved. IsTrue D.tells → IsTrue M.tells →
-        Moves (D.told old.old).content (M.told new) (M.told moved.new)) }
+        Moves (D.on_disk old.old).content (M.on_disk new) (M.on_disk moved.new)) }
     ensures any_moment_err { IfErr result (λ fault. IsTrue D.tells → IsTrue M.tells →
-        Moves (D.told old.old).content (M.told new) (M.told fault.new)) }
+        Moves (D.on_disk old.old).content (M.on_disk new) (M.on_disk fault.new)) }
     ensures every_crash { IfOk result (λ moved. IsTrue D.tells → IsTrue M.tells →
-        LeavesNow (M.told moved.new) (IsMoved (D.told old.old).content)) }
+        LeavesNow (M.on_disk moved.new) (IsMoved (D.on_disk old.old).content)) }
     ensures reads { IfOk result (λ moved. IsTrue D.tells → IsTrue M.tells →
-        IsMoved (D.told old.old).content (M.told moved.new).content) }
+        IsMoved (D.on_disk old.old).content (M.on_disk moved.new).content) }
 
-    // Only such files are moved, and what keeps one from being moved is the cause, unless a disk failed or memory ran out.
+    // Only such files are moved, and nothing is written of others. What keeps one from being moved is the cause, unless a disk
+    // failed or memory ran out.
     ensures free { IfOk result (λ moved. IsTrue D.tells → IsTrue M.tells →
-        MayBeMoved (D.told old.old).content (M.told new).content) }
-    ensures cause { IfErr result (λ fault. IsMoveCause (this_disk D.tells D.told D.faults old.old old.new)
-        (this_disk M.tells M.told M.faults new fault.new) fault.cause) }
-    ensures same { D.told old.new ≡ D.told old.old }
+        MayBeMoved (D.on_disk old.old).content (M.on_disk new).content) }
+    ensures kept { IfErr result (λ fault. IsTrue D.tells → IsTrue M.tells →
+        KeptUnlessFree (D.on_disk old.old).content (M.on_disk new) (M.on_disk fault.new)) }
+    ensures cause { IfErr result (λ fault. IsMoveCause (this_disk D.tells D.on_disk D.faults old.old old.new)
+        (this_disk M.tells M.on_disk M.faults new fault.new) fault.cause) }
+    ensures same { D.on_disk old.new ≡ D.on_disk old.old }
     ensures later { D.faults old.old ≤ D.faults old.new }
     ensures new_later { IfOk result (λ moved. M.faults new ≤ M.faults moved.new) }
     ensures new_later_err { IfErr result (λ fault. M.faults new ≤ M.faults fault.new) }
-    ensures counts { IfOk result (λ moved. IsTrue D.tells → HasCounts (D.told old.old).content moved.records moved.noted) }
+    ensures counts { IfOk result (λ moved. IsTrue D.tells → HasCounts (D.on_disk old.old).content moved.records moved.noted) }
 {
     let mut new = new;
     match load_old(alloc, old) {
@@ -191,22 +197,26 @@ pub fn migrate_counted<D: Disk, M: Disk>(
 
 /// Moves a file as `migrate_counted` does, and gives the new disk alone.
 pub fn migrate<D: Disk, M: Disk>(alloc: Global, old: &mut D, new: M) -> Result<M, MoveFault<M>>
-    // A crash at any moment leaves the new file as it was, not begun, an unfinished migration, or the whole history.
+    // A crash at any moment leaves the new file as it was; or, where it was free, not begun, an unfinished migration, or the whole
+    // history.
     ensures any_moment { IfOk result (λ disk. IsTrue D.tells → IsTrue M.tells →
-        Moves (D.told old.old).content (M.told new) (M.told disk)) }
+        Moves (D.on_disk old.old).content (M.on_disk new) (M.on_disk disk)) }
     ensures any_moment_err { IfErr result (λ fault. IsTrue D.tells → IsTrue M.tells →
-        Moves (D.told old.old).content (M.told new) (M.told fault.new)) }
+        Moves (D.on_disk old.old).content (M.on_disk new) (M.on_disk fault.new)) }
     ensures every_crash { IfOk result (λ disk. IsTrue D.tells → IsTrue M.tells →
-        LeavesNow (M.told disk) (IsMoved (D.told old.old).content)) }
+        LeavesNow (M.on_disk disk) (IsMoved (D.on_disk old.old).content)) }
     ensures reads { IfOk result (λ disk. IsTrue D.tells → IsTrue M.tells →
-        IsMoved (D.told old.old).content (M.told disk).content) }
+        IsMoved (D.on_disk old.old).content (M.on_disk disk).content) }
 
-    // Only such files are moved, and what keeps one from being moved is the cause, unless a disk failed or memory ran out.
+    // Only such files are moved, and nothing is written of others. What keeps one from being moved is the cause, unless a disk
+    // failed or memory ran out.
     ensures free { IfOk result (λ disk. IsTrue D.tells → IsTrue M.tells →
-        MayBeMoved (D.told old.old).content (M.told new).content) }
-    ensures cause { IfErr result (λ fault. IsMoveCause (this_disk D.tells D.told D.faults old.old old.new)
-        (this_disk M.tells M.told M.faults new fault.new) fault.cause) }
-    ensures same { D.told old.new ≡ D.told old.old }
+        MayBeMoved (D.on_disk old.old).content (M.on_disk new).content) }
+    ensures kept { IfErr result (λ fault. IsTrue D.tells → IsTrue M.tells →
+        KeptUnlessFree (D.on_disk old.old).content (M.on_disk new) (M.on_disk fault.new)) }
+    ensures cause { IfErr result (λ fault. IsMoveCause (this_disk D.tells D.on_disk D.faults old.old old.new)
+        (this_disk M.tells M.on_disk M.faults new fault.new) fault.cause) }
+    ensures same { D.on_disk old.new ≡ D.on_disk old.old }
     ensures later { D.faults old.old ≤ D.faults old.new }
     ensures new_later { IfOk result (λ disk. M.faults new ≤ M.faults disk) }
     ensures new_later_err { IfErr result (λ fault. M.faults new ≤ M.faults fault.new) }

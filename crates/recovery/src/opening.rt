@@ -1,4 +1,4 @@
-// Opens a file for an issuer.
+//! Opens a file for an issuer.
 ghost use Rattle.std.specs.Prelude.{◌≡◌, ◌≢◌, ◌≤◌, [], IsTrue, IfOk, IfErr, None};
 ghost use Rattle.record_fields.specs.declared.versions.Version.TheVariants.{Two};
 ghost use Rattle.ports.specs.Causes.{Rose};
@@ -38,33 +38,33 @@ pub fn open_store<D: Disk, C: Clock>(
     clock: C,
     issuer: &Nif,
 ) -> Result<Store<D, C>, OpenFault<D, C>>
-    ensures ready { IfOk result (λ store. Ready D.tells D.told store) }
+    ensures ready { IfOk result (λ store. Ready D.tells D.on_disk store) }
     ensures going_on { IfOk result (λ store. stopped_of (journal_of store) ≡ None) }
     ensures no_torn { IfOk result (λ store. torn_of store ≡ None) }
     ensures issuer { IfOk result (λ store. (state_of store).issuer ≡ issuer.now) }
     ensures found { IfOk result (λ store. IsTrue D.tells →
-        IsFound (state_of store).version issuer.now (state_of store).entries (D.told disk).content) }
+        IsFound (state_of store).version issuer.now (state_of store).entries (D.on_disk disk).content) }
     ensures every_crash { IfOk result (λ store. IsTrue D.tells →
-        LeavesNow (D.told (disk_of (journal_of store)))
+        LeavesNow (D.on_disk (disk_of (journal_of store)))
         (StandsFor (state_of store).version issuer.now (state_of store).entries)) }
 
     // From its first sync on, a crash at any moment of the call leaves what was found.
     ensures any_moment { IfOk result (λ store. IsTrue D.tells →
-        LeavesOnly (synced (D.told disk)) (D.told (disk_of (journal_of store)))
+        LeavesOnly (synced (D.on_disk disk)) (D.on_disk (disk_of (journal_of store)))
         (IsFound (state_of store).version issuer.now (state_of store).entries)) }
 
     // Nothing is written but a file's creation: of a file that is begun already the sync is all that is told.
     ensures unwritten { IfOk result (λ store. IsTrue D.tells →
-        IsOnlySynced (D.told disk) (D.told (disk_of (journal_of store)))) }
-    ensures created { IfOk result (λ store. IsTrue D.tells → IsNotBegun (D.told disk).content →
-        IsCreation issuer.now (synced (D.told disk)) (D.told (disk_of (journal_of store)))) }
-    ensures unwritten_err { IfErr result (λ fault. IsTrue D.tells → IsAtMostSynced (D.told disk) (D.told fault.disk)) }
+        IsOnlySynced (D.on_disk disk) (D.on_disk (disk_of (journal_of store)))) }
+    ensures created { IfOk result (λ store. IsTrue D.tells → IsNotBegun (D.on_disk disk).content →
+        IsCreation issuer.now (synced (D.on_disk disk)) (D.on_disk (disk_of (journal_of store)))) }
+    ensures unwritten_err { IfErr result (λ fault. IsTrue D.tells → IsAtMostSynced (D.on_disk disk) (D.on_disk fault.disk)) }
     ensures clock { IfOk result (λ store. clock_of store ≡ clock) }
     ensures later { IfOk result (λ store. D.faults disk ≤ D.faults (disk_of (journal_of store))) }
 
     // What the file is, by the cause, and what the calls of the disk left of it.
     ensures left { IfErr result (λ fault. IsTrue D.tells →
-        IsLeftUnopened issuer.now fault.cause (D.told disk) (D.told fault.disk)) }
+        IsLeftUnopened issuer.now fault.cause (D.on_disk disk) (D.on_disk fault.disk)) }
     ensures disk_fault { IfErr result (λ fault. fault.cause ≡ cause.DiskFault → Rose (D.faults disk) (D.faults fault.disk)) }
     ensures clock_err { IfErr result (λ fault. fault.clock ≡ clock) }
     ensures later_err { IfErr result (λ fault. D.faults disk ≤ D.faults fault.disk) }
@@ -98,17 +98,17 @@ fn open_held<D: Disk, C: Clock>(
     end: u64,
 ) -> Result<Store<D, C>, OpenFault<D, C>>
     requires near { end ≤ furthest_gate state.entries }
-    requires holds { IsTrue D.tells → IsLoaded (D.told disk).content (Begun state end) × IsSettled (D.told disk) }
-    ensures ready { IfOk result (λ store. Ready D.tells D.told store) }
+    requires holds { IsTrue D.tells → IsLoaded (D.on_disk disk).content (Begun state end) × IsSettled (D.on_disk disk) }
+    ensures ready { IfOk result (λ store. Ready D.tells D.on_disk store) }
     ensures going_on { IfOk result (λ store. stopped_of (journal_of store) ≡ None) }
     ensures no_torn { IfOk result (λ store. torn_of store ≡ None) }
     ensures same { IfOk result (λ store. (state.issuer ≡ issuer.now) × (state_of store ≡ state) × (clock_of store ≡ clock)
         × (disk_of (journal_of store) ≡ disk)) }
     ensures every_crash { IfOk result (λ store. IsTrue D.tells →
-        LeavesNow (D.told (disk_of (journal_of store)))
+        LeavesNow (D.on_disk (disk_of (journal_of store)))
         (StandsFor (state_of store).version issuer.now (state_of store).entries)) }
     ensures any_moment { IfOk result (λ store. IsTrue D.tells →
-        LeavesOnly (D.told disk) (D.told (disk_of (journal_of store)))
+        LeavesOnly (D.on_disk disk) (D.on_disk (disk_of (journal_of store)))
         (IsFound (state_of store).version issuer.now (state_of store).entries)) }
     ensures other { IfErr result (λ fault. (fault.cause ≡ cause.OtherIssuer state.issuer) × (state.issuer ≢ issuer.now)
         × (fault.disk ≡ disk) × (fault.clock ≡ clock)) }
@@ -132,22 +132,22 @@ fn begin<D: Disk, C: Clock>(
     clock: C,
     issuer: &Nif,
 ) -> Result<Store<D, C>, OpenFault<D, C>>
-    requires { IsTrue D.tells → IsNotBegun (D.told disk).content × IsSettled (D.told disk) }
-    ensures ready { IfOk result (λ store. Ready D.tells D.told store) }
+    requires { IsTrue D.tells → IsNotBegun (D.on_disk disk).content × IsSettled (D.on_disk disk) }
+    ensures ready { IfOk result (λ store. Ready D.tells D.on_disk store) }
     ensures going_on { IfOk result (λ store. stopped_of (journal_of store) ≡ None) }
     ensures no_torn { IfOk result (λ store. torn_of store ≡ None) }
     ensures empty { IfOk result (λ store. ((state_of store).issuer ≡ issuer.now) × ((state_of store).version ≡ Two)
         × ((state_of store).entries ≡ [])
         × (clock_of store ≡ clock)) }
     ensures every_crash { IfOk result (λ store. IsTrue D.tells →
-        LeavesNow (D.told (disk_of (journal_of store)))
+        LeavesNow (D.on_disk (disk_of (journal_of store)))
         (StandsFor (state_of store).version issuer.now (state_of store).entries)) }
     ensures any_moment { IfOk result (λ store. IsTrue D.tells →
-        LeavesOnly (D.told disk) (D.told (disk_of (journal_of store)))
+        LeavesOnly (D.on_disk disk) (D.on_disk (disk_of (journal_of store)))
         (IsFound (state_of store).version issuer.now (state_of store).entries)) }
     ensures created { IfOk result (λ store. IsTrue D.tells →
-        IsCreation issuer.now (D.told disk) (D.told (disk_of (journal_of store)))) }
-    ensures in_part { IfErr result (λ fault. IsTrue D.tells → IsBegunInPart issuer.now (D.told disk) (D.told fault.disk)) }
+        IsCreation issuer.now (D.on_disk disk) (D.on_disk (disk_of (journal_of store)))) }
+    ensures in_part { IfErr result (λ fault. IsTrue D.tells → IsBegunInPart issuer.now (D.on_disk disk) (D.on_disk fault.disk)) }
     ensures lost { IfErr result (λ fault. (fault.cause ≡ cause.DiskFault) × Rose (D.faults disk) (D.faults fault.disk)
         × (fault.clock ≡ clock)) }
     ensures later { IfOk result (λ store. D.faults disk ≤ D.faults (disk_of (journal_of store))) }

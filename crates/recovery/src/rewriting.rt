@@ -1,4 +1,4 @@
-// Writes a history in version Two behind a closed byte 0, and opens it last.
+//! Writes a history in version Two after a closed byte 0, and opens it last.
 ghost use Rattle.std.specs.Prelude.{◌≡◌, ◌<◌, ◌≤◌, ◌+◌, ◌*◌, ◌^◌, ◌++◌, ◌∷◌, [], List, ℕ, length, take, slice_get};
 ghost use Rattle.std.specs.Prelude.{IfOk, IfErr, OnOk, IsTrue, Some};
 ghost use Rattle.ports.specs.Causes.{HasCause};
@@ -40,9 +40,9 @@ pub(crate) fn header_bytes(issuer: &Nif) -> [u8; HEADER]
 
 // Writes a closed first byte where the file has at most one.
 fn shut_first<M: Disk>(disk: &mut M) -> Result<(), Failed>
-    requires { IsTrue M.tells → IsNotBegun (M.told disk.old).content × IsSettled (M.told disk.old) }
-    ensures ok { OnOk result (IsTrue M.tells → IsShut (M.told disk.new)) }
-    ensures any_moment { IsTrue M.tells → LeavesOnly (M.told disk.old) (M.told disk.new) IsNotBegun }
+    requires { IsTrue M.tells → IsNotBegun (M.on_disk disk.old).content × IsSettled (M.on_disk disk.old) }
+    ensures ok { OnOk result (IsTrue M.tells → IsShut (M.on_disk disk.new)) }
+    ensures any_moment { IsTrue M.tells → LeavesOnly (M.on_disk disk.old) (M.on_disk disk.new) IsNotBegun }
     ensures cause { HasCause (M.faults disk.old) (M.faults disk.new) result }
 {
     if disk.len()? > 1 {
@@ -53,11 +53,11 @@ fn shut_first<M: Disk>(disk: &mut M) -> Result<(), Failed>
     Ok(())
 }
 
-// Makes sure of a header behind a closed first byte.
+// Makes sure of a header after a closed first byte.
 fn write_header<M: Disk>(disk: &mut M, issuer: &Nif) -> Result<(), Failed>
-    requires { IsTrue M.tells → IsShut (M.told disk.old) }
-    ensures ok { OnOk result (IsTrue M.tells → IsWriting issuer.now [] HEADER (M.told disk.new)) }
-    ensures any_moment { IsTrue M.tells → LeavesOnly (M.told disk.old) (M.told disk.new) IsNotBegun }
+    requires { IsTrue M.tells → IsShut (M.on_disk disk.old) }
+    ensures ok { OnOk result (IsTrue M.tells → IsWriting issuer.now [] HEADER (M.on_disk disk.new)) }
+    ensures any_moment { IsTrue M.tells → LeavesOnly (M.on_disk disk.old) (M.on_disk disk.new) IsNotBegun }
     ensures cause { HasCause (M.faults disk.old) (M.faults disk.new) result }
 {
     let bytes = header_bytes(issuer);
@@ -66,11 +66,11 @@ fn write_header<M: Disk>(disk: &mut M, issuer: &Nif) -> Result<(), Failed>
     Ok(())
 }
 
-// Makes sure of a closed first byte, and then of the header behind it.
+// Makes sure of a closed first byte, and then of the header after it.
 pub(crate) fn begin_shut<M: Disk>(disk: &mut M, issuer: &Nif) -> Result<(), Failed>
-    requires { IsTrue M.tells → IsNotBegun (M.told disk.old).content × IsSettled (M.told disk.old) }
-    ensures ok { OnOk result (IsTrue M.tells → IsWriting issuer.now [] HEADER (M.told disk.new)) }
-    ensures any_moment { IsTrue M.tells → LeavesOnly (M.told disk.old) (M.told disk.new) IsNotBegun }
+    requires { IsTrue M.tells → IsNotBegun (M.on_disk disk.old).content × IsSettled (M.on_disk disk.old) }
+    ensures ok { OnOk result (IsTrue M.tells → IsWriting issuer.now [] HEADER (M.on_disk disk.new)) }
+    ensures any_moment { IsTrue M.tells → LeavesOnly (M.on_disk disk.old) (M.on_disk disk.new) IsNotBegun }
     ensures cause { HasCause (M.faults disk.old) (M.faults disk.new) result }
 {
     shut_first(disk)?;
@@ -80,29 +80,29 @@ pub(crate) fn begin_shut<M: Disk>(disk: &mut M, issuer: &Nif) -> Result<(), Fail
 
 // Writes these bytes where the others end.
 fn write_more<M: Disk>(disk: &mut M, at: u64, bytes: &[u8]) -> Result<(), Failed>
-    requires within { IsTrue M.tells → at ≤ length (M.told disk.old).content }
-    ensures ok { OnOk result (IsTrue M.tells → (issuer before : List ℕ) → IsWriting issuer before at (M.told disk.old) →
-        IsWriting issuer (before ++ bytes.now) (at + length bytes.now) (M.told disk.new)) }
-    ensures any_moment { IsTrue M.tells → (issuer before : List ℕ) → IsWriting issuer before at (M.told disk.old) →
-        LeavesOnly (M.told disk.old) (M.told disk.new) (IsHeldShut issuer) }
+    requires within { IsTrue M.tells → at ≤ length (M.on_disk disk.old).content }
+    ensures ok { OnOk result (IsTrue M.tells → (issuer before : List ℕ) → IsWriting issuer before at (M.on_disk disk.old) →
+        IsWriting issuer (before ++ bytes.now) (at + length bytes.now) (M.on_disk disk.new)) }
+    ensures any_moment { IsTrue M.tells → (issuer before : List ℕ) → IsWriting issuer before at (M.on_disk disk.old) →
+        LeavesOnly (M.on_disk disk.old) (M.on_disk disk.new) (IsHeldShut issuer) }
     ensures cause { HasCause (M.faults disk.old) (M.faults disk.new) result }
 {
     disk.write_at(at, bytes)?;
     Ok(())
 }
 
-// Writes an open frame of this body where the others end, with a closed gate behind it. The answer is that gate's place.
+// Writes an open frame of this body where the others end, with a closed gate after it. The answer is that gate's place.
 fn write_frame<M: Disk>(disk: &mut M, at: u64, body: &[u8]) -> Result<u64, Failed>
     requires size { IsBody body.now }
     requires place { at < 2 ^ 62 }
     requires within { IsTrue M.tells → (issuer : List ℕ) × (bodies : List (List ℕ)) ×
-        IsWriting issuer (framed bodies) at (M.told disk.old) }
+        IsWriting issuer (framed bodies) at (M.on_disk disk.old) }
     ensures ok { IfOk result (λ next. IsTrue M.tells → (issuer : List ℕ) (bodies : List (List ℕ)) →
-        IsWriting issuer (framed bodies) at (M.told disk.old) →
-        IsWriting issuer (framed (bodies ++ body.now ∷ [])) next (M.told disk.new)) }
+        IsWriting issuer (framed bodies) at (M.on_disk disk.old) →
+        IsWriting issuer (framed (bodies ++ body.now ∷ [])) next (M.on_disk disk.new)) }
     ensures any_moment { IsTrue M.tells → (issuer : List ℕ) (bodies : List (List ℕ)) →
-        IsWriting issuer (framed bodies) at (M.told disk.old) →
-        LeavesOnly (M.told disk.old) (M.told disk.new) (IsHeldShut issuer) }
+        IsWriting issuer (framed bodies) at (M.on_disk disk.old) →
+        LeavesOnly (M.on_disk disk.old) (M.on_disk disk.new) (IsHeldShut issuer) }
     ensures place { IfOk result (λ next. next ≡ at + 5 + length body.now) }
     ensures cause { HasCause (M.faults disk.old) (M.faults disk.new) result }
 {
@@ -116,11 +116,11 @@ fn write_frame<M: Disk>(disk: &mut M, at: u64, body: &[u8]) -> Result<u64, Faile
 // Makes sure of all that was written, and then opens the first byte.
 fn open_first<M: Disk>(disk: &mut M) -> Result<(), Failed>
     ensures ok { OnOk result (IsTrue M.tells → (issuer : List ℕ) (bodies : List (List ℕ)) (at : ℕ) → AreBodies bodies →
-        IsWriting issuer (framed bodies ++ 0 ∷ []) at (M.told disk.old) →
-        IsAt Two issuer bodies (HEADER + length (framed bodies)) (M.told disk.new)) }
+        IsWriting issuer (framed bodies ++ 0 ∷ []) at (M.on_disk disk.old) →
+        IsAt Two issuer bodies (HEADER + length (framed bodies)) (M.on_disk disk.new)) }
     ensures any_moment { IsTrue M.tells → (issuer : List ℕ) (bodies : List (List ℕ)) (at : ℕ) → AreBodies bodies →
-        IsWriting issuer (framed bodies ++ 0 ∷ []) at (M.told disk.old) →
-        LeavesOnly (M.told disk.old) (M.told disk.new) (IsShutOrWhole issuer bodies) }
+        IsWriting issuer (framed bodies ++ 0 ∷ []) at (M.on_disk disk.old) →
+        LeavesOnly (M.on_disk disk.old) (M.on_disk disk.new) (IsShutOrWhole issuer bodies) }
     ensures cause { HasCause (M.faults disk.old) (M.faults disk.new) result }
 {
     disk.sync()?;
@@ -131,12 +131,12 @@ fn open_first<M: Disk>(disk: &mut M) -> Result<(), Failed>
 
 // Closes the list of frames, and opens the file.
 pub(crate) fn open_up<M: Disk>(disk: &mut M, at: u64) -> Result<(), Failed>
-    requires within { IsTrue M.tells → at ≤ length (M.told disk.old).content }
+    requires within { IsTrue M.tells → at ≤ length (M.on_disk disk.old).content }
     ensures ok { OnOk result (IsTrue M.tells → (issuer : List ℕ) (bodies : List (List ℕ)) → AreBodies bodies →
-        IsWriting issuer (framed bodies) at (M.told disk.old) → IsAt Two issuer bodies at (M.told disk.new)) }
+        IsWriting issuer (framed bodies) at (M.on_disk disk.old) → IsAt Two issuer bodies at (M.on_disk disk.new)) }
     ensures any_moment { IsTrue M.tells → (issuer : List ℕ) (bodies : List (List ℕ)) → AreBodies bodies →
-        IsWriting issuer (framed bodies) at (M.told disk.old) →
-        LeavesOnly (M.told disk.old) (M.told disk.new) (IsShutOrWhole issuer bodies) }
+        IsWriting issuer (framed bodies) at (M.on_disk disk.old) →
+        LeavesOnly (M.on_disk disk.old) (M.on_disk disk.new) (IsShutOrWhole issuer bodies) }
     ensures cause { HasCause (M.faults disk.old) (M.faults disk.new) result }
 {
     write_more(disk, at, &[0])?;
@@ -165,13 +165,13 @@ fn write_framed<M: Disk>(disk: &mut M, at: u64, entry: &Entry) -> Result<u64, Fa
     requires fits { EntryFits Two entry.now }
     requires place { at < 2 ^ 62 }
     requires within { IsTrue M.tells → (issuer : List ℕ) × (bodies : List (List ℕ)) ×
-        IsWriting issuer (framed bodies) at (M.told disk.old) }
+        IsWriting issuer (framed bodies) at (M.on_disk disk.old) }
     ensures ok { IfOk result (λ next. IsTrue M.tells → (issuer : List ℕ) (bodies : List (List ℕ)) →
-        IsWriting issuer (framed bodies) at (M.told disk.old) →
-        IsWriting issuer (framed (bodies ++ entry_bytes Two entry.now ∷ [])) next (M.told disk.new)) }
+        IsWriting issuer (framed bodies) at (M.on_disk disk.old) →
+        IsWriting issuer (framed (bodies ++ entry_bytes Two entry.now ∷ [])) next (M.on_disk disk.new)) }
     ensures any_moment { IsTrue M.tells → (issuer : List ℕ) (bodies : List (List ℕ)) →
-        IsWriting issuer (framed bodies) at (M.told disk.old) →
-        LeavesOnly (M.told disk.old) (M.told disk.new) (IsHeldShut issuer) }
+        IsWriting issuer (framed bodies) at (M.on_disk disk.old) →
+        LeavesOnly (M.on_disk disk.old) (M.on_disk disk.new) (IsHeldShut issuer) }
     ensures near { IfOk result (λ next. next ≤ at + 4101) }
     ensures cause { HasCause (M.faults disk.old) (M.faults disk.new) result }
 {
@@ -192,12 +192,12 @@ fn write_at_index<M: Disk>(
     requires index { index < length state.now.entries }
     requires near { at ≤ 19 + 4101 * index }
     requires within { IsTrue M.tells → IsWriting state.now.issuer (framed (bodies_of Two (take index state.now.entries))) at
-        (M.told disk.old) }
+        (M.on_disk disk.old) }
     ensures ok { IfOk result (λ next. IsTrue M.tells →
-        IsWriting state.now.issuer (framed (bodies_of Two (take (index + 1) state.now.entries))) next (M.told disk.new)) }
+        IsWriting state.now.issuer (framed (bodies_of Two (take (index + 1) state.now.entries))) next (M.on_disk disk.new)) }
     ensures near { IfOk result (λ next. next ≤ 19 + 4101 * (index + 1)) }
-    ensures any_moment { IsTrue M.tells → LeavesOnly (M.told disk.old) (M.told disk.new) (IsHeldShut state.now.issuer) }
-    ensures cause { IfErr result (IsWriteCause (this_disk M.tells M.told M.faults disk.old disk.new)) }
+    ensures any_moment { IsTrue M.tells → LeavesOnly (M.on_disk disk.old) (M.on_disk disk.new) (IsHeldShut state.now.issuer) }
+    ensures cause { IfErr result (IsWriteCause (this_disk M.tells M.on_disk M.faults disk.old disk.new)) }
     ensures later { M.faults disk.old ≤ M.faults disk.new }
 {
     let _few = state.entries();
@@ -206,17 +206,17 @@ fn write_at_index<M: Disk>(
     Ok(next)
 }
 
-// Writes the frames of all entries behind the header. The answer is the place where they end.
+// Writes the frames of all entries after the header. The answer is the place where they end.
 pub(crate) fn write_entries<M: Disk>(
     alloc: Global,
     state: &State,
     disk: &mut M,
 ) -> Result<u64, MoveCause>
-    requires { IsTrue M.tells → IsWriting state.now.issuer [] 19 (M.told disk.old) }
+    requires { IsTrue M.tells → IsWriting state.now.issuer [] 19 (M.on_disk disk.old) }
     ensures ok { IfOk result (λ at. IsTrue M.tells →
-        IsWriting state.now.issuer (framed (bodies_of Two state.now.entries)) at (M.told disk.new)) }
-    ensures any_moment { IsTrue M.tells → LeavesOnly (M.told disk.old) (M.told disk.new) (IsHeldShut state.now.issuer) }
-    ensures cause { IfErr result (IsWriteCause (this_disk M.tells M.told M.faults disk.old disk.new)) }
+        IsWriting state.now.issuer (framed (bodies_of Two state.now.entries)) at (M.on_disk disk.new)) }
+    ensures any_moment { IsTrue M.tells → LeavesOnly (M.on_disk disk.old) (M.on_disk disk.new) (IsHeldShut state.now.issuer) }
+    ensures cause { IfErr result (IsWriteCause (this_disk M.tells M.on_disk M.faults disk.old disk.new)) }
     ensures later { M.faults disk.old ≤ M.faults disk.new }
 {
     let mut at = 19;

@@ -1,4 +1,5 @@
 pub mod Listed
+mod Choosing
 mod Totalled
 mod Cents
 mod Summed

@@ -1,5 +1,5 @@
--- Records listed from a place on.
-use Rattle.std.proofs.Common.{◌≡◌, ℕ, zero, suc, ◌+◌, ◌-◌, ◌<◌, ◌≤◌, List, [], ◌∷◌, ◌++◌, length, drop, flat_map, append_assoc}
+-- Records listed from a place on, by what a list of them is written as.
+use Rattle.std.proofs.Common.{◌≡◌, ℕ, zero, suc, ◌+◌, ◌-◌, ◌<◌, ◌≤◌, List, [], ◌∷◌, ◌++◌, length, drop, append_assoc}
 use Rattle.std.proofs.Common.{append-nil, refl, sym, ◌∙◌, ap, arith, Option, Some, None, slice_get, Bool, true, false, cond, eqb}
 use Rattle.std.proofs.Common.{inl, inr}
 use Rattle.std.proofs.lemmas.Bool.{cases_Bool, eqb-true}
@@ -36,30 +36,34 @@ drop_none [] (suc n) e = refl
 drop_none (y ∷ xs) zero e = absurd cc
 drop_none (y ∷ xs) (suc n) e = drop_none xs n e
 
--- one more
-pub listed_more : (spell : ℕ × Sealed → List ℕ) (xs : List Sealed) (n : ℕ) (x : Sealed) (text text' whole : List ℕ) →
-    at_place xs (n + 1) ≡ Some x → text' ≡ text ++ spell (n + 1, x)
-    → text ++ flat_map spell (enumerate_from (n + 1) (drop n xs)) ≡ whole →
-    text' ++ flat_map spell (enumerate_from (n + 1 + 1) (drop (n + 1) xs)) ≡ whole
-listed_more spell xs n x text text' whole here more so_far =
+-- one more: what is written of it comes ahead of what is written of those after it
+pub listed_more : (words : List (ℕ × Sealed) → List ℕ)
+    (first : (p : ℕ × Sealed) (ps : List (ℕ × Sealed)) → words (p ∷ ps) ≡ words (p ∷ []) ++ words ps)
+    (xs : List Sealed) (n : ℕ) (x : Sealed) (text text' whole : List ℕ) → at_place xs (n + 1) ≡ Some x →
+    text' ≡ text ++ words ((n + 1, x) ∷ []) → text ++ words (enumerate_from (n + 1) (drop n xs)) ≡ whole →
+    text' ++ words (enumerate_from (n + 1 + 1) (drop (n + 1) xs)) ≡ whole
+listed_more words first xs n x text text' whole here more so_far =
     let z : n + 1 ≡ suc n = omega arith in
     let cut : drop n xs ≡ x ∷ drop (n + 1) xs = drop_at xs n x (sym (at_next xs n) ∙ here) ∙ ap (λ (k : ℕ). x ∷ drop k xs) (sym z)
     in
-    ap (λ (t : List ℕ). t ++ flat_map spell (enumerate_from (n + 1 + 1) (drop (n + 1) xs))) more
-    ∙ append_assoc text (spell (n + 1, x)) (flat_map spell (enumerate_from (n + 1 + 1) (drop (n + 1) xs)))
-    ∙ sym (ap (λ (ys : List Sealed). text ++ flat_map spell (enumerate_from (n + 1) ys)) cut) ∙ so_far
+    let rest : List (ℕ × Sealed) = enumerate_from (n + 1 + 1) (drop (n + 1) xs) in
+    ap (λ (t : List ℕ). t ++ words rest) more ∙ append_assoc text (words ((n + 1, x) ∷ [])) (words rest)
+    ∙ ap (λ (t : List ℕ). text ++ t) (sym (first (n + 1, x) rest))
+    ∙ sym (ap (λ (ys : List Sealed). text ++ words (enumerate_from (n + 1) ys)) cut) ∙ so_far
 
-all_listed : (spell : ℕ × Sealed → List ℕ) (xs : List Sealed) (n : ℕ) (text whole : List ℕ) → drop n xs ≡ []
-    → text ++ flat_map spell (enumerate_from (n + 1) (drop n xs)) ≡ whole → text ≡ whole
-all_listed spell xs n text whole none so_far =
-    sym (append-nil text) ∙ sym (ap (λ (ys : List Sealed). text ++ flat_map spell (enumerate_from (n + 1) ys)) none) ∙ so_far
+all_listed : (words : List (ℕ × Sealed) → List ℕ) (nothing : words [] ≡ []) (xs : List Sealed) (n : ℕ) (text whole : List ℕ) →
+    drop n xs ≡ [] → text ++ words (enumerate_from (n + 1) (drop n xs)) ≡ whole → text ≡ whole
+all_listed words nothing xs n text whole none so_far =
+    sym (append-nil text) ∙ ap (λ (t : List ℕ). text ++ t) (sym nothing)
+    ∙ sym (ap (λ (ys : List Sealed). text ++ words (enumerate_from (n + 1) ys)) none) ∙ so_far
 
 -- none is left
-pub listed_none : (spell : ℕ × Sealed → List ℕ) (xs : List Sealed) (n : ℕ) (text whole : List ℕ) → at_place xs (n + 1) ≡ None
-    → text ++ flat_map spell (enumerate_from (n + 1) (drop n xs)) ≡ whole → text ≡ whole
-listed_none spell xs n text whole here so_far = all_listed spell xs n text whole (drop_none xs n (sym (at_next xs n) ∙ here))
-    so_far
+pub listed_none : (words : List (ℕ × Sealed) → List ℕ) (nothing : words [] ≡ []) (xs : List Sealed) (n : ℕ) (text whole : List ℕ) →
+    at_place xs (n + 1) ≡ None → text ++ words (enumerate_from (n + 1) (drop n xs)) ≡ whole → text ≡ whole
+listed_none words nothing xs n text whole here so_far =
+    all_listed words nothing xs n text whole (drop_none xs n (sym (at_next xs n) ∙ here)) so_far
 
-pub listed_all : (spell : ℕ × Sealed → List ℕ) (xs : List Sealed) (n : ℕ) (text whole : List ℕ) → length xs ≤ n
-    → text ++ flat_map spell (enumerate_from (n + 1) (drop n xs)) ≡ whole → text ≡ whole
-listed_all spell xs n text whole past so_far = all_listed spell xs n text whole (drop_of_length-le xs past) so_far
+pub listed_all : (words : List (ℕ × Sealed) → List ℕ) (nothing : words [] ≡ []) (xs : List Sealed) (n : ℕ) (text whole : List ℕ) →
+    length xs ≤ n → text ++ words (enumerate_from (n + 1) (drop n xs)) ≡ whole → text ≡ whole
+listed_all words nothing xs n text whole past so_far =
+    all_listed words nothing xs n text whole (drop_of_length-le xs past) so_far

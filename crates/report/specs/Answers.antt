@@ -58,8 +58,8 @@ told_text (Err fault) = codes "fault " ++ store_fault_text fault
 
 -- till T serial S ANSWER, or till T saw N
 abbrev pub answer_line : AnswerLine → List ℕ
-answer_line (Answered till serial told) =
-    codes "till " ++ decimal till ++ codes " serial " ++ decimal serial ++ codes " " ++ told_text told ++ codes "\n"
+answer_line (Answered till serial replied) =
+    codes "till " ++ decimal till ++ codes " serial " ++ decimal serial ++ codes " " ++ told_text replied ++ codes "\n"
 answer_line (Saw till count) = codes "till " ++ decimal till ++ codes " saw " ++ decimal count ++ codes "\n"
 
 -- a line for each answer, in order

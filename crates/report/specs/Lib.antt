@@ -1,6 +1,8 @@
 pub mod Answers
 pub mod Pieces
 pub mod Listing
+pub mod Chosen
+pub mod Questions
 pub mod Turns
 pub mod Sums
 pub mod Summary

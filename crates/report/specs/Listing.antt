@@ -35,7 +35,7 @@ previo_text X = codes "X"
 abbrev pub id_text : List ℕ → ℕ → List ℕ
 id_text num day = num ++ codes " " ++ date_text_of day
 
--- CUOTA TOTAL, each with a blank behind it
+-- CUOTA TOTAL, each with a blank after it
 abbrev pub amounts_text : Alta → List ℕ
 amounts_text a = amount_text (cuota a.draft.lines) ++ codes " " ++ amount_text (total a.draft.lines) ++ codes " "
 

@@ -23,7 +23,7 @@ more t row = record {
   surcharge = t.surcharge +ℤ row.surcharge;
 }
 
--- what so many rows come to at most
+-- what this many rows come to at most
 pub record AreOf (n : ℕ) (t : Totals) : Type 0 where
   pub lines : t.lines ≤ 4_294_967_296 * n
   pub base : unsigned_abs t.base ≤ 9_223_372_036_854_775_808 * n

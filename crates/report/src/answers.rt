@@ -1,4 +1,4 @@
-// The lines of answers.
+//! The lines of answers.
 ghost use Rattle.std.specs.Prelude.{◌≡◌, ◌++◌, OnOk, IfOk};
 ghost use Rattle.report.specs.Answers as spec;
 

@@ -1,4 +1,4 @@
-// What is printed on standard error.
+//! What is printed on standard error.
 ghost use Rattle.std.specs.Prelude.{◌≡◌, ◌++◌, OnOk, IfOk, codes, decimal};
 ghost use Rattle.report.specs.Faults as spec;
 
@@ -46,7 +46,7 @@ fn put_numbered(text: &mut Vec<u8>, head: &[u8], n: u64) -> Result<(), AllocErro
     put(text, b"\n")
 }
 
-// The same with a word behind the number.
+// The same with a word after the number.
 fn put_named(text: &mut Vec<u8>, head: &[u8], n: u32, word: &[u8]) -> Result<(), AllocError>
     ensures { OnOk result (text.new.items ≡ text.old.items ++ (head.now ++ decimal n ++ codes " " ++ word.now ++ codes "\n")) }
 {

@@ -1,4 +1,4 @@
-// The line of a copy that was brought up.
+//! The line of a copy that was brought up.
 ghost use Rattle.std.specs.Prelude.{◌≡◌, ◌++◌, OnOk, IfOk};
 ghost use Rattle.report.specs.Follows as spec;
 

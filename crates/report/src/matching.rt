@@ -1,4 +1,4 @@
-// The line of an export that was compared.
+//! The line of an export that was compared.
 ghost use Rattle.std.specs.Prelude.{◌≡◌, IfOk};
 ghost use Rattle.report.specs.Matching as spec;
 

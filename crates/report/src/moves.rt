@@ -1,4 +1,4 @@
-// The line of a migration.
+//! The line of a migration.
 ghost use Rattle.std.specs.Prelude.{◌≡◌, ◌++◌, OnOk, IfOk};
 ghost use Rattle.report.specs.Moves as spec;
 

@@ -1,4 +1,4 @@
-// The pieces of printed lines. Each call appends to a text.
+//! The pieces of printed lines. Each call appends to a text.
 ghost use Rattle.std.specs.Prelude.{◌≡◌, ◌++◌, ◌+◌, ◌/◌, ◌%◌, ◌<◌, ◌∷◌, [], OnOk, decimal};
 ghost use Rattle.std.specs.Fmt.{signed_decimal};
 ghost use Rattle.amounts.specs.Text.{amount_text, cents_text};
@@ -61,7 +61,7 @@ fn put_pair(text: &mut Vec<u8>, n: u8) -> Result<(), AllocError>
     put(text, &[b'0' + n / 10, b'0' + n % 10])
 }
 
-/// So many cents in euros.
+/// This many cents in euros.
 fn put_cents(text: &mut Vec<u8>, cents: u128) -> Result<(), AllocError>
     ensures { OnOk result (text.new.items ≡ text.old.items ++ cents_text cents) }
 {

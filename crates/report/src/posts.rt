@@ -1,4 +1,4 @@
-// The lines round what is printed of each issuer of an installation.
+//! The lines round what is printed of each issuer of an installation.
 ghost use Rattle.std.specs.Prelude.{◌≡◌, ◌++◌, OnOk, IfOk};
 ghost use Rattle.report.specs.Posts as spec;
 

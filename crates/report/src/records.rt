@@ -1,4 +1,4 @@
-// The line of a record.
+//! The line of a record.
 ghost use Rattle.std.specs.Prelude.{◌≡◌, ◌++◌, OnOk};
 ghost use Rattle.report.specs.Listing as spec;
 
@@ -25,7 +25,7 @@ fn previo(value: Previo) -> &'static [u8]
     }
 }
 
-fn put_id(text: &mut Vec<u8>, id: &InvoiceId) -> Result<(), AllocError>
+pub fn put_id(text: &mut Vec<u8>, id: &InvoiceId) -> Result<(), AllocError>
     ensures { OnOk result (text.new.items ≡ text.old.items ++ spec.id_text id.now.num id.now.day) }
 {
     put(text, id.num.as_slice())?;
@@ -33,7 +33,7 @@ fn put_id(text: &mut Vec<u8>, id: &InvoiceId) -> Result<(), AllocError>
     put(text, date_text(id.day).as_slice())
 }
 
-fn put_amounts(text: &mut Vec<u8>, alta: &Alta) -> Result<(), AllocError>
+pub fn put_amounts(text: &mut Vec<u8>, alta: &Alta) -> Result<(), AllocError>
     ensures { OnOk result (text.new.items ≡ text.old.items ++ spec.amounts_text alta.now) }
 {
     put(text, text_of(alta.draft.lines.cuota()).as_slice())?;
@@ -87,7 +87,7 @@ fn put_cause(text: &mut Vec<u8>, cause: Cause) -> Result<(), AllocError>
     }
 }
 
-fn put_line(text: &mut Vec<u8>, line: Option<Line>) -> Result<(), AllocError>
+pub fn put_line(text: &mut Vec<u8>, line: Option<Line>) -> Result<(), AllocError>
     ensures { OnOk result (text.new.items ≡ text.old.items ++ spec.line_text line) }
 {
     match line {

@@ -1,4 +1,4 @@
-// The text of a statement.
+//! The text of a statement.
 ghost use Rattle.std.specs.Prelude.{◌≡◌, ◌+◌, ◌^◌, ◌<◌, ◌++◌, ◌+ℤ◌, OnOk, IfOk, unsigned_abs};
 ghost use Rattle.amounts.specs.Text.{amount_text};
 ghost use Rattle.report.specs.Statements as spec;
@@ -35,7 +35,7 @@ fn plus(sum: i128, amount: i64) -> i128
     sum + i128::from(amount)
 }
 
-// One row more, where so many are added up.
+// One row more, where this many are added up.
 fn add(totals: Totals, row: &StatementLine, count: usize) -> Totals
     requires totals { spec.AreOf count totals }
     requires count { count + 1 < 2 ^ 64 }

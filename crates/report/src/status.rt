@@ -1,4 +1,4 @@
-// How a call of the program ends.
+//! How a call of the program ends.
 ghost use Rattle.std.specs.Prelude.{◌≡◌};
 ghost use Rattle.report.specs.Status.{status_of};
 
@@ -23,7 +23,7 @@ pub enum Detail {
     DiskFault,
     /// The file is damaged at this byte.
     Damaged { at: u64 },
-    /// The sender gave up: so many lines are noted, of so many records.
+    /// The sender gave up: this many lines are noted, of this many records.
     Undelivered { noted: u32, records: u32 },
     /// The file is broken at this place, counted from 1, and this is the first thing that is wrong there.
     Broken { place: u32, what: What },
@@ -37,7 +37,7 @@ pub enum Detail {
     OtherIssuer { held: Nif },
     /// The chain has no alta of this number.
     Unknown,
-    /// The new file of a migration has so many bytes, and is neither not begun nor what a migration of this chain left unfinished.
+    /// The new file of a migration has this many bytes, and is neither not begun nor what a migration of this chain left unfinished.
     Occupied { length: u64 },
     /// There is no file of version 1 to move: it isn't begun (0), or is of version 2 (2).
     NotOld { held: u8 },

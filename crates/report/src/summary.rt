@@ -1,4 +1,4 @@
-// The summary of a history: how many records of each kind, and the sums of their amounts.
+//! The summary of a history: how many records of each kind, and the sums of their amounts.
 ghost use Rattle.std.specs.Prelude.{◌≡◌, ◌+◌, ◌<◌, ◌≤◌, ◌++◌, OnOk, IfOk, length, unsigned_abs};
 ghost use Rattle.tax_lines.specs.Totals.{bases, cuota};
 ghost use Rattle.shop_core.specs.History as history;

@@ -1,4 +1,4 @@
-// The lines of the sender's turns.
+//! The lines of the sender's turns.
 ghost use Rattle.std.specs.Prelude.{◌≡◌, ◌++◌, OnOk, IfOk};
 ghost use Rattle.report.specs.Turns as spec;
 

@@ -1,4 +1,4 @@
-// The verdict on a file.
+//! The verdict on a file.
 ghost use Rattle.std.specs.Prelude.{◌≡◌, ◌++◌, OnOk, IfOk};
 ghost use Rattle.report.specs.Verdicts as spec;
 

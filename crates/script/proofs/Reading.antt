@@ -53,8 +53,8 @@ use Rattle.script.specs.declared.lines.Meaning.{Meaning}
 use Rattle.script.specs.declared.lines.Meaning.TheVariants as line
 use Rattle.script.specs.declared.planning.Judging.{Judging}
 use Rattle.script.specs.declared.planning.Judging.TheVariants as judging
-use Rattle.script.specs.declared.requests.Command.{Command}
-use Rattle.script.specs.declared.requests.Command.TheVariants as command
+use Rattle.script.specs.declared.requests.RequestKind.{RequestKind}
+use Rattle.script.specs.declared.requests.RequestKind.TheVariants as command
 use Rattle.script.specs.declared.scripts.SoFar.{SoFar}
 use Rattle.script.proofs.Gathering.{first_more, or_none}
 
@@ -136,7 +136,7 @@ customer_shape P above None (Ok key) (Ok nif) (Ok name) h =
 room : (n : ℕ) → nat_le MAX_COMMANDS n ≡ false → n < MAX_COMMANDS
 room n h = grind (arith, nat_tests)
 
--- in a script with commands, below so many of them
+-- in a script with commands, below this many of them
 command_shape : (P : Meaning → Type 0) (commands many : Bool) (a b : Result ℕ Word) (r : Result Request Word) →
     ((ask : Asked) → commands ≡ true → many ≡ false → P (line.Command ask))
     → IfOk (unless_any (when (not commands) word.Command ∷ when many word.TooMany ∷ [])
@@ -250,7 +250,7 @@ link_shape P above (Ok call) (Ok fate) range fits h =
     (h planned (range, fits))
 
 command_gives : (form : Form) (above : Above) (P : Meaning → Type 0) → Gives form above P →
-    (command : Command) (fields : List (List ℕ)) → IfOk (command_said form above command fields) P
+    (command : RequestKind) (fields : List (List ℕ)) → IfOk (command_said form above command fields) P
 command_gives form above P g command fields =
     command_shape P (has_commands form) (nat_le MAX_COMMANDS above.commands) (field_at 0 fields (number_in 1 64) word.Till)
     (field_at 1 fields (number_in 1 4_294_967_295) word.Number)

@@ -20,11 +20,11 @@ fields_of line = slice_split is_blank line
 abbrev pub fields_left : Option (Bor (List ℕ)) → List (List ℕ)
 fields_left left = option_map_or (λ (text : Bor (List ℕ)). fields_of text.now) left []
 
--- what stands behind the first blank of a text, as it is written there, where it has a blank
+-- what stands after the first blank of a text, as it is written there, where it has a blank
 abbrev pub behind_blank : List ℕ → Option (List ℕ)
 behind_blank text = when (list_any is_blank text) (after_first is_blank text)
 
--- what stands behind the third blank of a line, as it is written there, where it has three
+-- what stands after the third blank of a line, as it is written there, where it has three
 abbrev pub behind_third_blank : List ℕ → Option (List ℕ)
 behind_third_blank line = option_and_then behind_blank (option_and_then behind_blank (behind_blank line))
 

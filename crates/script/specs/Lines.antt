@@ -29,12 +29,13 @@ use Rattle.script.specs.Readings.{kind_of, fate_of, is_key, is_nif, is_name}
 use Rattle.script.specs.declared.forms.Form.{Form}
 use Rattle.script.specs.declared.planning.Judging.{Judging}
 use Rattle.script.specs.declared.planning.Judging.TheVariants as judging
-use Rattle.script.specs.declared.requests.Command.{Command}
-use Rattle.script.specs.declared.requests.Command.TheVariants as command
+use Rattle.script.specs.declared.requests.RequestKind.{RequestKind}
+use Rattle.script.specs.declared.requests.RequestKind.TheVariants as command
 use Rattle.script.specs.declared.limits.TheConstants.{MAX_START, MAX_STEP, MAX_CUSTOMERS, MAX_COMMANDS, MAX_NTH, MAX_CODE}
 use Rattle.script.specs.declared.limits.TheConstants.{MAX_WAIT, MAX_CALL, MAX_LATE}
 use Rattle.script.specs.declared.lines.Meaning.{Meaning}
 use Rattle.script.specs.declared.lines.Meaning.TheVariants as line
+use Rattle.record_codec.specs.declared.entry.TheConstants.{LAST_TILL}
 
 abbrev pub clock_in : Meaning → Option (ℕ × ℕ)
 clock_in (line.Clock start step) = Some (start, step)
@@ -90,19 +91,19 @@ above_of before = record {
   fates = filter_map fate_in before;
 }
 
--- `clock START STEP`, behind its first field
+-- `clock START STEP`, after its first field
 abbrev pub clock_said : Above → List (List ℕ) → Result Meaning Word
 clock_said above fields =
     and_then (field_at 0 fields (number_in 0 MAX_START) word.Number) (λ (start : ℕ).
     and_then (field_at 1 fields (number_in 0 MAX_STEP) word.Number) (λ (step : ℕ).
     ends_at 2 fields (unless_any (when (is_some above.clock) word.Twice ∷ []) (Ok (line.Clock start step)))))
 
--- the name of a party is all that stands behind the third blank of its line
+-- the name of a party is all that stands after the third blank of its line
 unfoldable pub name_said : List ℕ → Result (List ℕ) Word
 name_said text =
     and_then (ok_or (behind_third_blank text) word.Fields) (λ (name : List ℕ). ok_or (such is_name name) word.Name)
 
--- `customer KEY NIF NAME`, by the text of its line and the fields behind its first
+-- `customer KEY NIF NAME`, by the text of its line and the fields after its first
 abbrev pub customer_said : Above → List ℕ → List (List ℕ) → Result Meaning Word
 customer_said above text fields =
     unless_any (when (nat_le MAX_CUSTOMERS above.customers) word.TooMany ∷ []) (
@@ -131,16 +132,16 @@ cancel_said fields =
     and_then (field_at 0 fields (such is_num_serie) word.Num) (λ (num : List ℕ). ends_at 1 fields (Ok (Cancel num)))
 
 -- what a command asks for
-abbrev pub request_said : Command → (List ℕ → Option Party) → List (List ℕ) → Result Request Word
+abbrev pub request_said : RequestKind → (List ℕ → Option Party) → List (List ℕ) → Result Request Word
 request_said command.Sale party_of fields = sale_said party_of fields
 request_said command.Fix party_of fields = fix_said party_of fields
 request_said command.Cancel party_of fields = cancel_said fields
 
 -- a command, `TILL SERIAL` and then what it asks for
-abbrev pub command_said : Form → Above → Command → List (List ℕ) → Result Meaning Word
+abbrev pub command_said : Form → Above → RequestKind → List (List ℕ) → Result Meaning Word
 command_said form above command fields =
     unless_any (when (not (has_commands form)) word.Command ∷ when (nat_le MAX_COMMANDS above.commands) word.TooMany ∷ []) (
-    and_then (field_at 0 fields (number_in 1 64) word.Till) (λ (till : ℕ).
+    and_then (field_at 0 fields (number_in 1 LAST_TILL) word.Till) (λ (till : ℕ).
     and_then (field_at 1 fields (number_in 1 4_294_967_295) word.Number) (λ (serial : ℕ).
     and_then (request_said command above.party (past 2 fields)) (λ (request : Request).
     Ok (line.Command (record { till = till; serial = serial; request = request }))))))
@@ -165,12 +166,12 @@ wait_said above fields =
     and_then (field_at 0 fields (number_in 0 MAX_WAIT) word.Number) (λ (seconds : ℕ).
     ends_at 1 fields (unless_any (when (is_some above.wait) word.Twice ∷ []) (Ok (line.Wait seconds))))
 
--- `late D`, behind its word: D calls later
+-- `late D`, after its word: D calls later
 abbrev pub late_said : List (List ℕ) → Result Fate Word
 late_said fields = and_then (field_at 0 fields (number_in 1 MAX_LATE) word.Number)
     (λ (calls : ℕ). ends_at 1 fields (Ok (Late calls)))
 
--- `lost`, `taken`, `stale`, `again` or `late D`, and nothing behind it
+-- `lost`, `taken`, `stale`, `again` or `late D`, and nothing after it
 abbrev pub fate_said : List (List ℕ) → Result Fate Word
 fate_said [] = Err word.Fields
 fate_said (field ∷ fields) =

@@ -48,7 +48,7 @@ pub record IsFirstBad (form : Form) (lines : List (List ℕ)) (number : ℕ) (wo
   pub wrong : said form meanings line ≡ Err word
   pub place : number ≡ length before + 1
 
--- the script of these bytes, its first bad line, or want of memory
+-- the script of these bytes, its first bad line, or lack of memory
 abbrev pub IsScript : Form → List ℕ → Result Script ScriptFault → Type 0
 IsScript form bytes (Ok script) = IsWhole form (lines_of bytes) script
 IsScript form bytes (Err (BadLine number word)) = IsFirstBad form (lines_of bytes) number word

@@ -15,7 +15,7 @@ use Rattle.script.specs.declared.lines.Meaning.TheVariants as line
 use Rattle.script.specs.declared.scripts.Script.{Script}
 use Rattle.script.specs.declared.scripts.SoFar.{SoFar}
 
--- a reader answers what the definition says; want of memory is free
+-- a reader answers what the definition says; lack of memory is free
 abbrev pub IsSaid : {A : Type 0} → Result A Word → Result A Fault → Type 0
 IsSaid said (Ok x) = said ≡ Ok x
 IsSaid said (Err (Bad word)) = said ≡ Err word

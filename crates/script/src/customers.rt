@@ -1,4 +1,4 @@
-// The customers of the lines above, by their keys.
+//! The customers of the lines above, by their keys.
 ghost use Rattle.std.specs.Prelude.{◌≡◌, ◌+◌, ℕ, List, None, Some, IfOk, OnOk, bytes_eq, option_copied, if◌then◌else◌};
 ghost use Rattle.std.specs.BTreeMap.{get_by_text, btree_map_len};
 

@@ -1,4 +1,4 @@
-// Texts that are cut at a byte.
+//! Texts that are cut at a byte.
 ghost use Rattle.std.specs.Prelude.{◌≡◌, ◌==◌, [], ◌∷◌, MatchOption, position};
 ghost use Rattle.std.specs.Str.Lines.{strip_carriage_return};
 ghost use Rattle.script.specs.Cuts.{parts_of, parts_left};
@@ -53,7 +53,7 @@ fn place_of(bytes: &[u8], byte: u8) -> Option<usize>
     bytes.iter().position(|b| *b == byte)
 }
 
-// The part before the first cut, and what is left behind it, where there is a cut.
+// The part before the first cut, and what is left after it, where there is a cut.
 fn first_part(bytes: &[u8], cut: u8) -> (&[u8], Option<&[u8]>)
     ensures { parts_of cut bytes.now ≡ result.0.now ∷ parts_left cut result.1 }
 {

@@ -1,4 +1,4 @@
-// The draft of an invoice, from the fields past its kind.
+//! The draft of an invoice, from the fields past its kind.
 ghost use Rattle.std.specs.Prelude.{◌≡◌, ◌++◌, ◌∷◌, [], List, ℕ};
 ghost use Rattle.invoice_kinds.specs.declared.kind.Kind.{Kind as AnyKind};
 ghost use Rattle.script.specs.declared.options.Item.{Item as AnyItem};

@@ -1,4 +1,4 @@
-// Why a line, or a part of it, says nothing.
+//! Why a line, or a part of it, says nothing.
 ghost use Rattle.script.specs.SoFar.{IsSaid};
 
 use ports::NoMemory;
@@ -35,7 +35,7 @@ impl From<NoMemory> for Fault {
     }
 }
 
-/// The same answer, where want of memory may come too.
+/// The same answer, where lack of memory may come too.
 pub fn worded<T>(said: Result<T, Word>) -> Result<T, Fault>
     ensures { IsSaid said result }
 {

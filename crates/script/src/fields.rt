@@ -1,4 +1,4 @@
-// The fields of a line, one after another. A blank is a space or a tab.
+//! The fields of a line, one after another. A blank is a space or a tab.
 ghost use Rattle.std.specs.Prelude.{◌≡◌, [], ◌∷◌, MatchOption, MatchResult, option_copied};
 ghost use Rattle.shop_core.specs.declared.words.Word.TheVariants as word;
 ghost use Rattle.script.specs.Cuts.{cut_where, cut_at_first, cut_at_last};
@@ -74,7 +74,7 @@ fn at_blank(text: &str) -> Option<(&str, &str)>
     text.split_once([' ', '\t'])
 }
 
-// The field before the first blank, and what is left behind it, where there is a blank.
+// The field before the first blank, and what is left after it, where there is a blank.
 fn first_field(text: &str) -> (&str, Option<&str>)
     ensures { fields_of text.now ≡ result.0.now ∷ fields_left result.1 }
 {
@@ -91,7 +91,7 @@ fn behind_blank(text: &str) -> Option<&str>
     Some(rest)
 }
 
-/// What stands behind the third blank of a line, as it is written there, where it has three.
+/// What stands after the third blank of a line, as it is written there, where it has three.
 pub fn behind_third_blank(line: &str) -> Option<&str>
     ensures { option_copied result ≡ spec.behind_third_blank line.now }
 {

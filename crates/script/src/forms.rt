@@ -1,4 +1,4 @@
-// What may stand in a script.
+//! What may stand in a script.
 ghost use Rattle.std.specs.Prelude.{◌≡◌};
 ghost use Rattle.script.specs.Forms as spec;
 

@@ -1,4 +1,4 @@
-// Lines that are said one by one.
+//! Lines that are said one by one.
 ghost use Rattle.std.specs.Prelude.{◌≡◌, []};
 
 use crate::cuts::without_return;

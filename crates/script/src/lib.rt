@@ -33,4 +33,5 @@ pub use limits::{
 };
 pub use lines::Meaning;
 pub use numbered::LineNumbers;
+pub use readings::{cents, class, num, number};
 pub use scripts::{Asks, Script, ScriptFault, read_numbered, read_script};

@@ -1,4 +1,4 @@
-// What a line of a script says.
+//! What a line of a script says.
 ghost use Rattle.std.specs.Prelude.{◌≡◌};
 ghost use Rattle.script.specs.Lines as spec;
 

@@ -1,4 +1,4 @@
-// The lines that commands stand in.
+//! The lines that commands stand in.
 ghost use Rattle.std.specs.Prelude.{◌≡◌, ◌∷◌, ◌++◌, [], OnOk, filter_map};
 ghost use Rattle.script.specs.Numbered.{command_line};
 

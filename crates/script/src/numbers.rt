@@ -1,4 +1,4 @@
-// Numbers as a script writes them: decimal digits without leading zeros.
+//! Numbers as a script writes them: decimal digits without leading zeros.
 ghost use Rattle.std.specs.Prelude.{◌≡◌, ◌≤◌, ◌&&◌, nat_le, IfSome, unsigned_abs};
 ghost use Rattle.std.specs.Int.{IsInRange};
 ghost use Rattle.amounts.specs.declared.cents.TheConstants.{MAX_CENTS};

@@ -1,4 +1,4 @@
-// The options and the lines of an invoice, field by field.
+//! The options and the lines of an invoice, field by field.
 ghost use Rattle.std.specs.Prelude.{◌≡◌, ◌∷◌, ◌++◌, [], ℕ, List, bytes_eq};
 ghost use Rattle.script.specs.Options as spec;
 ghost use Rattle.script.specs.SoFar.{IsSaid, party_of};

@@ -1,4 +1,4 @@
-// What the lines of the forms say that plan what the practice agency does.
+//! What the lines of the forms say that plan what the practice agency does.
 ghost use Rattle.std.specs.Prelude.{◌≡◌};
 ghost use Rattle.std.specs.Int.{IsInRange};
 ghost use Rattle.script.specs.SoFar.{known};
@@ -63,7 +63,7 @@ fn wait(read: &SoFar, fields: &mut Fields) -> Result<Meaning, Word>
     })
 }
 
-// `late D`, behind its word
+// `late D`, after its word
 fn late(fields: &mut Fields) -> Result<Fate, Word>
     ensures { result ≡ spec.late_said fields.old }
 {

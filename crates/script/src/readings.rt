@@ -1,4 +1,4 @@
-// The fields of a line as they are read, each with its own word.
+//! The fields of a line as they are read, each with its own word.
 ghost use Rattle.std.specs.Prelude.{◌≡◌, ◌≤◌, ℕ, drop, IfOk, OnOk, IfSome};
 ghost use Rattle.std.specs.Int.{IsInRange};
 ghost use Rattle.amounts.specs.declared.cents.TheConstants.{MAX_CENTS};
@@ -11,8 +11,9 @@ ghost use Rattle.script.specs.Readings as spec;
 
 use crate::fields::Fields;
 use crate::keys::is_key;
-use crate::numbers::number_in;
+use crate::numbers::{cents_of, number_in};
 use agency_rules::Fate;
+use amounts::Cents;
 use invoice_kinds::{Kind, RectKind};
 use parties::Nif;
 use series::{NumSerie, SeriesName};
@@ -139,6 +140,30 @@ pub fn class_of(text: &str) -> Option<LineKey>
     ensures { result ≡ spec.class_of text.now }
 {
     LineKey::read(text)
+}
+
+/// The same as a field.
+pub fn class(fields: &mut Fields) -> Result<LineKey, Word>
+    ensures value { result ≡ first_field fields.old spec.class_of word.Class }
+    ensures rest { OnOk result (fields.new ≡ drop 1 fields.old) }
+{
+    let field = fields.field()?;
+    match class_of(field) {
+        Some(key) => Ok(key),
+        None => Err(Word::Class),
+    }
+}
+
+/// Cents, with a minus in front where they are negative.
+pub fn cents(fields: &mut Fields) -> Result<Cents, Word>
+    ensures value { result ≡ first_field fields.old numbers.cents_of word.Number }
+    ensures rest { OnOk result (fields.new ≡ drop 1 fields.old) }
+{
+    let field = fields.field()?;
+    match cents_of(field.as_bytes()) {
+        Some(cents) => Ok(Cents::of(cents)),
+        None => Err(Word::Number),
+    }
 }
 
 /// A day, written `DD-MM-YYYY`.

@@ -1,4 +1,4 @@
-// The requests of `sale`, `fix` and `cancel`, past their tills and serials.
+//! The requests of `sale`, `fix` and `cancel`, past their tills and serials.
 ghost use Rattle.std.specs.Prelude.{◌≡◌};
 ghost use Rattle.script.specs.SoFar.{IsSaid, party_of};
 ghost use Rattle.script.specs.Lines as spec;
@@ -13,7 +13,7 @@ use std::alloc::Global;
 
 /// Which command a line is.
 #[derive(Clone, Copy, Drop)]
-pub enum Command {
+pub enum RequestKind {
     Sale,
     Fix,
     Cancel,
@@ -52,14 +52,14 @@ fn cancel(fields: &mut Fields) -> Result<Request, Word>
 pub fn request(
     alloc: Global,
     customers: &Customers,
-    command: Command,
+    command: RequestKind,
     fields: &mut Fields,
 ) -> Result<Request, Fault>
     ensures { IsSaid (spec.request_said command (party_of customers.now) fields.old) result }
 {
     match command {
-        Command::Sale => sale(alloc, customers, fields),
-        Command::Fix => fix(alloc, customers, fields),
-        Command::Cancel => worded(cancel(fields)),
+        RequestKind::Sale => sale(alloc, customers, fields),
+        RequestKind::Fix => fix(alloc, customers, fields),
+        RequestKind::Cancel => worded(cancel(fields)),
     }
 }

@@ -1,4 +1,4 @@
-// What a line of a script says, below those that were read.
+//! What a line of a script says, below those that were read.
 ghost use Rattle.std.specs.Prelude.{◌≡◌, ◌+◌, Ok, Err, if◌then◌else◌};
 ghost use Rattle.shop_core.specs.declared.words.Word.TheVariants as word;
 ghost use Rattle.script.specs.Forms.{has_clock};
@@ -15,9 +15,10 @@ use crate::lines::Meaning;
 use crate::options::is_word;
 use crate::planning::planned_line;
 use crate::readings::{key, nif, number};
-use crate::requests::{Command, request};
+use crate::requests::{RequestKind, request};
 use crate::scripts::SoFar;
 use parties::{Name, NameFault, Nif, Party};
+use record_codec::LAST_TILL;
 use shop_core::{Ask, Word};
 use std::alloc::Global;
 
@@ -44,7 +45,7 @@ fn clock_line(form: Form, read: &SoFar, fields: &mut Fields) -> Result<Meaning, 
     clock(read, fields)
 }
 
-// The name of a party, behind the third blank of its line.
+// The name of a party, after the third blank of its line.
 fn name(alloc: Global, line: &str) -> Result<Name, Fault>
     ensures { IsSaid (spec.name_said line.now) result }
 {
@@ -85,7 +86,7 @@ fn command(
     alloc: Global,
     form: Form,
     read: &SoFar,
-    command: Command,
+    command: RequestKind,
     fields: &mut Fields,
 ) -> Result<Meaning, Fault>
     ensures { IsSaid (spec.command_said form (known read.now) command fields.old) result }
@@ -96,7 +97,7 @@ fn command(
     if read.asks.len() >= MAX_COMMANDS {
         return Err(Fault::Bad(Word::TooMany));
     }
-    let till = number(fields, 1, 64, Word::Till)?;
+    let till = number(fields, 1, LAST_TILL as u64, Word::Till)?;
     let serial = number(fields, 1, 4_294_967_295, Word::Number)?;
     match request(alloc, &read.customers, command, fields) {
         Ok(request) => Ok(Meaning::Command(Ask::new(till as u8, serial as u32, request))),
@@ -104,7 +105,7 @@ fn command(
     }
 }
 
-// What a line says by its first field and those behind it.
+// What a line says by its first field and those after it.
 fn form_line(
     alloc: Global,
     form: Form,
@@ -122,13 +123,13 @@ fn form_line(
         return customer(alloc, read, line, fields);
     }
     if is_word(verb, "sale") {
-        return command(alloc, form, read, Command::Sale, fields);
+        return command(alloc, form, read, RequestKind::Sale, fields);
     }
     if is_word(verb, "fix") {
-        return command(alloc, form, read, Command::Fix, fields);
+        return command(alloc, form, read, RequestKind::Fix, fields);
     }
     if is_word(verb, "cancel") {
-        return command(alloc, form, read, Command::Cancel, fields);
+        return command(alloc, form, read, RequestKind::Cancel, fields);
     }
     if !form.has_plans() {
         return Err(Fault::Bad(Word::Verb));

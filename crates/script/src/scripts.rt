@@ -1,4 +1,4 @@
-// Scripts: what their lines say, or the first bad line.
+//! Scripts: what their lines say, or the first bad line.
 ghost use Rattle.std.specs.Prelude.{◌≡◌, ◌≤◌, ◌<◌, IfOk, ◌++◌, ◌∷◌, [], List, length, false};
 ghost use Rattle.script.specs.SoFar.{IsSoFar, IsNew, Reads, known, script_kept};
 ghost use Rattle.script.specs.Planned.{IsPlanned};

@@ -1,4 +1,4 @@
--- What a turn adds behind its look.
+-- What a turn adds after its look.
 use Rattle.std.proofs.Common.{◌≡◌, inl, inr, ℕ, List, [], refl, sym, ◌∙◌, ap, append-nil, map, Bool, Result, Ok, Err, Option}
 use Rattle.record_fields.specs.declared.lines.Line.{Line}
 use Rattle.journal.specs.declared.faults.StoreFault.{StoreFault}

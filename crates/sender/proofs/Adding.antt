@@ -21,7 +21,7 @@ use Rattle.sender.specs.declared.answers.SendFault.{SendFault}
 use Rattle.sender.specs.declared.answers.SendFault.TheVariants.{Store}
 use Rattle.sender.specs.declared.answers.DrainFault.{DrainFault}
 use Rattle.sender.specs.Sending.{Sending}
-use Rattle.sender.specs.Turning.{AgencyKind, Desk, Turned, turn_call}
+use Rattle.sender.specs.Turning.{AgencyKind, AgencyState, Turned, turn_call}
 use Rattle.sender.specs.Agreeing.{InOneSession, KeepsAgreement, Gains, HasAt, AreNotes, AreNotesOrTorn, Adds, AgreesIfTorn}
 use Rattle.sender.specs.Draining.{Scene, Turns, none, more, GoesOn, Drained}
 use Rattle.sender.proofs.Lists.{all_both, all_change}
@@ -148,18 +148,18 @@ added_notes look after result never (quiet i g own) = adds_quiet AreNotes look a
 added_notes look after result never (notes i lines a) = adds_one AreNotes look after _ i a tt
 added_notes look after result never (stops i lines a e) = absurd (never e)
 
-pub turn_adds : (kind : AgencyKind) (desk desk_then : Desk) (before after : Sight) (old new : Sending) (now : ℕ)
-    (result : Result Turn SendFault) → Turned (turn_call kind desk desk_then before after old new now result) → Adds AreNotesOrTorn before
+pub turn_adds : (kind : AgencyKind) (agency_state agency_state_then : AgencyState) (before after : Sight) (old new : Sending) (now : ℕ)
+    (result : Result Turn SendFault) → Turned (turn_call kind agency_state agency_state_then before after old new now result) → Adds AreNotesOrTorn before
     after
-turn_adds kind desk desk_then before after old new now result t =
+turn_adds kind agency_state agency_state_then before after old new now result t =
     adds_then AreNotesOrTorn before t.look after (adds_quiet AreNotesOrTorn before t.look
     (t.grows.issuer, t.grows.version) t.grows.items t.own)
     (added_adds t.look after result (ends_added old now t.shown t.look after t.deals.deed result new t.deals.ends))
 
-pub turn_notes : (kind : AgencyKind) (desk desk_then : Desk) (before after : Sight) (old new : Sending) (now : ℕ)
-    (result : Result Turn SendFault) → Turned (turn_call kind desk desk_then before after old new now result) →
+pub turn_notes : (kind : AgencyKind) (agency_state agency_state_then : AgencyState) (before after : Sight) (old new : Sending) (now : ℕ)
+    (result : Result Turn SendFault) → Turned (turn_call kind agency_state agency_state_then before after old new now result) →
     (result ≡ Err (Store store.DiskFault) → ⊥) → Adds AreNotes before after
-turn_notes kind desk desk_then before after old new now result t never =
+turn_notes kind agency_state agency_state_then before after old new now result t never =
     adds_then AreNotes before t.look after (adds_quiet AreNotes before t.look
     (t.grows.issuer, t.grows.version) t.grows.items t.own)
     (added_notes t.look after result never (ends_added old now t.shown t.look after t.deals.deed result new t.deals.ends))
@@ -196,24 +196,24 @@ added_torn look after result items faults torn is (notes i lines a) =
     absurd (let h = e in cc)
 added_torn look after result items faults torn is (stops i lines a e) = inr e
 
-pub turn_torn : (kind : AgencyKind) (desk desk_then : Desk) (before after : Sight) (old new : Sending) (now : ℕ)
-    (result : Result Turn SendFault) → Turned (turn_call kind desk desk_then before after old new now result) →
-    KeepsAgreement before after desk.ledger desk_then.ledger new.said result → (items : List Item) (faults : ℕ) (torn : Entry) →
+pub turn_torn : (kind : AgencyKind) (agency_state agency_state_then : AgencyState) (before after : Sight) (old new : Sending) (now : ℕ)
+    (result : Result Turn SendFault) → Turned (turn_call kind agency_state agency_state_then before after old new now result) →
+    KeepsAgreement before after agency_state.ledger agency_state_then.ledger new.said result → (items : List Item) (faults : ℕ) (torn : Entry) →
     after.items ≡ items ++ recorded.Stop faults torn ∷ [] → (after.own ≡ before.own → ⊥) →
-    Agree (history_of after ++ torn ∷ []) desk_then.ledger.processed desk_then.ledger.sent
-turn_torn kind desk desk_then before after old new now result t k items faults torn is gained =
+    Agree (history_of after ++ torn ∷ []) agency_state_then.ledger.processed agency_state_then.ledger.sent
+turn_torn kind agency_state agency_state_then before after old new now result t k items faults torn is gained =
     elim (added_torn t.look after result items faults torn is (ends_added old now t.shown t.look after t.deals.deed result new
     t.deals.ends)) [
       | inl own ↦ absurd (gained (own ∙ t.own))
-      | inr e ↦ torn_by (history_of before ++ k.records) desk_then.ledger.processed desk_then.ledger.sent after result items
+      | inr e ↦ torn_by (history_of before ++ k.records) agency_state_then.ledger.processed agency_state_then.ledger.sent after result items
           faults torn e is k.gains
     ]
 
-pub turn_if_torn : (kind : AgencyKind) (desk desk_then : Desk) (before after : Sight) (old new : Sending) (now : ℕ)
-    (result : Result Turn SendFault) → Turned (turn_call kind desk desk_then before after old new now result) →
-    KeepsAgreement before after desk.ledger desk_then.ledger new.said result → AgreesIfTorn before after desk_then.ledger
-turn_if_torn kind desk desk_then before after old new now result t k items faults torn is own =
-    turn_torn kind desk desk_then before after old new now result t k items faults torn is
+pub turn_if_torn : (kind : AgencyKind) (agency_state agency_state_then : AgencyState) (before after : Sight) (old new : Sending) (now : ℕ)
+    (result : Result Turn SendFault) → Turned (turn_call kind agency_state agency_state_then before after old new now result) →
+    KeepsAgreement before after agency_state.ledger agency_state_then.ledger new.said result → AgreesIfTorn before after agency_state_then.ledger
+turn_if_torn kind agency_state agency_state_then before after old new now result t k items faults torn is own =
+    turn_torn kind agency_state agency_state_then before after old new now result t k items faults torn is
     (λ same. none_there (subst (λ (ps : List ℕ). Contains ps (length items))
     (ap (λ (xs : List ℕ). drop (length before.own) xs) (same ∙ sym (append-nil before.own)) ∙ drop-append_seam before.own [])
     own))
@@ -229,7 +229,7 @@ pub turns_notes : (kind : AgencyKind) (exact : Bool) (start : Scene) (answers : 
 turns_notes kind exact start answers links scene none = adds_none AreNotes start.sight
 turns_notes kind exact start answers links scene (more before_answers before_links mid answer then t turn on few) =
     adds_then AreNotes start.sight mid.sight then.sight (turns_notes kind exact start before_answers before_links mid t)
-    (turn_notes kind mid.desk then.desk mid.sight then.sight mid.sending then.sending turn.now answer turn.turned
+    (turn_notes kind mid.agency_state then.agency_state mid.sight then.sight mid.sending then.sending turn.now answer turn.turned
     (goes_untorn answer on))
 
 pub drained_adds : (kind : AgencyKind) (exact : Bool) (start then : Scene) (old new : List Told) (result : Result (Unit {0}) DrainFault)
@@ -237,20 +237,20 @@ pub drained_adds : (kind : AgencyKind) (exact : Bool) (start then : Scene) (old 
 drained_adds kind exact start then old new result d =
     adds_then AreNotesOrTorn start.sight d.scene.sight then.sight (adds_weaker AreNotes AreNotesOrTorn notes_or_torn start.sight
     d.scene.sight (turns_notes kind exact start d.answers d.links d.scene d.made))
-    (turn_adds kind d.scene.desk then.desk d.scene.sight then.sight d.scene.sending then.sending d.turn.now d.answer
+    (turn_adds kind d.scene.agency_state then.agency_state d.scene.sight then.sight d.scene.sending then.sending d.turn.now d.answer
     d.turn.turned)
 
 pub drained_if_torn : Known → (kind : AgencyKind) (exact : Bool) (start then : Scene) (old new : List Told)
     (result : Result (Unit {0}) DrainFault) → Drained kind exact start then old new result →
     (IsTrue kind.keeps_rules → IsTrue kind.tells) →
-    InOneSession kind.keeps_rules start.sight then.sight start.desk.ledger start.sending.said
-    (AgreesIfTorn start.sight then.sight then.desk.ledger)
+    InOneSession kind.keeps_rules start.sight then.sight start.agency_state.ledger start.sending.said
+    (AgreesIfTorn start.sight then.sight then.agency_state.ledger)
 drained_if_torn known kind exact start then old new result d tells keeps session gains items faults torn is own =
     let k = (last known kind exact start then old new result d tells keeps session gains).1 in
     let g = turns_notes kind exact start d.answers d.links d.scene d.made in
-    let h = turn_adds kind d.scene.desk then.desk d.scene.sight then.sight d.scene.sending then.sending d.turn.now d.answer
+    let h = turn_adds kind d.scene.agency_state then.agency_state d.scene.sight then.sight d.scene.sending then.sending d.turn.now d.answer
     d.turn.turned in
-    turn_torn kind d.scene.desk then.desk d.scene.sight then.sight d.scene.sending then.sending d.turn.now d.answer d.turn.turned
+    turn_torn kind d.scene.agency_state then.agency_state d.scene.sight then.sight d.scene.sending then.sending d.turn.now d.answer d.turn.turned
     k items faults torn is
     (λ same.
     let places : drop (length start.sight.own) then.sight.own ≡ g.own = ap (λ (xs : List ℕ). drop (length start.sight.own) xs)

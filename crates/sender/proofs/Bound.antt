@@ -27,7 +27,7 @@ use Rattle.sender.specs.declared.answers.Turn.TheVariants.{Idle, WaitUntil, Note
 use Rattle.sender.specs.declared.answers.SendFault.{SendFault}
 use Rattle.sender.specs.declared.answers.SendFault.TheVariants.{LinkFault, NoMemory}
 use Rattle.sender.specs.Sending.{Sending}
-use Rattle.sender.specs.Turning.{Deed, Nothing, Asked, Handed, AgencyKind, Desk, Dealt, RestEnds, SeenEnds, ReplyEnds, Ends}
+use Rattle.sender.specs.Turning.{Deed, Nothing, Asked, Handed, AgencyKind, AgencyState, Dealt, RestEnds, SeenEnds, ReplyEnds, Ends}
 use Rattle.sender.specs.Turning.{count_waiting}
 use Rattle.sender.specs.Agreeing.{InSession, InOneSession, AreSeen}
 use Rattle.sender.specs.Draining.{Scene, Turns, none, more, IsTurn, GoesOn, links_with, moment_after, told_in, list_of, told_list}
@@ -48,12 +48,12 @@ pub record Steps (entries : List Entry) (sending : Sending) (moment left : ℕ) 
   pub is : then + 1 ≡ left + 3 * links_with 0 answer
   pub stand : Stand entries sending moment then
 
--- the count that waits behind a turn that asked or noted nothing
+-- the count that waits after a turn that asked or noted nothing
 same_wait : (before look after : Sight) (shown : Waiting) (g : Grows before look) → SameShop before look after shown g →
     after ≡ look → waiting (history_of after) ≡ waiting (history_of before)
 same_wait before look after shown g w e = ap (λ (s : Sight). waiting (history_of s)) e ∙ w.waiting_is
 
--- behind one that noted lines
+-- after one that noted lines
 fewer_wait : (before look after : Sight) (shown : Waiting) (g : Grows before look) (lines : List Line) →
     SameShop before look after shown g → length (noted (history_of look)) + length lines ≤ length (noted (history_of after)) →
     length (waiting (history_of after)) ≤ length (waiting (history_of before)) - length lines
@@ -299,32 +299,32 @@ reply_step before look after shown g old new moment left reply (Err LinkFault) w
 reply_step before look after shown g old new moment left reply _ w some doubt names matched said ends on st = absurd on
 
 -- by what was asked
-deed_step : Known → (kind : AgencyKind) (desk desk_then : Desk) (before look after : Sight) (g : Grows before look) (shown : Waiting)
+deed_step : Known → (kind : AgencyKind) (agency_state agency_state_then : AgencyState) (before look after : Sight) (g : Grows before look) (shown : Waiting)
     (old new : Sending) (moment now left : ℕ) (result : Result Turn SendFault) (deed : Deed) → IsTrue kind.keeps_rules →
-    ShowsWaiting look 1000 shown → Agree (history_of before) desk.ledger.processed desk.ledger.sent →
-    AreSeen desk.ledger.processed old.said → SameShop before look after shown g → moment ≤ now →
-    Dealt kind desk desk_then shown deed → Ends old now shown look after deed result new → GoesOn result →
+    ShowsWaiting look 1000 shown → Agree (history_of before) agency_state.ledger.processed agency_state.ledger.sent →
+    AreSeen agency_state.ledger.processed old.said → SameShop before look after shown g → moment ≤ now →
+    Dealt kind agency_state agency_state_then shown deed → Ends old now shown look after deed result new → GoesOn result →
     Stand (history_of before) old moment left → Steps (history_of after) new (moment_after moment result) left result
-deed_step known kind desk desk_then before look after g shown old new moment now left result Nothing keeps shows agree there w
+deed_step known kind agency_state agency_state_then before look after g shown old new moment now left result Nothing keeps shows agree there w
     later dealt ends on st =
     rest_step before look after shown g old new moment now left result w later ends.2 ends.1 ends.0 on st
-deed_step known kind desk desk_then before look after g shown old new moment now left result (Asked (Ok seen)) keeps shows agree
+deed_step known kind agency_state agency_state_then before look after g shown old new moment now left result (Asked (Ok seen)) keeps shows agree
     there w later dealt ends on st =
-    let l = looked_there known before look g shown desk.ledger desk_then.ledger old.said seen (start known before look g shown
-    desk.ledger shows agree w.are) there (dealt.2 keeps) in
+    let l = looked_there known before look g shown agency_state.ledger agency_state_then.ledger old.said seen (start known before look g shown
+    agency_state.ledger shows agree w.are) there (dealt.2 keeps) in
     seen_step before look after shown g old new moment left seen result w ends.0 ends.1
     (λ lines front s. sure_all l.then (history_of before) old seen lines s l.there
     (l.is ∙ ap (λ (xs : List Sealed). looked l.then (huellas_of xs)) w.first) front) ends.2.3 on st
-deed_step known kind desk desk_then before look after g shown old new moment now left result (Asked (Err agency.Failed)) keeps
+deed_step known kind agency_state agency_state_then before look after g shown old new moment now left result (Asked (Err agency.Failed)) keeps
     shows agree there w later dealt ends on st =
     let e = ends.2 in
     subst (λ (r : Result Turn SendFault). Steps (history_of after) new (moment_after moment r) left r) (sym e.0)
     (unasked_step before look after shown g old new moment left w ends.0 ends.1 e.1 (same_wait before look after shown g w e.2)
     st)
-deed_step known kind desk desk_then before look after g shown old new moment now left result (Asked (Err agency.NoMemory)) keeps
+deed_step known kind agency_state agency_state_then before look after g shown old new moment now left result (Asked (Err agency.NoMemory)) keeps
     shows agree there w later dealt ends on st =
     absurd (subst (λ (r : Result Turn SendFault). GoesOn r) ends.2.0 on)
-deed_step known kind desk desk_then before look after g shown old new moment now left result (Handed (Ok reply)) keeps shows agree
+deed_step known kind agency_state agency_state_then before look after g shown old new moment now left result (Handed (Ok reply)) keeps shows agree
     there w later dealt ends on st = elim ends.3 [
       | inl r ↦ reply_step before look after shown g old new moment left reply result w ends.0 ends.1 r.names r.matched r.said
           r.ends
@@ -334,19 +334,19 @@ deed_step known kind desk desk_then before look after g shown old new moment now
           (lost_step before look after shown g old new moment left w ends.0 ends.1 (ap (λ (s : Sending). s.doubt) r.new_is)
           (same_wait before look after shown g w r.after_is) st)
     ]
-deed_step known kind desk desk_then before look after g shown old new moment now left result (Handed (Err agency.Failed)) keeps
+deed_step known kind agency_state agency_state_then before look after g shown old new moment now left result (Handed (Err agency.Failed)) keeps
     shows agree there w later dealt ends on st =
     let e = ends.3 in
     subst (λ (r : Result Turn SendFault). Steps (history_of after) new (moment_after moment r) left r) (sym e.0)
     (lost_step before look after shown g old new moment left w ends.0 ends.1 (ap (λ (s : Sending). s.doubt) e.1)
     (same_wait before look after shown g w e.2) st)
-deed_step known kind desk desk_then before look after g shown old new moment now left result (Handed (Err agency.NoMemory)) keeps
+deed_step known kind agency_state agency_state_then before look after g shown old new moment now left result (Handed (Err agency.NoMemory)) keeps
     shows agree there w later dealt ends on st =
     absurd (subst (λ (r : Result Turn SendFault). GoesOn r) ends.3.0 on)
 
 turn_step : Known → (kind : AgencyKind) (exact : Bool) (before after : Scene) (answer : Result Turn SendFault) (left : ℕ) →
-    IsTrue kind.keeps_rules → Agree (history_of before.sight) before.desk.ledger.processed before.desk.ledger.sent →
-    AreSeen before.desk.ledger.processed before.sending.said →
+    IsTrue kind.keeps_rules → Agree (history_of before.sight) before.agency_state.ledger.processed before.agency_state.ledger.sent →
+    AreSeen before.agency_state.ledger.processed before.sending.said →
     GainsOwnNotes before.sight after.sight → length (recs (history_of after.sight)) ≤ length (recs (history_of before.sight)) →
     IsTurn kind exact before after answer → GoesOn answer → Stand (history_of before.sight) before.sending before.moment left
     →
@@ -356,7 +356,7 @@ turn_step known kind exact before after answer left keeps agree there gains few 
     let w = same_shop known before.sight u.look after.sight u.shown u.grows u.own (ends_growth before.sending t.now u.shown u.look
     after.sight u.deals.deed answer after.sending u.deals.ends) u.shows gains few in
     subst (λ (m : ℕ). Steps (history_of after.sight) after.sending m left answer) (sym t.moment)
-    (deed_step known kind before.desk after.desk before.sight u.look after.sight u.grows u.shown before.sending after.sending
+    (deed_step known kind before.agency_state after.agency_state before.sight u.look after.sight u.grows u.shown before.sending after.sending
     before.moment t.now left answer u.deals.deed keeps u.shows agree there w t.later u.deals.dealt u.deals.ends on st)
 
 links_more : (links : ℕ) (answer : Result Turn SendFault) → links_with links answer ≡ links + links_with 0 answer
@@ -371,7 +371,7 @@ pub record LeftAfter (batches links : ℕ) (answers : List (Result Turn SendFaul
 
 pub turns_left : Known → (kind : AgencyKind) (exact : Bool) (begin : Scene) (answers : List (Result Turn SendFault)) (links : ℕ)
     (scene : Scene) (batches : ℕ) → (IsTrue kind.keeps_rules → IsTrue kind.tells) → IsTrue kind.keeps_rules →
-    InSession begin.sight begin.desk.ledger begin.sending.said → length (waiting (history_of begin.sight)) ≤ 1000 * batches →
+    InSession begin.sight begin.agency_state.ledger begin.sending.said → length (waiting (history_of begin.sight)) ≤ 1000 * batches →
     Turns kind exact begin answers links scene → GainsOwnNotes begin.sight scene.sight → length (recs (history_of scene.sight)) ≤
     length (recs (history_of begin.sight)) → LeftAfter batches links answers scene
 turns_left known kind exact begin answers links scene batches tells keeps session le none gains few =
@@ -440,7 +440,7 @@ told_short (answer ∷ answers) =
 pub drained_bounded : Known → (kind : AgencyKind) (exact : Bool) (begin then : Scene) (old new : List Told)
     (result : Result (Unit {0}) DrainFault) → Drained kind exact begin then old new result →
     (IsTrue kind.keeps_rules → IsTrue kind.tells) →
-    InOneSession kind.keeps_rules begin.sight then.sight begin.desk.ledger begin.sending.said
+    InOneSession kind.keeps_rules begin.sight then.sight begin.agency_state.ledger begin.sending.said
     (length (recs (history_of then.sight)) ≤ length (recs (history_of begin.sight)) →
     (batches : ℕ) → length (waiting (history_of begin.sight)) ≤ 1000 * batches → IsBounded batches old new)
 drained_bounded known kind exact begin then old new result d tells keeps session gains few batches le =

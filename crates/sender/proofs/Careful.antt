@@ -33,7 +33,7 @@ use Rattle.sender.specs.declared.answers.Turn.TheVariants.{Noted, Cleared, Doubt
 use Rattle.sender.specs.declared.answers.SendFault.{SendFault}
 use Rattle.sender.specs.declared.answers.SendFault.TheVariants.{Contradiction, Store, NoMemory}
 use Rattle.sender.specs.Sending.{Sending}
-use Rattle.sender.specs.Turning.{Deed, Nothing, Asked, Handed, AgencyKind, Desk, Dealt, SeenEnds, ReplyEnds, Ends, Turned, turn_call}
+use Rattle.sender.specs.Turning.{Deed, Nothing, Asked, Handed, AgencyKind, AgencyState, Dealt, SeenEnds, ReplyEnds, Ends, Turned, turn_call}
 use Rattle.sender.specs.Dark.{AreLight, NoneInTheDark, IsRunBy, AreRunsBy}
 use Rattle.sender.specs.Agreeing.{IsCareful}
 use Rattle.sender.proofs.Lists.{all_take, all_drop_later}
@@ -314,78 +314,78 @@ with_messages : (past : List Message) (after : Sight) (messages then : List Mess
     IsCareful past after messages new → IsCareful past after then new
 with_messages past after messages then new e care = subst (λ (ms : List Message). IsCareful past after ms new) (sym e) care
 
-deed_careful : AreLinked → (past : List Message) (kind : AgencyKind) (desk desk_then : Desk) (before look after : Sight)
+deed_careful : AreLinked → (past : List Message) (kind : AgencyKind) (agency_state agency_state_then : AgencyState) (before look after : Sight)
     (shown : Waiting) (old new : Sending) (now : ℕ) (result : Result Turn SendFault) (deed : Deed) → IsTrue kind.tells →
-    Grows before look → ShowsWaiting look 1000 shown → IsCareful past before desk.ledger.messages old →
-    Dealt kind desk desk_then shown deed → Ends old now shown look after deed result new →
-    IsCareful past after desk_then.ledger.messages new
-deed_careful linked past kind desk desk_then before look after shown old new now result Nothing tells g shows care dealt ends =
-    let a = at_look linked past before look desk.ledger.messages old g care in
+    Grows before look → ShowsWaiting look 1000 shown → IsCareful past before agency_state.ledger.messages old →
+    Dealt kind agency_state agency_state_then shown deed → Ends old now shown look after deed result new →
+    IsCareful past after agency_state_then.ledger.messages new
+deed_careful linked past kind agency_state agency_state_then before look after shown old new now result Nothing tells g shows care dealt ends =
+    let a = at_look linked past before look agency_state.ledger.messages old g care in
     let h : history_of after ≡ history_of look = ap history_of ends.2 in
     let n = ap (λ (es : List Entry). length (noted es)) h in
-    with_messages past after desk.ledger.messages desk_then.ledger.messages new (ap (λ (d : Desk). d.ledger.messages) dealt)
-    (careful_after linked past look after desk.ledger.messages new a.session (length (noted (history_of look))) a.is a.never
+    with_messages past after agency_state.ledger.messages agency_state_then.ledger.messages new (ap (λ (d : AgencyState). d.ledger.messages) dealt)
+    (careful_after linked past look after agency_state.ledger.messages new a.session (length (noted (history_of look))) a.is a.never
     a.runs (stays look after g.legal ends.2)
     (λ e. (omega (arith, n), a.light (ap (λ (s : Sending). s.doubt) (sym ends.1) ∙ e))))
-deed_careful linked past kind desk desk_then before look after shown old new now result (Asked (Ok seen)) tells g shows care dealt
+deed_careful linked past kind agency_state agency_state_then before look after shown old new now result (Asked (Ok seen)) tells g shows care dealt
     ends =
-    let a = at_look linked past before look desk.ledger.messages old g care in
+    let a = at_look linked past before look agency_state.ledger.messages old g care in
     let e = ends.2 in
-    with_messages past after (desk.ledger.messages ++ Consulted (huellas_of shown.list) (Ok seen) ∷ []) desk_then.ledger.messages
+    with_messages past after (agency_state.ledger.messages ++ Consulted (huellas_of shown.list) (Ok seen) ∷ []) agency_state_then.ledger.messages
     new (dealt.1 tells).messages
-    (seen_after linked past look after shown desk.ledger.messages old new old.said seen result g.legal shows a e.0 e.3)
-deed_careful linked past kind desk desk_then before look after shown old new now result (Asked (Err agency.Failed)) tells g shows
+    (seen_after linked past look after shown agency_state.ledger.messages old new old.said seen result g.legal shows a e.0 e.3)
+deed_careful linked past kind agency_state agency_state_then before look after shown old new now result (Asked (Err agency.Failed)) tells g shows
     care dealt ends =
-    let a = at_look linked past before look desk.ledger.messages old g care in
+    let a = at_look linked past before look agency_state.ledger.messages old g care in
     let e = ends.2 in
     let doubt : new.doubt ≡ true = ap (λ (s : Sending). s.doubt) e.1 ∙ ends.1 in
-    with_messages past after (desk.ledger.messages ++ Consulted (huellas_of shown.list) (Err agency.Failed) ∷ [])
-    desk_then.ledger.messages new (dealt.1 tells).messages
-    (asked_after linked past look after desk.ledger.messages old new (huellas_of shown.list) (Err agency.Failed) zero a
+    with_messages past after (agency_state.ledger.messages ++ Consulted (huellas_of shown.list) (Err agency.Failed) ∷ [])
+    agency_state_then.ledger.messages new (dealt.1 tells).messages
+    (asked_after linked past look after agency_state.ledger.messages old new (huellas_of shown.list) (Err agency.Failed) zero a
     (stays look after g.legal e.2) (λ f. in_doubt new.doubt doubt f))
-deed_careful linked past kind desk desk_then before look after shown old new now result (Asked (Err agency.NoMemory)) tells g
+deed_careful linked past kind agency_state agency_state_then before look after shown old new now result (Asked (Err agency.NoMemory)) tells g
     shows care dealt ends =
-    let a = at_look linked past before look desk.ledger.messages old g care in
+    let a = at_look linked past before look agency_state.ledger.messages old g care in
     let e = ends.2 in
     let doubt : new.doubt ≡ true = ap (λ (s : Sending). s.doubt) e.1 ∙ ends.1 in
-    with_messages past after desk.ledger.messages desk_then.ledger.messages new (ap (λ (l : Ledger). l.messages) (dealt.1 tells))
-    (silent_after linked past look after desk.ledger.messages old new a (stays look after g.legal e.2) doubt)
-deed_careful linked past kind desk desk_then before look after shown old new now result (Handed (Ok reply)) tells g shows care
+    with_messages past after agency_state.ledger.messages agency_state_then.ledger.messages new (ap (λ (l : Ledger). l.messages) (dealt.1 tells))
+    (silent_after linked past look after agency_state.ledger.messages old new a (stays look after g.legal e.2) doubt)
+deed_careful linked past kind agency_state agency_state_then before look after shown old new now result (Handed (Ok reply)) tells g shows care
     dealt ends =
-    let a = at_look linked past before look desk.ledger.messages old g care in
-    with_messages past after (desk.ledger.messages ++ Submitted shown.list (Ok reply) ∷ []) desk_then.ledger.messages new
+    let a = at_look linked past before look agency_state.ledger.messages old g care in
+    with_messages past after (agency_state.ledger.messages ++ Submitted shown.list (Ok reply) ∷ []) agency_state_then.ledger.messages new
     (dealt.2 tells).messages
     (elim ends.3 [
-      | inl r ↦ reply_after linked past look after shown desk.ledger.messages old new reply result g.legal shows a ends.1 r.names
+      | inl r ↦ reply_after linked past look after shown agency_state.ledger.messages old new reply result g.legal shows a ends.1 r.names
           r.matched r.ends
-      | inr r ↦ handed_after linked past look after shown desk.ledger.messages old new (Ok reply) zero shows a ends.1
+      | inr r ↦ handed_after linked past look after shown agency_state.ledger.messages old new (Ok reply) zero shows a ends.1
           (stays look after g.legal r.after_is) (λ f. in_doubt new.doubt (ap (λ (s : Sending). s.doubt) r.new_is) f)
     ])
-deed_careful linked past kind desk desk_then before look after shown old new now result (Handed (Err agency.Failed)) tells g shows
+deed_careful linked past kind agency_state agency_state_then before look after shown old new now result (Handed (Err agency.Failed)) tells g shows
     care dealt ends =
-    let a = at_look linked past before look desk.ledger.messages old g care in
+    let a = at_look linked past before look agency_state.ledger.messages old g care in
     let e = ends.3 in
-    with_messages past after (desk.ledger.messages ++ Submitted shown.list (Err agency.Failed) ∷ []) desk_then.ledger.messages new
+    with_messages past after (agency_state.ledger.messages ++ Submitted shown.list (Err agency.Failed) ∷ []) agency_state_then.ledger.messages new
     (dealt.2 tells).messages
-    (handed_after linked past look after shown desk.ledger.messages old new (Err agency.Failed) zero shows a ends.1
+    (handed_after linked past look after shown agency_state.ledger.messages old new (Err agency.Failed) zero shows a ends.1
     (stays look after g.legal e.2) (λ f. in_doubt new.doubt (ap (λ (s : Sending). s.doubt) e.1) f))
-deed_careful linked past kind desk desk_then before look after shown old new now result (Handed (Err agency.NoMemory)) tells g
+deed_careful linked past kind agency_state agency_state_then before look after shown old new now result (Handed (Err agency.NoMemory)) tells g
     shows care dealt ends =
-    let a = at_look linked past before look desk.ledger.messages old g care in
+    let a = at_look linked past before look agency_state.ledger.messages old g care in
     let e = ends.3 in
     let doubt : new.doubt ≡ true = ap (λ (s : Sending). s.doubt) e.1 in
     elim (dealt.2 tells) [
-      | inl s ↦ with_messages past after desk.ledger.messages desk_then.ledger.messages new s.messages
-          (silent_after linked past look after desk.ledger.messages old new a (stays look after g.legal e.2) doubt)
-      | inr s ↦ with_messages past after (desk.ledger.messages ++ Submitted shown.list (Err agency.NoMemory) ∷ [])
-          desk_then.ledger.messages new s.messages
-          (handed_after linked past look after shown desk.ledger.messages old new (Err agency.NoMemory) zero shows a ends.1
+      | inl s ↦ with_messages past after agency_state.ledger.messages agency_state_then.ledger.messages new s.messages
+          (silent_after linked past look after agency_state.ledger.messages old new a (stays look after g.legal e.2) doubt)
+      | inr s ↦ with_messages past after (agency_state.ledger.messages ++ Submitted shown.list (Err agency.NoMemory) ∷ [])
+          agency_state_then.ledger.messages new s.messages
+          (handed_after linked past look after shown agency_state.ledger.messages old new (Err agency.NoMemory) zero shows a ends.1
           (stays look after g.legal e.2) (λ f. in_doubt new.doubt doubt f))
     ]
 
-pub turn_careful : AreLinked → (past : List Message) (kind : AgencyKind) (desk desk_then : Desk) (before after : Sight)
-    (old new : Sending) (now : ℕ) (result : Result Turn SendFault) → Turned (turn_call kind desk desk_then before after old new now result) →
-    IsTrue kind.tells → IsCareful past before desk.ledger.messages old → IsCareful past after desk_then.ledger.messages new
-turn_careful linked past kind desk desk_then before after old new now result t tells care =
-    deed_careful linked past kind desk desk_then before t.look after t.shown old new now result t.deals.deed tells t.grows t.shows
+pub turn_careful : AreLinked → (past : List Message) (kind : AgencyKind) (agency_state agency_state_then : AgencyState) (before after : Sight)
+    (old new : Sending) (now : ℕ) (result : Result Turn SendFault) → Turned (turn_call kind agency_state agency_state_then before after old new now result) →
+    IsTrue kind.tells → IsCareful past before agency_state.ledger.messages old → IsCareful past after agency_state_then.ledger.messages new
+turn_careful linked past kind agency_state agency_state_then before after old new now result t tells care =
+    deed_careful linked past kind agency_state agency_state_then before t.look after t.shown old new now result t.deals.deed tells t.grows t.shows
     care t.deals.dealt t.deals.ends

@@ -216,7 +216,7 @@ unseen_each (s ∷ records) = (
       t.huella) h) records (unseen_each records),
 )
 
--- behind those that were
+-- after those that were
 unseen_behind : (records : List Sealed) (lines : List Line) (rest : ℕ) → length records ≡ length lines + rest →
     AllByRecursion (λ (s : Sealed). says_unseen (huellas_of records) (map Was lines ++ replicate rest NotSeen) s.huella ≡ true)
     (drop (length lines) records)

@@ -34,26 +34,26 @@ one_more old mid new lines answer s (inr p) = record {
 
 turns_tell : (kind : AgencyKind) (exact : Bool) (begin : Scene) (answers : List (Result Turn SendFault)) (links : ℕ) (scene : Scene) →
     IsTrue kind.tells → Turns kind exact begin answers links scene →
-    SaidSoFar begin.desk.ledger.messages scene.desk.ledger.messages (filter_map told_in answers)
+    SaidSoFar begin.agency_state.ledger.messages scene.agency_state.ledger.messages (filter_map told_in answers)
 turns_tell kind exact begin answers links scene tells none = record {
   messages = [];
-  said = sym (append-nil begin.desk.ledger.messages);
+  said = sym (append-nil begin.agency_state.ledger.messages);
   of_them = no_line;
 }
 turns_tell kind exact begin answers links scene tells (more before_answers before_links mid answer then t turn on below) =
-    subst (λ (ts : List Told). SaidSoFar begin.desk.ledger.messages then.desk.ledger.messages ts)
+    subst (λ (ts : List Told). SaidSoFar begin.agency_state.ledger.messages then.agency_state.ledger.messages ts)
     (sym (told_split before_answers answer))
-    (one_more begin.desk.ledger.messages mid.desk.ledger.messages then.desk.ledger.messages (filter_map told_in before_answers)
+    (one_more begin.agency_state.ledger.messages mid.agency_state.ledger.messages then.agency_state.ledger.messages (filter_map told_in before_answers)
     answer (turns_tell kind exact begin before_answers before_links mid tells t)
-    (turn_tells kind mid.desk then.desk mid.sight then.sight mid.sending then.sending turn.now answer turn.turned tells))
+    (turn_tells kind mid.agency_state then.agency_state mid.sight then.sight mid.sending then.sending turn.now answer turn.turned tells))
 
 pub drained_tells : (kind : AgencyKind) (exact : Bool) (begin then : Scene) (old new : List Told)
     (result : Result (Unit {0}) DrainFault) → Drained kind exact begin then old new result → IsTrue kind.tells →
-    DrainTells begin.desk.ledger.messages then.desk.ledger.messages old new result
+    DrainTells begin.agency_state.ledger.messages then.agency_state.ledger.messages old new result
 drained_tells kind exact begin then old new result d tells =
-    let s = one_more begin.desk.ledger.messages d.scene.desk.ledger.messages then.desk.ledger.messages
+    let s = one_more begin.agency_state.ledger.messages d.scene.agency_state.ledger.messages then.agency_state.ledger.messages
     (filter_map told_in d.answers) d.answer (turns_tell kind exact begin d.answers d.links d.scene tells d.made)
-    (turn_tells kind d.scene.desk then.desk d.scene.sight then.sight d.scene.sending then.sending d.turn.now d.answer
+    (turn_tells kind d.scene.agency_state then.agency_state d.scene.sight then.sight d.scene.sending then.sending d.turn.now d.answer
     d.turn.turned tells) in
     record {
       messages = s.messages;

@@ -26,9 +26,9 @@ use Rattle.sender.proofs.Sessions.{is_turn_growth, turns_growth, one_keeps, turn
 
 pub last : Known → (kind : AgencyKind) (exact : Bool) (start then : Scene) (old new : List Told) (result : Result (Unit {0}) DrainFault)
     (d : Drained kind exact start then old new result) → (IsTrue kind.keeps_rules → IsTrue kind.tells) →
-    InOneSession kind.keeps_rules start.sight then.sight start.desk.ledger start.sending.said
-    (KeepsSession start.sight then.sight start.desk.ledger then.desk.ledger then.sending.said × KeepsAgreement d.scene.sight
-    then.sight d.scene.desk.ledger then.desk.ledger then.sending.said d.answer)
+    InOneSession kind.keeps_rules start.sight then.sight start.agency_state.ledger start.sending.said
+    (KeepsSession start.sight then.sight start.agency_state.ledger then.agency_state.ledger then.sending.said × KeepsAgreement d.scene.sight
+    then.sight d.scene.agency_state.ledger then.agency_state.ledger then.sending.said d.answer)
 last known kind exact start then old new result d tells keeps session gains =
     let each = gains_each start.sight d.scene.sight then.sight (turns_growth kind exact start d.answers d.links d.scene d.made)
     (is_turn_growth kind exact d.scene then d.answer d.turn) gains in
@@ -38,21 +38,21 @@ last known kind exact start then old new result d tells keeps session gains =
 pub drained_keeps : Known → (kind : AgencyKind) (exact : Bool) (start then : Scene) (old new : List Told)
     (result : Result (Unit {0}) DrainFault) → Drained kind exact start then old new result →
     (IsTrue kind.keeps_rules → IsTrue kind.tells) →
-    InOneSession kind.keeps_rules start.sight then.sight start.desk.ledger start.sending.said
-    (KeepsSession start.sight then.sight start.desk.ledger then.desk.ledger then.sending.said)
+    InOneSession kind.keeps_rules start.sight then.sight start.agency_state.ledger start.sending.said
+    (KeepsSession start.sight then.sight start.agency_state.ledger then.agency_state.ledger then.sending.said)
 drained_keeps known kind exact start then old new result d tells keeps session gains =
     (last known kind exact start then old new result d tells keeps session gains).0
 
 pub drained_without : Known → (kind : AgencyKind) (exact : Bool) (start then : Scene) (old new : List Told)
     (result : Result (Unit {0}) DrainFault) → Drained kind exact start then old new result →
     (IsTrue kind.keeps_rules → IsTrue kind.tells) →
-    InOneSession kind.keeps_rules start.sight then.sight start.desk.ledger start.sending.said
+    InOneSession kind.keeps_rules start.sight then.sight start.agency_state.ledger start.sending.said
     ((evidence : Evidence) → IsErrOf result (drain.Contradiction evidence) → ⊥)
 drained_without known kind exact start then old new result d tells keeps session gains evidence is =
     let k = (last known kind exact start then old new result d tells keeps session gains).1 in
     elim d.ends [
-      | inl p ↦ subst (λ (r : Result Turn SendFault). Gains (history_of d.scene.sight ++ k.records) then.desk.ledger.processed
-          then.desk.ledger.sent then.sight r)
+      | inl p ↦ subst (λ (r : Result Turn SendFault). Gains (history_of d.scene.sight ++ k.records) then.agency_state.ledger.processed
+          then.agency_state.ledger.sent then.sight r)
           (subst (λ (r : Result (Unit {0}) DrainFault). EndsWith d.links then.sight d.answer r) is p.1) k.gains
       | inr p ↦ (let a = p.0 in let b = is in absurd cc)
     ]
@@ -60,10 +60,10 @@ drained_without known kind exact start then old new result d tells keeps session
 pub drained_careful : AreLinked → (kind : AgencyKind) (exact : Bool) (start then : Scene) (old new : List Told)
     (result : Result (Unit {0}) DrainFault) → Drained kind exact start then old new result → IsTrue kind.tells →
     (past : List Message) →
-    IsCareful past start.sight start.desk.ledger.messages start.sending → IsCareful past then.sight then.desk.ledger.messages
+    IsCareful past start.sight start.agency_state.ledger.messages start.sending → IsCareful past then.sight then.agency_state.ledger.messages
     then.sending
 drained_careful linked kind exact start then old new result d tells past care =
-    turn_careful linked past kind d.scene.desk then.desk d.scene.sight then.sight d.scene.sending then.sending d.turn.now d.answer
+    turn_careful linked past kind d.scene.agency_state then.agency_state d.scene.sight then.sight d.scene.sending then.sending d.turn.now d.answer
     d.turn.turned tells (turns_careful linked past kind exact start d.answers d.links d.scene tells d.made care)
 
 torn_by : (entries : List Entry) (after : Sight) (new : Ledger) (answer : Result Turn SendFault) →
@@ -82,12 +82,12 @@ torn_by entries after new answer e gains =
 pub drained_torn : Known → (kind : AgencyKind) (exact : Bool) (start then : Scene) (old new : List Told)
     (result : Result (Unit {0}) DrainFault) → Drained kind exact start then old new result →
     (IsTrue kind.keeps_rules → IsTrue kind.tells) →
-    InOneSession kind.keeps_rules start.sight then.sight start.desk.ledger start.sending.said
-    (IsErrOf result (drain.Store store.DiskFault) → AgreesTorn then.sight then.desk.ledger)
+    InOneSession kind.keeps_rules start.sight then.sight start.agency_state.ledger start.sending.said
+    (IsErrOf result (drain.Store store.DiskFault) → AgreesTorn then.sight then.agency_state.ledger)
 drained_torn known kind exact start then old new result d tells keeps session gains is =
     let k = (last known kind exact start then old new result d tells keeps session gains).1 in
     elim d.ends [
-      | inl p ↦ torn_by (history_of d.scene.sight ++ k.records) then.sight then.desk.ledger d.answer
+      | inl p ↦ torn_by (history_of d.scene.sight ++ k.records) then.sight then.agency_state.ledger d.answer
           (subst (λ (r : Result (Unit {0}) DrainFault). EndsWith d.links then.sight d.answer r) is p.1) k.gains
       | inr p ↦ (let a = p.0 in let b = is in absurd cc)
     ]

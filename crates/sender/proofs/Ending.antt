@@ -26,27 +26,27 @@ use Rattle.sender.specs.declared.answers.SendFault.{SendFault}
 use Rattle.sender.specs.declared.answers.SendFault.TheVariants.{LinkFault, Contradiction, NoMemory}
 use Rattle.sender.specs.Evidence.{Shows, Learns}
 use Rattle.sender.specs.Sending.{Sending}
-use Rattle.sender.specs.Turning.{Asked, Handed, AgencyKind, Desk, NotesEnd, SeenEnds, ReplyEnds, AskedEnds, HandedEnds, NoteEnds}
+use Rattle.sender.specs.Turning.{Asked, Handed, AgencyKind, AgencyState, NotesEnd, SeenEnds, ReplyEnds, AskedEnds, HandedEnds, NoteEnds}
 use Rattle.sender.specs.Turning.{IsLook, Deals, Replies, IsStale, unanswered, first_place, count_waiting, turn_call}
 
-pub asked_deal : (kind : AgencyKind) (desk desk_then : Desk) (look after : Sight) (shown : Waiting) (old new : Sending) (now : ℕ)
+pub asked_deal : (kind : AgencyKind) (agency_state agency_state_then : AgencyState) (look after : Sight) (shown : Waiting) (old new : Sending) (now : ℕ)
     (result : Result Turn SendFault) (huellas : List (List ℕ)) (got answer : Result (List Seen) AgencyFault) →
-    IsLook look shown → old.doubt ≡ true → huellas ≡ huellas_of shown.list → got ≡ answer → HasCause desk.faults desk_then.faults
+    IsLook look shown → old.doubt ≡ true → huellas ≡ huellas_of shown.list → got ≡ answer → HasCause agency_state.faults agency_state_then.faults
     got →
-    (IsTrue kind.tells → Consults desk.ledger desk_then.ledger huellas got) →
-    (IsTrue kind.keeps_rules → ConsultKeeps desk.ledger desk_then.ledger huellas got) →
-    AskedEnds old shown look after answer result new → Deals (turn_call kind desk desk_then look after old new now result) shown
-asked_deal kind desk desk_then look after shown old new now result huellas got answer is_look doubt hs is cause lists rules ends =
+    (IsTrue kind.tells → Consults agency_state.ledger agency_state_then.ledger huellas got) →
+    (IsTrue kind.keeps_rules → ConsultKeeps agency_state.ledger agency_state_then.ledger huellas got) →
+    AskedEnds old shown look after answer result new → Deals (turn_call kind agency_state agency_state_then look after old new now result) shown
+asked_deal kind agency_state agency_state_then look after shown old new now result huellas got answer is_look doubt hs is cause lists rules ends =
     record {
       deed = Asked answer;
       dealt = (
-        subst (λ (r : Result (List Seen) AgencyFault). HasCause desk.faults desk_then.faults r) is cause,
-        λ tells. subst (λ (r : Result (List Seen) AgencyFault). Consults desk.ledger desk_then.ledger (huellas_of shown.list) r)
+        subst (λ (r : Result (List Seen) AgencyFault). HasCause agency_state.faults agency_state_then.faults r) is cause,
+        λ tells. subst (λ (r : Result (List Seen) AgencyFault). Consults agency_state.ledger agency_state_then.ledger (huellas_of shown.list) r)
             is
-            (subst (λ (h : List (List ℕ)). Consults desk.ledger desk_then.ledger h got) hs (lists tells)),
-        λ keeps. subst (λ (r : Result (List Seen) AgencyFault). ConsultKeeps desk.ledger desk_then.ledger (huellas_of shown.list)
+            (subst (λ (h : List (List ℕ)). Consults agency_state.ledger agency_state_then.ledger h got) hs (lists tells)),
+        λ keeps. subst (λ (r : Result (List Seen) AgencyFault). ConsultKeeps agency_state.ledger agency_state_then.ledger (huellas_of shown.list)
             r)
-            is (subst (λ (h : List (List ℕ)). ConsultKeeps desk.ledger desk_then.ledger h got) hs (rules keeps)),
+            is (subst (λ (h : List (List ℕ)). ConsultKeeps agency_state.ledger agency_state_then.ledger h got) hs (rules keeps)),
       );
       ends = (is_look.some, doubt, ends);
     }
@@ -158,24 +158,24 @@ seen_noted old mid new shown seen look after lines result count pace said doubt 
           lines result mid new some few doubt learns e),
     )
 
-pub handed_deal : (kind : AgencyKind) (desk desk_then : Desk) (look after : Sight) (shown : Waiting) (old new : Sending) (now : ℕ)
+pub handed_deal : (kind : AgencyKind) (agency_state agency_state_then : AgencyState) (look after : Sight) (shown : Waiting) (old new : Sending) (now : ℕ)
     (result : Result Turn SendFault) (batch : List Sealed) (got answer : Result Replied AgencyFault) →
     IsLook look shown → old.doubt ≡ false → is_due old.pace now (count_waiting shown) ≡ true → batch ≡ shown.list → got ≡ answer →
-    HasCause desk.faults desk_then.faults got → StaleShows desk.faults desk_then.faults batch got →
-    (IsTrue kind.tells → Submits desk.ledger desk_then.ledger batch got) →
-    (IsTrue kind.keeps_rules → SubmitKeeps desk.ledger desk_then.ledger batch got) →
-    HandedEnds old now shown look after answer result new → Deals (turn_call kind desk desk_then look after old new now result) shown
-handed_deal kind desk desk_then look after shown old new now result batch got answer is_look doubt due bs is cause stale lists
+    HasCause agency_state.faults agency_state_then.faults got → StaleShows agency_state.faults agency_state_then.faults batch got →
+    (IsTrue kind.tells → Submits agency_state.ledger agency_state_then.ledger batch got) →
+    (IsTrue kind.keeps_rules → SubmitKeeps agency_state.ledger agency_state_then.ledger batch got) →
+    HandedEnds old now shown look after answer result new → Deals (turn_call kind agency_state agency_state_then look after old new now result) shown
+handed_deal kind agency_state agency_state_then look after shown old new now result batch got answer is_look doubt due bs is cause stale lists
     rules ends = record {
       deed = Handed answer;
       dealt = (
-        subst (λ (r : Result Replied AgencyFault). HasCause desk.faults desk_then.faults r) is cause,
-        subst (λ (r : Result Replied AgencyFault). StaleShows desk.faults desk_then.faults shown.list r) is
-            (subst (λ (b : List Sealed). StaleShows desk.faults desk_then.faults b got) bs stale),
-        λ tells. subst (λ (r : Result Replied AgencyFault). Submits desk.ledger desk_then.ledger shown.list r) is
-            (subst (λ (b : List Sealed). Submits desk.ledger desk_then.ledger b got) bs (lists tells)),
-        λ keeps. subst (λ (r : Result Replied AgencyFault). SubmitKeeps desk.ledger desk_then.ledger shown.list r) is
-            (subst (λ (b : List Sealed). SubmitKeeps desk.ledger desk_then.ledger b got) bs (rules keeps)),
+        subst (λ (r : Result Replied AgencyFault). HasCause agency_state.faults agency_state_then.faults r) is cause,
+        subst (λ (r : Result Replied AgencyFault). StaleShows agency_state.faults agency_state_then.faults shown.list r) is
+            (subst (λ (b : List Sealed). StaleShows agency_state.faults agency_state_then.faults b got) bs stale),
+        λ tells. subst (λ (r : Result Replied AgencyFault). Submits agency_state.ledger agency_state_then.ledger shown.list r) is
+            (subst (λ (b : List Sealed). Submits agency_state.ledger agency_state_then.ledger b got) bs (lists tells)),
+        λ keeps. subst (λ (r : Result Replied AgencyFault). SubmitKeeps agency_state.ledger agency_state_then.ledger shown.list r) is
+            (subst (λ (b : List Sealed). SubmitKeeps agency_state.ledger agency_state_then.ledger b got) bs (rules keeps)),
       );
       ends = (is_look.some, doubt, due, ends);
     }

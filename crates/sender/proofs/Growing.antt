@@ -14,7 +14,7 @@ use Rattle.once_world.specs.Outbox.{Sight, Grows, AddsOwn, AreOwnNotes, GainsOwn
 use Rattle.sender.specs.declared.answers.Turn.{Turn}
 use Rattle.sender.specs.declared.answers.SendFault.{SendFault}
 use Rattle.sender.specs.Sending.{Sending}
-use Rattle.sender.specs.Turning.{Deed, AgencyKind, Desk, Ends, Turned, turn_call}
+use Rattle.sender.specs.Turning.{Deed, AgencyKind, AgencyState, Ends, Turned, turn_call}
 use Rattle.sender.proofs.Lists.{all_both, all_change}
 use Rattle.sender.proofs.Added.{Added, quiet, notes, stops, ends_added}
 
@@ -105,9 +105,9 @@ pub ends_growth : (old : Sending) (now : ℕ) (shown : Waiting) (look after : Si
 ends_growth old now shown look after deed result new ends =
     added_growth look after result (ends_added old now shown look after deed result new ends)
 
-pub turn_growth : (kind : AgencyKind) (desk desk_then : Desk) (before after : Sight) (old new : Sending) (now : ℕ)
-    (result : Result Turn SendFault) → Turned (turn_call kind desk desk_then before after old new now result) → Growth before after
-turn_growth kind desk desk_then before after old new now result t =
+pub turn_growth : (kind : AgencyKind) (agency_state agency_state_then : AgencyState) (before after : Sight) (old new : Sending) (now : ℕ)
+    (result : Result Turn SendFault) → Turned (turn_call kind agency_state agency_state_then before after old new now result) → Growth before after
+turn_growth kind agency_state agency_state_then before after old new now result t =
     growth_then before t.look after (quiet_growth before t.look t.grows t.own) (ends_growth old now t.shown t.look after
     t.deals.deed result new t.deals.ends)
 

@@ -33,7 +33,7 @@ use Rattle.sender.specs.declared.answers.SendFault.TheVariants.{LinkFault, Contr
 use Rattle.sender.specs.Answers.{of_agency}
 use Rattle.sender.specs.Evidence.{Shows}
 use Rattle.sender.specs.Sending.{Sending}
-use Rattle.sender.specs.Turning.{Deed, Nothing, Asked, Handed, AgencyKind, Desk, Dealt, RestEnds, NotesEnd, SeenEnds, ReplyEnds, Ends}
+use Rattle.sender.specs.Turning.{Deed, Nothing, Asked, Handed, AgencyKind, AgencyState, Dealt, RestEnds, NotesEnd, SeenEnds, ReplyEnds, Ends}
 use Rattle.sender.specs.Turning.{Turned, turn_call, first_place}
 use Rattle.sender.specs.Agreeing.{InOneSession, AreSeen, MayBeTorn, Gains, KeepsAgreement}
 use Rattle.sender.specs.Known.{Known}
@@ -105,7 +105,7 @@ quiet_keeps known before look after old new said result g own e gains middle end
       };
     }
 
--- the notes behind more records
+-- the notes after more records
 behind_same : (entries : List Entry) (look : Sight) (others : List Item) (lines : List Line) → history_of look ≡ entries →
     AreRecords (entries_of others) →
     notes_behind (look.items ++ others) lines ≡ notes_of (length (noted entries)) lines
@@ -396,71 +396,71 @@ reply_ends known before look after g shown old new reply result doubt own shows 
     ends
 
 -- by what was asked
-deed_keeps : Known → (kind : AgencyKind) (desk desk_then : Desk) (before look after : Sight) (g : Grows before look) (shown : Waiting)
+deed_keeps : Known → (kind : AgencyKind) (agency_state agency_state_then : AgencyState) (before look after : Sight) (g : Grows before look) (shown : Waiting)
     (old new : Sending) (now : ℕ) (result : Result Turn SendFault) (deed : Deed) →
     IsTrue kind.tells → IsTrue kind.keeps_rules → look.own ≡ before.own → ShowsWaiting look 1000 shown →
-    Agree (history_of before) desk.ledger.processed desk.ledger.sent → AreSeen desk.ledger.processed old.said →
+    Agree (history_of before) agency_state.ledger.processed agency_state.ledger.sent → AreSeen agency_state.ledger.processed old.said →
     GainsOwnNotes before after →
-    Dealt kind desk desk_then shown deed → Ends old now shown look after deed result new → KeepsAgreement before after desk.ledger
-    desk_then.ledger new.said result
-deed_keeps known kind desk desk_then before look after g shown old new now result Nothing tells keeps own shows agree there gains
+    Dealt kind agency_state agency_state_then shown deed → Ends old now shown look after deed result new → KeepsAgreement before after agency_state.ledger
+    agency_state_then.ledger new.said result
+deed_keeps known kind agency_state agency_state_then before look after g shown old new now result Nothing tells keeps own shows agree there gains
     dealt ends =
     let said : new.said ≡ old.said = ap (λ (s : Sending). s.said) ends.1 in
-    let same : desk_then.ledger ≡ desk.ledger = ap (λ (d : Desk). d.ledger) dealt in
-    quiet_keeps known before look after desk.ledger desk_then.ledger new.said result g own ends.2 gains
+    let same : agency_state_then.ledger ≡ agency_state.ledger = ap (λ (d : AgencyState). d.ledger) dealt in
+    quiet_keeps known before look after agency_state.ledger agency_state_then.ledger new.said result g own ends.2 gains
     (λ are. record {
-      dealing = nothing_said (at_look before look g) desk.ledger desk_then.ledger same known.adds
-          (known.records (history_of before) (entries_of g.items.rest) desk.ledger.processed desk.ledger.sent agree are);
+      dealing = nothing_said (at_look before look g) agency_state.ledger agency_state_then.ledger same known.adds
+          (known.records (history_of before) (entries_of g.items.rest) agency_state.ledger.processed agency_state.ledger.sent agree are);
       sent = inl (ap (λ (l : Ledger). l.sent) same);
-      seen = subst (λ (o : Option Replied). AreSeen desk_then.ledger.processed o) (sym said)
+      seen = subst (λ (o : Option Replied). AreSeen agency_state_then.ledger.processed o) (sym said)
           (subst (λ (l : Ledger). AreSeen l.processed old.said) (sym same) there);
     })
-    (λ e. rest_gains old now shown (at_look before look g) desk_then.ledger.processed desk_then.ledger.sent after result ends.0 e)
-deed_keeps known kind desk desk_then before look after g shown old new now result (Asked (Ok seen)) tells keeps own shows agree
+    (λ e. rest_gains old now shown (at_look before look g) agency_state_then.ledger.processed agency_state_then.ledger.sent after result ends.0 e)
+deed_keeps known kind agency_state agency_state_then before look after g shown old new now result (Asked (Ok seen)) tells keeps own shows agree
     there gains dealt ends =
     let e = ends.2 in
-    subst (λ (o : Option Replied). KeepsAgreement before after desk.ledger desk_then.ledger o result) (sym e.2)
-    (seen_ends known before look after g shown desk.ledger desk_then.ledger old.said seen result new.doubt own shows agree there
+    subst (λ (o : Option Replied). KeepsAgreement before after agency_state.ledger agency_state_then.ledger o result) (sym e.2)
+    (seen_ends known before look after g shown agency_state.ledger agency_state_then.ledger old.said seen result new.doubt own shows agree there
     (dealt.1 tells) (dealt.2 keeps) gains e.3)
-deed_keeps known kind desk desk_then before look after g shown old new now result (Asked (Err why)) tells keeps own shows agree
+deed_keeps known kind agency_state agency_state_then before look after g shown old new now result (Asked (Err why)) tells keeps own shows agree
     there gains dealt ends =
     let e = ends.2 in
-    subst (λ (r : Result Turn SendFault). KeepsAgreement before after desk.ledger desk_then.ledger new.said r) (sym e.0)
-    (quiet_keeps known before look after desk.ledger desk_then.ledger new.said (Err (of_agency why)) g own e.2 gains
-    (λ are. asked_quiet known before look g shown desk.ledger desk_then.ledger old.said new.said (Err why) shows agree there
+    subst (λ (r : Result Turn SendFault). KeepsAgreement before after agency_state.ledger agency_state_then.ledger new.said r) (sym e.0)
+    (quiet_keeps known before look after agency_state.ledger agency_state_then.ledger new.said (Err (of_agency why)) g own e.2 gains
+    (λ are. asked_quiet known before look g shown agency_state.ledger agency_state_then.ledger old.said new.said (Err why) shows agree there
     (inl (ap (λ (s : Sending). s.said) e.1)) (dealt.1 tells) (dealt.2 keeps) are)
-    (failed_gains (at_look before look g) desk_then.ledger.processed desk_then.ledger.sent after why))
-deed_keeps known kind desk desk_then before look after g shown old new now result (Handed (Ok reply)) tells keeps own shows agree
+    (failed_gains (at_look before look g) agency_state_then.ledger.processed agency_state_then.ledger.sent after why))
+deed_keeps known kind agency_state agency_state_then before look after g shown old new now result (Handed (Ok reply)) tells keeps own shows agree
     there gains dealt ends =
     elim ends.3 [
-      | inl r ↦ subst (λ (o : Option Replied). KeepsAgreement before after desk.ledger desk_then.ledger o result) (sym r.said)
-          (reply_ends known before look after g shown desk.ledger desk_then.ledger reply result new.doubt own shows agree
+      | inl r ↦ subst (λ (o : Option Replied). KeepsAgreement before after agency_state.ledger agency_state_then.ledger o result) (sym r.said)
+          (reply_ends known before look after g shown agency_state.ledger agency_state_then.ledger reply result new.doubt own shows agree
           (dealt.2 tells) (dealt.3 keeps) r.names gains r.ends)
-      | inr r ↦ subst (λ (x : Result Turn SendFault). KeepsAgreement before after desk.ledger desk_then.ledger new.said x)
+      | inr r ↦ subst (λ (x : Result Turn SendFault). KeepsAgreement before after agency_state.ledger agency_state_then.ledger new.said x)
           (sym r.result_is)
-          (quiet_keeps known before look after desk.ledger desk_then.ledger new.said (Err LinkFault) g own r.after_is gains
-          (λ are. subst (λ (o : Option Replied). Quiet (at_look before look g) desk.ledger desk_then.ledger o)
+          (quiet_keeps known before look after agency_state.ledger agency_state_then.ledger new.said (Err LinkFault) g own r.after_is gains
+          (λ are. subst (λ (o : Option Replied). Quiet (at_look before look g) agency_state.ledger agency_state_then.ledger o)
           (sym (ap (λ (s : Sending). s.said) r.new_is))
-          (handed_quiet known before look g shown desk.ledger desk_then.ledger old.said (Ok reply) shows agree there
+          (handed_quiet known before look g shown agency_state.ledger agency_state_then.ledger old.said (Ok reply) shows agree there
           (dealt.2 tells) (dealt.3 keeps) are)) (λ h. h))
     ]
-deed_keeps known kind desk desk_then before look after g shown old new now result (Handed (Err why)) tells keeps own shows agree
+deed_keeps known kind agency_state agency_state_then before look after g shown old new now result (Handed (Err why)) tells keeps own shows agree
     there gains dealt ends =
     let e = ends.3 in
-    subst (λ (x : Result Turn SendFault). KeepsAgreement before after desk.ledger desk_then.ledger new.said x) (sym e.0)
-    (quiet_keeps known before look after desk.ledger desk_then.ledger new.said (Err (of_agency why)) g own e.2 gains
-    (λ are. subst (λ (o : Option Replied). Quiet (at_look before look g) desk.ledger desk_then.ledger o)
+    subst (λ (x : Result Turn SendFault). KeepsAgreement before after agency_state.ledger agency_state_then.ledger new.said x) (sym e.0)
+    (quiet_keeps known before look after agency_state.ledger agency_state_then.ledger new.said (Err (of_agency why)) g own e.2 gains
+    (λ are. subst (λ (o : Option Replied). Quiet (at_look before look g) agency_state.ledger agency_state_then.ledger o)
     (sym (ap (λ (s : Sending). s.said) e.1))
-    (handed_quiet known before look g shown desk.ledger desk_then.ledger old.said (Err why) shows agree there (dealt.2 tells)
+    (handed_quiet known before look g shown agency_state.ledger agency_state_then.ledger old.said (Err why) shows agree there (dealt.2 tells)
     (dealt.3 keeps) are))
-    (failed_gains (at_look before look g) desk_then.ledger.processed desk_then.ledger.sent after why))
+    (failed_gains (at_look before look g) agency_state_then.ledger.processed agency_state_then.ledger.sent after why))
 
 -- the whole turn
-pub turn_keeps : Known → (kind : AgencyKind) (desk desk_then : Desk) (before after : Sight) (old new : Sending) (now : ℕ)
-    (result : Result Turn SendFault) → Turned (turn_call kind desk desk_then before after old new now result) →
+pub turn_keeps : Known → (kind : AgencyKind) (agency_state agency_state_then : AgencyState) (before after : Sight) (old new : Sending) (now : ℕ)
+    (result : Result Turn SendFault) → Turned (turn_call kind agency_state agency_state_then before after old new now result) →
     (IsTrue kind.keeps_rules → IsTrue kind.tells) →
-    InOneSession kind.keeps_rules before after desk.ledger old.said
-    (KeepsAgreement before after desk.ledger desk_then.ledger new.said result)
-turn_keeps known kind desk desk_then before after old new now result t tells keeps session gains =
-    deed_keeps known kind desk desk_then before t.look after t.grows t.shown old new now result t.deals.deed (tells keeps) keeps
+    InOneSession kind.keeps_rules before after agency_state.ledger old.said
+    (KeepsAgreement before after agency_state.ledger agency_state_then.ledger new.said result)
+turn_keeps known kind agency_state agency_state_then before after old new now result t tells keeps session gains =
+    deed_keeps known kind agency_state agency_state_then before t.look after t.grows t.shown old new now result t.deals.deed (tells keeps) keeps
     t.own t.shows session.agree session.said_seen gains t.deals.dealt t.deals.ends

@@ -60,7 +60,7 @@ all_past P k [] ys le a = all_drop P k ys a
 all_past P zero (x ∷ xs) ys le a = absurd (omega arith)
 all_past P (suc k) (x ∷ xs) ys le a = all_past P k xs ys (omega arith) a
 
--- a list past its k-th element, and more behind it
+-- a list past its k-th element, and more after it
 pub all_drop_more : {A : Type 0} (P : A → Type 0) (k : ℕ) (xs ys : List A) → AllByRecursion P (drop k xs) → AllByRecursion P ys →
     AllByRecursion P (drop k (xs ++ ys))
 all_drop_more P zero xs ys a b = all_both P xs ys a b

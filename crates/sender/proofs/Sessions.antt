@@ -15,7 +15,7 @@ use Rattle.sender.proofs.Growing.{Growth, no_growth, growth_then, turn_growth, g
 
 pub is_turn_growth : (kind : AgencyKind) (exact : Bool) (before after : Scene) (answer : Result Turn SendFault) →
     IsTurn kind exact before after answer → Growth before.sight after.sight
-is_turn_growth kind exact before after answer t = turn_growth kind before.desk after.desk before.sight after.sight before.sending
+is_turn_growth kind exact before after answer t = turn_growth kind before.agency_state after.agency_state before.sight after.sight before.sending
     after.sending t.now answer t.turned
 
 pub turns_growth : (kind : AgencyKind) (exact : Bool) (start : Scene) (answers : List (Result Turn SendFault)) (links : ℕ)
@@ -36,28 +36,28 @@ prefix_then xs ys zs p q = record {
 }
 
 abbrev Keeps : Scene → Scene → Type 0
-Keeps start scene = KeepsSession start.sight scene.sight start.desk.ledger scene.desk.ledger scene.sending.said
+Keeps start scene = KeepsSession start.sight scene.sight start.agency_state.ledger scene.agency_state.ledger scene.sending.said
 
 pub one_keeps : Known → (kind : AgencyKind) (exact : Bool) (start mid then : Scene) (answer : Result Turn SendFault) →
     (IsTrue kind.keeps_rules → IsTrue kind.tells) → IsTrue kind.keeps_rules → IsTurn kind exact mid then answer →
     GainsOwnNotes mid.sight then.sight → Keeps start mid →
-    Keeps start then × KeepsAgreement mid.sight then.sight mid.desk.ledger then.desk.ledger then.sending.said answer
+    Keeps start then × KeepsAgreement mid.sight then.sight mid.agency_state.ledger then.agency_state.ledger then.sending.said answer
 one_keeps known kind exact start mid then answer tells keeps turn gains k =
-    let t = turn_keeps known kind mid.desk then.desk mid.sight then.sight mid.sending then.sending turn.now answer turn.turned
+    let t = turn_keeps known kind mid.agency_state then.agency_state mid.sight then.sight mid.sending then.sending turn.now answer turn.turned
     tells keeps k.session gains in (
       record {
         session = t.session;
-        begins = prefix_then start.desk.ledger.processed mid.desk.ledger.processed
-            then.desk.ledger.processed k.begins t.begins;
+        begins = prefix_then start.agency_state.ledger.processed mid.agency_state.ledger.processed
+            then.agency_state.ledger.processed k.begins t.begins;
       },
       t,
     )
 
 pub turns_keep : Known → (kind : AgencyKind) (exact : Bool) (start : Scene) (answers : List (Result Turn SendFault)) (links : ℕ)
     (scene : Scene) → (IsTrue kind.keeps_rules → IsTrue kind.tells) → Turns kind exact start answers links scene →
-    InOneSession kind.keeps_rules start.sight scene.sight start.desk.ledger start.sending.said (Keeps start scene)
+    InOneSession kind.keeps_rules start.sight scene.sight start.agency_state.ledger start.sending.said (Keeps start scene)
 turns_keep known kind exact start answers links scene tells none keeps session gains =
-    record { session = session; begins = prefix_same start.desk.ledger.processed }
+    record { session = session; begins = prefix_same start.agency_state.ledger.processed }
 turns_keep known kind exact start answers links scene tells (more before_answers before_links mid answer then t turn on few)
     keeps session gains =
     let each = gains_each start.sight mid.sight then.sight (turns_growth kind exact start before_answers before_links mid t)
@@ -68,10 +68,10 @@ turns_keep known kind exact start answers links scene tells (more before_answers
 pub turns_careful : AreLinked → (past : List Message) (kind : AgencyKind) (exact : Bool) (start : Scene)
     (answers : List (Result Turn SendFault)) (links : ℕ) (scene : Scene) → IsTrue kind.tells → Turns kind exact start answers
     links scene →
-    IsCareful past start.sight start.desk.ledger.messages start.sending → IsCareful past scene.sight scene.desk.ledger.messages
+    IsCareful past start.sight start.agency_state.ledger.messages start.sending → IsCareful past scene.sight scene.agency_state.ledger.messages
     scene.sending
 turns_careful linked past kind exact start answers links scene tells none care = care
 turns_careful linked past kind exact start answers links scene tells (more before_answers before_links mid answer then t turn on
     few) care =
-    turn_careful linked past kind mid.desk then.desk mid.sight then.sight mid.sending then.sending turn.now answer turn.turned
+    turn_careful linked past kind mid.agency_state then.agency_state mid.sight then.sight mid.sending then.sending turn.now answer turn.turned
     tells (turns_careful linked past kind exact start before_answers before_links mid tells t care)

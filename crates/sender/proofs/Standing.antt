@@ -38,7 +38,7 @@ pub record IsSure (entries : List Entry) (sending : Sending) : Type 0 where
   pub said : sending.said ≡ Some reply
   pub names : reply.huellas ≡ huellas_of (take 1000 (waiting entries))
 
--- where a drain stands, with so many turns that it may still take: b batches hold the records that wait
+-- where a drain stands, with this many turns that it may still take: b batches hold the records that wait
 pub data Stand (entries : List Entry) (sending : Sending) (moment left : ℕ) : Type 0 where
   over : length (waiting entries) ≡ 0 → 1 ≤ left → Stand entries sending moment left
   rested : (b : ℕ) → length (waiting entries) ≤ 1000 * b → sending.doubt ≡ false → 2 * b + 2 ≤ left → Stand entries sending moment

@@ -17,7 +17,7 @@ use Rattle.sender.specs.declared.answers.Turn.TheVariants.{Idle, WaitUntil, Note
 use Rattle.sender.specs.declared.answers.SendFault.{SendFault}
 use Rattle.sender.specs.declared.answers.SendFault.TheVariants.{Contradiction, Store, NoMemory}
 use Rattle.sender.specs.Sending.{Sending}
-use Rattle.sender.specs.Turning.{Deed, Nothing, Asked, Handed, AgencyKind, Desk, Dealt, RestEnds, SeenEnds, ReplyEnds, Ends, Turned, turn_call}
+use Rattle.sender.specs.Turning.{Deed, Nothing, Asked, Handed, AgencyKind, AgencyState, Dealt, RestEnds, SeenEnds, ReplyEnds, Ends, Turned, turn_call}
 use Rattle.sender.specs.Turning.{first_place}
 use Rattle.sender.specs.Draining.{told_in}
 use Rattle.sender.specs.Lines.{ReplyLineOf, SeenLineOf, IsQuiet, TellsOf}
@@ -101,13 +101,13 @@ reply_line shown reply look after (Err (Store store.NoMemory)) doubt names match
 reply_line shown reply look after (Err NoMemory) doubt names matched ends = record { line = told.Memory; told = refl; is = tt }
 reply_line shown reply look after _ doubt names matched ends = absurd ends
 
-deed_tells : (kind : AgencyKind) (desk desk_then : Desk) (look after : Sight) (shown : Waiting) (old new : Sending) (now : ℕ)
-    (result : Result Turn SendFault) (deed : Deed) → IsTrue kind.tells → Dealt kind desk desk_then shown deed →
+deed_tells : (kind : AgencyKind) (agency_state agency_state_then : AgencyState) (look after : Sight) (shown : Waiting) (old new : Sending) (now : ℕ)
+    (result : Result Turn SendFault) (deed : Deed) → IsTrue kind.tells → Dealt kind agency_state agency_state_then shown deed →
     Ends old now shown look after deed result new →
-    TellsOf desk.ledger.messages desk_then.ledger.messages result
-deed_tells kind desk desk_then look after shown old new now result Nothing tells dealt ends =
-    inl (ap (λ (d : Desk). d.ledger.messages) dealt, rest_quiet old now shown result ends.0)
-deed_tells kind desk desk_then look after shown old new now result (Asked (Ok seen)) tells dealt ends =
+    TellsOf agency_state.ledger.messages agency_state_then.ledger.messages result
+deed_tells kind agency_state agency_state_then look after shown old new now result Nothing tells dealt ends =
+    inl (ap (λ (d : AgencyState). d.ledger.messages) dealt, rest_quiet old now shown result ends.0)
+deed_tells kind agency_state agency_state_then look after shown old new now result (Asked (Ok seen)) tells dealt ends =
     let l = seen_line old.said shown seen look after result new.doubt ends.2.3 in
     inr (record {
       message = Consulted (huellas_of shown.list) (Ok seen);
@@ -116,7 +116,7 @@ deed_tells kind desk desk_then look after shown old new now result (Asked (Ok se
       told = l.told;
       of_it = l.is;
     })
-deed_tells kind desk desk_then look after shown old new now result (Asked (Err agency.Failed)) tells dealt ends =
+deed_tells kind agency_state agency_state_then look after shown old new now result (Asked (Err agency.Failed)) tells dealt ends =
     inr (record {
       message = Consulted (huellas_of shown.list) (Err agency.Failed);
       line = told.Link;
@@ -124,9 +124,9 @@ deed_tells kind desk desk_then look after shown old new now result (Asked (Err a
       told = ap told_in ends.2.0;
       of_it = refl;
     })
-deed_tells kind desk desk_then look after shown old new now result (Asked (Err agency.NoMemory)) tells dealt ends =
+deed_tells kind agency_state agency_state_then look after shown old new now result (Asked (Err agency.NoMemory)) tells dealt ends =
     inl (ap (λ (l : Ledger). l.messages) (dealt.1 tells), subst (λ (o : Option Told). IsQuiet o) (sym (ap told_in ends.2.0)) tt)
-deed_tells kind desk desk_then look after shown old new now result (Handed (Ok reply)) tells dealt ends = elim ends.3 [
+deed_tells kind agency_state agency_state_then look after shown old new now result (Handed (Ok reply)) tells dealt ends = elim ends.3 [
   | inl r ↦ (let l = reply_line shown reply look after result new.doubt r.names r.matched r.ends in
       inr (record {
         message = Submitted shown.list (Ok reply);
@@ -143,7 +143,7 @@ deed_tells kind desk desk_then look after shown old new now result (Handed (Ok r
     of_it = r.names_not;
   })
 ]
-deed_tells kind desk desk_then look after shown old new now result (Handed (Err agency.Failed)) tells dealt ends =
+deed_tells kind agency_state agency_state_then look after shown old new now result (Handed (Err agency.Failed)) tells dealt ends =
     inr (record {
       message = Submitted shown.list (Err agency.Failed);
       line = told.Link;
@@ -151,7 +151,7 @@ deed_tells kind desk desk_then look after shown old new now result (Handed (Err 
       told = ap told_in ends.3.0;
       of_it = refl;
     })
-deed_tells kind desk desk_then look after shown old new now result (Handed (Err agency.NoMemory)) tells dealt ends =
+deed_tells kind agency_state agency_state_then look after shown old new now result (Handed (Err agency.NoMemory)) tells dealt ends =
     elim (dealt.2 tells) [
       | inl s ↦ inl (s.messages, subst (λ (o : Option Told). IsQuiet o) (sym (ap told_in ends.3.0)) tt)
       | inr s ↦ inr (record {
@@ -163,8 +163,8 @@ deed_tells kind desk desk_then look after shown old new now result (Handed (Err 
       })
     ]
 
-pub turn_tells : (kind : AgencyKind) (desk desk_then : Desk) (before after : Sight) (old new : Sending) (now : ℕ)
-    (result : Result Turn SendFault) → Turned (turn_call kind desk desk_then before after old new now result) → IsTrue kind.tells →
-    TellsOf desk.ledger.messages desk_then.ledger.messages result
-turn_tells kind desk desk_then before after old new now result t tells = deed_tells kind desk desk_then t.look after t.shown old
+pub turn_tells : (kind : AgencyKind) (agency_state agency_state_then : AgencyState) (before after : Sight) (old new : Sending) (now : ℕ)
+    (result : Result Turn SendFault) → Turned (turn_call kind agency_state agency_state_then before after old new now result) → IsTrue kind.tells →
+    TellsOf agency_state.ledger.messages agency_state_then.ledger.messages result
+turn_tells kind agency_state agency_state_then before after old new now result t tells = deed_tells kind agency_state agency_state_then t.look after t.shown old
     new now result t.deals.deed tells t.deals.dealt t.deals.ends

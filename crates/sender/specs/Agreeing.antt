@@ -4,7 +4,7 @@ use Rattle.std.specs.Prelude.{None, IsSome, IsTrue, Bool, Result, Ok, Err, Conta
 use Rattle.std.specs.List.{AllByRecursion}
 use Rattle.record_fields.specs.declared.records.Sealed.{Sealed}
 use Rattle.record_fields.specs.declared.lines.Line.{Line}
-use Rattle.record_fields.specs.declared.lines.TheConstants.{BATCH}
+use Rattle.pacing.specs.declared.pace.TheConstants.{MAX_BATCH}
 use Rattle.record_codec.specs.declared.entry.Entry.{Entry}
 use Rattle.record_codec.specs.declared.entry.Entry.TheVariants.{Notes}
 use Rattle.journal.specs.declared.faults.StoreFault.{StoreFault}
@@ -82,7 +82,7 @@ pub record NotesNone (look : List Entry) (processed : List (Sealed × Line)) (se
   pub is : history_of after ≡ look ++ more
   pub torn : MayBeTorn look more processed sent after lines fault
 
--- what a turn adds behind the history at its look, by its answer; a contradiction never comes
+-- what a turn adds after the history at its look, by its answer; a contradiction never comes
 abbrev pub Gains : List Entry → List (Sealed × Line) → List (List Sealed) → Sight → Result Turn SendFault → Type 0
 Gains look processed sent after (Ok (Noted n)) = NotesNext look processed (history_of after) n
 Gains look processed sent after (Err (Store fault)) = NotesNone look processed sent after fault
@@ -94,7 +94,7 @@ pub record KeepsAgreement (before after : Sight) (old new : Ledger) (said : Opti
     (result : Result Turn SendFault) : Type 0 where
   pub records : List Entry
   pub are_records : AreRecords records
-  pub sent : (new.sent ≡ old.sent) ⊎ (new.sent ≡ old.sent ++ take BATCH (waiting (history_of before ++ records)) ∷ [])
+  pub sent : (new.sent ≡ old.sent) ⊎ (new.sent ≡ old.sent ++ take MAX_BATCH (waiting (history_of before ++ records)) ∷ [])
   pub verdicts : new.verdicts ≡ old.verdicts
   pub delivers : Delivers old.verdicts new.sent old.processed new.processed
   pub begins : IsPrefix old.processed new.processed
@@ -107,7 +107,7 @@ pub record IsCareful (past : List Message) (seen : Sight) (messages : List Messa
   pub is : messages ≡ past ++ session
   pub never : NoneInTheDark past session
   pub legal : Legal seen.version seen.issuer (history_of seen)
-  pub runs : AreRunsBy (recs (history_of seen)) (length (noted (history_of seen)) + BATCH) (batches_in messages)
+  pub runs : AreRunsBy (recs (history_of seen)) (length (noted (history_of seen)) + MAX_BATCH) (batches_in messages)
   pub light : sending.doubt ≡ false → AreLight messages (waiting (history_of seen))
 
 -- Of the messages from these on, the sender keeps the last reply that named its batch, until a consultation answers.
@@ -135,14 +135,14 @@ pub record KeepsSession (before after : Sight) (old new : Ledger) (said : Option
 -- a new sender begins so, whatever was said before its session
 abbrev pub BeginsCareful : Type 0
 BeginsCareful = (past : List Message) (seen : Sight) → Legal seen.version seen.issuer (history_of seen) →
-    AreRunsBy (recs (history_of seen)) (length (noted (history_of seen)) + BATCH) (batches_in past) →
+    AreRunsBy (recs (history_of seen)) (length (noted (history_of seen)) + MAX_BATCH) (batches_in past) →
     IsCareful past seen past fresh
 
 -- where shop and agency agree the batches are such runs
 abbrev pub AgreedAreRuns : Type 0
 AgreedAreRuns = (entries : List Entry) (processed : List (Sealed × Line)) (sent : List (List Sealed)) →
     Agree entries processed sent →
-    AreRunsBy (recs entries) (length (noted entries) + BATCH) sent
+    AreRunsBy (recs entries) (length (noted entries) + MAX_BATCH) sent
 
 -- The shop stopped over notes that may stand in its file: with them too it agrees.
 pub record AgreesTorn (after : Sight) (new : Ledger) : Type 0 where

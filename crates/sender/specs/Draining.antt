@@ -15,7 +15,7 @@ use Rattle.sender.specs.declared.answers.DrainFault.TheVariants as drain
 use Rattle.sender.specs.declared.draining.Counted.{Counted}
 use Rattle.sender.specs.declared.draining.TheConstants.{MAX_LINK_FAULTS}
 use Rattle.sender.specs.Sending.{Sending}
-use Rattle.sender.specs.Turning.{AgencyKind, Desk, TurnCall, Turned, turn_call}
+use Rattle.sender.specs.Turning.{AgencyKind, AgencyState, TurnCall, Turned, turn_call}
 
 -- what is told of a turn: nothing where no record waited
 abbrev pub told_in : Result Turn SendFault → Option Told
@@ -83,18 +83,18 @@ LinksAfter made links then (Err drain.NoMemory) = made.answer ≡ Err NoMemory
 
 -- all that turns change: agency, shop, sender and the sleeper's moment
 pub record Scene : Type 0 where
-  pub desk : Desk
+  pub agency_state : AgencyState
   pub sight : Sight
   pub sending : Sending
   pub moment : ℕ
 
-abbrev pub scene_of : Desk → Sight → Sending → ℕ → Scene
-scene_of desk sight sending moment = record { desk = desk; sight = sight; sending = sending; moment = moment }
+abbrev pub scene_of : AgencyState → Sight → Sending → ℕ → Scene
+scene_of agency_state sight sending moment = record { agency_state = agency_state; sight = sight; sending = sending; moment = moment }
 
 -- the call of a turn between them
 abbrev pub turn_between : AgencyKind → Scene → Scene → ℕ → Result Turn SendFault → TurnCall
 turn_between kind before after now answer =
-    turn_call kind before.desk after.desk before.sight after.sight before.sending after.sending now answer
+    turn_call kind before.agency_state after.agency_state before.sight after.sight before.sending after.sending now answer
 
 -- one turn at the sleeper's second
 pub record IsTurn (kind : AgencyKind) (exact : Bool) (before after : Scene) (answer : Result Turn SendFault) : Type 0 where
@@ -104,7 +104,7 @@ pub record IsTurn (kind : AgencyKind) (exact : Bool) (before after : Scene) (ans
   pub turned : Turned (turn_between kind before after now answer)
   pub moment : after.moment ≡ moment_after before.moment answer
 
--- turns that go on, one after another, with so many link faults among them
+-- turns that go on, one after another, with this many link faults among them
 pub data Turns (kind : AgencyKind) (exact : Bool) (start : Scene) : List (Result Turn SendFault) → ℕ → Scene → Type 0 where
   none : Turns kind exact start [] 0 start
   more : (answers : List (Result Turn SendFault)) (links : ℕ) (scene : Scene) (answer : Result Turn SendFault) (then : Scene) →
@@ -126,7 +126,7 @@ pub record Made (kind : AgencyKind) (exact : Bool) (before after : Scene) (old n
   pub turn : IsTurn kind exact before after answer
   pub next : Next links then after.sight old new answer result
 
--- A drain: turns that go on, and the last one. Each is told, in order, unless memory was wanting for the last.
+-- A drain: turns that go on, and the last one. Each is told, in order, unless memory ran out for the last.
 pub record Drained (kind : AgencyKind) (exact : Bool) (before after : Scene) (old new : List Told)
     (result : Result (Unit {0}) DrainFault) : Type 0 where
   pub answers : List (Result Turn SendFault)

@@ -11,35 +11,35 @@ use Rattle.sender.specs.Turning.{TurnCall}
 
 -- the claim, of a turn with an agency that keeps its rules, in whose session the earlier turns were
 abbrev pub InItsSession : TurnCall → Type 0 → Type 0
-InItsSession t Claim = InOneSession t.kind.keeps_rules t.sight t.sight_after t.desk.ledger t.sending.said Claim
+InItsSession t Claim = InOneSession t.kind.keeps_rules t.sight t.sight_after t.agency_state.ledger t.sending.said Claim
 
 -- With an agency that keeps its rules the shop and the agency still agree.
 pub record StaysInAgreement (t : TurnCall) : Type 0 where
   -- what is noted are the agency's next lines, and it contradicts itself never
   pub keeps : InItsSession t
-      (KeepsAgreement t.sight t.sight_after t.desk.ledger t.desk_after.ledger t.sending_after.said t.answer)
+      (KeepsAgreement t.sight t.sight_after t.agency_state.ledger t.agency_state_after.ledger t.sending_after.said t.answer)
   -- where the disk failed amid its notes, the shop agrees with them too
-  pub torn : InItsSession t (AgreesIfTorn t.sight t.sight_after t.desk_after.ledger)
+  pub torn : InItsSession t (AgreesIfTorn t.sight t.sight_after t.agency_state_after.ledger)
 
 -- Nothing is handed over again blindly, with an agency that tells what was said.
 pub record RepeatsNothingBlindly (t : TurnCall) : Type 0 where
   -- no record is handed over again unless a consultation since has answered that it didn't come
-  pub careful : IsTrue t.kind.tells → (past : List Message) → IsCareful past t.sight t.desk.ledger.messages t.sending →
-      IsCareful past t.sight_after t.desk_after.ledger.messages t.sending_after
+  pub careful : IsTrue t.kind.tells → (past : List Message) → IsCareful past t.sight t.agency_state.ledger.messages t.sending →
+      IsCareful past t.sight_after t.agency_state_after.ledger.messages t.sending_after
   -- it keeps the last reply of its session that named its batch, until a consultation answers
-  pub kept : IsTrue t.kind.tells → (past : List Message) → KeepsReply past t.desk.ledger.messages t.sending.said →
-      KeepsReply past t.desk_after.ledger.messages t.sending_after.said
+  pub kept : IsTrue t.kind.tells → (past : List Message) → KeepsReply past t.agency_state.ledger.messages t.sending.said →
+      KeepsReply past t.agency_state_after.ledger.messages t.sending_after.said
 
 -- A link fault comes only where the agency's count of faults rose, and that falls never.
 pub record LinkFaultHasCause (t : TurnCall) : Type 0 where
-  pub later : t.desk.faults ≤ t.desk_after.faults
-  pub rose : IsErrOf t.answer LinkFault → Rose t.desk.faults t.desk_after.faults
+  pub later : t.agency_state.faults ≤ t.agency_state_after.faults
+  pub rose : IsErrOf t.answer LinkFault → Rose t.agency_state.faults t.agency_state_after.faults
 
 -- What the layers above need of a turn. The last two are what no call changes of its shop, before and after.
 pub record ServesAbove (t : TurnCall) {F : Type 0} (lasting lasting_after : F) : Type 0 where
   -- what is told of it is the line of its one message to the agency
-  pub told : IsTrue t.kind.tells → TellsOf t.desk.ledger.messages t.desk_after.ledger.messages t.answer
-  pub says : IsTrue t.kind.tells → SaysCalls t.desk.ledger.messages t.desk_after.ledger.messages
+  pub told : IsTrue t.kind.tells → TellsOf t.agency_state.ledger.messages t.agency_state_after.ledger.messages t.answer
+  pub says : IsTrue t.kind.tells → SaysCalls t.agency_state.ledger.messages t.agency_state_after.ledger.messages
   -- what its own notes added are notes, or the stop over them; and notes alone where the disk didn't fail amid them
   pub adds : Adds AreNotesOrTorn t.sight t.sight_after
   pub notes : (IsErrOf t.answer (Store DiskFault) → ⊥) → Adds AreNotes t.sight t.sight_after

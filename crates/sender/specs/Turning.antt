@@ -2,7 +2,8 @@
 use Rattle.std.specs.Prelude.{◌≡◌, ◌⊎◌, ℕ, ◌+◌, ◌-◌, ◌^◌, ◌<◌, ◌≤◌, List, [], map, length, Bool, true, false, Option, Some}
 use Rattle.std.specs.Prelude.{None, Result, Ok, Err, IsTrue, ⊤}
 use Rattle.record_fields.specs.declared.lines.Line.{Line}
-use Rattle.record_fields.specs.declared.lines.TheConstants.{BATCH}
+use Rattle.pacing.specs.declared.pace.TheConstants.{MAX_BATCH}
+use Rattle.record_codec.specs.declared.entry.TheConstants.{MAX_NOTES}
 use Rattle.pacing.specs.Pace.{is_due, due_at}
 use Rattle.batches.specs.Batches.{huellas_of}
 use Rattle.agency_port.specs.declared.agency.Agency as agency
@@ -44,7 +45,7 @@ pub record Notes (look after : Sight) (AreLines : List Line → Type 0) (count :
   pub lines : List Line
   pub are : AreLines lines
   pub some : 1 ≤ length lines
-  pub few : length lines ≤ BATCH
+  pub few : length lines ≤ MAX_NOTES
   pub count_is : count ≡ length lines
   pub grows : Grows look after
   pub noted : NotedBy look after lines answer
@@ -134,18 +135,18 @@ pub record AgencyKind : Type 0 where
   pub keeps_rules : Bool
 
 -- an agency's ledger and its count of faults
-pub record Desk : Type 0 where
+pub record AgencyState : Type 0 where
   pub ledger : Ledger
   pub faults : ℕ
 
 abbrev pub agency_kind_of : Bool → Bool → AgencyKind
 agency_kind_of tells keeps_rules = record { tells = tells; keeps_rules = keeps_rules }
 
-abbrev pub desk_of : {G : Type 0} → (G → Ledger) → (G → ℕ) → G → Desk
-desk_of ledger faults agency = record { ledger = ledger agency; faults = faults agency }
+abbrev pub agency_state_from : {G : Type 0} → (G → Ledger) → (G → ℕ) → G → AgencyState
+agency_state_from ledger faults agency = record { ledger = ledger agency; faults = faults agency }
 
 -- what the deed is to the agency
-abbrev pub Dealt : AgencyKind → Desk → Desk → Waiting → Deed → Type 0
+abbrev pub Dealt : AgencyKind → AgencyState → AgencyState → Waiting → Deed → Type 0
 Dealt kind old new shown Nothing = new ≡ old
 Dealt kind old new shown (Asked answer) =
     HasCause old.faults new.faults answer
@@ -159,7 +160,7 @@ Dealt kind old new shown (Handed answer) =
 
 -- what a look shows: at least one record waits
 pub record IsLook (look : Sight) (shown : Waiting) : Type 0 where
-  pub shows : ShowsWaiting look BATCH shown
+  pub shows : ShowsWaiting look MAX_BATCH shown
   pub legal : Legal look.version look.issuer (history_of look)
   pub some : shown.noted < shown.records
   pub small : shown.records < 2 ^ 32
@@ -175,8 +176,8 @@ NoteEnds look after lines result old new = Grows look after
 -- second, and its answer.
 pub record TurnCall : Type 0 where
   pub kind : AgencyKind
-  pub desk : Desk
-  pub desk_after : Desk
+  pub agency_state : AgencyState
+  pub agency_state_after : AgencyState
   pub sight : Sight
   pub sight_after : Sight
   pub sending : Sending
@@ -184,11 +185,11 @@ pub record TurnCall : Type 0 where
   pub now : ℕ
   pub answer : Result Turn SendFault
 
-abbrev pub turn_call : AgencyKind → Desk → Desk → Sight → Sight → Sending → Sending → ℕ → Result Turn SendFault → TurnCall
-turn_call kind desk desk_after sight sight_after sending sending_after now answer = record {
+abbrev pub turn_call : AgencyKind → AgencyState → AgencyState → Sight → Sight → Sending → Sending → ℕ → Result Turn SendFault → TurnCall
+turn_call kind agency_state agency_state_after sight sight_after sending sending_after now answer = record {
   kind = kind;
-  desk = desk;
-  desk_after = desk_after;
+  agency_state = agency_state;
+  agency_state_after = agency_state_after;
   sight = sight;
   sight_after = sight_after;
   sending = sending;
@@ -201,25 +202,25 @@ turn_call kind desk desk_after sight sight_after sending sending_after now answe
 abbrev pub this_turn : {G : Type 0} → agency.Ghosts G → G → G → Sight → Sight → Sending → Sending → ℕ → Result Turn SendFault →
     TurnCall
 this_turn kind agency agency_after sight sight_after sending sending_after now answer =
-    turn_call (agency_kind_of kind.tells kind.keeps_rules) (desk_of kind.ledger kind.faults agency)
-    (desk_of kind.ledger kind.faults agency_after) sight sight_after sending sending_after now answer
+    turn_call (agency_kind_of kind.tells kind.keeps_rules) (agency_state_from kind.ledger kind.faults agency)
+    (agency_state_from kind.ledger kind.faults agency_after) sight sight_after sending sending_after now answer
 
--- what is left of it behind its look
+-- what is left of it after its look
 abbrev pub behind : Sight → TurnCall → TurnCall
 behind look t =
-    turn_call t.kind t.desk t.desk_after look t.sight_after t.sending t.sending_after t.now t.answer
+    turn_call t.kind t.agency_state t.agency_state_after look t.sight_after t.sending t.sending_after t.now t.answer
 
--- a turn behind a look that showed this
+-- a turn after a look that showed this
 pub record Deals (t : TurnCall) (shown : Waiting) : Type 0 where
   pub deed : Deed
-  pub dealt : Dealt t.kind t.desk t.desk_after shown deed
+  pub dealt : Dealt t.kind t.agency_state t.agency_state_after shown deed
   pub ends : Ends t.sending t.now shown t.sight t.sight_after deed t.answer t.sending_after
 
--- One turn: a look at the first BATCH waiting records, at most one call of the agency, and at most one note.
+-- One turn: a look at the first MAX_BATCH waiting records, at most one call of the agency, and at most one note.
 pub record Turned (t : TurnCall) : Type 0 where
   pub look : Sight
   pub grows : Grows t.sight look
   pub own : look.own ≡ t.sight.own
   pub shown : Waiting
-  pub shows : ShowsWaiting look BATCH shown
+  pub shows : ShowsWaiting look MAX_BATCH shown
   pub deals : Deals (behind look t) shown

@@ -1,4 +1,4 @@
-// Turns until no record waits.
+//! Turns until no record waits.
 ghost use Rattle.std.specs.Prelude.{◌≡◌, ◌<◌, ◌≤◌, ◌+◌, ◌-◌, ◌*◌, ◌^◌, ◌++◌, ℕ, length, List, IsTrue, IsErrOf, OnOk, OnErr};
 ghost use Rattle.agency_port.specs.declared.messages.Message.{Message as AnyMessage};
 ghost use Rattle.agency_port.specs.declared.turns.Evidence.{Evidence as AnyEvidence};
@@ -8,9 +8,9 @@ ghost use Rattle.sender.specs.Agreeing.{InOneSession, KeepsReply, KeepsSession, 
 ghost use Rattle.sender.specs.Agreeing.{IsCareful};
 ghost use Rattle.sender.specs.declared.draining.TheConstants.{MAX_LINK_FAULTS};
 ghost use Rattle.sender.specs.Lines.{DrainTells, SaysCalls};
-ghost use Rattle.sender.specs.Turning.{agency_kind_of, desk_of};
+ghost use Rattle.sender.specs.Turning.{agency_kind_of, agency_state_from};
 ghost use Rattle.sender.specs.Draining.{told_in, told_list, moment_after, scene_of, LinksAfter, Made, Drained, IsBounded};
-ghost use Rattle.record_fields.specs.declared.lines.TheConstants.{BATCH};
+ghost use Rattle.pacing.specs.declared.pace.TheConstants.{MAX_BATCH};
 
 use crate::laws::what_is_known;
 use crate::{DrainFault, SendFault, Sender, Turn};
@@ -22,7 +22,7 @@ use shop_core::legal_is_chained;
 use std::alloc::Global;
 use std::sync::Wait;
 
-/// So many turns with a link fault end a drain.
+/// This many turns with a link fault end a drain.
 pub const MAX_LINK_FAULTS: u32 = 8;
 
 // What a turn answered, and the counts at its look.
@@ -52,7 +52,7 @@ fn told_of(answer: &Result<Turn, SendFault>) -> Option<Told>
     }
 }
 
-// Whether there is nothing more to do after this turn, with so many link faults before it.
+// Whether there is nothing more to do after this turn, with this many link faults before it.
 fn ends_with(made: &Counted, links: &mut u32) -> Result<bool, DrainFault>
     requires { links.old < MAX_LINK_FAULTS }
     ensures { LinksAfter made.now links.old links.new result }
@@ -110,8 +110,8 @@ impl Sender {
     ) -> Result<bool, DrainFault>
         requires { links.old < MAX_LINK_FAULTS }
         ensures made { Made (agency_kind_of G.tells G.keeps_rules) Z.tells
-            (scene_of (desk_of G.ledger G.faults agency.old) (O.sight outbox.old) self.old (Z.moment sleeper.old))
-            (scene_of (desk_of G.ledger G.faults agency.new) (O.sight outbox.new) self.new (Z.moment sleeper.new))
+            (scene_of (agency_state_from G.ledger G.faults agency.old) (O.sight outbox.old) self.old (Z.moment sleeper.old))
+            (scene_of (agency_state_from G.ledger G.faults agency.new) (O.sight outbox.new) self.new (Z.moment sleeper.new))
             turns.old turns.new links.old links.new result }
         ensures fixed { O.fixed outbox.new ≡ O.fixed outbox.old }
         ensures covers { O.least outbox.old ≤ length (O.sight outbox.new).items }
@@ -138,8 +138,8 @@ impl Sender {
         turns: &mut Turns,
     ) -> Result<(), DrainFault>
         ensures drained { Drained (agency_kind_of G.tells G.keeps_rules) Z.tells
-            (scene_of (desk_of G.ledger G.faults agency.old) (O.sight outbox.old) self.old (Z.moment sleeper.old))
-            (scene_of (desk_of G.ledger G.faults agency.new) (O.sight outbox.new) self.new (Z.moment sleeper.new))
+            (scene_of (agency_state_from G.ledger G.faults agency.old) (O.sight outbox.old) self.old (Z.moment sleeper.old))
+            (scene_of (agency_state_from G.ledger G.faults agency.new) (O.sight outbox.new) self.new (Z.moment sleeper.new))
             turns.old turns.new result }
         ensures fixed { O.fixed outbox.new ≡ O.fixed outbox.old }
 
@@ -190,7 +190,7 @@ impl Sender {
         // Where no record comes in between, the turns are bounded by the batches that waited and by the link faults.
         ensures bound { InOneSession G.keeps_rules (O.sight outbox.old) (O.sight outbox.new) (G.ledger agency.old) self.old.said
             (length (recs (history_of (O.sight outbox.new))) ≤ length (recs (history_of (O.sight outbox.old))) →
-            (batches : ℕ) → length (waiting (history_of (O.sight outbox.old))) ≤ BATCH * batches →
+            (batches : ℕ) → length (waiting (history_of (O.sight outbox.old))) ≤ MAX_BATCH * batches →
             IsBounded batches turns.old turns.new) }
     {
         legal_is_chained();
@@ -210,8 +210,8 @@ impl Sender {
         turns: &mut Turns,
     ) -> Result<(), DrainFault>
         ensures drained { Drained (agency_kind_of G.tells G.keeps_rules) Z.tells
-            (scene_of (desk_of G.ledger G.faults agency.old) (O.sight outbox.old) self.old (Z.moment sleeper.old))
-            (scene_of (desk_of G.ledger G.faults agency.new) (O.sight outbox.new) self.new (Z.moment sleeper.new))
+            (scene_of (agency_state_from G.ledger G.faults agency.old) (O.sight outbox.old) self.old (Z.moment sleeper.old))
+            (scene_of (agency_state_from G.ledger G.faults agency.new) (O.sight outbox.new) self.new (Z.moment sleeper.new))
             turns.old turns.new result }
         ensures fixed { O.fixed outbox.new ≡ O.fixed outbox.old }
         ensures covers { OnOk result (O.least outbox.old ≤ length (O.sight outbox.new).items) }

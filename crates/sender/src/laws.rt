@@ -1,4 +1,4 @@
-// What holds of every sender's turns.
+//! What holds of every sender's turns.
 ghost use Rattle.sender.specs.Known.{Known};
 ghost use Rattle.sender.specs.Agreeing.{GoesLit, BeginsCareful, AgreedAreRuns, BeginsInSession, BeginsWithoutReply};
 ghost use Rattle.sender.specs.Draining.{KeepsTime};
@@ -27,7 +27,7 @@ pub fn nothing_goes_blindly()
 }
 
 /// Where a session begins. A new sender is in session where shop and agency agree. It has handed nothing over in the dark where
-/// each batch before is a run of the records that ends at most 1000 past the noted ones, as it is where they agree.
+/// each batch before is a run of the records that ends at most `MAX_BATCH` past the noted ones, as it is where they agree.
 pub fn a_session_begins()
     ensures session { BeginsInSession }
     ensures reply { BeginsWithoutReply }

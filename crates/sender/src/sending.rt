@@ -1,4 +1,4 @@
-// The sender of one chain.
+//! The sender of one chain.
 ghost use Rattle.std.specs.Prelude.{◌≡◌, ◌≤◌, ◌<◌, ◌^◌, ℕ, IsErrOf, true, false, length};
 ghost use Rattle.pacing.specs.Pace.{is_due};
 ghost use Rattle.shop_core.specs.History as history;
@@ -9,7 +9,8 @@ ghost use Rattle.agency_port.specs.Ledger.{Names};
 ghost use Rattle.sender.specs.Draining.{CountsOf};
 ghost use Rattle.sender.specs.TurnCalls.{StaysInAgreement, RepeatsNothingBlindly, LinkFaultHasCause, ServesAbove};
 ghost use Rattle.sender.specs.Turning.{NoteEnds, IsLook, Deals, Replies, Turned, count_waiting, this_turn};
-ghost use Rattle.record_fields.specs.declared.lines.TheConstants.{BATCH};
+ghost use Rattle.pacing.specs.declared.pace.TheConstants.{MAX_BATCH};
+ghost use Rattle.record_codec.specs.declared.entry.TheConstants.{MAX_NOTES};
 
 use crate::draining::Counted;
 use crate::evidence::learn;
@@ -19,8 +20,8 @@ use agency_port::{Agency, AgencyFault, Reply, the_last_named_reply_is_kept};
 use agency_replies::{Sorted, sort_reply};
 use batches::{Batch, Huellas};
 use once_world::Outbox;
-use pacing::{Pace, WaitUntil};
-use record_fields::{BATCH, Line};
+use pacing::{MAX_BATCH, Pace, WaitUntil};
+use record_fields::Line;
 use shop_core::{
     Waiting, a_history_notes_its_records, a_run_of_a_history_is_linked, legal_is_chained,
 };
@@ -71,7 +72,7 @@ impl Sender {
         lines: &[Line],
     ) -> Result<Turn, SendFault>
         requires some { 1 ≤ length lines.now }
-        requires few { length lines.now ≤ BATCH }
+        requires few { length lines.now ≤ MAX_NOTES }
         requires fits { length lines.now ≤ length (history.waiting (history_of (O.sight outbox.old))) }
         ensures ends { NoteEnds (O.sight outbox.old) (O.sight outbox.new) lines.now result self.old self.new }
         ensures fixed { O.fixed outbox.new ≡ O.fixed outbox.old }
@@ -153,13 +154,13 @@ impl Sender {
                 if !reply.huellas().are_of(batch.as_slice()) {
                     return Err(SendFault::LinkFault);
                 }
-                self.hear(rt, alloc, outbox, shown, &batch, reply)
+                self.keep_reply(rt, alloc, outbox, shown, &batch, reply)
             }
         }
     }
 
     // Keeps a reply that names its batch, and notes its lines where all are new.
-    fn hear<R: Wait, O: Outbox>(
+    fn keep_reply<R: Wait, O: Outbox>(
         &mut self,
         rt: &R,
         alloc: Global,
@@ -189,7 +190,7 @@ impl Sender {
         }
     }
 
-    // A turn behind the look that showed this.
+    // A turn after the look that showed this.
     fn act<R: Wait, O: Outbox, G: Agency>(
         &mut self,
         rt: &R,
@@ -199,7 +200,7 @@ impl Sender {
         shown: &Waiting,
         now: u64,
     ) -> Result<Turn, SendFault>
-        requires shows { ShowsWaiting (O.sight outbox.old) BATCH shown.now }
+        requires shows { ShowsWaiting (O.sight outbox.old) MAX_BATCH shown.now }
         requires legal { Legal (O.sight outbox.old).version (O.sight outbox.old).issuer (history_of (O.sight outbox.old)) }
         ensures ends { Deals (this_turn G.Agency agency.old agency.new (O.sight outbox.old) (O.sight outbox.new)
             self.old self.new now result) shown.now }
@@ -235,7 +236,7 @@ impl Sender {
         ensures covers { O.least outbox.old ≤ length (O.sight outbox.new).items }
         ensures counts { IsErrOf result.answer SendFault.LinkFault → CountsOf (O.sight outbox.new) result.noted result.records }
     {
-        match outbox.waiting(rt, alloc, BATCH) {
+        match outbox.waiting(rt, alloc, MAX_BATCH) {
             Err(_) => Counted {
                 noted: 0,
                 records: 0,
@@ -249,7 +250,7 @@ impl Sender {
         }
     }
 
-    /// One turn: a look at the first `BATCH` waiting records. In doubt it asks the agency for them; otherwise it hands them over
+    /// One turn: a look at the first `MAX_BATCH` waiting records. In doubt it asks the agency for them; otherwise it hands them over
     /// as a batch, where a submission is due at this second. What the agency says is noted.
     pub fn turn<R: Wait, O: Outbox, G: Agency>(
         &mut self,

@@ -254,17 +254,17 @@ module _ {C : Type 0} (base log : List Item) (root : Root C) (tills : List (Know
 
   module _ (h : Shared) (start es : List Entry) (stopped : Option ℕ) (torn : Option Entry) where
     -- the store that it gave
-    pub record Kept : Type 0 where
+    pub record GivenStore : Type 0 where
       pub base_is : base ≡ map item.Entry start
       pub log_is : log ≡ map item.Entry es ++ stop_in stopped torn
       pub begins : StartsWith es start
 
-    seen_entries : Kept → es ≡ entries_of then.seen ++ entries_of (rest_of h)
+    seen_entries : GivenStore → es ≡ entries_of then.seen ++ entries_of (rest_of h)
     seen_entries s = sym (entries_in es stopped torn) ∙ ap entries_of (sym s.log_is ∙ rest_is h) ∙ entries_both then.seen
         (rest_of h)
 
     -- what waited at the last sight still does, in front, and no line came
-    pub still_waits : Kept → (noted es ≡ noted (entries_of then.seen)) × IsPrefix (waiting (entries_of then.seen)) (waiting es)
+    pub still_waits : GivenStore → (noted es ≡ noted (entries_of then.seen)) × IsPrefix (waiting (entries_of then.seen)) (waiting es)
     still_waits s =
         let seen = entries_of then.seen in
         let rest = entries_of (rest_of h) in
@@ -278,20 +278,20 @@ module _ {C : Type 0} (base log : List Item) (root : Root C) (tills : List (Know
         (same, subst (λ (n : List Line). IsPrefix (waiting seen) (drop (length n) (recs es))) (sym same) first)
 
     -- the records of all are those of what it has seen, and more
-    pub more_records : Kept → (more : List Sealed) × (recs es ≡ recs (entries_of then.seen) ++ more)
+    pub more_records : GivenStore → (more : List Sealed) × (recs es ≡ recs (entries_of then.seen) ++ more)
     more_records s = (
       recs (entries_of (rest_of h)),
       ap recs (seen_entries s) ∙ recs_both (entries_of then.seen) (entries_of (rest_of h)),
     )
 
-    pub agreed : Kept → RecordsKeepAgreement → (new : Ledger) → Agree (entries_of then.seen) new.processed new.sent →
+    pub agreed : GivenStore → RecordsKeepAgreement → (new : Ledger) → Agree (entries_of then.seen) new.processed new.sent →
         Agree es new.processed new.sent
     agreed s records new agree =
         subst (λ (l : List Entry). Agree l new.processed new.sent) (sym (seen_entries s))
         (records (entries_of then.seen) (entries_of (rest_of h)) new.processed new.sent agree
         (records_of_tills (rest_of h) (rest_theirs h)))
 
-    pub agreed_torn : Kept → RecordsKeepAgreement → (new : Ledger) → Agree (entries_of then.seen) new.processed new.sent →
+    pub agreed_torn : GivenStore → RecordsKeepAgreement → (new : Ledger) → Agree (entries_of then.seen) new.processed new.sent →
         AgreesIfTorn (sight_by seat) (sight_by then) new → Agree (with_torn es stopped torn) new.processed new.sent
     agreed_torn s records new agree if_torn = by_case stopped torn s.log_is
       where
@@ -319,7 +319,7 @@ module _ {C : Type 0} (base log : List Item) (root : Root C) (tills : List (Know
             ]
 
     -- what is torn is a till's record, or what the last message says
-    pub torn_said : Kept → (messages : List Message) → TearsSaid (sight_by seat) (sight_by then) messages →
+    pub torn_said : GivenStore → (messages : List Message) → TearsSaid (sight_by seat) (sight_by then) messages →
         AllByRecursion (IsTornSaid es messages) (torn_of (stop_of stopped torn))
     torn_said s messages tears = by_case stopped torn s.log_is
       where
@@ -349,7 +349,7 @@ module _ {C : Type 0} (base log : List Item) (root : Root C) (tills : List (Know
             )
 
     -- where the seat has seen a stop at the end, the shop has stopped
-    pub is_stopped : Kept → EndsStopped then.seen → IsSome stopped
+    pub is_stopped : GivenStore → EndsStopped then.seen → IsSome stopped
     is_stopped s ends = by_case stopped torn s.log_is
       where
         by_case : (n : Option ℕ) (t : Option Entry) → log ≡ map item.Entry es ++ stop_in n t → IsSome n

@@ -31,7 +31,7 @@ use Rattle.till_calls.specs.Root.{Root, Parts, items_in, root_of, stop_in}
 use Rattle.till_calls.specs.Sound.{IsSound}
 use Rattle.sender.specs.Agreeing.{Adds, AreNotes, AreNotesOrTorn}
 use Rattle.sender.specs.declared.answers.DrainFault.{DrainFault}
-use Rattle.sender.specs.Turning.{Desk, AgencyKind}
+use Rattle.sender.specs.Turning.{AgencyState, AgencyKind}
 use Rattle.sender_session.specs.Session.{FailsAtNotes, IsDiskAnswer}
 use Rattle.sender_beside.specs.Beside.{SendsBeside}
 use Rattle.sender_beside.specs.Days.{Day, TillReplies, all_replies, shop_day, stop_of}
@@ -182,7 +182,7 @@ module _ {D C : Type 0} (tells : Bool) (tell : D → OnDisk) (faults : D → ℕ
   served : (base : List Item) → length base ≡ length root.history → Sound → (r : Row C) → RowTold coming asks base root p.stopped
       p.torn p.state.entries for_no_other what_is_taken r →
       TakenItems r.part.replies (records_of r.part.till (drop (length base) (items_in p))) →
-      (tills : List TillReplies) (kind : AgencyKind) (opened after : Desk) (answer : Result (Unit {0}) DrainFault) →
+      (tills : List TillReplies) (kind : AgencyKind) (opened after : AgencyState) (answer : Result (Unit {0}) DrainFault) →
       TillServed (shop_day coming asks root p tills kind opened after answer) (r.part)
   served base size sound r t own_items tills kind opened after answer =
       let total = length-append (map item.Entry p.state.entries) (stop_in p.stopped p.torn) in
@@ -202,7 +202,7 @@ module _ {D C : Type 0} (tells : Bool) (tell : D → OnDisk) (faults : D → ℕ
   module _ (base : List Item) (size : length base ≡ length root.history) (rows : List (Row C)) (seat : Known Item (Root C))
       (distinct : AreDistinct (map (λ (r : Row C). r.part.till) rows))
       (news : AllByRecursion (λ (r : Row C). IsNew base root r.from) rows)
-      (first : Known Item (Root C)) (first_new : IsNew base root first) (kind : AgencyKind) (opened after : Desk)
+      (first : Known Item (Root C)) (first_new : IsNew base root first) (kind : AgencyKind) (opened after : AgencyState)
       (answer : Result (Unit {0}) DrainFault)
       (bare : (till : ℕ) → OwnsNone till seat)
       (Untorn : Type 0) (noted : AllByRecursion (λ (z : ℕ × Item). AreNotesOrTorn z.1 × (Untorn → AreNotes z.1)) seat.own)
@@ -289,7 +289,7 @@ module _ {D C : Type 0} (tells : Bool) (tell : D → OnDisk) (faults : D → ℕ
           within = h.within;
         }
 
-    pub whole : SendsBeside day → DayRun (record { tells = tells; told = tell; faults = faults; coming = coming }) root p day
+    pub whole : SendsBeside day → DayRun (record { tells = tells; on_disk = tell; faults = faults; coming = coming }) root p day
     whole sends = record {
       sound = sound;
       served = each_map (λ (r : Row C). r.part) (TillServed day) rows all_served;
@@ -375,14 +375,14 @@ module _ {D C : Type 0} (tells : Bool) (tell : D → OnDisk) (faults : D → ℕ
       (seen_whole tell faults coming asks p root base within sees ran.rows news.0 ran.worked seat then h' told') delivered)
 
   -- the day of the tills that ran and of the sender beside them, once their shop is closed
-  pub ended : (kind : AgencyKind) (opened after : Desk) (answer : Result (Unit {0}) DrainFault) → AddsForNoOther coming → AddsWhatIsTaken coming →
+  pub ended : (kind : AgencyKind) (opened after : AgencyState) (answer : Result (Unit {0}) DrainFault) → AddsForNoOther coming → AddsWhatIsTaken coming →
       length base ≡ length root.history → AreDistinct tills → Shared base (items_in p) root new
       seat then →
       Adds AreNotes (sight_by seat) (sight_by then) ⊎ FailsAtNotes kind opened after answer → (IsDiskAnswer answer → IsSome p.stopped) →
       IsSound tells tell faults coming root p →
       OnOk answer (length (noted_in p.state.entries) ≡ length (recs p.state.entries)) →
       SendsBeside (shop_day coming asks root p parts kind opened after answer) →
-      DayRun (record { tells = tells; told = tell; faults = faults; coming = coming }) root p
+      DayRun (record { tells = tells; on_disk = tell; faults = faults; coming = coming }) root p
       (shop_day coming asks root p parts kind opened after answer)
   ended kind opened after answer for_no_other what_is_taken size distinct h notes disk sound counted sends =
       let distinct' : AreDistinct (map (λ (r : Row C). r.part.till) ran.rows) =
@@ -395,7 +395,7 @@ module _ {D C : Type 0} (tells : Bool) (tell : D → OnDisk) (faults : D → ℕ
       subst (λ (l : List (Known Item (Root C))). (n : ℕ) → length base ≤ n → n < length (items_in p) → owners n (l ++ then ∷ []) ≡
       1) ran.new_are h.since in
       let Told : List TillReplies → Day = λ l. shop_day coming asks root p l kind opened after answer in
-      subst (λ (l : List TillReplies). DayRun (record { tells = tells; told = tell; faults = faults; coming = coming }) root p (Told l))
+      subst (λ (l : List TillReplies). DayRun (record { tells = tells; on_disk = tell; faults = faults; coming = coming }) root p (Told l))
       (sym ran.parts_are)
       (whole tells tell faults coming asks root p for_no_other what_is_taken base size ran.rows then distinct' news.0 seat news.1 kind opened after
       answer (bare base (items_in p) root new seat then h) (Adds AreNotes (sight_by seat) (sight_by then))

@@ -24,7 +24,7 @@ use Rattle.till_calls.specs.Sound.{IsSound}
 use Rattle.sender.specs.Agreeing.{BeginsCareful, BeginsInSession, InSession, IsCareful, KeepsReply}
 use Rattle.sender.specs.Evidence.{Shows}
 use Rattle.sender.specs.Sending.{Sending, fresh}
-use Rattle.sender.specs.Turning.{Desk, AgencyKind}
+use Rattle.sender.specs.Turning.{AgencyState, AgencyKind}
 use Rattle.sender.specs.declared.answers.DrainFault.{DrainFault}
 use Rattle.sender.specs.declared.answers.DrainFault.TheVariants as drain
 use Rattle.shop_core.specs.Answer.Requests.{Asked}
@@ -39,19 +39,19 @@ use Rattle.sender_session.proofs.Batches.{runs_more}
 use Rattle.sender_session.proofs.Clear.{nothing_before}
 use Rattle.sender_session.proofs.Contrary.{asked_of_more, none_yet, one_shown}
 use Rattle.sender_session.proofs.NotingTurns.{at_end_noted}
-use Rattle.sender_beside.proofs.ClosedShop.{Kept, Shared, agreed, agreed_torn, gains, more_records, still_waits, torn_said}
+use Rattle.sender_beside.proofs.ClosedShop.{GivenStore, Shared, agreed, agreed_torn, gains, more_records, still_waits, torn_said}
 
-module _ {D C : Type 0} (tells : Bool) (told : D → OnDisk) (faults : D → ℕ) (coming : C → ℕ → Option ℕ) (p : Parts D C)
+module _ {D C : Type 0} (tells : Bool) (on_disk : D → OnDisk) (faults : D → ℕ) (coming : C → ℕ → Option ℕ) (p : Parts D C)
     (root : Root C) (base : List Item) (tills : List (Known Item (Root C))) (seat then : Known Item (Root C))
     (h : Shared base (items_in p) root tills seat then)
-    (sound : IsSound tells told faults coming root p) (is : base ≡ map item.Entry root.history)
+    (sound : IsSound tells on_disk faults coming root p) (is : base ≡ map item.Entry root.history)
     (legal : Legal root.version root.issuer root.history) (asks : List Asked) (told_all : List TillReplies)
-    (kind : AgencyKind) (old new : Desk) (sending : Sending) (answer : Result (Unit {0}) DrainFault)
+    (kind : AgencyKind) (old new : AgencyState) (sending : Sending) (answer : Result (Unit {0}) DrainFault)
     (sends : SendsOn kind (sight_by seat) (sight_by then) old new fresh sending answer) where
   abbrev day : Day
   day = shop_day coming asks root p told_all kind old new answer
 
-  kept : Kept base (items_in p) root tills seat then h root.history p.state.entries p.stopped p.torn
+  kept : GivenStore base (items_in p) root tills seat then h root.history p.state.entries p.stopped p.torn
   kept = record { base_is = is; log_is = refl; begins = sound.begins }
 
   begun : history_of (sight_by seat) ≡ root.history

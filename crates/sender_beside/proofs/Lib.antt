@@ -8,3 +8,4 @@ pub mod SeenAll
 pub mod DayRuns
 pub mod Joined
 pub mod SenderSent
+pub mod Behind

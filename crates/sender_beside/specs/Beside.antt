@@ -16,8 +16,9 @@ use Rattle.sender_session.specs.Session.{AreOfChain, SaysNothingBlindly, FailsEi
 use Rattle.sender_session.specs.Session.{AnsweredByDrain}
 use Rattle.sender_session.specs.Noting.{NotesSaid, TornSaid}
 use Rattle.sender_session.specs.Contradictions.{ShowsLast, NoneBefore}
+use Rattle.pacing.specs.declared.pace.TheConstants.{MAX_BATCH}
 
--- So many lines and records were counted, some record waited, and only records came since: the history has just these lines, and
+-- This many lines and records were counted, some record waited, and only records came since: the history has just these lines, and
 -- no fewer records.
 pub record CountsWithin (entries : List Entry) (noted_count records_count : ℕ) : Type 0 where
   pub noted_is : noted_count ≡ length (noted entries)
@@ -40,12 +41,12 @@ pub record SendsBeside (d : Day) : Type 0 where
   pub agreement : IsTrue d.kind.keeps_rules → Agree d.start d.opened.ledger.processed d.opened.ledger.sent → StaysAgreed d
   -- no record is handed over again unless a consultation since has answered that it wasn't seen
   pub careful : IsTrue d.kind.tells →
-      AreRunsBy (recs d.start) (length (noted d.start) + 1000) (batches_in d.opened.ledger.messages) →
+      AreRunsBy (recs d.start) (length (noted d.start) + MAX_BATCH) (batches_in d.opened.ledger.messages) →
       SaysNothingBlindly d.opened.ledger.messages d.after.ledger.messages
   -- where all batches were such runs of the chain they are at the end
   pub runs : IsTrue d.kind.tells → AreOfChain d.start d.opened.ledger.messages → AreOfChain d.end d.after.ledger.messages
   pub says : IsTrue d.kind.tells → SaysCalls d.opened.ledger.messages d.after.ledger.messages
-  -- a contradiction is answered exactly where the last message is a consultation that shows it, but for want of memory
+  -- a contradiction is answered exactly where the last message is a consultation that shows it, but for lack of memory
   pub contrary : IsTrue d.kind.tells → (evidence : Evidence) → IsErrOf d.answer (drain.Contradiction evidence) →
       ShowsLast d.end d.opened.ledger.messages d.after.ledger.messages evidence
   pub shown : IsTrue d.kind.tells → (evidence : Evidence) →

@@ -2,7 +2,7 @@
 use Rattle.std.specs.Prelude.{ℕ, List, [], ◌∷◌, flat_map, Option, Some, None, Result}
 use Rattle.record_fields.specs.declared.versions.Version.{Version}
 use Rattle.record_codec.specs.declared.entry.Entry.{Entry}
-use Rattle.sender.specs.Turning.{Desk, AgencyKind}
+use Rattle.sender.specs.Turning.{AgencyState, AgencyKind}
 use Rattle.sender.specs.declared.answers.DrainFault.{DrainFault}
 use Rattle.shop_core.specs.Answer.Requests.{Asked}
 use Rattle.till_calls.specs.Root.{Parts, Root}
@@ -24,7 +24,7 @@ pub record Stop : Type 0 where
   pub torn : Entry
 
 -- A day of a shop: whose it is, the version of its history, what was asked, and the coming answers of the clock; the history at
--- its start and at its end, and the stop after that; what each till was told; what the agency's kind tells, and its desk once the
+-- its start and at its end, and the stop after that; what each till was told; what the agency's kind tells, and its state once the
 -- session was open and at the end; and how the sending ended.
 pub record Day : Type 0 where
   pub issuer : List ℕ
@@ -36,8 +36,8 @@ pub record Day : Type 0 where
   pub stop : Option Stop
   pub tills : List TillReplies
   pub kind : AgencyKind
-  pub opened : Desk
-  pub after : Desk
+  pub opened : AgencyState
+  pub after : AgencyState
   pub answer : Result (Unit {0}) DrainFault
 
 -- the entry of the stop, where there is one
@@ -52,8 +52,8 @@ stop_of (Some count) None = None
 stop_of None torn = None
 
 -- the day of a shop that was this at its start, and left these parts of its store
-abbrev pub shop_day : {D C : Type 0} → (C → ℕ → Option ℕ) → List Asked → Root C → Parts D C → List TillReplies → AgencyKind → Desk →
-    Desk → Result (Unit {0}) DrainFault → Day
+abbrev pub shop_day : {D C : Type 0} → (C → ℕ → Option ℕ) → List Asked → Root C → Parts D C → List TillReplies → AgencyKind → AgencyState →
+    AgencyState → Result (Unit {0}) DrainFault → Day
 shop_day coming asks root new tills kind opened after answer = record {
   issuer = root.issuer;
   version = root.version;

@@ -2,3 +2,4 @@ pub mod Days
 pub mod Beside
 pub mod Tills
 pub mod Works
+pub mod Behind

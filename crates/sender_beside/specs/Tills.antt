@@ -150,7 +150,7 @@ StopIs d faults faults_after (Some stop) = IsStop d faults faults_after stop
 -- What a day makes of a shop, which was this at its start, with the parts of its store after its close. No other till has a
 -- record since the start. Where the sender is done each record has its line noted.
 pub record DayRun {D C : Type 0} (h : StoreKind D C) (root : Root C) (new : Parts D C) (d : Day) : Type 0 where
-  pub sound : IsSound h.tells h.told h.faults h.coming root new
+  pub sound : IsSound h.tells h.on_disk h.faults h.coming root new
   pub served : AllByRecursion (TillServed d) d.tills
   pub others : (till : ℕ) → AllByRecursion (λ (t : TillReplies). t.till ≢ till) d.tills →
       own_of till (drop (length d.start) d.end) ≡ []

@@ -1,10 +1,10 @@
-// The tills of a shop and their sender, at the same time.
+//! The tills of a shop and their sender, at the same time.
 ghost use Rattle.std.specs.Prelude.{◌≡◌};
 ghost use Rattle.sender.specs.Sending.{fresh};
 ghost use Rattle.till_calls.specs.Mark.{mark_by, sight_by};
 ghost use Rattle.till_calls.specs.Shop.{seat_knows, seat_shop, shop_id};
-ghost use Rattle.sender_session.specs.Kinds.{agency_desk, agency_kind};
-ghost use Rattle.sender_session.specs.Session.{SendsOn};
+ghost use Rattle.sender_session.specs.Kinds.{agency_state_of, agency_kind};
+ghost use Rattle.sender_session.specs.Session.{IsUndelivered, SendsOn};
 
 use crate::sending::{Sent, send_part};
 use agency_port::Agency;
@@ -69,7 +69,8 @@ where
     ensures work { W.run_gives work result.1 }
     ensures mark { mark_by (seat_shop result.0.seat) (seat_knows result.0.seat) ≡ mark_by (seat_shop seat) (seat_knows seat) }
     ensures sends { SendsOn (agency_kind G.Agency) (sight_by (seat_knows seat)) (sight_by (seat_knows result.0.seat))
-        (agency_desk G.Agency agency) (agency_desk G.Agency result.0.agency) fresh result.0.sender result.0.answer }
+        (agency_state_of G.Agency agency) (agency_state_of G.Agency result.0.agency) fresh result.0.sender result.0.answer }
+    ensures never { IsUndelivered result.0.answer → ⊥ }
 {
     let stop = AtomicBool::new(false);
     let told = &stop;
@@ -79,7 +80,8 @@ where
             requires { seat_shop seat ≡ shop_id shop.now }
             ensures { (mark_by (seat_shop result.seat) (seat_knows result.seat) ≡ mark_by (seat_shop seat) (seat_knows seat))
                 × SendsOn (agency_kind G.Agency) (sight_by (seat_knows seat)) (sight_by (seat_knows result.seat))
-                (agency_desk G.Agency agency) (agency_desk G.Agency result.agency) fresh result.sender result.answer }
+                (agency_state_of G.Agency agency) (agency_state_of G.Agency result.agency) fresh result.sender result.answer
+                × (IsUndelivered result.answer → ⊥) }
         { send_part(means, shop, seat, agency, sleeper, told) },
         move || -> W::Output
             requires { W.can_run work }
@@ -120,7 +122,8 @@ where
     ensures work { F.step work.old tt work.new }
     ensures mark { mark_by (seat_shop result.seat) (seat_knows result.seat) ≡ mark_by (seat_shop seat) (seat_knows seat) }
     ensures sends { SendsOn (agency_kind G.Agency) (sight_by (seat_knows seat)) (sight_by (seat_knows result.seat))
-        (agency_desk G.Agency agency) (agency_desk G.Agency result.agency) fresh result.sender result.answer }
+        (agency_state_of G.Agency agency) (agency_state_of G.Agency result.agency) fresh result.sender result.answer }
+    ensures never { IsUndelivered result.answer → ⊥ }
 {
     let (sent, work) = run_beside(means, shop, seat, agency, sleeper, Lent { work });
     take_back(work);

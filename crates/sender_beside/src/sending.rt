@@ -1,14 +1,14 @@
-// A day's sender: its turns at the same time as the tills, and its drain after them.
-ghost use Rattle.std.specs.Prelude.{◌≡◌, ◌≤◌, length, OnOk};
+//! A day's sender: its turns at the same time as the tills, and its drain after them.
+ghost use Rattle.std.specs.Prelude.{◌≡◌, ◌≤◌, length, OnErr, OnOk};
 ghost use Rattle.once_world.specs.Outbox.{Sight, history_of};
 ghost use Rattle.shop_core.specs.History.{noted, recs};
-ghost use Rattle.sender.specs.Draining.{scene_of};
 ghost use Rattle.sender.specs.Sending.{Sending, fresh};
-ghost use Rattle.sender.specs.Turning.{Desk};
+ghost use Rattle.sender.specs.Turning.{AgencyState};
 ghost use Rattle.till_calls.specs.Mark.{mark_by, sight_by};
 ghost use Rattle.till_calls.specs.Shop.{seat_knows, seat_shop, shop_id};
-ghost use Rattle.sender_session.specs.Kinds.{agency_desk, agency_kind};
-ghost use Rattle.sender_session.specs.Session.{DrainsTo, SendsOn};
+ghost use Rattle.sender_session.specs.Kinds.{agency_state_of, agency_kind};
+ghost use Rattle.sender_session.specs.Session.{DrainsTo, IsUndelivered, SendsOn};
+ghost use Rattle.sender_beside.specs.Behind.{scene_in};
 
 use agency_port::{Agency, Turns};
 use chain_disk::Disk;
@@ -43,7 +43,8 @@ pub(crate) fn send_part<D: Disk, C: Clock, G: Agency + Drop, Z: Sleeper + Drop, 
     requires own { seat_shop seat ≡ shop_id shop.now }
     ensures mark { mark_by (seat_shop result.seat) (seat_knows result.seat) ≡ mark_by (seat_shop seat) (seat_knows seat) }
     ensures sends { SendsOn (agency_kind G.Agency) (sight_by (seat_knows seat)) (sight_by (seat_knows result.seat))
-        (agency_desk G.Agency agency) (agency_desk G.Agency result.agency) fresh result.sender result.answer }
+        (agency_state_of G.Agency agency) (agency_state_of G.Agency result.agency) fresh result.sender result.answer }
+    ensures never { IsUndelivered result.answer → ⊥ }
 {
     let mut outbox = shop.seat_box(seat);
     let mut sender = Sender::new();
@@ -74,15 +75,14 @@ pub fn drain_rest<D: Disk, C: Clock, G: Agency + Drop, Z: Sleeper + Drop, T, R: 
     requires own { seat_shop sent.seat ≡ shop_id shop.now }
     ensures mark { mark_by (seat_shop result.seat) (seat_knows result.seat)
         ≡ mark_by (seat_shop sent.seat) (seat_knows sent.seat) }
-    ensures sends { (before : Sight) (old : Desk) (sending : Sending) →
-        SendsOn (agency_kind G.Agency) before (sight_by (seat_knows sent.seat)) old (agency_desk G.Agency sent.agency) sending
+    ensures sends { (before : Sight) (old : AgencyState) (sending : Sending) →
+        SendsOn (agency_kind G.Agency) before (sight_by (seat_knows sent.seat)) old (agency_state_of G.Agency sent.agency) sending
         sent.sender sent.answer →
-        SendsOn (agency_kind G.Agency) before (sight_by (seat_knows result.seat)) old (agency_desk G.Agency result.agency)
+        SendsOn (agency_kind G.Agency) before (sight_by (seat_knows result.seat)) old (agency_state_of G.Agency result.agency)
         sending result.sender result.answer }
     ensures turns { OnOk sent.answer (DrainsTo (agency_kind G.Agency) Z.tells
-        (scene_of (agency_desk G.Agency sent.agency) (sight_by (seat_knows sent.seat)) sent.sender (Z.moment sent.sleeper))
-        (scene_of (agency_desk G.Agency result.agency) (sight_by (seat_knows result.seat)) result.sender
-        (Z.moment result.sleeper)) result.answer) }
+        (scene_in (agency_state_of G.Agency) Z.moment sent) (scene_in (agency_state_of G.Agency) Z.moment result) result.answer) }
+    ensures failed { OnErr sent.answer (result ≡ sent) }
     ensures covers { OnOk result.answer ((seat_knows sent.seat).least ≤ length (seat_knows result.seat).seen) }
     ensures delivered { OnOk result.answer (length (noted (history_of (sight_by (seat_knows result.seat))))
         ≡ length (recs (history_of (sight_by (seat_knows result.seat))))) }

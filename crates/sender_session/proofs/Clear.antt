@@ -11,7 +11,7 @@ use Rattle.sender.specs.Agreeing.{KeepsReply}
 use Rattle.sender.specs.Draining.{Drained, Scene, Turns, none as no_turn, more as one_turn}
 use Rattle.sender.specs.Lines.{TellsOf}
 use Rattle.sender.specs.Sending.{Sending}
-use Rattle.sender.specs.Turning.{Desk, AgencyKind, Turned, turn_call}
+use Rattle.sender.specs.Turning.{AgencyState, AgencyKind, Turned, turn_call}
 use Rattle.sender.proofs.Telling.{turn_tells}
 use Rattle.sender_session.specs.Contradictions.{NoneBefore, ShowsNothing}
 use Rattle.sender_session.proofs.Contrary.{same_ends, turns_show_nothing}
@@ -52,32 +52,32 @@ tells_before : (past old new : List Message) (answer : Result Turn SendFault) �
 tells_before past old new answer (inl quiet) clear before = subst (λ (ms : List Message). NoneBefore past ms) (sym quiet.0) before
 tells_before past old new answer (inr spoke) clear before = one_more past old new spoke.message spoke.said clear before
 
-pub turn_before : (kind : AgencyKind) (desk desk_then : Desk) (before after : Sight) (old new : Sending) (now : ℕ)
-    (answer : Result Turn SendFault) → Turned (turn_call kind desk desk_then before after old new now answer) → IsTrue kind.tells →
-    (past : List Message) → KeepsReply past desk.ledger.messages old.said → ShowsNothing past desk.ledger.messages →
-    NoneBefore past desk.ledger.messages → NoneBefore past desk_then.ledger.messages
-turn_before kind desk desk_then before after old new now answer t tells past k clear none = tells_before past desk.ledger.messages
-    desk_then.ledger.messages answer (turn_tells kind desk desk_then before after old new now answer t tells) clear none
+pub turn_before : (kind : AgencyKind) (agency_state agency_state_then : AgencyState) (before after : Sight) (old new : Sending) (now : ℕ)
+    (answer : Result Turn SendFault) → Turned (turn_call kind agency_state agency_state_then before after old new now answer) → IsTrue kind.tells →
+    (past : List Message) → KeepsReply past agency_state.ledger.messages old.said → ShowsNothing past agency_state.ledger.messages →
+    NoneBefore past agency_state.ledger.messages → NoneBefore past agency_state_then.ledger.messages
+turn_before kind agency_state agency_state_then before after old new now answer t tells past k clear none = tells_before past agency_state.ledger.messages
+    agency_state_then.ledger.messages answer (turn_tells kind agency_state agency_state_then before after old new now answer t tells) clear none
 
 turns_before : (kind : AgencyKind) (exact : Bool) (tells : IsTrue kind.tells) (past : List Message) (start : Scene)
     (answers : List (Result Turn SendFault)) (links : ℕ) (scene : Scene) → Turns kind exact start answers links scene →
-    KeepsReply past start.desk.ledger.messages start.sending.said → ShowsNothing past start.desk.ledger.messages →
-    NoneBefore past start.desk.ledger.messages → NoneBefore past scene.desk.ledger.messages
+    KeepsReply past start.agency_state.ledger.messages start.sending.said → ShowsNothing past start.agency_state.ledger.messages →
+    NoneBefore past start.agency_state.ledger.messages → NoneBefore past scene.agency_state.ledger.messages
 turns_before kind exact tells past start answers links scene no_turn k clear none = none
 turns_before kind exact tells past start answers links scene (one_turn before_answers before_links mid answer then t turn on few) k
     clear none =
-    tells_before past mid.desk.ledger.messages then.desk.ledger.messages answer
-    (turn_tells kind mid.desk then.desk mid.sight then.sight mid.sending then.sending turn.now answer turn.turned tells)
+    tells_before past mid.agency_state.ledger.messages then.agency_state.ledger.messages answer
+    (turn_tells kind mid.agency_state then.agency_state mid.sight then.sight mid.sending then.sending turn.now answer turn.turned tells)
     (turns_show_nothing kind exact tells past start before_answers before_links mid t k clear)
     (turns_before kind exact tells past start before_answers before_links mid t k clear none)
 
 pub drained_before : (kind : AgencyKind) (exact : Bool) (start then : Scene) (old new : List Told) (result : Result (Unit {0})
     DrainFault) → Drained kind exact start then old new result → IsTrue kind.tells → (past : List Message) →
-    KeepsReply past start.desk.ledger.messages start.sending.said → ShowsNothing past start.desk.ledger.messages →
-    NoneBefore past start.desk.ledger.messages → NoneBefore past then.desk.ledger.messages
+    KeepsReply past start.agency_state.ledger.messages start.sending.said → ShowsNothing past start.agency_state.ledger.messages →
+    NoneBefore past start.agency_state.ledger.messages → NoneBefore past then.agency_state.ledger.messages
 drained_before kind exact start then old new result d tells past k clear none =
-    tells_before past d.scene.desk.ledger.messages then.desk.ledger.messages d.answer
-    (turn_tells kind d.scene.desk then.desk d.scene.sight then.sight d.scene.sending then.sending d.turn.now d.answer
+    tells_before past d.scene.agency_state.ledger.messages then.agency_state.ledger.messages d.answer
+    (turn_tells kind d.scene.agency_state then.agency_state d.scene.sight then.sight d.scene.sending then.sending d.turn.now d.answer
     d.turn.turned tells)
     (turns_show_nothing kind exact tells past start d.answers d.links d.scene d.made k clear)
     (turns_before kind exact tells past start d.answers d.links d.scene d.made k clear none)

@@ -22,7 +22,7 @@ use Rattle.agency_port.specs.declared.messages.Message.TheVariants.{Submitted, C
 use Rattle.agency_port.specs.declared.turns.Evidence.{Evidence}
 use Rattle.agency_port.specs.declared.turns.Evidence.TheVariants.{Hole, Forgotten}
 use Rattle.agency_port.specs.declared.turns.Told.{Told}
-use Rattle.agency_port.proofs.Kept.{kept_more}
+use Rattle.agency_port.proofs.LastNamed.{kept_more}
 use Rattle.consultation.specs.Sorting.{IsFront, IsHole, unseen_ones}
 use Rattle.shop_core.specs.Prefix.{IsPrefix}
 use Rattle.once_world.specs.Outbox.{Sight, ShowsWaiting, history_of}
@@ -36,7 +36,7 @@ use Rattle.sender.specs.Agreeing.{KeepsReply}
 use Rattle.sender.specs.Draining.{Drained, EndsWith, GoesOn, Scene, Turns, none as no_turn, more as one_turn}
 use Rattle.sender.specs.Evidence.{Shows, forgotten, forgotten_in, said_at, said_in}
 use Rattle.sender.specs.Sending.{Sending}
-use Rattle.sender.specs.Turning.{Asked, Dealt, Deed, Desk, Ends, Handed, AgencyKind, Nothing, SeenEnds, Turned, turn_call}
+use Rattle.sender.specs.Turning.{Asked, Dealt, Deed, AgencyState, Ends, Handed, AgencyKind, Nothing, SeenEnds, Turned, turn_call}
 use Rattle.sender.proofs.Replying.{turn_keeps_reply}
 use Rattle.sender_session.specs.Contradictions.{AnswersWhatIsShown, IsContrary, ShowsLast, ShowsNothing}
 use Rattle.sender_session.specs.Session.{sending_end}
@@ -195,12 +195,12 @@ first_asked records batch e = record {
 }
 
 -- a turn that answers a contradiction consulted, and its answer shows it
-deed_shows : (kind : AgencyKind) (desk desk_then : Desk) (look after : Sight) (shown : Waiting) (old new : Sending) (now : ℕ) (deed :
-    Deed) (evidence : Evidence) → IsTrue kind.tells → ShowsWaiting look 1000 shown → Dealt kind desk desk_then shown deed →
+deed_shows : (kind : AgencyKind) (agency_state agency_state_then : AgencyState) (look after : Sight) (shown : Waiting) (old new : Sending) (now : ℕ) (deed :
+    Deed) (evidence : Evidence) → IsTrue kind.tells → ShowsWaiting look 1000 shown → Dealt kind agency_state agency_state_then shown deed →
     Ends old now shown look after deed (Err (send.Contradiction evidence)) new → (past : List Message) →
-    KeepsReply past desk.ledger.messages old.said → ShowsLast (history_of after) past desk_then.ledger.messages evidence
-deed_shows kind desk desk_then look after shown old new now Nothing evidence tells shows dealt ends past k = absurd ends.0
-deed_shows kind desk desk_then look after shown old new now (Asked (Ok seen)) evidence tells shows dealt ends past k = record {
+    KeepsReply past agency_state.ledger.messages old.said → ShowsLast (history_of after) past agency_state_then.ledger.messages evidence
+deed_shows kind agency_state agency_state_then look after shown old new now Nothing evidence tells shows dealt ends past k = absurd ends.0
+deed_shows kind agency_state agency_state_then look after shown old new now (Asked (Ok seen)) evidence tells shows dealt ends past k = record {
   before = k.session;
   huellas = huellas_of shown.list;
   seen = seen;
@@ -213,27 +213,27 @@ deed_shows kind desk desk_then look after shown old new now (Asked (Ok seen)) ev
       (subst (λ (o : Option Replied). Shows o (shown.noted + 1) (huellas_of shown.list) seen (Err evidence)) k.kept
       ends.2.3.0));
 }
-deed_shows kind desk desk_then look after shown old new now (Asked (Err agency.Failed)) evidence tells shows dealt ends past k =
+deed_shows kind agency_state agency_state_then look after shown old new now (Asked (Err agency.Failed)) evidence tells shows dealt ends past k =
     absurd (let e = ends.2.0 in cc)
-deed_shows kind desk desk_then look after shown old new now (Asked (Err agency.NoMemory)) evidence tells shows dealt ends past k
+deed_shows kind agency_state agency_state_then look after shown old new now (Asked (Err agency.NoMemory)) evidence tells shows dealt ends past k
     = absurd (let e = ends.2.0 in cc)
-deed_shows kind desk desk_then look after shown old new now (Handed (Ok reply)) evidence tells shows dealt ends past k = elim
+deed_shows kind agency_state agency_state_then look after shown old new now (Handed (Ok reply)) evidence tells shows dealt ends past k = elim
     ends.3 [
       | inl r ↦ absurd r.ends
       | inr r ↦ absurd (let e = r.result_is in cc)
     ]
-deed_shows kind desk desk_then look after shown old new now (Handed (Err agency.Failed)) evidence tells shows dealt ends past k
+deed_shows kind agency_state agency_state_then look after shown old new now (Handed (Err agency.Failed)) evidence tells shows dealt ends past k
     = absurd (let e = ends.3.0 in cc)
-deed_shows kind desk desk_then look after shown old new now (Handed (Err agency.NoMemory)) evidence tells shows dealt ends past
+deed_shows kind agency_state agency_state_then look after shown old new now (Handed (Err agency.NoMemory)) evidence tells shows dealt ends past
     k = absurd (let e = ends.3.0 in cc)
 
-turn_of : (kind : AgencyKind) (desk desk_then : Desk) (before after : Sight) (old new : Sending) (now : ℕ) (answer : Result Turn
+turn_of : (kind : AgencyKind) (agency_state agency_state_then : AgencyState) (before after : Sight) (old new : Sending) (now : ℕ) (answer : Result Turn
     SendFault) (evidence : Evidence) → answer ≡ Err (send.Contradiction evidence) →
-    Turned (turn_call kind desk desk_then before after old new now answer) →
-    IsTrue kind.tells → (past : List Message) → KeepsReply past desk.ledger.messages old.said →
-    ShowsLast (history_of after) past desk_then.ledger.messages evidence
-turn_of kind desk desk_then before after old new now answer evidence is t tells past k =
-    deed_shows kind desk desk_then t.look after t.shown old new now t.deals.deed evidence tells t.shows t.deals.dealt
+    Turned (turn_call kind agency_state agency_state_then before after old new now answer) →
+    IsTrue kind.tells → (past : List Message) → KeepsReply past agency_state.ledger.messages old.said →
+    ShowsLast (history_of after) past agency_state_then.ledger.messages evidence
+turn_of kind agency_state agency_state_then before after old new now answer evidence is t tells past k =
+    deed_shows kind agency_state agency_state_then t.look after t.shown old new now t.deals.deed evidence tells t.shows t.deals.dealt
     (subst (λ (r : Result Turn SendFault). Ends old now t.shown t.look after t.deals.deed r new) is t.deals.ends) past k
 
 contrary_answer : (answer : Result Turn SendFault) (evidence : Evidence) →
@@ -245,13 +245,13 @@ contrary_answer (Err (send.Contradiction e)) evidence is = let f : e ≡ evidenc
 contrary_answer (Err (send.Store fault)) evidence is = absurd cc
 contrary_answer (Err send.NoMemory) evidence is = absurd cc
 
-pub turn_shows : (kind : AgencyKind) (desk desk_then : Desk) (before after : Sight) (old new : Sending) (now : ℕ) (answer : Result
-    Turn SendFault) → Turned (turn_call kind desk desk_then before after old new now answer) → IsTrue kind.tells →
-    (past : List Message) → KeepsReply past desk.ledger.messages old.said → (evidence : Evidence) →
+pub turn_shows : (kind : AgencyKind) (agency_state agency_state_then : AgencyState) (before after : Sight) (old new : Sending) (now : ℕ) (answer : Result
+    Turn SendFault) → Turned (turn_call kind agency_state agency_state_then before after old new now answer) → IsTrue kind.tells →
+    (past : List Message) → KeepsReply past agency_state.ledger.messages old.said → (evidence : Evidence) →
     IsErrOf (sending_end answer) (drain.Contradiction evidence) →
-    ShowsLast (history_of after) past desk_then.ledger.messages evidence
-turn_shows kind desk desk_then before after old new now answer t tells past k evidence is =
-    turn_of kind desk desk_then before after old new now answer evidence (contrary_answer answer evidence is) t tells past k
+    ShowsLast (history_of after) past agency_state_then.ledger.messages evidence
+turn_shows kind agency_state agency_state_then before after old new now answer t tells past k evidence is =
+    turn_of kind agency_state agency_state_then before after old new now answer evidence (contrary_answer answer evidence is) t tells past k
 
 -- nothing was said: no contradiction is shown still
 quiet : (past messages then : List Message) (answer : Result (Unit {0}) DrainFault) → then ≡ messages →
@@ -284,41 +284,41 @@ seen_answers said shown seen look after doubt (Err (send.Store fault)) n evidenc
     (shown.noted + 1) n (huellas_of shown.list) seen ends.0.1.lines evidence ends.0.1.are s)
 seen_answers said shown seen look after doubt (Err send.NoMemory) n evidence ends s = inr refl
 
-deed_answers : (kind : AgencyKind) (desk desk_then : Desk) (look after : Sight) (shown : Waiting) (old new : Sending) (now : ℕ) (deed
-    : Deed) (answer : Result Turn SendFault) → IsTrue kind.tells → Dealt kind desk desk_then shown deed →
-    Ends old now shown look after deed answer new → (past : List Message) → KeepsReply past desk.ledger.messages old.said →
-    ShowsNothing past desk.ledger.messages → AnswersWhatIsShown past desk_then.ledger.messages (sending_end answer)
-deed_answers kind desk desk_then look after shown old new now Nothing answer tells dealt ends past k none =
-    quiet past desk.ledger.messages desk_then.ledger.messages (sending_end answer) (ap (λ (d : Desk). d.ledger.messages) dealt)
+deed_answers : (kind : AgencyKind) (agency_state agency_state_then : AgencyState) (look after : Sight) (shown : Waiting) (old new : Sending) (now : ℕ) (deed
+    : Deed) (answer : Result Turn SendFault) → IsTrue kind.tells → Dealt kind agency_state agency_state_then shown deed →
+    Ends old now shown look after deed answer new → (past : List Message) → KeepsReply past agency_state.ledger.messages old.said →
+    ShowsNothing past agency_state.ledger.messages → AnswersWhatIsShown past agency_state_then.ledger.messages (sending_end answer)
+deed_answers kind agency_state agency_state_then look after shown old new now Nothing answer tells dealt ends past k none =
+    quiet past agency_state.ledger.messages agency_state_then.ledger.messages (sending_end answer) (ap (λ (d : AgencyState). d.ledger.messages) dealt)
     none
-deed_answers kind desk desk_then look after shown old new now (Asked (Ok seen)) answer tells dealt ends past k none = λ entries
+deed_answers kind agency_state agency_state_then look after shown old new now (Asked (Ok seen)) answer tells dealt ends past k none = λ entries
     evidence s.
     let n = length (noted entries) + 1 in
     seen_answers old.said shown seen look after new.doubt answer n evidence ends.2.3
     (subst (λ (o : Option Replied). Shows o n (huellas_of shown.list) seen (Err evidence)) (sym k.kept)
-    (shown_by entries past desk_then.ledger.messages evidence s k.session (huellas_of shown.list) seen ((dealt.1 tells).messages
+    (shown_by entries past agency_state_then.ledger.messages evidence s k.session (huellas_of shown.list) seen ((dealt.1 tells).messages
     ∙ ap (λ (ms : List Message). ms ++ Consulted (huellas_of shown.list) (Ok seen) ∷ []) k.is)))
-deed_answers kind desk desk_then look after shown old new now (Asked (Err agency.Failed)) answer tells dealt ends past k none =
-    other past desk.ledger.messages desk_then.ledger.messages (Consulted (huellas_of shown.list) (Err agency.Failed))
+deed_answers kind agency_state agency_state_then look after shown old new now (Asked (Err agency.Failed)) answer tells dealt ends past k none =
+    other past agency_state.ledger.messages agency_state_then.ledger.messages (Consulted (huellas_of shown.list) (Err agency.Failed))
     (sending_end answer) (dealt.1 tells).messages (λ huellas seen e. cc)
-deed_answers kind desk desk_then look after shown old new now (Asked (Err agency.NoMemory)) answer tells dealt ends past k none
+deed_answers kind agency_state agency_state_then look after shown old new now (Asked (Err agency.NoMemory)) answer tells dealt ends past k none
     = λ entries evidence s. inr (ap sending_end ends.2.0)
-deed_answers kind desk desk_then look after shown old new now (Handed (Ok reply)) answer tells dealt ends past k none =
-    other past desk.ledger.messages desk_then.ledger.messages (Submitted shown.list (Ok reply)) (sending_end answer) (dealt.2
+deed_answers kind agency_state agency_state_then look after shown old new now (Handed (Ok reply)) answer tells dealt ends past k none =
+    other past agency_state.ledger.messages agency_state_then.ledger.messages (Submitted shown.list (Ok reply)) (sending_end answer) (dealt.2
     tells).messages (λ huellas seen e. cc)
-deed_answers kind desk desk_then look after shown old new now (Handed (Err agency.Failed)) answer tells dealt ends past k none =
-    other past desk.ledger.messages desk_then.ledger.messages (Submitted shown.list (Err agency.Failed)) (sending_end answer)
+deed_answers kind agency_state agency_state_then look after shown old new now (Handed (Err agency.Failed)) answer tells dealt ends past k none =
+    other past agency_state.ledger.messages agency_state_then.ledger.messages (Submitted shown.list (Err agency.Failed)) (sending_end answer)
     (dealt.2 tells).messages (λ huellas seen e. cc)
-deed_answers kind desk desk_then look after shown old new now (Handed (Err agency.NoMemory)) answer tells dealt ends past k none
+deed_answers kind agency_state agency_state_then look after shown old new now (Handed (Err agency.NoMemory)) answer tells dealt ends past k none
     = λ entries evidence s. inr (ap sending_end ends.3.0)
 
 -- where the last message shows a contradiction a turn answers it, or found no memory
-pub turn_answers : (kind : AgencyKind) (desk desk_then : Desk) (before after : Sight) (old new : Sending) (now : ℕ) (answer : Result
-    Turn SendFault) → Turned (turn_call kind desk desk_then before after old new now answer) → IsTrue kind.tells →
-    (past : List Message) → KeepsReply past desk.ledger.messages old.said → ShowsNothing past desk.ledger.messages →
-    AnswersWhatIsShown past desk_then.ledger.messages (sending_end answer)
-turn_answers kind desk desk_then before after old new now answer t tells past k none =
-    deed_answers kind desk desk_then t.look after t.shown old new now t.deals.deed answer tells t.deals.dealt t.deals.ends past
+pub turn_answers : (kind : AgencyKind) (agency_state agency_state_then : AgencyState) (before after : Sight) (old new : Sending) (now : ℕ) (answer : Result
+    Turn SendFault) → Turned (turn_call kind agency_state agency_state_then before after old new now answer) → IsTrue kind.tells →
+    (past : List Message) → KeepsReply past agency_state.ledger.messages old.said → ShowsNothing past agency_state.ledger.messages →
+    AnswersWhatIsShown past agency_state_then.ledger.messages (sending_end answer)
+turn_answers kind agency_state agency_state_then before after old new now answer t tells past k none =
+    deed_answers kind agency_state agency_state_then t.look after t.shown old new now t.deals.deed answer tells t.deals.dealt t.deals.ends past
     k none
 
 ok_never : (answer : Result (Unit {0}) DrainFault) → answer ≡ Ok tt → IsContrary answer ⊎ (answer ≡ Err drain.NoMemory) → ⊥
@@ -340,32 +340,32 @@ goes_on_without past messages (Err send.NoMemory) on h = absurd on
 module _ (kind : AgencyKind) (exact : Bool) (tells : IsTrue kind.tells) (past : List Message) where
   turns_keep : (start : Scene) (answers : List (Result Turn SendFault)) (links : ℕ) (scene : Scene) →
       Turns kind exact start answers links scene →
-      KeepsReply past start.desk.ledger.messages start.sending.said →
-      KeepsReply past scene.desk.ledger.messages scene.sending.said
+      KeepsReply past start.agency_state.ledger.messages start.sending.said →
+      KeepsReply past scene.agency_state.ledger.messages scene.sending.said
   turns_keep start answers links scene no_turn k = k
   turns_keep start answers links scene (one_turn before_answers before_links mid answer then t turn on few) k =
-      turn_keeps_reply kept_more past kind mid.desk then.desk mid.sight then.sight mid.sending then.sending turn.now answer
+      turn_keeps_reply kept_more past kind mid.agency_state then.agency_state mid.sight then.sight mid.sending then.sending turn.now answer
       turn.turned tells (turns_keep start before_answers before_links mid t k)
 
   pub turns_show_nothing : (start : Scene) (answers : List (Result Turn SendFault)) (links : ℕ) (scene : Scene) →
       Turns kind exact start answers links scene →
-      KeepsReply past start.desk.ledger.messages start.sending.said → ShowsNothing past start.desk.ledger.messages →
-      ShowsNothing past scene.desk.ledger.messages
+      KeepsReply past start.agency_state.ledger.messages start.sending.said → ShowsNothing past start.agency_state.ledger.messages →
+      ShowsNothing past scene.agency_state.ledger.messages
   turns_show_nothing start answers links scene no_turn k clear = clear
   turns_show_nothing start answers links scene (one_turn before_answers before_links mid answer then t turn on few) k clear =
-      goes_on_without past then.desk.ledger.messages answer on
-      (turn_answers kind mid.desk then.desk mid.sight then.sight mid.sending then.sending turn.now answer turn.turned tells past
+      goes_on_without past then.agency_state.ledger.messages answer on
+      (turn_answers kind mid.agency_state then.agency_state mid.sight then.sight mid.sending then.sending turn.now answer turn.turned tells past
       (turns_keep start before_answers before_links mid t k)
       (turns_show_nothing start before_answers before_links mid t k clear))
 
 -- so does a drain that answers a contradiction
 pub drained_shows : (kind : AgencyKind) (exact : Bool) (start then : Scene) (old new : List Told) (result : Result (Unit {0})
     DrainFault) → Drained kind exact start then old new result → IsTrue kind.tells →
-    (past : List Message) → KeepsReply past start.desk.ledger.messages start.sending.said → (evidence : Evidence) →
-    IsErrOf result (drain.Contradiction evidence) → ShowsLast (history_of then.sight) past then.desk.ledger.messages
+    (past : List Message) → KeepsReply past start.agency_state.ledger.messages start.sending.said → (evidence : Evidence) →
+    IsErrOf result (drain.Contradiction evidence) → ShowsLast (history_of then.sight) past then.agency_state.ledger.messages
     evidence
 drained_shows kind exact start then old new result d tells past k evidence is = elim d.ends [
-  | inl p ↦ turn_of kind d.scene.desk then.desk d.scene.sight then.sight d.scene.sending then.sending d.turn.now d.answer
+  | inl p ↦ turn_of kind d.scene.agency_state then.agency_state d.scene.sight then.sight d.scene.sending then.sending d.turn.now d.answer
       evidence
       (subst (λ (r : Result (Unit {0}) DrainFault). EndsWith d.links then.sight d.answer r) is p.1) d.turn.turned tells past
       (turns_keep kind exact tells past start d.answers d.links d.scene d.made k)
@@ -385,11 +385,11 @@ by_end links after answer (Err drain.NoMemory) e h = inr refl
 
 pub drained_answers : (kind : AgencyKind) (exact : Bool) (start then : Scene) (old new : List Told) (result : Result (Unit {0})
     DrainFault) → Drained kind exact start then old new result → IsTrue kind.tells →
-    (past : List Message) → KeepsReply past start.desk.ledger.messages start.sending.said →
-    ShowsNothing past start.desk.ledger.messages → AnswersWhatIsShown past then.desk.ledger.messages result
+    (past : List Message) → KeepsReply past start.agency_state.ledger.messages start.sending.said →
+    ShowsNothing past start.agency_state.ledger.messages → AnswersWhatIsShown past then.agency_state.ledger.messages result
 drained_answers kind exact start then old new result d tells past k clear entries evidence s = elim d.ends [
   | inl p ↦ by_end d.links then.sight d.answer result p.1
-      (turn_answers kind d.scene.desk then.desk d.scene.sight then.sight d.scene.sending then.sending d.turn.now d.answer
+      (turn_answers kind d.scene.agency_state then.agency_state d.scene.sight then.sight d.scene.sending then.sending d.turn.now d.answer
       d.turn.turned tells past (turns_keep kind exact tells past start d.answers d.links d.scene d.made k)
       (turns_show_nothing kind exact tells past start d.answers d.links d.scene d.made k clear) entries evidence s)
   | inr p ↦ inr p.0

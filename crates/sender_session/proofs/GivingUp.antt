@@ -64,7 +64,7 @@ message_fault (Consulted huellas (Ok seen)) told.Memory is on = absurd on
 message_fault (Consulted huellas (Err agency.Failed)) printed is on = sym (ap is_link is)
 message_fault (Consulted huellas (Err agency.NoMemory)) printed is on = sym (ap is_link is)
 
--- messages, so many of which are faults of the link
+-- messages, this many of which are faults of the link
 record SaidWith (old new : List Message) (links : ℕ) : Type 0 where
   messages : List Message
   said : new ≡ old ++ messages
@@ -112,16 +112,16 @@ one_more old mid new links answer s on (inr p) =
 
 turns_say : (kind : AgencyKind) (exact : Bool) (begin : Scene) (answers : List (Result Turn SendFault)) (links : ℕ) (scene : Scene) →
     IsTrue kind.tells → Turns kind exact begin answers links scene →
-    SaidWith begin.desk.ledger.messages scene.desk.ledger.messages links
+    SaidWith begin.agency_state.ledger.messages scene.agency_state.ledger.messages links
 turns_say kind exact begin answers links scene tells none = record {
   messages = [];
-  said = sym (append-nil begin.desk.ledger.messages);
+  said = sym (append-nil begin.agency_state.ledger.messages);
   faults = refl;
 }
 turns_say kind exact begin answers links scene tells (more before_answers before_links mid answer then t turn on below) =
-    one_more begin.desk.ledger.messages mid.desk.ledger.messages then.desk.ledger.messages before_links answer
+    one_more begin.agency_state.ledger.messages mid.agency_state.ledger.messages then.agency_state.ledger.messages before_links answer
     (turns_say kind exact begin before_answers before_links mid tells t) on
-    (turn_tells kind mid.desk then.desk mid.sight then.sight mid.sending then.sending turn.now answer turn.turned tells)
+    (turn_tells kind mid.agency_state then.agency_state mid.sight then.sight mid.sending then.sending turn.now answer turn.turned tells)
 
 -- the last turn is a fault of the link after these
 last_fault : (old mid new : List Message) (links : ℕ) → SaidWith old mid links → links + 1 ≡ MAX_LINK_FAULTS →
@@ -150,13 +150,13 @@ last_fault old mid new links s eight (inr p) =
 -- what a drain that gave up said ends in eight faults of the link
 pub drained_gives_up : (kind : AgencyKind) (exact : Bool) (start then : Scene) (old new : List Told)
     (result : Result (Unit {0}) DrainFault) → Drained kind exact start then old new result → IsTrue kind.tells → (n r : ℕ) →
-    IsErrOf result (drain.Undelivered n r) → GivesUp start.desk.ledger.messages then.desk.ledger.messages
+    IsErrOf result (drain.Undelivered n r) → GivesUp start.agency_state.ledger.messages then.agency_state.ledger.messages
 drained_gives_up kind exact start then old new result d tells n r is = elim d.ends [
   | inl p ↦ (let e = subst (λ (a : Result (Unit {0}) DrainFault). EndsWith d.links then.sight d.answer a) is p.1 in
-      last_fault start.desk.ledger.messages d.scene.desk.ledger.messages then.desk.ledger.messages d.links
+      last_fault start.agency_state.ledger.messages d.scene.agency_state.ledger.messages then.agency_state.ledger.messages d.links
       (turns_say kind exact start d.answers d.links d.scene tells d.made) e.1
-      (subst (λ (a : Result Turn SendFault). TellsOf d.scene.desk.ledger.messages then.desk.ledger.messages a) e.0
-      (turn_tells kind d.scene.desk then.desk d.scene.sight then.sight d.scene.sending then.sending d.turn.now d.answer
+      (subst (λ (a : Result Turn SendFault). TellsOf d.scene.agency_state.ledger.messages then.agency_state.ledger.messages a) e.0
+      (turn_tells kind d.scene.agency_state then.agency_state d.scene.sight then.sight d.scene.sending then.sending d.turn.now d.answer
       d.turn.turned tells)))
   | inr p ↦ absurd (let e = sym p.0 ∙ is in cc)
 ]

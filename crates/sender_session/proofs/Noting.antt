@@ -41,7 +41,7 @@ use Rattle.sender.specs.declared.answers.SendFault.TheVariants as send
 use Rattle.sender.specs.declared.answers.DrainFault.{DrainFault}
 use Rattle.sender.specs.declared.answers.DrainFault.TheVariants as drain
 use Rattle.sender.specs.Sending.{Sending}
-use Rattle.sender.specs.Turning.{Deed, Nothing, Asked, Handed, AgencyKind, Desk, Dealt, RestEnds, NotesEnd, SeenEnds, ReplyEnds}
+use Rattle.sender.specs.Turning.{Deed, Nothing, Asked, Handed, AgencyKind, AgencyState, Dealt, RestEnds, NotesEnd, SeenEnds, ReplyEnds}
 use Rattle.sender.specs.Turning.{Ends, Turned, turn_call}
 use Rattle.sender.proofs.Histories.{grown, stays}
 use Rattle.sender.proofs.Keeping.{noted_same}
@@ -363,58 +363,58 @@ module _ (quiet : CameQuietly) (beside : CameBesideOwn) (before look after : Sig
     asked_first m answer s = huellas_first shown.list (drop (length (noted (history_of before))) (recs (history_of after)))
         (batch_first m answer s)
 
-    deed_notes : (kind : AgencyKind) (desk desk_then : Desk) (old new : Sending) (now : ℕ) (result : Result Turn SendFault)
-        (deed : Deed) → IsTrue kind.tells → Dealt kind desk desk_then shown deed →
+    deed_notes : (kind : AgencyKind) (agency_state agency_state_then : AgencyState) (old new : Sending) (now : ℕ) (result : Result Turn SendFault)
+        (deed : Deed) → IsTrue kind.tells → Dealt kind agency_state agency_state_then shown deed →
         Ends old now shown look after deed result new →
-        NotesSaid (history_of before) (history_of after) desk.ledger.messages desk_then.ledger.messages (sending_end result)
-    deed_notes kind desk desk_then old new now result Nothing tells dealt ends =
-        silent desk.ledger.messages desk_then.ledger.messages result (ap (λ (d : Desk). d.ledger.messages) dealt) ends.2
+        NotesSaid (history_of before) (history_of after) agency_state.ledger.messages agency_state_then.ledger.messages (sending_end result)
+    deed_notes kind agency_state agency_state_then old new now result Nothing tells dealt ends =
+        silent agency_state.ledger.messages agency_state_then.ledger.messages result (ap (λ (d : AgencyState). d.ledger.messages) dealt) ends.2
         (rest_noted old now shown (noted (history_of before)) result ends.0)
-    deed_notes kind desk desk_then old new now result (Asked (Ok seen)) tells dealt ends =
+    deed_notes kind agency_state agency_state_then old new now result (Asked (Ok seen)) tells dealt ends =
         let m = Consulted (huellas_of shown.list) (Ok seen) in
         let s = seen_end old.said shown seen result new.doubt ends.2.3 in
-        one_said m desk.ledger.messages desk_then.ledger.messages (sending_end result) (dealt.1 tells).messages s
+        one_said m agency_state.ledger.messages agency_state_then.ledger.messages (sending_end result) (dealt.1 tells).messages s
         (asked_first m (sending_end result) s) (few_seen shown.list seen ends.2.0)
-    deed_notes kind desk desk_then old new now result (Asked (Err agency.Failed)) tells dealt ends =
+    deed_notes kind agency_state agency_state_then old new now result (Asked (Err agency.Failed)) tells dealt ends =
         let m = Consulted (huellas_of shown.list) (Err agency.Failed) in
         let s = says_none m result ends.2.0 refl ends.2.2 in
-        one_said m desk.ledger.messages desk_then.ledger.messages (sending_end result) (dealt.1 tells).messages s
+        one_said m agency_state.ledger.messages agency_state_then.ledger.messages (sending_end result) (dealt.1 tells).messages s
         (asked_first m (sending_end result) s) (few_none m refl)
-    deed_notes kind desk desk_then old new now result (Asked (Err agency.NoMemory)) tells dealt ends =
-        silent desk.ledger.messages desk_then.ledger.messages result (ap (λ (l : Ledger). l.messages) (dealt.1 tells)) ends.2.2
+    deed_notes kind agency_state agency_state_then old new now result (Asked (Err agency.NoMemory)) tells dealt ends =
+        silent agency_state.ledger.messages agency_state_then.ledger.messages result (ap (λ (l : Ledger). l.messages) (dealt.1 tells)) ends.2.2
         (subst (λ (r : Result Turn SendFault). AreNoted (noted (history_of before)) (noted (history_of before)) [] (sending_end
         r)) (sym ends.2.0) (inl (sym (append-nil (noted (history_of before))))))
-    deed_notes kind desk desk_then old new now result (Handed (Ok reply)) tells dealt ends =
+    deed_notes kind agency_state agency_state_then old new now result (Handed (Ok reply)) tells dealt ends =
         let m = Submitted shown.list (Ok reply) in
         elim ends.3 [
           | inl r ↦ (let s = reply_end shown reply result new.doubt r.names r.ends in
-              one_said m desk.ledger.messages desk_then.ledger.messages (sending_end result) (dealt.2 tells).messages s
+              one_said m agency_state.ledger.messages agency_state_then.ledger.messages (sending_end result) (dealt.2 tells).messages s
               (batch_first m (sending_end result) s) (few_replied shown.list reply r.names r.matched))
           | inr r ↦ (let s = says_none m result r.result_is (stale_said shown.list reply r.names_not) r.after_is in
-              one_said m desk.ledger.messages desk_then.ledger.messages (sending_end result) (dealt.2 tells).messages s
+              one_said m agency_state.ledger.messages agency_state_then.ledger.messages (sending_end result) (dealt.2 tells).messages s
               (batch_first m (sending_end result) s) (few_none m (stale_said shown.list reply r.names_not)))
         ]
-    deed_notes kind desk desk_then old new now result (Handed (Err agency.Failed)) tells dealt ends =
+    deed_notes kind agency_state agency_state_then old new now result (Handed (Err agency.Failed)) tells dealt ends =
         let m = Submitted shown.list (Err agency.Failed) in
         let s = says_none m result ends.3.0 refl ends.3.2 in
-        one_said m desk.ledger.messages desk_then.ledger.messages (sending_end result) (dealt.2 tells).messages s
+        one_said m agency_state.ledger.messages agency_state_then.ledger.messages (sending_end result) (dealt.2 tells).messages s
         (batch_first m (sending_end result) s) (few_none m refl)
-    deed_notes kind desk desk_then old new now result (Handed (Err agency.NoMemory)) tells dealt ends =
+    deed_notes kind agency_state agency_state_then old new now result (Handed (Err agency.NoMemory)) tells dealt ends =
         let m = Submitted shown.list (Err agency.NoMemory) in
         elim (dealt.2 tells) [
-          | inl none ↦ silent desk.ledger.messages desk_then.ledger.messages result none.messages ends.3.2
+          | inl none ↦ silent agency_state.ledger.messages agency_state_then.ledger.messages result none.messages ends.3.2
               (subst (λ (r : Result Turn SendFault). AreNoted (noted (history_of before)) (noted (history_of before)) []
               (sending_end r)) (sym ends.3.0) (inl (sym (append-nil (noted (history_of before))))))
           | inr over ↦ (let s = lacks_memory m result ends.3.0 ends.3.2 in
-              one_said m desk.ledger.messages desk_then.ledger.messages (sending_end result) over.messages s
+              one_said m agency_state.ledger.messages agency_state_then.ledger.messages (sending_end result) over.messages s
               (batch_first m (sending_end result) s) (few_none m refl))
         ]
 
 -- what a turn notes, where the shop gained no notes but its own
-pub turn_notes : CameQuietly → CameBesideOwn → (kind : AgencyKind) (desk desk_then : Desk) (before after : Sight) (old new : Sending) (now : ℕ)
-    (result : Result Turn SendFault) → Turned (turn_call kind desk desk_then before after old new now result) → IsTrue kind.tells →
+pub turn_notes : CameQuietly → CameBesideOwn → (kind : AgencyKind) (agency_state agency_state_then : AgencyState) (before after : Sight) (old new : Sending) (now : ℕ)
+    (result : Result Turn SendFault) → Turned (turn_call kind agency_state agency_state_then before after old new now result) → IsTrue kind.tells →
     GainsOwnNotes before after →
-    NotesSaid (history_of before) (history_of after) desk.ledger.messages desk_then.ledger.messages (sending_end result)
-turn_notes quiet beside kind desk desk_then before after old new now result t tells gains =
-    deed_notes quiet beside before t.look after t.grows t.own gains t.shown t.shows kind desk desk_then old new now result t.deals.deed tells
+    NotesSaid (history_of before) (history_of after) agency_state.ledger.messages agency_state_then.ledger.messages (sending_end result)
+turn_notes quiet beside kind agency_state agency_state_then before after old new now result t tells gains =
+    deed_notes quiet beside before t.look after t.grows t.own gains t.shown t.shows kind agency_state agency_state_then old new now result t.deals.deed tells
     t.deals.dealt t.deals.ends

@@ -173,22 +173,22 @@ with_answer before after old new first last f h = record {
 
 module _ (quiet : CameQuietly) (beside : CameBesideOwn) (kind : AgencyKind) (exact : Bool) (tells : IsTrue kind.tells) where
   abbrev Notes : Scene → Scene → Result (Unit {0}) DrainFault → Type 0
-  Notes start scene answer = NotesSaid (history_of start.sight) (history_of scene.sight) start.desk.ledger.messages
-      scene.desk.ledger.messages answer
+  Notes start scene answer = NotesSaid (history_of start.sight) (history_of scene.sight) start.agency_state.ledger.messages
+      scene.agency_state.ledger.messages answer
 
   turns_note : (start : Scene) (answers : List (Result Turn SendFault)) (links : ℕ) (scene : Scene) →
       Turns kind exact start answers links scene → GainsOwnNotes start.sight scene.sight → Notes start scene (Ok tt)
-  turns_note start answers links scene no_turn gains = notes_none (history_of start.sight) start.desk.ledger.messages
+  turns_note start answers links scene no_turn gains = notes_none (history_of start.sight) start.agency_state.ledger.messages
   turns_note start answers links scene (one_turn before_answers before_links mid answer then t turn on few) gains =
       let first = turns_growth kind exact start before_answers before_links mid t in
       let next = is_turn_growth kind exact mid then answer turn in
       let each = gains_each start.sight mid.sight then.sight first next gains in
-      notes_then (history_of start.sight) (history_of mid.sight) (history_of then.sight) start.desk.ledger.messages
-      mid.desk.ledger.messages then.desk.ledger.messages (Ok tt) (recs (entries_of next.items))
+      notes_then (history_of start.sight) (history_of mid.sight) (history_of then.sight) start.agency_state.ledger.messages
+      mid.agency_state.ledger.messages then.agency_state.ledger.messages (Ok tt) (recs (entries_of next.items))
       (grown_records mid.sight then.sight next.items next.items_is)
       (turns_note start before_answers before_links mid t each.0)
       (subst (λ (r : Result (Unit {0}) DrainFault). Notes mid then r) (goes_on answer on)
-      (turn_notes quiet beside kind mid.desk then.desk mid.sight then.sight mid.sending then.sending turn.now answer turn.turned
+      (turn_notes quiet beside kind mid.agency_state then.agency_state mid.sight then.sight mid.sending then.sending turn.now answer turn.turned
       tells each.1))
 
   -- so what a drain notes are the lines that its messages say, by its last turn's answer
@@ -199,10 +199,10 @@ module _ (quiet : CameQuietly) (beside : CameBesideOwn) (kind : AgencyKind) (exa
       let first = turns_growth kind exact start d.answers d.links d.scene d.made in
       let next = is_turn_growth kind exact d.scene then d.answer d.turn in
       let each = gains_each start.sight d.scene.sight then.sight first next gains in
-      let last = turn_notes quiet beside kind d.scene.desk then.desk d.scene.sight then.sight d.scene.sending then.sending
+      let last = turn_notes quiet beside kind d.scene.agency_state then.agency_state d.scene.sight then.sight d.scene.sending then.sending
       d.turn.now d.answer d.turn.turned tells each.1 in
       notes_then (history_of start.sight) (history_of d.scene.sight) (history_of then.sight)
-      start.desk.ledger.messages d.scene.desk.ledger.messages then.desk.ledger.messages (sending_end d.answer)
+      start.agency_state.ledger.messages d.scene.agency_state.ledger.messages then.agency_state.ledger.messages (sending_end d.answer)
       (recs (entries_of next.items)) (grown_records d.scene.sight then.sight next.items next.items_is)
       (turns_note start d.answers d.links d.scene d.made each.0) last
 
@@ -214,11 +214,11 @@ module _ (quiet : CameQuietly) (beside : CameBesideOwn) (kind : AgencyKind) (exa
       let a = noted (history_of start.sight) in
       let c = noted (history_of then.sight) in
       elim d.ends [
-        | inl p ↦ with_answer (history_of start.sight) (history_of then.sight) start.desk.ledger.messages
-            then.desk.ledger.messages (sending_end d.answer) result
+        | inl p ↦ with_answer (history_of start.sight) (history_of then.sight) start.agency_state.ledger.messages
+            then.agency_state.ledger.messages (sending_end d.answer) result
             (λ messages h. by_end d.links then.sight a c messages d.answer result p.1 h) all
-        | inr p ↦ with_answer (history_of start.sight) (history_of then.sight) start.desk.ledger.messages
-            then.desk.ledger.messages (sending_end d.answer) result
+        | inr p ↦ with_answer (history_of start.sight) (history_of then.sight) start.agency_state.ledger.messages
+            then.agency_state.ledger.messages (sending_end d.answer) result
             (λ messages h. subst (λ (r : Result (Unit {0}) DrainFault). AreNoted a c messages r) (sym p.0)
             (untold a c messages d.answer h)) all
       ]

@@ -42,7 +42,7 @@ use Rattle.sender.specs.declared.answers.SendFault.TheVariants.{LinkFault, Contr
 use Rattle.sender.specs.Draining.{told_in, list_of, told_list, GoesOn, moment_after}
 use Rattle.sender.specs.Evidence.{Shows}
 use Rattle.sender.specs.Sending.{Sending}
-use Rattle.sender.specs.Turning.{Deed, Nothing, Asked, Handed, AgencyKind, Desk, Dealt, RestEnds, SeenEnds, ReplyEnds, Replies}
+use Rattle.sender.specs.Turning.{Deed, Nothing, Asked, Handed, AgencyKind, AgencyState, Dealt, RestEnds, SeenEnds, ReplyEnds, Replies}
 use Rattle.sender.specs.Turning.{Ends}
 use Rattle.sender.proofs.Ending.{as_many}
 use Rattle.sender.proofs.Growing.{Growth}
@@ -372,10 +372,10 @@ module _ (tells exact : Bool) (records : List Sealed) (st : Standing) (said said
     }
 
     seen_fault : (seen : List Seen) (f : StoreFault) (lines : List Line) → ShowsHere st (huellas_of shown.list) seen (Ok lines) →
-        IsSeenLine st (huellas_of shown.list) seen (fault_line f)
-    seen_fault seen store.DiskFault lines s = (lines, s)
-    seen_fault seen (store.Stopped faults) lines s = (lines, s)
-    seen_fault seen store.NoMemory lines s = tt
+        1 ≤ length lines → IsSeenLine st (huellas_of shown.list) seen (fault_line f)
+    seen_fault seen store.DiskFault lines s some = record { lines = lines; shown = s; some = some }
+    seen_fault seen (store.Stopped faults) lines s some = record { lines = lines; shown = s; some = some }
+    seen_fault seen store.NoMemory lines s some = tt
 
     -- a consultation was answered
     seen_did : (seen : List Seen) (answer : Result Turn SendFault) → st.doubt ≡ true →
@@ -409,8 +409,11 @@ module _ (tells exact : Bool) (records : List Sealed) (st : Standing) (said said
     seen_did seen (Err (Store fault)) doubt messages pace kept ends =
         let lines = ends.0.1.lines in
         spoke_quietly (Err (Store fault)) (Consulted (huellas_of shown.list) (Ok seen)) (fault_line fault) (fault_told fault) refl
-        (fault_notes fault) (doubt, ap huellas_of shown_list, seen_fault seen fault lines (shown_here seen (Ok lines) ends.0.1.are))
-        messages
+        (fault_notes fault) (
+          doubt,
+          ap huellas_of shown_list,
+          seen_fault seen fault lines (shown_here seen (Ok lines) ends.0.1.are) ends.0.1.some,
+        ) messages
         (fault_history lines fault ends.0.1.grows ends.0.1.noted) (λ on. absurd on) (λ on. absurd on) (λ on. absurd on)
         (λ evidence e. absurd cc)
     seen_did seen (Err NoMemory) doubt messages pace kept ends =
@@ -500,24 +503,24 @@ module _ (tells exact : Bool) (records : List Sealed) (st : Standing) (said said
         by_answer _ ends = absurd ends
 
     -- one turn after its look
-    pub ends_did : (kind : AgencyKind) (desk desk_then : Desk) (deed : Deed) (answer : Result Turn SendFault) → tells ≡ kind.tells →
-        said ≡ desk.ledger.messages → said_then ≡ desk_then.ledger.messages →
-        Dealt kind desk desk_then shown deed → Ends old now shown look after deed answer new → Done answer
-    ends_did kind desk desk_then deed answer tells_is said_is then_is dealt ends = by_deed deed dealt ends
+    pub ends_did : (kind : AgencyKind) (agency_state agency_state_then : AgencyState) (deed : Deed) (answer : Result Turn SendFault) → tells ≡ kind.tells →
+        said ≡ agency_state.ledger.messages → said_then ≡ agency_state_then.ledger.messages →
+        Dealt kind agency_state agency_state_then shown deed → Ends old now shown look after deed answer new → Done answer
+    ends_did kind agency_state agency_state_then deed answer tells_is said_is then_is dealt ends = by_deed deed dealt ends
       where
-        says : (m : Message) → (IsTrue kind.tells → desk_then.ledger.messages ≡ desk.ledger.messages ++ m ∷ []) → IsTrue tells →
+        says : (m : Message) → (IsTrue kind.tells → agency_state_then.ledger.messages ≡ agency_state.ledger.messages ++ m ∷ []) → IsTrue tells →
             said_then ≡ said ++ m ∷ []
         says m more t = then_is ∙ more (subst (λ (b : Bool). IsTrue b) tells_is t) ∙ ap (λ (ms : List Message). ms ++ m ∷ [])
             (sym said_is)
 
-        silent : (IsTrue kind.tells → desk_then.ledger.messages ≡ desk.ledger.messages) → IsTrue tells → said_then ≡ said
+        silent : (IsTrue kind.tells → agency_state_then.ledger.messages ≡ agency_state.ledger.messages) → IsTrue tells → said_then ≡ said
         silent same t = then_is ∙ same (subst (λ (b : Bool). IsTrue b) tells_is t) ∙ sym said_is
 
         same_after : (a : Result Turn SendFault) → answer ≡ a → Done a → Done answer
         same_after a e d = subst (λ (r : Result Turn SendFault). Done r) (sym e) d
 
         handed_lacking : MayHand → after ≡ look →
-            (IsTrue kind.tells → Submits desk.ledger desk_then.ledger shown.list (Err agency.NoMemory)) → (b : Bool) →
+            (IsTrue kind.tells → Submits agency_state.ledger agency_state_then.ledger shown.list (Err agency.NoMemory)) → (b : Bool) →
             kind.tells ≡ b → Done (Err NoMemory)
         handed_lacking may there submits false e = lacked there
             (silent (λ t. absurd (let f = subst (λ (c : Bool). IsTrue c) e t in cc)))
@@ -529,8 +532,8 @@ module _ (tells exact : Bool) (records : List Sealed) (st : Standing) (said said
                   (λ on. absurd on) (λ on. absurd on) (λ on. absurd on) (λ evidence e. absurd cc)
             ]
 
-        by_deed : (d : Deed) → Dealt kind desk desk_then shown d → Ends old now shown look after d answer new → Done answer
-        by_deed Nothing dealt ends = rested answer ends.0 ends.1 ends.2 (silent (λ t. ap (λ (k : Desk). k.ledger.messages) dealt))
+        by_deed : (d : Deed) → Dealt kind agency_state agency_state_then shown d → Ends old now shown look after d answer new → Done answer
+        by_deed Nothing dealt ends = rested answer ends.0 ends.1 ends.2 (silent (λ t. ap (λ (k : AgencyState). k.ledger.messages) dealt))
         by_deed (Asked (Ok seen)) dealt ends = seen_did seen answer (doubt_here true ends.1)
             (says _ (λ t. (dealt.1 t).messages)) ends.2.1 ends.2.2 ends.2.3
         by_deed (Asked (Err agency.Failed)) dealt ends = same_after (Err LinkFault) ends.2.0

@@ -29,7 +29,7 @@ pub adds_without_fault : (kind : AgencyKind) (exact : Bool) (start then : Scene)
     Adds AreNotes start.sight then.sight
 adds_without_fault kind exact start then old new result d never =
     adds_then AreNotes start.sight d.scene.sight then.sight (turns_notes kind exact start d.answers d.links d.scene d.made)
-    (turn_notes kind d.scene.desk then.desk d.scene.sight then.sight d.scene.sending then.sending d.turn.now d.answer
+    (turn_notes kind d.scene.agency_state then.agency_state d.scene.sight then.sight d.scene.sending then.sending d.turn.now d.answer
     d.turn.turned never)
 
 -- whether a turn's note was a fault of the disk

@@ -26,7 +26,7 @@ use Rattle.sender.specs.declared.answers.DrainFault.{DrainFault}
 use Rattle.sender.specs.Agreeing.{Adds, AreNotes, HasAt}
 use Rattle.sender.specs.Draining.{Drained, Scene}
 use Rattle.sender.specs.Sending.{Sending}
-use Rattle.sender.specs.Turning.{Deed, Nothing, Asked, Handed, AgencyKind, Desk, Dealt, Ends, Turned, turn_call}
+use Rattle.sender.specs.Turning.{Deed, Nothing, Asked, Handed, AgencyKind, AgencyState, Dealt, Ends, Turned, turn_call}
 use Rattle.sender.proofs.Added.{Added, ends_added, quiet as added_none, notes as added_notes, stops as added_stop}
 use Rattle.sender.proofs.Adding.{has_front, turns_notes}
 use Rattle.sender.proofs.Growing.{Growth, all_contained}
@@ -65,28 +65,28 @@ of_lines look after old new m lines said are stop = record {
   stop = subst (λ (ls : List Line). StopsHere look after ls) (sym are) stop;
 }
 
-disk_deed : (kind : AgencyKind) (desk desk_then : Desk) (look after : Sight) (shown : Waiting) (old new : Sending) (now : ℕ)
-    (deed : Deed) → IsTrue kind.tells → Dealt kind desk desk_then shown deed →
+disk_deed : (kind : AgencyKind) (agency_state agency_state_then : AgencyState) (look after : Sight) (shown : Waiting) (old new : Sending) (now : ℕ)
+    (deed : Deed) → IsTrue kind.tells → Dealt kind agency_state agency_state_then shown deed →
     Ends old now shown look after deed (Err (send.Store store.DiskFault)) new →
-    DiskFailed look after desk.ledger.messages desk_then.ledger.messages
-disk_deed kind desk desk_then look after shown old new now Nothing tells dealt ends = absurd ends.0
-disk_deed kind desk desk_then look after shown old new now (Asked (Ok seen)) tells dealt ends =
+    DiskFailed look after agency_state.ledger.messages agency_state_then.ledger.messages
+disk_deed kind agency_state agency_state_then look after shown old new now Nothing tells dealt ends = absurd ends.0
+disk_deed kind agency_state agency_state_then look after shown old new now (Asked (Ok seen)) tells dealt ends =
     let n = ends.2.3.0.1 in
-    of_lines look after desk.ledger.messages desk_then.ledger.messages (Consulted (huellas_of shown.list) (Ok seen)) n.lines
+    of_lines look after agency_state.ledger.messages agency_state_then.ledger.messages (Consulted (huellas_of shown.list) (Ok seen)) n.lines
     (dealt.1 tells).messages (front_said (huellas_of shown.list) seen n.lines n.are.0) n.noted
-disk_deed kind desk desk_then look after shown old new now (Asked (Err agency.Failed)) tells dealt ends =
+disk_deed kind agency_state agency_state_then look after shown old new now (Asked (Err agency.Failed)) tells dealt ends =
     absurd (let e = ends.2.0 in cc)
-disk_deed kind desk desk_then look after shown old new now (Asked (Err agency.NoMemory)) tells dealt ends =
+disk_deed kind agency_state agency_state_then look after shown old new now (Asked (Err agency.NoMemory)) tells dealt ends =
     absurd (let e = ends.2.0 in cc)
-disk_deed kind desk desk_then look after shown old new now (Handed (Ok reply)) tells dealt ends = elim ends.3 [
+disk_deed kind agency_state agency_state_then look after shown old new now (Handed (Ok reply)) tells dealt ends = elim ends.3 [
   | inl r ↦ (let n = r.ends.0.1 in
-      of_lines look after desk.ledger.messages desk_then.ledger.messages (Submitted shown.list (Ok reply)) n.lines
+      of_lines look after agency_state.ledger.messages agency_state_then.ledger.messages (Submitted shown.list (Ok reply)) n.lines
       (dealt.2 tells).messages (reply_said shown.list reply n.lines r.names n.are) n.noted)
   | inr r ↦ absurd (let e = r.result_is in cc)
 ]
-disk_deed kind desk desk_then look after shown old new now (Handed (Err agency.Failed)) tells dealt ends =
+disk_deed kind agency_state agency_state_then look after shown old new now (Handed (Err agency.Failed)) tells dealt ends =
     absurd (let e = ends.3.0 in cc)
-disk_deed kind desk desk_then look after shown old new now (Handed (Err agency.NoMemory)) tells dealt ends =
+disk_deed kind agency_state agency_state_then look after shown old new now (Handed (Err agency.NoMemory)) tells dealt ends =
     absurd (let e = ends.3.0 in cc)
 
 stop_said : (look after : Sight) (old new : List Message) → DiskFailed look after old new → (items : List Item) (faults : ℕ)
@@ -118,12 +118,12 @@ by_added before look after old new result own f (added_notes issuer lines a) = �
 by_added before look after old new result own f (added_stop issuer lines a e) = λ items faults torn is there.
     stop_said look after old new (f e) items faults torn is
 
-pub turn_tears : (kind : AgencyKind) (desk desk_then : Desk) (before after : Sight) (old new : Sending) (now : ℕ)
-    (result : Result Turn SendFault) → Turned (turn_call kind desk desk_then before after old new now result) → IsTrue kind.tells →
-    TearsSaid before after desk_then.ledger.messages
-turn_tears kind desk desk_then before after old new now result t tells =
-    by_added before t.look after desk.ledger.messages desk_then.ledger.messages result t.own
-    (λ e. disk_deed kind desk desk_then t.look after t.shown old new now t.deals.deed tells t.deals.dealt
+pub turn_tears : (kind : AgencyKind) (agency_state agency_state_then : AgencyState) (before after : Sight) (old new : Sending) (now : ℕ)
+    (result : Result Turn SendFault) → Turned (turn_call kind agency_state agency_state_then before after old new now result) → IsTrue kind.tells →
+    TearsSaid before after agency_state_then.ledger.messages
+turn_tears kind agency_state agency_state_then before after old new now result t tells =
+    by_added before t.look after agency_state.ledger.messages agency_state_then.ledger.messages result t.own
+    (λ e. disk_deed kind agency_state agency_state_then t.look after t.shown old new now t.deals.deed tells t.deals.dealt
     (subst (λ (r : Result Turn SendFault). Ends old now t.shown t.look after t.deals.deed r new) e t.deals.ends))
     (ends_added old now t.shown t.look after t.deals.deed result new t.deals.ends)
 
@@ -154,9 +154,9 @@ tears_then a b c messages notes g h items faults torn is own =
 
 pub drained_tears : (kind : AgencyKind) (exact : Bool) (start then : Scene) (old new : List Told) (result : Result (Unit {0})
     DrainFault) → Drained kind exact start then old new result → IsTrue kind.tells →
-    TearsSaid start.sight then.sight then.desk.ledger.messages
+    TearsSaid start.sight then.sight then.agency_state.ledger.messages
 drained_tears kind exact start then old new result d tells =
-    tears_then start.sight d.scene.sight then.sight then.desk.ledger.messages
+    tears_then start.sight d.scene.sight then.sight then.agency_state.ledger.messages
     (turns_notes kind exact start d.answers d.links d.scene d.made) (is_turn_growth kind exact d.scene then d.answer d.turn)
-    (turn_tears kind d.scene.desk then.desk d.scene.sight then.sight d.scene.sending then.sending d.turn.now d.answer
+    (turn_tears kind d.scene.agency_state then.agency_state d.scene.sight then.sight d.scene.sending then.sending d.turn.now d.answer
     d.turn.turned tells)

@@ -1,8 +1,7 @@
 -- What the end of a drained shop says of its store.
-use Rattle.std.proofs.Common.{◌-◌, [], Result, Ok, Err, OnOk, ◌≡◌, ◌⊎◌, inl, inr, ℕ, ◌<◌, ◌≤◌, List, ◌∷◌, ◌++◌, refl, sym, ◌∙◌}
+use Rattle.std.proofs.Common.{[], Result, Ok, Err, OnOk, ◌≡◌, ◌⊎◌, inl, inr, ℕ, ◌<◌, ◌≤◌, List, ◌∷◌, ◌++◌, refl, sym, ◌∙◌}
 use Rattle.std.proofs.Common.{ap, subst, length, drop, Bool, true, false, IsTrue, ◌+◌, Some, slice_get, append_assoc}
 use Rattle.std.proofs.Common.{append-nil, arith}
-use Rattle.chain_disk.specs.Runs.{follows}
 use Rattle.std.specs.Prelude.{Contains, IsErrOf, OnOk, is_err}
 use Rattle.std.proofs.Math.Seq.{drop-append_seam}
 use Rattle.std.proofs.lemmas.List.Elements.{Contains-append_cases}
@@ -30,7 +29,7 @@ use Rattle.sender.specs.Draining.{CountsOf, Drained, EndsWith, Scene, Turns, non
 use Rattle.sender.specs.declared.draining.TheConstants.{MAX_LINK_FAULTS}
 use Rattle.sender.specs.Lines.{IsCall}
 use Rattle.sender.specs.Sending.{Sending}
-use Rattle.sender.specs.Turning.{Desk, AgencyKind, Turned, turn_call}
+use Rattle.sender.specs.Turning.{AgencyState, AgencyKind, Turned, turn_call}
 use Rattle.sender.proofs.Adding.{adds_none, adds_then, has_front}
 use Rattle.sender.proofs.Causes.{turn_later}
 use Rattle.sender.proofs.Growing.{Growth, all_contained, gains_each}
@@ -65,7 +64,7 @@ nothing_more : (own : List ℕ) → drop (length own) own ≡ []
 nothing_more own = ap (λ (xs : List ℕ). drop (length own) xs) (sym (append-nil own)) ∙ drop-append_seam own []
 
 -- nothing yet
-pub sends_none : (kind : AgencyKind) (a : Sight) (k : Desk) (said : Sending) → SendsOn kind a a k k said said (Ok tt)
+pub sends_none : (kind : AgencyKind) (a : Sight) (k : AgencyState) (said : Sending) → SendsOn kind a a k k said said (Ok tt)
 sends_none kind a k said = record {
   adds = adds_none AreNotesOrTorn a;
   notes = inl (adds_none AreNotes a);
@@ -93,30 +92,30 @@ sends_none kind a k said = record {
 }
 
 -- a drain after turns that were before it
-drain_later : (kind : AgencyKind) (k l m : Desk) (answer : Result (Unit {0}) DrainFault) → k.faults ≤ l.faults →
+drain_later : (kind : AgencyKind) (k l m : AgencyState) (answer : Result (Unit {0}) DrainFault) → k.faults ≤ l.faults →
     AnsweredByDrain kind l m answer → AnsweredByDrain kind k m answer
 drain_later kind k l m answer later by = record {
   exact = by.exact;
   before = by.before;
   after = by.after;
   drains = by.drains;
-  desk = by.desk;
+  agency_state = by.agency_state;
   later = (let f = by.later in omega (arith, later, f));
 }
 
-fails_later : (kind : AgencyKind) (k l m : Desk) (answer : Result (Unit {0}) DrainFault) → k.faults ≤ l.faults →
+fails_later : (kind : AgencyKind) (k l m : AgencyState) (answer : Result (Unit {0}) DrainFault) → k.faults ≤ l.faults →
     FailsAtNotes kind l m answer → FailsAtNotes kind k m answer
 unfolding drain_later
 fails_later kind k l m answer later (inl is) = inl is
 fails_later kind k l m answer later (inr f) = inr (f.0, drain_later kind k l m answer later f.1, f.2)
 
 -- turns that end well failed at no notes
-no_fault : (answer : Result (Unit {0}) DrainFault) (kind : AgencyKind) (k l : Desk) → answer ≡ Ok tt → FailsAtNotes kind k l answer → ⊥
+no_fault : (answer : Result (Unit {0}) DrainFault) (kind : AgencyKind) (k l : AgencyState) → answer ≡ Ok tt → FailsAtNotes kind k l answer → ⊥
 no_fault answer kind k l well (inl is) = let e = sym well ∙ is in absurd cc
 no_fault answer kind k l well (inr f) = let e = sym well ∙ f.0 in absurd cc
 
 -- after turns that go on, more of them
-pub sends_then : (kind : AgencyKind) (a b c : Sight) (k l m : Desk) (said mid then : Sending) (answer : Result (Unit {0}) DrainFault) →
+pub sends_then : (kind : AgencyKind) (a b c : Sight) (k l m : AgencyState) (said mid then : Sending) (answer : Result (Unit {0}) DrainFault) →
     SendsOn kind a b k l said mid (Ok tt) → SendsOn kind b c l m mid then answer → SendsOn kind a c k m said then answer
 sends_then kind a b c k l m said mid then answer x y = record {
   adds = adds_then AreNotesOrTorn a b c x.adds y.adds;
@@ -199,26 +198,26 @@ sends_then kind a b c k l m said mid then answer x y = record {
         y.torn keeps first gains items faults torn is (subst (λ (ps : List ℕ). Contains ps (length items)) (sym later) late)
 
 -- a turn's note whose fault is the disk's ends the turns so
-pub notes_end : (kind : AgencyKind) (old new : Desk) (answer : Result Turn SendFault) → answer ≡ Err (send.Store store.DiskFault) →
+pub notes_end : (kind : AgencyKind) (old new : AgencyState) (answer : Result Turn SendFault) → answer ≡ Err (send.Store store.DiskFault) →
     FailsAtNotes kind old new (sending_end answer)
 notes_end kind old new answer is = inl (ap sending_end is)
 
 -- a turn that answers a fault of the disk leaves a stop
-pub stopped_end : (kind : AgencyKind) (desk desk_then : Desk) (before after : Sight) (old new : Sending) (now : ℕ)
-    (answer : Result Turn SendFault) → Turned (turn_call kind desk desk_then before after old new now answer) →
+pub stopped_end : (kind : AgencyKind) (agency_state agency_state_then : AgencyState) (before after : Sight) (old new : Sending) (now : ℕ)
+    (answer : Result Turn SendFault) → Turned (turn_call kind agency_state agency_state_then before after old new now answer) →
     IsDiskAnswer (sending_end answer) → EndsStopped after.items
-stopped_end kind desk desk_then before after old new now (Ok turn) t disk = absurd disk
-stopped_end kind desk desk_then before after old new now (Err send.LinkFault) t disk = absurd disk
-stopped_end kind desk desk_then before after old new now (Err (send.Contradiction evidence)) t disk = absurd disk
-stopped_end kind desk desk_then before after old new now (Err send.NoMemory) t disk = absurd disk
-stopped_end kind desk desk_then before after old new now (Err (send.Store store.DiskFault)) t disk = ends_stopped old now t.shown
+stopped_end kind agency_state agency_state_then before after old new now (Ok turn) t disk = absurd disk
+stopped_end kind agency_state agency_state_then before after old new now (Err send.LinkFault) t disk = absurd disk
+stopped_end kind agency_state agency_state_then before after old new now (Err (send.Contradiction evidence)) t disk = absurd disk
+stopped_end kind agency_state agency_state_then before after old new now (Err send.NoMemory) t disk = absurd disk
+stopped_end kind agency_state agency_state_then before after old new now (Err (send.Store store.DiskFault)) t disk = ends_stopped old now t.shown
     t.look after t.deals.deed store.DiskFault new tt t.deals.ends
-stopped_end kind desk desk_then before after old new now (Err (send.Store (store.Stopped faults))) t disk = ends_stopped old now
+stopped_end kind agency_state agency_state_then before after old new now (Err (send.Store (store.Stopped faults))) t disk = ends_stopped old now
     t.shown t.look after t.deals.deed (store.Stopped faults) new tt t.deals.ends
-stopped_end kind desk desk_then before after old new now (Err (send.Store store.NoMemory)) t disk = absurd disk
+stopped_end kind agency_state agency_state_then before after old new now (Err (send.Store store.NoMemory)) t disk = absurd disk
 
 -- turns that keep agreement end in no contradiction
-pub never_end : (answer : Result Turn SendFault) (before after : Sight) (k : Desk) (new : Desk) (said : Sending) →
+pub never_end : (answer : Result Turn SendFault) (before after : Sight) (k : AgencyState) (new : AgencyState) (said : Sending) →
     KeepsAgreement before after k.ledger new.ledger said.said answer → (evidence : Evidence) → IsErrOf (sending_end answer)
     (drain.Contradiction evidence) → ⊥
 never_end (Ok turn) before after k new said h evidence is = absurd cc
@@ -227,7 +226,7 @@ never_end (Err (send.Contradiction e)) before after k new said h evidence is = h
 never_end (Err (send.Store fault)) before after k new said h evidence is = absurd cc
 never_end (Err send.NoMemory) before after k new said h evidence is = absurd cc
 
--- the turns beside the tills give up on no link
+-- the turns at the same time as the tills give up on no link
 pub never_gives_up : (answer : Result Turn SendFault) (n r : ℕ) → IsErrOf (sending_end answer) (drain.Undelivered n r) → ⊥
 never_gives_up (Ok turn) n r is = absurd cc
 never_gives_up (Err send.LinkFault) n r is = absurd cc
@@ -236,19 +235,19 @@ never_gives_up (Err (send.Store fault)) n r is = absurd cc
 never_gives_up (Err send.NoMemory) n r is = absurd cc
 
 turns_later : (kind : AgencyKind) (exact : Bool) (start : Scene) (answers : List (Result Turn SendFault)) (links : ℕ) (scene : Scene) →
-    Turns kind exact start answers links scene → start.desk.faults ≤ scene.desk.faults
+    Turns kind exact start answers links scene → start.agency_state.faults ≤ scene.agency_state.faults
 turns_later kind exact start answers links scene none = omega arith
 turns_later kind exact start answers links scene (more before_answers before_links mid answer then t turn on few) =
     let a = turns_later kind exact start before_answers before_links mid t in
-    let b = turn_later kind mid.desk then.desk mid.sight then.sight mid.sending then.sending turn.now answer turn.turned in
+    let b = turn_later kind mid.agency_state then.agency_state mid.sight then.sight mid.sending then.sending turn.now answer turn.turned in
     omega (arith, a, b)
 
 -- a drain never lowers the agency's count of faults
 pub drained_later : (kind : AgencyKind) (exact : Bool) (start then : Scene) (old new : List Told)
-    (result : Result (Unit {0}) DrainFault) → Drained kind exact start then old new result → start.desk.faults ≤ then.desk.faults
+    (result : Result (Unit {0}) DrainFault) → Drained kind exact start then old new result → start.agency_state.faults ≤ then.agency_state.faults
 drained_later kind exact start then old new result d =
     let a = turns_later kind exact start d.answers d.links d.scene d.made in
-    let b = turn_later kind d.scene.desk then.desk d.scene.sight then.sight d.scene.sending then.sending d.turn.now d.answer
+    let b = turn_later kind d.scene.agency_state then.agency_state d.scene.sight then.sight d.scene.sending then.sending d.turn.now d.answer
     d.turn.turned in
     omega (arith, a, b)
 
@@ -297,9 +296,9 @@ drains_from kind exact before after told turns answer untold d = drains_to kind 
     (subst (λ (ts : List Told). Drained kind exact before after ts turns answer) untold d)
 
 -- whether the disk failed at the notes of a drain's last turn
-pub drained_notes_or : (kind : AgencyKind) (exact : Bool) (before after : Scene) (old new : Desk)
-    (answer : Result (Unit {0}) DrainFault) → (d : DrainsTo kind exact before after answer) → before.desk ≡ old →
-    after.desk ≡ new → Adds AreNotes before.sight after.sight ⊎ FailsAtNotes kind old new answer
+pub drained_notes_or : (kind : AgencyKind) (exact : Bool) (before after : Scene) (old new : AgencyState)
+    (answer : Result (Unit {0}) DrainFault) → (d : DrainsTo kind exact before after answer) → before.agency_state ≡ old →
+    after.agency_state ≡ new → Adds AreNotes before.sight after.sight ⊎ FailsAtNotes kind old new answer
 drained_notes_or kind exact before after old new answer d from to = elim (is_disk_fault d.drained.answer) [
   | inl is ↦ inr (elim d.drained.ends [
     | inl p ↦ inl (answers_fault d.drained.links after.sight d.drained.answer answer p.1 is)
@@ -310,8 +309,8 @@ drained_notes_or kind exact before after old new answer d from to = elim (is_dis
         before = before;
         after = after;
         drains = d;
-        desk = to;
-        later = (let e = ap (λ (k : Desk). k.faults) from in omega (arith, e));
+        agency_state = to;
+        later = (let e = ap (λ (k : AgencyState). k.faults) from in omega (arith, e));
       },
       is,
     )
@@ -333,7 +332,7 @@ no_error (Ok done) e = refl
 no_error (Err fault) e = absurd (let x = e in cc)
 
 -- the same, where the answer of the last turn is that of all
-pub sends_after : {kind : AgencyKind} {a b c : Sight} {k l m : Desk} {said mid then : Sending}
+pub sends_after : {kind : AgencyKind} {a b c : Sight} {k l m : AgencyState} {said mid then : Sending}
     {last answer : Result (Unit {0}) DrainFault} → last ≡ answer → SendsOn kind a b k l said mid (Ok tt) →
     SendsOn kind b c l m mid then last → SendsOn kind a c k m said then answer
 sends_after {kind} {a} {b} {c} {k} {l} {m} {said} {mid} {then} {last} {answer} is x y =

@@ -101,7 +101,7 @@ module _ (kind : AgencyKind) (exact : Bool) (records : List Sealed) (final : Sig
   -- one turn
   pub turn_did : (scene then : Scene) (st : Standing) (answer : Result Turn SendFault) → At exact records base scene st →
       IsTurn kind exact scene then answer → Growth then.sight final →
-      Did kind.tells exact records st scene.desk.ledger.messages then.desk.ledger.messages then.sight then.sending answer
+      Did kind.tells exact records st scene.agency_state.ledger.messages then.agency_state.ledger.messages then.sight then.sending answer
   turn_did scene then st answer at turn rest =
       let t = turn.turned in
       let to_look = quiet_growth scene.sight t.look t.grows t.own in
@@ -121,16 +121,16 @@ module _ (kind : AgencyKind) (exact : Bool) (records : List Sealed) (final : Sig
         kept = at.kept;
         now_is = λ e. turn.told e ∙ at.moment;
       } in
-      ends_did kind.tells exact records st scene.desk.ledger.messages then.desk.ledger.messages t.look then.sight t.shown
+      ends_did kind.tells exact records st scene.agency_state.ledger.messages then.agency_state.ledger.messages t.look then.sight t.shown
       scene.sending then.sending turn.now stands
       (λ grows own. quiet_same final base mine t.look then.sight (quiet_growth t.look then.sight grows own) rest own high long)
       (λ thing o. none_between final base mine t.look then.sight thing rest high long o)
-      kind scene.desk then.desk t.deals.deed answer refl refl refl t.deals.dealt t.deals.ends
+      kind scene.agency_state then.agency_state t.deals.deed answer refl refl refl t.deals.dealt t.deals.ends
 
   -- and where the drain stands after it
   pub at_next : (scene then : Scene) (st : Standing) (answer : Result Turn SendFault) → At exact records base scene st →
       (turn : IsTurn kind exact scene then answer) →
-      (d : Did kind.tells exact records st scene.desk.ledger.messages then.desk.ledger.messages then.sight then.sending answer) →
+      (d : Did kind.tells exact records st scene.agency_state.ledger.messages then.agency_state.ledger.messages then.sight then.sending answer) →
       GoesOn answer → At exact records base then (after_steps st d.steps)
   at_next scene then st answer at turn d on =
       let g = is_turn_growth kind exact scene then answer turn in
@@ -153,30 +153,30 @@ module _ (kind : AgencyKind) (exact : Bool) (records : List Sealed) (final : Sig
     pub here : At exact records base scene (after_steps st steps)
     pub lines : map line_in steps ≡ filter_map told_in answers
     pub go_on : AllByRecursion (λ (s : Step). GoesOnBehind (line_in s)) steps
-    pub messages : IsTrue kind.tells → scene.desk.ledger.messages ≡ start.desk.ledger.messages ++ filter_map message_in steps
+    pub messages : IsTrue kind.tells → scene.agency_state.ledger.messages ≡ start.agency_state.ledger.messages ++ filter_map message_in steps
     pub counted : links ≡ count_by is_link (map line_in steps)
     pub few : links < MAX_LINK_FAULTS
-    pub risen : scene.desk.faults < 2 ^ 64 - 1 → links + start.desk.faults ≤ scene.desk.faults
+    pub risen : scene.agency_state.faults < 2 ^ 64 - 1 → links + start.agency_state.faults ≤ scene.agency_state.faults
 
   faults_rise : (scene then : Scene) (links : ℕ) (answer : Result Turn SendFault) → IsTurn kind exact scene then answer →
-      then.desk.faults < 2 ^ 64 - 1 → links_with links answer + scene.desk.faults ≤ links + then.desk.faults
-  faults_rise scene then links (Ok turn) t below = let l = turn_later kind scene.desk then.desk scene.sight then.sight
+      then.agency_state.faults < 2 ^ 64 - 1 → links_with links answer + scene.agency_state.faults ≤ links + then.agency_state.faults
+  faults_rise scene then links (Ok turn) t below = let l = turn_later kind scene.agency_state then.agency_state scene.sight then.sight
       scene.sending then.sending t.now (Ok turn) t.turned in omega (arith, l)
-  faults_rise scene then links (Err LinkFault) t below = let r = turn_link kind scene.desk then.desk scene.sight then.sight
+  faults_rise scene then links (Err LinkFault) t below = let r = turn_link kind scene.agency_state then.agency_state scene.sight then.sight
       scene.sending then.sending t.now (Err LinkFault) t.turned refl below in omega (arith, r)
-  faults_rise scene then links (Err (Contradiction evidence)) t below = let l = turn_later kind scene.desk then.desk scene.sight
+  faults_rise scene then links (Err (Contradiction evidence)) t below = let l = turn_later kind scene.agency_state then.agency_state scene.sight
       then.sight scene.sending then.sending t.now (Err (Contradiction evidence)) t.turned in omega (arith, l)
-  faults_rise scene then links (Err (Store fault)) t below = let l = turn_later kind scene.desk then.desk scene.sight then.sight
+  faults_rise scene then links (Err (Store fault)) t below = let l = turn_later kind scene.agency_state then.agency_state scene.sight then.sight
       scene.sending then.sending t.now (Err (Store fault)) t.turned in omega (arith, l)
-  faults_rise scene then links (Err NoMemory) t below = let l = turn_later kind scene.desk then.desk scene.sight then.sight
+  faults_rise scene then links (Err NoMemory) t below = let l = turn_later kind scene.agency_state then.agency_state scene.sight then.sight
       scene.sending then.sending t.now (Err NoMemory) t.turned in omega (arith, l)
 
   -- the faults after a turn, by those before it
   pub risen_more : (start scene then : Scene) (links : ℕ) (answer : Result Turn SendFault) → IsTurn kind exact scene then answer →
-      (scene.desk.faults < 2 ^ 64 - 1 → links + start.desk.faults ≤ scene.desk.faults) → then.desk.faults < 2 ^ 64 - 1 →
-      links_with links answer + start.desk.faults ≤ then.desk.faults
+      (scene.agency_state.faults < 2 ^ 64 - 1 → links + start.agency_state.faults ≤ scene.agency_state.faults) → then.agency_state.faults < 2 ^ 64 - 1 →
+      links_with links answer + start.agency_state.faults ≤ then.agency_state.faults
   risen_more start scene then links answer turn risen below =
-      let l = turn_later kind scene.desk then.desk scene.sight then.sight scene.sending then.sending turn.now answer turn.turned
+      let l = turn_later kind scene.agency_state then.agency_state scene.sight then.sight scene.sending then.sending turn.now answer turn.turned
       in
       let a = risen (omega (arith, l, below)) in
       let b = faults_rise scene then links answer turn below in
@@ -191,7 +191,7 @@ module _ (kind : AgencyKind) (exact : Bool) (records : List Sealed) (final : Sig
     here = at;
     lines = refl;
     go_on = tt;
-    messages = λ t. sym (append-nil start.desk.ledger.messages);
+    messages = λ t. sym (append-nil start.agency_state.ledger.messages);
     counted = refl;
     few = omega arith;
     risen = λ below. omega arith;
@@ -214,8 +214,8 @@ module _ (kind : AgencyKind) (exact : Bool) (records : List Sealed) (final : Sig
             (lines_go d.steps (subst (λ (ls : List Told). AllByRecursion GoesOnBehind ls) (sym d.lines)
             (goes_lines answer on (told_in answer) refl)));
         messages = λ tells. d.messages tells ∙ ap (λ (ms : List Message). ms ++ filter_map message_in d.steps) (w.messages tells)
-            ∙ append_assoc start.desk.ledger.messages (filter_map message_in w.steps) (filter_map message_in d.steps)
-            ∙ ap (λ (ms : List Message). start.desk.ledger.messages ++ ms) (sym (filter_map-append message_in w.steps d.steps));
+            ∙ append_assoc start.agency_state.ledger.messages (filter_map message_in w.steps) (filter_map message_in d.steps)
+            ∙ ap (λ (ms : List Message). start.agency_state.ledger.messages ++ ms) (sym (filter_map-append message_in w.steps d.steps));
         counted =
             let split = ap (λ (ls : List Told). count_by is_link ls) (map-append line_in w.steps d.steps) ∙
             sum_by-append _ (map line_in w.steps) (map line_in d.steps) in

@@ -1,5 +1,5 @@
 -- When the messages of a session contradict themselves.
-use Rattle.std.specs.Prelude.{◌≡◌, ◌⊎◌, ℕ, ◌+◌, ◌-◌, List, [], ◌∷◌, ◌++◌, length, IsErrOf, Result, Ok, Err}
+use Rattle.std.specs.Prelude.{◌≡◌, ◌⊎◌, ℕ, ◌+◌, List, [], ◌∷◌, ◌++◌, length, IsErrOf, Result, Ok, Err}
 use Rattle.record_codec.specs.declared.entry.Entry.{Entry}
 use Rattle.batches.specs.Batches.{huellas_of}
 use Rattle.shop_core.specs.History.{noted, waiting}
@@ -36,7 +36,7 @@ NoneBefore past messages = (front : List Message) (m : Message) (back : List Mes
 abbrev pub IsContrary : Result (Unit {0}) DrainFault → Type 0
 IsContrary answer = (evidence : Evidence) × IsErrOf answer (drain.Contradiction evidence)
 
--- where it shows one a contradiction is the answer, or memory was wanting
+-- where it shows one a contradiction is the answer, or memory ran out
 abbrev pub AnswersWhatIsShown : List Message → List Message → Result (Unit {0}) DrainFault → Type 0
 AnswersWhatIsShown past messages answer = (entries : List Entry) (evidence : Evidence) →
     ShowsLast entries past messages evidence → IsContrary answer ⊎ (answer ≡ Err drain.NoMemory)

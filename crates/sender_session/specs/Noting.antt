@@ -53,7 +53,7 @@ count_named (Begun plan pairs) = 0
 count_named (Submitted batch answer) = length batch
 count_named (Consulted huellas answer) = length huellas
 
--- each message is of the first records that wait, and says a line for no more of them than it names: so many lines are noted
+-- each message is of the first records that wait, and says a line for no more of them than it names: this many lines are noted
 -- before the first message, and after each one those that it says
 abbrev pub AreOfWaiting : List Sealed → ℕ → List Message → Type 0
 AreOfWaiting records count [] = ⊤
@@ -68,7 +68,7 @@ pub record MissesLast (before after : List Line) (messages : List Message) : Typ
   pub noted : after ≡ before ++ all_said front
 
 -- The lines that were noted, by how the sending ended: those that the messages say, in order, and no others. The last message's
--- aren't where it shows a contradiction or the store failed, and need not be where memory was wanting.
+-- aren't where it shows a contradiction or the store failed, and need not be where memory ran out.
 abbrev pub AreNoted : List Line → List Line → List Message → Result (Unit {0}) DrainFault → Type 0
 AreNoted before after messages (Ok done) = after ≡ before ++ all_said messages
 AreNoted before after messages (Err (drain.Undelivered noted_count records_count)) = after ≡ before ++ all_said messages

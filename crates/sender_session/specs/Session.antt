@@ -1,5 +1,5 @@
 -- What the turns of one sender leave of its shop and of its agency.
-use Rattle.std.specs.Prelude.{◌≡◌, ◌⊎◌, ℕ, ◌+◌, ◌-◌, ◌^◌, ◌<◌, ◌≤◌, List, [], ◌∷◌, ◌++◌, length, Bool, true, false, IsTrue}
+use Rattle.std.specs.Prelude.{◌≡◌, ◌⊎◌, ℕ, ◌+◌, ◌<◌, ◌≤◌, List, [], ◌∷◌, ◌++◌, length, Bool, true, false, IsTrue}
 use Rattle.std.specs.Prelude.{Contains, IsErrOf, Result, Ok, Err, count_by, drop, not, ⊤}
 use Rattle.journal.specs.declared.faults.StoreFault.TheVariants as store
 use Rattle.record_codec.specs.declared.entry.Entry.{Entry}
@@ -17,7 +17,7 @@ use Rattle.sender.specs.Agreeing.{Adds, AgreesIfTorn, AreNotes, AreNotesOrTorn, 
 use Rattle.sender.specs.Draining.{CountsOf, Drained, Scene}
 use Rattle.sender.specs.Lines.{SaysCalls}
 use Rattle.sender.specs.Sending.{Sending}
-use Rattle.sender.specs.Turning.{Desk, AgencyKind}
+use Rattle.sender.specs.Turning.{AgencyState, AgencyKind}
 use Rattle.sender.specs.declared.answers.Turn.{Turn}
 use Rattle.sender.specs.declared.answers.SendFault.{SendFault}
 use Rattle.sender.specs.declared.answers.SendFault.TheVariants as send
@@ -28,6 +28,8 @@ use Rattle.sender_session.specs.Noting.{NotesSaid, TornSaid}
 use Rattle.sender_session.specs.Contradictions.{ShowsLast, ShowsNothing, NoneBefore, AnswersWhatIsShown}
 use Rattle.agency_port.specs.Messages.{batches_in}
 use Rattle.sender.specs.Dark.{AreRunsBy, NoneInTheDark}
+use Rattle.pacing.specs.declared.pace.TheConstants.{MAX_BATCH}
+use Rattle.ports.specs.Causes.{greatest_u64}
 
 -- an entry that notes lines
 abbrev pub AreNotesEntry : Entry → Type 0
@@ -45,9 +47,9 @@ pub record SaysNothingBlindly (old new : List Message) : Type 0 where
   pub is : new ≡ old ++ session
   pub never : NoneInTheDark old session
 
--- the batches that these messages hand over are runs of the chain that end at most 1000 past the noted lines
+-- the batches that these messages hand over are runs of the chain that end at most MAX_BATCH past the noted lines
 abbrev pub AreOfChain : List Entry → List Message → Type 0
-AreOfChain entries messages = AreRunsBy (recs entries) (length (noted entries) + 1000) (batches_in messages)
+AreOfChain entries messages = AreRunsBy (recs entries) (length (noted entries) + MAX_BATCH) (batches_in messages)
 
 -- the last item is a stop
 pub record EndsStopped (items : List Item) : Type 0 where
@@ -65,10 +67,10 @@ sending_end (Err (send.Store fault)) = Err (drain.Store fault)
 sending_end (Err send.NoMemory) = Err drain.NoMemory
 
 -- the drain gives up only where the agency failed eight times
-abbrev pub FailsEightTimes : Desk → Desk → Result (Unit {0}) DrainFault → Type 0
+abbrev pub FailsEightTimes : AgencyState → AgencyState → Result (Unit {0}) DrainFault → Type 0
 FailsEightTimes old new answer = (noted_count records_count : ℕ) →
     IsErrOf answer (drain.Undelivered noted_count records_count) →
-    new.faults < 2 ^ 64 - 1 → old.faults + MAX_LINK_FAULTS ≤ new.faults
+    new.faults < greatest_u64 → old.faults + MAX_LINK_FAULTS ≤ new.faults
 
 -- the agency's answer to a message is a fault of the link: none came, or a reply that doesn't name the batch
 abbrev pub is_link_fault : Message → Bool
@@ -77,7 +79,7 @@ is_link_fault (Submitted batch (Err agency.Failed)) = true
 is_link_fault (Consulted huellas (Err agency.Failed)) = true
 is_link_fault _ = false
 
--- The drain after the tills gave up: after what was said before it, so many of its messages are faults of the link, the last
+-- The drain after the tills gave up: after what was said before it, this many of its messages are faults of the link, the last
 -- one too.
 pub record GivesUp (old new : List Message) : Type 0 where
   pub before : List Message
@@ -98,18 +100,18 @@ pub record DrainsTo (kind : AgencyKind) (exact : Bool) (before after : Scene) (a
   pub eighth : IsUndelivered answer → (drained.answer ≡ Err send.LinkFault) × (drained.links + 1 ≡ MAX_LINK_FAULTS)
   pub gives_up : drained.answer ≡ Err send.LinkFault → IsUndelivered answer ⊎ (answer ≡ Err drain.NoMemory)
 
--- this was answered by a drain that left the agency at this desk, and found it at one no earlier than that
-pub record AnsweredByDrain (kind : AgencyKind) (old new : Desk) (answer : Result (Unit {0}) DrainFault) : Type 0 where
+-- this was answered by a drain that left the agency in this state, and found it at one no earlier than that
+pub record AnsweredByDrain (kind : AgencyKind) (old new : AgencyState) (answer : Result (Unit {0}) DrainFault) : Type 0 where
   pub exact : Bool
   pub before : Scene
   pub after : Scene
   pub drains : DrainsTo kind exact before after answer
-  pub desk : after.desk ≡ new
-  pub later : old.faults ≤ before.desk.faults
+  pub agency_state : after.agency_state ≡ new
+  pub later : old.faults ≤ before.agency_state.faults
 
--- The disk failed at the sender's own notes. That is the answer; or it was answered to the last turn of a drain, and memory was
--- wanting for the line of that turn.
-abbrev pub FailsAtNotes : AgencyKind → Desk → Desk → Result (Unit {0}) DrainFault → Type 0
+-- The disk failed at the sender's own notes. That is the answer; or it was answered to the last turn of a drain, and memory
+-- ran out for the line of that turn.
+abbrev pub FailsAtNotes : AgencyKind → AgencyState → AgencyState → Result (Unit {0}) DrainFault → Type 0
 FailsAtNotes kind old new answer = (answer ≡ Err (drain.Store store.DiskFault))
     ⊎ ((answer ≡ Err drain.NoMemory) × (by : AnsweredByDrain kind old new answer)
     × (by.drains.drained.answer ≡ Err (send.Store store.DiskFault)))
@@ -123,7 +125,7 @@ TearsSaid before after messages = (items : List Item) (faults : ℕ) (torn : Ent
 -- Turns of one sender with one agency, between two sights of a shop to which others add beside it. What they added is their own
 -- notes, or the stop over them. In a session in which the agency keeps its rules and agreed, and no other notes came, it still
 -- agrees, also with what may be torn, and doesn't contradict itself.
-pub record SendsOn (kind : AgencyKind) (before after : Sight) (old new : Desk) (sending sending_then : Sending)
+pub record SendsOn (kind : AgencyKind) (before after : Sight) (old new : AgencyState) (sending sending_then : Sending)
     (answer : Result (Unit {0}) DrainFault) : Type 0 where
   pub adds : Adds AreNotesOrTorn before after
   pub notes : Adds AreNotes before after ⊎ FailsAtNotes kind old new answer
@@ -142,7 +144,7 @@ pub record SendsOn (kind : AgencyKind) (before after : Sight) (old new : Desk) (
   -- the sender keeps the last reply of its session that named its batch, until a consultation answers
   pub kept : IsTrue kind.tells → (past : List Message) → KeepsReply past old.ledger.messages sending.said →
       KeepsReply past new.ledger.messages sending_then.said
-  -- a contradiction is answered only where the last message shows it, and wherever it does but for want of memory
+  -- a contradiction is answered only where the last message shows it, and wherever it does but for lack of memory
   pub contrary : IsTrue kind.tells → (past : List Message) → KeepsReply past old.ledger.messages sending.said →
       (evidence : Evidence) → IsErrOf answer (drain.Contradiction evidence) →
       ShowsLast (history_of after) past new.ledger.messages evidence

@@ -1,5 +1,5 @@
 -- What the turns of a drain did, one after another, and the lines that stand for them.
-use Rattle.std.specs.Prelude.{◌≡◌, ◌⊎◌, ℕ, ◌+◌, ◌-◌, ◌^◌, ◌<◌, ◌≤◌, max, List, [], ◌∷◌, ◌++◌, length, map, take, drop}
+use Rattle.std.specs.Prelude.{◌≡◌, ◌⊎◌, ℕ, ◌+◌, ◌-◌, ◌<◌, ◌≤◌, max, List, [], ◌∷◌, ◌++◌, length, map, take, drop}
 use Rattle.std.specs.Prelude.{filter_map, count_by, Bool, true, false, IsTrue, ⊤, Option, Some, None, Result, Ok, Err}
 use Rattle.std.specs.List.{AllByRecursion}
 use Rattle.record_fields.specs.declared.records.Sealed.{Sealed}
@@ -28,7 +28,9 @@ use Rattle.sender.specs.declared.draining.TheConstants.{MAX_LINK_FAULTS}
 use Rattle.sender.specs.Draining.{is_link}
 use Rattle.sender.specs.Evidence.{Shows}
 use Rattle.sender.specs.Sending.{fresh}
-use Rattle.sender.specs.Turning.{Desk}
+use Rattle.sender.specs.Turning.{AgencyState}
+use Rattle.pacing.specs.declared.pace.TheConstants.{MAX_BATCH}
+use Rattle.ports.specs.Causes.{greatest_u64}
 
 -- what a turn did that has a line: it waited until this second; it said this to the agency, and this line stands for it; or
 -- it found no memory before it said anything
@@ -124,7 +126,7 @@ abbrev pub count_waiting : List Sealed → Standing → ℕ
 count_waiting records st = length records - st.noted
 
 abbrev pub next_batch : List Sealed → Standing → List Sealed
-next_batch records st = take 1000 (drop st.noted records)
+next_batch records st = take MAX_BATCH (drop st.noted records)
 
 -- the reply names its batch and answers each record as new
 pub record AreAllNew (batch : List Sealed) (reply : Replied) : Type 0 where
@@ -159,14 +161,20 @@ IsSubmissionLine st batch (Err agency.NoMemory) printed = printed ≡ told.Memor
 abbrev pub ShowsHere : Standing → List (List ℕ) → List Seen → Result (List Line) Evidence → Type 0
 ShowsHere st huellas seen shown = Shows st.said (st.noted + 1) huellas seen shown
 
+-- these answers show lines, at least one
+pub record ShowsLines (st : Standing) (huellas : List (List ℕ)) (seen : List Seen) : Type 0 where
+  pub lines : List Line
+  pub shown : ShowsHere st huellas seen (Ok lines)
+  pub some : 1 ≤ length lines
+
 -- the line of a consultation that was answered
 abbrev pub IsSeenLine : Standing → List (List ℕ) → List Seen → Told → Type 0
 IsSeenLine st huellas seen told.Cleared = ShowsHere st huellas seen (Ok [])
 IsSeenLine st huellas seen (told.Noted n) = (lines : List Line) × ShowsHere st huellas seen (Ok lines) × (n ≡ length lines)
     × (1 ≤ n)
 IsSeenLine st huellas seen told.Contradiction = (evidence : Evidence) × ShowsHere st huellas seen (Err evidence)
-IsSeenLine st huellas seen told.Disk = (lines : List Line) × ShowsHere st huellas seen (Ok lines)
-IsSeenLine st huellas seen (told.Stopped faults) = (lines : List Line) × ShowsHere st huellas seen (Ok lines)
+IsSeenLine st huellas seen told.Disk = ShowsLines st huellas seen
+IsSeenLine st huellas seen (told.Stopped faults) = ShowsLines st huellas seen
 IsSeenLine st huellas seen told.Memory = ⊤
 IsSeenLine _ _ _ _ = ⊥
 
@@ -219,8 +227,8 @@ pub record EndsContrary (st : Standing) (last : List Step) (evidence : Evidence)
   pub is : last ≡ Says (Consulted huellas (Ok seen)) told.Contradiction ∷ []
   pub shows : ShowsHere st huellas seen (Err evidence)
 
--- How a drain ends by its last step, which stands after those after which it went on, with so many link lines among them and
--- so many lines noted at its end. Without memory a step may be left untold.
+-- How a drain ends by its last step, which stands after those after which it went on, with this many link lines among them and
+-- this many lines noted at its end. Without memory a step may be left untold.
 abbrev pub EndsBy : List Sealed → Standing → ℕ → ℕ → List Step → Result (Unit {0}) DrainFault → Type 0
 EndsBy records st links noted last (Ok done) = (last ≡ []) × (noted ≡ length records)
 EndsBy records st links noted last (Err (drain.Undelivered noted_count records_count)) =
@@ -236,9 +244,9 @@ abbrev pub AreTold : List Told → List Step → List Step → Result (Unit {0})
 AreTold turns going last answer = (turns ≡ map line_in (going ++ last))
     ⊎ ((answer ≡ Err drain.NoMemory) × (turns ≡ map line_in going))
 
--- What the turns of a drain did, over a chain of these records of which so many had noted lines at its start and at its end:
+-- What the turns of a drain did, over a chain of these records of which this many had noted lines at its start and at its end:
 -- the steps after which it went on, and the last one, where there is one.
-pub record Steps (tells exact : Bool) (records : List Sealed) (from to moment : ℕ) (old new : Desk) (turns : List Told)
+pub record Steps (tells exact : Bool) (records : List Sealed) (from to moment : ℕ) (old new : AgencyState) (turns : List Told)
     (answer : Result (Unit {0}) DrainFault) : Type 0 where
   pub going : List Step
   pub last : List Step
@@ -253,5 +261,5 @@ pub record Steps (tells exact : Bool) (records : List Sealed) (from to moment : 
   pub noted : to ≡ (after_steps (at_start from moment) (going ++ last)).noted
   -- no more link lines than the agency's faults, and fewer than eight where it goes on
   pub few : count_by is_link (map line_in going) < MAX_LINK_FAULTS
-  pub links : new.faults < 2 ^ 64 - 1 → count_by is_link (map line_in (going ++ last)) + old.faults ≤ new.faults
+  pub links : new.faults < greatest_u64 → count_by is_link (map line_in (going ++ last)) + old.faults ≤ new.faults
   pub ends : EndsBy records (after_steps (at_start from moment) going) (count_by is_link (map line_in going)) to last answer

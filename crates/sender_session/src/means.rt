@@ -1,7 +1,7 @@
-// What a command works by.
+//! What a command works by.
 use std::alloc::Global;
 
-/// What every function of a command hands on: the handle of the runtime, the allocator, and the gate, which hears of each
+/// What every function of a command hands on: the handle of the runtime, the allocator, and the gate, which is told of each
 /// command and of the lines that are noted.
 #[derive_where(Clone, Copy)]
 pub struct Means<'a, R, T> {

@@ -1,7 +1,7 @@
-// The turns of a sender, one after another, until it is told to stop.
+//! The turns of a sender, one after another, until it is told to stop.
 ghost use Rattle.std.specs.Prelude.{◌≡◌};
-ghost use Rattle.sender_session.specs.Kinds.{agency_desk, agency_kind};
-ghost use Rattle.sender_session.specs.Session.{SendsOn, sending_end};
+ghost use Rattle.sender_session.specs.Kinds.{agency_state_of, agency_kind};
+ghost use Rattle.sender_session.specs.Session.{IsUndelivered, SendsOn, sending_end};
 
 use crate::means::Means;
 use agency_port::Agency;
@@ -11,7 +11,7 @@ use sender::{DrainFault, SendFault, Sender, Turn};
 use std::sync::Wait;
 use std::sync::atomic::{AtomicBool, Ordering};
 
-// So many rests of the system's sleeper are two seconds.
+// This many rests of the system's sleeper are two seconds.
 const RESTS: u32 = 40;
 
 // Sleeps towards this second in short rests, and looks at `stop` between them: tills that have ended wait for no second that
@@ -29,7 +29,7 @@ fn sleep<R: Wait, Z: Sleeper>(rt: &R, sleeper: &mut Z, at: u64, stop: &AtomicBoo
     }
 }
 
-// What comes after a turn: the gate hears of noted lines, and the sender rests where there is nothing to do yet, and after a
+// What comes after a turn: the gate is told of noted lines, and the sender rests where there is nothing to do yet, and after a
 // fault of the link.
 fn pause<R: Wait, T: Gate, Z: Sleeper>(
     means: Means<'_, R, T>,
@@ -68,7 +68,8 @@ fn one_turn<R: Wait, T: Gate, O: Outbox, G: Agency, Z: Sleeper>(
 ) -> Result<(), DrainFault>
     ensures fixed { O.fixed outbox.new ≡ O.fixed outbox.old }
     ensures sends { SendsOn (agency_kind G.Agency) (O.sight outbox.old) (O.sight outbox.new)
-        (agency_desk G.Agency agency.old) (agency_desk G.Agency agency.new) sender.old sender.new result }
+        (agency_state_of G.Agency agency.old) (agency_state_of G.Agency agency.new) sender.old sender.new result }
+    ensures never { IsUndelivered result → ⊥ }
 {
     what_came_beside_is_records();
     let now = sleeper.now();
@@ -88,7 +89,10 @@ pub fn send_until<R: Wait, T: Gate, O: Outbox, G: Agency, Z: Sleeper>(
 ) -> Result<(), DrainFault>
     ensures fixed { O.fixed outbox.new ≡ O.fixed outbox.old }
     ensures sends { SendsOn (agency_kind G.Agency) (O.sight outbox.old) (O.sight outbox.new)
-        (agency_desk G.Agency agency.old) (agency_desk G.Agency agency.new) sender.old sender.new result }
+        (agency_state_of G.Agency agency.old) (agency_state_of G.Agency agency.new) sender.old sender.new result }
+
+    // However often the link fails, it doesn't give up.
+    ensures never { IsUndelivered result → ⊥ }
 {
     for _ in means.rt.forever() {
         if stop.load(Ordering::SeqCst) {

@@ -1,14 +1,14 @@
-// Drains under each fate.
+//! Drains under each fate.
 use crate::shops::{NEXT_DAY, practice, shop_of};
 use agency_port::{PracticeAgency, Told, Turns};
 use agency_rules::{Fate, PlannedFate};
 use once_world::PlainOutbox;
 use ports::LeapSleeper;
-use rows::holds;
 use sender::{DrainFault, Sender};
 use std::alloc::Global;
 use std::sync::Wait;
 use std::test::Fail;
+use test_rows::holds;
 
 // What a drain left.
 #[derive(Drop)]
@@ -19,7 +19,7 @@ struct Drained {
     agency: PracticeAgency,
 }
 
-// A new sender drains a shop of so many sales, while these fates befall its calls.
+// A new sender drains a shop of this many sales, while these fates befall its calls.
 fn drain_under(
     rt: &(impl AllocGlobal + Wait),
     sales: u32,
@@ -65,7 +65,7 @@ fn holds_each_once(alloc: Global, left: &Drained) -> Result<bool, Fail> {
     Ok(true)
 }
 
-// Whether one batch and so many faults of the link took no more turns than promised, the last of which isn't told.
+// Whether one batch and this many faults of the link took no more turns than promised, the last of which isn't told.
 fn is_bounded(told: &Turns) -> bool {
     let most = links(told).saturating_mul(6).saturating_add(2 + 8);
     told.as_slice().len() < most

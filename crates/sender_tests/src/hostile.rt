@@ -1,4 +1,4 @@
-// Agencies that keep no rules: they invent, forget, and leave holes.
+//! Agencies that keep no rules: they invent, forget, and leave holes.
 use crate::shops::{NEXT_DAY, shop_of, waiting_huellas};
 use crate::steps::{Answers, Step, answers};
 use agency_port::{
@@ -7,11 +7,11 @@ use agency_port::{
 };
 use ports::LeapSleeper;
 use record_fields::Line;
-use rows::holds;
 use sender::{DrainFault, SendFault, Sender, Turn};
 use std::alloc::Global;
 use std::sync::Wait;
 use std::test::Fail;
+use test_rows::holds;
 
 fn seen(alloc: Global, said: &[Seen]) -> Result<ToldAnswer, Fail> {
     Ok(ToldAnswer::Consulted(SeenList::of(Vec::from_slice(alloc, said)?)))
@@ -43,7 +43,7 @@ fn saying(alloc: Global, said: &[Seen]) -> Result<ToldAgency, Fail> {
     Ok(ToldAgency::new(alloc, ToldAnswers::of(told)))
 }
 
-// So many sales, and three turns.
+// This many sales, and three turns.
 fn three_turns(
     rt: &(impl AllocGlobal + Wait),
     agency: &mut ToldAgency,

@@ -1,4 +1,4 @@
-// The values that the tests share: shops with so many sales, and agencies with a plan.
+//! The values that the tests share: shops with this many sales, and agencies with a plan.
 use agency_port::{Agency, PracticeAgency};
 use agency_rules::{Fates, Plan, PlannedFate, Verdicts};
 use amounts::Cents;
@@ -70,7 +70,7 @@ fn sell(alloc: Global, state: &mut State, serial: u32) -> Result<(), Fail> {
     }
 }
 
-/// The history with so many sales more.
+/// The history with this many sales more.
 pub fn with_sales(alloc: Global, mut state: State, sales: u32) -> Result<State, Fail> {
     for _ in 0..sales {
         let serial = state.records().saturating_add(1);
@@ -79,7 +79,7 @@ pub fn with_sales(alloc: Global, mut state: State, sales: u32) -> Result<State, 
     Ok(state)
 }
 
-/// A shop with so many sales.
+/// A shop with this many sales.
 pub fn shop_of(alloc: Global, sales: u32) -> Result<PlainOutbox, Fail> {
     let Ok(issuer) = Nif::read("89890001K") else {
         return Err(Fail::from("a tax number"));

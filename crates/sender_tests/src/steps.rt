@@ -1,20 +1,20 @@
-// A sender's turns, one by one, and records that are added between them.
+//! A sender's turns, one by one, and records that are added between them.
 use crate::shops::{NEXT_DAY, practice, shop_of, with_sales};
 use agency_port::Agency;
 use agency_rules::{Fate, PlannedFate};
 use once_world::PlainOutbox;
-use rows::holds;
 use sender::{SendFault, Sender, Turn};
 use std::alloc::Global;
 use std::sync::Wait;
 use std::test::Fail;
+use test_rows::holds;
 
 /// What happens next.
 #[derive(Clone, Copy)]
 pub enum Step {
-    /// So many sales are made.
+    /// This many sales are made.
     Sell(u32),
-    /// A turn, so many seconds after `NEXT_DAY`.
+    /// A turn, this many seconds after `NEXT_DAY`.
     Turn(u64),
 }
 
@@ -43,7 +43,7 @@ pub fn answers<G: Agency>(
     Ok(answers)
 }
 
-// The shop with so many sales more.
+// The shop with this many sales more.
 fn with_more(alloc: Global, shop: PlainOutbox, sales: u32) -> Result<PlainOutbox, Fail> {
     let state = with_sales(alloc, shop.into_state(), sales)?;
     Ok(PlainOutbox::new(alloc, state))
@@ -89,7 +89,7 @@ fn a_full_batch_waits_for_no_second(rt: HostRuntime) -> Result<(), Fail> {
     holds(agency.processed().len() == 1002, "the records")
 }
 
-// Two sales are handed over and a third one is made behind the fault, at whose batch nothing is due for a minute.
+// Two sales are handed over and a third one is made after the fault, at whose batch nothing is due for a minute.
 const BEHIND_A_FAULT: [Step; 9] = [
     Step::Sell(2),
     Step::Turn(0),

@@ -10,6 +10,7 @@ use Rattle.ports.specs.Causes.{Rose}
 use Rattle.ports.specs.Readings.{IsTold}
 use Rattle.record_codec.specs.declared.entry.Entry.{Entry}
 use Rattle.recovery.specs.Opening.{IsFound}
+use Rattle.shop_drain.specs.Crashes.{IsFoundSince}
 use Rattle.report.specs.declared.status.Detail.{Detail}
 use Rattle.report.specs.declared.status.Detail.TheVariants as detail
 use Rattle.shop_core.specs.Answer.Requests.{Asked}
@@ -49,16 +50,16 @@ not_asked t same = record {
 -- a run of a store is one of its file, from its opening on
 pub store_ran : {D C : Type 0} (issuer : List ℕ) (asks : List Asked) (replies : List (Result Reply StoreFault)) (s : Stores D C)
     (sink : Sinks) (k : Disks D) (end : Detail) → s.issuer ≡ issuer →
-    s.tells ≡ k.tells → s.faults_after ≡ k.faults k.disk_after → s.now ≡ k.told k.disk_after → k.faults k.disk ≤ s.faults →
-    (IsTrue k.tells → IsFound s.version issuer s.start (k.told k.disk).content) →
-    (IsTrue k.tells → LeavesOnly (synced (k.told k.disk)) s.since (IsFound s.version issuer s.start)) →
+    s.tells ≡ k.tells → s.faults_after ≡ k.faults k.disk_after → s.now ≡ k.on_disk k.disk_after → k.faults k.disk ≤ s.faults →
+    (IsTrue k.tells → IsFound s.version issuer s.start (k.on_disk k.disk).content) →
+    (IsTrue k.tells → LeavesOnly (synced (k.on_disk k.disk)) s.since (IsFoundSince (k.on_disk k.disk).content s.version issuer s.start)) →
     ((v : Version) (n : List ℕ) (es : List Entry) → FailsIn s.disk v n es → FailsIn k v n es) → Answers asks replies s →
     RunEnds replies (printed asks replies s.end) sink end → ScriptEnds issuer asks (s.clock.coming s.clock.clock)
     (λ rs. IsAsked s.clock (readings rs)) sink k end
 store_ran issuer asks replies s sink k end own tells faults_after now later found any widen h ends =
     let Torn : List ℕ → Entry → Type 0 = λ n. IsCutOff s.version n (IsComing (s.clock.coming s.clock.clock)) asks s.end replies in
     let kept_here : IsTrue k.tells → KeptByRun (StandsUpTo s.version issuer s.start s.end) (Torn issuer) s.version issuer s.end replies s.since
-    (k.told k.disk_after) = λ says.
+    (k.on_disk k.disk_after) = λ says.
     subst (λ (t : OnDisk). KeptByRun (StandsUpTo s.version issuer s.start s.end) (Torn issuer) s.version issuer s.end replies s.since t) now
     (subst (λ (n : List ℕ). KeptByRun (StandsUpTo s.version n s.start s.end) (Torn n) s.version n s.end replies s.since s.now) own
     (h.kept (subst (λ (b : Bool). IsTrue b) (sym tells) says))) in
@@ -78,8 +79,9 @@ store_ran issuer asks replies s sink k end own tells faults_after now later foun
         stops = subst (λ (n : ℕ). StopsOnce (k.faults k.disk) n replies) faults_after (stops_from (k.faults k.disk) s.faults
             s.faults_after replies later h.stops);
         fails = or_so (λ f. widen s.version issuer s.end (subst (λ (n : List ℕ). FailsIn s.disk s.version n s.end) own f)) h.fails;
-        kept = λ says. kept_since (Torn issuer) s.version issuer s.start s.end replies (synced (k.told k.disk)) s.since
-            (k.told k.disk_after) h.begins (any says) (kept_here says);
+        kept = λ says. kept_since (Torn issuer) (k.on_disk k.disk).content s.version issuer s.start s.end replies (synced (k.on_disk
+            k.disk)) s.since
+            (k.on_disk k.disk_after) h.begins (any says) (kept_here says);
         clock = h.asked;
       },
       ends,

@@ -29,56 +29,56 @@ use Rattle.shop_commands.specs.Guard.IsUncopied.{damaged, disk_fault, no_memory,
 use Rattle.shop_commands.proofs.Follows.{opened, unstarted}
 
 -- how it ends where the copy can't be opened
-unstarted_why : {D : Type 0} (tells : Bool) (told : D → OnDisk) (faults : D → ℕ) (disk left : D) (version : Version)
+unstarted_why : {D : Type 0} (tells : Bool) (on_disk : D → OnDisk) (faults : D → ℕ) (disk left : D) (version : Version)
     (issuer : List ℕ) (history : List Entry) (why : StandbyCause) →
-    (IsTrue tells → IsLeftUnstarted version issuer why (told disk) (told left)) →
+    (IsTrue tells → IsLeftUnstarted version issuer why (on_disk disk) (on_disk left)) →
     (why ≡ cause.DiskFault → Rose (faults disk) (faults left)) →
-    IsUncopied version issuer history (this_disk tells told faults disk left) (start_end why)
-unstarted_why tells told faults disk left version issuer history cause.DiskFault kept rose = disk_fault (rose refl)
-unstarted_why tells told faults disk left version issuer history (cause.Damaged at) kept rose =
+    IsUncopied version issuer history (this_disk tells on_disk faults disk left) (start_end why)
+unstarted_why tells on_disk faults disk left version issuer history cause.DiskFault kept rose = disk_fault (rose refl)
+unstarted_why tells on_disk faults disk left version issuer history (cause.Damaged at) kept rose =
     damaged at (λ says. (kept says).0) (λ says. inr (kept says).1)
-unstarted_why tells told faults disk left version issuer history (cause.OtherIssuer held) kept rose =
+unstarted_why tells on_disk faults disk left version issuer history (cause.OtherIssuer held) kept rose =
     parted 0 (λ says. let o = (kept says).0 in of_other o.version held o.entries o.stands (λ both. o.other both.1))
     (λ says. inr (kept says).1)
-unstarted_why tells told faults disk left version issuer history (cause.OtherVersion held) kept rose =
+unstarted_why tells on_disk faults disk left version issuer history (cause.OtherVersion held) kept rose =
     parted 0 (λ says. let o = (kept says).0 in of_other held issuer o.entries o.stands (λ both. o.other both.0))
     (λ says. inr (kept says).1)
-unstarted_why tells told faults disk left version issuer history cause.NoMemory kept rose = no_memory
+unstarted_why tells on_disk faults disk left version issuer history cause.NoMemory kept rose = no_memory
 
-pub not_started : {D : Type 0} (tells : Bool) (told : D → OnDisk) (faults : D → ℕ) (disk left : D) (version : Version)
+pub not_started : {D : Type 0} (tells : Bool) (on_disk : D → OnDisk) (faults : D → ℕ) (disk left : D) (version : Version)
     (issuer : List ℕ) (history : List Entry) (why : StandbyCause) (end : Detail) → end ≡ start_end why →
-    (IsTrue tells → IsImage (told disk).now (told disk).content) →
-    (IsTrue tells → IsLeftUnstarted version issuer why (told disk) (told left)) →
+    (IsTrue tells → IsImage (on_disk disk).now (on_disk disk).content) →
+    (IsTrue tells → IsLeftUnstarted version issuer why (on_disk disk) (on_disk left)) →
     (why ≡ cause.DiskFault → Rose (faults disk) (faults left)) → faults disk ≤ faults left →
-    LeftUncopied version issuer history (this_disk tells told faults disk left) end
-not_started tells told faults disk left version issuer history why end is reads kept rose later = record {
-  why = subst (λ (e : Detail). IsUncopied version issuer history (this_disk tells told faults disk left) e) (sym is)
-      (unstarted_why tells told faults disk left version issuer history why kept rose);
-  images = λ says. unstarted version issuer history (told disk) (reads says) why (told left) (kept says);
+    LeftUncopied version issuer history (this_disk tells on_disk faults disk left) end
+not_started tells on_disk faults disk left version issuer history why end is reads kept rose later = record {
+  why = subst (λ (e : Detail). IsUncopied version issuer history (this_disk tells on_disk faults disk left) e) (sym is)
+      (unstarted_why tells on_disk faults disk left version issuer history why kept rose);
+  images = λ says. unstarted version issuer history (on_disk disk) (reads says) why (on_disk left) (kept says);
   later = later;
 }
 
-module _ {D : Type 0} (tells : Bool) (told : D → OnDisk) (faults : D → ℕ) (version : Version) (issuer : List ℕ)
+module _ {D : Type 0} (tells : Bool) (on_disk : D → OnDisk) (faults : D → ℕ) (version : Version) (issuer : List ℕ)
     (history : List Entry) (disk : D) (first : ChainOnDisk D) (v : first.history.version ≡ version)
     (i : first.history.issuer ≡ issuer)
-    (found : IsTrue tells → IsFound version version issuer first.history.entries (told disk).content)
-    (any : IsTrue tells → LeavesOnly (synced (told disk)) (told first.disk) (IsFound version version issuer first.history.entries))
+    (found : IsTrue tells → IsFound version version issuer first.history.entries (on_disk disk).content)
+    (any : IsTrue tells → LeavesOnly (synced (on_disk disk)) (on_disk first.disk) (IsFound version version issuer first.history.entries))
     (later : faults disk ≤ faults first.disk) (neither : NotBegunIsNeither)
-    (unwritten : IsTrue tells → IsOnlySynced (told disk) (told first.disk))
-    (reads : IsTrue tells → IsImage (told disk).now (told disk).content) where
+    (unwritten : IsTrue tells → IsOnlySynced (on_disk disk) (on_disk first.disk))
+    (reads : IsTrue tells → IsImage (on_disk disk).now (on_disk disk).content) where
   abbrev Image : List ℕ → Type 0
-  Image c = IsFollowImage version issuer history (told disk) c
+  Image c = IsFollowImage version issuer history (on_disk disk) c
 
   -- at each moment of the opening
-  opening : IsTrue tells → LeavesOnly (told disk) (told first.disk) Image
-  opening says = opened version issuer history (told disk) (reads says) neither first.history.entries (told first.disk)
+  opening : IsTrue tells → LeavesOnly (on_disk disk) (on_disk first.disk) Image
+  opening says = opened version issuer history (on_disk disk) (reads says) neither first.history.entries (on_disk first.disk)
       (found says) (any says) (unwritten says)
 
-  -- and of the calls behind it
-  on_from : IsTrue tells → (then : D) → LeavesOnly (told first.disk) (told then)
+  -- and of the calls after it
+  on_from : IsTrue tells → (then : D) → LeavesOnly (on_disk first.disk) (on_disk then)
       (StandsBetween first.history.version first.history.issuer first.history.entries history) →
-      LeavesOnly (told disk) (told then) Image
-  on_from says then since = follows (told disk) (told first.disk) (told then) Image
+      LeavesOnly (on_disk disk) (on_disk then) Image
+  on_from says then since = follows (on_disk disk) (on_disk first.disk) (on_disk then) Image
       (StandsBetween first.history.version first.history.issuer first.history.entries history) Image (opening says) since
       (λ c is. is)
       (λ c b. front first.history.entries (found says) (record {
@@ -90,8 +90,8 @@ module _ {D : Type 0} (tells : Bool) (told : D → OnDisk) (faults : D → ℕ) 
 
   -- it was brought up to the history
   pub copied : (then : ChainOnDisk D) → IsPrefix first.history.entries history → then.history.entries ≡ history →
-      then.stopped ≡ None → IsFollowing tells told first then history → faults first.disk ≤ faults then.disk →
-      IsCopied tells told faults version issuer history disk then
+      then.stopped ≡ None → IsFollowing tells on_disk first then history → faults first.disk ≤ faults then.disk →
+      IsCopied tells on_disk faults version issuer history disk then
   copied then begins entries going follows_it more = record {
     copy = first.history.entries;
     found = found;
@@ -106,31 +106,31 @@ module _ {D : Type 0} (tells : Bool) (told : D → OnDisk) (faults : D → ℕ) 
 
   pub copied_result : {E : Type 0} (r : Result (ChainOnDisk D) E) → IfOk r (λ s. IsPrefix first.history.entries history) →
       IfOk r (λ s. s.history.entries ≡ history) → IfOk r (λ s. s.stopped ≡ None) →
-      IfOk r (λ s. IsFollowing tells told first s history) → IfOk r (λ s. faults first.disk ≤ faults s.disk) →
-      IfOk r (λ s. IsCopied tells told faults version issuer history disk s)
+      IfOk r (λ s. IsFollowing tells on_disk first s history) → IfOk r (λ s. faults first.disk ≤ faults s.disk) →
+      IfOk r (λ s. IsCopied tells on_disk faults version issuer history disk s)
   copied_result (Ok s) begins entries going follows_it more = copied s begins entries going follows_it more
   copied_result (Err why) begins entries going follows_it more = tt
 
   module _ (left : D) where
     abbrev here : Disks D
-    here = this_disk tells told faults disk left
+    here = this_disk tells on_disk faults disk left
 
     apart_of : (at : ℕ) → IsFirstApart history first.history.entries at →
-        IsFound version version issuer first.history.entries (told disk).content →
-        IsPartedFrom version issuer history (told disk).content (at + 1)
+        IsFound version version issuer first.history.entries (on_disk disk).content →
+        IsPartedFrom version issuer history (on_disk disk).content (at + 1)
     apart_of at apart (inl none) = absurd (let e = ap (λ (es : List Entry). length es) none.1 in let w = apart.within in
         omega (arith, e, w))
     apart_of at apart (inr stands) = at_entry first.history.entries at stands apart
 
     synced_of : (at : ℕ) → IsFirstApart history first.history.entries at → left ≡ first.disk →
-        IsFound version version issuer first.history.entries (told disk).content → IsOnlySynced (told disk) (told first.disk) →
-        IsSyncedAtMost (told disk) (told left)
+        IsFound version version issuer first.history.entries (on_disk disk).content → IsOnlySynced (on_disk disk) (on_disk first.disk) →
+        IsSyncedAtMost (on_disk disk) (on_disk left)
     synced_of at apart same (inl none) only = absurd (let e = ap (λ (es : List Entry). length es) none.1 in
         let w = apart.within in omega (arith, e, w))
     synced_of at apart same (inr stands) only =
-        inr (ap told same ∙ only (λ none. (neither version issuer first.history.entries (told disk).content 0 none).0 stands))
+        inr (ap on_disk same ∙ only (λ none. (neither version issuer first.history.entries (on_disk disk).content 0 none).0 stands))
 
-    why_of : (end : Detail) → BringsUp tells told faults version issuer history first left (Err end) →
+    why_of : (end : Detail) → BringsUp tells on_disk faults version issuer history first left (Err end) →
         IsUncopied version issuer history here end
     why_of end (inl h) = subst (λ (e : Detail). IsUncopied version issuer history here e) (sym h.2)
         (parted (h.0 + 1) (λ says. apart_of h.0 h.1 (found says))
@@ -139,13 +139,13 @@ module _ {D : Type 0} (tells : Bool) (told : D → OnDisk) (faults : D → ℕ) 
         (disk_fault (λ below. let rose = h.1 below in omega (arith, rose, later)))
     why_of end (inr (inr is)) = subst (λ (e : Detail). IsUncopied version issuer history here e) (sym is) no_memory
 
-    images_of : IsTrue tells → LeftOrFollowed tells told history first left → LeavesOnly (told disk) (told left) Image
-    images_of says (inl same) = subst (λ (d : D). LeavesOnly (told disk) (told d) Image) (sym same) (opening says)
+    images_of : IsTrue tells → LeftOrFollowed tells on_disk history first left → LeavesOnly (on_disk disk) (on_disk left) Image
+    images_of says (inl same) = subst (λ (d : D). LeavesOnly (on_disk disk) (on_disk d) Image) (sym same) (opening says)
     images_of says (inr h) = on_from says left (h.1 says)
 
     -- it wasn't
-    pub not_brought : (end : Detail) → BringsUp tells told faults version issuer history first left (Err end) →
-        LeftOrFollowed tells told history first left → faults first.disk ≤ faults left →
+    pub not_brought : (end : Detail) → BringsUp tells on_disk faults version issuer history first left (Err end) →
+        LeftOrFollowed tells on_disk history first left → faults first.disk ≤ faults left →
         LeftUncopied version issuer history here end
     not_brought end why kept more = record {
       why = why_of end why;
@@ -154,8 +154,8 @@ module _ {D : Type 0} (tells : Bool) (told : D → OnDisk) (faults : D → ℕ) 
     }
 
   pub uncopied_result : {T : Type 0} (r : Result T (Uncopied D)) →
-      IfErr r (λ u. BringsUp tells told faults version issuer history first u.disk (Err u.end)) →
-      IfErr r (λ u. LeftOrFollowed tells told history first u.disk) → IfErr r (λ u. faults first.disk ≤ faults u.disk) →
-      IfErr r (λ u. LeftUncopied version issuer history (this_disk tells told faults disk u.disk) u.end)
+      IfErr r (λ u. BringsUp tells on_disk faults version issuer history first u.disk (Err u.end)) →
+      IfErr r (λ u. LeftOrFollowed tells on_disk history first u.disk) → IfErr r (λ u. faults first.disk ≤ faults u.disk) →
+      IfErr r (λ u. LeftUncopied version issuer history (this_disk tells on_disk faults disk u.disk) u.end)
   uncopied_result (Ok x) why kept more = tt
   uncopied_result (Err u) why kept more = not_brought u.disk u.end why kept more

@@ -18,7 +18,7 @@ use Rattle.sender_session.specs.Session.{IsDiskAnswer}
 use Rattle.command_ends.specs.Printed.{answers}
 use Rattle.chain_store.specs.Replies.{AllReplied, is_no_memory}
 use Rattle.sender_beside.specs.Days.{TillReplies, all_replies}
-use Rattle.shop_day.specs.Jobs.{told_in}
+use Rattle.shop_day.specs.TillJobs.{told_in}
 use Rattle.shop_day.specs.declared.tills.TillDay.{TillDay}
 use Rattle.command_ends.proofs.DrainAnswers.{either_part}
 

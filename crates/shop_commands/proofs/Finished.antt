@@ -14,7 +14,7 @@ use Rattle.recovery.specs.Opening.{IsFound}
 use Rattle.script.specs.declared.scripts.Script.{Script}
 use Rattle.report.specs.declared.status.Detail.{Detail}
 use Rattle.report.specs.declared.status.Detail.TheVariants as detail
-use Rattle.shop_drain.specs.Crashes.{StandsSince}
+use Rattle.shop_drain.specs.Crashes.{IsFoundSince, StandsSince}
 use Rattle.chain_store.specs.Clocks.{Clocks, LeftClock}
 use Rattle.shop_drain.specs.Devices.{Agencies, LeftSleeper, Sleepers, first_moment, tells_moment}
 use Rattle.shop_drain.specs.Draining.{AgreesAtStart, DiskSpan, Outcome, Span, StoreDrains, spanning}
@@ -28,7 +28,8 @@ use Rattle.shop_drain.proofs.Closing.{never_contrary, since_opening, undelivered
 
 module _ {D G : Type 0} (version : Version) (issuer : List ℕ) (plan : Plan) (exact : Bool) (moment : ℕ) (s : Sinks) (k : Disks D) (a : Agencies G)
     (start : List Entry) (o : Outcome)
-    (h : StoreDrains (StandsSince version issuer) a.begun plan version issuer (file_span k) (spanning start a.kind a.before
+    (h : StoreDrains (StandsSince (k.on_disk k.disk).content version issuer) a.begun plan version issuer (file_span k) (spanning start
+    a.kind a.before
     a.after exact moment o)) where
   abbrev Failing : ℕ → ℕ → Type 0
   Failing n r = (n < r) × (a.after.faults < 2 ^ 64 - 1 → a.before.faults + MAX_LINK_FAULTS ≤ a.after.faults)
@@ -38,7 +39,7 @@ module _ {D G : Type 0} (version : Version) (issuer : List ℕ) (plan : Plan) (e
   eight_failed end (undelivered m q e w) n r is =
       let first : m ≡ n = cc in
       let second : q ≡ r = cc in
-      let u : Failing m q = undelivered_by (StandsSince version issuer) a.begun plan version issuer (file_span k)
+      let u : Failing m q = undelivered_by (StandsSince (k.on_disk k.disk).content version issuer) a.begun plan version issuer (file_span k)
       (spanning start a.kind a.before a.after exact moment o) h m q e in
       subst (λ (x : ℕ). Failing x r) first (subst (λ (y : ℕ). Failing m y) second u)
   eight_failed end _ n r is = absurd cc
@@ -49,15 +50,15 @@ module _ {D G : Type 0} (version : Version) (issuer : List ℕ) (plan : Plan) (e
   completed end (no_memory w) none keeps agree = inr refl
   completed end (write_fault e w) none keeps agree = absurd (none.sink w.risen)
   completed end (undelivered n r e w) none keeps agree =
-      let u = undelivered_by (StandsSince version issuer) a.begun plan version issuer (file_span k)
+      let u = undelivered_by (StandsSince (k.on_disk k.disk).content version issuer) a.begun plan version issuer (file_span k)
       (spanning start a.kind a.before a.after exact moment o) h n r e in
       absurd (none.agency (λ below. let more = u.1 below in omega (arith, more)))
   completed end (contradiction evidence e w) none keeps agree =
-      absurd (never_contrary (StandsSince version issuer) a.begun plan version issuer (file_span k)
+      absurd (never_contrary (StandsSince (k.on_disk k.disk).content version issuer) a.begun plan version issuer (file_span k)
       (spanning start a.kind a.before a.after exact moment o) h keeps agree evidence e)
   completed end (disk_fault e w) none keeps agree = absurd (none.disk (h.risen e))
 
-  pub file_drained : (end : Detail) → (IsTrue k.tells → IsFound version issuer start (k.told k.disk).content) →
+  pub file_drained : (end : Detail) → (IsTrue k.tells → IsFound version issuer start (k.on_disk k.disk).content) →
       DrainRunEnds o.answer (drain_text o) s end → FileDrained issuer plan exact moment s k a end
   file_drained end found ends = record {
     version = version;
@@ -91,12 +92,12 @@ file_rose issuer left plan exact moment s k a end (inr h) is = drain_rose issuer
 -- the drain of a store whose file was opened
 pub opened_drained : {D G : Type 0} (issuer own : List ℕ) (version : Version) (plan : Plan) (exact : Bool) (moment : ℕ)
     (s : Sinks) (k : Disks D) (a : Agencies G) (start : List Entry) (since : OnDisk) (between : ℕ) (end : Detail) → own ≡ issuer →
-    (IsTrue k.tells → IsFound version issuer start (k.told k.disk).content) → (IsTrue k.tells → LeavesOnly (synced (k.told k.disk)) since
-    (IsFound version issuer start)) → k.faults k.disk ≤ between →
+    (IsTrue k.tells → IsFound version issuer start (k.on_disk k.disk).content) → (IsTrue k.tells → LeavesOnly (synced (k.on_disk k.disk)) since
+    (IsFoundSince (k.on_disk k.disk).content version issuer start)) → k.faults k.disk ≤ between →
     StoreDrainEnds a.begun plan version own start (record {
       tells = k.tells;
       since = since;
-      now = k.told k.disk_after;
+      now = k.on_disk k.disk_after;
       faults = between;
       faults_after = k.faults k.disk_after;
     }) a.kind a.before a.after exact moment s end →
@@ -105,14 +106,14 @@ opened_drained issuer own version plan exact moment s k a start since between en
     let at : DiskSpan = record {
       tells = k.tells;
       since = since;
-      now = k.told k.disk_after;
+      now = k.on_disk k.disk_after;
       faults = between;
       faults_after = k.faults k.disk_after;
     } in
     let e = subst (λ (n : List ℕ). StoreDrainEnds a.begun plan version n start at a.kind a.before a.after exact moment s end) same h in
     let d : Span = spanning start a.kind a.before a.after exact moment e.0 in
-    file_drained version issuer plan exact moment s k a start e.0 (since_opening a.begun plan version issuer at d (synced (k.told k.disk))
-    (k.faults k.disk) e.1 any later) end found e.2
+    file_drained version issuer plan exact moment s k a start e.0 (since_opening a.begun plan version issuer at d (synced (k.on_disk k.disk))
+    (k.on_disk k.disk).content (k.faults k.disk) e.1 any later) end found e.2
 
 module _ {D C Z G : Type 0} (issuer : List ℕ) (script : Script) (s : Sinks) (k : Disks D) (t : Clocks C) (z : Sleepers Z)
     (a : Agencies G) (end : Detail) where

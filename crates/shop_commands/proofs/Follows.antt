@@ -117,29 +117,29 @@ module _ (version : Version) (issuer : List ℕ) (history : List Entry) (t : OnD
       only_synced u (unwritten (λ none. (neither version issuer copy t.content 0 none).0 stands))
 
 -- how it ends where the copy can't be opened
-pub unstarted_end : {D : Type 0} (s : Sinks) (file : Disks D) (tells : Bool) (told : D → OnDisk) (faults : D → ℕ) (copy disk : D)
+pub unstarted_end : {D : Type 0} (s : Sinks) (file : Disks D) (tells : Bool) (on_disk : D → OnDisk) (faults : D → ℕ) (copy disk : D)
     (version : Version) (issuer : List ℕ) (history : List Entry) (why : StandbyCause) →
-    (IsTrue file.tells → StandsFor version issuer history (file.told file.disk).content) →
-    (IsTrue tells → IsLeftUnstarted version issuer why (told copy) (told disk)) →
+    (IsTrue file.tells → StandsFor version issuer history (file.on_disk file.disk).content) →
+    (IsTrue tells → IsLeftUnstarted version issuer why (on_disk copy) (on_disk disk)) →
     (why ≡ cause.DiskFault → Rose (faults copy) (faults disk)) → WroteNothing s →
-    FollowEnds s file (this_disk tells told faults copy disk) (start_end why)
-unstarted_end s file tells told faults copy disk version issuer history cause.DiskFault stands left rose wrote =
+    FollowEnds s file (this_disk tells on_disk faults copy disk) (start_end why)
+unstarted_end s file tells on_disk faults copy disk version issuer history cause.DiskFault stands left rose wrote =
     disk_fault (inr (rose refl)) wrote
-unstarted_end s file tells told faults copy disk version issuer history (cause.Damaged at) stands left rose wrote =
+unstarted_end s file tells on_disk faults copy disk version issuer history (cause.Damaged at) stands left rose wrote =
     copy_damaged at (λ says. inr (version, issuer, history, stands says)) (λ says. (left says).0) wrote
-unstarted_end s file tells told faults copy disk version issuer history (cause.OtherIssuer held) stands left rose wrote =
+unstarted_end s file tells on_disk faults copy disk version issuer history (cause.OtherIssuer held) stands left rose wrote =
     parted 0
     (λ says tell.
     let o = (left tell).0 in
     of_other version o.version issuer held history o.entries (stands says) o.stands (λ both. o.other both.1))
     (λ tell. inr (left tell).1) wrote
-unstarted_end s file tells told faults copy disk version issuer history (cause.OtherVersion held) stands left rose wrote =
+unstarted_end s file tells on_disk faults copy disk version issuer history (cause.OtherVersion held) stands left rose wrote =
     parted 0
     (λ says tell.
     let o = (left tell).0 in
     of_other version held issuer issuer history o.entries (stands says) o.stands (λ both. o.other both.0))
     (λ tell. inr (left tell).1) wrote
-unstarted_end s file tells told faults copy disk version issuer history cause.NoMemory stands left rose wrote = no_memory wrote
+unstarted_end s file tells on_disk faults copy disk version issuer history cause.NoMemory stands left rose wrote = no_memory wrote
 
 rose_from : (a b c : ℕ) → a ≤ b → Rose b c → Rose a c
 rose_from a b c le rose = λ small. let strict = rose small in omega (arith, le, strict)
@@ -147,7 +147,7 @@ rose_from a b c le rose = λ small. let strict = rose small in omega (arith, le,
 -- how it ends where the file can't be loaded
 pub load_failed : {A D : Type 0} (s : Sinks) (file new : Disks D) (fault : LoadFault) →
     ((at : ℕ) → ◌≡◌ {A = Result A LoadFault} (Err fault) (Err (load.Damaged at)) → IsTrue file.tells →
-    IsDamagedFile (file.told file.disk).content at) →
+    IsDamagedFile (file.on_disk file.disk).content at) →
     (◌≡◌ {A = Result A LoadFault} (Err fault) (Err load.DiskFault) → DiskRose file) → WroteNothing s →
     FollowEnds s file new (load_end fault)
 load_failed s file new load.DiskFault damaged rose wrote = disk_fault (inl (rose refl)) wrote
@@ -156,9 +156,9 @@ load_failed s file new load.NoMemory damaged rose wrote = no_memory wrote
 
 -- and where the copy can't
 pub copy_failed : {A D : Type 0} (s : Sinks) (file new : Disks D) (fault : LoadFault) →
-    (IsTrue file.tells → IsNotBegun (file.told file.disk).content) →
+    (IsTrue file.tells → IsNotBegun (file.on_disk file.disk).content) →
     ((at : ℕ) → ◌≡◌ {A = Result A LoadFault} (Err fault) (Err (load.Damaged at)) → IsTrue new.tells →
-    IsDamagedFile (new.told new.disk).content at) →
+    IsDamagedFile (new.on_disk new.disk).content at) →
     (◌≡◌ {A = Result A LoadFault} (Err fault) (Err load.DiskFault) → DiskRose new) → WroteNothing s →
     FollowEnds s file new (load_end fault)
 copy_failed s file new load.DiskFault none damaged rose wrote = disk_fault (inr (rose refl)) wrote
@@ -168,8 +168,8 @@ copy_failed s file new load.NoMemory none damaged rose wrote = no_memory wrote
 
 -- beside a file that isn't begun
 pub nothing_ends : {D : Type 0} (s : Sinks) (file new : Disks D) (end : Detail) →
-    (IsTrue file.tells → IsNotBegun (file.told file.disk).content) →
-    (IsTrue new.tells → HasNoEntry (new.told new.disk).content) → CountsPrinted 0 0 s end → FollowEnds s file new end
+    (IsTrue file.tells → IsNotBegun (file.on_disk file.disk).content) →
+    (IsTrue new.tells → HasNoEntry (new.on_disk new.disk).content) → CountsPrinted 0 0 s end → FollowEnds s file new end
 nothing_ends s file new end none no_entry (inl text) = nothing end none no_entry text
 nothing_ends s file new end none no_entry (inr lost) =
     subst (λ (e : Detail). FollowEnds s file new e) (sym lost.0) (no_memory lost.1)
@@ -179,9 +179,9 @@ empty_by [] n = refl
 empty_by (x ∷ entries) n = absurd (omega (arith, n))
 
 pub beside_ends : {D : Type 0} (s : Sinks) (file new : Disks D) (end : Detail) (version : Version) (issuer : List ℕ)
-    (copy : List Entry) → (IsTrue file.tells → IsNotBegun (file.told file.disk).content) →
-    (IsTrue new.tells → StandsFor version issuer copy (new.told new.disk).content) →
-    (new.told new.disk_after ≡ new.told new.disk) → BesideNothing copy s end → FollowEnds s file new end
+    (copy : List Entry) → (IsTrue file.tells → IsNotBegun (file.on_disk file.disk).content) →
+    (IsTrue new.tells → StandsFor version issuer copy (new.on_disk new.disk).content) →
+    (new.on_disk new.disk_after ≡ new.on_disk new.disk) → BesideNothing copy s end → FollowEnds s file new end
 beside_ends s file new end version issuer copy none stands same (inl h) =
     subst (λ (e : Detail). FollowEnds s file new e) (sym h.1)
     (parted 1 (λ says tell. of_nothing version issuer copy (none says) (stands tell) h.0) (λ tell. inl same) h.2)
@@ -190,7 +190,7 @@ beside_ends s file new end version issuer copy none stands same (inr h) =
     (λ tell. inr (
       version,
       issuer,
-      subst (λ (es : List Entry). StandsFor version issuer es (new.told new.disk).content)
+      subst (λ (es : List Entry). StandsFor version issuer es (new.on_disk new.disk).content)
           (empty_by copy h.0) (stands tell),
     )) h.1
 
@@ -202,12 +202,12 @@ apart_stands version issuer history copy at file f (inl none) =
     absurd (omega (arith, lt, n))
 apart_stands version issuer history copy at file f (inr stands) = stands
 
-module _ {D : Type 0} (tells : Bool) (told : D → OnDisk) (faults : D → ℕ) (version : Version) (issuer : List ℕ)
+module _ {D : Type 0} (tells : Bool) (on_disk : D → OnDisk) (faults : D → ℕ) (version : Version) (issuer : List ℕ)
     (history : List Entry) where
   -- what became of a copy that was brought up, once its disk was given back
   pub brings_err : (old new : ChainOnDisk D) (disk : D) (fault : StoreFault) → disk ≡ new.disk →
       CatchesUp faults old new history (Err fault) →
-      BringsUp tells told faults version issuer history old disk (Err (fault_end fault))
+      BringsUp tells on_disk faults version issuer history old disk (Err (fault_end fault))
   brings_err old new disk store.DiskFault same c =
       inr (inl (refl, subst (λ (d : D). Rose (faults old.disk) (faults d)) (sym same) c.0))
   brings_err old new disk (store.Stopped count) same c = absurd c
@@ -216,24 +216,24 @@ module _ {D : Type 0} (tells : Bool) (told : D → OnDisk) (faults : D → ℕ) 
   pub brings_ok : (old new : ChainOnDisk D) (disk : D) (kept : ℕ) → IsPrefix old.history.entries history →
       new.history.version ≡ version → new.history.issuer ≡ issuer → CatchesUp faults old new history (Ok kept) →
       (new.stopped ≡ None → IsTrue tells →
-      LeavesNow (told disk) (StandsFor new.history.version new.history.issuer new.history.entries)) →
-      BringsUp tells told faults version issuer history old disk (Ok kept)
+      LeavesNow (on_disk disk) (StandsFor new.history.version new.history.issuer new.history.entries)) →
+      BringsUp tells on_disk faults version issuer history old disk (Ok kept)
   brings_ok old new disk kept within v i c every = (
     within,
     c.2,
     λ says.
-        subst (λ (w : Version). LeavesNow (told disk) (StandsFor w issuer history)) v
-        (subst₂ (λ (n : List ℕ) (es : List Entry). LeavesNow (told disk) (StandsFor new.history.version n es)) i c.1
+        subst (λ (w : Version). LeavesNow (on_disk disk) (StandsFor w issuer history)) v
+        (subst₂ (λ (n : List ℕ) (es : List Entry). LeavesNow (on_disk disk) (StandsFor new.history.version n es)) i c.1
         (every c.0 says)),
   )
 
   module _ (s : Sinks) (file : Disks D) (copy after : D) (standby : ChainOnDisk D)
-      (stands : IsTrue file.tells → StandsFor version issuer history (file.told file.disk).content)
-      (found : IsTrue tells → IsFound version version issuer standby.history.entries (told copy).content) where
+      (stands : IsTrue file.tells → StandsFor version issuer history (file.on_disk file.disk).content)
+      (found : IsTrue tells → IsFound version version issuer standby.history.entries (on_disk copy).content) where
     -- how it ends where the copy has all, and where it was opened and hasn't
-    pub followed_ends : (kept entries : ℕ) (end : Detail) → ((disk : D) → IsTrue tells → IsImage (told disk).now (told disk).content) →
-        BringsUp tells told faults version issuer history standby after (Ok kept) → entries ≡ length history →
-        CountsPrinted kept entries s end → FollowEnds s file (this_disk tells told faults copy after) end
+    pub followed_ends : (kept entries : ℕ) (end : Detail) → ((disk : D) → IsTrue tells → IsImage (on_disk disk).now (on_disk disk).content) →
+        BringsUp tells on_disk faults version issuer history standby after (Ok kept) → entries ≡ length history →
+        CountsPrinted kept entries s end → FollowEnds s file (this_disk tells on_disk faults copy after) end
     followed_ends kept entries end reads b count (inl text) = followed kept entries end
         (record {
           version = version;
@@ -245,84 +245,84 @@ module _ {D : Type 0} (tells : Bool) (told : D → OnDisk) (faults : D → ℕ) 
           front = b.0;
           kept_is = b.1;
           entries_are = count;
-          reads = λ says. b.2 says (told after).content (inl (refl, reads after says));
+          reads = λ says. b.2 says (on_disk after).content (inl (refl, reads after says));
           every_crash = b.2;
         }) text
     followed_ends kept entries end reads b count (inr lost) =
-        subst (λ (e : Detail). FollowEnds s file (this_disk tells told faults copy after) e) (sym lost.0) (no_memory lost.1)
+        subst (λ (e : Detail). FollowEnds s file (this_disk tells on_disk faults copy after) e) (sym lost.0) (no_memory lost.1)
 
-    pub unbrought_ends : NotBegunIsNeither → (end : Detail) → (IsTrue tells → IsOnlySynced (told copy) (told standby.disk)) →
+    pub unbrought_ends : NotBegunIsNeither → (end : Detail) → (IsTrue tells → IsOnlySynced (on_disk copy) (on_disk standby.disk)) →
         faults copy ≤ faults standby.disk → WroteNothing s →
-        BringsUp tells told faults version issuer history standby after (Err end) →
-        FollowEnds s file (this_disk tells told faults copy after) end
+        BringsUp tells on_disk faults version issuer history standby after (Err end) →
+        FollowEnds s file (this_disk tells on_disk faults copy after) end
     unbrought_ends neither end unwritten later wrote (inl h) =
-        subst (λ (e : Detail). FollowEnds s file (this_disk tells told faults copy after) e) (sym h.2) (parted (h.0 + 1)
+        subst (λ (e : Detail). FollowEnds s file (this_disk tells on_disk faults copy after) e) (sym h.2) (parted (h.0 + 1)
         (λ says tell. at_entry version issuer history standby.history.entries h.0 (stands says)
-        (apart_stands version issuer history standby.history.entries h.0 (told copy).content h.1 (found tell)) h.1)
-        (λ tell. inr (ap (λ (d : D). told d) h.3 ∙ unwritten tell (λ none. (neither version issuer standby.history.entries
-        (told copy).content 0 none).0 (apart_stands version issuer history standby.history.entries h.0 (told copy).content h.1
+        (apart_stands version issuer history standby.history.entries h.0 (on_disk copy).content h.1 (found tell)) h.1)
+        (λ tell. inr (ap (λ (d : D). on_disk d) h.3 ∙ unwritten tell (λ none. (neither version issuer standby.history.entries
+        (on_disk copy).content 0 none).0 (apart_stands version issuer history standby.history.entries h.0 (on_disk copy).content h.1
         (found tell))))) wrote)
     unbrought_ends neither end unwritten later wrote (inr (inl h)) =
-        subst (λ (e : Detail). FollowEnds s file (this_disk tells told faults copy after) e) (sym h.0)
+        subst (λ (e : Detail). FollowEnds s file (this_disk tells on_disk faults copy after) e) (sym h.0)
         (disk_fault (inr (rose_from (faults copy) (faults standby.disk) (faults after) later h.1)) wrote)
     unbrought_ends neither end unwritten later wrote (inr (inr same)) =
-        subst (λ (e : Detail). FollowEnds s file (this_disk tells told faults copy after) e) (sym same) (no_memory wrote)
+        subst (λ (e : Detail). FollowEnds s file (this_disk tells on_disk faults copy after) e) (sym same) (no_memory wrote)
 
   -- what each crash leaves of a copy that was opened
   pub brought_images : NotBegunIsNeither → (copy after : D) (standby : ChainOnDisk D) →
-      IsImage (told copy).now (told copy).content → standby.history.version ≡ version → standby.history.issuer ≡ issuer →
-      IsFound version version issuer standby.history.entries (told copy).content →
-      LeavesOnly (synced (told copy)) (told standby.disk) (IsFound version version issuer standby.history.entries) →
-      IsOnlySynced (told copy) (told standby.disk) → IsTrue tells → LeftOrFollowed tells told history standby after →
-      LeavesOnly (told copy) (told after) (IsFollowImage version issuer history (told copy))
+      IsImage (on_disk copy).now (on_disk copy).content → standby.history.version ≡ version → standby.history.issuer ≡ issuer →
+      IsFound version version issuer standby.history.entries (on_disk copy).content →
+      LeavesOnly (synced (on_disk copy)) (on_disk standby.disk) (IsFound version version issuer standby.history.entries) →
+      IsOnlySynced (on_disk copy) (on_disk standby.disk) → IsTrue tells → LeftOrFollowed tells on_disk history standby after →
+      LeavesOnly (on_disk copy) (on_disk after) (IsFollowImage version issuer history (on_disk copy))
   brought_images neither copy after standby reads v i found only unwritten says (inl same) =
-      subst (λ (d : D). LeavesOnly (told copy) (told d) (IsFollowImage version issuer history (told copy))) (sym same)
-      (opened version issuer history (told copy) reads neither standby.history.entries (told standby.disk) found only unwritten)
+      subst (λ (d : D). LeavesOnly (on_disk copy) (on_disk d) (IsFollowImage version issuer history (on_disk copy))) (sym same)
+      (opened version issuer history (on_disk copy) reads neither standby.history.entries (on_disk standby.disk) found only unwritten)
   brought_images neither copy after standby reads v i found only unwritten says (inr both) =
-      follows (told copy) (told standby.disk) (told after) (IsFollowImage version issuer history (told copy))
+      follows (on_disk copy) (on_disk standby.disk) (on_disk after) (IsFollowImage version issuer history (on_disk copy))
       (StandsBetween standby.history.version standby.history.issuer standby.history.entries history)
-      (IsFollowImage version issuer history (told copy))
-      (opened version issuer history (told copy) reads neither standby.history.entries (told standby.disk) found only unwritten)
+      (IsFollowImage version issuer history (on_disk copy))
+      (opened version issuer history (on_disk copy) reads neither standby.history.entries (on_disk standby.disk) found only unwritten)
       (both.1 says) (λ c image. image) (λ c between. front standby.history.entries found
       (subst₂ (λ (w : Version) (n : List ℕ). StandsBetween w n standby.history.entries history c) v i between))
 
 -- a copy that followed, once its disk was given back
-pub followed_since : {D : Type 0} (tells : Bool) (told : D → OnDisk) (history : List Entry) (old new : ChainOnDisk D) (disk : D) →
-    IsPrefix old.history.entries history → disk ≡ new.disk → IsFollowing tells told old new history →
-    LeftOrFollowed tells told history old disk
-followed_since tells told history old new disk within same f = inr (
+pub followed_since : {D : Type 0} (tells : Bool) (on_disk : D → OnDisk) (history : List Entry) (old new : ChainOnDisk D) (disk : D) →
+    IsPrefix old.history.entries history → disk ≡ new.disk → IsFollowing tells on_disk old new history →
+    LeftOrFollowed tells on_disk history old disk
+followed_since tells on_disk history old new disk within same f = inr (
   within,
   λ says.
-      subst (λ (d : _). LeavesOnly (told old.disk) (told d)
+      subst (λ (d : _). LeavesOnly (on_disk old.disk) (on_disk d)
       (StandsBetween old.history.version old.history.issuer old.history.entries history)) (sym same) (f.images says),
 )
 
 -- what is left of a copy that was only read
-pub only_left : {D : Type 0} (file : Disks D) (tells : Bool) (told : D → OnDisk) (faults : D → ℕ) (copy after : D) →
-    told after ≡ told copy → ((disk : D) → IsTrue tells → IsImage (told disk).now (told disk).content) →
-    OnlyFollowed file (this_disk tells told faults copy after)
-only_left file tells told faults copy after same reads = record {
+pub only_left : {D : Type 0} (file : Disks D) (tells : Bool) (on_disk : D → OnDisk) (faults : D → ℕ) (copy after : D) →
+    on_disk after ≡ on_disk copy → ((disk : D) → IsTrue tells → IsImage (on_disk disk).now (on_disk disk).content) →
+    OnlyFollowed file (this_disk tells on_disk faults copy after)
+only_left file tells on_disk faults copy after same reads = record {
   nothing = λ says tell none. same;
   damaged = λ at says tell damaged. same;
   images = λ version issuer history says tell stands.
-      subst (λ (u : OnDisk). LeavesOnly (told copy) u (IsFollowImage version issuer history (told copy))) (sym same)
-      (untouched version issuer history (told copy) (reads copy tell));
+      subst (λ (u : OnDisk). LeavesOnly (on_disk copy) u (IsFollowImage version issuer history (on_disk copy))) (sym same)
+      (untouched version issuer history (on_disk copy) (reads copy tell));
 }
 
 -- and of one that followed this history
 pub only_followed : {D : Type 0} → OneHistory → NotBegunIsNeither → SoundOrDamaged → (file : Disks D) (tells : Bool)
-    (told : D → OnDisk) (faults : D → ℕ) (copy after : D) (version : Version) (issuer : List ℕ) (history : List Entry) →
-    (IsTrue file.tells → StandsFor version issuer history (file.told file.disk).content) →
-    (IsTrue tells → LeavesOnly (told copy) (told after) (IsFollowImage version issuer history (told copy))) →
-    OnlyFollowed file (this_disk tells told faults copy after)
-only_followed one neither sound file tells told faults copy after version issuer history stands images = record {
+    (on_disk : D → OnDisk) (faults : D → ℕ) (copy after : D) (version : Version) (issuer : List ℕ) (history : List Entry) →
+    (IsTrue file.tells → StandsFor version issuer history (file.on_disk file.disk).content) →
+    (IsTrue tells → LeavesOnly (on_disk copy) (on_disk after) (IsFollowImage version issuer history (on_disk copy))) →
+    OnlyFollowed file (this_disk tells on_disk faults copy after)
+only_followed one neither sound file tells on_disk faults copy after version issuer history stands images = record {
   nothing = λ says tell none.
-      absurd ((neither version issuer history (file.told file.disk).content 0 none).0 (stands says));
+      absurd ((neither version issuer history (file.on_disk file.disk).content 0 none).0 (stands says));
   damaged = λ at says tell damaged.
-      absurd (sound version issuer history (file.told file.disk).content at (stands says) damaged);
+      absurd (sound version issuer history (file.on_disk file.disk).content at (stands says) damaged);
   images = λ v n es says tell others.
-      let same = one version v issuer n history es (file.told file.disk).content (stands says) others in
-      subst (λ (w : Version). LeavesOnly (told copy) (told after) (IsFollowImage w n es (told copy))) same.0
-      (subst₂ (λ (i : List ℕ) (h : List Entry). LeavesOnly (told copy) (told after) (IsFollowImage version i h (told copy)))
+      let same = one version v issuer n history es (file.on_disk file.disk).content (stands says) others in
+      subst (λ (w : Version). LeavesOnly (on_disk copy) (on_disk after) (IsFollowImage w n es (on_disk copy))) same.0
+      (subst₂ (λ (i : List ℕ) (h : List Entry). LeavesOnly (on_disk copy) (on_disk after) (IsFollowImage version i h (on_disk copy)))
       same.1 same.2 (images tell));
 }

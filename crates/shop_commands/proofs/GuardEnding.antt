@@ -22,7 +22,7 @@ use Rattle.shop_core.specs.File.Files.{StandsFor}
 use Rattle.shop_core.specs.Prefix.{IsPrefix}
 use Rattle.standby.specs.Chains.{ChainOnDisk}
 use Rattle.till_calls.specs.Root.{Parts}
-use Rattle.shop_drain.specs.Crashes.{StandsSince}
+use Rattle.shop_drain.specs.Crashes.{IsFoundSince, StandsSince}
 use Rattle.shop_drain.specs.Devices.{Agencies, LeftSleeper, Sleepers, first_moment, tells_moment}
 use Rattle.sender_session.specs.Kinds.{StoreKind}
 use Rattle.shop_drain.specs.Draining.{AgreesAtStart, AddsNotesAlone, DiskSpan, Outcome, Span, spanning}
@@ -97,7 +97,8 @@ module _ {D G : Type 0} (issuer : List ℕ) (version : Version) (plan : Plan) (e
   span = spanning start a.kind a.before a.after exact moment o
 
   abbrev Drains : Type 0
-  Drains = GuardDrains (StandsSince version issuer) (GuardImage version issuer (l.told l.disk)) a.begun plan version issuer
+  Drains = GuardDrains (StandsSince (k.on_disk k.disk).content version issuer) (GuardImage version issuer (l.on_disk l.disk)) a.begun
+      plan version issuer
       (file_span k) (whole_span l) span file own
 
   abbrev Failing : ℕ → ℕ → Type 0
@@ -127,8 +128,8 @@ module _ {D G : Type 0} (issuer : List ℕ) (version : Version) (plan : Plan) (e
     | inr rose ↦ absurd (other rose)
   ]
 
-  file_guarded : Drains → (end : Detail) → (IsTrue k.tells → IsFound version issuer start (k.told k.disk).content) →
-      (IsTrue l.tells → IsCopyFound version version issuer copy (l.told l.disk).content) → IsPrefix copy start →
+  file_guarded : Drains → (end : Detail) → (IsTrue k.tells → IsFound version issuer start (k.on_disk k.disk).content) →
+      (IsTrue l.tells → IsCopyFound version version issuer copy (l.on_disk l.disk).content) → IsPrefix copy start →
       DrainRunEnds o.answer (guard_text o.turns file) s end → FileGuarded issuer plan exact moment s k l a end
   file_guarded h end found copied front ends = record {
     version = version;
@@ -152,7 +153,7 @@ module _ {D G : Type 0} (issuer : List ℕ) (version : Version) (plan : Plan) (e
     file_now = record {
       tells = k.tells;
       since = since;
-      now = k.told k.disk_after;
+      now = k.on_disk k.disk_after;
       faults = between;
       faults_after = k.faults k.disk_after;
     }
@@ -161,7 +162,7 @@ module _ {D G : Type 0} (issuer : List ℕ) (version : Version) (plan : Plan) (e
     copy_now = record {
       tells = l.tells;
       since = since_copy;
-      now = l.told l.disk_after;
+      now = l.on_disk l.disk_after;
       faults = between_copy;
       faults_after = l.faults l.disk_after;
     }
@@ -175,25 +176,27 @@ module _ {D G : Type 0} (issuer : List ℕ) (version : Version) (plan : Plan) (e
     earlier : (one two more : ℕ) → one ≤ two → Rose two more → Rose one more
     earlier one two more le rose below = let strict = rose below in omega (arith, strict, le)
 
-    pub opened_guarded : (end : Detail) → (IsTrue k.tells → IsFound version issuer start (k.told k.disk).content) →
-        (IsTrue k.tells → LeavesOnly (synced (k.told k.disk)) since (IsFound version issuer start)) → k.faults k.disk ≤ between →
-        (IsTrue l.tells → IsCopyFound version version issuer copy (l.told l.disk).content) → IsPrefix copy start →
-        (IsTrue l.tells → LeavesOnly (l.told l.disk) since_copy (IsFollowImage version issuer start (l.told l.disk))) →
+    pub opened_guarded : (end : Detail) → (IsTrue k.tells → IsFound version issuer start (k.on_disk k.disk).content) →
+        (IsTrue k.tells → LeavesOnly (synced (k.on_disk k.disk)) since (IsFoundSince (k.on_disk k.disk).content version issuer start))
+        → k.faults k.disk ≤ between →
+        (IsTrue l.tells → IsCopyFound version version issuer copy (l.on_disk l.disk).content) → IsPrefix copy start →
+        (IsTrue l.tells → LeavesOnly (l.on_disk l.disk) since_copy (IsFollowImage version issuer start (l.on_disk l.disk))) →
         l.faults l.disk ≤ between_copy →
         GuardDrains (StandsUpTo version issuer) (StandsUpTo version issuer) a.begun plan version issuer file_now copy_now span file
         own → DrainRunEnds o.answer (guard_text o.turns file) s end → FileGuarded issuer plan exact moment s k l a end
     opened_guarded end found any later copied front copy_any copy_later h ends =
         file_guarded (record {
           session = h.session;
-          shop = chain_since (StandsUpTo version issuer) (StandsSince version issuer) (IsFound version issuer start) version issuer
-              start file file_now span (synced (k.told k.disk)) (k.faults k.disk) h.shop any later
-              (λ says c here. since_found version issuer start file.entries file.torn c
+          shop = chain_since (StandsUpTo version issuer) (StandsSince (k.on_disk k.disk).content version issuer)
+              (IsFoundSince (k.on_disk k.disk).content version issuer start) version issuer
+              start file file_now span (synced (k.on_disk k.disk)) (k.faults k.disk) h.shop any later
+              (λ says c here. since_found (k.on_disk k.disk).content version issuer start file.entries file.torn c
               (record { rest = h.shop.notes.more; is = h.shop.notes.is }) here)
               (λ says c here. inr here);
-          standby = chain_since (StandsUpTo version issuer) (GuardImage version issuer (l.told l.disk))
-              (IsFollowImage version issuer start (l.told l.disk)) version issuer start own copy_now span (l.told l.disk)
+          standby = chain_since (StandsUpTo version issuer) (GuardImage version issuer (l.on_disk l.disk))
+              (IsFollowImage version issuer start (l.on_disk l.disk)) version issuer start own copy_now span (l.on_disk l.disk)
               (l.faults l.disk) h.standby copy_any copy_later
-              (λ says c image. further_image version issuer start (own.entries ++ own.torn) (l.told l.disk) c
+              (λ says c image. further_image version issuer start (own.entries ++ own.torn) (l.on_disk l.disk) c
               (drained_front h.standby.notes) image)
               (λ says c b. image_front copy (copied says) (record {
                 history = b.history;
@@ -213,21 +216,21 @@ module _ {D C G : Type 0} (issuer : List ℕ) (plan : Plan) (exact : Bool) (mome
     (disk after copy_disk copy_after : D) (a : Agencies G) (end : Detail) (clock : C) (p : Parts D C)
     (opened : IsOpened issuer kind disk clock p) where
   abbrev file_in : Disks D
-  file_in = this_disk kind.tells kind.told kind.faults disk after
+  file_in = this_disk kind.tells kind.on_disk kind.faults disk after
 
   abbrev copy_in : Disks D
-  copy_in = this_disk kind.tells kind.told kind.faults copy_disk copy_after
+  copy_in = this_disk kind.tells kind.on_disk kind.faults copy_disk copy_after
 
   abbrev span_from : D → D → DiskSpan
   span_from old new = record {
     tells = kind.tells;
-    since = kind.told old;
-    now = kind.told new;
+    since = kind.on_disk old;
+    now = kind.on_disk new;
     faults = kind.faults old;
     faults_after = kind.faults new;
   }
 
-  pub guarded_file : (standby : ChainOnDisk D) → IsCopied kind.tells kind.told kind.faults p.state.version p.state.issuer p.state.entries copy_disk standby →
+  pub guarded_file : (standby : ChainOnDisk D) → IsCopied kind.tells kind.on_disk kind.faults p.state.version p.state.issuer p.state.entries copy_disk standby →
       (o : Outcome) (file own : Held) →
       GuardDrains (StandsUpTo p.state.version p.state.issuer) (StandsUpTo p.state.version p.state.issuer) a.begun plan
       p.state.version p.state.issuer (span_from p.disk after) (span_from standby.disk copy_after)
@@ -235,34 +238,34 @@ module _ {D C G : Type 0} (issuer : List ℕ) (plan : Plan) (exact : Bool) (mome
       DrainRunEnds o.answer (guard_text o.turns file) s end →
       FileGuarded issuer plan exact moment s file_in copy_in a end
   guarded_file standby copied o file own drains ends =
-      let found = subst (λ (n : List ℕ). IsTrue kind.tells → IsFound p.state.version n p.state.entries (kind.told disk).content)
+      let found = subst (λ (n : List ℕ). IsTrue kind.tells → IsFound p.state.version n p.state.entries (kind.on_disk disk).content)
       (sym opened.issuer_is) opened.found in
-      let any = subst (λ (n : List ℕ). IsTrue kind.tells → LeavesOnly (synced (kind.told disk)) (kind.told p.disk)
-      (IsFound p.state.version n p.state.entries)) (sym opened.issuer_is) opened.any_moment in
+      let any = subst (λ (n : List ℕ). IsTrue kind.tells → LeavesOnly (synced (kind.on_disk disk)) (kind.on_disk p.disk)
+      (IsFoundSince (kind.on_disk disk).content p.state.version n p.state.entries)) (sym opened.issuer_is) opened.any_moment in
       subst (λ (n : List ℕ). FileGuarded n plan exact moment s file_in copy_in a end) opened.issuer_is
       (opened_guarded p.state.issuer p.state.version plan exact moment s file_in copy_in a p.state.entries copied.copy o file own
-      (kind.told p.disk) (kind.told standby.disk) (kind.faults p.disk) (kind.faults standby.disk) end found any opened.later
+      (kind.on_disk p.disk) (kind.on_disk standby.disk) (kind.faults p.disk) (kind.faults standby.disk) end found any opened.later
       copied.found copied.front copied.any_moment copied.later drains ends)
 
-  pub not_copied : {left : Type 0} → after ≡ p.disk → (IsTrue kind.tells → IsImage (kind.told after).now (kind.told after).content) →
+  pub not_copied : {left : Type 0} → after ≡ p.disk → (IsTrue kind.tells → IsImage (kind.on_disk after).now (kind.on_disk after).content) →
       LeftUncopied p.state.version p.state.issuer p.state.entries copy_in end → WroteNothing s → left →
       NotCopied issuer left s file_in copy_in end
   not_copied same image uncopied wrote rest = record {
     version = p.state.version;
     start = p.state.entries;
     found = opened.found;
-    any_moment = λ says. subst (λ (d : D). LeavesOnly (synced (kind.told disk)) (kind.told d)
-        (IsFound p.state.version issuer p.state.entries)) (sym same) (opened.any_moment says);
+    any_moment = λ says. subst (λ (d : D). LeavesOnly (synced (kind.on_disk disk)) (kind.on_disk d)
+        (IsFoundSince (kind.on_disk disk).content p.state.version issuer p.state.entries)) (sym same) (opened.any_moment says);
     every_crash = left_now;
-    reads = λ says. left_now says (kind.told after).content (inl (refl, image says));
+    reads = λ says. left_now says (kind.on_disk after).content (inl (refl, image says));
     later = subst (λ (d : D). kind.faults disk ≤ kind.faults d) (sym same) opened.later;
     copy = subst (λ (n : List ℕ). LeftUncopied p.state.version n p.state.entries copy_in end) opened.issuer_is uncopied;
     wrote = wrote;
     rest = rest;
   }
     where
-      left_now : IsTrue kind.tells → LeavesNow (kind.told after) (StandsFor p.state.version issuer p.state.entries)
-      left_now says = subst (λ (d : D). LeavesNow (kind.told d) (StandsFor p.state.version issuer p.state.entries)) (sym same)
+      left_now : IsTrue kind.tells → LeavesNow (kind.on_disk after) (StandsFor p.state.version issuer p.state.entries)
+      left_now says = subst (λ (d : D). LeavesNow (kind.on_disk d) (StandsFor p.state.version issuer p.state.entries)) (sym same)
           (opened.every_crash says)
 
 -- a disk failed where that is the end

@@ -11,11 +11,11 @@ use Rattle.chain_disk.specs.OnDisk.{IsImage, LeavesNow, LeavesOnly, synced}
 use Rattle.chain_store.specs.Clocks.{Clocks, LeftClock, this_clock}
 use Rattle.chain_store.specs.Readings.{readings_of}
 use Rattle.chain_store.specs.Replies.{Replies, is_disk_fault, is_no_memory}
-use Rattle.counter.specs.Speech.{AreRepliesOf, ComesFirst, IsRead, IsWritten, Moment}
-use Rattle.counter.specs.declared.listener.Listener.{Listener}
-use Rattle.counter.specs.declared.speaking.SpeechEnd.{SpeechEnd}
-use Rattle.counter.specs.declared.speaking.SpeechEnd.TheVariants as speech
-use Rattle.dialogue.specs.declared.hear.Task.{Task}
+use Rattle.dialogue_loop.specs.Speech.{AreRepliesOf, ComesFirst, IsRead, IsWritten, Moment}
+use Rattle.dialogue_loop.specs.declared.listener.Listener.{Listener}
+use Rattle.dialogue_loop.specs.declared.speaking.SpeechEnd.{SpeechEnd}
+use Rattle.dialogue_loop.specs.declared.speaking.SpeechEnd.TheVariants as speech
+use Rattle.dialogue.specs.declared.speaker.Action.{Action}
 use Rattle.huella.specs.Linked.{Linked}
 use Rattle.ports.specs.Sinks.{Sinks, WroteNothing}
 use Rattle.ports.specs.Sources.{SourceRose, Sources}
@@ -24,11 +24,12 @@ use Rattle.record_codec.specs.declared.entry.TheConstants.{LAST_TILL}
 use Rattle.report.specs.Pieces.{chain_line}
 use Rattle.report.specs.declared.status.Detail.{Detail}
 use Rattle.report.specs.declared.status.Detail.TheVariants as detail
-use Rattle.sender.specs.Turning.{Desk}
+use Rattle.sender.specs.Turning.{AgencyState}
 use Rattle.sender.specs.declared.answers.DrainFault.{DrainFault}
 use Rattle.sender.specs.declared.answers.DrainFault.TheVariants as drain
 use Rattle.sender.specs.declared.draining.TheConstants.{MAX_LINK_FAULTS}
 use Rattle.recovery.specs.Opening.{IsFound}
+use Rattle.shop_drain.specs.Crashes.{IsFoundSince}
 use Rattle.shop_core.specs.Answer.Requests.{Asked}
 use Rattle.shop_core.specs.File.Files.{StandsFor}
 use Rattle.shop_core.specs.History.{History, recs, noted}
@@ -37,6 +38,7 @@ use Rattle.till_calls.specs.Root.{Parts, root_of}
 use Rattle.shop_drain.specs.Opening.{IsUnbegun, IsOpened}
 use Rattle.sender_session.specs.Contradictions.{ShowsLast}
 use Rattle.shop_commands.specs.Day.{Outcome, day_with}
+use Rattle.sender_beside.specs.Behind.{DrainsBehind}
 use Rattle.sender_beside.specs.Days.{Day, TillReplies, all_replies}
 use Rattle.shop_drain.specs.Devices.{Agencies, AllDevices, Around, LeftSleeper, Sleepers, around}
 use Rattle.sender_session.specs.Kinds.{StoreKind}
@@ -44,7 +46,7 @@ use Rattle.shop_drain.specs.Draining.{AgreesAtStart, OpensSession}
 use Rattle.shop_commands.specs.Drain.{NothingRose}
 use Rattle.sender_session.specs.Session.{IsDiskAnswer}
 use Rattle.shop_commands.specs.Serve.{Closes, FileServe, ServeEnds, ServeWays, SpeechEnds, SpeechServed, printed, source_since}
-use Rattle.shop_dialogue.specs.Talking.{CounterRun, IsSpeech, Speech}
+use Rattle.shop_dialogue.specs.Dialogues.{CounterRun, IsSpeech, Speech}
 use Rattle.shop_commands.specs.Serve.SpeechEnds.{done, read_fault, write_fault, undelivered, contradiction, disk_fault}
 use Rattle.shop_commands.specs.Serve.SpeechEnds.{no_memory}
 use Rattle.sender_beside.specs.Tills.{has_asks, own_of}
@@ -55,17 +57,17 @@ use Rattle.shop_commands.proofs.Speeches.{quiet, told_some}
 
 -- a dialogue on an opened file, and how it ended
 module _ {D C Z G : Type 0} (issuer : List ℕ) (clock : Option (ℕ × ℕ)) (s : Sources) (c : Around D C Z G) (x : Speech) (o : Outcome)
-    (f : IsDayOf issuer x.asks plain c o) (spoken : IsSpeech clock s o.tills x)
+    (f : IsDayOf issuer x.said.asks plain c o) (spoken : IsSpeech clock o.start o.end s o.tills x)
     (are : map (λ (t : TillReplies). t.till) o.tills ≡ range_with_len 1 LAST_TILL) where
   abbrev day : Day
-  day = day_with issuer x.asks None c o
+  day = day_with issuer x.said.asks None c o
 
   abbrev Failing : ℕ → ℕ → Type 0
   Failing n m = (n < m) × (c.agency.after.faults < 2 ^ 64 - 1 → c.agency.before.faults + MAX_LINK_FAULTS ≤ c.agency.after.faults)
 
   abbrev Ends : Detail → Type 0
-  Ends how = SpeechEnds x.how x.replies o.answer (length (noted o.end)) (length (recs o.end))
-      (printed x.how x.answers (chain_line (length (recs o.end)) (length (noted o.end)))) s c.sink how
+  Ends how = SpeechEnds x.how x.said.replies o.answer (length (noted o.end)) (length (recs o.end))
+      (printed x.how x.said.answers (chain_line (length (recs o.end)) (length (noted o.end)))) s c.sink how
 
   failed : (how : Detail) → Ends how → (n m : ℕ) → how ≡ detail.Undelivered n m → Failing n m
   failed how (undelivered a b all e w) n m is =
@@ -75,12 +77,12 @@ module _ {D C Z G : Type 0} (issuer : List ℕ) (clock : Option (ℕ × ℕ)) (s
       subst (λ (i : ℕ). Failing i m) one (subst (λ (j : ℕ). Failing lines j) two (f.gives_up a b e))
   failed how _ n m is = absurd cc
 
-  disk_rose : (list_any is_disk_fault x.replies ≡ true) ⊎ IsDiskAnswer o.answer → DiskRose c.disk
+  disk_rose : (list_any is_disk_fault x.said.replies ≡ true) ⊎ IsDiskAnswer o.answer → DiskRose c.disk
   disk_rose some = rose_day day (c.disk.faults c.disk.disk) (c.disk.faults c.disk.disk_after) o.stop f.crashes.stop (by_till some)
     where
-      by_till : (list_any is_disk_fault x.replies ≡ true) ⊎ IsDiskAnswer o.answer →
+      by_till : (list_any is_disk_fault x.said.replies ≡ true) ⊎ IsDiskAnswer o.answer →
           (list_any is_disk_fault (all_replies o.tills) ≡ true) ⊎ IsDiskAnswer o.answer
-      by_till (inl some) = inl (told_some is_disk_fault x.asks x.replies o.tills spoken.pairs spoken.of_tills are spoken.told some)
+      by_till (inl some) = inl (told_some is_disk_fault x.said.asks x.said.replies o.tills spoken.pairs spoken.of_tills are spoken.told some)
       by_till (inr disk) = inr disk
 
   completed : (how : Detail) → Ends how → (SourceRose s → ⊥) → NothingRose c.sink c.disk c.agency →
@@ -126,8 +128,8 @@ module _ {D C Z G : Type 0} (issuer : List ℕ) (clock : Option (ℕ × ℕ)) (s
       by_answer how (disk_fault memory kept some w) shown = inr (inr refl)
       by_answer how (no_memory w) shown = inr (inl refl)
 
-  none_gained : (till : ℕ) → has_asks x.asks till ≡ false → own_of till (drop (length o.start) o.end) ≡ []
-  none_gained till none = elim (quiet day x.asks x.replies till o.tills none spoken.told f.served) [
+  none_gained : (till : ℕ) → has_asks x.said.asks till ≡ false → own_of till (drop (length o.start) o.end) ≡ []
+  none_gained till none = elim (quiet day x.said.asks x.said.replies till o.tills none spoken.told f.served) [
     | inl is ↦ is
     | inr other ↦ f.others till other
   ]
@@ -150,9 +152,9 @@ module _ {D C Z G : Type 0} (issuer : List ℕ) (clock : Option (ℕ × ℕ)) (s
   }
 
 -- how far the source was read up to the first line that is answered
-pub came_read : (left now : Option (List ℕ)) (l : Listener) (first : Result Task SpeechEnd) → ComesFirst left now l first →
+pub came_read : (left now : Option (List ℕ)) (l : Listener) (first : Result Action SpeechEnd) → ComesFirst left now l first →
     (taken : List ℕ) × Consumes left now taken
-came_read left now l (Ok task) h = (h.hears.read.taken, h.hears.read.consumed)
+came_read left now l (Ok action) h = (h.line_read.read.taken, h.line_read.read.consumed)
 came_read left now l (Err end) h = by_end end h.read
   where
     by_end : (how : SpeechEnd) → IsRead how left now h.lines → (taken : List ℕ) × Consumes left now taken
@@ -162,15 +164,15 @@ came_read left now l (Err end) h = by_end end h.read
     by_end speech.NoMemory r = (r.read.taken, r.read.consumed)
     by_end speech.Stopped r = (r.taken, r.consumed)
 
--- an opened file, before its dialogue and behind it
+-- an opened file, before its dialogue and after it
 module _ {D C Z G : Type 0} (h : StoreKind D C) (issuer : List ℕ) (disk : D) (old new : Parts D C) (z : Sleepers Z) (a : Agencies G)
     (s : Sources) (k : Sinks) (clock : Option (ℕ × ℕ)) (is_opened : IsOpened issuer h disk old.clock old)
-    (reads : (d : D) → IsTrue h.tells → IsImage (h.told d).now (h.told d).content)
+    (reads : (d : D) → IsTrue h.tells → IsImage (h.on_disk d).now (h.on_disk d).content)
     (rules_tell : IsTrue a.kind.keeps_rules → IsTrue a.kind.tells) where
   abbrev pub opened_call : Around D C Z G
   opened_call = record {
     sink = k;
-    disk = this_disk h.tells h.told h.faults disk new.disk;
+    disk = this_disk h.tells h.on_disk h.faults disk new.disk;
     clock = this_clock h.coming old.clock new.clock;
     sleeper = z;
     agency = a;
@@ -195,9 +197,10 @@ module _ {D C Z G : Type 0} (h : StoreKind D C) (issuer : List ℕ) (disk : D) (
     read = read.1;
   })
 
-  module _ (desk : Desk) (opens : OpensSession a.kind a.begun plain first a.before desk) (answer : Result (Unit {0}) DrainFault)
+  module _ (agency_state : AgencyState) (opens : OpensSession a.kind a.begun plain first a.before agency_state) (answer : Result (Unit {0}) DrainFault)
       (lacked : Bool) (how : SpeechEnd) (from now : Moment)
-      (run : CounterRun h (root_of h.told h.faults old) new clock from now a.kind desk a.after answer lacked how)
+      (run : CounterRun h (root_of h.on_disk h.faults old) new clock from now a.kind agency_state a.after answer lacked how)
+      (behind : DrainsBehind a.kind agency_state a.after answer)
       (linked : Linked old.state.issuer (recs new.state.entries)) (rising : (till : ℕ) → SerialsRise new.state.entries till) where
     abbrev lines : ℕ
     lines = length (noted new.state.entries)
@@ -207,7 +210,7 @@ module _ {D C Z G : Type 0} (h : StoreKind D C) (issuer : List ℕ) (disk : D) (
 
     -- its lines were answered
     pub talked : (closed : SpeechEnd) (end : Detail) → s ≡ source_since from.left from.source_faults now.left now.source_faults →
-        Closes how closed → IsWritten closed k (printed how run.speech.answers (chain_line records lines)) →
+        Closes how closed → IsWritten closed k (printed how run.speech.said.answers (chain_line records lines)) →
         ((began : SpeechEnd) (asks : List Asked) (replies : Replies) (answers texts : List (List ℕ)) (s : Sources) (k : Sinks) →
         Closes began closed → AreRepliesOf began asks replies answers → lacked ≡ list_any is_no_memory replies →
         (began ≡ speech.ReadFault → SourceRose s) → IsWritten closed k texts →
@@ -215,41 +218,45 @@ module _ {D C Z G : Type 0} (h : StoreKind D C) (issuer : List ℕ) (disk : D) (
         FileServe issuer None clock s opened_call end
     talked closed end same closes written ends =
         let x = run.speech in
-        let did : ShopDid h x.asks a.kind desk a.after old new.disk new.clock = record {
+        let did : ShopDid h x.said.asks a.kind agency_state a.after old new.disk new.clock = record {
           new = new;
           tills = run.tills;
           answer = answer;
           disk = refl;
           clock = refl;
           run = run.run;
+          behind = behind;
           linked = linked;
           rising = rising;
         } in
-        let facts = day_facts h issuer x.asks plain disk new.disk old.clock new.clock z a old k is_opened reads rules_tell desk opens did
+        let facts = day_facts h issuer x.said.asks plain disk new.disk old.clock new.clock z a old k is_opened reads rules_tell agency_state opens did
         in
-        let spoken : IsSpeech clock s run.tills x = subst (λ (v : Sources). IsSpeech clock v run.tills x) (sym same) run.spoken in
+        let spoken : IsSpeech clock first new.state.entries s run.tills x =
+        subst (λ (v : Sources). IsSpeech clock first new.state.entries v run.tills x) (sym same) run.spoken in
         let closes' : Closes x.how closed = subst (λ (b : SpeechEnd). Closes b closed) (sym run.how_is) closes in
-        let written' : IsWritten closed k (printed x.how x.answers (chain_line records lines)) =
-        subst (λ (b : SpeechEnd). IsWritten closed k (printed b x.answers (chain_line records lines))) (sym run.how_is) written in
+        let written' : IsWritten closed k (printed x.how x.said.answers (chain_line records lines)) =
+        subst (λ (b : SpeechEnd). IsWritten closed k (printed b x.said.answers (chain_line records lines))) (sym run.how_is) written in
         inr (speech_done issuer clock s opened_call x _ facts spoken run.are end
-        (ends x.how x.asks x.replies x.answers (printed x.how x.answers (chain_line records lines)) s k closes' spoken.replies_are run.lacked_is
+        (ends x.how x.said.asks x.said.replies x.said.answers (printed x.how x.said.answers (chain_line records lines)) s k closes' spoken.replies_are run.lacked_is
         spoken.read_fault written'))
 
 -- what an opening left, said of the same store with another clock
 pub opened_with : {D C O : Type 0} (h : StoreKind D C) (coming : O → ℕ → Option ℕ) (issuer : List ℕ) (disk : D) (old : Parts D C)
     (new : Parts D O) → new.state ≡ old.state → new.disk ≡ old.disk → IsOpened issuer h disk old.clock old →
-    IsOpened issuer (record { tells = h.tells; told = h.told; faults = h.faults; coming = coming }) disk new.clock new
+    IsOpened issuer (record { tells = h.tells; on_disk = h.on_disk; faults = h.faults; coming = coming }) disk new.clock new
 opened_with {D} {C} {O} h coming issuer disk old new same_state same_disk o = record {
   issuer_is = ap (λ (v : History). v.issuer) same_state ∙ o.issuer_is;
   clock_is = refl;
-  found = λ says. subst (λ (v : History). IsFound v.version issuer v.entries (h.told disk).content) (sym same_state) (o.found says);
+  found = λ says. subst (λ (v : History). IsFound v.version issuer v.entries (h.on_disk disk).content) (sym same_state) (o.found says);
   any_moment = λ says.
-      subst (λ (d : D). LeavesOnly (synced (h.told disk)) (h.told d) (IsFound new.state.version issuer new.state.entries)) (sym same_disk)
-      (subst (λ (v : History). LeavesOnly (synced (h.told disk)) (h.told old.disk) (IsFound v.version issuer v.entries)) (sym same_state)
+      subst (λ (d : D). LeavesOnly (synced (h.on_disk disk)) (h.on_disk d) (IsFoundSince (h.on_disk disk).content new.state.version
+      issuer new.state.entries)) (sym same_disk)
+      (subst (λ (v : History). LeavesOnly (synced (h.on_disk disk)) (h.on_disk old.disk) (IsFoundSince (h.on_disk disk).content
+      v.version issuer v.entries)) (sym same_state)
       (o.any_moment says));
   every_crash = λ says.
-      subst (λ (d : D). LeavesNow (h.told d) (StandsFor new.state.version issuer new.state.entries)) (sym same_disk)
-      (subst (λ (v : History). LeavesNow (h.told old.disk) (StandsFor v.version issuer v.entries)) (sym same_state) (o.every_crash says));
+      subst (λ (d : D). LeavesNow (h.on_disk d) (StandsFor new.state.version issuer new.state.entries)) (sym same_disk)
+      (subst (λ (v : History). LeavesNow (h.on_disk old.disk) (StandsFor v.version issuer v.entries)) (sym same_state) (o.every_crash says));
   later = subst (λ (d : D). h.faults disk ≤ h.faults d) (sym same_disk) o.later;
 }
 
@@ -278,7 +285,7 @@ module _ {D C Z O P G : Type 0} (issuer : List ℕ) (said : Option (ℕ × ℕ))
     read = h.read;
   })
   serve_by_line (inr h) =
-      let d : Day = day_with issuer h.speech.asks None own h.outcome in
+      let d : Day = day_with issuer h.speech.said.asks None own h.outcome in
       let new : ℕ → Option ℕ = readings_of (Some line) (c.clock.coming c.clock.clock) in
       inr (record {
         speech = h.speech;
@@ -306,15 +313,15 @@ module _ {D C Z G : Type 0} (issuer : List ℕ) (line said : Option (ℕ × ℕ)
       o : Outcome
       o = h.outcome
 
-      rose : (list_any is_disk_fault x.replies ≡ true) ⊎ IsDiskAnswer o.answer → DiskRose c.disk
-      rose (inl some) = rose_day (day_with issuer x.asks line c o) (c.disk.faults c.disk.disk) (c.disk.faults c.disk.disk_after)
-          o.stop h.crashes.stop (inl (told_some is_disk_fault x.asks x.replies o.tills h.spoken.pairs h.spoken.of_tills h.tills.are
+      rose : (list_any is_disk_fault x.said.replies ≡ true) ⊎ IsDiskAnswer o.answer → DiskRose c.disk
+      rose (inl some) = rose_day (day_with issuer x.said.asks line c o) (c.disk.faults c.disk.disk) (c.disk.faults c.disk.disk_after)
+          o.stop h.crashes.stop (inl (told_some is_disk_fault x.said.asks x.said.replies o.tills h.spoken.pairs h.spoken.of_tills h.tills.are
           h.spoken.told some))
-      rose (inr disk) = rose_day (day_with issuer x.asks line c o) (c.disk.faults c.disk.disk) (c.disk.faults c.disk.disk_after)
+      rose (inr disk) = rose_day (day_with issuer x.said.asks line c o) (c.disk.faults c.disk.disk) (c.disk.faults c.disk.disk_after)
           o.stop h.crashes.stop (inr disk)
 
-      by_end : (how : Detail) → SpeechEnds x.how x.replies o.answer (length (noted o.end)) (length (recs o.end))
-          (printed x.how x.answers (chain_line (length (recs o.end)) (length (noted o.end)))) s c.sink how →
+      by_end : (how : Detail) → SpeechEnds x.how x.said.replies o.answer (length (noted o.end)) (length (recs o.end))
+          (printed x.how x.said.answers (chain_line (length (recs o.end)) (length (noted o.end)))) s c.sink how →
           how ≡ detail.DiskFault → DiskRose c.disk
       by_end how (disk_fault memory kept some w) is = rose some
       by_end how _ is = absurd cc

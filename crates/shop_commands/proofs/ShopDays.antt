@@ -20,7 +20,7 @@ use Rattle.report.specs.declared.status.Detail.{Detail}
 use Rattle.report.specs.declared.status.Detail.TheVariants as detail
 use Rattle.shop_core.specs.Prefix.{IsPrefix}
 use Rattle.once_world.specs.Agreement.{Agree}
-use Rattle.sender.specs.Turning.{Desk, AgencyKind}
+use Rattle.sender.specs.Turning.{AgencyState, AgencyKind}
 use Rattle.sender.specs.declared.answers.DrainFault.{DrainFault}
 use Rattle.sender.specs.declared.answers.DrainFault.TheVariants as drain
 use Rattle.sender.specs.declared.draining.TheConstants.{MAX_LINK_FAULTS}
@@ -31,9 +31,10 @@ use Rattle.shop_core.specs.Rising.{SerialsRise}
 use Rattle.till_calls.specs.Root.{Parts, root_of}
 use Rattle.till_calls.specs.Sound.{IsLater}
 use Rattle.shop_drain.specs.Opening.{IsUnbegun, IsOpened}
+use Rattle.sender_beside.specs.Behind.{DrainsBehind}
 use Rattle.sender_beside.specs.Beside.{SendsBeside, StaysAgreed}
-use Rattle.chain_store.specs.Crashes.{Kept, StandsUpTo, StandsForEnd}
-use Rattle.shop_drain.specs.Crashes.{StandsSince}
+use Rattle.chain_store.specs.Crashes.{SurvivesCrashes, StandsUpTo, StandsForEnd}
+use Rattle.shop_drain.specs.Crashes.{IsFoundSince, StandsSince}
 use Rattle.shop_commands.specs.Day.{EachCrash, EachTillOf, HistoryGoesOn, ItsAgency, NotServed, Outcome, TellsOfSender}
 use Rattle.shop_commands.specs.Day.{day_with}
 use Rattle.sender_beside.specs.Days.{Day, Stop, TillReplies, all_replies, shop_day, stop_of, torn_of}
@@ -94,15 +95,16 @@ pub record ShopLeft {D C : Type 0} (left : Type 0) (old : Parts D C) (disk_after
   pub rest : left
 
 -- the tills of an opened store asked beside a sender, and this is what the day made of it
-pub record ShopDid {D C : Type 0} (h : StoreKind D C) (asks : List Asked) (kind : AgencyKind) (opened after : Desk) (old : Parts D C)
+pub record ShopDid {D C : Type 0} (h : StoreKind D C) (asks : List Asked) (kind : AgencyKind) (opened after : AgencyState) (old : Parts D C)
     (disk_after : D) (clock_after : C) : Type 0 where
   pub new : Parts D C
   pub tills : List TillReplies
   pub answer : Result (Unit {0}) DrainFault
   pub disk : disk_after ≡ new.disk
   pub clock : clock_after ≡ new.clock
-  pub run : DayRun h (root_of h.told h.faults old) new
-      (shop_day h.coming asks (root_of h.told h.faults old) new tills kind opened after answer)
+  pub run : DayRun h (root_of h.on_disk h.faults old) new
+      (shop_day h.coming asks (root_of h.on_disk h.faults old) new tills kind opened after answer)
+  pub behind : DrainsBehind kind opened after answer
   pub linked : Linked old.state.issuer (recs new.state.entries)
   pub rising : (till : ℕ) → SerialsRise new.state.entries till
 
@@ -121,7 +123,7 @@ pub record IsDayOf {D C Z G : Type 0} (issuer : List ℕ) (asks : List Asked) (p
 
 module _ {D C Z G : Type 0} (h : StoreKind D C) (issuer : List ℕ) (asks : List Asked) (plan : Plan) (disk disk_after : D)
     (clock clock_after : C) (z : Sleepers Z) (a : Agencies G) (opened : Parts D C) (s : Sinks)
-    (is_opened : IsOpened issuer h disk clock opened) (reads : (d : D) → IsTrue h.tells → IsImage (h.told d).now (h.told d).content)
+    (is_opened : IsOpened issuer h disk clock opened) (reads : (d : D) → IsTrue h.tells → IsImage (h.on_disk d).now (h.on_disk d).content)
     (rules_tell : IsTrue a.kind.keeps_rules → IsTrue a.kind.tells) where
   own : opened.state.issuer ≡ issuer
   own = is_opened.issuer_is
@@ -132,7 +134,7 @@ module _ {D C Z G : Type 0} (h : StoreKind D C) (issuer : List ℕ) (asks : List
   abbrev pub call : Around D C Z G
   call = record {
     sink = s;
-    disk = this_disk h.tells h.told h.faults disk disk_after;
+    disk = this_disk h.tells h.on_disk h.faults disk disk_after;
     clock = this_clock h.coming clock clock_after;
     sleeper = z;
     agency = a;
@@ -151,12 +153,15 @@ module _ {D C Z G : Type 0} (h : StoreKind D C) (issuer : List ℕ) (asks : List
     found = is_opened.found;
     kept = λ says.
         let begins : IsPrefix first first = record { rest = []; is = sym (append-nil first) } in
-        subst (λ (d : D). Kept (StandsSince opened.state.version issuer first first []) opened.state.version issuer first [] (synced (h.told disk)) (h.told d)) (sym l.disk)
+        subst (λ (d : D). SurvivesCrashes (StandsSince (h.on_disk disk).content opened.state.version issuer first first [])
+        opened.state.version issuer first [] (synced (h.on_disk disk)) (h.on_disk d)) (sym l.disk)
         (record {
-          each_moment = weaker (synced (h.told disk)) (h.told opened.disk) (IsFound opened.state.version issuer first) (StandsSince opened.state.version issuer first first
-              []) (is_opened.any_moment says) (λ c here. since_found opened.state.version issuer first first [] c begins here);
+          each_moment = weaker (synced (h.on_disk disk)) (h.on_disk opened.disk) (IsFoundSince (h.on_disk disk).content
+              opened.state.version issuer first) (StandsSince (h.on_disk disk).content opened.state.version issuer first first
+              []) (is_opened.any_moment says) (λ c here. since_found (h.on_disk disk).content opened.state.version issuer first first
+              [] c begins here);
           every_crash = λ c left. inl (is_opened.every_crash says c left);
-          reads = inl (is_opened.every_crash says (h.told opened.disk).content (inl (refl, reads opened.disk says)));
+          reads = inl (is_opened.every_crash says (h.on_disk opened.disk).content (inl (refl, reads opened.disk says)));
         });
     begun = begun;
     wrote = l.wrote;
@@ -164,8 +169,8 @@ module _ {D C Z G : Type 0} (h : StoreKind D C) (issuer : List ℕ) (asks : List
     sleeper = l.rest;
   }
 
-  module _ (desk : Desk) (opens : OpensSession a.kind a.begun plan first a.before desk)
-      (r : ShopDid h asks a.kind desk a.after opened disk_after clock_after) where
+  module _ (agency_state : AgencyState) (opens : OpensSession a.kind a.begun plan first a.before agency_state)
+      (r : ShopDid h asks a.kind agency_state a.after opened disk_after clock_after) where
     abbrev pub outcome : Outcome
     outcome = record {
       version = opened.state.version;
@@ -173,7 +178,7 @@ module _ {D C Z G : Type 0} (h : StoreKind D C) (issuer : List ℕ) (asks : List
       end = r.new.state.entries;
       stop = stop_of r.new.stopped r.new.torn;
       tills = r.tills;
-      opened = desk;
+      opened = agency_state;
       answer = r.answer;
     }
 
@@ -197,32 +202,39 @@ module _ {D C Z G : Type 0} (h : StoreKind D C) (issuer : List ℕ) (asks : List
         (subst (λ (d : D). StopIs day (h.faults opened.disk) (h.faults d) day.stop) (sym r.disk)
         (here (λ (d : Day). StopIs d (h.faults opened.disk) (h.faults r.new.disk) d.stop) r.run.stop))
 
-    files : IsTrue h.tells → LeavesNow (h.told r.new.disk) (StandsForEnd opened.state.version issuer r.new.state.entries (torn_of day.stop))
+    files : IsTrue h.tells → LeavesNow (h.on_disk r.new.disk) (StandsForEnd opened.state.version issuer r.new.state.entries (torn_of day.stop))
     files says = λ c left.
         subst (λ (n : List ℕ). StandsForEnd opened.state.version n r.new.state.entries (torn_of day.stop) c) own
         (subst (λ (es : List Entry). StandsForEnd opened.state.version opened.state.issuer r.new.state.entries es c) (torn_same r.new.stopped r.new.torn)
-        (either h.tells h.told h.faults h.coming opened r.new r.run.sound c ((r.run.sound.crashes says).whole c left)))
+        (either h.tells h.on_disk h.faults h.coming opened r.new r.run.sound c ((r.run.sound.crashes says).whole c left)))
 
-    moments : IsTrue h.tells → LeavesOnly (synced (h.told disk)) (h.told r.new.disk)
-        (StandsSince opened.state.version issuer first r.new.state.entries (torn_of day.stop))
+    moments : IsTrue h.tells → LeavesOnly (synced (h.on_disk disk)) (h.on_disk r.new.disk)
+        (StandsSince (h.on_disk disk).content opened.state.version issuer first r.new.state.entries (torn_of day.stop))
     moments says =
-        subst (λ (n : List ℕ). LeavesOnly (synced (h.told disk)) (h.told r.new.disk) (StandsSince opened.state.version n first r.new.state.entries
+        subst (λ (n : List ℕ). LeavesOnly (synced (h.on_disk disk)) (h.on_disk r.new.disk) (StandsSince (h.on_disk disk).content
+        opened.state.version n first r.new.state.entries
         (torn_of day.stop))) own
-        (subst (λ (es : List Entry). LeavesOnly (synced (h.told disk)) (h.told r.new.disk) (StandsSince opened.state.version opened.state.issuer first
+        (subst (λ (es : List Entry). LeavesOnly (synced (h.on_disk disk)) (h.on_disk r.new.disk) (StandsSince (h.on_disk disk).content
+        opened.state.version opened.state.issuer first
         r.new.state.entries es)) (torn_same r.new.stopped r.new.torn) since)
       where
-        since : LeavesOnly (synced (h.told disk)) (h.told r.new.disk) (StandsSince opened.state.version opened.state.issuer first r.new.state.entries
+        since : LeavesOnly (synced (h.on_disk disk)) (h.on_disk r.new.disk) (StandsSince (h.on_disk disk).content opened.state.version
+            opened.state.issuer first r.new.state.entries
             (torn_in r.new.stopped r.new.torn))
-        since = follows (synced (h.told disk)) (h.told opened.disk) (h.told r.new.disk)
-            (IsFound opened.state.version opened.state.issuer first) (StandsUpTo opened.state.version opened.state.issuer first r.new.state.entries
+        since = follows (synced (h.on_disk disk)) (h.on_disk opened.disk) (h.on_disk r.new.disk)
+            (IsFoundSince (h.on_disk disk).content opened.state.version opened.state.issuer first) (StandsUpTo opened.state.version
+            opened.state.issuer first r.new.state.entries
             (torn_in r.new.stopped r.new.torn))
-            (StandsSince opened.state.version opened.state.issuer first r.new.state.entries (torn_in r.new.stopped r.new.torn))
-            (subst (λ (n : List ℕ). LeavesOnly (synced (h.told disk)) (h.told opened.disk) (IsFound opened.state.version n first)) (sym own)
+            (StandsSince (h.on_disk disk).content opened.state.version opened.state.issuer first r.new.state.entries (torn_in
+            r.new.stopped r.new.torn))
+            (subst (λ (n : List ℕ). LeavesOnly (synced (h.on_disk disk)) (h.on_disk opened.disk) (IsFoundSince (h.on_disk disk).content
+            opened.state.version n first)) (sym own)
             (is_opened.any_moment says))
-            (weaker (h.told opened.disk) (h.told r.new.disk) _ (StandsUpTo opened.state.version opened.state.issuer first r.new.state.entries
+            (weaker (h.on_disk opened.disk) (h.on_disk r.new.disk) _ (StandsUpTo opened.state.version opened.state.issuer first r.new.state.entries
             (torn_in r.new.stopped r.new.torn)) (r.run.sound.crashes says).since
-            (between h.tells h.told h.faults h.coming opened r.new r.run.sound))
-            (λ c here. since_found opened.state.version opened.state.issuer first r.new.state.entries (torn_in r.new.stopped r.new.torn) c begins here)
+            (between h.tells h.on_disk h.faults h.coming opened r.new r.run.sound))
+            (λ c here. since_found (h.on_disk disk).content opened.state.version opened.state.issuer first r.new.state.entries (torn_in
+            r.new.stopped r.new.torn) c begins here)
             (λ c here. inr here)
 
     crashes : EachCrash day call.disk
@@ -230,11 +242,12 @@ module _ {D C Z G : Type 0} (h : StoreKind D C) (issuer : List ℕ) (asks : List
       found = is_opened.found;
       stop = stop;
       kept = λ says.
-          subst (λ (d : D). Kept (StandsSince opened.state.version issuer first r.new.state.entries (torn_of day.stop)) opened.state.version issuer r.new.state.entries
-          (torn_of day.stop) (synced (h.told disk)) (h.told d)) (sym r.disk) (record {
+          subst (λ (d : D). SurvivesCrashes (StandsSince (h.on_disk disk).content opened.state.version issuer first r.new.state.entries
+          (torn_of day.stop)) opened.state.version issuer r.new.state.entries
+          (torn_of day.stop) (synced (h.on_disk disk)) (h.on_disk d)) (sym r.disk) (record {
             each_moment = moments says;
             every_crash = files says;
-            reads = files says (h.told r.new.disk).content (inl (refl, reads r.new.disk says));
+            reads = files says (h.on_disk r.new.disk).content (inl (refl, reads r.new.disk says));
           });
     }
 
@@ -253,14 +266,15 @@ module _ {D C Z G : Type 0} (h : StoreKind D C) (issuer : List ℕ) (asks : List
     agency = record {
       opens = opens;
       sends = sends;
+      behind = r.behind;
       agreement = λ keeps agree.
           let sent = (opens.lists (rules_tell keeps)).sent in
           sends.agreement keeps
-          (subst (λ (ps : List _). Agree first ps desk.ledger.sent) (sym (opens.rules keeps))
+          (subst (λ (ps : List _). Agree first ps agency_state.ledger.sent) (sym (opens.rules keeps))
           (subst (λ (ss : List _). Agree first (a.begun a.before.ledger.processed (noted_pairs first)) ss)
           (sym sent) agree));
       images = λ says agrees.
-          subst (λ (d : D). LeavesNow (h.told d) (AgreesInFile opened.state.version issuer a.after)) (sym r.disk)
+          subst (λ (d : D). LeavesNow (h.on_disk d) (AgreesInFile opened.state.version issuer a.after)) (sym r.disk)
           (λ c left. in_file c agrees (files says c left));
     }
       where
@@ -388,9 +402,10 @@ module _ (d : Day) (new : ℕ → Option ℕ) (same : (k : ℕ) → d.coming k �
   agency_by plan a k h = record {
     opens = h.opens;
     sends = sends_by h.sends;
+    behind = h.behind;
     agreement = λ keeps agree. agreed_by (h.agreement keeps agree);
     images = λ says agrees. h.images says (agreed_back agrees);
   }
 
-  pub sender_by : (before : Desk) (end : Detail) → TellsOfSender d before end → TellsOfSender other before end
+  pub sender_by : (before : AgencyState) (end : Detail) → TellsOfSender d before end → TellsOfSender other before end
   sender_by before end h = record { undelivered = h.undelivered; contrary = h.contrary; shown = h.shown }

@@ -6,9 +6,9 @@ use Rattle.std.specs.List.{list_any}
 use Rattle.std.proofs.KnownBytes.{Appends-trans}
 use Rattle.std.proofs.lemmas.List.Folds.{list_any-append}
 use Rattle.chain_store.specs.Replies.{AllGoOn, AllReplied, Replies, is_disk_fault, is_no_memory}
-use Rattle.counter.specs.Speech.{AreRepliesOf, FailedAtLast, IsAnswered, IsWritten, StopsAtLast, TookToLast}
-use Rattle.counter.specs.declared.speaking.SpeechEnd.{SpeechEnd}
-use Rattle.counter.specs.declared.speaking.SpeechEnd.TheVariants as speech
+use Rattle.dialogue_loop.specs.Speech.{AreRepliesOf, FailedAtLast, IsAnswered, IsWritten, StopsAtLast, TookToLast}
+use Rattle.dialogue_loop.specs.declared.speaking.SpeechEnd.{SpeechEnd}
+use Rattle.dialogue_loop.specs.declared.speaking.SpeechEnd.TheVariants as speech
 use Rattle.dialogue.specs.Protocol.{written_for}
 use Rattle.dialogue.proofs.Views.{written_more}
 use Rattle.journal.specs.declared.faults.StoreFault.TheVariants as store
@@ -81,7 +81,7 @@ closed_write speech.ReadFault asks replies answers c h = absurd (let x = c in cc
 closed_write speech.NoMemory asks replies answers c h = absurd (let x = c in cc)
 closed_write speech.Stopped asks replies answers c h = absurd (let x = c in cc)
 
--- a dialogue that began to end so, with these replies, behind which no memory was wanting
+-- a dialogue that began to end so, with these replies, after which memory never ran out
 module _ (began : SpeechEnd) (asks : List Asked) (replies : Replies) (answers : List (List ℕ)) (answer : Result (Unit {0}) DrainFault)
     (n r : ℕ) (texts : List (List ℕ)) (s : Sources) (k : Sinks) (memory : list_any is_no_memory replies ≡ false) (sender : sender_lacks_memory answer ≡ false) where
   abbrev Ends : Detail → Type 0
@@ -123,7 +123,7 @@ module _ (began : SpeechEnd) (asks : List Asked) (replies : Replies) (answers : 
       (began ≡ speech.ReadFault → SourceRose s) → IsWritten how k texts → Ends (end_of how n r answer)
   ended_so how same c h rose w = by_answer how answer refl same c h rose w
 
--- the chain line behind answers that were written, by what became of it
+-- the chain line after answers that were written, by what became of it
 module _ (taken now after : Option (List ℕ)) (first faults faults_after : ℕ) (answers : List (List ℕ)) (chain : List ℕ)
     (wrote : Wrote (sink_to taken first now faults) (written_for answers)) (later : first ≤ faults) where
   pub line_unmade : TookToLast (sink_to taken first now faults) (answers ++ chain ∷ [])

@@ -8,7 +8,7 @@ use Rattle.std.proofs.lemmas.Bool.Decides.{eqb_tells, nat_tests}
 use Rattle.std.proofs.lemmas.List.Folds.{list_any-append}
 use Rattle.std.proofs.lemmas.List.FromFn.{get_or-range_with_len, length-range_with_len}
 use Rattle.chain_store.specs.Replies.{Replies}
-use Rattle.counter.specs.InARow.{IsOfTill, replies_of}
+use Rattle.dialogue_loop.specs.InARow.{IsOfTill, replies_of}
 use Rattle.journal.specs.declared.faults.StoreFault.{StoreFault}
 use Rattle.record_codec.specs.declared.entry.Entry.{Entry}
 use Rattle.record_codec.specs.declared.entry.TheConstants.{LAST_TILL}

@@ -17,7 +17,7 @@ use Rattle.chain_store.specs.Replies.{Replies}
 use Rattle.command_ends.specs.Scripts.{ScriptedEnds}
 use Rattle.command_ends.specs.Played.{Played}
 
--- nothing was done for want of memory; the file couldn't be opened; or the commands were run, and this is how the run ended
+-- nothing was done for lack of memory; the file couldn't be opened; or the commands were run, and this is how the run ended
 abbrev pub ScriptEnds : {D : Type 0} → List ℕ → List Asked → (ℕ → Option ℕ) → (Replies → Type 0) → Sinks → Disks D →
     Detail → Type 0
 ScriptEnds issuer asks coming Leaves s k end =

@@ -1,5 +1,5 @@
 -- How `day` ends.
-use Rattle.std.specs.Prelude.{◌≡◌, ◌⊎◌, ◌<◌, ◌≤◌, ◌+◌, ◌-◌, ◌^◌, ℕ, false, List, [], ◌∷◌, ◌++◌, drop, flat_map, length, map}
+use Rattle.std.specs.Prelude.{◌≡◌, ◌⊎◌, ◌<◌, ◌≤◌, ◌+◌, ℕ, false, List, [], ◌∷◌, ◌++◌, drop, flat_map, length, map}
 use Rattle.std.specs.Prelude.{IsTrue, Option, Result}
 use Rattle.std.specs.List.{AllByRecursion}
 use Rattle.record_fields.specs.declared.versions.Version.{Version}
@@ -16,7 +16,7 @@ use Rattle.agency_rules.specs.declared.plans.Plan.{Plan}
 use Rattle.agency_port.specs.declared.turns.Evidence.{Evidence}
 use Rattle.script.specs.declared.forms.Form.TheVariants.{Full}
 use Rattle.script.specs.declared.scripts.Script.{Script}
-use Rattle.sender.specs.Turning.{Desk}
+use Rattle.sender.specs.Turning.{AgencyState}
 use Rattle.sender.specs.declared.answers.DrainFault.{DrainFault}
 use Rattle.sender.specs.declared.draining.TheConstants.{MAX_LINK_FAULTS}
 use Rattle.recovery.specs.Opening.{IsFound}
@@ -29,9 +29,10 @@ use Rattle.report.specs.declared.status.Detail.TheVariants as detail
 use Rattle.shop_core.specs.Prefix.{IsPrefix}
 use Rattle.shop_commands.specs.SenderEnds.{DayRunEnds}
 use Rattle.shop_drain.specs.Opening.{IsUnbegun, NotOpened}
+use Rattle.sender_beside.specs.Behind.{DrainsBehind}
 use Rattle.sender_beside.specs.Beside.{SendsBeside, StaysAgreed}
 use Rattle.sender_session.specs.Contradictions.{ShowsLast}
-use Rattle.chain_store.specs.Crashes.{Kept}
+use Rattle.chain_store.specs.Crashes.{SurvivesCrashes}
 use Rattle.shop_drain.specs.Crashes.{StandsSince}
 use Rattle.sender_beside.specs.Days.{Day, Stop, TillReplies, all_replies, torn_of}
 use Rattle.chain_store.specs.Clocks.{LeftClock}
@@ -42,6 +43,7 @@ use Rattle.command_ends.specs.Printed.{answers}
 use Rattle.chain_store.specs.Readings.{readings_of}
 use Rattle.command_ends.specs.Scripts.{ScriptedEnds}
 use Rattle.sender_beside.specs.Tills.{StopIs, TillServed, asks_of, has_asks, own_of, tills_of}
+use Rattle.ports.specs.Causes.{greatest_u64}
 
 -- what is printed of a till: the answers to its asks in line order, and how much it saw
 abbrev pub till_lines : List Asked → TillReplies → List AnswerLine
@@ -58,7 +60,7 @@ pub record Outcome : Type 0 where
   pub end : List Entry
   pub stop : Option Stop
   pub tills : List TillReplies
-  pub opened : Desk
+  pub opened : AgencyState
   pub answer : Result (Unit {0}) DrainFault
 
 -- a day with these asks for this issuer, by this clock line, of which this came
@@ -103,27 +105,29 @@ EachTill d = EachTillOf (tills_of d.asks) d
 -- The file stood for the history at the start. Each crash since its opening began leaves a front of the history at the end, or of
 -- that with the entry of the stop.
 pub record EachCrash {D : Type 0} (d : Day) (k : Disks D) : Type 0 where
-  pub found : IsTrue k.tells → IsFound d.version d.issuer d.start (k.told k.disk).content
+  pub found : IsTrue k.tells → IsFound d.version d.issuer d.start (k.on_disk k.disk).content
   pub stop : StopIs d (k.faults k.disk) (k.faults k.disk_after) d.stop
   pub kept : IsTrue k.tells →
-      Kept (StandsSince d.version d.issuer d.start d.end (torn_of d.stop)) d.version d.issuer d.end (torn_of d.stop) (synced (k.told k.disk))
-      (k.told k.disk_after)
+      SurvivesCrashes (StandsSince (k.on_disk k.disk).content d.version d.issuer d.start d.end (torn_of d.stop)) d.version d.issuer d.end
+      (torn_of d.stop) (synced (k.on_disk k.disk)) (k.on_disk k.disk_after)
 
 -- One session with the agency was opened, with the plan and the pairs noted in the history at the start, and in it one new sender
--- sent. Where shop and agency agreed they still do, also with the history of each file that a crash now leaves.
+-- sent, beside the tills and in one drain behind them. Where shop and agency agreed they still do, also with the history of each
+-- file that a crash now leaves.
 pub record ItsAgency {D G : Type 0} (d : Day) (plan : Plan) (a : Agencies G) (k : Disks D) : Type 0 where
   pub opens : OpensSession d.kind a.begun plan d.start a.before d.opened
   pub sends : SendsBeside d
+  pub behind : DrainsBehind d.kind d.opened d.after d.answer
   pub agreement : IsTrue d.kind.keeps_rules → AgreesAtStart a d.start → StaysAgreed d
-  pub images : IsTrue k.tells → StaysAgreed d → LeavesNow (k.told k.disk_after) (AgreesInFile d.version d.issuer d.after)
+  pub images : IsTrue k.tells → StaysAgreed d → LeavesNow (k.on_disk k.disk_after) (AgreesInFile d.version d.issuer d.after)
 
--- what an end tells of the sender, whose agency was at this desk before the call
-pub record TellsOfSender (d : Day) (before : Desk) (end : Detail) : Type 0 where
+-- what an end tells of the sender, whose agency was in this state before the call
+pub record TellsOfSender (d : Day) (before : AgencyState) (end : Detail) : Type 0 where
   -- it is undelivered only where lines are missing and the agency failed eight times
   pub undelivered : (noted_count records_count : ℕ) → end ≡ detail.Undelivered noted_count records_count →
-      (noted_count < records_count) × (d.after.faults < 2 ^ 64 - 1 → before.faults + MAX_LINK_FAULTS ≤ d.after.faults)
+      (noted_count < records_count) × (d.after.faults < greatest_u64 → before.faults + MAX_LINK_FAULTS ≤ d.after.faults)
   -- where the agency tells its messages it is a contradiction exactly where this call's last one is a consultation that shows it,
-  -- unless memory was wanting or the disk failed
+  -- unless memory ran out or the disk failed
   pub contrary : IsTrue d.kind.tells → (evidence : Evidence) → end ≡ detail.Contradiction evidence →
       ShowsLast d.end d.opened.ledger.messages d.after.ledger.messages evidence
   pub shown : IsTrue d.kind.tells → (evidence : Evidence) →
@@ -135,11 +139,11 @@ pub record EndsAsServed {D C Z G : Type 0} (d : Day) (c : Around D C Z G) (end :
   pub cause : DayRunEnds (all_replies d.tills) d.answer (length (noted d.end)) (length (recs d.end)) (day_text d.asks d.tills d.end)
       c.sink end
   pub sender : TellsOfSender d c.agency.before end
-  -- where no device fails and the agency keeps its rules and agrees, it is done, or memory was wanting
+  -- where no device fails and the agency keeps its rules and agrees, it is done, or memory ran out
   pub complete : NothingRose c.sink c.disk c.agency → IsTrue d.kind.keeps_rules → AgreesAtStart c.agency d.start →
       (end ≡ detail.Done) ⊎ (end ≡ detail.NoMemory)
 
--- the file was opened, and the tills asked beside each other and beside the sender
+-- the file was opened, and the tills asked, and the sender sent, all at the same time
 pub record DayServed {D C Z G : Type 0} (issuer : List ℕ) (script : Script) (line : Option (ℕ × ℕ)) (c : Around D C Z G)
     (end : Detail) : Type 0 where
   pub outcome : Outcome
@@ -156,17 +160,18 @@ pub record NotServed {D C Z G : Type 0} (issuer : List ℕ) (plan : Plan) (c : A
   pub ends : end ≡ detail.NoMemory
   pub version : Version
   pub start : List Entry
-  pub found : IsTrue c.disk.tells → IsFound version issuer start (c.disk.told c.disk.disk).content
+  pub found : IsTrue c.disk.tells → IsFound version issuer start (c.disk.on_disk c.disk.disk).content
   pub kept : IsTrue c.disk.tells →
-      Kept (StandsSince version issuer start start []) version issuer start [] (synced (c.disk.told c.disk.disk)) (c.disk.told c.disk.disk_after)
+      SurvivesCrashes (StandsSince (c.disk.on_disk c.disk.disk).content version issuer start start []) version issuer start []
+      (synced (c.disk.on_disk c.disk.disk)) (c.disk.on_disk c.disk.disk_after)
   pub begun : IsUnbegun c.agency.kind c.agency.before c.agency.after
       ⊎ OpensSession c.agency.kind c.agency.begun plan start c.agency.before c.agency.after
   pub wrote : WroteNothing c.sink
   pub clock : LeftClock c.clock
   pub sleeper : LeftSleeper c.sleeper
 
--- what `day` did with a script by this clock line: nothing for want of memory; the file couldn't be opened; it was opened, and
--- nothing was asked for want of memory; or the tills asked
+-- what `day` did with a script by this clock line: nothing for lack of memory; the file couldn't be opened; it was opened, and
+-- nothing was asked for lack of memory; or the tills asked
 abbrev pub FileDay : {D C Z G : Type 0} → List ℕ → Script → Option (ℕ × ℕ) → Around D C Z G → Detail → Type 0
 FileDay issuer script line c end =
     ((end ≡ detail.NoMemory) × LeftAll c)

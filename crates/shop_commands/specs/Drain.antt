@@ -1,12 +1,12 @@
 -- What a drain leaves of an opened store and of its agency.
-use Rattle.std.specs.Prelude.{ℕ, List, [], length, Bool, ⊤, ◌≡◌, ◌⊎◌, ◌+◌, ◌-◌, ◌^◌, ◌<◌, ◌≤◌, IsTrue, Option, Some, None}
+use Rattle.std.specs.Prelude.{ℕ, List, [], length, Bool, ⊤, ◌≡◌, ◌⊎◌, ◌+◌, ◌<◌, ◌≤◌, IsTrue, Option, Some, None}
 use Rattle.record_fields.specs.declared.versions.Version.{Version}
 use Rattle.ports.specs.Sinks.{Sinks}
 use Rattle.record_codec.specs.declared.entry.Entry.{Entry}
 use Rattle.journal.specs.declared.faults.StoreFault.TheVariants as store
 use Rattle.shop_core.specs.History.{recs, noted}
 use Rattle.agency_rules.specs.declared.plans.Plan.{Plan}
-use Rattle.sender.specs.Turning.{AgencyKind, Desk}
+use Rattle.sender.specs.Turning.{AgencyKind, AgencyState}
 use Rattle.report.specs.Turns.{turns_text}
 use Rattle.report.specs.declared.status.Detail.{Detail}
 use Rattle.chain_store.specs.Crashes.{StandsUpTo}
@@ -27,13 +27,14 @@ use Rattle.shop_drain.specs.Devices.{Agencies, AllDevices, LeftAgency, LeftAll, 
 use Rattle.shop_drain.specs.Devices.{first_moment}
 use Rattle.shop_drain.specs.Opening.{NotOpened}
 use Rattle.command_ends.specs.Scripts.{ScriptedEnds}
+use Rattle.ports.specs.Causes.{greatest_u64}
 
 -- its text: the lines of its turns and the chain line
 abbrev pub drain_text : Outcome → List ℕ
 drain_text o = turns_text o.turns (length (recs o.end)) (length (noted o.end))
 
 -- an opened store with this history was drained, and this is how that ended
-abbrev pub StoreDrainEnds : Beginning → Plan → Version → List ℕ → List Entry → DiskSpan → AgencyKind → Desk → Desk → Bool → ℕ →
+abbrev pub StoreDrainEnds : Beginning → Plan → Version → List ℕ → List Entry → DiskSpan → AgencyKind → AgencyState → AgencyState → Bool → ℕ →
     Sinks → Detail → Type 0
 StoreDrainEnds begun plan version issuer start k kind old new exact moment s end = (o : Outcome)
     × StoreDrains (StandsUpTo version issuer) begun plan version issuer k (spanning start kind old new exact moment o)
@@ -43,8 +44,8 @@ StoreDrainEnds begun plan version issuer start k kind old new exact moment s end
 abbrev pub file_span : {D : Type 0} → Disks D → DiskSpan
 file_span k = record {
   tells = k.tells;
-  since = synced (k.told k.disk);
-  now = k.told k.disk_after;
+  since = synced (k.on_disk k.disk);
+  now = k.on_disk k.disk_after;
   faults = k.faults k.disk;
   faults_after = k.faults k.disk_after;
 }
@@ -60,18 +61,18 @@ pub record FileDrained {D G : Type 0} (issuer : List ℕ) (plan : Plan) (exact :
     (a : Agencies G) (end : Detail) : Type 0 where
   pub version : Version
   pub start : List Entry
-  pub found : IsTrue k.tells → IsFound version issuer start (k.told k.disk).content
+  pub found : IsTrue k.tells → IsFound version issuer start (k.on_disk k.disk).content
   pub outcome : Outcome
   -- what was said, noted and kept
-  pub drains : StoreDrains (StandsSince version issuer) a.begun plan version issuer (file_span k)
+  pub drains : StoreDrains (StandsSince (k.on_disk k.disk).content version issuer) a.begun plan version issuer (file_span k)
       (spanning start a.kind a.before a.after exact moment outcome)
   -- the text, and the end by the answer and the sink
   pub ends : DrainRunEnds outcome.answer (drain_text outcome) s end
   -- it is undelivered only where lines are missing and the agency failed eight times
   pub undelivered : (noted_count records_count : ℕ) → end ≡ detail.Undelivered noted_count records_count →
-      (noted_count < records_count) × (a.after.faults < 2 ^ 64 - 1 →
+      (noted_count < records_count) × (a.after.faults < greatest_u64 →
       a.before.faults + MAX_LINK_FAULTS ≤ a.after.faults)
-  -- where no device fails and the agency keeps its rules and agrees, it is done, or memory was wanting
+  -- where no device fails and the agency keeps its rules and agrees, it is done, or memory ran out
   pub complete : NothingRose s k a → IsTrue a.kind.keeps_rules → AgreesAtStart a start →
       (end ≡ detail.Done) ⊎ (end ≡ detail.NoMemory)
 

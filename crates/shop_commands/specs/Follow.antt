@@ -42,7 +42,7 @@ start_end (cause.OtherIssuer held) = detail.Parted 0
 start_end (cause.OtherVersion held) = detail.Parted 0
 start_end cause.NoMemory = detail.NoMemory
 
--- the end that a copy comes to whose disk fails, or for which memory is wanting
+-- the end that a copy comes to whose disk fails, or for which memory runs out
 abbrev pub fault_end : StoreFault → Detail
 fault_end NoRoom = detail.NoMemory
 fault_end other = detail.DiskFault
@@ -58,19 +58,19 @@ BesideNothing entries s end =
     ((1 ≤ length entries) × (end ≡ detail.Parted 1) × WroteNothing s) ⊎ ((length entries ≡ 0) × CountsPrinted 0 0 s end)
 
 -- The copy stands for the history of the file, and each crash from now on leaves that. It had a front of it before, and was
--- given so many entries, so that it has so many.
+-- given this many entries, so that it has this many.
 pub record HasFollowed {D : Type 0} (file new : Disks D) (kept entries : ℕ) : Type 0 where
   pub version : Version
   pub issuer : List ℕ
   pub history : List Entry
   pub copy : List Entry
-  pub stands : IsTrue file.tells → StandsFor version issuer history (file.told file.disk).content
-  pub found : IsTrue new.tells → IsFound version version issuer copy (new.told new.disk).content
+  pub stands : IsTrue file.tells → StandsFor version issuer history (file.on_disk file.disk).content
+  pub found : IsTrue new.tells → IsFound version version issuer copy (new.on_disk new.disk).content
   pub front : IsPrefix copy history
   pub kept_is : length copy + kept ≡ length history
   pub entries_are : entries ≡ length history
-  pub reads : IsTrue new.tells → StandsFor version issuer history (new.told new.disk_after).content
-  pub every_crash : IsTrue new.tells → LeavesNow (new.told new.disk_after) (StandsFor version issuer history)
+  pub reads : IsTrue new.tells → StandsFor version issuer history (new.on_disk new.disk_after).content
+  pub every_crash : IsTrue new.tells → LeavesNow (new.on_disk new.disk_after) (StandsFor version issuer history)
 
 -- a file without an entry: it isn't begun, or it stands for an empty history
 abbrev pub HasNoEntry : List ℕ → Type 0
@@ -89,22 +89,22 @@ pub data IsParted (file new : List ℕ) : ℕ → Type 0 where
       IsParted file new (at + 1)
 
 -- what became of a copy that was opened beside this history: it has all of it, and each crash from now on leaves that; or it has
--- an entry of its own, or its disk failed, or memory was wanting
+-- an entry of its own, or its disk failed, or memory ran out
 abbrev pub BringsUp : {D : Type 0} → Bool → (D → OnDisk) → (D → ℕ) → Version → List ℕ → List Entry → ChainOnDisk D → D →
     Result ℕ Detail → Type 0
-BringsUp tells told faults version issuer history old disk (Ok kept) =
+BringsUp tells on_disk faults version issuer history old disk (Ok kept) =
     IsPrefix old.history.entries history × (length old.history.entries + kept ≡ length history)
-    × (IsTrue tells → LeavesNow (told disk) (StandsFor version issuer history))
-BringsUp tells told faults version issuer history old disk (Err end) =
+    × (IsTrue tells → LeavesNow (on_disk disk) (StandsFor version issuer history))
+BringsUp tells on_disk faults version issuer history old disk (Err end) =
     ((at : ℕ) × IsFirstApart history old.history.entries at × (end ≡ detail.Parted (at + 1)) × (disk ≡ old.disk))
     ⊎ ((end ≡ detail.DiskFault) × Rose (faults old.disk) (faults disk))
     ⊎ (end ≡ detail.NoMemory)
 
 -- no call of its disk was made; or it is a front of this history, and each crash since leaves one that begins with it
 abbrev pub LeftOrFollowed : {D : Type 0} → Bool → (D → OnDisk) → List Entry → ChainOnDisk D → D → Type 0
-LeftOrFollowed tells told history old disk =
+LeftOrFollowed tells on_disk history old disk =
     (disk ≡ old.disk)
-    ⊎ (IsPrefix old.history.entries history × (IsTrue tells → LeavesOnly (told old.disk) (told disk)
+    ⊎ (IsPrefix old.history.entries history × (IsTrue tells → LeavesOnly (on_disk old.disk) (on_disk disk)
     (StandsBetween old.history.version old.history.issuer old.history.entries history)))
 
 -- a file that isn't damaged
@@ -117,21 +117,21 @@ abbrev pub IsSyncedAtMost : OnDisk → OnDisk → Type 0
 IsSyncedAtMost old new = (new ≡ old) ⊎ (new ≡ synced old)
 
 -- The copy was brought up to the file, and the counts were printed; or there was nothing to follow; or one of the two is damaged,
--- the file first; or the copy isn't of the file; or one of the disks failed, or memory was wanting.
+-- the file first; or the copy isn't of the file; or one of the disks failed, or memory ran out.
 pub data FollowEnds {D : Type 0} (s : Sinks) (file new : Disks D) : Detail → Type 0 where
   followed : (kept entries : ℕ) (end : Detail) → HasFollowed file new kept entries →
       PrintEnds (followed_text kept entries) detail.Done s end → FollowEnds s file new end
-  nothing : (end : Detail) → (IsTrue file.tells → IsNotBegun (file.told file.disk).content) →
-      (IsTrue new.tells → HasNoEntry (new.told new.disk).content) → PrintEnds (followed_text 0 0) detail.Done s end →
+  nothing : (end : Detail) → (IsTrue file.tells → IsNotBegun (file.on_disk file.disk).content) →
+      (IsTrue new.tells → HasNoEntry (new.on_disk new.disk).content) → PrintEnds (followed_text 0 0) detail.Done s end →
       FollowEnds s file new end
-  file_damaged : (at : ℕ) → (IsTrue file.tells → IsDamagedFile (file.told file.disk).content at) → WroteNothing s →
+  file_damaged : (at : ℕ) → (IsTrue file.tells → IsDamagedFile (file.on_disk file.disk).content at) → WroteNothing s →
       FollowEnds s file new (detail.Damaged at)
-  copy_damaged : (at : ℕ) → (IsTrue file.tells → IsUndamaged (file.told file.disk).content) →
-      (IsTrue new.tells → IsDamagedFile (new.told new.disk).content at) → WroteNothing s →
+  copy_damaged : (at : ℕ) → (IsTrue file.tells → IsUndamaged (file.on_disk file.disk).content) →
+      (IsTrue new.tells → IsDamagedFile (new.on_disk new.disk).content at) → WroteNothing s →
       FollowEnds s file new (detail.Damaged at)
   parted : (entry : ℕ) →
-      (IsTrue file.tells → IsTrue new.tells → IsParted (file.told file.disk).content (new.told new.disk).content entry) →
-      (IsTrue new.tells → IsSyncedAtMost (new.told new.disk) (new.told new.disk_after)) → WroteNothing s →
+      (IsTrue file.tells → IsTrue new.tells → IsParted (file.on_disk file.disk).content (new.on_disk new.disk).content entry) →
+      (IsTrue new.tells → IsSyncedAtMost (new.on_disk new.disk) (new.on_disk new.disk_after)) → WroteNothing s →
       FollowEnds s file new (detail.Parted entry)
   disk_fault : DiskRose file ⊎ DiskRose new → WroteNothing s → FollowEnds s file new detail.DiskFault
   no_memory : WroteNothing s → FollowEnds s file new detail.NoMemory
@@ -146,13 +146,13 @@ pub data IsFollowImage (version : Version) (issuer : List ℕ) (history : List E
 
 -- What is left of the copy. Where the file isn't begun nothing is written; else each crash since the start leaves such an image.
 pub record OnlyFollowed {D : Type 0} (file new : Disks D) : Type 0 where
-  pub nothing : IsTrue file.tells → IsTrue new.tells → IsNotBegun (file.told file.disk).content →
-      new.told new.disk_after ≡ new.told new.disk
-  pub damaged : (at : ℕ) → IsTrue file.tells → IsTrue new.tells → IsDamagedFile (file.told file.disk).content at →
-      new.told new.disk_after ≡ new.told new.disk
+  pub nothing : IsTrue file.tells → IsTrue new.tells → IsNotBegun (file.on_disk file.disk).content →
+      new.on_disk new.disk_after ≡ new.on_disk new.disk
+  pub damaged : (at : ℕ) → IsTrue file.tells → IsTrue new.tells → IsDamagedFile (file.on_disk file.disk).content at →
+      new.on_disk new.disk_after ≡ new.on_disk new.disk
   pub images : (version : Version) (issuer : List ℕ) (history : List Entry) → IsTrue file.tells → IsTrue new.tells →
-      StandsFor version issuer history (file.told file.disk).content →
-      LeavesOnly (new.told new.disk) (new.told new.disk_after) (IsFollowImage version issuer history (new.told new.disk))
+      StandsFor version issuer history (file.on_disk file.disk).content →
+      LeavesOnly (new.on_disk new.disk) (new.on_disk new.disk_after) (IsFollowImage version issuer history (new.on_disk new.disk))
 
 -- the one further file is what following may leave of it
 pub record OnlyFollows {D C Z G : Type 0} (k : Disks D) (f : Further D C Z G) : Type 0 where

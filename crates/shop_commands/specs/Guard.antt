@@ -1,5 +1,5 @@
 -- How `guard` ends, and what it leaves of the file and of its copy.
-use Rattle.std.specs.Prelude.{◌≡◌, ◌⊎◌, ℕ, ◌+◌, ◌-◌, ◌^◌, ◌<◌, ◌≤◌, ◌++◌, List, length, Bool, IsTrue, IsSome, None}
+use Rattle.std.specs.Prelude.{◌≡◌, ◌⊎◌, ℕ, ◌+◌, ◌<◌, ◌≤◌, ◌++◌, List, length, Bool, IsTrue, IsSome, None}
 use Rattle.agency_port.specs.declared.turns.Told.{Told as TurnLine}
 use Rattle.agency_rules.specs.declared.plans.Plan.{Plan}
 use Rattle.chain_disk.specs.Disks.{DiskRose, Disks, LeftDisk}
@@ -21,7 +21,7 @@ use Rattle.shop_core.specs.History.{noted, recs}
 use Rattle.shop_core.specs.Prefix.{IsPrefix}
 use Rattle.standby.specs.Catching.{IsFirstApart}
 use Rattle.standby.specs.Chains.{ChainOnDisk}
-use Rattle.shop_drain.specs.Crashes.{StandsSince}
+use Rattle.shop_drain.specs.Crashes.{IsFoundSince, StandsSince}
 use Rattle.shop_drain.specs.Devices.{Agencies, AllDevices, LeftAll, LeftSleeper, Sleepers, around, first_moment, tells_moment}
 use Rattle.shop_commands.specs.Further.{Further}
 use Rattle.shop_drain.specs.Draining.{AgreesAtStart, DiskSpan, Outcome, spanning}
@@ -33,6 +33,7 @@ use Rattle.shop_commands.specs.Migrate.{OnePost, disk_of_post}
 use Rattle.shop_drain.specs.Opening.{NotOpened}
 use Rattle.command_ends.specs.Scripts.{ScriptedEnds}
 use Rattle.shop_drain.specs.declared.posts.Post.{Post}
+use Rattle.ports.specs.Causes.{greatest_u64}
 
 -- What a crash at a moment of a run leaves of the copy: what it left at the start, or a file that stands for a front of the history
 -- at the end, with the torn notes, which begins with what the copy had.
@@ -43,24 +44,24 @@ GuardImage version issuer first start end torn file = IsFollowImage version issu
 abbrev pub whole_span : {D : Type 0} → Disks D → DiskSpan
 whole_span l = record {
   tells = l.tells;
-  since = l.told l.disk;
-  now = l.told l.disk_after;
+  since = l.on_disk l.disk;
+  now = l.on_disk l.disk_after;
   faults = l.faults l.disk;
   faults_after = l.faults l.disk_after;
 }
 
 -- The copy has the whole history of the file. It had a front of it, and each crash since the start leaves what following may leave.
-pub record IsCopied {D : Type 0} (tells : Bool) (told : D → OnDisk) (faults : D → ℕ) (version : Version) (issuer : List ℕ)
+pub record IsCopied {D : Type 0} (tells : Bool) (on_disk : D → OnDisk) (faults : D → ℕ) (version : Version) (issuer : List ℕ)
     (history : List Entry) (disk : D) (standby : ChainOnDisk D) : Type 0 where
   pub copy : List Entry
-  pub found : IsTrue tells → IsCopyFound version version issuer copy (told disk).content
+  pub found : IsTrue tells → IsCopyFound version version issuer copy (on_disk disk).content
   pub front : IsPrefix copy history
   pub issuer_is : standby.history.issuer ≡ issuer
   pub version_is : standby.history.version ≡ version
   pub entries_are : standby.history.entries ≡ history
   pub going_on : standby.stopped ≡ None
   pub any_moment : IsTrue tells →
-      LeavesOnly (told disk) (told standby.disk) (IsFollowImage version issuer history (told disk))
+      LeavesOnly (on_disk disk) (on_disk standby.disk) (IsFollowImage version issuer history (on_disk disk))
   pub later : faults disk ≤ faults standby.disk
 
 -- How a sound copy isn't of the history that the file stands for: issuer or version differ (0); or it has an entry, of this number
@@ -73,11 +74,11 @@ pub data IsPartedFrom (version : Version) (issuer : List ℕ) (history : List En
 
 -- why the copy wasn't brought up to this history
 pub data IsUncopied {D : Type 0} (version : Version) (issuer : List ℕ) (history : List Entry) (l : Disks D) : Detail → Type 0 where
-  damaged : (at : ℕ) → (IsTrue l.tells → IsDamagedFile (l.told l.disk).content at) →
-      (IsTrue l.tells → IsSyncedAtMost (l.told l.disk) (l.told l.disk_after)) →
+  damaged : (at : ℕ) → (IsTrue l.tells → IsDamagedFile (l.on_disk l.disk).content at) →
+      (IsTrue l.tells → IsSyncedAtMost (l.on_disk l.disk) (l.on_disk l.disk_after)) →
       IsUncopied version issuer history l (detail.Damaged at)
-  parted : (entry : ℕ) → (IsTrue l.tells → IsPartedFrom version issuer history (l.told l.disk).content entry) →
-      (IsTrue l.tells → IsSyncedAtMost (l.told l.disk) (l.told l.disk_after)) →
+  parted : (entry : ℕ) → (IsTrue l.tells → IsPartedFrom version issuer history (l.on_disk l.disk).content entry) →
+      (IsTrue l.tells → IsSyncedAtMost (l.on_disk l.disk) (l.on_disk l.disk_after)) →
       IsUncopied version issuer history l (detail.Parted entry)
   disk_fault : DiskRose l → IsUncopied version issuer history l detail.DiskFault
   no_memory : IsUncopied version issuer history l detail.NoMemory
@@ -87,7 +88,7 @@ pub record LeftUncopied {D : Type 0} (version : Version) (issuer : List ℕ) (hi
     Type 0 where
   pub why : IsUncopied version issuer history l end
   pub images : IsTrue l.tells →
-      LeavesOnly (l.told l.disk) (l.told l.disk_after) (IsFollowImage version issuer history (l.told l.disk))
+      LeavesOnly (l.on_disk l.disk) (l.on_disk l.disk_after) (IsFollowImage version issuer history (l.on_disk l.disk))
   pub later : l.faults l.disk ≤ l.faults l.disk_after
 
 -- The file was opened, its copy wasn't brought up to it, nothing was printed, and the rest wasn't touched. The file stands for the
@@ -95,11 +96,11 @@ pub record LeftUncopied {D : Type 0} (version : Version) (issuer : List ℕ) (hi
 pub record NotCopied {D : Type 0} (issuer : List ℕ) (left : Type 0) (s : Sinks) (k l : Disks D) (end : Detail) : Type 0 where
   pub version : Version
   pub start : List Entry
-  pub found : IsTrue k.tells → IsFound version issuer start (k.told k.disk).content
+  pub found : IsTrue k.tells → IsFound version issuer start (k.on_disk k.disk).content
   pub any_moment : IsTrue k.tells →
-      LeavesOnly (synced (k.told k.disk)) (k.told k.disk_after) (IsFound version issuer start)
-  pub every_crash : IsTrue k.tells → LeavesNow (k.told k.disk_after) (StandsFor version issuer start)
-  pub reads : IsTrue k.tells → StandsFor version issuer start (k.told k.disk_after).content
+      LeavesOnly (synced (k.on_disk k.disk)) (k.on_disk k.disk_after) (IsFoundSince (k.on_disk k.disk).content version issuer start)
+  pub every_crash : IsTrue k.tells → LeavesNow (k.on_disk k.disk_after) (StandsFor version issuer start)
+  pub reads : IsTrue k.tells → StandsFor version issuer start (k.on_disk k.disk_after).content
   pub later : k.faults k.disk ≤ k.faults k.disk_after
   pub copy : LeftUncopied version issuer start l end
   pub wrote : WroteNothing s
@@ -114,24 +115,25 @@ pub record FileGuarded {D G : Type 0} (issuer : List ℕ) (plan : Plan) (exact :
     (a : Agencies G) (end : Detail) : Type 0 where
   pub version : Version
   pub start : List Entry
-  pub found : IsTrue k.tells → IsFound version issuer start (k.told k.disk).content
+  pub found : IsTrue k.tells → IsFound version issuer start (k.on_disk k.disk).content
   -- what the copy had
   pub copy : List Entry
-  pub copy_found : IsTrue l.tells → IsCopyFound version version issuer copy (l.told l.disk).content
+  pub copy_found : IsTrue l.tells → IsCopyFound version version issuer copy (l.on_disk l.disk).content
   pub front : IsPrefix copy start
   -- what both hold, what the file has and what the copy has at the end
   pub outcome : Outcome
   pub file_held : Held
   pub copy_held : Held
   -- what was said, noted and kept
-  pub drains : GuardDrains (StandsSince version issuer) (GuardImage version issuer (l.told l.disk)) a.begun plan version issuer
+  pub drains : GuardDrains (StandsSince (k.on_disk k.disk).content version issuer) (GuardImage version issuer (l.on_disk l.disk))
+      a.begun plan version issuer
       (file_span k) (whole_span l) (spanning start a.kind a.before a.after exact moment outcome) file_held copy_held
   -- the text, and the end by the answer and the sink
   pub ends : DrainRunEnds outcome.answer (guard_text outcome.turns file_held) s end
   -- it is undelivered only where lines are missing and the agency failed eight times
   pub undelivered : (noted_count records_count : ℕ) → end ≡ detail.Undelivered noted_count records_count →
-      (noted_count < records_count) × (a.after.faults < 2 ^ 64 - 1 → a.before.faults + MAX_LINK_FAULTS ≤ a.after.faults)
-  -- where no device fails and the agency keeps its rules and agrees, it is done, or memory was wanting
+      (noted_count < records_count) × (a.after.faults < greatest_u64 → a.before.faults + MAX_LINK_FAULTS ≤ a.after.faults)
+  -- where no device fails and the agency keeps its rules and agrees, it is done, or memory ran out
   pub complete : NothingRose s k a → (DiskRose l → ⊥) → IsTrue a.kind.keeps_rules → AgreesAtStart a start →
       (end ≡ detail.Done) ⊎ (end ≡ detail.NoMemory)
 

@@ -4,7 +4,7 @@ use Rattle.chain_disk.specs.Disks.{Disks, this_disk}
 use Rattle.chain_disk.specs.OnDisk.{LeavesNow}
 use Rattle.ports.specs.Sinks.{Sinks, WroteNothing}
 use Rattle.recovery.specs.Causes.{IsMoveCause}
-use Rattle.recovery.specs.Moving.{HasCounts, IsMoved, Moves}
+use Rattle.recovery.specs.Moving.{HasCounts, IsMoved, KeptUnlessFree, MayBeMoved, Moves}
 use Rattle.recovery.specs.declared.moving.MoveCause.{MoveCause}
 use Rattle.recovery.specs.declared.moving.MoveCause.TheVariants as cause
 use Rattle.report.specs.Moves.{migrated_text}
@@ -24,12 +24,14 @@ move_end cause.OldFault = detail.DiskFault
 move_end cause.NewFault = detail.DiskFault
 move_end cause.NoMemory = detail.NoMemory
 
--- The new file stands for the history of the old one, each crash from now on leaves that, and these are its counts.
+-- The old file could be moved onto the new one. That stands for the history of the old one now, each crash from now on leaves
+-- that, and these are its counts.
 pub record HasMoved {D : Type 0} (old new : Disks D) (records noted : ℕ) : Type 0 where
-  pub counts : IsTrue old.tells → HasCounts (old.told old.disk).content records noted
+  pub free : IsTrue old.tells → IsTrue new.tells → MayBeMoved (old.on_disk old.disk).content (new.on_disk new.disk).content
+  pub counts : IsTrue old.tells → HasCounts (old.on_disk old.disk).content records noted
   pub every_crash : IsTrue old.tells → IsTrue new.tells →
-      LeavesNow (new.told new.disk_after) (IsMoved (old.told old.disk).content)
-  pub reads : IsTrue old.tells → IsTrue new.tells → IsMoved (old.told old.disk).content (new.told new.disk_after).content
+      LeavesNow (new.on_disk new.disk_after) (IsMoved (old.on_disk old.disk).content)
+  pub reads : IsTrue old.tells → IsTrue new.tells → IsMoved (old.on_disk old.disk).content (new.on_disk new.disk_after).content
 
 -- the history was moved, and its counts were printed; or it wasn't moved, for this cause
 pub data MigrateEnds {D : Type 0} (s : Sinks) (old new : Disks D) : Detail → Type 0 where
@@ -38,14 +40,17 @@ pub data MigrateEnds {D : Type 0} (s : Sinks) (old new : Disks D) : Detail → T
   untold : (records noted : ℕ) → HasMoved old new records noted → WroteNothing s → MigrateEnds s old new detail.NoMemory
   not_moved : (why : MoveCause) → IsMoveCause old new why → WroteNothing s → MigrateEnds s old new (move_end why)
 
--- each crash since the start leaves of the new file what a migration may leave
-abbrev pub OnlyMoved : {D : Type 0} → Disks D → Disks D → Type 0
-OnlyMoved old new = IsTrue old.tells → IsTrue new.tells →
-    Moves (old.told old.disk).content (new.told new.disk) (new.told new.disk_after)
+-- Each crash since the start leaves of the new file what a migration may leave. Where the old file can't be moved onto it, it was
+-- synced at most.
+pub record OnlyMoved {D : Type 0} (old new : Disks D) : Type 0 where
+  pub images : IsTrue old.tells → IsTrue new.tells →
+      Moves (old.on_disk old.disk).content (new.on_disk new.disk) (new.on_disk new.disk_after)
+  pub kept : IsTrue old.tells → IsTrue new.tells →
+      KeptUnlessFree (old.on_disk old.disk).content (new.on_disk new.disk) (new.on_disk new.disk_after)
 
 -- this post's disk, by what its kind tells as that of the first file does
 abbrev pub disk_of_post : {D C Z G : Type 0} → Disks D → Post D C Z G → Post D C Z G → Disks D
-disk_of_post k old new = this_disk k.tells k.told k.faults old.disk new.disk
+disk_of_post k old new = this_disk k.tells k.on_disk k.faults old.disk new.disk
 
 -- there is one further post, and nothing of it but its disk was touched
 pub record OnePost {D C Z G : Type 0} (f : Further D C Z G) (post after : Post D C Z G) : Type 0 where

@@ -18,7 +18,7 @@ sender_end noted_count records_count (drain.Undelivered n r) = detail.Undelivere
 sender_end noted_count records_count fault = fault_end fault
 
 -- How a day ends, by what its tills and its sender were told, by the two counts of its history, and by what the sink took of its
--- text: want of memory before a fault of the disk, that before a contradiction and an undelivered drain, and these before a fault
+-- text: lack of memory before a fault of the disk, that before a contradiction and an undelivered drain, and these before a fault
 -- of the sink. It is done only where all records have noted lines, and an undelivered drain tells the two counts.
 pub data DayRunEnds (replies : Replies) (answer : Result (Unit {0}) DrainFault) (noted_count records_count : ℕ) (text : List ℕ)
     (s : Sinks) : Detail → Type 0 where

@@ -6,9 +6,9 @@ use Rattle.agency_port.specs.declared.turns.Evidence.{Evidence}
 use Rattle.agency_rules.specs.Plans.{plain}
 use Rattle.chain_disk.specs.Disks.{DiskRose}
 use Rattle.chain_store.specs.Replies.{AllReplied, Replies, is_disk_fault, is_no_memory}
-use Rattle.counter.specs.Speech.{FailedAtLast, TookToLast}
-use Rattle.counter.specs.declared.speaking.SpeechEnd.{SpeechEnd}
-use Rattle.counter.specs.declared.speaking.SpeechEnd.TheVariants as speech
+use Rattle.dialogue_loop.specs.Speech.{FailedAtLast, TookToLast}
+use Rattle.dialogue_loop.specs.declared.speaking.SpeechEnd.{SpeechEnd}
+use Rattle.dialogue_loop.specs.declared.speaking.SpeechEnd.TheVariants as speech
 use Rattle.dialogue.specs.Protocol.{written_for}
 use Rattle.ports.specs.Sinks.{Sinks, Wrote}
 use Rattle.ports.specs.Sources.{SourceRose, Sources}
@@ -30,10 +30,10 @@ use Rattle.shop_drain.specs.Draining.{AgreesAtStart}
 use Rattle.shop_commands.specs.Drain.{AllLeft, LeavesTime, NothingRose}
 use Rattle.sender_session.specs.Session.{IsDiskAnswer}
 use Rattle.shop_drain.specs.Opening.{NotOpened}
-use Rattle.shop_dialogue.specs.Talking.{IsSpeech, Speech}
+use Rattle.shop_dialogue.specs.Dialogues.{IsSpeech, Speech}
 use Rattle.shop_drain.specs.declared.posts.Post.{Post}
 
--- what is printed: the answers, one after another, and the chain line behind a source that was read to its end
+-- what is printed: the answers, one after another, and the chain line after a source that was read to its end
 abbrev pub printed : SpeechEnd → List (List ℕ) → List ℕ → List (List ℕ)
 printed speech.Ended answers chain = answers ++ chain ∷ []
 printed speech.ReadFault answers chain = answers
@@ -41,7 +41,7 @@ printed speech.WriteFault answers chain = answers
 printed speech.NoMemory answers chain = answers
 printed speech.Stopped answers chain = answers
 
--- how it ends once the chain line is written, which comes behind the end of the source alone
+-- how it ends once the chain line is written, which comes after the end of the source alone
 abbrev pub Closes : SpeechEnd → SpeechEnd → Type 0
 Closes speech.Ended speech.Ended = Unit {0}
 Closes speech.Ended speech.WriteFault = Unit {0}
@@ -91,25 +91,26 @@ pub data SpeechEnds (how : SpeechEnd) (replies : Replies) (answer : Result (Unit
 
 -- how it ends, for this day of the shop
 pub record EndsAsSpoken {D C Z G : Type 0} (d : Day) (x : Speech) (s : Sources) (c : Around D C Z G) (end : Detail) : Type 0 where
-  pub cause : SpeechEnds x.how x.replies d.answer (length (noted d.end)) (length (recs d.end))
-      (printed x.how x.answers (chain_line (length (recs d.end)) (length (noted d.end)))) s c.sink end
+  pub cause : SpeechEnds x.how x.said.replies d.answer (length (noted d.end)) (length (recs d.end))
+      (printed x.how x.said.answers (chain_line (length (recs d.end)) (length (noted d.end)))) s c.sink end
   pub sender : TellsOfSender d c.agency.before end
-  -- where no device fails and the agency keeps its rules and agrees, it is done, or memory was wanting
+  -- where no device fails and the agency keeps its rules and agrees, it is done, or memory ran out
   pub complete : (SourceRose s → ⊥) → NothingRose c.sink c.disk c.agency → IsTrue d.kind.keeps_rules →
       AgreesAtStart c.agency d.start → (end ≡ detail.Done) ⊎ (end ≡ detail.NoMemory)
 
 -- The file was opened, and the lines were answered one by one beside the sender, with this clock line among them: all tills of the
--- shop asked for the commands among the lines, each for its own.
+-- shop asked for the commands among the lines, each for its own, and each question among them was answered at a history between that
+-- at the start and that at the end.
 pub record SpeechServed {D C Z G : Type 0} (issuer : List ℕ) (line clock : Option (ℕ × ℕ)) (s : Sources) (c : Around D C Z G)
     (end : Detail) : Type 0 where
   pub speech : Speech
   pub outcome : Outcome
-  pub spoken : IsSpeech clock s outcome.tills speech
-  pub history : HistoryGoesOn (day_with issuer speech.asks line c outcome)
-  pub tills : EachTillOf (range_with_len 1 LAST_TILL) (day_with issuer speech.asks line c outcome)
-  pub crashes : EachCrash (day_with issuer speech.asks line c outcome) c.disk
-  pub agency : ItsAgency (day_with issuer speech.asks line c outcome) plain c.agency c.disk
-  pub ends : EndsAsSpoken (day_with issuer speech.asks line c outcome) speech s c end
+  pub spoken : IsSpeech clock outcome.start outcome.end s outcome.tills speech
+  pub history : HistoryGoesOn (day_with issuer speech.said.asks line c outcome)
+  pub tills : EachTillOf (range_with_len 1 LAST_TILL) (day_with issuer speech.said.asks line c outcome)
+  pub crashes : EachCrash (day_with issuer speech.said.asks line c outcome) c.disk
+  pub agency : ItsAgency (day_with issuer speech.said.asks line c outcome) plain c.agency c.disk
+  pub ends : EndsAsSpoken (day_with issuer speech.said.asks line c outcome) speech s c end
   pub time : LeavesTime line c.clock c.sleeper
 
 -- the file was opened, and there was no memory for the shop: lines were passed over, and none was answered

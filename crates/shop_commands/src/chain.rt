@@ -1,4 +1,4 @@
-// The command `chain`: reads a script, opens the file, runs the commands on its history, and prints the replies and the chain.
+//! The command `chain`: reads a script, opens the file, runs the commands on its history, and prints the replies and the chain.
 ghost use Rattle.std.specs.Prelude.{◌≡◌, ◌≤◌, [], None, List, length, vec_capacity};
 ghost use Rattle.ports.specs.Sinks.{this_sink};
 ghost use Rattle.ports.specs.Sources.{this_source};
@@ -22,7 +22,7 @@ use ports::{Clock, CountingClock, Sink, Source};
 use recovery::open_store;
 use report::{Detail, Ended};
 use script::{Form, Script};
-use shop_core::{Ask, Reply};
+use shop_core::{Ask, Reply, a_file_has_one_meaning};
 use shop_drain::opening_end;
 use std::alloc::Global;
 
@@ -41,7 +41,7 @@ pub fn chain_cmd<S: Source, K: Sink, D: Disk, C: Clock>(
     ensures ends { ChainEnds issuer.now (record {
       source = this_source S.left S.faults source.old source.new;
       sink = this_sink K.taken K.faults sink.old sink.new;
-      disk = this_disk D.tells D.told D.faults disk result.1;
+      disk = this_disk D.tells D.on_disk D.faults disk result.1;
       clock = this_clock C.coming clock result.2;
     }) result.0.detail }
 {
@@ -64,7 +64,7 @@ fn run_script<K: Sink, D: Disk, C: Clock>(
 ) -> (Detail, D, C)
     ensures { ScriptEnds issuer.now script.now.asks (readings_of script.now.clock (C.coming clock))
         (LeavesClock (this_clock C.coming clock result.2) script.now.clock)
-        (this_sink K.taken K.faults sink.old sink.new) (this_disk D.tells D.told D.faults disk result.1) result.0 }
+        (this_sink K.taken K.faults sink.old sink.new) (this_disk D.tells D.on_disk D.faults disk result.1) result.0 }
 {
     match script.clock {
         Some((start, step)) => {
@@ -94,12 +94,13 @@ fn run_asks<K: Sink, D: Disk, C: Clock>(
 ) -> (Detail, D, C)
     ensures { ScriptEnds issuer.now asks.now (C.coming clock)
         (λ replies. IsAsked (this_clock C.coming clock result.2) (readings replies))
-        (this_sink K.taken K.faults sink.old sink.new) (this_disk D.tells D.told D.faults disk result.1) result.0 }
+        (this_sink K.taken K.faults sink.old sink.new) (this_disk D.tells D.on_disk D.faults disk result.1) result.0 }
 {
     let mut replies = Vec::new(alloc);
     if replies.reserve(asks.len()).is_err() {
         return (Detail::NoMemory, disk, clock);
     }
+    a_file_has_one_meaning();
     match open_store(alloc, disk, clock, issuer) {
         Err(fault) => (opening_end(&fault.cause), fault.disk, fault.clock),
         Ok(store) => run_opened(alloc, asks, sink, store, replies),
@@ -114,7 +115,7 @@ fn run_opened<K: Sink, D: Disk, C: Clock>(
     store: Store<D, C>,
     replies: Vec<Result<Reply, StoreFault>>,
 ) -> (Detail, D, C)
-    requires ready { Ready D.tells D.told store }
+    requires ready { Ready D.tells D.on_disk store }
     requires going_on { stopped_of (journal_of store) ≡ None }
     requires none { replies.items ≡ [] }
     requires room { length asks.now ≤ vec_capacity replies }
@@ -124,11 +125,11 @@ fn run_opened<K: Sink, D: Disk, C: Clock>(
       start = (state_of store).entries;
       end = end;
       tells = D.tells;
-      since = D.told (disk_of (journal_of store));
-      now = D.told result.1;
+      since = D.on_disk (disk_of (journal_of store));
+      now = D.on_disk result.1;
       faults = D.faults (disk_of (journal_of store));
       faults_after = D.faults result.1;
-      disk = this_disk D.tells D.told D.faults (disk_of (journal_of store)) result.1;
+      disk = this_disk D.tells D.on_disk D.faults (disk_of (journal_of store)) result.1;
       clock = this_clock C.coming (clock_of store) result.2;
     }) (this_sink K.taken K.faults sink.old sink.new) result.0 }
 {
@@ -153,12 +154,12 @@ fn play<K: Sink, D: Disk, C: Clock>(
     store: &mut Store<D, C>,
     replies: Vec<Result<Reply, StoreFault>>,
 ) -> Detail
-    requires ready { Ready D.tells D.told store.old }
+    requires ready { Ready D.tells D.on_disk store.old }
     requires going_on { stopped_of (journal_of store.old) ≡ None }
     requires none { replies.items ≡ [] }
     requires room { length asks.now ≤ vec_capacity replies }
     ensures issuer { (state_of store.new).issuer ≡ (state_of store.old).issuer }
-    ensures end { StoreEnds asks.now (this_store D.tells D.told D.faults C.coming store.old store.new)
+    ensures end { StoreEnds asks.now (this_store D.tells D.on_disk D.faults C.coming store.old store.new)
         (this_sink K.taken K.faults sink.old sink.new) result }
 {
     let mut replies = replies;

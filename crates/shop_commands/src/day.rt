@@ -1,5 +1,5 @@
-// The command `day`: reads a script, opens the file, begins the agency's session, runs the script's tills beside each other on
-// the history that the file holds with a sender beside them, drains, and prints what each till was told and the chain.
+//! The command `day`: reads a script, opens the file, begins the agency's session, runs the script's tills at the same time on
+//! the history that the file holds with a sender for them, drains, and prints what each till was told and the chain.
 ghost use Rattle.std.specs.Prelude.{◌≡◌, ◌++◌, ◌∷◌, ℕ, List, map, flat_map, length, IfOk, OnOk, None};
 ghost use Rattle.std.specs.List.{list_any};
 ghost use Rattle.ports.specs.Sinks.{OutputIs, Sinks, this_sink};
@@ -16,7 +16,7 @@ ghost use Rattle.command_ends.specs.Printed.{answers};
 ghost use Rattle.chain_store.specs.Replies as reply;
 ghost use Rattle.sender_beside.specs.Days.{all_replies};
 ghost use Rattle.sender_beside.specs.Tills.{asks_of};
-ghost use Rattle.shop_day.specs.Jobs.{told_in};
+ghost use Rattle.shop_day.specs.TillJobs.{told_in};
 
 use agency_port::Agency;
 use chain_disk::Disk;
@@ -41,7 +41,7 @@ use std::sync::Wait;
 use std::thread::Threads;
 
 /// Reads a script from the source, opens the disk for this issuer, and opens the agency's session once with the script's plan
-/// and the pairs noted in the file. Then it runs the script's tills beside each other on the history that the file holds, each
+/// and the pairs noted in the file. Then it runs the script's tills at the same time on the history that the file holds, each
 /// for its own commands in line order and in a thread of its own, with the gate asked ahead of each command and after it. Beside
 /// them a sender sends the records that wait, and the gate is told of each turn that noted lines. Once the tills have ended the
 /// same sender drains, unless a fault had ended its turns. At last it prints what each till was told, in order of number, and
@@ -140,6 +140,7 @@ where
                     opened,
                     tills,
                     answer,
+                    ..
                 } = run_day(means, asks, room, begun);
                 let detail = print_day(
                     means.alloc,
@@ -176,7 +177,7 @@ fn print_day<K: Sink>(
     day_end(tills, answer, state.noted(), state.records(), written)
 }
 
-// Adds the answer to this ask, where it is one of the till, and gives the replies behind it.
+// Adds the answer to this ask, where it is one of the till, and gives the replies after it.
 fn put_own<'a>(
     till: u8,
     ask: &Ask,
@@ -267,7 +268,7 @@ pub(crate) fn sender_end(fault: DrainFault, noted: u32, records: u32) -> Detail
     }
 }
 
-// The end of a day with these answers of its tills and of its sender, whose text was written or not: want of memory before a
+// The end of a day with these answers of its tills and of its sender, whose text was written or not: lack of memory before a
 // fault of the disk, that before a contradiction and an undelivered drain, and these before a fault of the sink. An undelivered
 // drain is told with the two counts of the history that the day left.
 fn day_end(

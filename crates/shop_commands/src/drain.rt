@@ -1,5 +1,5 @@
-// The command `drain`: reads a script without commands, opens the file, sends the records that wait to the agency, and prints a
-// line a turn and the chain line.
+//! The command `drain`: reads a script without commands, opens the file, sends the records that wait to the agency, and prints a
+//! line a turn and the chain line.
 ghost use Rattle.std.specs.Prelude.{◌≡◌};
 ghost use Rattle.ports.specs.Sinks.{this_sink};
 ghost use Rattle.ports.specs.Sources.{this_source};

@@ -1,4 +1,4 @@
-// The command `follow`: brings a copy on a second file up to the first one.
+//! The command `follow`: brings a copy on a second file up to the first one.
 ghost use Rattle.std.specs.Prelude.{◌≡◌, IsTrue};
 ghost use Rattle.chain_disk.specs.Disks.{Disks, this_disk};
 ghost use Rattle.chain_disk.specs.OnDisk.{LeavesOnly};
@@ -29,10 +29,10 @@ pub fn follow_cmd<K: Sink, D: Disk>(
 ) -> (Ended, D, D)
     ensures status { result.0.status ≡ status_of result.0.detail }
     ensures ends { FollowEnds (this_sink K.taken K.faults sink.old sink.new)
-        (this_disk D.tells D.told D.faults shop result.1) (this_disk D.tells D.told D.faults standby result.2) result.0.detail }
-    ensures follows { OnlyFollowed (this_disk D.tells D.told D.faults shop result.1)
-        (this_disk D.tells D.told D.faults standby result.2) }
-    ensures same { D.told result.1 ≡ D.told shop }
+        (this_disk D.tells D.on_disk D.faults shop result.1) (this_disk D.tells D.on_disk D.faults standby result.2) result.0.detail }
+    ensures follows { OnlyFollowed (this_disk D.tells D.on_disk D.faults shop result.1)
+        (this_disk D.tells D.on_disk D.faults standby result.2) }
+    ensures same { D.on_disk result.1 ≡ D.on_disk shop }
 {
     let mut shop = shop;
     let (detail, standby) = follow_file(alloc, sink, &mut shop, standby);
@@ -42,10 +42,10 @@ pub fn follow_cmd<K: Sink, D: Disk>(
 // Loads the file, and brings the copy up to it.
 fn follow_file<K: Sink, D: Disk>(alloc: Global, sink: &mut K, shop: &mut D, copy: D) -> (Detail, D)
     ensures ends { FollowEnds (this_sink K.taken K.faults sink.old sink.new)
-        (this_disk D.tells D.told D.faults shop.old shop.new) (this_disk D.tells D.told D.faults copy result.1) result.0 }
-    ensures follows { OnlyFollowed (this_disk D.tells D.told D.faults shop.old shop.new)
-        (this_disk D.tells D.told D.faults copy result.1) }
-    ensures same { D.told shop.new ≡ D.told shop.old }
+        (this_disk D.tells D.on_disk D.faults shop.old shop.new) (this_disk D.tells D.on_disk D.faults copy result.1) result.0 }
+    ensures follows { OnlyFollowed (this_disk D.tells D.on_disk D.faults shop.old shop.new)
+        (this_disk D.tells D.on_disk D.faults copy result.1) }
+    ensures same { D.on_disk shop.new ≡ D.on_disk shop.old }
 {
     a_file_has_one_meaning();
     match load(alloc, shop) {
@@ -101,9 +101,9 @@ fn print_counts<K: Sink>(alloc: Global, sink: &mut K, kept: u64, entries: u64) -
 
 // Beside a file that isn't begun a copy has no entry. It is only read.
 fn follow_nothing<K: Sink, D: Disk>(alloc: Global, sink: &mut K, copy: D) -> (Detail, D)
-    ensures ends { (file : Disks D) → (IsTrue file.tells → IsNotBegun (file.told file.disk).content) →
-        FollowEnds (this_sink K.taken K.faults sink.old sink.new) file (this_disk D.tells D.told D.faults copy result.1) result.0 }
-    ensures same { D.told result.1 ≡ D.told copy }
+    ensures ends { (file : Disks D) → (IsTrue file.tells → IsNotBegun (file.on_disk file.disk).content) →
+        FollowEnds (this_sink K.taken K.faults sink.old sink.new) file (this_disk D.tells D.on_disk D.faults copy result.1) result.0 }
+    ensures same { D.on_disk result.1 ≡ D.on_disk copy }
 {
     let mut copy = copy;
     match load(alloc, &mut copy) {
@@ -132,10 +132,10 @@ fn follow_state<K: Sink, D: Disk>(
     copy: D,
 ) -> (Detail, D)
     ensures ends { (file : Disks D) →
-        (IsTrue file.tells → StandsFor state.now.version state.now.issuer state.now.entries (file.told file.disk).content) →
-        FollowEnds (this_sink K.taken K.faults sink.old sink.new) file (this_disk D.tells D.told D.faults copy result.1) result.0 }
-    ensures images { IsTrue D.tells → LeavesOnly (D.told copy) (D.told result.1)
-        (IsFollowImage state.now.version state.now.issuer state.now.entries (D.told copy)) }
+        (IsTrue file.tells → StandsFor state.now.version state.now.issuer state.now.entries (file.on_disk file.disk).content) →
+        FollowEnds (this_sink K.taken K.faults sink.old sink.new) file (this_disk D.tells D.on_disk D.faults copy result.1) result.0 }
+    ensures images { IsTrue D.tells → LeavesOnly (D.on_disk copy) (D.on_disk result.1)
+        (IsFollowImage state.now.version state.now.issuer state.now.entries (D.on_disk copy)) }
 {
     a_file_has_one_meaning();
     match Standby::start(alloc, copy, state.issuer(), state.version()) {
@@ -155,9 +155,9 @@ fn bring_up<D: Disk>(alloc: Global, state: &State, standby: Standby<D>) -> (Resu
     requires issuer { standby.history.issuer ≡ state.now.issuer }
     requires version { standby.history.version ≡ state.now.version }
     requires going_on { standby.stopped ≡ None }
-    ensures brings { BringsUp D.tells D.told D.faults state.now.version state.now.issuer state.now.entries standby result.1
+    ensures brings { BringsUp D.tells D.on_disk D.faults state.now.version state.now.issuer state.now.entries standby result.1
         result.0 }
-    ensures images { LeftOrFollowed D.tells D.told state.now.entries standby result.1 }
+    ensures images { LeftOrFollowed D.tells D.on_disk state.now.entries standby result.1 }
 {
     let mut standby = standby;
     standby.is_sound();

@@ -1,4 +1,4 @@
-// The command `guard`: as `drain`, and each line is noted in a copy of the file too.
+//! The command `guard`: as `drain`, and each line is noted in a copy of the file too.
 ghost use Rattle.std.specs.Prelude.{◌≡◌, ◌≤◌, IfOk, IfErr, Err, None, length};
 ghost use Rattle.chain_disk.specs.Disks.{this_disk};
 ghost use Rattle.ports.specs.Sinks.{this_sink};
@@ -60,13 +60,13 @@ fn bring_copy<D: Disk>(
     ensures front { IfOk result (λ s. IsPrefix standby.history.entries state.now.entries) }
     ensures entries { IfOk result (λ s. s.history.entries ≡ state.now.entries) }
     ensures going_on { IfOk result (λ s. s.stopped ≡ None) }
-    ensures follows { IfOk result (λ s. IsFollowing D.tells D.told standby s state.now.entries) }
+    ensures follows { IfOk result (λ s. IsFollowing D.tells D.on_disk standby s state.now.entries) }
     ensures later { IfOk result (λ s. D.faults standby.disk ≤ D.faults s.disk) }
 
     // Why it wasn't brought up to it, and what crashes leave of it.
-    ensures why { IfErr result (λ u. BringsUp D.tells D.told D.faults state.now.version state.now.issuer state.now.entries standby
+    ensures why { IfErr result (λ u. BringsUp D.tells D.on_disk D.faults state.now.version state.now.issuer state.now.entries standby
         u.disk (Err u.end)) }
-    ensures images { IfErr result (λ u. LeftOrFollowed D.tells D.told state.now.entries standby u.disk) }
+    ensures images { IfErr result (λ u. LeftOrFollowed D.tells D.on_disk state.now.entries standby u.disk) }
     ensures later_err { IfErr result (λ u. D.faults standby.disk ≤ D.faults u.disk) }
 {
     let mut standby = standby;
@@ -83,10 +83,10 @@ fn bring_copy<D: Disk>(
 
 // Opens the copy of this history, and brings it up to it.
 fn copy_of<D: Disk>(alloc: Global, state: &State, disk: D) -> Result<Standby<D>, Uncopied<D>>
-    ensures copied { IfOk result (λ standby. IsCopied D.tells D.told D.faults state.now.version state.now.issuer
+    ensures copied { IfOk result (λ standby. IsCopied D.tells D.on_disk D.faults state.now.version state.now.issuer
         state.now.entries disk standby) }
     ensures uncopied { IfErr result (λ u. LeftUncopied state.now.version state.now.issuer state.now.entries
-        (this_disk D.tells D.told D.faults disk u.disk) u.end) }
+        (this_disk D.tells D.on_disk D.faults disk u.disk) u.end) }
 {
     a_file_has_one_meaning();
     match Standby::start(alloc, disk, state.issuer(), state.version()) {
@@ -132,7 +132,7 @@ where
     G: Agency,
     R: Wait,
     ensures { FileGuardEnds issuer.now plan.now (this_sink K.taken K.faults sink.old sink.new)
-        (disk_in D.Disk post result.1) (this_disk D.tells D.told D.faults copy result.2) (clock_in C.Clock post result.1)
+        (disk_in D.Disk post result.1) (this_disk D.tells D.on_disk D.faults copy result.2) (clock_in C.Clock post result.1)
         (sleeper_in Z.Sleeper post result.1) (agency_in G.Agency post result.1) result.0 }
 {
     match open(alloc, issuer, post) {
@@ -171,7 +171,7 @@ where
     G: Agency,
     R: Wait,
     ensures { ScriptGuardEnds issuer.now script.now (this_sink K.taken K.faults sink.old sink.new)
-        (disk_in D.Disk post result.1) (this_disk D.tells D.told D.faults copy result.2) (clock_in C.Clock post result.1)
+        (disk_in D.Disk post result.1) (this_disk D.tells D.on_disk D.faults copy result.2) (clock_in C.Clock post result.1)
         (sleeper_in Z.Sleeper post result.1) (agency_in G.Agency post result.1) result.0 }
 {
     let Some((start, step)) = script.clock else {
@@ -203,7 +203,7 @@ where
     ensures status { result.0.status ≡ status_of result.0.detail }
     ensures ends { GuardEnds issuer.now (this_call (this_source S.left S.faults source.old source.new)
         (this_sink K.taken K.faults sink.old sink.new) D.Disk C.Clock Z.Sleeper G.Agency post result.1)
-        (this_disk D.tells D.told D.faults copy result.2) result.0.detail }
+        (this_disk D.tells D.on_disk D.faults copy result.2) result.0.detail }
 {
     match read_source(alloc, source, Form::NoCommands) {
         Err(fault) => (Ended::of(fault.detail()), post, copy),
@@ -214,7 +214,7 @@ where
     }
 }
 
-/// As `drain_cmd`, with a copy on the disk of the one further post: it is opened behind the file and brought up to it, as `follow`
+/// As `drain_cmd`, with a copy on the disk of the one further post: it is opened after the file and brought up to it, as `follow`
 /// does, and each line is noted in the file and then in the copy. So all that was handed over stands in both, up to the first
 /// fault of a disk, which ends it. All parts come back.
 pub fn guard_cmd<S, K, D, C, Z, G, R>(

@@ -1,4 +1,4 @@
-// The command `migrate`: moves a file of version One to a second one, of version Two.
+//! The command `migrate`: moves a file of version One to a second one, of version Two.
 ghost use Rattle.std.specs.Prelude.{◌≡◌};
 ghost use Rattle.chain_disk.specs.Disks.{this_disk};
 ghost use Rattle.ports.specs.Sinks.{this_sink};
@@ -18,9 +18,9 @@ use std::alloc::Global;
 pub fn migrate_cmd<K: Sink, D: Disk>(alloc: Global, sink: &mut K, old: D, new: D) -> (Ended, D, D)
     ensures status { result.0.status ≡ status_of result.0.detail }
     ensures ends { MigrateEnds (this_sink K.taken K.faults sink.old sink.new)
-        (this_disk D.tells D.told D.faults old result.1) (this_disk D.tells D.told D.faults new result.2) result.0.detail }
-    ensures moves { OnlyMoved (this_disk D.tells D.told D.faults old result.1) (this_disk D.tells D.told D.faults new result.2) }
-    ensures same { D.told result.1 ≡ D.told old }
+        (this_disk D.tells D.on_disk D.faults old result.1) (this_disk D.tells D.on_disk D.faults new result.2) result.0.detail }
+    ensures moves { OnlyMoved (this_disk D.tells D.on_disk D.faults old result.1) (this_disk D.tells D.on_disk D.faults new result.2) }
+    ensures same { D.on_disk result.1 ≡ D.on_disk old }
 {
     let mut old = old;
     let (detail, new) = move_file(alloc, sink, &mut old, new);
@@ -30,10 +30,10 @@ pub fn migrate_cmd<K: Sink, D: Disk>(alloc: Global, sink: &mut K, old: D, new: D
 // Moves the chain and prints its counts.
 fn move_file<K: Sink, D: Disk>(alloc: Global, sink: &mut K, old: &mut D, new: D) -> (Detail, D)
     ensures ends { MigrateEnds (this_sink K.taken K.faults sink.old sink.new)
-        (this_disk D.tells D.told D.faults old.old old.new) (this_disk D.tells D.told D.faults new result.1) result.0 }
-    ensures moves { OnlyMoved (this_disk D.tells D.told D.faults old.old old.new)
-        (this_disk D.tells D.told D.faults new result.1) }
-    ensures same { D.told old.new ≡ D.told old.old }
+        (this_disk D.tells D.on_disk D.faults old.old old.new) (this_disk D.tells D.on_disk D.faults new result.1) result.0 }
+    ensures moves { OnlyMoved (this_disk D.tells D.on_disk D.faults old.old old.new)
+        (this_disk D.tells D.on_disk D.faults new result.1) }
+    ensures same { D.on_disk old.new ≡ D.on_disk old.old }
 {
     match migrate_counted(alloc, old, new) {
         Err(fault) => (move_end(fault.cause), fault.new),

@@ -1,4 +1,4 @@
-// All that a run works on.
+//! All that a run works on.
 ghost use Rattle.std.specs.Prelude.{◌≡◌, ◌≤◌, ◌∷◌, [], length, vec_capacity};
 
 use shop_drain::{Post, Posts};

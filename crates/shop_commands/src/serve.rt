@@ -1,11 +1,11 @@
-// The command `serve`: opens the file, begins the agency's session, and answers the lines of the source one by one, with a sender
-// beside, until the source ends. Then it drains, and prints the chain line.
+//! The command `serve`: opens the file, begins the agency's session, and answers the lines of the source one by one, with a sender
+//! at the same time, until the source ends. Then it drains, and prints the chain line.
 ghost use Rattle.std.specs.Prelude.{◌≡◌, ◌≤◌, ◌∷◌, ◌++◌, [], ℕ, List, length, Option, OnOk, None};
 ghost use Rattle.std.specs.List.{list_any};
 ghost use Rattle.chain_store.specs.Replies.{Replies, is_no_memory};
 ghost use Rattle.chain_store.specs.Store.{Ready, journal_of};
-ghost use Rattle.counter.specs.Speech.{AreRepliesOf, ComesFirst, IsCause, IsWritten, clock_first};
-ghost use Rattle.counter.specs.declared.speaking.SpeechEnd.TheVariants as speech;
+ghost use Rattle.dialogue_loop.specs.Speech.{AreRepliesOf, ComesFirst, IsCause, IsWritten, clock_first};
+ghost use Rattle.dialogue_loop.specs.declared.speaking.SpeechEnd.TheVariants as speech;
 ghost use Rattle.dialogue.specs.Protocol.{written_for};
 ghost use Rattle.journal.specs.Journal.{stopped_of};
 ghost use Rattle.ports.specs.Sinks.{Sinks, Wrote, this_sink};
@@ -20,15 +20,15 @@ ghost use Rattle.sender_session.specs.Kinds.{store_kind};
 ghost use Rattle.shop_drain.specs.Opening.{IsOpened};
 ghost use Rattle.shop_commands.specs.Serve as spec;
 ghost use Rattle.shop_commands.specs.Serve.{Closes, FileServe, ServeEnds, SpeechEnds, post_with, sink_to, source_since};
-ghost use Rattle.shop_dialogue.specs.Talking.{HasCome};
+ghost use Rattle.shop_dialogue.specs.Dialogues.{HasCome};
 
 use crate::day::sender_end;
 use agency_port::{Agency, Turns};
 use agency_rules::Plan;
 use chain_disk::Disk;
 use command_ends::sender_lacks_memory;
-use counter::{Listener, SpeechEnd, all_numbers, answer};
-use dialogue::Task;
+use dialogue::Action;
+use dialogue_loop::{Listener, SpeechEnd, all_numbers, answer};
 use parties::Nif;
 use ports::{Clock, Gate, Sink, Sleeper, Source};
 use record_codec::LAST_TILL;
@@ -46,7 +46,7 @@ use std::sync::Wait;
 use std::thread::Threads;
 
 /// Opens the disk for this issuer, and answers the lines of the source one by one: each answer is written before the next line is
-/// read. The agency's session is opened once, with the pairs noted in the file, and a sender sends beside. Once the source has ended
+/// read. The agency's session is opened once, with the pairs noted in the file, and a sender sends at the same time. Once the source has ended
 /// the sender drains, and the chain line is printed. A clock line ahead of every other line that is answered replaces clock and
 /// sleeper. All parts come back.
 pub fn serve_cmd<S, K, D, C, Z, G, T, R>(
@@ -102,7 +102,7 @@ where
     match open(means.alloc, issuer, post) {
         Err(unopened) => (opening_end(&unopened.why), unopened.post),
         Ok(opened) => {
-            let first = listener.hear_first(means.rt, means.alloc, source);
+            let first = listener.first_action(means.rt, means.alloc, source);
             let (detail, opened) = serve_first(means, listener, &first, source, sink, opened);
             (detail, close(opened))
         }
@@ -110,12 +110,12 @@ where
 }
 
 // START and STEP, where the first line that is answered is a clock line.
-fn clock_line(first: &Result<Task, SpeechEnd>) -> Option<(u64, u64)>
+fn clock_line(first: &Result<Action, SpeechEnd>) -> Option<(u64, u64)>
     ensures { result ≡ clock_first first.now }
 {
     match first {
         Ok(
-            Task::Clock {
+            Action::Clock {
                 start,
                 step,
                 text: _,
@@ -129,7 +129,7 @@ fn clock_line(first: &Result<Task, SpeechEnd>) -> Option<(u64, u64)>
 fn serve_first<S, K, D, C, Z, G, T, R>(
     means: Means<'_, R, T>,
     listener: Listener,
-    first: &Result<Task, SpeechEnd>,
+    first: &Result<Action, SpeechEnd>,
     source: &mut S,
     sink: &mut K,
     opened: Opened<D, C, Z, G>,
@@ -144,7 +144,7 @@ where
     T: Gate + Sync,
     R: Threads + Wait + Sync,
     requires going_on { stopped_of (journal_of opened.store) ≡ None }
-    requires ready { Ready D.tells D.told opened.store }
+    requires ready { Ready D.tells D.on_disk opened.store }
     requires first { HasCome (S.left source.old) (S.faults source.old) listener first.now }
     ensures { (issuer : List ℕ) (disk : D) (left : Option (List ℕ)) (faults : ℕ) →
         IsOpened issuer (store_kind D.Disk C.Clock) disk (parts_of opened.store).clock (parts_of opened.store) →
@@ -167,7 +167,7 @@ where
 fn serve_opened<S, K, D, C, Z, G, T, R>(
     means: Means<'_, R, T>,
     listener: Listener,
-    first: &Result<Task, SpeechEnd>,
+    first: &Result<Action, SpeechEnd>,
     source: &mut S,
     sink: &mut K,
     opened: Opened<D, C, Z, G>,
@@ -182,7 +182,7 @@ where
     T: Gate + Sync,
     R: Threads + Wait + Sync,
     requires going_on { stopped_of (journal_of opened.store) ≡ None }
-    requires ready { Ready D.tells D.told opened.store }
+    requires ready { Ready D.tells D.on_disk opened.store }
     requires first { HasCome (S.left source.old) (S.faults source.old) listener first.now }
     ensures { (issuer : List ℕ) (disk : D) (left : Option (List ℕ)) (faults : ℕ) →
         IsOpened issuer (store_kind D.Disk C.Clock) disk (parts_of opened.store).clock (parts_of opened.store) →
@@ -210,6 +210,7 @@ where
                 how,
                 lacked,
                 answer,
+                ..
             } = run_dialogue(means, listener, held, first, source, sink, begun);
             let closed = close_speech(means.alloc, how, opened.store.state(), sink);
             let detail = speech_end(closed, lacked, &answer, opened.store.state());
@@ -218,7 +219,7 @@ where
     }
 }
 
-// Writes the chain line behind a source that was read to its end.
+// Writes the chain line after a source that was read to its end.
 fn close_speech<K: Sink>(alloc: Global, how: SpeechEnd, state: &State, sink: &mut K) -> SpeechEnd
     ensures closes { Closes how result }
     ensures printed { (taken : Option (List ℕ)) (faults : ℕ) (answers : List (List ℕ)) →
@@ -251,7 +252,7 @@ fn write_chain<K: Sink>(alloc: Global, state: &State, sink: &mut K) -> SpeechEnd
     }
 }
 
-// The end of a dialogue that ended so, its chain line written or not: want of memory before a fault of the disk, that before a
+// The end of a dialogue that ended so, its chain line written or not: lack of memory before a fault of the disk, that before a
 // contradiction and an undelivered drain, and these before a fault of the source or of the sink.
 fn speech_end(how: SpeechEnd, lacked: bool, sent: &Result<(), DrainFault>, state: &State) -> Detail
     requires counts { OnOk sent.now (length (noted state.now.entries) ≡ length (recs state.now.entries)) }

@@ -53,7 +53,7 @@ module _ (front rest : List ℕ) where
     | inr few ↦ cut_in_mark (sym (get_or_append_left front rest 0 0 (omega (arith, some))) ∙ is.versioned.marked.first) some few
   ]
 
--- a frame, and the frames behind it
+-- a frame, and the frames after it
 parts_of : (body : List ℕ) (bodies : List (List ℕ)) (tail : List ℕ) → framed (body ∷ bodies) ++ tail
     ≡ (1 ∷ length_bytes (length body)) ++ (body ++ (framed bodies ++ tail))
 parts_of body bodies tail =

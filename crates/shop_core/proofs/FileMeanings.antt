@@ -17,7 +17,7 @@ use Rattle.shop_core.specs.File.Files.{IsDamagedFile, bodies_of}
 use Rattle.shop_core.specs.File.Files.IsDamagedFile.{in_header, no_frame, no_entry, not_next}
 use Rattle.shop_core.proofs.FileStops.{not_both, same_entry}
 
--- a damage behind the header: the file stops there, and its gate isn't closed
+-- a damage after the header: the file stops there, and its gate isn't closed
 record Behind (file : List ℕ) (at : ℕ) : Type 0 where
   version : Version
   issuer : List ℕ

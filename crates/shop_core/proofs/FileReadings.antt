@@ -21,7 +21,7 @@ pub next_step : (at next : ℕ) (body : List ℕ) (step : Step) → step ≡ Cou
     next ≡ at + 5 + length body
 next_step at next body step e h = (subst (λ (s : Step). IsNext at s body) e h).1
 
--- a fault of the bytes is no want of memory
+-- a fault of the bytes is no lack of memory
 pub unread : (fault : BadEntry) (at : ℕ) → fault ≡ BadEntry.At at → fault ≡ BadEntry.NoMemory → ⊥
 unread fault at e h = absurd cc
 

@@ -1,4 +1,4 @@
-// What an ask is answered: from the ask to its entry and its receipt.
+//! What an ask is answered: from the ask to its entry and its receipt.
 pub(crate) mod making;
 pub(crate) mod plans;
 pub(crate) mod receipts;

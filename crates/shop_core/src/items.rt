@@ -1,4 +1,4 @@
-// What a shop records, one after another.
+//! What a shop records, one after another.
 use record_codec::Entry;
 
 /// What a shop records: an entry of its history; or that it stopped.

@@ -1,4 +1,4 @@
-// The limits of a history. They are this project's own.
+//! The limits of a history. They are this project's own.
 
 /// The most records that a history has.
 pub const MAX_RECORDS: u32 = 1_000_000;

@@ -11,7 +11,7 @@ use Rattle.std.specs.contracts.alloc.Global as Heap
 use Rattle.std.specs.contracts.impls.GlobalAllocator.TheImpl.{ghosts}
 use Rattle.till_calls.proofs.Sent.{till_field_send}
 use Rattle.shop_core.specs.contracts.answer.requests.Ask as ask
-use Rattle.shop_day.specs.contracts.tills.Job as job
+use Rattle.shop_day.specs.contracts.tills.TillJob as job
 
 pub job_send : (D C : RattleType) (g : disk.Ghosts D.Denot) (h : clock.Ghosts C.Denot) → IsSend D → IsSend C →
     IsSend (job.the_row D C g h)

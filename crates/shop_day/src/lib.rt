@@ -6,4 +6,4 @@ mod running;
 mod tills;
 
 pub use running::{DayDone, run_day};
-pub use tills::{Job, TillDay, TillRoom, room_for};
+pub use tills::{TillDay, TillJob, TillRoom, room_for};

@@ -1,18 +1,19 @@
-// The day of a shop: its tills, and a sender at the same time.
+//! The day of a shop: its tills, and a sender at the same time.
 ghost use Rattle.std.specs.Prelude.{◌≡◌, ◌≢◌, ◌≤◌, [], map, reverse, All, AllPairs, vec_capacity, vec_len};
 ghost use Rattle.till_calls.specs.Root.{parts_of};
 ghost use Rattle.till_calls.specs.Shop.{made_tills, numbers, seat_knows, seat_shop, shop_id, shop_root, till_shop};
 ghost use Rattle.till_calls.specs.Mark.{mark_by, sight_by};
 ghost use Rattle.sender.specs.Sending.{fresh};
-ghost use Rattle.sender_session.specs.Session.{SendsOn};
+ghost use Rattle.sender_session.specs.Session.{IsUndelivered, SendsOn};
 ghost use Rattle.sender_beside.specs.Days.{shop_day};
-ghost use Rattle.sender_session.specs.Kinds.{agency_desk, agency_kind, store_kind};
+ghost use Rattle.sender_session.specs.Kinds.{agency_state_of, agency_kind, store_kind};
 ghost use Rattle.shop_drain.specs.Started.{IsStarted};
 ghost use Rattle.sender_beside.specs.Tills.{DayRun};
-ghost use Rattle.shop_day.specs.Jobs.{HasRoom, day_of, job_knows, tills_in, told_in};
+ghost use Rattle.shop_day.specs.TillJobs.{HasRoom, day_of, job_knows, tills_in, told_in};
+ghost use Rattle.sender_beside.specs.Behind.{SendsBehind, scene_in};
 ghost use Rattle.sender_beside.specs.Works.{Ran};
 
-use crate::tills::{Job, TillDay, TillRoom, hand_in, hand_out, work_all};
+use crate::tills::{TillDay, TillJob, TillRoom, hand_in, hand_out, work_all};
 use agency_port::Agency;
 use chain_disk::Disk;
 use chain_lock::who_sees_all_that_is_owned_sees_all;
@@ -23,6 +24,7 @@ use sender_beside::{Sent, drain_rest, with_sender};
 use sender_session::Means;
 use shop_core::Ask;
 use shop_drain::{Begun, Opened};
+use std::snapshot::Snapshot;
 use std::sync::Wait;
 use std::thread::Threads;
 use till_calls::{
@@ -37,14 +39,17 @@ pub struct DayDone<D: Disk, C: Clock, Z: Sleeper + Drop, G: Agency + Drop> {
     pub tills: Vec<TillDay>,
     /// How the sending ended. Ok: no record waits.
     pub answer: Result<(), DrainFault>,
+    /// The sender and all that it had at the tills' end, and at the end of the day, as contracts see them.
+    pub met: Snapshot<Sent<D, C, G, Z>>,
+    pub left: Snapshot<Sent<D, C, G, Z>>,
 }
 
-// Runs the tills and a sender beside each other.
+// Runs the tills and a sender at the same time.
 fn tills_beside<D, C, Z, G, T, R>(
     means: Means<'_, R, T>,
     shop: &Shop<D, C>,
     asks: &[Ask],
-    jobs: &mut Vec<Job<D, C>>,
+    jobs: &mut Vec<TillJob<D, C>>,
     seat: SenderSeat<D, C>,
     agency: G,
     sleeper: Z,
@@ -66,7 +71,8 @@ where
     ensures len { vec_len jobs.new ≡ vec_len jobs.old }
     ensures mark { mark_by (seat_shop result.seat) (seat_knows result.seat) ≡ mark_by (seat_shop seat) (seat_knows seat) }
     ensures sends { SendsOn (agency_kind G.Agency) (sight_by (seat_knows seat)) (sight_by (seat_knows result.seat))
-        (agency_desk G.Agency agency) (agency_desk G.Agency result.agency) fresh result.sender result.answer }
+        (agency_state_of G.Agency agency) (agency_state_of G.Agency result.agency) fresh result.sender result.answer }
+    ensures never { IsUndelivered result.answer → ⊥ }
 {
     with_sender(
         means,
@@ -86,7 +92,7 @@ where
     )
 }
 
-/// The day of a shop that has just begun: its tills ask beside each other, each for its own asks in order and in a thread of its
+/// The day of a shop that has just begun: its tills ask at the same time, each for its own asks in order and in a thread of its
 /// own, and then each looks at the count. Beside them a sender sends what waits to an agency whose session is open, and once they
 /// have ended it drains.
 pub fn run_day<
@@ -110,8 +116,13 @@ pub fn run_day<
     requires begun { IsStarted begun.started }
     ensures day { DayRun (store_kind D.Disk C.Clock) (shop_root begun.started.shop) (parts_of result.opened.store)
         (shop_day C.coming asks.now (shop_root begun.started.shop) (parts_of result.opened.store) (map told_in result.tills.items)
-        (agency_kind G.Agency) (agency_desk G.Agency begun.agency) (agency_desk G.Agency result.opened.agency) result.answer) }
+        (agency_kind G.Agency) (agency_state_of G.Agency begun.agency) (agency_state_of G.Agency result.opened.agency) result.answer) }
     ensures same { map (λ t. t.till) result.tills.items ≡ map (λ t. t.till) room.days.items }
+
+    // What the sender did by the tills' end, and what it did from there.
+    ensures behind { SendsBehind (agency_kind G.Agency) Z.tells (agency_state_of G.Agency begun.agency)
+        (agency_state_of G.Agency result.opened.agency) (scene_in (agency_state_of G.Agency) Z.moment result.met.value)
+        (scene_in (agency_state_of G.Agency) Z.moment result.left.value) result.met.value.answer result.answer }
 {
     agreement_is_kept();
     a_session_begins();
@@ -139,7 +150,9 @@ pub fn run_day<
     hand_out(&mut tills, &mut days, &mut jobs);
     let mut sent = tills_beside(means, &shop, asks, &mut jobs, seat, agency, sleeper);
     hand_in(&shop, &mut tills, jobs, &mut days, &mut sent.seat);
+    let met = Snapshot::of(&sent);
     let rest = drain_rest(means, &shop, sent);
+    let left = Snapshot::of(&rest);
     let Sent {
         seat,
         sender: _,
@@ -155,5 +168,7 @@ pub fn run_day<
         },
         tills: days,
         answer,
+        met,
+        left,
     }
 }

@@ -1,4 +1,4 @@
-// The tills of a day: their room, and the work that each does in a thread of its own.
+//! The tills of a day: their room, and the work that each does in a thread of its own.
 ghost use Rattle.std.specs.Prelude.{◌≡◌, ◌≤◌, ◌<◌, ◌+◌, ◌++◌, ◌∷◌, [], List, length, map, filter, reverse, All};
 ghost use Rattle.std.specs.Prelude.{IfOk, OnOk, vec_len, vec_capacity};
 ghost use Rattle.shop_core.specs.Answer.Requests.{Asked};
@@ -7,7 +7,7 @@ ghost use Rattle.till_calls.specs.Shop.{seat_knows, seat_shop};
 ghost use Rattle.till_calls.specs.Shop.{made_tills, numbers, shop_id, till_knows, till_number, till_shop, tills_know, tills_shop};
 ghost use Rattle.sender_beside.specs.Tills as spec;
 ghost use Rattle.sender_beside.specs.Tills.{asks_of, tills_of};
-ghost use Rattle.shop_day.specs.Jobs.{HasRoom, day_of, job_knows, told_in, tills_in};
+ghost use Rattle.shop_day.specs.TillJobs.{HasRoom, day_of, job_knows, told_in, tills_in};
 ghost use Rattle.sender_beside.specs.Works.{Ran, Works};
 
 use chain_disk::Disk;
@@ -32,7 +32,7 @@ pub struct TillDay {
 }
 
 impl TillDay {
-    /// A day with room for so many answers.
+    /// A day with room for this many answers.
     pub fn new(alloc: Global, till: u8, asks: usize) -> Result<TillDay, NoMemory>
         ensures till { IfOk result (λ day. day.till ≡ till) }
         ensures room { IfOk result (λ day. (asks ≤ vec_capacity day.answers) × (day.answers.items ≡ [])) }
@@ -50,7 +50,7 @@ impl TillDay {
 
 /// A till at work.
 #[derive(Drop)]
-pub struct Job<D: Disk, C: Clock> {
+pub struct TillJob<D: Disk, C: Clock> {
     pub till: Till<D, C>,
     pub answers: Vec<Result<Reply, StoreFault>>,
     pub saw: u64,
@@ -61,7 +61,7 @@ pub struct Job<D: Disk, C: Clock> {
 pub struct TillRoom<D: Disk, C: Clock> {
     pub days: Vec<TillDay>,
     pub numbers: Vec<u8>,
-    pub jobs: Vec<Job<D, C>>,
+    pub jobs: Vec<TillJob<D, C>>,
 }
 
 fn has_asks(asks: &[Ask], till: u8) -> bool
@@ -162,7 +162,7 @@ fn work<D: Disk, C: Clock, T: Gate, R: Wait>(
     means: Means<'_, R, T>,
     shop: &Shop<D, C>,
     asks: &[Ask],
-    job: &mut Job<D, C>,
+    job: &mut TillJob<D, C>,
 )
     requires own { till_shop job.old.till ≡ shop_id shop.now }
     requires room { HasRoom asks.now (day_of job.old) }
@@ -176,12 +176,12 @@ fn work<D: Disk, C: Clock, T: Gate, R: Wait>(
     job.saw = shop.count_now(&mut job.till);
 }
 
-/// Runs the tills beside each other, each in a thread of its own.
+/// Runs the tills at the same time, each in a thread of its own.
 pub(crate) fn work_all<D: Disk + Send, C: Clock + Send, T: Gate + Sync, R: Threads + Wait + Sync>(
     means: Means<'_, R, T>,
     shop: &Shop<D, C>,
     asks: &[Ask],
-    jobs: &mut Vec<Job<D, C>>,
+    jobs: &mut Vec<TillJob<D, C>>,
 )
     requires own { All (λ j. till_shop j.till ≡ shop_id shop.now) jobs.old.items }
     requires room { All (λ j. HasRoom asks.now (day_of j)) jobs.old.items }
@@ -204,7 +204,7 @@ pub(crate) fn work_all<D: Disk + Send, C: Clock + Send, T: Gate + Sync, R: Threa
 pub(crate) fn hand_out<D: Disk, C: Clock>(
     tills: &mut Tills<D, C>,
     days: &mut Vec<TillDay>,
-    jobs: &mut Vec<Job<D, C>>,
+    jobs: &mut Vec<TillJob<D, C>>,
 )
     requires numbers { numbers tills.old ≡ map (λ d. d.till) days.old.items }
     requires jobs { (jobs.old.items ≡ []) × (vec_len days.old ≤ vec_capacity jobs.old) }
@@ -224,7 +224,7 @@ pub(crate) fn hand_out<D: Disk, C: Clock>(
             answers,
             saw,
         } = day;
-        jobs.push_reserved(Job { till, answers, saw });
+        jobs.push_reserved(TillJob { till, answers, saw });
     }
 }
 
@@ -232,7 +232,7 @@ pub(crate) fn hand_out<D: Disk, C: Clock>(
 pub(crate) fn hand_in<D: Disk, C: Clock>(
     shop: &Shop<D, C>,
     tills: &mut Tills<D, C>,
-    mut jobs: Vec<Job<D, C>>,
+    mut jobs: Vec<TillJob<D, C>>,
     days: &mut Vec<TillDay>,
     seat: &mut SenderSeat<D, C>,
 )
@@ -248,7 +248,7 @@ pub(crate) fn hand_in<D: Disk, C: Clock>(
     ensures told { All (λ k. k.least ≤ (seat_knows seat.new).least) (tills_know tills.new) }
 {
     while let Some(job) = jobs.pop() {
-        let Job {
+        let TillJob {
             mut till,
             answers,
             saw,

@@ -1,29 +1,31 @@
-// A dialogue at the counter of a shop, and a sender at the same time.
+//! A dialogue at the counter of a shop, and a sender at the same time.
 ghost use Rattle.std.specs.Prelude.{◌≡◌, ◌≤◌, [], ℕ, List, Option, false, map, reverse, All, vec_capacity};
 ghost use Rattle.std.specs.List.{range_with_len};
-ghost use Rattle.counter.specs.Speech.{ComesFirst, IsCause, clock_first, moment_of, moment_since};
+ghost use Rattle.dialogue_loop.specs.Speech.{ComesFirst, IsCause, clock_first, moment_of, moment_since};
 ghost use Rattle.record_codec.specs.declared.entry.TheConstants.{LAST_TILL};
 ghost use Rattle.sender.specs.Sending.{fresh};
 ghost use Rattle.till_calls.specs.Mark.{mark_by, sight_by};
 ghost use Rattle.till_calls.specs.Root.{parts_of};
 ghost use Rattle.till_calls.specs.Shop.{made_tills, numbers, seat_knows, seat_shop, shop_id, shop_root, till_knows, till_number};
 ghost use Rattle.till_calls.specs.Shop.{till_shop};
-ghost use Rattle.sender_session.specs.Session.{SendsOn};
-ghost use Rattle.sender_session.specs.Kinds.{agency_desk, agency_kind, store_kind};
-ghost use Rattle.shop_dialogue.specs.Talking.{CounterRun, HasCome, SpeaksOn};
+ghost use Rattle.sender_session.specs.Session.{IsUndelivered, SendsOn};
+ghost use Rattle.sender_session.specs.Kinds.{agency_state_of, agency_kind, store_kind};
+ghost use Rattle.sender_beside.specs.Behind.{SendsBehind, scene_in};
+ghost use Rattle.shop_dialogue.specs.Dialogues.{CounterRun, HasCome, SpeaksOn};
 ghost use Rattle.shop_drain.specs.Started.{IsStarted};
 
 use agency_port::Agency;
 use chain_disk::Disk;
 use chain_lock::who_sees_all_that_is_owned_sees_all;
-use counter::{Counter, Listener, SpeechEnd, converse, give_back, hold_all};
-use dialogue::Task;
+use dialogue::Action;
+use dialogue_loop::{Counter, Listener, SpeechEnd, answer_lines, give_back, hold_all};
 use once_world::agreement_is_kept;
 use ports::{Clock, Gate, Sink, Sleeper, Source};
 use sender::{DrainFault, a_session_begins};
 use sender_beside::{Sent, drain_rest, with_sender};
 use sender_session::Means;
 use shop_drain::{Begun, Opened};
+use std::snapshot::Snapshot;
 use std::sync::Wait;
 use std::thread::Threads;
 use till_calls::{
@@ -40,6 +42,9 @@ pub struct DialogueDone<D: Disk, C: Clock, Z: Sleeper + Drop, G: Agency + Drop> 
     pub lacked: bool,
     /// How the sending ended. Ok: no record waits.
     pub answer: Result<(), DrainFault>,
+    /// The sender and all that it had once the dialogue had ended, and at the end, as contracts see them.
+    pub met: Snapshot<Sent<D, C, G, Z>>,
+    pub left: Snapshot<Sent<D, C, G, Z>>,
 }
 
 // Answers line by line, and tells how it ended.
@@ -47,7 +52,7 @@ fn converse_to<S: Source, K: Sink, D: Disk, C: Clock, T: Gate, R: Wait>(
     means: Means<'_, R, T>,
     shop: &Shop<D, C>,
     counter: &mut Counter<D, C>,
-    first: &Result<Task, SpeechEnd>,
+    first: &Result<Action, SpeechEnd>,
     source: &mut S,
     sink: &mut K,
     how: &mut SpeechEnd,
@@ -62,7 +67,7 @@ fn converse_to<S: Source, K: Sink, D: Disk, C: Clock, T: Gate, R: Wait>(
         (moment_of S.left S.faults K.taken K.faults source.new sink.new) counter.new.lacked
         (map till_knows counter.old.held.items) (map till_knows counter.new.held.items) how.new }
 {
-    *how = converse(
+    *how = answer_lines(
         means.rt,
         means.alloc,
         means.gate,
@@ -74,12 +79,12 @@ fn converse_to<S: Source, K: Sink, D: Disk, C: Clock, T: Gate, R: Wait>(
     );
 }
 
-// Answers line by line, and sends beside.
-fn converse_beside<S, K, D, C, Z, G, T, R>(
+// Answers line by line, and sends at the same time.
+fn answer_lines_with_sender<S, K, D, C, Z, G, T, R>(
     means: Means<'_, R, T>,
     shop: &Shop<D, C>,
     counter: &mut Counter<D, C>,
-    first: &Result<Task, SpeechEnd>,
+    first: &Result<Action, SpeechEnd>,
     source: &mut S,
     sink: &mut K,
     how: &mut SpeechEnd,
@@ -108,7 +113,8 @@ where
         (map till_knows counter.old.held.items) (map till_knows counter.new.held.items) how.new }
     ensures mark { mark_by (seat_shop result.seat) (seat_knows result.seat) ≡ mark_by (seat_shop seat) (seat_knows seat) }
     ensures sends { SendsOn (agency_kind G.Agency) (sight_by (seat_knows seat)) (sight_by (seat_knows result.seat))
-        (agency_desk G.Agency agency) (agency_desk G.Agency result.agency) fresh result.sender result.answer }
+        (agency_state_of G.Agency agency) (agency_state_of G.Agency result.agency) fresh result.sender result.answer }
+    ensures never { IsUndelivered result.answer → ⊥ }
 {
     with_sender(
         means,
@@ -145,7 +151,7 @@ pub fn run_dialogue<
     means: Means<'_, R, T>,
     listener: Listener,
     mut held: Vec<Till<D, C>>,
-    first: &Result<Task, SpeechEnd>,
+    first: &Result<Action, SpeechEnd>,
     source: &mut S,
     sink: &mut K,
     begun: Begun<D, C, Z, G>,
@@ -160,7 +166,12 @@ pub fn run_dialogue<
         CounterRun (store_kind D.Disk C.Clock) (shop_root begun.started.shop) (parts_of result.opened.store)
         (clock_first first.now) (moment_since left faults (K.taken sink.old) (K.faults sink.old))
         (moment_of S.left S.faults K.taken K.faults source.new sink.new) (agency_kind G.Agency)
-        (agency_desk G.Agency begun.agency) (agency_desk G.Agency result.opened.agency) result.answer result.lacked result.how }
+        (agency_state_of G.Agency begun.agency) (agency_state_of G.Agency result.opened.agency) result.answer result.lacked result.how }
+
+    // What the sender did by the dialogue's end, and what it did from there.
+    ensures behind { SendsBehind (agency_kind G.Agency) Z.tells (agency_state_of G.Agency begun.agency)
+        (agency_state_of G.Agency result.opened.agency) (scene_in (agency_state_of G.Agency) Z.moment result.met.value)
+        (scene_in (agency_state_of G.Agency) Z.moment result.left.value) result.met.value.answer result.answer }
 {
     agreement_is_kept();
     a_session_begins();
@@ -187,7 +198,7 @@ pub fn run_dialogue<
         lacked: false,
     };
     let mut how = SpeechEnd::Ended;
-    let mut sent = converse_beside(
+    let mut sent = answer_lines_with_sender(
         means,
         &shop,
         &mut counter,
@@ -205,7 +216,9 @@ pub fn run_dialogue<
         lacked,
     } = counter;
     give_back(&shop, &mut tills, held, &mut sent.seat);
+    let met = Snapshot::of(&sent);
     let rest = drain_rest(means, &shop, sent);
+    let left = Snapshot::of(&rest);
     let Sent {
         seat,
         sender: _,
@@ -222,5 +235,7 @@ pub fn run_dialogue<
         how,
         lacked,
         answer,
+        met,
+        left,
     }
 }

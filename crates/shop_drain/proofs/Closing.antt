@@ -28,12 +28,11 @@ use Rattle.sender.specs.declared.answers.DrainFault.{DrainFault}
 use Rattle.sender.specs.declared.answers.DrainFault.TheVariants as drain
 use Rattle.sender.specs.declared.draining.TheConstants.{MAX_LINK_FAULTS}
 use Rattle.sender.specs.Draining.{is_link}
-use Rattle.sender.specs.Turning.{AgencyKind, Desk}
-use Rattle.recovery.specs.Opening.{IsFound}
+use Rattle.sender.specs.Turning.{AgencyKind, AgencyState}
 use Rattle.chain_store.specs.Crashes.{StandsBetween, StandsUpTo, StandsForEnd}
-use Rattle.shop_drain.specs.Crashes.{StandsSince}
+use Rattle.shop_drain.specs.Crashes.{IsFoundSince, StandsSince}
 use Rattle.shop_drain.specs.Draining.{AddsNotesAlone, AgreesInFile, Beginning, DiskSpan, OpensSession, IsSession, IsUnopened}
-use Rattle.shop_drain.specs.Draining.{Outcome, Sends, Span, StillAgrees, StoreDrains, from_desk, noted_pairs, spanning, torn_in}
+use Rattle.shop_drain.specs.Draining.{Outcome, Sends, Span, StillAgrees, StoreDrains, from_agency_state, noted_pairs, spanning, torn_in}
 use Rattle.sender_session.specs.Session.{IsDiskAnswer}
 use Rattle.sender_session.specs.Steps.{EndsBy, EndsSaying, Step, Steps, after_steps, at_start, line_in}
 use Rattle.shop_drain.proofs.Agreed.{torn_is}
@@ -41,8 +40,8 @@ use Rattle.shop_drain.proofs.Finishing.{since_found}
 use Rattle.shop_drain.proofs.Pairs.{pairs_count}
 
 -- the session was opened, and its sender sent
-pub in_session : (begun : Beginning) (plan : Plan) (d : Span) (opened : Desk) → (IsTrue d.kind.keeps_rules → IsTrue d.kind.tells)
-    → OpensSession d.kind begun plan d.start d.old opened → Sends (from_desk opened d) → IsSession begun plan d
+pub in_session : (begun : Beginning) (plan : Plan) (d : Span) (opened : AgencyState) → (IsTrue d.kind.keeps_rules → IsTrue d.kind.tells)
+    → OpensSession d.kind begun plan d.start d.old opened → Sends (from_agency_state opened d) → IsSession begun plan d
 in_session begun plan d opened tells opens sends = record {
   opened = opened;
   opens = opens;
@@ -56,8 +55,8 @@ in_session begun plan d opened tells opens sends = record {
       record { whole = still.whole; torn = still.torn; no_contradiction = still.no_contradiction; bound = still.bound };
 }
 
-module _ {D C : Type 0} (tells : Bool) (told : D → OnDisk) (faults : D → ℕ) (coming : C → ℕ → Option ℕ) (p0 p1 : Parts D C)
-    (s : IsSound tells told faults coming (root_of told faults p0) p1) where
+module _ {D C : Type 0} (tells : Bool) (on_disk : D → OnDisk) (faults : D → ℕ) (coming : C → ℕ → Option ℕ) (p0 p1 : Parts D C)
+    (s : IsSound tells on_disk faults coming (root_of on_disk faults p0) p1) where
   pub between : (c : List ℕ) → StandsBetween p0.state.version p0.state.issuer p0.state.entries (with_torn p1.state.entries p1.stopped
       p1.torn) c → StandsUpTo p0.state.version p0.state.issuer p0.state.entries p1.state.entries (torn_in p1.stopped p1.torn) c
   between c h = record {
@@ -82,18 +81,18 @@ module _ {D C : Type 0} (tells : Bool) (told : D → OnDisk) (faults : D → ℕ
   torn_by None e = inl refl
   torn_by (Some count) e = inr (risen_by (Some count) e refl)
 
-  pub store_drains : (begun : Beginning) (plan : Plan) (kind : AgencyKind) (old new : Desk) (exact : Bool) (at : ℕ)
+  pub store_drains : (begun : Beginning) (plan : Plan) (kind : AgencyKind) (old new : AgencyState) (exact : Bool) (at : ℕ)
       (turns : List TurnLine) (answer : Result (Unit {0}) DrainFault) (o : Outcome) →
       o ≡ record { end = p1.state.entries; torn = torn_in p1.stopped p1.torn; turns = turns; answer = answer } →
       IsUnopened (spanning p0.state.entries kind old new exact at o) ⊎ IsSession begun plan (spanning p0.state.entries kind old
       new exact at o) → AddsNotesAlone p0.state.entries p1.state.entries →
-      (IsDiskAnswer answer → IsSome p1.stopped) → (IsTrue tells → IsImage (told p1.disk).now (told p1.disk).content) →
+      (IsDiskAnswer answer → IsSome p1.stopped) → (IsTrue tells → IsImage (on_disk p1.disk).now (on_disk p1.disk).content) →
       ((version : Version) (issuer : List ℕ) (entries : List Entry) → Legal version issuer entries →
       Linked issuer (recs entries)) →
       StoreDrains (StandsUpTo p0.state.version p0.state.issuer) begun plan p0.state.version p0.state.issuer (record {
         tells = tells;
-        since = told p0.disk;
-        now = told p1.disk;
+        since = on_disk p0.disk;
+        now = on_disk p1.disk;
         faults = faults p0.disk;
         faults_after = faults p1.disk;
       }) (spanning p0.state.entries kind old new
@@ -101,8 +100,8 @@ module _ {D C : Type 0} (tells : Bool) (told : D → OnDisk) (faults : D → ℕ
   store_drains begun plan kind old new exact at turns answer o is session notes stopped image linked =
       subst (λ (x : Outcome). StoreDrains (StandsUpTo p0.state.version p0.state.issuer) begun plan p0.state.version p0.state.issuer (record {
         tells = tells;
-        since = told p0.disk;
-        now = told p1.disk;
+        since = on_disk p0.disk;
+        now = on_disk p1.disk;
         faults = faults p0.disk;
         faults_after = faults p1.disk;
       })
@@ -114,9 +113,9 @@ module _ {D C : Type 0} (tells : Bool) (told : D → OnDisk) (faults : D → ℕ
         legal = s.legal;
         linked = linked p0.state.version p0.state.issuer p1.state.entries s.legal;
         kept = λ says. record {
-          each_moment = weaker (told p0.disk) (told p1.disk) _ _ (s.crashes says).since between;
+          each_moment = weaker (on_disk p0.disk) (on_disk p1.disk) _ _ (s.crashes says).since between;
           every_crash = λ c left. either c ((s.crashes says).whole c left);
-          reads = either (told p1.disk).content ((s.crashes says).whole (told p1.disk).content (inl (refl, image says)));
+          reads = either (on_disk p1.disk).content ((s.crashes says).whole (on_disk p1.disk).content (inl (refl, image says)));
         };
         images = λ says agrees c left. in_file agrees c (either c ((s.crashes says).whole c left));
         risen = λ disk. risen_by p1.stopped refl (stopped disk);
@@ -136,25 +135,25 @@ module _ {D C : Type 0} (tells : Bool) (told : D → OnDisk) (faults : D → ℕ
 
 -- what a drain leaves, said since its file was opened
 pub since_opening : (begun : Beginning) (plan : Plan) (version : Version) (issuer : List ℕ) (k : DiskSpan) (d : Span)
-    (first : OnDisk) (faults : ℕ) →
+    (first : OnDisk) (held : List ℕ) (faults : ℕ) →
     StoreDrains (StandsUpTo version issuer) begun plan version issuer k d →
-    (IsTrue k.tells → LeavesOnly first k.since (IsFound version issuer d.start)) →
-    faults ≤ k.faults → StoreDrains (StandsSince version issuer) begun plan version issuer (record {
+    (IsTrue k.tells → LeavesOnly first k.since (IsFoundSince held version issuer d.start)) →
+    faults ≤ k.faults → StoreDrains (StandsSince held version issuer) begun plan version issuer (record {
       tells = k.tells;
       since = first;
       now = k.now;
       faults = faults;
       faults_after = k.faults_after;
     }) d
-since_opening begun plan version issuer k d first faults h found early = record {
+since_opening begun plan version issuer k d first held faults h found early = record {
   session = h.session;
   notes = h.notes;
   legal = h.legal;
   linked = h.linked;
   kept = λ says. let kept = h.kept says in record {
-    each_moment = follows first k.since k.now (IsFound version issuer d.start) (StandsUpTo version issuer d.start d.end d.torn)
-        (StandsSince version issuer d.start d.end d.torn) (found says) kept.each_moment
-        (λ c here. since_found version issuer d.start d.end d.torn c (record { rest = h.notes.more; is = h.notes.is }) here)
+    each_moment = follows first k.since k.now (IsFoundSince held version issuer d.start) (StandsUpTo version issuer d.start d.end d.torn)
+        (StandsSince held version issuer d.start d.end d.torn) (found says) kept.each_moment
+        (λ c here. since_found held version issuer d.start d.end d.torn c (record { rest = h.notes.more; is = h.notes.is }) here)
         (λ c here. inr here);
     every_crash = kept.every_crash;
     reads = kept.reads;
@@ -172,7 +171,7 @@ since_opening begun plan version issuer k d first faults h found early = record 
 one_link : (last : List Step) → EndsSaying last told.Link → count_by is_link (map line_in last) ≡ 1
 one_link last e = ap (λ (steps : List Step). count_by is_link (map line_in steps)) e.is
 
-undelivered_steps : (tells exact : Bool) (records : List Sealed) (from to at : ℕ) (old new : Desk) (turns : List TurnLine)
+undelivered_steps : (tells exact : Bool) (records : List Sealed) (from to at : ℕ) (old new : AgencyState) (turns : List TurnLine)
     (answer : Result (Unit {0}) DrainFault) → Steps tells exact records from to at old new turns answer → (n r : ℕ) →
     answer ≡ Err (drain.Undelivered n r) →
     (n < r) × (new.faults < 2 ^ 64 - 1 → old.faults + MAX_LINK_FAULTS ≤ new.faults)
@@ -228,7 +227,7 @@ never_contrary P begun plan version issuer k d h keeps agree evidence is =
     never_in begun plan d h.session keeps agree evidence is
 
 -- a session was opened with the pairs that are noted
-pub opened_by : (kind : AgencyKind) (begun : Beginning) (plan : Plan) (start : List Entry) (old opened : Desk)
+pub opened_by : (kind : AgencyKind) (begun : Beginning) (plan : Plan) (start : List Entry) (old opened : AgencyState)
     (pairs : List (Sealed × Line)) → pairs ≡ noted_pairs start → length (noted start) ≤ length (recs start) →
     (IsTrue kind.tells → Begins old.ledger opened.ledger plan (length pairs)) →
     (IsTrue kind.keeps_rules → opened.ledger.processed ≡ begun old.ledger.processed pairs) → opened.faults ≡ old.faults →

@@ -21,7 +21,7 @@ use Rattle.sender.specs.declared.answers.DrainFault.{DrainFault}
 use Rattle.sender.specs.declared.answers.DrainFault.TheVariants as drain
 use Rattle.sender.specs.Draining.{Scene, Drained, EndsWith, told_in, told_list, is_link}
 use Rattle.sender.specs.Sending.{fresh}
-use Rattle.sender.specs.Turning.{AgencyKind, Desk}
+use Rattle.sender.specs.Turning.{AgencyKind, AgencyState}
 use Rattle.sender.proofs.Drains.{told_split}
 use Rattle.sender.proofs.Growing.{no_growth}
 use Rattle.sender.proofs.Sessions.{is_turn_growth}
@@ -36,7 +36,7 @@ no_steps : (steps : List Step) → map line_in steps ≡ [] → steps ≡ []
 no_steps [] e = refl
 no_steps (s ∷ steps) e = absurd cc
 
--- a line that is neither a wait nor want of memory stands for a message
+-- a line that is neither a wait nor lack of memory stands for a message
 abbrev IsOfMessage : Told → Type 0
 IsOfMessage printed = ((at : ℕ) → printed ≡ told.Wait at → ⊥) × (printed ≡ told.Memory → ⊥)
 
@@ -52,18 +52,18 @@ said_one (Says m l ∷ []) printed of e = record {
 }
 said_one (s ∷ (t ∷ steps)) printed of e = absurd cc
 
-module _ (kind : AgencyKind) (exact : Bool) (records : List Sealed) (desk : Desk) (sight : Sight) (moment : ℕ) (then : Scene)
+module _ (kind : AgencyKind) (exact : Bool) (records : List Sealed) (agency_state : AgencyState) (sight : Sight) (moment : ℕ) (then : Scene)
     (old new : List Told) (answer : Result (Unit {0}) DrainFault) where
   abbrev begin : Scene
-  begin = record { desk = desk; sight = sight; sending = fresh; moment = moment }
+  begin = record { agency_state = agency_state; sight = sight; sending = fresh; moment = moment }
 
   -- the steps, whose last line is the disk's fault where that is the last turn's answer
   pub record StepsTold (d : Drained kind exact begin then old new answer) : Type 0 where
     pub steps : Steps kind.tells exact records (length (noted (history_of sight))) (length (noted (history_of then.sight))) moment
-        desk then.desk new answer
+        agency_state then.agency_state new answer
     pub tears : d.answer ≡ Err (send.Store store.DiskFault) → TearsLast steps.going steps.last new answer
 
-  pub drained_steps : (d : Drained kind exact (record { desk = desk; sight = sight; sending = fresh; moment = moment }) then old
+  pub drained_steps : (d : Drained kind exact (record { agency_state = agency_state; sight = sight; sending = fresh; moment = moment }) then old
       new answer) → recs (history_of sight) ≡ records → sight.own ≡ [] → old ≡ [] →
       ((n : ℕ) → length sight.items ≤ n → n < length then.sight.items → Contains then.sight.own n) →
       OnOk answer (length (noted (history_of then.sight)) ≡ length (recs (history_of then.sight))) →
@@ -77,8 +77,8 @@ module _ (kind : AgencyKind) (exact : Bool) (records : List Sealed) (desk : Desk
       go_on = w.go_on;
       told = told_so;
       messages = λ tells. x.messages tells ∙ ap (λ (ms : List Message). ms ++ filter_map message_in x.steps) (w.messages tells) ∙
-          append_assoc desk.ledger.messages (filter_map message_in w.steps) (filter_map message_in x.steps)
-          ∙ ap (λ (ms : List Message). desk.ledger.messages ++ ms) (sym (filter_map-append message_in w.steps x.steps));
+          append_assoc agency_state.ledger.messages (filter_map message_in w.steps) (filter_map message_in x.steps)
+          ∙ ap (λ (ms : List Message). agency_state.ledger.messages ++ ms) (sym (filter_map-append message_in w.steps x.steps));
       noted = x.noted_is ∙ ap (λ (s : Standing). s.noted) (sym (steps_then st w.steps x.steps));
       few = let a = w.counted in let b = w.few in omega (arith, a, b);
       links = λ below.
@@ -124,7 +124,7 @@ module _ (kind : AgencyKind) (exact : Bool) (records : List Sealed) (desk : Desk
       w = walked kind exact records then.sight (length sight.items) mine begin st d.answers d.links d.scene at d.made
           (is_turn_growth kind exact d.scene then d.answer d.turn)
 
-      x : Did kind.tells exact records (after_steps st w.steps) d.scene.desk.ledger.messages then.desk.ledger.messages then.sight
+      x : Did kind.tells exact records (after_steps st w.steps) d.scene.agency_state.ledger.messages then.agency_state.ledger.messages then.sight
           then.sending d.answer
       x = turn_did kind exact records then.sight (length sight.items) mine d.scene then (after_steps st w.steps) d.answer w.here
           d.turn (no_growth then.sight)

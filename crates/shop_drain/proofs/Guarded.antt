@@ -14,7 +14,7 @@ use Rattle.agency_rules.specs.declared.plans.Plan.{Plan}
 use Rattle.record_codec.specs.declared.entry.Entry.{Entry}
 use Rattle.record_codec.specs.declared.entry.Entry.TheVariants.{Notes, Rec}
 use Rattle.record_fields.specs.declared.versions.Version.{Version}
-use Rattle.sender.specs.Turning.{Desk}
+use Rattle.sender.specs.Turning.{AgencyState}
 use Rattle.shop_core.specs.File.Files.{StandsFor}
 use Rattle.shop_core.specs.History.{is_record, recs}
 use Rattle.shop_core.specs.Legal.{Legal}
@@ -57,34 +57,34 @@ pub notes_came : (before after : List Entry) → AddsNotes before after → Adds
 notes_came before after a = record { more = a.more; is = a.is; are = each_notes a.more a.are }
 
 -- where the agency agrees: with this history, and with the torn notes
-abbrev pub AgreesWith : Held → Desk → Type 0
-AgreesWith h desk = Agree h.entries desk.ledger.processed desk.ledger.sent
-    × Agree (h.entries ++ h.torn) desk.ledger.processed desk.ledger.sent
+abbrev pub AgreesWith : Held → AgencyState → Type 0
+AgreesWith h agency_state = Agree h.entries agency_state.ledger.processed agency_state.ledger.sent
+    × Agree (h.entries ++ h.torn) agency_state.ledger.processed agency_state.ledger.sent
 
-module _ {D : Type 0} (tells : Bool) (told : D → OnDisk) (faults : D → ℕ) where
+module _ {D : Type 0} (tells : Bool) (on_disk : D → OnDisk) (faults : D → ℕ) where
   abbrev IsSoundOne : ChainOnDisk D → Type 0
-  IsSoundOne c = IsSoundChain tells told faults c
+  IsSoundOne c = IsSoundChain tells on_disk faults c
 
   -- a ready chain that goes on is sound
-  pub sound_ready : (c : ChainOnDisk D) → c.stopped ≡ None → IsReady tells c.history c.stopped c.gate (told c.disk) →
+  pub sound_ready : (c : ChainOnDisk D) → c.stopped ≡ None → IsReady tells c.history c.stopped c.gate (on_disk c.disk) →
       Legal c.history.version c.history.issuer c.history.entries → IsSoundOne c
   sound_ready c going ready legal = record {
     ready = ready;
     legal = legal;
     images = λ says.
-        let holds : Holds c.history c.gate (told c.disk) = ready.holds going says in
-        let stands : StandsFor c.history.version c.history.issuer c.history.entries (told c.disk).content = record {
+        let holds : Holds c.history c.gate (on_disk c.disk) = ready.holds going says in
+        let stands : StandsFor c.history.version c.history.issuer c.history.entries (on_disk c.disk).content = record {
           frames = holds.file.file;
           encoded = holds.encoded;
           legal = legal;
         } in
-        leaves_now (told c.disk) (StandsForEither c.history.version c.history.issuer c.history.entries (longest c))
+        leaves_now (on_disk c.disk) (StandsForEither c.history.version c.history.issuer c.history.entries (longest c))
         holds.file.nothing_pending (inl stands);
     stop = λ count e. absurd (let x : ◌≡◌ {A = Option ℕ} None (Some count) = sym going ∙ e in cc);
   }
 
   -- no call leads from one that goes on to itself
-  pub goes_nowhere : (c : ChainOnDisk D) → c.stopped ≡ None → IsSoundOne c → GoesTo tells told faults c c
+  pub goes_nowhere : (c : ChainOnDisk D) → c.stopped ≡ None → IsSoundOne c → GoesTo tells on_disk faults c c
   goes_nowhere c going sound =
       let none = longest_going c.history.entries c.stopped c.torn going in
       record {
@@ -92,7 +92,7 @@ module _ {D : Type 0} (tells : Bool) (told : D → OnDisk) (faults : D → ℕ) 
         version = refl;
         begins = front_same c.history.entries;
         longer = front_same (longest c);
-        since = λ says. started (told c.disk)
+        since = λ says. started (on_disk c.disk)
             (StandsBetween c.history.version c.history.issuer c.history.entries (longest c))
             (λ file image. between file none (sound.images says file (inl (refl, image))));
         later = omega arith;
@@ -134,8 +134,8 @@ module _ {D : Type 0} (tells : Bool) (told : D → OnDisk) (faults : D → ℕ) 
   abbrev pub span_of : ChainOnDisk D → ChainOnDisk D → DiskSpan
   span_of old new = record {
     tells = tells;
-    since = told old.disk;
-    now = told new.disk;
+    since = on_disk old.disk;
+    now = on_disk new.disk;
     faults = faults old.disk;
     faults_after = faults new.disk;
   }
@@ -143,8 +143,8 @@ module _ {D : Type 0} (tells : Bool) (told : D → OnDisk) (faults : D → ℕ) 
   module _ (version : Version) (issuer : List ℕ) (old new : ChainOnDisk D) where
     -- what led from one to the other drained it
     pub chain_drained : (d : Span) (start : List Entry) → new.history.version ≡ version → new.history.issuer ≡ issuer →
-        old.history.entries ≡ start → IsSoundOne new → GoesTo tells told faults old new → StopsByFault old new →
-        AddsNotesAlone start new.history.entries → (IsTrue tells → IsImage (told new.disk).now (told new.disk).content) →
+        old.history.entries ≡ start → IsSoundOne new → GoesTo tells on_disk faults old new → StopsByFault old new →
+        AddsNotesAlone start new.history.entries → (IsTrue tells → IsImage (on_disk new.disk).now (on_disk new.disk).content) →
         ((v : Version) (i : List ℕ) (es : List Entry) → Legal v i es → Linked i (recs es)) →
         (IsTrue d.kind.tells → NotesWhatIsSaid start new.history.entries d.old.ledger.messages d.new.ledger.messages) →
         (StillAgrees d → AgreesWith (held_by new) d.new) →
@@ -155,9 +155,9 @@ module _ {D : Type 0} (tells : Bool) (told : D → OnDisk) (faults : D → ℕ) 
       legal = legal;
       linked = linked version issuer new.history.entries legal;
       kept = λ says. record {
-        each_moment = weaker (told old.disk) (told new.disk) _ _ (goes.since says) up_to;
+        each_moment = weaker (on_disk old.disk) (on_disk new.disk) _ _ (goes.since says) up_to;
         every_crash = λ file left. either file (sound.images says file left);
-        reads = either (told new.disk).content (sound.images says (told new.disk).content (inl (refl, image says)));
+        reads = either (on_disk new.disk).content (sound.images says (on_disk new.disk).content (inl (refl, image says)));
       };
       images = λ says still file left. in_file (agrees still) file (either file (sound.images says file left));
       torn_risen = torn_rose old new sound stops new.stopped refl;
@@ -213,33 +213,33 @@ held_beside None (Some n) torn others shop standby h = record {
 }
 held_beside (Some n) (Some m) torn others shop standby h = absurd h
 
-abbrev AgreesAt : Desk → List Entry → Type 0
-AgreesAt desk entries = Agree entries desk.ledger.processed desk.ledger.sent
+abbrev AgreesAt : AgencyState → List Entry → Type 0
+AgreesAt agency_state entries = Agree entries agency_state.ledger.processed agency_state.ledger.sent
 
 -- where the agency agrees with what both hold, and with that and the torn notes, it does with what each has
-pub file_agrees : (end torn : List Entry) (file copy : Held) (desk : Desk) → AreHeld end torn file copy → AgreesAt desk end →
-    AgreesAt desk (end ++ torn) → AgreesWith file desk
-file_agrees end torn file copy desk held whole more = elim held.file_is [
+pub file_agrees : (end torn : List Entry) (file copy : Held) (agency_state : AgencyState) → AreHeld end torn file copy → AgreesAt agency_state end →
+    AgreesAt agency_state (end ++ torn) → AgreesWith file agency_state
+file_agrees end torn file copy agency_state held whole more = elim held.file_is [
   | inl h ↦ (
-    subst (λ (es : List Entry). AgreesAt desk es) (sym h.0) whole,
-    subst (λ (es : List Entry). AgreesAt desk es)
+    subst (λ (es : List Entry). AgreesAt agency_state es) (sym h.0) whole,
+    subst (λ (es : List Entry). AgreesAt agency_state es)
         (sym (ap (λ (es : List Entry). es ++ file.torn) h.0 ∙ ap (λ (es : List Entry). end ++ es) h.1)) more,
   )
   | inr h ↦ (
-    subst (λ (es : List Entry). AgreesAt desk es) (sym h.0) more,
-    subst (λ (es : List Entry). AgreesAt desk es)
+    subst (λ (es : List Entry). AgreesAt agency_state es) (sym h.0) more,
+    subst (λ (es : List Entry). AgreesAt agency_state es)
         (sym (ap (λ (es : List Entry). file.entries ++ es) h.1 ∙ append-nil file.entries ∙ h.0)) more,
   )
 ]
 
-copy_agrees : (end torn : List Entry) (file copy : Held) (desk : Desk) → AreHeld end torn file copy → AgreesAt desk end →
-    AgreesAt desk (end ++ torn) → AgreesWith copy desk
-copy_agrees end torn file copy desk held whole more = (
-  subst (λ (es : List Entry). AgreesAt desk es) (sym held.copy_is) whole,
+copy_agrees : (end torn : List Entry) (file copy : Held) (agency_state : AgencyState) → AreHeld end torn file copy → AgreesAt agency_state end →
+    AgreesAt agency_state (end ++ torn) → AgreesWith copy agency_state
+copy_agrees end torn file copy agency_state held whole more = (
+  subst (λ (es : List Entry). AgreesAt agency_state es) (sym held.copy_is) whole,
   elim held.file_is [
-    | inl h ↦ subst (λ (es : List Entry). AgreesAt desk es)
+    | inl h ↦ subst (λ (es : List Entry). AgreesAt agency_state es)
         (sym (ap (λ (es : List Entry). copy.entries ++ es) h.2 ∙ append-nil copy.entries ∙ held.copy_is)) whole
-    | inr h ↦ subst (λ (es : List Entry). AgreesAt desk es)
+    | inr h ↦ subst (λ (es : List Entry). AgreesAt agency_state es)
         (sym (ap (λ (es : List Entry). es ++ copy.torn) held.copy_is ∙ ap (λ (es : List Entry). end ++ es) h.2)) more
   ],
 )
@@ -256,21 +256,21 @@ none_first one other e f = rw (e, f) refl
 never_stops : (o : Option ℕ) (P : Type 0) (count : ℕ) → o ≡ None → o ≡ Some count → P
 never_stops o P count e f = absurd (let x : ◌≡◌ {A = Option ℕ} None (Some count) = sym e ∙ f in cc)
 
-module _ {D C M : Type 0} (tells : Bool) (told : D → OnDisk) (faults : D → ℕ) (others_tell : Bool) (others_told : M → OnDisk)
+module _ {D C M : Type 0} (tells : Bool) (on_disk : D → OnDisk) (faults : D → ℕ) (others_tell : Bool) (others_on_disk : M → OnDisk)
     (others_faults : M → ℕ) where
   abbrev IsOne : Both D C M → Both D C M → Type 0
-  IsOne start present = IsPair tells told faults others_tell others_told others_faults start present
+  IsOne start present = IsPair tells on_disk faults others_tell others_on_disk others_faults start present
 
   -- two with the same history that go on are a pair at its start
   pub pair_first : (b : Both D C M) → b.shop.stopped ≡ None → b.standby.stopped ≡ None →
-      IsSoundChain tells told faults b.shop → IsSoundChain others_tell others_told others_faults b.standby →
+      IsSoundChain tells on_disk faults b.shop → IsSoundChain others_tell others_on_disk others_faults b.standby →
       b.standby.history.issuer ≡ b.shop.history.issuer → b.standby.history.version ≡ b.shop.history.version →
       b.standby.history.entries ≡ b.shop.history.entries → IsOne b b
   pair_first b one other shop standby issuer version equal = record {
     shop = shop;
-    shop_goes = goes_nowhere tells told faults b.shop one shop;
+    shop_goes = goes_nowhere tells on_disk faults b.shop one shop;
     standby = standby;
-    standby_goes = goes_nowhere others_tell others_told others_faults b.standby other standby;
+    standby_goes = goes_nowhere others_tell others_on_disk others_faults b.standby other standby;
     clock = refl;
     issuer = issuer;
     version = version;
@@ -297,8 +297,8 @@ module _ {D C M : Type 0} (tells : Bool) (told : D → OnDisk) (faults : D → �
         by_case : (one other : Option ℕ) → present.shop.stopped ≡ one → present.standby.stopped ≡ other →
             IsSome (first_stop one other) → Rose (faults start.shop.disk) (faults present.shop.disk)
             ⊎ Rose (others_faults start.standby.disk) (others_faults present.standby.disk)
-        by_case (Some n) other e f is = inl (stopped_rose tells told faults start.shop present.shop p.shop p.shop_rose n e)
-        by_case None (Some n) e f is = inr (stopped_rose others_tell others_told others_faults start.standby present.standby
+        by_case (Some n) other e f is = inl (stopped_rose tells on_disk faults start.shop present.shop p.shop p.shop_rose n e)
+        by_case None (Some n) e f is = inr (stopped_rose others_tell others_on_disk others_faults start.standby present.standby
             p.standby p.standby_rose n f)
         by_case None None e f is = absurd cc
 
@@ -306,8 +306,8 @@ module _ {D C M : Type 0} (tells : Bool) (told : D → OnDisk) (faults : D → �
     pub guard_drains : (begun : Beginning) (plan : Plan) (d : Span) → d.start ≡ start.shop.history.entries →
         d.end ≡ present.standby.history.entries → d.torn ≡ torn → IsUnopened d ⊎ IsSession begun plan d →
         AddsNotesAlone d.start d.end → (IsDiskAnswer d.answer → IsSome (stop_of present)) →
-        (IsTrue tells → IsImage (told present.shop.disk).now (told present.shop.disk).content) →
-        (IsTrue others_tell → IsImage (others_told present.standby.disk).now (others_told present.standby.disk).content) →
+        (IsTrue tells → IsImage (on_disk present.shop.disk).now (on_disk present.shop.disk).content) →
+        (IsTrue others_tell → IsImage (others_on_disk present.standby.disk).now (others_on_disk present.standby.disk).content) →
         ((v : Version) (i : List ℕ) (es : List Entry) → Legal v i es → Linked i (recs es)) →
         (IsTrue d.kind.tells → NotesWhatIsSaid d.start present.shop.history.entries d.old.ledger.messages
         d.new.ledger.messages) →
@@ -316,8 +316,8 @@ module _ {D C M : Type 0} (tells : Bool) (told : D → OnDisk) (faults : D → �
         GuardDrains (StandsUpTo start.shop.history.version start.shop.history.issuer)
         (StandsUpTo start.shop.history.version start.shop.history.issuer) begun plan start.shop.history.version
         start.shop.history.issuer
-        (span_of tells told faults start.shop present.shop)
-        (span_of others_tell others_told others_faults start.standby present.standby) d (held_by present.shop) (held_by present.standby)
+        (span_of tells on_disk faults start.shop present.shop)
+        (span_of others_tell others_on_disk others_faults start.standby present.standby) d (held_by present.shop) (held_by present.standby)
     guard_drains begun plan d first end torn_is session notes stopped image others linked file_said copy_said =
         let version = start.shop.history.version in
         let issuer = start.shop.history.issuer in
@@ -326,13 +326,13 @@ module _ {D C M : Type 0} (tells : Bool) (told : D → OnDisk) (faults : D → �
         (sym torn_is) pair_held in
         record {
           session = session;
-          shop = chain_drained tells told faults version issuer start.shop present.shop d d.start p.shop_goes.version
+          shop = chain_drained tells on_disk faults version issuer start.shop present.shop d d.start p.shop_goes.version
               p.shop_goes.issuer (sym first) p.shop p.shop_goes p.shop_rose
               (subst (λ (es : List Entry). AddsNotesAlone es present.shop.history.entries) (sym first)
               (notes_came start.shop.history.entries present.shop.history.entries p.notes)) image linked file_said
               (λ still. file_agrees d.end d.torn (held_by present.shop) (held_by present.standby) d.new held still.whole
               still.torn);
-          standby = chain_drained others_tell others_told others_faults version issuer start.standby present.standby d d.start
+          standby = chain_drained others_tell others_on_disk others_faults version issuer start.standby present.standby d d.start
               (p.version ∙ p.shop_goes.version) (p.issuer ∙ p.shop_goes.issuer) (p.equal ∙ sym first) p.standby p.standby_goes
               p.standby_rose (subst (λ (es : List Entry). AddsNotesAlone d.start es) end notes) others linked copy_said
               (λ still. copy_agrees d.end d.torn (held_by present.shop) (held_by present.standby) d.new held still.whole

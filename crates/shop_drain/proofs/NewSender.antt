@@ -17,7 +17,7 @@ use Rattle.sender.specs.Agreeing.{IsCareful, KeepsSession}
 use Rattle.sender.specs.Dark.{AreRunsBy}
 use Rattle.sender.specs.Draining.{Drained, IsBounded, Scene}
 use Rattle.sender.specs.Sending.{Sending, fresh}
-use Rattle.sender.specs.Turning.{AgencyKind, Desk}
+use Rattle.sender.specs.Turning.{AgencyKind, AgencyState}
 use Rattle.sender.specs.declared.answers.DrainFault.{DrainFault}
 use Rattle.sender.specs.declared.answers.DrainFault.TheVariants as drain
 use Rattle.sender.specs.declared.answers.SendFault.{SendFault}
@@ -44,11 +44,11 @@ use Rattle.shop_drain.proofs.DrainSteps.{drained_steps}
 use Rattle.sender_session.proofs.Torn.{drained_tears}
 
 -- what the clauses of a drain say of it, from this sending and these lines on
-pub record DrainSays (kind : AgencyKind) (exact : Bool) (before after : Sight) (old new : Desk) (moment last : ℕ)
+pub record DrainSays (kind : AgencyKind) (exact : Bool) (before after : Sight) (old new : AgencyState) (moment last : ℕ)
     (turns : List TurnLine) (answer : Result (Unit {0}) DrainFault) (then : Sending) (sending : Sending)
     (first : List TurnLine) : Type 0 where
-  pub drained : Drained kind exact (record { desk = old; sight = before; sending = sending; moment = moment })
-      (record { desk = new; sight = after; sending = then; moment = last }) first turns answer
+  pub drained : Drained kind exact (record { agency_state = old; sight = before; sending = sending; moment = moment })
+      (record { agency_state = new; sight = after; sending = then; moment = last }) first turns answer
   pub adds : Adds AreNotesOrTorn before after
   pub agreement : InOneSession kind.keeps_rules before after old.ledger sending.said
       (KeepsSession before after old.ledger new.ledger then.said)
@@ -63,12 +63,12 @@ pub record DrainSays (kind : AgencyKind) (exact : Bool) (before after : Sight) (
       length (waiting (history_of before)) ≤ 1000 * batches → IsBounded batches first turns)
 
 -- of a new sender that has told nothing
-abbrev pub NewDrainSays : AgencyKind → Bool → Sight → Sight → Desk → Desk → ℕ → ℕ → List TurnLine →
+abbrev pub NewDrainSays : AgencyKind → Bool → Sight → Sight → AgencyState → AgencyState → ℕ → ℕ → List TurnLine →
     Result (Unit {0}) DrainFault → Sending → Type 0
 NewDrainSays kind exact before after old new moment last turns answer then =
     DrainSays kind exact before after old new moment last turns answer then fresh []
 
-pub of_new : (kind : AgencyKind) (exact : Bool) (before after : Sight) (old new : Desk) (moment last : ℕ) (turns : List TurnLine)
+pub of_new : (kind : AgencyKind) (exact : Bool) (before after : Sight) (old new : AgencyState) (moment last : ℕ) (turns : List TurnLine)
     (answer : Result (Unit {0}) DrainFault) (then sending : Sending) (first : List TurnLine) → sending ≡ fresh → first ≡ [] →
     DrainSays kind exact before after old new moment last turns answer then sending first →
     NewDrainSays kind exact before after old new moment last turns answer then
@@ -77,7 +77,7 @@ of_new kind exact before after old new moment last turns answer then sending fir
     (subst (λ (l : List TurnLine). DrainSays kind exact before after old new moment last turns answer then sending l) f h)
 
 -- at these sights
-pub at_sights : (kind : AgencyKind) (exact : Bool) (before after here there : Sight) (old new : Desk) (moment last : ℕ)
+pub at_sights : (kind : AgencyKind) (exact : Bool) (before after here there : Sight) (old new : AgencyState) (moment last : ℕ)
     (turns : List TurnLine) (answer : Result (Unit {0}) DrainFault) (then : Sending) → here ≡ before → there ≡ after →
     NewDrainSays kind exact before after old new moment last turns answer then →
     NewDrainSays kind exact here there old new moment last turns answer then
@@ -95,7 +95,7 @@ pub record SessionLaws : Type 0 where
 module _ {C : Type 0} (base log : List Item) (root : Root C) (tills : List (Known Item (Root C)))
     (seat then : Known Item (Root C)) (closed : Closed base log root tills seat then) (es : List Entry) (stopped : Option ℕ)
     (torn : Option Entry) (stored : Stored base log root tills seat then closed root.history es stopped torn)
-    (kind : AgencyKind) (exact : Bool) (old new : Desk) (moment last : ℕ) (turns : List TurnLine)
+    (kind : AgencyKind) (exact : Bool) (old new : AgencyState) (moment last : ℕ) (turns : List TurnLine)
     (answer : Result (Unit {0}) DrainFault) (sending : Sending)
     (says : NewDrainSays kind exact (sight_by seat) (sight_by then) old new moment last turns answer sending) where
   abbrev span : Span
@@ -119,10 +119,10 @@ module _ {C : Type 0} (base log : List Item) (root : Root C) (tills : List (Know
   after = sight_by then
 
   abbrev first_scene : Scene
-  first_scene = record { desk = old; sight = before; sending = fresh; moment = moment }
+  first_scene = record { agency_state = old; sight = before; sending = fresh; moment = moment }
 
   abbrev last_scene : Scene
-  last_scene = record { desk = new; sight = after; sending = sending; moment = last }
+  last_scene = record { agency_state = new; sight = after; sending = sending; moment = last }
 
   -- a drain that answers a fault of the disk leaves a stop
   pub drain_stops : IsDiskAnswer answer → IsSome stopped

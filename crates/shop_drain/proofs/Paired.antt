@@ -26,11 +26,11 @@ use Rattle.shop_drain.proofs.Placed.{one_each, places_are, stand_at}
 
 -- a pair's start as a shop's root
 abbrev pub paired_root : {D C M : Type 0} → (D → OnDisk) → (D → ℕ) → Both D C M → Root C
-paired_root told faults start = record {
+paired_root on_disk faults start = record {
   issuer = start.standby.history.issuer;
   version = start.standby.history.version;
   history = start.standby.history.entries;
-  told = told start.shop.disk;
+  on_disk = on_disk start.shop.disk;
   faults = faults start.shop.disk;
   clock = start.clock;
 }
@@ -84,11 +84,11 @@ items_first start on =
     ap (λ (l : List Item). first_of start ++ l) (none_stopped start.shop.stopped start.standby.stopped start.shop.torn
     start.standby.torn on.shop on.standby) ∙ append-nil (first_of start)
 
-module _ {D C M : Type 0} (tells : Bool) (told : D → OnDisk) (faults : D → ℕ) (others_tell : Bool) (others_told : M → OnDisk)
+module _ {D C M : Type 0} (tells : Bool) (on_disk : D → OnDisk) (faults : D → ℕ) (others_tell : Bool) (others_on_disk : M → OnDisk)
     (others_faults : M → ℕ) (start present : Both D C M)
-    (p : IsPair tells told faults others_tell others_told others_faults start present) where
+    (p : IsPair tells on_disk faults others_tell others_on_disk others_faults start present) where
   abbrev root : Root C
-  root = paired_root told faults start
+  root = paired_root on_disk faults start
 
   abbrev base : List Item
   base = first_of start

@@ -13,7 +13,7 @@ use Rattle.shop_core.specs.History.{recs, noted}
 use Rattle.once_world.specs.Agreement.{Agree}
 use Rattle.sender.specs.declared.answers.DrainFault.{DrainFault}
 use Rattle.sender.specs.declared.answers.DrainFault.TheVariants as drain
-use Rattle.sender.specs.Turning.{Desk}
+use Rattle.sender.specs.Turning.{AgencyState}
 use Rattle.till_calls.specs.Root.{Parts, with_torn, root_of}
 use Rattle.till_calls.specs.Sound.{IsLater, IsSound, Leaves}
 use Rattle.sender_session.specs.Session.{AreOfChain, AreNotesEntry}
@@ -36,9 +36,9 @@ not_later coming start now same = record {
       (sym (zero-add k));
 }
 
-module _ {D C : Type 0} (tells : Bool) (told : D → OnDisk) (faults : D → ℕ) (coming : C → ℕ → Option ℕ) where
-  pub sound_at_start : (p : Parts D C) → p.stopped ≡ None → IsReady tells p.state p.stopped p.gate (told p.disk) →
-      Legal p.state.version p.state.issuer p.state.entries → IsSound tells told faults coming (root_of told faults p) p
+module _ {D C : Type 0} (tells : Bool) (on_disk : D → OnDisk) (faults : D → ℕ) (coming : C → ℕ → Option ℕ) where
+  pub sound_at_start : (p : Parts D C) → p.stopped ≡ None → IsReady tells p.state p.stopped p.gate (on_disk p.disk) →
+      Legal p.state.version p.state.issuer p.state.entries → IsSound tells on_disk faults coming (root_of on_disk faults p) p
   sound_at_start p going ready legal = record {
     ready = ready;
     issuer = refl;
@@ -47,15 +47,15 @@ module _ {D C : Type 0} (tells : Bool) (told : D → OnDisk) (faults : D → ℕ
     begins = front_all p.state.entries;
     clock = record { number = 0; moved = λ k. ap (coming p.clock) (sym (zero-add k)) };
     crashes = λ says.
-        let holds : Holds p.state p.gate (told p.disk) = ready.holds going says in
-        let stands : StandsFor p.state.version p.state.issuer p.state.entries (told p.disk).content = record {
+        let holds : Holds p.state p.gate (on_disk p.disk) = ready.holds going says in
+        let stands : StandsFor p.state.version p.state.issuer p.state.entries (on_disk p.disk).content = record {
           frames = holds.file.file;
           encoded = holds.encoded;
           legal = legal;
         } in
-        subst (λ (es : List Entry). Leaves (root_of told faults p) p.state.entries es (told p.disk))
+        subst (λ (es : List Entry). Leaves (root_of on_disk faults p) p.state.entries es (on_disk p.disk))
         (sym (none_torn p.state.entries p.stopped p.torn going)) (record {
-          since = weaker (told p.disk) (told p.disk) (StandsFor p.state.version p.state.issuer p.state.entries) _ (started_settled (told p.disk)
+          since = weaker (on_disk p.disk) (on_disk p.disk) (StandsFor p.state.version p.state.issuer p.state.entries) _ (started_settled (on_disk p.disk)
               (StandsFor p.state.version p.state.issuer p.state.entries) holds.file.nothing_pending stands)
               (λ c h. record {
                 history = p.state.entries;
@@ -63,7 +63,7 @@ module _ {D C : Type 0} (tells : Bool) (told : D → OnDisk) (faults : D → ℕ
                 begins = record { rest = []; is = sym (append-nil p.state.entries) };
                 within = record { rest = []; is = sym (append-nil p.state.entries) };
               });
-          whole = λ c left. inl (leaves_now (told p.disk) (StandsFor p.state.version p.state.issuer p.state.entries) holds.file.nothing_pending
+          whole = λ c left. inl (leaves_now (on_disk p.disk) (StandsFor p.state.version p.state.issuer p.state.entries) holds.file.nothing_pending
               stands c left);
         });
     stop = λ count e. absurd (let x : ◌≡◌ {A = Option ℕ} None (Some count) = sym going ∙ e in cc);
@@ -85,24 +85,24 @@ nothing_sent d end untorn same silent lacking = record {
     are = tt;
     go_on = tt;
     told = inl silent;
-    messages = λ tells. ap (λ (k : Desk). k.ledger.messages) same ∙ sym (append-nil d.old.ledger.messages);
+    messages = λ tells. ap (λ (k : AgencyState). k.ledger.messages) same ∙ sym (append-nil d.old.ledger.messages);
     noted = ap (λ (es : List Entry). length (noted es)) end;
     few = omega arith;
-    links = λ below. let e = ap (λ (k : Desk). k.faults) same in omega (arith, e);
+    links = λ below. let e = ap (λ (k : AgencyState). k.faults) same in omega (arith, e);
     ends = subst (λ (r : Result (Unit {0}) DrainFault). EndsBy (recs d.start) (at_start (length (noted d.start)) d.moment) 0
         (length (noted d.end)) [] r) (sym lacking) tt;
   };
   torn_told = inl untorn;
   lines = λ tells. record {
     session = [];
-    is = ap (λ (k : Desk). k.ledger.messages) same ∙ sym (append-nil d.old.ledger.messages);
+    is = ap (λ (k : AgencyState). k.ledger.messages) same ∙ sym (append-nil d.old.ledger.messages);
     of_waiting = tt;
     lines = subst (λ (r : Result (Unit {0}) DrainFault). AreNoted (noted d.start) (noted d.end) [] r) (sym lacking)
         (inl (ap (λ (es : List Entry). noted es) end ∙ sym (append-nil (noted d.start))));
   };
   torn_lines = λ tells. subst (λ (es : List Entry). AllByRecursion (TornSaid d.end d.new.ledger.messages) es) (sym untorn) tt;
   agreement = λ keeps agree.
-      let here : Agree d.start d.new.ledger.processed d.new.ledger.sent = subst (λ (k : Desk). Agree d.start k.ledger.processed
+      let here : Agree d.start d.new.ledger.processed d.new.ledger.sent = subst (λ (k : AgencyState). Agree d.start k.ledger.processed
       k.ledger.sent) (sym same) agree in
       let there : Agree d.end d.new.ledger.processed d.new.ledger.sent =
       subst (λ (es : List Entry). Agree es d.new.ledger.processed d.new.ledger.sent) (sym end) here in
@@ -114,10 +114,10 @@ nothing_sent d end untorn same silent lacking = record {
         bound = λ batches few. record { added = []; is = silent; within = omega arith };
       };
   runs = λ tells runs. subst (λ (es : List Entry). AreOfChain es d.new.ledger.messages) (sym end)
-      (subst (λ (k : Desk). AreOfChain d.start k.ledger.messages) (sym same) runs);
+      (subst (λ (k : AgencyState). AreOfChain d.start k.ledger.messages) (sym same) runs);
   careful = λ tells runs. record {
     session = [];
-    is = ap (λ (k : Desk). k.ledger.messages) same ∙
+    is = ap (λ (k : AgencyState). k.ledger.messages) same ∙
         sym (append-nil d.old.ledger.messages);
     never = tt;
   };

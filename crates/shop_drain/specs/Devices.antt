@@ -10,9 +10,9 @@ use Rattle.chain_store.specs.Clocks.{Clocks, LeftClock, this_clock}
 use Rattle.record_fields.specs.declared.records.Sealed.{Sealed}
 use Rattle.record_fields.specs.declared.lines.Line.{Line}
 use Rattle.agency_port.specs.declared.agency.Agency as agency
-use Rattle.sender.specs.Turning.{Desk, AgencyKind}
+use Rattle.sender.specs.Turning.{AgencyState, AgencyKind}
 use Rattle.shop_drain.specs.declared.posts.Post.{Post}
-use Rattle.sender_session.specs.Kinds.{agency_kind, agency_desk}
+use Rattle.sender_session.specs.Kinds.{agency_kind, agency_state_of}
 
 -- a sleeper and the moment that its kind gives it
 pub record Sleepers (Z : Type 0) : Type 0 where
@@ -24,14 +24,14 @@ pub record Sleepers (Z : Type 0) : Type 0 where
 abbrev pub LeftSleeper : {Z : Type 0} → Sleepers Z → Type 0
 LeftSleeper s = s.sleeper_after ≡ s.sleeper
 
--- an agency: what its kind tells, how that begins a session by what it had and by the noted pairs, and its desk before and after
+-- an agency: what its kind tells, how that begins a session by what it had and by the noted pairs, and its state before and after
 pub record Agencies (G : Type 0) : Type 0 where
   pub kind : AgencyKind
   pub begun : List (Sealed × Line) → List (Sealed × Line) → List (Sealed × Line)
   pub agency : G
   pub agency_after : G
-  pub before : Desk
-  pub after : Desk
+  pub before : AgencyState
+  pub after : AgencyState
 
 abbrev pub LeftAgency : {G : Type 0} → Agencies G → Type 0
 LeftAgency a = a.agency_after ≡ a.agency
@@ -104,7 +104,7 @@ around a = record {
 -- the parts of a post in a call, before it and after it, by what their kinds tell
 module _ {D C Z G : Type 0} where
   abbrev pub disk_in : disk.Ghosts D → Post D C Z G → Post D C Z G → Disks D
-  disk_in kind old new = this_disk kind.tells kind.told kind.faults old.disk new.disk
+  disk_in kind old new = this_disk kind.tells kind.on_disk kind.faults old.disk new.disk
 
   abbrev pub clock_in : clock.Ghosts C → Post D C Z G → Post D C Z G → Clocks C
   clock_in kind old new = this_clock kind.coming old.clock new.clock
@@ -123,8 +123,8 @@ module _ {D C Z G : Type 0} where
     begun = kind.begun;
     agency = old.agency;
     agency_after = new.agency;
-    before = agency_desk kind old.agency;
-    after = agency_desk kind new.agency;
+    before = agency_state_of kind old.agency;
+    after = agency_state_of kind new.agency;
   }
 
   -- all of them, with the sink

@@ -25,12 +25,13 @@ use Rattle.sender.specs.declared.answers.DrainFault.{DrainFault}
 use Rattle.sender.specs.declared.answers.DrainFault.TheVariants as drain
 use Rattle.sender.specs.Dark.{AreRunsBy}
 use Rattle.sender.specs.Draining.{IsBounded}
-use Rattle.sender.specs.Turning.{AgencyKind, Desk}
-use Rattle.chain_store.specs.Crashes.{Kept}
+use Rattle.sender.specs.Turning.{AgencyKind, AgencyState}
+use Rattle.chain_store.specs.Crashes.{SurvivesCrashes}
 use Rattle.sender_session.specs.Noting.{NotesSaid, TornSaid}
 use Rattle.sender_session.specs.Steps.{EndsSaying, Step, Steps, line_in}
 use Rattle.sender_session.specs.Session.{AreNotesEntry, IsDiskAnswer, SaysNothingBlindly, AreOfChain}
 use Rattle.shop_drain.specs.Devices.{Agencies}
+use Rattle.pacing.specs.declared.pace.TheConstants.{MAX_BATCH}
 
 -- notes alone came after the history before
 pub record AddsNotesAlone (before after : List Entry) : Type 0 where
@@ -49,15 +50,15 @@ abbrev pub noted_pairs : List Entry → List (Sealed × Line)
 noted_pairs entries = zip (recs entries) (noted entries)
 
 -- A drain: the history of its store at the start and at the end, with the notes after it whose append failed; what the
--- agency's kind tells, and its desk at the start and at the end; whether the sleeper tells its moment, and that at the start;
+-- agency's kind tells, and its state at the start and at the end; whether the sleeper tells its moment, and that at the start;
 -- the lines told; and the answer.
 pub record Span : Type 0 where
   pub start : List Entry
   pub end : List Entry
   pub torn : List Entry
   pub kind : AgencyKind
-  pub old : Desk
-  pub new : Desk
+  pub old : AgencyState
+  pub new : AgencyState
   pub exact : Bool
   pub moment : ℕ
   pub turns : List TurnLine
@@ -71,7 +72,7 @@ pub record Outcome : Type 0 where
   pub answer : Result (Unit {0}) DrainFault
 
 -- the drain that began with this and ended with that
-abbrev pub spanning : List Entry → AgencyKind → Desk → Desk → Bool → ℕ → Outcome → Span
+abbrev pub spanning : List Entry → AgencyKind → AgencyState → AgencyState → Bool → ℕ → Outcome → Span
 spanning start kind old new exact moment o = record {
   start = start;
   end = o.end;
@@ -85,7 +86,7 @@ spanning start kind old new exact moment o = record {
   answer = o.answer;
 }
 
--- The disk failed at the notes of a drain's last step. Its line tells that, and so does the answer; or memory was wanting for the
+-- The disk failed at the notes of a drain's last step. Its line tells that, and so does the answer; or memory ran out for the
 -- line, which then isn't told.
 pub record TearsLast (going last : List Step) (turns : List TurnLine) (answer : Result (Unit {0}) DrainFault) : Type 0 where
   pub line : EndsSaying last told.Disk
@@ -98,7 +99,7 @@ pub record StillAgrees (d : Span) : Type 0 where
   pub whole : Agree d.end d.new.ledger.processed d.new.ledger.sent
   pub torn : Agree (d.end ++ d.torn) d.new.ledger.processed d.new.ledger.sent
   pub no_contradiction : (evidence : Evidence) → IsErrOf d.answer (drain.Contradiction evidence) → ⊥
-  pub bound : (batches : ℕ) → length (waiting d.start) ≤ 1000 * batches → IsBounded batches [] d.turns
+  pub bound : (batches : ℕ) → length (waiting d.start) ≤ MAX_BATCH * batches → IsBounded batches [] d.turns
 
 -- What a new sender does by its turns, over an agency whose session is open.
 pub record Sends (d : Span) : Type 0 where
@@ -119,7 +120,7 @@ pub record Sends (d : Span) : Type 0 where
   pub agreement : IsTrue d.kind.keeps_rules → Agree d.start d.old.ledger.processed d.old.ledger.sent → StillAgrees d
   -- no record is handed over again unless a consultation since has answered that it wasn't seen
   pub careful : IsTrue d.kind.tells →
-      AreRunsBy (recs d.start) (length (noted d.start) + 1000) (batches_in d.old.ledger.messages) →
+      AreRunsBy (recs d.start) (length (noted d.start) + MAX_BATCH) (batches_in d.old.ledger.messages) →
       SaysNothingBlindly d.old.ledger.messages d.new.ledger.messages
   -- where all batches were such runs of the chain they are at the end
   pub runs : IsTrue d.kind.tells → AreOfChain d.start d.old.ledger.messages → AreOfChain d.end d.new.ledger.messages
@@ -129,12 +130,12 @@ abbrev pub Beginning : Type 0
 Beginning = List (Sealed × Line) → List (Sealed × Line) → List (Sealed × Line)
 
 -- a session was opened, with this plan and the pairs noted in the history
-pub record OpensSession (kind : AgencyKind) (begun : Beginning) (plan : Plan) (start : List Entry) (old opened : Desk) : Type 0 where
+pub record OpensSession (kind : AgencyKind) (begun : Beginning) (plan : Plan) (start : List Entry) (old opened : AgencyState) : Type 0 where
   pub lists : IsTrue kind.tells → Begins old.ledger opened.ledger plan (length (noted start))
   pub rules : IsTrue kind.keeps_rules → opened.ledger.processed ≡ begun old.ledger.processed (noted_pairs start)
   pub faults : opened.faults ≡ old.faults
 
--- memory was wanting for it, and nothing was done
+-- memory ran out for it, and nothing was done
 pub record IsUnopened (d : Span) : Type 0 where
   pub answer : d.answer ≡ Err drain.NoMemory
   pub turns : d.turns ≡ []
@@ -143,14 +144,14 @@ pub record IsUnopened (d : Span) : Type 0 where
   pub end : d.end ≡ d.start
   pub torn : d.torn ≡ []
 
--- the drain from this desk of the agency on
-abbrev pub from_desk : Desk → Span → Span
-from_desk desk d = record {
+-- the drain from this state of the agency on
+abbrev pub from_agency_state : AgencyState → Span → Span
+from_agency_state agency_state d = record {
   start = d.start;
   end = d.end;
   torn = d.torn;
   kind = d.kind;
-  old = desk;
+  old = agency_state;
   new = d.new;
   exact = d.exact;
   moment = d.moment;
@@ -161,16 +162,16 @@ from_desk desk d = record {
 -- The session was opened, and all that was said and noted was by the turns of one new sender. Where shop and agency agreed
 -- once it was open, they still do.
 pub record IsSession (begun : Beginning) (plan : Plan) (d : Span) : Type 0 where
-  pub opened : Desk
+  pub opened : AgencyState
   pub opens : OpensSession d.kind begun plan d.start d.old opened
-  pub sends : Sends (from_desk opened d)
+  pub sends : Sends (from_agency_state opened d)
   pub agreement : IsTrue d.kind.keeps_rules →
       Agree d.start (begun d.old.ledger.processed (noted_pairs d.start)) d.old.ledger.sent → StillAgrees d
 
 -- the file stands for a history that agrees
-abbrev pub AgreesInFile : Version → List ℕ → Desk → List ℕ → Type 0
-AgreesInFile version issuer desk file = (entries : List Entry)
-    × StandsFor version issuer entries file × Agree entries desk.ledger.processed desk.ledger.sent
+abbrev pub AgreesInFile : Version → List ℕ → AgencyState → List ℕ → Type 0
+AgreesInFile version issuer agency_state file = (entries : List Entry)
+    × StandsFor version issuer entries file × Agree entries agency_state.ledger.processed agency_state.ledger.sent
 
 -- a disk that a store is on: whether its kind tells what it holds, and what it told and its count of faults before and after
 pub record DiskSpan : Type 0 where
@@ -184,8 +185,8 @@ pub record DiskSpan : Type 0 where
 abbrev pub disk_span : {D : Type 0} → Ghosts D → D → D → DiskSpan
 disk_span kind old new = record {
   tells = kind.tells;
-  since = kind.told old;
-  now = kind.told new;
+  since = kind.on_disk old;
+  now = kind.on_disk new;
   faults = kind.faults old;
   faults_after = kind.faults new;
 }
@@ -197,7 +198,7 @@ pub record StoreDrains (P : List Entry → List Entry → List Entry → List �
   pub notes : AddsNotesAlone d.start d.end
   pub legal : Legal version issuer d.end
   pub linked : Linked issuer (recs d.end)
-  pub kept : IsTrue k.tells → Kept (P d.start d.end d.torn) version issuer d.end d.torn k.since k.now
+  pub kept : IsTrue k.tells → SurvivesCrashes (P d.start d.end d.torn) version issuer d.end d.torn k.since k.now
   -- where the agency agrees it does with the history of each file that a crash now leaves
   pub images : IsTrue k.tells → StillAgrees d → LeavesNow k.now (AgreesInFile version issuer d.new)
   -- the disk's count of faults rose where it failed

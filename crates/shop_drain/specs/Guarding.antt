@@ -3,7 +3,7 @@ use Rattle.std.specs.Prelude.{◌≡◌, ◌⊎◌, ◌≤◌, ◌++◌, [], ℕ
 use Rattle.agency_port.specs.declared.turns.Told.{Told as TurnLine}
 use Rattle.agency_rules.specs.declared.plans.Plan.{Plan}
 use Rattle.chain_disk.specs.OnDisk.{LeavesNow}
-use Rattle.chain_store.specs.Crashes.{Kept}
+use Rattle.chain_store.specs.Crashes.{SurvivesCrashes}
 use Rattle.huella.specs.Linked.{Linked}
 use Rattle.journal.specs.declared.faults.StoreFault.TheVariants as store
 use Rattle.ports.specs.Causes.{Rose}
@@ -62,7 +62,7 @@ pub record ChainDrained (P : List Entry → List Entry → List Entry → List �
   pub said : IsTrue d.kind.tells → NotesWhatIsSaid start h.entries d.old.ledger.messages d.new.ledger.messages
   pub legal : Legal version issuer h.entries
   pub linked : Linked issuer (recs h.entries)
-  pub kept : IsTrue k.tells → Kept (P start h.entries h.torn) version issuer h.entries h.torn k.since k.now
+  pub kept : IsTrue k.tells → SurvivesCrashes (P start h.entries h.torn) version issuer h.entries h.torn k.since k.now
   -- where the agency agrees it does with the history of each file that a crash now leaves
   pub images : IsTrue k.tells → StillAgrees d → LeavesNow k.now (AgreesInFile version issuer d.new)
   -- the disk's count of faults rose wherever notes are torn

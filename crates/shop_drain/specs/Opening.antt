@@ -1,6 +1,6 @@
 -- What a day's sender leaves of its shop and of its agency, and how a day ends.
 use Rattle.std.specs.Prelude.{◌≡◌, ◌-◌, [], IsTrue, ◌≤◌, ℕ, List}
-use Rattle.sender.specs.Turning.{Desk, AgencyKind}
+use Rattle.sender.specs.Turning.{AgencyState, AgencyKind}
 use Rattle.ports.specs.Sinks.{Sinks, WroteNothing}
 use Rattle.chain_disk.specs.Disks.{Disks, DiskRose, LeftDisk}
 use Rattle.chain_store.specs.declared.causes.OpenCause.{OpenCause}
@@ -11,11 +11,11 @@ use Rattle.report.specs.declared.status.Detail.TheVariants as detail
 use Rattle.chain_disk.specs.OnDisk.{LeavesNow, LeavesOnly, synced}
 use Rattle.shop_core.specs.File.Files.{StandsFor}
 use Rattle.till_calls.specs.Root.{Parts}
-use Rattle.shop_drain.specs.Crashes.{KeepsFile}
+use Rattle.shop_drain.specs.Crashes.{IsFoundSince, KeepsFile}
 use Rattle.sender_session.specs.Kinds.{StoreKind}
 
 -- no session was opened
-pub record IsUnbegun (kind : AgencyKind) (old new : Desk) : Type 0 where
+pub record IsUnbegun (kind : AgencyKind) (old new : AgencyState) : Type 0 where
   pub lists : IsTrue kind.tells → new.ledger ≡ old.ledger
   pub faults : new.faults ≡ old.faults
 
@@ -37,8 +37,8 @@ pub record NotOpened {D : Type 0} (issuer : List ℕ) (left : Type 0) (s : Sinks
   pub why : OpenCause
   pub ends : end ≡ opening_end why
   pub risen : why ≡ cause.DiskFault → DiskRose k
-  pub left_by : IsTrue k.tells → IsLeftUnopened issuer why (k.told k.disk) (k.told k.disk_after)
-  pub every_crash : IsTrue k.tells → KeepsFile issuer (k.told k.disk) (k.told k.disk_after)
+  pub left_by : IsTrue k.tells → IsLeftUnopened issuer why (k.on_disk k.disk) (k.on_disk k.disk_after)
+  pub every_crash : IsTrue k.tells → KeepsFile issuer (k.on_disk k.disk) (k.on_disk k.disk_after)
   pub wrote : WroteNothing s
   pub rest : left
 
@@ -47,13 +47,14 @@ pub record NotOpened {D : Type 0} (issuer : List ℕ) (left : Type 0) (s : Sinks
 pub record IsOpened {D C : Type 0} (issuer : List ℕ) (h : StoreKind D C) (disk : D) (clock : C) (store : Parts D C) : Type 0 where
   pub issuer_is : store.state.issuer ≡ issuer
   pub clock_is : store.clock ≡ clock
-  pub found : IsTrue h.tells → IsFound store.state.version issuer store.state.entries (h.told disk).content
+  pub found : IsTrue h.tells → IsFound store.state.version issuer store.state.entries (h.on_disk disk).content
   pub any_moment : IsTrue h.tells →
-      LeavesOnly (synced (h.told disk)) (h.told store.disk) (IsFound store.state.version issuer store.state.entries)
-  pub every_crash : IsTrue h.tells → LeavesNow (h.told store.disk) (StandsFor store.state.version issuer store.state.entries)
+      LeavesOnly (synced (h.on_disk disk)) (h.on_disk store.disk)
+      (IsFoundSince (h.on_disk disk).content store.state.version issuer store.state.entries)
+  pub every_crash : IsTrue h.tells → LeavesNow (h.on_disk store.disk) (StandsFor store.state.version issuer store.state.entries)
   pub later : h.faults disk ≤ h.faults store.disk
 
 -- it wasn't, and this is what the opening left of it
 pub record IsUnopened {D : Type 0} (issuer : List ℕ) (why : OpenCause) (k : Disks D) : Type 0 where
   pub risen : why ≡ cause.DiskFault → DiskRose k
-  pub left_by : IsTrue k.tells → IsLeftUnopened issuer why (k.told k.disk) (k.told k.disk_after)
+  pub left_by : IsTrue k.tells → IsLeftUnopened issuer why (k.on_disk k.disk) (k.on_disk k.disk_after)

@@ -20,9 +20,9 @@ pub record IsStarted {D C : Type 0} {g : disk.Ghosts D} {h : clock.Ghosts C} (s 
   pub base : first_items s.shop ≡ map item.Entry (shop_root s.shop).history
 
 -- it has begun over a store with these parts, and has a till for each of these numbers
-pub record IsBegun {D C : Type 0} {g : disk.Ghosts D} {h : clock.Ghosts C} (told : D → OnDisk) (faults : D → ℕ) (store : Parts D C)
+pub record IsBegun {D C : Type 0} {g : disk.Ghosts D} {h : clock.Ghosts C} (on_disk : D → OnDisk) (faults : D → ℕ) (store : Parts D C)
     (tills : List ℕ) (s : Started D C g h) : Type 0 where
   pub started : IsStarted s
-  pub root : shop_root s.shop ≡ root_of told faults store
+  pub root : shop_root s.shop ≡ root_of on_disk faults store
   pub numbers_are : numbers s.tills ≡ tills
   pub made : made_tills s.tills ≡ length tills

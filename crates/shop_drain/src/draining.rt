@@ -1,4 +1,4 @@
-// Sends an opened file's waiting records until none is left.
+//! Sends an opened file's waiting records until none is left.
 ghost use Rattle.std.specs.Prelude.{◌≡◌, IsSome, None};
 ghost use Rattle.chain_store.specs.Store.{Ready, clock_of, journal_of, state_of};
 ghost use Rattle.journal.specs.Journal.{disk_of, stopped_of};
@@ -6,7 +6,7 @@ ghost use Rattle.till_calls.specs.Root.{parts_of};
 ghost use Rattle.till_calls.specs.Shop.{shop_root};
 ghost use Rattle.till_calls.specs.Sound.{IsLater, IsSound};
 ghost use Rattle.chain_store.specs.Crashes.{StandsUpTo};
-ghost use Rattle.sender_session.specs.Kinds.{agency_desk, agency_kind};
+ghost use Rattle.sender_session.specs.Kinds.{agency_state_of, agency_kind};
 ghost use Rattle.sender_session.specs.Session.{IsDiskAnswer};
 ghost use Rattle.shop_drain.specs.Draining.{Sends, StoreDrains, disk_span, spanning};
 ghost use Rattle.shop_drain.specs.Outcomes.{outcome_of};
@@ -39,10 +39,10 @@ fn drain_begun<D: Disk, C: Clock, Z: Sleeper, G: Agency, R: Wait>(
     begun: Begun<D, C, Z, G>,
 ) -> DrainEnd<D, C, Z, G>
     requires { IsStarted begun.started }
-    ensures sound { IsSound D.tells D.told D.faults C.coming (shop_root begun.started.shop) (parts_of result.opened.store) }
+    ensures sound { IsSound D.tells D.on_disk D.faults C.coming (shop_root begun.started.shop) (parts_of result.opened.store) }
     ensures stopped { IsDiskAnswer result.answer → IsSome (parts_of result.opened.store).stopped }
     ensures sends { Sends (spanning (shop_root begun.started.shop).history (agency_kind G.Agency)
-        (agency_desk G.Agency begun.agency) (agency_desk G.Agency result.opened.agency) Z.tells (Z.moment begun.sleeper)
+        (agency_state_of G.Agency begun.agency) (agency_state_of G.Agency result.opened.agency) Z.tells (Z.moment begun.sleeper)
         (outcome_of result)) }
 {
     agreement_is_kept();
@@ -78,7 +78,7 @@ fn drain_begun<D: Disk, C: Clock, Z: Sleeper, G: Agency, R: Wait>(
 }
 
 /// Opens the agency's session on an opened file, and sends the records that wait by a new sender over a shop without tills, until
-/// none is left. Where memory is wanting nothing is sent.
+/// none is left. Where memory runs out nothing is sent.
 pub fn drain_opened<D: Disk, C: Clock, Z: Sleeper, G: Agency, R: Wait>(
     rt: &R,
     alloc: Global,
@@ -86,12 +86,12 @@ pub fn drain_opened<D: Disk, C: Clock, Z: Sleeper, G: Agency, R: Wait>(
     opened: Opened<D, C, Z, G>,
 ) -> DrainEnd<D, C, Z, G>
     requires going_on { stopped_of (journal_of opened.store) ≡ None }
-    requires ready { Ready D.tells D.told opened.store }
+    requires ready { Ready D.tells D.on_disk opened.store }
     ensures drains { StoreDrains (StandsUpTo (state_of opened.store).version (state_of opened.store).issuer) G.begun plan.now
         (state_of opened.store).version (state_of opened.store).issuer
         (disk_span D.Disk (disk_of (journal_of opened.store)) (disk_of (journal_of result.opened.store)))
-        (spanning (state_of opened.store).entries (agency_kind G.Agency) (agency_desk G.Agency opened.agency)
-        (agency_desk G.Agency result.opened.agency) Z.tells (Z.moment opened.sleeper) (outcome_of result)) }
+        (spanning (state_of opened.store).entries (agency_kind G.Agency) (agency_state_of G.Agency opened.agency)
+        (agency_state_of G.Agency result.opened.agency) Z.tells (Z.moment opened.sleeper) (outcome_of result)) }
     ensures clock { IsLater C.coming (clock_of opened.store) (clock_of result.opened.store) }
 {
     legal_is_chained();

@@ -1,11 +1,11 @@
-// Sends an opened file's waiting records until none is left, and notes each line in a copy too.
+//! Sends an opened file's waiting records until none is left, and notes each line in a copy too.
 ghost use Rattle.std.specs.Prelude.{◌≡◌, IsSome, IsTrue, None};
 ghost use Rattle.chain_store.specs.Crashes.{StandsUpTo};
 ghost use Rattle.chain_store.specs.Store.{Ready, clock_of, journal_of, state_of};
 ghost use Rattle.journal.specs.Journal.{disk_of, stopped_of};
 ghost use Rattle.standby.specs.Chains.{chain_of};
 ghost use Rattle.standby.specs.Pairs.{IsPair, both_of, stop_of};
-ghost use Rattle.sender_session.specs.Kinds.{agency_desk, agency_kind};
+ghost use Rattle.sender_session.specs.Kinds.{agency_state_of, agency_kind};
 ghost use Rattle.sender_session.specs.Session.{IsDiskAnswer};
 ghost use Rattle.shop_drain.specs.Draining.{Sends, disk_span, spanning};
 ghost use Rattle.shop_drain.specs.Guarding.{GuardDrains, MissesTorn, held_by};
@@ -39,18 +39,18 @@ fn drain_pair<D: Disk, C: Clock, M: Disk, Z: Sleeper, G: Agency, R: Wait>(
     opened: Opened<D, C, Z, G>,
     standby: Standby<M>,
 ) -> GuardEnd<D, C, M, Z, G>
-    requires ready { Ready D.tells D.told opened.store }
+    requires ready { Ready D.tells D.on_disk opened.store }
     requires going_on { (stopped_of (journal_of opened.store) ≡ None) × (standby.stopped ≡ None) }
     requires issuer { standby.history.issuer ≡ (state_of opened.store).issuer }
     requires version { standby.history.version ≡ (state_of opened.store).version }
     requires entries { standby.history.entries ≡ (state_of opened.store).entries }
-    ensures pair { IsPair D.tells D.told D.faults M.tells M.told M.faults (both_of opened.store standby)
+    ensures pair { IsPair D.tells D.on_disk D.faults M.tells M.on_disk M.faults (both_of opened.store standby)
         (both_of result.opened.store result.standby) }
     ensures stopped { IsDiskAnswer result.answer → IsSome (stop_of (both_of result.opened.store result.standby)) }
-    ensures sends { Sends (spanning standby.history.entries (agency_kind G.Agency) (agency_desk G.Agency opened.agency)
-        (agency_desk G.Agency result.opened.agency) Z.tells (Z.moment opened.sleeper) (guard_outcome result)) }
+    ensures sends { Sends (spanning standby.history.entries (agency_kind G.Agency) (agency_state_of G.Agency opened.agency)
+        (agency_state_of G.Agency result.opened.agency) Z.tells (Z.moment opened.sleeper) (guard_outcome result)) }
     ensures missed { IsTrue G.tells → MissesTorn (spanning standby.history.entries (agency_kind G.Agency)
-        (agency_desk G.Agency opened.agency) (agency_desk G.Agency result.opened.agency) Z.tells (Z.moment opened.sleeper)
+        (agency_state_of G.Agency opened.agency) (agency_state_of G.Agency result.opened.agency) Z.tells (Z.moment opened.sleeper)
         (guard_outcome result)) }
 {
     what_came_beside_is_records();
@@ -79,7 +79,7 @@ fn drain_pair<D: Disk, C: Clock, M: Disk, Z: Sleeper, G: Agency, R: Wait>(
 }
 
 /// Opens the agency's session on an opened file whose copy has the same history, and sends the records that wait by a new sender,
-/// until none is left. Each line is noted in the file and then in the copy. Where memory is wanting nothing is sent.
+/// until none is left. Each line is noted in the file and then in the copy. Where memory runs out nothing is sent.
 pub fn guard_opened<D: Disk, C: Clock, M: Disk, Z: Sleeper, G: Agency, R: Wait>(
     rt: &R,
     alloc: Global,
@@ -87,7 +87,7 @@ pub fn guard_opened<D: Disk, C: Clock, M: Disk, Z: Sleeper, G: Agency, R: Wait>(
     opened: Opened<D, C, Z, G>,
     standby: Standby<M>,
 ) -> GuardEnd<D, C, M, Z, G>
-    requires ready { Ready D.tells D.told opened.store }
+    requires ready { Ready D.tells D.on_disk opened.store }
     requires going_on { (stopped_of (journal_of opened.store) ≡ None) × (standby.stopped ≡ None) }
     requires issuer { standby.history.issuer ≡ (state_of opened.store).issuer }
     requires version { standby.history.version ≡ (state_of opened.store).version }
@@ -97,8 +97,8 @@ pub fn guard_opened<D: Disk, C: Clock, M: Disk, Z: Sleeper, G: Agency, R: Wait>(
         (state_of opened.store).version (state_of opened.store).issuer
         (disk_span D.Disk (disk_of (journal_of opened.store)) (disk_of (journal_of result.opened.store)))
         (disk_span M.Disk standby.disk result.standby.disk)
-        (spanning (state_of opened.store).entries (agency_kind G.Agency) (agency_desk G.Agency opened.agency)
-        (agency_desk G.Agency result.opened.agency) Z.tells (Z.moment opened.sleeper) (guard_outcome result))
+        (spanning (state_of opened.store).entries (agency_kind G.Agency) (agency_state_of G.Agency opened.agency)
+        (agency_state_of G.Agency result.opened.agency) Z.tells (Z.moment opened.sleeper) (guard_outcome result))
         (held_by (chain_of result.opened.store)) (held_by result.standby) }
 
     // The clock isn't read.

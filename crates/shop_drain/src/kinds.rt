@@ -1,4 +1,4 @@
-// What all disks and all agencies of a kind have.
+//! What all disks and all agencies of a kind have.
 ghost use Rattle.std.specs.Prelude.{IsTrue};
 ghost use Rattle.chain_disk.specs.OnDisk.{IsImage};
 
@@ -12,5 +12,5 @@ pub fn who_keeps_the_rules_tells<G: Agency>()
 
 /// A disk as it reads is one of its images of now.
 pub fn what_a_disk_reads_is_an_image<D: Disk>()
-    ensures { (disk : _) → IsTrue D.tells → IsImage (D.told disk).now (D.told disk).content }
+    ensures { (disk : _) → IsTrue D.tells → IsImage (D.on_disk disk).now (D.on_disk disk).content }
 {}

@@ -1,11 +1,11 @@
-// From a post to an opened file, on to a shop that has begun over it, and back.
+//! From a post to an opened file, on to a shop that has begun over it, and back.
 ghost use Rattle.std.specs.Prelude.{◌≡◌, ◌≤◌, ◌⊎◌, IsTrue, All, IfOk, IfErr, OnOk, OnErr, None, length};
 ghost use Rattle.std.specs.Int.{IsInRange};
 ghost use Rattle.chain_store.specs.Store.{Ready, journal_of};
 ghost use Rattle.journal.specs.Journal.{stopped_of};
 ghost use Rattle.record_codec.specs.declared.entry.TheConstants.{LAST_TILL};
 ghost use Rattle.till_calls.specs.Root.{parts_of};
-ghost use Rattle.sender_session.specs.Kinds.{agency_desk, agency_kind, store_kind};
+ghost use Rattle.sender_session.specs.Kinds.{agency_state_of, agency_kind, store_kind};
 ghost use Rattle.shop_drain.specs.Devices.{disk_in};
 ghost use Rattle.shop_drain.specs.Draining as spec;
 ghost use Rattle.shop_drain.specs.Draining.{OpensSession};
@@ -23,7 +23,7 @@ use ports::{Clock, CountingClock, LeapSleeper, NoMemory, Sleeper};
 use record_fields::{Line, Sealed};
 use recovery::open_store;
 use report::Detail;
-use shop_core::{State, a_history_notes_its_records};
+use shop_core::{State, a_file_has_one_meaning, a_history_notes_its_records};
 use std::alloc::Global;
 use till_calls::{Shop, StartRefused, Started};
 
@@ -110,7 +110,7 @@ pub fn open<D: Disk, C: Clock, Z, G>(
     issuer: &Nif,
     post: Post<D, C, Z, G>,
 ) -> Result<Opened<D, C, Z, G>, Unopened<D, C, Z, G>>
-    ensures ready { IfOk result (λ o. Ready D.tells D.told o.store) }
+    ensures ready { IfOk result (λ o. Ready D.tells D.on_disk o.store) }
     ensures going_on { IfOk result (λ o. stopped_of (journal_of o.store) ≡ None) }
     ensures opened { IfOk result (λ o. IsOpened issuer.now (store_kind D.Disk C.Clock) post.disk post.clock (parts_of o.store)) }
     ensures kept { IfOk result (λ o. (o.sleeper ≡ post.sleeper) × (o.agency ≡ post.agency)) }
@@ -124,6 +124,7 @@ pub fn open<D: Disk, C: Clock, Z, G>(
         sleeper,
         agency,
     } = post;
+    a_file_has_one_meaning();
     match open_store(alloc, disk, clock, issuer) {
         Ok(store) => Ok(Opened {
             store,
@@ -175,7 +176,7 @@ pub fn close<D: Disk, C: Clock, Z, G>(opened: Opened<D, C, Z, G>) -> Post<D, C, 
 }
 
 /// Opens the agency's session with this plan and the pairs noted in the file, and begins a shop over it with a till for each of
-/// these numbers. Where memory is wanting the opened file comes back, with its session open or not.
+/// these numbers. Where memory runs out the opened file comes back, with its session open or not.
 pub fn begin<D: Disk, C: Clock, Z, G: Agency>(
     alloc: Global,
     plan: &Plan,
@@ -185,15 +186,15 @@ pub fn begin<D: Disk, C: Clock, Z, G: Agency>(
     requires numbers { All (IsInRange 1 LAST_TILL) tills.now }
     requires few { length tills.now ≤ LAST_TILL }
     requires going_on { stopped_of (journal_of opened.store) ≡ None }
-    requires ready { Ready D.tells D.told opened.store }
-    ensures shop { IfOk result (λ b. IsBegun D.told D.faults (parts_of opened.store) tills.now b.started) }
+    requires ready { Ready D.tells D.on_disk opened.store }
+    ensures shop { IfOk result (λ b. IsBegun D.on_disk D.faults (parts_of opened.store) tills.now b.started) }
     ensures session { IfOk result (λ b. OpensSession (agency_kind G.Agency) G.begun plan.now
-        (parts_of opened.store).state.entries (agency_desk G.Agency opened.agency) (agency_desk G.Agency b.agency)) }
+        (parts_of opened.store).state.entries (agency_state_of G.Agency opened.agency) (agency_state_of G.Agency b.agency)) }
     ensures sleeper { IfOk result (λ b. b.sleeper ≡ opened.sleeper) }
     ensures refused { IfErr result (λ o. (parts_of o.store ≡ parts_of opened.store) × (o.sleeper ≡ opened.sleeper)
-        × (IsUnbegun (agency_kind G.Agency) (agency_desk G.Agency opened.agency) (agency_desk G.Agency o.agency)
+        × (IsUnbegun (agency_kind G.Agency) (agency_state_of G.Agency opened.agency) (agency_state_of G.Agency o.agency)
         ⊎ OpensSession (agency_kind G.Agency) G.begun plan.now (parts_of opened.store).state.entries
-        (agency_desk G.Agency opened.agency) (agency_desk G.Agency o.agency))) }
+        (agency_state_of G.Agency opened.agency) (agency_state_of G.Agency o.agency))) }
 {
     let Opened {
         store,
@@ -248,7 +249,7 @@ pub fn begin_session<G: Agency>(
     agency: &mut G,
 ) -> Result<(), NoMemory>
     ensures ok { OnOk result (OpensSession (agency_kind G.Agency) G.begun plan.now state.now.entries
-        (agency_desk G.Agency agency.old) (agency_desk G.Agency agency.new)) }
+        (agency_state_of G.Agency agency.old) (agency_state_of G.Agency agency.new)) }
     ensures err { OnErr result ((IsTrue G.tells → G.ledger agency.new ≡ G.ledger agency.old)
         × (G.faults agency.new ≡ G.faults agency.old)) }
 {

@@ -1,4 +1,4 @@
-// What a command works on: a file and what goes with it.
+//! What a command works on: a file and what goes with it.
 use ports::{Clock, CountingClock, LeapSleeper, Sleeper};
 use record_fields::ListOf;
 

@@ -13,13 +13,13 @@ use parties::Nif;
 use ports::{Clock, CountingClock, NoMemory};
 use record_codec::Version;
 use record_fields::{Draft, Refs};
-use rows::holds;
 use series::SeriesName;
 use shop_core::{Reply, Request, State};
 use std::alloc::Global;
 use std::sync::Wait;
 use std::test::Fail;
 use tax_lines::{Breakdown, Class, LineKey, TaxLine};
+use test_rows::holds;
 use till_calls::{Question, Shop, Started};
 
 // 2025-01-01, 10:00 on the peninsular clock.
@@ -48,9 +48,9 @@ fn sale(alloc: Global) -> Result<Request, Fail> {
 
 // The store of a file that isn't begun, which begins it.
 fn begun<D: Disk + Drop, C: Clock + Drop>(alloc: Global, disk: D, clock: C) -> Option<Store<D, C>>
-    requires { IsTrue D.tells → IsNotBegun (D.told disk).content × IsSettled (D.told disk) }
+    requires { IsTrue D.tells → IsNotBegun (D.on_disk disk).content × IsSettled (D.on_disk disk) }
     ensures going_on { IfSome result (λ store. stopped_of (journal_of store) ≡ None) }
-    ensures ready { IfSome result (λ store. Ready D.tells D.told store) }
+    ensures ready { IfSome result (λ store. Ready D.tells D.on_disk store) }
 {
     let Ok(issuer) = Nif::read("89890001K") else {
         return None;
@@ -84,7 +84,7 @@ struct Ran<D: Disk, C: Clock> {
     first: Result<Reply, StoreFault>,
     second: Result<Reply, StoreFault>,
     again: Result<Reply, StoreFault>,
-    // How many items till 2 knew of before till 1 was answered, and behind that, when it had asked for nothing.
+    // How many items till 2 knew of before till 1 was answered, and after that, when it had asked for nothing.
     seen: (u64, u64),
     // How many records till 2 saw then.
     looked: Result<u32, NoMemory>,
@@ -100,7 +100,7 @@ fn run_in_turns<D: Disk + Drop, C: Clock + Drop, R: Wait>(
     request: &Request,
 ) -> Option<Ran<D, C>>
     requires going_on { stopped_of (journal_of store) ≡ None }
-    requires ready { Ready D.tells D.told store }
+    requires ready { Ready D.tells D.on_disk store }
 {
     let Ok(started) = Shop::start(alloc, store, &[1, 2]) else {
         return None;
@@ -167,7 +167,7 @@ fn again_at(reply: &Result<Reply, StoreFault>) -> u32 {
     }
 }
 
-// Whether a look showed so many records.
+// Whether a look showed this many records.
 fn shows(looked: &Result<u32, NoMemory>, records: u32) -> bool {
     match looked {
         Ok(n) => *n == records,

@@ -1,4 +1,4 @@
-// Huellas are SHA-256, by another program, of the records' field texts.
+//! Huellas are SHA-256, by another program, of the records' field texts.
 ghost use Rattle.std.specs.Prelude.{◌≡◌, IfOk, None};
 ghost use Rattle.chain_store.specs.Store.{Ready, journal_of};
 ghost use Rattle.journal.specs.Journal.{stopped_of};
@@ -7,19 +7,19 @@ use amounts::Cents;
 use chain_disk::{Disk, MemDisk};
 use chain_store::{OpenCause, Store};
 use journal::StoreFault;
+use library_examples::{
+    NoTicket, NotNoted, Ticket, audit_a_file, counter_sale, first_waiting, link_of_a_sale,
+    note_lines, one_till_a_thread, open_and_take, print_ticket,
+};
 use parties::Nif;
 use ports::{Clock, CountingClock};
 use record_fields::Line;
 use recovery::open_store;
-use rows::holds;
 use series::{NumSerie, SeriesName};
 use shop_core::{Ask, Reply, Request};
 use std::alloc::Global;
 use std::test::Fail;
-use uses::{
-    NoTicket, NotNoted, Ticket, audit_a_file, counter_sale, first_waiting, link_of_a_sale,
-    note_lines, one_till_a_thread, open_and_take, print_ticket,
-};
+use test_rows::holds;
 use verify_link::Host;
 
 // 2025-01-01, 10:00 on the peninsular clock.
@@ -105,7 +105,7 @@ fn opened<D: Disk + Drop, C: Clock + Drop>(
     clock: C,
 ) -> Result<Store<D, C>, Fail>
     ensures going_on { IfOk result (λ store. stopped_of (journal_of store) ≡ None) }
-    ensures ready { IfOk result (λ store. Ready D.tells D.told store) }
+    ensures ready { IfOk result (λ store. Ready D.tells D.on_disk store) }
 {
     let issuer = issuer()?;
     match open_store(alloc, disk, clock, &issuer) {

@@ -4,12 +4,12 @@ use invoice_kinds::Kind;
 use once_world::{Event, World, run_events};
 use parties::Nif;
 use record_fields::{Draft, Refs};
-use rows::holds;
 use series::SeriesName;
 use shop_core::{Ask, Request};
 use std::alloc::Global;
 use std::test::Fail;
 use tax_lines::{Breakdown, Class, LineKey, TaxLine};
+use test_rows::holds;
 
 // 2025-01-01, 10:00 on the peninsular clock.
 const TEN: u64 = 1_735_722_000;

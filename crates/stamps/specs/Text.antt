@@ -16,7 +16,7 @@ date_text_of n =
     let date = date_at n in
     two_digits date.day ++ codes "-" ++ two_digits date.month ++ codes "-" ++ four_digits date.year
 
--- seconds on a local clock, which is so many minutes ahead of UTC, as `YYYY-MM-DDThh:mm:ss+hh:mm`
+-- seconds on a local clock, which is this many minutes ahead of UTC, as `YYYY-MM-DDThh:mm:ss+hh:mm`
 unfoldable pub local_text_of : ℕ → ℕ → List ℕ
 local_text_of local ahead =
     let date = date_at (local / 86_400) in

@@ -51,7 +51,7 @@ fn is_stamp_offset(minutes: i16) -> bool
     minutes == 60 || minutes == 120
 }
 
-/// The moment so many seconds after 1970 began at UTC, with the offset that the peninsular clock has there. Refused exactly
+/// The moment this many seconds after 1970 began at UTC, with the offset that the peninsular clock has there. Refused exactly
 /// outside `CLOCK_FROM` to `CLOCK_TO`.
 pub fn stamp_at(seconds: u64) -> Result<Stamp, ClockRange>
     ensures range { IsOk result ↔ IsStampSeconds seconds }

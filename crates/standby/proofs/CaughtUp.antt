@@ -34,7 +34,7 @@ use Rattle.standby.proofs.Splitting.{cut_at}
 use Rattle.std.proofs.Math.Seq.{take-length}
 use Rattle.std.specs.Prelude.{MatchBool, true, false}
 
--- what a list has at an index behind a front of this length
+-- what a list has at an index after a front of this length
 pub at_cut : {A : Type 0} (before after : List A) (x : A) → slice_get (before ++ x ∷ after) (length before) ≡ Some x
 at_cut [] after x = refl
 at_cut (y ∷ before) after x = at_cut before after x
@@ -146,26 +146,26 @@ no_longer xs ys front =
 rose_from : (a b c : ℕ) → a ≤ b → Rose b c → Rose a c
 rose_from a b c le rose = λ small. let strict = rose small in omega (arith, le, strict)
 
-module _ {D : Type 0} (tells : Bool) (told : D → OnDisk) (faults : D → ℕ) where
+module _ {D : Type 0} (tells : Bool) (on_disk : D → OnDisk) (faults : D → ℕ) where
   -- no call was made
   pub following_same : OneHistory → (chain : ChainOnDisk D) (version : Version) (issuer : List ℕ) (entries : List Entry) →
-      IsSoundChain tells told faults chain → chain.history.issuer ≡ issuer → chain.history.version ≡ version →
+      IsSoundChain tells on_disk faults chain → chain.history.issuer ≡ issuer → chain.history.version ≡ version →
       chain.stopped ≡ None → Legal version issuer entries → IsPrefix chain.history.entries entries →
-      IsFollowing tells told chain chain entries
+      IsFollowing tells on_disk chain chain entries
   following_same one chain version issuer entries sound i v going legal front =
-      follows_same tells told faults one chain sound [] entries
+      follows_same tells on_disk faults one chain sound [] entries
       (subst₂ (λ (w : Version) (n : List ℕ). Legal w n entries) (sym v) (sym i) legal) front
       (λ some. absurd (let none = subst (λ (o : Option ℕ). IsSome o) going some in cc)) tt
 
   -- the one after the other
-  pub following_on : (a b c : ChainOnDisk D) (entries : List Entry) → IsFollowing tells told a b entries →
-      IsFollowing tells told b c entries → IsFollowing tells told a c entries
+  pub following_on : (a b c : ChainOnDisk D) (entries : List Entry) → IsFollowing tells on_disk a b entries →
+      IsFollowing tells on_disk b c entries → IsFollowing tells on_disk a c entries
   following_on a b c entries f g = record {
     issuer = g.issuer ∙ f.issuer;
     version = g.version ∙ f.version;
     within = g.within;
     begins = front_on a.history.entries b.history.entries c.history.entries f.begins g.begins;
-    images = λ says. follows (told a.disk) (told b.disk) (told c.disk) _ _ _ (f.images says) (g.images says) (λ file h. h)
+    images = λ says. follows (on_disk a.disk) (on_disk b.disk) (on_disk c.disk) _ _ _ (f.images says) (g.images says) (λ file h. h)
         (λ file h. between_wider a.history.version a.history.issuer a.history.entries b.history.entries entries entries file
         f.begins (front_same entries)
         (subst₂ (λ (v : Version) (n : List ℕ). StandsBetween v n b.history.entries entries file) f.version f.issuer h));
@@ -175,7 +175,7 @@ module _ {D : Type 0} (tells : Bool) (told : D → OnDisk) (faults : D → ℕ) 
   pub following_by : (old new : ChainOnDisk D) (piece : Piece) (version : Version) (issuer : List ℕ) (entries : List Entry) →
       old.history.issuer ≡ issuer → old.history.version ≡ version → old.stopped ≡ None → Legal version issuer entries →
       IsPrefix old.history.entries entries → IsPieceOf version issuer entries piece →
-      Follows tells told old new (piece ∷ []) → IsFollowing tells told old new entries
+      Follows tells on_disk old new (piece ∷ []) → IsFollowing tells on_disk old new entries
   following_by old new piece version issuer entries i v going legal front p f =
       f entries (subst₂ (λ (w : Version) (n : List ℕ). Legal w n entries) (sym v) (sym i) legal) front
       (λ some. absurd (let none = subst (λ (o : Option ℕ). IsSome o) going some in cc))
@@ -194,7 +194,7 @@ module _ {D : Type 0} (tells : Bool) (told : D → OnDisk) (faults : D → ℕ) 
         (legal p.before p.after p.entry p.stands)
 
     -- the next piece of a legal history is kept
-    pub caught_ok : (answer : Arrived) → Arrives tells told faults old new piece (Ok answer) →
+    pub caught_ok : (answer : Arrived) → Arrives tells on_disk faults old new piece (Ok answer) →
         CatchesOne {D = D} faults old new (Ok tt)
     caught_ok Old a = absurd (let lt = a.0 in omega (arith, here, lt))
     caught_ok (Gap next) a = absurd (let lt = a.0 in omega (arith, here, lt))
@@ -211,14 +211,14 @@ module _ {D : Type 0} (tells : Bool) (told : D → OnDisk) (faults : D → ℕ) 
         (k.going_on, omega (arith, n, m))
 
   pub caught_err : (old new : ChainOnDisk D) (piece : Piece) (fault : StoreFault) → old.stopped ≡ None →
-      Arrives tells told faults old new piece (Err fault) → CatchesOne faults old new (Err fault)
+      Arrives tells on_disk faults old new piece (Err fault) → CatchesOne faults old new (Err fault)
   caught_err old new piece DiskFault going t = (t.rose, t.stopped)
   caught_err old new piece (Stopped count) going a = absurd a
   caught_err old new piece NoMemory going a = ap (λ (c : ChainOnDisk D). c.stopped) a ∙ going
 
   -- what ended the last one ends the whole
   pub caught_up_err : (start old new : ChainOnDisk D) (entries : List Entry) (fault : StoreFault) →
-      GoesTo tells told faults start old → CatchesOne faults old new (Err fault) → CatchesUp faults start new entries (Err fault)
+      GoesTo tells on_disk faults start old → CatchesOne faults old new (Err fault) → CatchesUp faults start new entries (Err fault)
   caught_up_err start old new entries DiskFault goes c =
       (rose_from (faults start.disk) (faults old.disk) (faults new.disk) goes.later c.0, c.1)
   caught_up_err start old new entries (Stopped count) goes c = absurd c

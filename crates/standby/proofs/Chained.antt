@@ -127,12 +127,12 @@ roomy_by {D = D} (Err e) old new entry ok err = record {
   torn = ap (λ (c : ChainOnDisk D). c.torn) err;
 }
 
-module _ {D : Type 0} (tells : Bool) (told : D → OnDisk) (faults : D → ℕ) where
+module _ {D : Type 0} (tells : Bool) (on_disk : D → OnDisk) (faults : D → ℕ) where
   abbrev Sound : ChainOnDisk D → Type 0
-  Sound chain = IsSoundChain tells told faults chain
+  Sound chain = IsSoundChain tells on_disk faults chain
 
   abbrev Goes : ChainOnDisk D → ChainOnDisk D → Type 0
-  Goes old new = GoesTo tells told faults old new
+  Goes old new = GoesTo tells on_disk faults old new
 
   -- no call was made
   pub goes_same : (chain : ChainOnDisk D) → Sound chain → Goes chain chain
@@ -141,7 +141,7 @@ module _ {D : Type 0} (tells : Bool) (told : D → OnDisk) (faults : D → ℕ) 
     version = refl;
     begins = front_same chain.history.entries;
     longer = front_same (longest chain);
-    since = λ says. started (told chain.disk) (StandsBetween chain.history.version chain.history.issuer chain.history.entries (longest chain))
+    since = λ says. started (on_disk chain.disk) (StandsBetween chain.history.version chain.history.issuer chain.history.entries (longest chain))
         (λ c image. between_either chain.history.version chain.history.issuer chain.history.entries (longest chain) c
         (longest_begins chain.history.entries chain.stopped chain.torn) (s.images says c (inl (refl, image))));
     later = omega arith;
@@ -153,7 +153,7 @@ module _ {D : Type 0} (tells : Bool) (told : D → OnDisk) (faults : D → ℕ) 
     version = g.version ∙ f.version;
     begins = front_on a.history.entries b.history.entries c.history.entries f.begins g.begins;
     longer = front_on (longest a) (longest b) (longest c) f.longer g.longer;
-    since = λ says. follows (told a.disk) (told b.disk) (told c.disk) _ _ _ (f.since says) (g.since says)
+    since = λ says. follows (on_disk a.disk) (on_disk b.disk) (on_disk c.disk) _ _ _ (f.since says) (g.since says)
         (λ file h. between_wider a.history.version a.history.issuer a.history.entries a.history.entries (longest b) (longest c) file
         (front_same a.history.entries) g.longer h)
         (λ file h. between_wider a.history.version a.history.issuer a.history.entries b.history.entries (longest c) (longest c) file
@@ -164,14 +164,14 @@ module _ {D : Type 0} (tells : Bool) (told : D → OnDisk) (faults : D → ℕ) 
 
   -- what keeping an entry makes of a chain, fact by fact
   pub record Keeping {E : Type 0} (old new : ChainOnDisk D) (entry : Entry) (r : Result (Unit {0}) E) : Type 0 where
-    pub ready : IsReady tells new.history new.stopped new.gate (told new.disk)
+    pub ready : IsReady tells new.history new.stopped new.gate (on_disk new.disk)
     pub issuer : new.history.issuer ≡ old.history.issuer
     pub version : new.history.version ≡ old.history.version
     pub added : OnOk r ((new.stopped ≡ None) × (new.history.entries ≡ old.history.entries ++ entry ∷ []))
     pub same : OnErr r (new.history.entries ≡ old.history.entries)
-    pub any_moment : IsTrue tells → LeavesOnly (told old.disk) (told new.disk)
+    pub any_moment : IsTrue tells → LeavesOnly (on_disk old.disk) (on_disk new.disk)
         (StandsBeforeOrWith old.history.version old.history.issuer old.history.entries entry)
-    pub acknowledged : OnOk r (IsTrue tells → LeavesNow (told new.disk) (StandsFor new.history.version new.history.issuer new.history.entries))
+    pub acknowledged : OnOk r (IsTrue tells → LeavesNow (on_disk new.disk) (StandsFor new.history.version new.history.issuer new.history.entries))
     pub torn : OnErr r (new.torn ≡ Some entry)
     pub fault : OnErr r (Rose (faults old.disk) (faults new.disk) × (new.stopped ≡ Some (faults new.disk)))
     pub later : faults old.disk ≤ faults new.disk
@@ -182,7 +182,7 @@ module _ {D : Type 0} (tells : Bool) (told : D → OnDisk) (faults : D → ℕ) 
   goes_with : (old new : ChainOnDisk D) (entry : Entry) → old.stopped ≡ None → new.history.issuer ≡ old.history.issuer →
       new.history.version ≡ old.history.version →
       IsPrefix old.history.entries new.history.entries → longest new ≡ old.history.entries ++ entry ∷ [] →
-      (IsTrue tells → LeavesOnly (told old.disk) (told new.disk)
+      (IsTrue tells → LeavesOnly (on_disk old.disk) (on_disk new.disk)
       (StandsBeforeOrWith old.history.version old.history.issuer old.history.entries entry)) →
       faults old.disk ≤ faults new.disk → Goes old new
   goes_with old new entry was issuer version begins long only later = record {
@@ -190,7 +190,7 @@ module _ {D : Type 0} (tells : Bool) (told : D → OnDisk) (faults : D → ℕ) 
     version = version;
     begins = begins;
     longer = record { rest = entry ∷ []; is = long ∙ ap (λ (es : List Entry). es ++ entry ∷ []) (sym (going old was)) };
-    since = λ says. weaker (told old.disk) (told new.disk) (StandsBeforeOrWith old.history.version old.history.issuer old.history.entries entry) _
+    since = λ says. weaker (on_disk old.disk) (on_disk new.disk) (StandsBeforeOrWith old.history.version old.history.issuer old.history.entries entry) _
         (only says)
         (λ c h. subst (λ (es : List Entry). StandsBetween old.history.version old.history.issuer old.history.entries es c) (sym long)
         (between_with old.history.version old.history.issuer old.history.entries entry c h));
@@ -199,7 +199,7 @@ module _ {D : Type 0} (tells : Bool) (told : D → OnDisk) (faults : D → ℕ) 
 
   pub kept : {E : Type 0} (old new : ChainOnDisk D) (entry : Entry) (r : Result (Unit {0}) E) → GoesOn → Sound old →
       old.stopped ≡ None → Continues old.history.version old.history.issuer old.history.entries entry → Keeping old new entry r →
-      Sound new × KeepsEntry tells told faults old new entry r
+      Sound new × KeepsEntry tells on_disk faults old new entry r
   kept {E = E} old new entry (Ok done) law s was continues k =
       let legal : Legal old.history.version old.history.issuer (old.history.entries ++ entry ∷ []) =
       law old.history.version old.history.issuer old.history.entries entry s.legal continues in
@@ -231,7 +231,7 @@ module _ {D : Type 0} (tells : Bool) (told : D → OnDisk) (faults : D → ℕ) 
               (subst (λ (es : List Entry). Legal old.history.version old.history.issuer es) (sym k.same) s.legal);
           images = λ says c left.
               let there : StandsForEither old.history.version old.history.issuer old.history.entries (old.history.entries ++ entry ∷ []) c =
-              (k.any_moment says).each (moment (told new.disk)) c (k.any_moment says).later left in
+              (k.any_moment says).each (moment (on_disk new.disk)) c (k.any_moment says).later left in
               subst₂ (λ (v : Version) (n : List ℕ). StandsForEither v n new.history.entries (longest new) c) (sym k.version) (sym k.issuer)
               (subst (λ (es : List Entry). StandsForEither old.history.version old.history.issuer es (longest new) c) (sym k.same)
               (subst (λ (es : List Entry). StandsForEither old.history.version old.history.issuer old.history.entries es c) (sym now) there));
@@ -258,8 +258,8 @@ module _ {D : Type 0} (tells : Bool) (told : D → OnDisk) (faults : D → ℕ) 
 
   -- a chain that goes on, as its history and disk are found
   pub sound_going : (chain : ChainOnDisk D) → chain.stopped ≡ None →
-      IsReady tells chain.history chain.stopped chain.gate (told chain.disk) → Legal chain.history.version chain.history.issuer chain.history.entries →
-      (IsTrue tells → LeavesNow (told chain.disk) (StandsFor chain.history.version chain.history.issuer chain.history.entries)) → Sound chain
+      IsReady tells chain.history chain.stopped chain.gate (on_disk chain.disk) → Legal chain.history.version chain.history.issuer chain.history.entries →
+      (IsTrue tells → LeavesNow (on_disk chain.disk) (StandsFor chain.history.version chain.history.issuer chain.history.entries)) → Sound chain
   sound_going chain was ready legal now = record {
     ready = ready;
     legal = legal;
@@ -273,23 +273,23 @@ module _ {D : Type 0} (tells : Bool) (told : D → OnDisk) (faults : D → ℕ) 
       ap (λ (o : Option ℕ). with_torn a.history.entries o b.torn) r.stopped ∙
       ap (λ (o : Option Entry). with_torn a.history.entries a.stopped o) r.torn
 
-  pub sound_roomy : (a b : ChainOnDisk D) → IsRoomy a b → IsSoundChain tells told faults a → IsSoundChain tells told faults b
+  pub sound_roomy : (a b : ChainOnDisk D) → IsRoomy a b → IsSoundChain tells on_disk faults a → IsSoundChain tells on_disk faults b
   sound_roomy a b r s = record {
     ready = record {
       place = subst (λ (n : ℕ). n ≤ furthest_gate b.history.entries) (sym r.gate)
           (subst (λ (es : List Entry). a.gate ≤ furthest_gate es) (sym r.entries) s.ready.place);
       holds = λ none says.
-          subst (λ (d : D). Holds b.history b.gate (told d)) (sym r.disk)
-          (subst (λ (n : ℕ). Holds b.history n (told a.disk)) (sym r.gate)
-          (holds_roomy a.history b.history a.gate (told a.disk) r.issuer r.version r.entries (s.ready.holds (sym r.stopped ∙ none) says)));
+          subst (λ (d : D). Holds b.history b.gate (on_disk d)) (sym r.disk)
+          (subst (λ (n : ℕ). Holds b.history n (on_disk a.disk)) (sym r.gate)
+          (holds_roomy a.history b.history a.gate (on_disk a.disk) r.issuer r.version r.entries (s.ready.holds (sym r.stopped ∙ none) says)));
     };
     legal = subst₂ (λ (v : Version) (n : List ℕ). Legal v n b.history.entries) (sym r.version) (sym r.issuer)
         (subst (λ (es : List Entry). Legal a.history.version a.history.issuer es) (sym r.entries) s.legal);
     images = λ says.
-        subst (λ (d : D). LeavesNow (told d) (StandsForEither b.history.version b.history.issuer b.history.entries (longest b))) (sym r.disk)
-        (subst₂ (λ (v : Version) (n : List ℕ). LeavesNow (told a.disk) (StandsForEither v n b.history.entries (longest b))) (sym r.version) (sym r.issuer)
-        (subst (λ (es : List Entry). LeavesNow (told a.disk) (StandsForEither a.history.version a.history.issuer es (longest b))) (sym r.entries)
-        (subst (λ (es : List Entry). LeavesNow (told a.disk) (StandsForEither a.history.version a.history.issuer a.history.entries es))
+        subst (λ (d : D). LeavesNow (on_disk d) (StandsForEither b.history.version b.history.issuer b.history.entries (longest b))) (sym r.disk)
+        (subst₂ (λ (v : Version) (n : List ℕ). LeavesNow (on_disk a.disk) (StandsForEither v n b.history.entries (longest b))) (sym r.version) (sym r.issuer)
+        (subst (λ (es : List Entry). LeavesNow (on_disk a.disk) (StandsForEither a.history.version a.history.issuer es (longest b))) (sym r.entries)
+        (subst (λ (es : List Entry). LeavesNow (on_disk a.disk) (StandsForEither a.history.version a.history.issuer a.history.entries es))
         (sym (same_longest a b r)) (s.images says))));
     stop = λ count is.
         let t = s.stop count (sym r.stopped ∙ is) in
@@ -302,16 +302,16 @@ module _ {D : Type 0} (tells : Bool) (told : D → OnDisk) (faults : D → ℕ) 
         };
   }
 
-  pub goes_roomy : (s a b : ChainOnDisk D) → GoesTo tells told faults s a → IsRoomy a b → GoesTo tells told faults s b
+  pub goes_roomy : (s a b : ChainOnDisk D) → GoesTo tells on_disk faults s a → IsRoomy a b → GoesTo tells on_disk faults s b
   goes_roomy s a b g r = record {
     issuer = r.issuer ∙ g.issuer;
     version = r.version ∙ g.version;
     begins = record { rest = g.begins.rest; is = r.entries ∙ g.begins.is };
     longer = record { rest = g.longer.rest; is = same_longest a b r ∙ g.longer.is };
     since = λ says.
-        subst (λ (d : D). LeavesOnly (told s.disk) (told d) (StandsBetween s.history.version s.history.issuer s.history.entries (longest b)))
+        subst (λ (d : D). LeavesOnly (on_disk s.disk) (on_disk d) (StandsBetween s.history.version s.history.issuer s.history.entries (longest b)))
         (sym r.disk)
-        (subst (λ (es : List Entry). LeavesOnly (told s.disk) (told a.disk) (StandsBetween s.history.version s.history.issuer s.history.entries es))
+        (subst (λ (es : List Entry). LeavesOnly (on_disk s.disk) (on_disk a.disk) (StandsBetween s.history.version s.history.issuer s.history.entries es))
         (sym (same_longest a b r)) (g.since says));
     later = subst (λ (d : D). faults s.disk ≤ faults d) (sym r.disk) g.later;
   }
@@ -323,24 +323,24 @@ module _ {D : Type 0} (tells : Bool) (told : D → OnDisk) (faults : D → ℕ) 
     begins = subst (λ (es : List Entry). IsPrefix es c.history.entries) r.entries g.begins;
     longer = subst (λ (es : List Entry). IsPrefix es (longest c)) (same_longest a b r) g.longer;
     since = λ says.
-        subst (λ (d : D). LeavesOnly (told d) (told c.disk) (StandsBetween a.history.version a.history.issuer a.history.entries (longest c))) r.disk
-        (subst₂ (λ (v : Version) (n : List ℕ). LeavesOnly (told b.disk) (told c.disk) (StandsBetween v n a.history.entries (longest c))) r.version r.issuer
-        (subst (λ (es : List Entry). LeavesOnly (told b.disk) (told c.disk) (StandsBetween b.history.version b.history.issuer es (longest c)))
+        subst (λ (d : D). LeavesOnly (on_disk d) (on_disk c.disk) (StandsBetween a.history.version a.history.issuer a.history.entries (longest c))) r.disk
+        (subst₂ (λ (v : Version) (n : List ℕ). LeavesOnly (on_disk b.disk) (on_disk c.disk) (StandsBetween v n a.history.entries (longest c))) r.version r.issuer
+        (subst (λ (es : List Entry). LeavesOnly (on_disk b.disk) (on_disk c.disk) (StandsBetween b.history.version b.history.issuer es (longest c)))
         r.entries (g.since says)));
     later = subst (λ (d : D). faults d ≤ faults c.disk) r.disk g.later;
   }
 
-  moment_roomy : (a b c : ChainOnDisk D) (entry : Entry) → IsRoomy a b → LeavesOnly (told b.disk) (told c.disk)
-      (StandsBeforeOrWith b.history.version b.history.issuer b.history.entries entry) → LeavesOnly (told a.disk) (told c.disk)
+  moment_roomy : (a b c : ChainOnDisk D) (entry : Entry) → IsRoomy a b → LeavesOnly (on_disk b.disk) (on_disk c.disk)
+      (StandsBeforeOrWith b.history.version b.history.issuer b.history.entries entry) → LeavesOnly (on_disk a.disk) (on_disk c.disk)
       (StandsBeforeOrWith a.history.version a.history.issuer a.history.entries entry)
   moment_roomy a b c entry r only =
-      subst (λ (d : D). LeavesOnly (told d) (told c.disk) (StandsBeforeOrWith a.history.version a.history.issuer a.history.entries entry)) r.disk
-      (subst₂ (λ (v : Version) (n : List ℕ). LeavesOnly (told b.disk) (told c.disk) (StandsBeforeOrWith v n a.history.entries entry)) r.version r.issuer
-      (subst (λ (es : List Entry). LeavesOnly (told b.disk) (told c.disk) (StandsBeforeOrWith b.history.version b.history.issuer es entry))
+      subst (λ (d : D). LeavesOnly (on_disk d) (on_disk c.disk) (StandsBeforeOrWith a.history.version a.history.issuer a.history.entries entry)) r.disk
+      (subst₂ (λ (v : Version) (n : List ℕ). LeavesOnly (on_disk b.disk) (on_disk c.disk) (StandsBeforeOrWith v n a.history.entries entry)) r.version r.issuer
+      (subst (λ (es : List Entry). LeavesOnly (on_disk b.disk) (on_disk c.disk) (StandsBeforeOrWith b.history.version b.history.issuer es entry))
       r.entries only))
 
   keeps_roomy : {E : Type 0} (a b c : ChainOnDisk D) (entry : Entry) (r : Result (Unit {0}) E) → IsRoomy a b →
-      KeepsEntry tells told faults b c entry r → KeepsEntry tells told faults a c entry r
+      KeepsEntry tells on_disk faults b c entry r → KeepsEntry tells on_disk faults a c entry r
   keeps_roomy {E = E} a b c entry (Ok done) r k = record {
     goes = roomy_goes a b c r k.goes;
     added = (k.added.0, k.added.1 ∙ ap (λ (es : List Entry). es ++ entry ∷ []) r.entries);
@@ -362,7 +362,7 @@ module _ {D : Type 0} (tells : Bool) (told : D → OnDisk) (faults : D → ℕ) 
 
   -- room was made, and the entry was kept
   pub adds_by : (a b c : ChainOnDisk D) (entry : Entry) (r : Result (Unit {0}) StoreFault) → IsRoomy a b →
-      KeepsEntry tells told faults b c entry r → OnErr r (IsErrOf r DiskFault) → AddsEntry tells told faults a c entry r
+      KeepsEntry tells on_disk faults b c entry r → OnErr r (IsErrOf r DiskFault) → AddsEntry tells on_disk faults a c entry r
   adds_by a b c entry (Ok done) room k cause = keeps_roomy {E = StoreFault} a b c entry (Ok tt) room k
   adds_by a b c entry (Err DiskFault) room k cause = keeps_roomy {E = StoreFault} a b c entry (Err DiskFault) room k
   adds_by a b c entry (Err (Stopped count)) room k cause = absurd cc
@@ -370,7 +370,7 @@ module _ {D : Type 0} (tells : Bool) (told : D → OnDisk) (faults : D → ℕ) 
 
   pub piece_kept : (old new : ChainOnDisk D) (piece : Piece) (entry : Entry) →
       IsNextPiece old.history.version old.history.issuer old.history.entries piece entry →
-      KeepsEntry {E = StoreFault} tells told faults old new entry (Ok tt) → KeepsPiece tells told faults old new piece
+      KeepsEntry {E = StoreFault} tells on_disk faults old new entry (Ok tt) → KeepsPiece tells on_disk faults old new piece
   piece_kept old new piece entry next k = record {
     entry = entry;
     brings = record { next = next; goes = k.goes; any_moment = k.any_moment };
@@ -380,8 +380,8 @@ module _ {D : Type 0} (tells : Bool) (told : D → OnDisk) (faults : D → ℕ) 
   }
 
   pub piece_failed : (old new : ChainOnDisk D) (piece : Piece) (entry : Entry) (fault : StoreFault) →
-      IsNextPiece old.history.version old.history.issuer old.history.entries piece entry → AddsEntry tells told faults old new entry (Err fault) →
-      Arrives tells told faults old new piece (Err fault)
+      IsNextPiece old.history.version old.history.issuer old.history.entries piece entry → AddsEntry tells on_disk faults old new entry (Err fault) →
+      Arrives tells on_disk faults old new piece (Err fault)
   piece_failed old new piece entry DiskFault next k = record {
     entry = entry;
     brings = record { next = next; goes = k.goes; any_moment = k.any_moment };
@@ -395,13 +395,13 @@ module _ {D : Type 0} (tells : Bool) (told : D → OnDisk) (faults : D → ℕ) 
 
   -- a chain that goes on, on a disk that holds it
   pub sound_new : (chain : ChainOnDisk D) → chain.stopped ≡ None →
-      IsReady tells chain.history None chain.gate (told chain.disk) → Legal chain.history.version chain.history.issuer chain.history.entries →
+      IsReady tells chain.history None chain.gate (on_disk chain.disk) → Legal chain.history.version chain.history.issuer chain.history.entries →
       Sound chain
   sound_new chain was ready legal = sound_going chain was
-      (subst (λ (o : Option ℕ). IsReady tells chain.history o chain.gate (told chain.disk)) (sym was) ready) legal
+      (subst (λ (o : Option ℕ). IsReady tells chain.history o chain.gate (on_disk chain.disk)) (sym was) ready) legal
       (λ says.
       let h = ready.holds refl says in
-      leaves_now (told chain.disk) (StandsFor chain.history.version chain.history.issuer chain.history.entries) h.file.nothing_pending
+      leaves_now (on_disk chain.disk) (StandsFor chain.history.version chain.history.issuer chain.history.entries) h.file.nothing_pending
       (record { frames = h.file.file; encoded = h.encoded; legal = legal }))
 
   either_whole : (version : Version) (issuer : List ℕ) (entries longer : List Entry) (c : List ℕ) → longer ≡ entries →
@@ -411,22 +411,22 @@ module _ {D : Type 0} (tells : Bool) (told : D → OnDisk) (faults : D → ℕ) 
 
   -- a chain that goes on leaves its whole history
   pub sound_whole : (chain : ChainOnDisk D) → Sound chain → chain.stopped ≡ None → IsTrue tells →
-      LeavesNow (told chain.disk) (StandsFor chain.history.version chain.history.issuer chain.history.entries)
+      LeavesNow (on_disk chain.disk) (StandsFor chain.history.version chain.history.issuer chain.history.entries)
   sound_whole chain s was says = λ c left. either_whole chain.history.version chain.history.issuer chain.history.entries (longest chain) c
       (going chain was) (s.images says c left)
 
   -- the same, as it is ready
   pub sound_ready : (chain : ChainOnDisk D) → chain.stopped ≡ None →
-      IsReady tells chain.history chain.stopped chain.gate (told chain.disk) → Legal chain.history.version chain.history.issuer chain.history.entries →
+      IsReady tells chain.history chain.stopped chain.gate (on_disk chain.disk) → Legal chain.history.version chain.history.issuer chain.history.entries →
       Sound chain
   sound_ready chain was ready legal = sound_new chain was
-      (subst (λ (o : Option ℕ). IsReady tells chain.history o chain.gate (told chain.disk)) was ready) legal
+      (subst (λ (o : Option ℕ). IsReady tells chain.history o chain.gate (on_disk chain.disk)) was ready) legal
 
 -- what a store's keeping makes of its chain
-module _ {D C : Type 0} {g : Ghosts D} (tells : Bool) (told : D → OnDisk) (faults : D → ℕ) where
+module _ {D C : Type 0} {g : Ghosts D} (tells : Bool) (on_disk : D → OnDisk) (faults : D → ℕ) where
   pub store_kept : (old new : Store D C g) (entry : Entry) (r : Result (Unit {0}) StoreFault) →
-      Adds tells told faults old new entry r → (r ≡ Err NoMemory → ⊥) →
-      Keeping tells told faults (chain_of old) (chain_of new) entry r × OnErr r (r ≡ Err DiskFault)
+      Adds tells on_disk faults old new entry r → (r ≡ Err NoMemory → ⊥) →
+      Keeping tells on_disk faults (chain_of old) (chain_of new) entry r × OnErr r (r ≡ Err DiskFault)
   store_kept old new entry (Ok done) a memory = (
     record {
       ready = a.ready;

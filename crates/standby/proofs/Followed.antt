@@ -54,16 +54,16 @@ image_follows one version issuer history (Some count) torn entries c within b fr
       within = subst (λ (es : List Entry). IsPrefix es entries) same f.within;
     }
 
-module _ {D : Type 0} (tells : Bool) (told : D → OnDisk) (faults : D → ℕ) where
+module _ {D : Type 0} (tells : Bool) (on_disk : D → OnDisk) (faults : D → ℕ) where
   -- nothing came
-  pub follows_same : OneHistory → (chain : ChainOnDisk D) → IsSoundChain tells told faults chain → (pieces : List Piece) →
-      Follows tells told chain chain pieces
+  pub follows_same : OneHistory → (chain : ChainOnDisk D) → IsSoundChain tells on_disk faults chain → (pieces : List Piece) →
+      Follows tells on_disk chain chain pieces
   follows_same one chain s pieces = λ entries legal within images are. record {
     issuer = refl;
     version = refl;
     within = within;
     begins = front_same chain.history.entries;
-    images = λ says. started (told chain.disk) (StandsBetween chain.history.version chain.history.issuer chain.history.entries entries)
+    images = λ says. started (on_disk chain.disk) (StandsBetween chain.history.version chain.history.issuer chain.history.entries entries)
         (λ c image. image_follows one chain.history.version chain.history.issuer chain.history.entries chain.stopped chain.torn entries c within
         (between_either chain.history.version chain.history.issuer chain.history.entries (longest chain) c
         (longest_begins chain.history.entries chain.stopped chain.torn) (s.images says c (inl (refl, image))))
@@ -71,15 +71,15 @@ module _ {D : Type 0} (tells : Bool) (told : D → OnDisk) (faults : D → ℕ) 
   }
 
   -- the one after the other
-  pub follows_on : (a b c : ChainOnDisk D) (pieces others : List Piece) → Follows tells told a b pieces →
-      Follows tells told b c others → Follows tells told a c (pieces ++ others)
+  pub follows_on : (a b c : ChainOnDisk D) (pieces others : List Piece) → Follows tells on_disk a b pieces →
+      Follows tells on_disk b c others → Follows tells on_disk a c (pieces ++ others)
   follows_on a b c pieces others first second = λ entries legal within images are.
       let parts = all_parts (IsPieceOf a.history.version a.history.issuer entries) pieces others are in
       let f = first entries legal within images parts.0 in
-      let there : IsSome b.stopped → IsTrue tells → LeavesNow (told b.disk) (StandsForFront b.history.version b.history.issuer entries) =
+      let there : IsSome b.stopped → IsTrue tells → LeavesNow (on_disk b.disk) (StandsForFront b.history.version b.history.issuer entries) =
       λ some says file left.
       let only = f.images says in
-      let x = only.each (moment (told b.disk)) file only.later left in
+      let x = only.each (moment (on_disk b.disk)) file only.later left in
       subst₂ (λ (v : Version) (n : List ℕ). StandsForFront v n entries file) (sym f.version) (sym f.issuer)
       (record { history = x.history; stands = x.stands; within = x.within }) in
       let g = second entries (subst₂ (λ (v : Version) (n : List ℕ). Legal v n entries) (sym f.version) (sym f.issuer) legal) f.within there
@@ -89,22 +89,22 @@ module _ {D : Type 0} (tells : Bool) (told : D → OnDisk) (faults : D → ℕ) 
         version = g.version ∙ f.version;
         within = g.within;
         begins = front_on a.history.entries b.history.entries c.history.entries f.begins g.begins;
-        images = λ says. follows (told a.disk) (told b.disk) (told c.disk) _ _ _ (f.images says) (g.images says) (λ file h. h)
+        images = λ says. follows (on_disk a.disk) (on_disk b.disk) (on_disk c.disk) _ _ _ (f.images says) (g.images says) (λ file h. h)
             (λ file h. between_wider a.history.version a.history.issuer a.history.entries b.history.entries entries entries file f.begins
             (front_same entries)
             (subst₂ (λ (v : Version) (n : List ℕ). StandsBetween v n b.history.entries entries file) f.version f.issuer h));
       }
 
   -- pieces that weren't looked at do no harm
-  pub follows_front : (a b : ChainOnDisk D) (pieces rest : List Piece) → Follows tells told a b pieces →
-      Follows tells told a b (pieces ++ rest)
+  pub follows_front : (a b : ChainOnDisk D) (pieces rest : List Piece) → Follows tells on_disk a b pieces →
+      Follows tells on_disk a b (pieces ++ rest)
   follows_front a b pieces rest first = λ entries legal within images are.
       first entries legal within images (all_parts (IsPieceOf a.history.version a.history.issuer entries) pieces rest are).0
 
   -- an entry that a piece brought
   brought : EncodingsAreApart → (old new : ChainOnDisk D) (piece : Piece) (entry : Entry) →
-      Brings tells told faults old new piece entry → IsPrefix old.history.entries new.history.entries →
-      IsPrefix new.history.entries (old.history.entries ++ entry ∷ []) → Follows tells told old new (piece ∷ [])
+      Brings tells on_disk faults old new piece entry → IsPrefix old.history.entries new.history.entries →
+      IsPrefix new.history.entries (old.history.entries ++ entry ∷ []) → Follows tells on_disk old new (piece ∷ [])
   brought apart old new piece entry b begins short = λ entries legal within images are.
       let issuer = old.history.issuer in
       let version = old.history.version in
@@ -125,18 +125,18 @@ module _ {D : Type 0} (tells : Bool) (told : D → OnDisk) (faults : D → ℕ) 
         version = b.goes.version;
         within = front_on new.history.entries (old.history.entries ++ entry ∷ []) entries short wider;
         begins = begins;
-        images = λ says. weaker (told old.disk) (told new.disk) (StandsBeforeOrWith version issuer old.history.entries entry) _
+        images = λ says. weaker (on_disk old.disk) (on_disk new.disk) (StandsBeforeOrWith version issuer old.history.entries entry) _
             (b.any_moment says)
             (λ c h. between_wider version issuer old.history.entries old.history.entries (old.history.entries ++ entry ∷ []) entries c
             (front_same old.history.entries) wider (between_with version issuer old.history.entries entry c h));
       }
 
   module _ (one : OneHistory) (apart : EncodingsAreApart) (old new : ChainOnDisk D) (piece : Piece)
-      (s : IsSoundChain tells told faults old) where
-    nothing : new ≡ old → Follows tells told old new (piece ∷ [])
-    nothing e = subst (λ (c : ChainOnDisk D). Follows tells told old c (piece ∷ [])) (sym e) (follows_same one old s (piece ∷ []))
+      (s : IsSoundChain tells on_disk faults old) where
+    nothing : new ≡ old → Follows tells on_disk old new (piece ∷ [])
+    nothing e = subst (λ (c : ChainOnDisk D). Follows tells on_disk old c (piece ∷ [])) (sym e) (follows_same one old s (piece ∷ []))
 
-    going : (r : Result Arrived StoreFault) → Arrives tells told faults old new piece r → Follows tells told old new (piece ∷ [])
+    going : (r : Result Arrived StoreFault) → Arrives tells on_disk faults old new piece r → Follows tells on_disk old new (piece ∷ [])
     going (Ok Old) a = nothing a.1
     going (Ok (Gap next)) a = nothing a.2
     going (Ok (Bad (bad.At at))) a = nothing a.1
@@ -151,21 +151,21 @@ module _ {D : Type 0} (tells : Bool) (told : D → OnDisk) (faults : D → ℕ) 
     going (Err NoMemory) a = nothing a
 
     by_stop : (stopped : Option ℕ) → old.stopped ≡ stopped → (r : Result Arrived StoreFault) →
-        (old.stopped ≡ None → Arrives tells told faults old new piece r) → (IsSome old.stopped → new ≡ old) →
-        Follows tells told old new (piece ∷ [])
+        (old.stopped ≡ None → Arrives tells on_disk faults old new piece r) → (IsSome old.stopped → new ≡ old) →
+        Follows tells on_disk old new (piece ∷ [])
     by_stop None e r arrives untouched = going r (arrives e)
     by_stop (Some count) e r arrives untouched =
         nothing (untouched (subst (λ (o : Option ℕ). IsSome o) (sym e) refl))
 
-    pub arrived_follows : (r : Result Arrived StoreFault) → (old.stopped ≡ None → Arrives tells told faults old new piece r) →
-        (IsSome old.stopped → new ≡ old) → Follows tells told old new (piece ∷ [])
+    pub arrived_follows : (r : Result Arrived StoreFault) → (old.stopped ≡ None → Arrives tells on_disk faults old new piece r) →
+        (IsSome old.stopped → new ≡ old) → Follows tells on_disk old new (piece ∷ [])
     arrived_follows r arrives untouched = by_stop old.stopped refl r arrives untouched
 
-  module _ (old new : ChainOnDisk D) (piece : Piece) (s : IsSoundChain tells told faults old) where
-    stayed : new ≡ old → GoesTo tells told faults old new
-    stayed e = subst (λ (c : ChainOnDisk D). GoesTo tells told faults old c) (sym e) (goes_same tells told faults old s)
+  module _ (old new : ChainOnDisk D) (piece : Piece) (s : IsSoundChain tells on_disk faults old) where
+    stayed : new ≡ old → GoesTo tells on_disk faults old new
+    stayed e = subst (λ (c : ChainOnDisk D). GoesTo tells on_disk faults old c) (sym e) (goes_same tells on_disk faults old s)
 
-    goes_going : (r : Result Arrived StoreFault) → Arrives tells told faults old new piece r → GoesTo tells told faults old new
+    goes_going : (r : Result Arrived StoreFault) → Arrives tells on_disk faults old new piece r → GoesTo tells on_disk faults old new
     goes_going (Ok Old) a = stayed a.1
     goes_going (Ok (Gap next)) a = stayed a.2
     goes_going (Ok (Bad (bad.At at))) a = stayed a.1
@@ -177,18 +177,18 @@ module _ {D : Type 0} (tells : Bool) (told : D → OnDisk) (faults : D → ℕ) 
     goes_going (Err NoMemory) a = stayed a
 
     goes_by_stop : (stopped : Option ℕ) → old.stopped ≡ stopped → (r : Result Arrived StoreFault) →
-        (old.stopped ≡ None → Arrives tells told faults old new piece r) → (IsSome old.stopped → new ≡ old) →
-        GoesTo tells told faults old new
+        (old.stopped ≡ None → Arrives tells on_disk faults old new piece r) → (IsSome old.stopped → new ≡ old) →
+        GoesTo tells on_disk faults old new
     goes_by_stop None e r arrives untouched = goes_going r (arrives e)
     goes_by_stop (Some count) e r arrives untouched = stayed (untouched (subst (λ (o : Option ℕ). IsSome o) (sym e) refl))
 
-    pub arrived_goes : (r : Result Arrived StoreFault) → (old.stopped ≡ None → Arrives tells told faults old new piece r) →
-        (IsSome old.stopped → new ≡ old) → GoesTo tells told faults old new
+    pub arrived_goes : (r : Result Arrived StoreFault) → (old.stopped ≡ None → Arrives tells on_disk faults old new piece r) →
+        (IsSome old.stopped → new ≡ old) → GoesTo tells on_disk faults old new
     arrived_goes r arrives untouched = goes_by_stop old.stopped refl r arrives untouched
 
   -- what it answered says what became of the history
   pub arrived_as : (old new : ChainOnDisk D) (piece : Piece) (answer : Arrived) →
-      Arrives tells told faults old new piece (Ok answer) →
+      Arrives tells on_disk faults old new piece (Ok answer) →
       ArrivesAs old.history.version old.history.issuer old.history.entries piece answer new.history.entries
   arrived_as old new piece Old a = (a.0, ap (λ (c : ChainOnDisk D). c.history.entries) a.1)
   arrived_as old new piece (Gap next) a = (a.0, a.1, ap (λ (c : ChainOnDisk D). c.history.entries) a.2)

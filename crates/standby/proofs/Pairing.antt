@@ -83,25 +83,25 @@ stop_second : (a b : Option ℕ) (torn others : Option Entry) (count : ℕ) (ent
     others ≡ Some entry → stop_in a torn ++ stop_in b others ≡ item.Stop count entry ∷ []
 stop_second a b torn others count entry e f g = rw (e, f, g) refl
 
-module _ {D C M : Type 0} (tells : Bool) (told : D → OnDisk) (faults : D → ℕ) (others_tell : Bool) (others_told : M → OnDisk)
+module _ {D C M : Type 0} (tells : Bool) (on_disk : D → OnDisk) (faults : D → ℕ) (others_tell : Bool) (others_on_disk : M → OnDisk)
     (others_faults : M → ℕ) where
   abbrev IsOne : Both D C M → Both D C M → Type 0
-  IsOne start present = IsPair tells told faults others_tell others_told others_faults start present
+  IsOne start present = IsPair tells on_disk faults others_tell others_on_disk others_faults start present
 
   abbrev Keeps : Both D C M → Both D C M → Entry → Result (Unit {0}) StoreFault → Type 0
-  Keeps old new entry r = KeepsBoth tells told faults others_tell others_told others_faults old new entry r
+  Keeps old new entry r = KeepsBoth tells on_disk faults others_tell others_on_disk others_faults old new entry r
 
   -- a pair that begins
-  pub pair_new : (both : Both D C M) → IsSoundChain tells told faults both.shop →
-      IsSoundChain others_tell others_told others_faults both.standby → both.shop.stopped ≡ None → both.standby.stopped ≡ None →
+  pub pair_new : (both : Both D C M) → IsSoundChain tells on_disk faults both.shop →
+      IsSoundChain others_tell others_on_disk others_faults both.standby → both.shop.stopped ≡ None → both.standby.stopped ≡ None →
       both.standby.history.issuer ≡ both.shop.history.issuer → both.standby.history.version ≡ both.shop.history.version →
       both.standby.history.entries ≡ both.shop.history.entries →
       IsOne both both
   pair_new both s t going goes issuer version entries = record {
     shop = s;
-    shop_goes = goes_same tells told faults both.shop s;
+    shop_goes = goes_same tells on_disk faults both.shop s;
     standby = t;
-    standby_goes = goes_same others_tell others_told others_faults both.standby t;
+    standby_goes = goes_same others_tell others_on_disk others_faults both.standby t;
     clock = refl;
     issuer = issuer;
     version = version;
@@ -132,10 +132,10 @@ module _ {D C M : Type 0} (tells : Bool) (told : D → OnDisk) (faults : D → �
   pub pair_roomy : (start old mid : Both D C M) → IsOne start old → IsRoomy old.shop mid.shop → IsRoomy old.standby mid.standby →
       mid.clock ≡ old.clock → IsOne start mid
   pair_roomy start old mid p r q clock = record {
-    shop = sound_roomy tells told faults old.shop mid.shop r p.shop;
-    shop_goes = goes_roomy tells told faults start.shop old.shop mid.shop p.shop_goes r;
-    standby = sound_roomy others_tell others_told others_faults old.standby mid.standby q p.standby;
-    standby_goes = goes_roomy others_tell others_told others_faults start.standby old.standby mid.standby p.standby_goes q;
+    shop = sound_roomy tells on_disk faults old.shop mid.shop r p.shop;
+    shop_goes = goes_roomy tells on_disk faults start.shop old.shop mid.shop p.shop_goes r;
+    standby = sound_roomy others_tell others_on_disk others_faults old.standby mid.standby q p.standby;
+    standby_goes = goes_roomy others_tell others_on_disk others_faults start.standby old.standby mid.standby p.standby_goes q;
     clock = clock ∙ p.clock;
     issuer = q.issuer ∙ p.issuer ∙ sym r.issuer;
     version = q.version ∙ p.version ∙ sym r.version;
@@ -148,8 +148,8 @@ module _ {D C M : Type 0} (tells : Bool) (told : D → OnDisk) (faults : D → �
 
   -- with notes kept or torn
   pub pair_kept : (start mid new : Both D C M) (lines : List Line) (entry : Entry) (r : Result (Unit {0}) StoreFault) →
-      IsOne start mid → GoOn mid → IsSoundChain tells told faults new.shop →
-      IsSoundChain others_tell others_told others_faults new.standby → new.clock ≡ mid.clock →
+      IsOne start mid → GoOn mid → IsSoundChain tells on_disk faults new.shop →
+      IsSoundChain others_tell others_on_disk others_faults new.standby → new.clock ≡ mid.clock →
       entry ≡ noted_next mid.standby.history.entries lines → Keeps mid new entry r →
       IsOne start new × NotesBoth faults others_faults mid new lines r
   pair_kept start mid new lines entry (Ok done) p on s t clock is k =
@@ -159,9 +159,9 @@ module _ {D C M : Type 0} (tells : Bool) (told : D → OnDisk) (faults : D → �
       let b = k.1 in (
         record {
           shop = s;
-          shop_goes = goes_on tells told faults start.shop mid.shop new.shop p.shop_goes a.goes;
+          shop_goes = goes_on tells on_disk faults start.shop mid.shop new.shop p.shop_goes a.goes;
           standby = t;
-          standby_goes = goes_on others_tell others_told others_faults start.standby mid.standby new.standby p.standby_goes b.goes;
+          standby_goes = goes_on others_tell others_on_disk others_faults start.standby mid.standby new.standby p.standby_goes b.goes;
           clock = clock ∙ p.clock;
           issuer = b.goes.issuer ∙ p.issuer ∙ sym a.goes.issuer;
           version = b.goes.version ∙ p.version ∙ sym a.goes.version;
@@ -189,9 +189,9 @@ module _ {D C M : Type 0} (tells : Bool) (told : D → OnDisk) (faults : D → �
       let none : new.standby.stopped ≡ None = ap (λ (c : ChainOnDisk M). c.stopped) k.1 ∙ on.standby in (
         record {
           shop = s;
-          shop_goes = goes_on tells told faults start.shop mid.shop new.shop p.shop_goes a.goes;
+          shop_goes = goes_on tells on_disk faults start.shop mid.shop new.shop p.shop_goes a.goes;
           standby = t;
-          standby_goes = subst (λ (c : ChainOnDisk M). GoesTo others_tell others_told others_faults start.standby c) (sym k.1)
+          standby_goes = subst (λ (c : ChainOnDisk M). GoesTo others_tell others_on_disk others_faults start.standby c) (sym k.1)
               p.standby_goes;
           clock = clock ∙ p.clock;
           issuer = ap (λ (c : ChainOnDisk M). c.history.issuer) k.1 ∙ p.issuer ∙ sym a.goes.issuer;
@@ -225,9 +225,9 @@ module _ {D C M : Type 0} (tells : Bool) (told : D → OnDisk) (faults : D → �
       (sym others) in (
         record {
           shop = s;
-          shop_goes = goes_on tells told faults start.shop mid.shop new.shop p.shop_goes a.goes;
+          shop_goes = goes_on tells on_disk faults start.shop mid.shop new.shop p.shop_goes a.goes;
           standby = t;
-          standby_goes = goes_on others_tell others_told others_faults start.standby mid.standby new.standby p.standby_goes b.goes;
+          standby_goes = goes_on others_tell others_on_disk others_faults start.standby mid.standby new.standby p.standby_goes b.goes;
           clock = clock ∙ p.clock;
           issuer = b.goes.issuer ∙ p.issuer ∙ sym a.goes.issuer;
           version = b.goes.version ∙ p.version ∙ sym a.goes.version;
@@ -292,8 +292,8 @@ module _ {D C M : Type 0} (tells : Bool) (told : D → OnDisk) (faults : D → �
 
   -- the store kept it, and then the standby was called
   pub both_by : (old new : Both D C M) (entry : Entry) (r : Result (Unit {0}) StoreFault) →
-      KeepsEntry {E = StoreFault} tells told faults old.shop new.shop entry (Ok tt) →
-      KeepsEntry others_tell others_told others_faults old.standby new.standby entry r →
+      KeepsEntry {E = StoreFault} tells on_disk faults old.shop new.shop entry (Ok tt) →
+      KeepsEntry others_tell others_on_disk others_faults old.standby new.standby entry r →
       OnErr r (r ≡ Err DiskFault) → Keeps old new entry r
   both_by old new entry (Ok done) a b cause = (a, b)
   both_by old new entry (Err DiskFault) a b cause = inr (a, b)
@@ -302,7 +302,7 @@ module _ {D C M : Type 0} (tells : Bool) (told : D → OnDisk) (faults : D → �
 
   -- the store's disk failed
   pub shop_failed : (old new : Both D C M) (entry : Entry) (fault : StoreFault) →
-      KeepsEntry {E = StoreFault} tells told faults old.shop new.shop entry (Err fault) → new.standby ≡ old.standby →
+      KeepsEntry {E = StoreFault} tells on_disk faults old.shop new.shop entry (Err fault) → new.standby ≡ old.standby →
       ◌≡◌ {A = Result (Unit {0}) StoreFault} (Err fault) (Err DiskFault) → Keeps old new entry (Err fault)
   shop_failed old new entry DiskFault a same cause = inl (a, same)
   shop_failed old new entry (Stopped count) a same cause = absurd cc

@@ -144,10 +144,10 @@ one_end (x ∷ entries) count last (y ∷ before) faults torn e =
 no_more : (own : List ℕ) (place : ℕ) → own ++ place ∷ [] ≡ own → ⊥
 no_more own place e = let n = ap (λ (l : List ℕ). length l) e in let m = length-append own (place ∷ []) in omega (arith, n, m)
 
-module _ {D C M : Type 0} (tells : Bool) (told : D → OnDisk) (faults : D → ℕ) (others_tell : Bool) (others_told : M → OnDisk)
+module _ {D C M : Type 0} (tells : Bool) (on_disk : D → OnDisk) (faults : D → ℕ) (others_tell : Bool) (others_on_disk : M → OnDisk)
     (others_faults : M → ℕ) where
   abbrev IsOne : Both D C M → Both D C M → Type 0
-  IsOne start present = IsPair tells told faults others_tell others_told others_faults start present
+  IsOne start present = IsPair tells on_disk faults others_tell others_on_disk others_faults start present
 
   abbrev seen : Both D C M → Both D C M → Sight
   seen start present = sight_of (record { start = start; present = present })

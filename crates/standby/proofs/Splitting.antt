@@ -7,7 +7,7 @@ use Rattle.record_codec.specs.declared.entry.Entry.{Entry}
 use Rattle.shop_core.specs.Legal.{Legal}
 use Rattle.shop_core.specs.Ranges.{FitsItsBytes}
 
--- what stands before the element at this index, and behind it
+-- what stands before the element at this index, and after it
 pub record Cut {A : Type 0} (xs : List A) (i : ℕ) (x : A) : Type 0 where
   pub before : List A
   pub after : List A

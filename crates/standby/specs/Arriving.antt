@@ -60,49 +60,49 @@ ArrivesAs version issuer entries piece Kept then = (entry : Entry) × IsNextPiec
 
 -- Keeping an entry: at Ok the history has it, and a crash leaves it. After a fault of the disk the history is as it was, and
 -- the entry may be in the file.
-pub record KeepsEntry {D E : Type 0} (tells : Bool) (told : D → OnDisk) (faults : D → ℕ) (old new : ChainOnDisk D)
+pub record KeepsEntry {D E : Type 0} (tells : Bool) (on_disk : D → OnDisk) (faults : D → ℕ) (old new : ChainOnDisk D)
     (entry : Entry) (result : Result (Unit {0}) E) : Type 0 where
-  pub goes : GoesTo tells told faults old new
+  pub goes : GoesTo tells on_disk faults old new
   pub added : OnOk result ((new.stopped ≡ None) × (new.history.entries ≡ old.history.entries ++ entry ∷ []))
   pub same : OnErr result (new.history.entries ≡ old.history.entries)
-  pub any_moment : IsTrue tells → LeavesOnly (told old.disk) (told new.disk)
+  pub any_moment : IsTrue tells → LeavesOnly (on_disk old.disk) (on_disk new.disk)
       (StandsBeforeOrWith old.history.version old.history.issuer old.history.entries entry)
   pub acknowledged : OnOk result (IsTrue tells →
-      LeavesNow (told new.disk) (StandsFor new.history.version new.history.issuer new.history.entries))
+      LeavesNow (on_disk new.disk) (StandsFor new.history.version new.history.issuer new.history.entries))
   pub torn : OnErr result (new.torn ≡ Some entry)
   pub fault : OnErr result (Rose (faults old.disk) (faults new.disk) × (new.stopped ≡ Some (faults new.disk)))
 
 -- adding one: room is made for it, and it is kept
 abbrev pub AddsEntry : {D : Type 0} → Bool → (D → OnDisk) → (D → ℕ) → ChainOnDisk D → ChainOnDisk D → Entry →
     Result (Unit {0}) StoreFault → Type 0
-AddsEntry tells told faults old new entry (Ok done) = KeepsEntry {E = StoreFault} tells told faults old new entry (Ok tt)
-AddsEntry tells told faults old new entry (Err DiskFault) =
-    KeepsEntry {E = StoreFault} tells told faults old new entry (Err DiskFault)
-AddsEntry tells told faults old new entry (Err (Stopped count)) = ⊥
-AddsEntry tells told faults old new entry (Err NoMemory) = new ≡ old
+AddsEntry tells on_disk faults old new entry (Ok done) = KeepsEntry {E = StoreFault} tells on_disk faults old new entry (Ok tt)
+AddsEntry tells on_disk faults old new entry (Err DiskFault) =
+    KeepsEntry {E = StoreFault} tells on_disk faults old new entry (Err DiskFault)
+AddsEntry tells on_disk faults old new entry (Err (Stopped count)) = ⊥
+AddsEntry tells on_disk faults old new entry (Err NoMemory) = new ≡ old
 
 -- the piece's entry, kept or torn: it is the next one, and a crash at any moment leaves the history without it or with it
-pub record Brings {D : Type 0} (tells : Bool) (told : D → OnDisk) (faults : D → ℕ) (old new : ChainOnDisk D) (piece : Piece)
+pub record Brings {D : Type 0} (tells : Bool) (on_disk : D → OnDisk) (faults : D → ℕ) (old new : ChainOnDisk D) (piece : Piece)
     (entry : Entry) : Type 0 where
   pub next : IsNextPiece old.history.version old.history.issuer old.history.entries piece entry
-  pub goes : GoesTo tells told faults old new
-  pub any_moment : IsTrue tells → LeavesOnly (told old.disk) (told new.disk)
+  pub goes : GoesTo tells on_disk faults old new
+  pub any_moment : IsTrue tells → LeavesOnly (on_disk old.disk) (on_disk new.disk)
       (StandsBeforeOrWith old.history.version old.history.issuer old.history.entries entry)
 
 -- the entry was added, and every crash from now on leaves it
-pub record KeepsPiece {D : Type 0} (tells : Bool) (told : D → OnDisk) (faults : D → ℕ) (old new : ChainOnDisk D)
+pub record KeepsPiece {D : Type 0} (tells : Bool) (on_disk : D → OnDisk) (faults : D → ℕ) (old new : ChainOnDisk D)
     (piece : Piece) : Type 0 where
   pub entry : Entry
-  pub brings : Brings tells told faults old new piece entry
+  pub brings : Brings tells on_disk faults old new piece entry
   pub entries : new.history.entries ≡ old.history.entries ++ entry ∷ []
   pub going_on : new.stopped ≡ None
-  pub acknowledged : IsTrue tells → LeavesNow (told new.disk) (StandsFor new.history.version new.history.issuer new.history.entries)
+  pub acknowledged : IsTrue tells → LeavesNow (on_disk new.disk) (StandsFor new.history.version new.history.issuer new.history.entries)
 
 -- the disk failed while the entry was added, which stops the standby
-pub record TearsPiece {D : Type 0} (tells : Bool) (told : D → OnDisk) (faults : D → ℕ) (old new : ChainOnDisk D)
+pub record TearsPiece {D : Type 0} (tells : Bool) (on_disk : D → OnDisk) (faults : D → ℕ) (old new : ChainOnDisk D)
     (piece : Piece) : Type 0 where
   pub entry : Entry
-  pub brings : Brings tells told faults old new piece entry
+  pub brings : Brings tells on_disk faults old new piece entry
   pub entries : new.history.entries ≡ old.history.entries
   pub torn : new.torn ≡ Some entry
   pub rose : Rose (faults old.disk) (faults new.disk)
@@ -111,37 +111,43 @@ pub record TearsPiece {D : Type 0} (tells : Bool) (told : D → OnDisk) (faults 
 -- What a piece does to a standby that goes on, by what is answered. A piece that isn't kept leaves all as it was.
 abbrev pub Arrives : {D : Type 0} → Bool → (D → OnDisk) → (D → ℕ) → ChainOnDisk D → ChainOnDisk D → Piece →
     Result Arrived StoreFault → Type 0
-Arrives tells told faults old new piece (Ok Old) = (piece.index < length old.history.entries) × (new ≡ old)
-Arrives tells told faults old new piece (Ok (Gap next)) =
+Arrives tells on_disk faults old new piece (Ok Old) = (piece.index < length old.history.entries) × (new ≡ old)
+Arrives tells on_disk faults old new piece (Ok (Gap next)) =
     (length old.history.entries < piece.index) × (next ≡ length old.history.entries) × (new ≡ old)
-Arrives tells told faults old new piece (Ok (Bad (bad.At at))) =
+Arrives tells on_disk faults old new piece (Ok (Bad (bad.At at))) =
     IsBadPiece old.history.version old.history.issuer old.history.entries piece at × (new ≡ old)
-Arrives tells told faults old new piece (Ok (Bad bad.NoMemory)) = ⊥
-Arrives tells told faults old new piece (Ok (Foreign why)) =
+Arrives tells on_disk faults old new piece (Ok (Bad bad.NoMemory)) = ⊥
+Arrives tells on_disk faults old new piece (Ok (Foreign why)) =
     IsForeignPiece old.history.version old.history.issuer old.history.entries piece why × (new ≡ old)
-Arrives tells told faults old new piece (Ok Kept) = KeepsPiece tells told faults old new piece
-Arrives tells told faults old new piece (Err DiskFault) = TearsPiece tells told faults old new piece
-Arrives tells told faults old new piece (Err (Stopped count)) = ⊥
-Arrives tells told faults old new piece (Err NoMemory) = new ≡ old
+Arrives tells on_disk faults old new piece (Ok Kept) = KeepsPiece tells on_disk faults old new piece
+Arrives tells on_disk faults old new piece (Err DiskFault) = TearsPiece tells on_disk faults old new piece
+Arrives tells on_disk faults old new piece (Err (Stopped count)) = ⊥
+Arrives tells on_disk faults old new piece (Err NoMemory) = new ≡ old
 
 -- one for a kept piece
 abbrev pub kept_by : Arrived → ℕ
 kept_by Kept = 1
 kept_by _ = 0
 
--- these pieces, one after another, made of the one history the other, and so many of them were kept
+-- these pieces, one after another, made of the one history the other, and this many of them were kept
 pub data Received (version : Version) (issuer : List ℕ) (start : List Entry) : List Piece → List Entry → ℕ → Type 0 where
   none : Received version issuer start [] start 0
-  more : (pieces : List Piece) (entries : List Entry) (kept : ℕ) (piece : Piece) (told : Arrived) (then : List Entry) →
-      Received version issuer start pieces entries kept → ArrivesAs version issuer entries piece told then →
-      Received version issuer start (pieces ++ piece ∷ []) then (kept + kept_by told)
+  more : (pieces : List Piece) (entries : List Entry) (kept : ℕ) (piece : Piece) (arrived : Arrived) (then : List Entry) →
+      Received version issuer start pieces entries kept → ArrivesAs version issuer entries piece arrived then →
+      Received version issuer start (pieces ++ piece ∷ []) then (kept + kept_by arrived)
 
--- what ended it: the disk failed at a piece, or had stopped the standby before the first, or memory was wanting
-abbrev pub EndsAtFault : {D : Type 0} → (D → ℕ) → ChainOnDisk D → ChainOnDisk D → List Piece → StoreFault → Type 0
-EndsAtFault faults old new done DiskFault =
-    (old.stopped ≡ None) × Rose (faults old.disk) (faults new.disk) × (new.stopped ≡ Some (faults new.disk))
-EndsAtFault faults old new done (Stopped count) = (old.stopped ≡ Some count) × (done ≡ []) × (new ≡ old)
-EndsAtFault faults old new done NoMemory = (old.stopped ≡ None) × (new.stopped ≡ None)
+-- the torn entry is the one that this piece brings, which is the next one
+pub record TornBy {D : Type 0} (chain : ChainOnDisk D) (piece : Piece) : Type 0 where
+  pub entry : Entry
+  pub next : IsNextPiece chain.history.version chain.history.issuer chain.history.entries piece entry
+  pub torn : chain.torn ≡ Some entry
+
+-- what ended it: the disk failed at this piece, or had stopped the standby before the first, or memory ran out
+abbrev pub EndsAtFault : {D : Type 0} → (D → ℕ) → ChainOnDisk D → ChainOnDisk D → List Piece → Piece → StoreFault → Type 0
+EndsAtFault faults old new done piece DiskFault =
+    (old.stopped ≡ None) × Rose (faults old.disk) (faults new.disk) × (new.stopped ≡ Some (faults new.disk)) × TornBy new piece
+EndsAtFault faults old new done piece (Stopped count) = (old.stopped ≡ Some count) × (done ≡ []) × (new ≡ old)
+EndsAtFault faults old new done piece NoMemory = (old.stopped ≡ None) × (new.stopped ≡ None)
 
 -- pieces up to a store fault
 pub record ReceivesUpTo {D : Type 0} (faults : D → ℕ) (old new : ChainOnDisk D) (pieces : List Piece) (fault : StoreFault) :
@@ -152,4 +158,4 @@ pub record ReceivesUpTo {D : Type 0} (faults : D → ℕ) (old new : ChainOnDisk
   pub are : pieces ≡ done ++ piece ∷ rest
   pub kept : ℕ
   pub received : Received old.history.version old.history.issuer old.history.entries done new.history.entries kept
-  pub ends : EndsAtFault faults old new done fault
+  pub ends : EndsAtFault faults old new done piece fault

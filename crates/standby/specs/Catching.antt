@@ -21,7 +21,7 @@ CatchesOne faults old new (Err DiskFault) =
 CatchesOne faults old new (Err (Stopped count)) = ⊥
 CatchesOne faults old new (Err NoMemory) = new.stopped ≡ None
 
--- What bringing a copy up to these entries ends with: at Ok it has them all, so many of them new; after a fault of its disk, whose
+-- What bringing a copy up to these entries ends with: at Ok it has them all, this many of them new; after a fault of its disk, whose
 -- count rose, it is stopped at that count. It never was stopped before.
 abbrev pub CatchesUp : {D : Type 0} → (D → ℕ) → ChainOnDisk D → ChainOnDisk D → List Entry → Result ℕ StoreFault → Type 0
 CatchesUp faults old new entries (Ok kept) =

@@ -65,21 +65,21 @@ pub record IsStop {D : Type 0} (faults : D → ℕ) (chain : ChainOnDisk D) (cou
 
 -- A legal history on its disk. Where its disk tells what it holds, a crash now leaves the whole history; where its journal has
 -- stopped, that or that with the torn entry.
-pub record IsSoundChain {D : Type 0} (tells : Bool) (told : D → OnDisk) (faults : D → ℕ) (chain : ChainOnDisk D) : Type 0 where
-  pub ready : IsReady tells chain.history chain.stopped chain.gate (told chain.disk)
+pub record IsSoundChain {D : Type 0} (tells : Bool) (on_disk : D → OnDisk) (faults : D → ℕ) (chain : ChainOnDisk D) : Type 0 where
+  pub ready : IsReady tells chain.history chain.stopped chain.gate (on_disk chain.disk)
   pub legal : Legal chain.history.version chain.history.issuer chain.history.entries
   pub images : IsTrue tells →
-      LeavesNow (told chain.disk) (StandsForEither chain.history.version chain.history.issuer chain.history.entries (longest chain))
+      LeavesNow (on_disk chain.disk) (StandsForEither chain.history.version chain.history.issuer chain.history.entries (longest chain))
   pub stop : (count : ℕ) → chain.stopped ≡ Some count → IsStop faults chain count
 
 -- Calls led from one to the other. The history begins with the one before, and each crash since leaves a history between the
 -- two, with the torn entry where the journal has stopped.
-pub record GoesTo {D : Type 0} (tells : Bool) (told : D → OnDisk) (faults : D → ℕ) (old new : ChainOnDisk D) : Type 0 where
+pub record GoesTo {D : Type 0} (tells : Bool) (on_disk : D → OnDisk) (faults : D → ℕ) (old new : ChainOnDisk D) : Type 0 where
   pub issuer : new.history.issuer ≡ old.history.issuer
   pub version : new.history.version ≡ old.history.version
   pub begins : IsPrefix old.history.entries new.history.entries
   pub longer : IsPrefix (longest old) (longest new)
-  pub since : IsTrue tells → LeavesOnly (told old.disk) (told new.disk)
+  pub since : IsTrue tells → LeavesOnly (on_disk old.disk) (on_disk new.disk)
       (StandsBetween old.history.version old.history.issuer old.history.entries (longest new))
   pub later : faults old.disk ≤ faults new.disk
 

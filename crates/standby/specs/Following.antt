@@ -18,19 +18,19 @@ pub record StandsForFront (version : Version) (issuer : List ℕ) (entries : Lis
   pub within : IsPrefix history entries
 
 -- The history is a front of that one, and begins with the one before. So does each file that a crash at a moment since leaves.
-pub record IsFollowing {D : Type 0} (tells : Bool) (told : D → OnDisk) (old new : ChainOnDisk D) (entries : List Entry) :
+pub record IsFollowing {D : Type 0} (tells : Bool) (on_disk : D → OnDisk) (old new : ChainOnDisk D) (entries : List Entry) :
     Type 0 where
   pub issuer : new.history.issuer ≡ old.history.issuer
   pub version : new.history.version ≡ old.history.version
   pub within : IsPrefix new.history.entries entries
   pub begins : IsPrefix old.history.entries new.history.entries
-  pub images : IsTrue tells → LeavesOnly (told old.disk) (told new.disk)
+  pub images : IsTrue tells → LeavesOnly (on_disk old.disk) (on_disk new.disk)
       (StandsBetween old.history.version old.history.issuer old.history.entries entries)
 
 -- Whatever legal history all these pieces are of, and the standby's is a front of: the standby follows it. Where it has
 -- stopped, each file that a crash now leaves stands for a front of that history too; where it goes on, that is so anyway.
 abbrev pub Follows : {D : Type 0} → Bool → (D → OnDisk) → ChainOnDisk D → ChainOnDisk D → List Piece → Type 0
-Follows tells told old new pieces = (entries : List Entry) → Legal old.history.version old.history.issuer entries →
+Follows tells on_disk old new pieces = (entries : List Entry) → Legal old.history.version old.history.issuer entries →
     IsPrefix old.history.entries entries →
-    (IsSome old.stopped → IsTrue tells → LeavesNow (told old.disk) (StandsForFront old.history.version old.history.issuer entries)) →
-    ArePiecesOf old.history.version old.history.issuer entries pieces → IsFollowing tells told old new entries
+    (IsSome old.stopped → IsTrue tells → LeavesNow (on_disk old.disk) (StandsForFront old.history.version old.history.issuer entries)) →
+    ArePiecesOf old.history.version old.history.issuer entries pieces → IsFollowing tells on_disk old new entries

@@ -33,7 +33,7 @@ pub record Paired (D C M : Type 0) : Type 0 where
   pub start : Both D C M
   pub present : Both D C M
 
--- the history is this one with its next lines behind it, and they are the torn entry
+-- the history is this one with its next lines after it, and they are the torn entry
 pub record IsAheadByNotes (entries : List Entry) (torn : Option Entry) (ahead : List Entry) : Type 0 where
   pub lines : List Line
   pub torn_is : torn ≡ Some (noted_next entries lines)
@@ -47,7 +47,7 @@ AreBeside (Some faults) shop None torn standby = shop ≡ standby
 AreBeside None shop (Some faults) torn standby = IsAheadByNotes standby torn shop
 AreBeside (Some faults) shop (Some more) torn standby = ⊥
 
--- notes alone came behind the history before
+-- notes alone came after the history before
 pub record AddsNotes (before after : List Entry) : Type 0 where
   pub more : List Entry
   pub is : after ≡ before ++ more
@@ -55,12 +55,12 @@ pub record AddsNotes (before after : List Entry) : Type 0 where
 
 -- A pair: both chains are sound, and come from those at its start, by notes alone. While neither has stopped their histories
 -- are equal.
-pub record IsPair {D C M : Type 0} (tells : Bool) (told : D → OnDisk) (faults : D → ℕ) (others_tell : Bool)
-    (others_told : M → OnDisk) (others_faults : M → ℕ) (start present : Both D C M) : Type 0 where
-  pub shop : IsSoundChain tells told faults present.shop
-  pub shop_goes : GoesTo tells told faults start.shop present.shop
-  pub standby : IsSoundChain others_tell others_told others_faults present.standby
-  pub standby_goes : GoesTo others_tell others_told others_faults start.standby present.standby
+pub record IsPair {D C M : Type 0} (tells : Bool) (on_disk : D → OnDisk) (faults : D → ℕ) (others_tell : Bool)
+    (others_on_disk : M → OnDisk) (others_faults : M → ℕ) (start present : Both D C M) : Type 0 where
+  pub shop : IsSoundChain tells on_disk faults present.shop
+  pub shop_goes : GoesTo tells on_disk faults start.shop present.shop
+  pub standby : IsSoundChain others_tell others_on_disk others_faults present.standby
+  pub standby_goes : GoesTo others_tell others_on_disk others_faults start.standby present.standby
   pub clock : present.clock ≡ start.clock
   pub issuer : present.standby.history.issuer ≡ present.shop.history.issuer
   pub version : present.standby.history.version ≡ present.shop.history.version
@@ -86,7 +86,7 @@ stop_in (Some faults) (Some torn) = item.Stop faults torn ∷ []
 stop_in (Some faults) None = []
 stop_in None torn = []
 
--- what a pair has recorded: the entries that both hold, and the stop of either behind them
+-- what a pair has recorded: the entries that both hold, and the stop of either after them
 abbrev pub items_in : {D C M : Type 0} → Both D C M → List Item
 items_in both = map item.Entry both.standby.history.entries
     ++ (stop_in both.shop.stopped both.shop.torn ++ stop_in both.standby.stopped both.standby.torn)
@@ -128,7 +128,7 @@ pub record TearsNotes {D C M : Type 0} (faults : D → ℕ) (others_faults : M �
   pub stopped : stop_of new ≡ Some count
   pub entries : new.standby.history.entries ≡ old.standby.history.entries
 
--- want of memory: both are as they were
+-- lack of memory: both are as they were
 pub record IsUnmoved {D C M : Type 0} (old new : Both D C M) : Type 0 where
   pub shop : IsRoomy old.shop new.shop
   pub standby : IsRoomy old.standby new.standby
@@ -137,15 +137,15 @@ pub record IsUnmoved {D C M : Type 0} (old new : Both D C M) : Type 0 where
 -- called.
 abbrev pub KeepsBoth : {D C M : Type 0} → Bool → (D → OnDisk) → (D → ℕ) → Bool → (M → OnDisk) → (M → ℕ) → Both D C M → Both D C M →
     Entry → Result (Unit {0}) StoreFault → Type 0
-KeepsBoth tells told faults others_tell others_told others_faults old new entry (Ok done) =
-    KeepsEntry {E = StoreFault} tells told faults old.shop new.shop entry (Ok tt)
-    × KeepsEntry {E = StoreFault} others_tell others_told others_faults old.standby new.standby entry (Ok tt)
-KeepsBoth tells told faults others_tell others_told others_faults old new entry (Err DiskFault) =
-    (KeepsEntry {E = StoreFault} tells told faults old.shop new.shop entry (Err DiskFault) × (new.standby ≡ old.standby))
-    ⊎ (KeepsEntry {E = StoreFault} tells told faults old.shop new.shop entry (Ok tt)
-    × KeepsEntry {E = StoreFault} others_tell others_told others_faults old.standby new.standby entry (Err DiskFault))
-KeepsBoth tells told faults others_tell others_told others_faults old new entry (Err (Stopped count)) = ⊥
-KeepsBoth tells told faults others_tell others_told others_faults old new entry (Err NoMemory) = ⊥
+KeepsBoth tells on_disk faults others_tell others_on_disk others_faults old new entry (Ok done) =
+    KeepsEntry {E = StoreFault} tells on_disk faults old.shop new.shop entry (Ok tt)
+    × KeepsEntry {E = StoreFault} others_tell others_on_disk others_faults old.standby new.standby entry (Ok tt)
+KeepsBoth tells on_disk faults others_tell others_on_disk others_faults old new entry (Err DiskFault) =
+    (KeepsEntry {E = StoreFault} tells on_disk faults old.shop new.shop entry (Err DiskFault) × (new.standby ≡ old.standby))
+    ⊎ (KeepsEntry {E = StoreFault} tells on_disk faults old.shop new.shop entry (Ok tt)
+    × KeepsEntry {E = StoreFault} others_tell others_on_disk others_faults old.standby new.standby entry (Err DiskFault))
+KeepsBoth tells on_disk faults others_tell others_on_disk others_faults old new entry (Err (Stopped count)) = ⊥
+KeepsBoth tells on_disk faults others_tell others_on_disk others_faults old new entry (Err NoMemory) = ⊥
 
 -- what a note of these lines does to a pair, by its answer
 abbrev pub NotesBoth : {D C M : Type 0} → (D → ℕ) → (M → ℕ) → Both D C M → Both D C M → List Line →

@@ -1,4 +1,4 @@
-// What arrives at a standby.
+//! What arrives at a standby.
 ghost use Rattle.std.specs.Prelude.{◌≡◌, ◌≤◌, IfOk};
 ghost use Rattle.standby.specs.Arriving as spec;
 ghost use Rattle.standby.specs.Arriving.{IsLooked};

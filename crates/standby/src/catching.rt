@@ -1,4 +1,4 @@
-// Brings a copy up to the history that it is a front of.
+//! Brings a copy up to the history that it is a front of.
 ghost use Rattle.std.specs.Prelude.{◌≡◌, ◌<◌, length, slice_get, IfOk, IfNone, IfSome, MatchBool, None};
 ghost use Rattle.shop_core.specs.Prefix.{IsPrefix};
 ghost use Rattle.shop_core.specs.declared.limits.TheConstants.{MAX_ENTRIES};
@@ -76,9 +76,9 @@ fn catch_one<D: Disk>(
     requires version { standby.old.history.version ≡ state.now.version }
     requires front { IsPrefix standby.old.history.entries state.now.entries }
     requires going_on { standby.old.stopped ≡ None }
-    ensures sound { IsSoundChain D.tells D.told D.faults standby.new }
-    ensures goes { GoesTo D.tells D.told D.faults standby.old standby.new }
-    ensures follows { IsFollowing D.tells D.told standby.old standby.new state.now.entries }
+    ensures sound { IsSoundChain D.tells D.on_disk D.faults standby.new }
+    ensures goes { GoesTo D.tells D.on_disk D.faults standby.old standby.new }
+    ensures follows { IsFollowing D.tells D.on_disk standby.old standby.new state.now.entries }
     ensures caught { CatchesOne D.faults standby.old standby.new result }
 {
     a_file_has_one_meaning();
@@ -108,11 +108,11 @@ pub fn catch_up<D: Disk>(
     requires front { IsPrefix standby.old.history.entries state.now.entries }
     requires going_on { standby.old.stopped ≡ None }
     ensures caught { CatchesUp D.faults standby.old standby.new state.now.entries result }
-    ensures sound { IsSoundChain D.tells D.told D.faults standby.new }
-    ensures goes { GoesTo D.tells D.told D.faults standby.old standby.new }
+    ensures sound { IsSoundChain D.tells D.on_disk D.faults standby.new }
+    ensures goes { GoesTo D.tells D.on_disk D.faults standby.old standby.new }
 
     // It stays a front of that history, and so does each file that a crash may leave.
-    ensures follows { IsFollowing D.tells D.told standby.old standby.new state.now.entries }
+    ensures follows { IsFollowing D.tells D.on_disk standby.old standby.new state.now.entries }
 {
     a_file_has_one_meaning();
     state.is_legal();

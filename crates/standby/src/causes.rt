@@ -1,4 +1,4 @@
-// Why a standby can't start.
+//! Why a standby can't start.
 ghost use Rattle.std.specs.Prelude.{◌≡◌};
 ghost use Rattle.standby.specs.Starting.{standby_cause};
 

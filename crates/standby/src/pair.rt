@@ -1,11 +1,11 @@
-// A store and its standby, which note together.
+//! A store and its standby, which note together.
 ghost use Rattle.std.specs.Prelude.{◌≡◌, ◌≤◌, ◌↔◌, ℕ, length, IfOk, OnOk, OnErr, IsErrOf, None, Some};
 ghost use Rattle.chain_store.specs.Ready.{noted_next};
 ghost use Rattle.chain_store.specs.Store.{Ready, clock_of, journal_of, state_of};
 ghost use Rattle.journal.specs.Journal.{stopped_of};
 ghost use Rattle.record_codec.specs.Writing.{entry_bytes};
 ghost use Rattle.record_codec.specs.declared.entry.Entry.TheVariants.{Notes};
-ghost use Rattle.record_fields.specs.declared.lines.TheConstants.{BATCH};
+ghost use Rattle.record_codec.specs.declared.entry.TheConstants.{MAX_NOTES};
 ghost use Rattle.shop_core.specs.History.{noted, waiting};
 ghost use Rattle.shop_core.specs.Legal.{AreNext, Continues};
 ghost use Rattle.standby.specs.Arriving.{KeepsEntry};
@@ -45,7 +45,7 @@ impl<D: Disk, C: Clock, M: Disk> Model for Pair<D, C, M> {
 
     ghost view = { λ p. record { start = both_of p.first.value p.second.value; present = both_of p.store p.standby } };
 
-    ghost invariant = { λ p. IsPair D.tells D.told D.faults M.tells M.told M.faults (both_of p.first.value p.second.value)
+    ghost invariant = { λ p. IsPair D.tells D.on_disk D.faults M.tells M.on_disk M.faults (both_of p.first.value p.second.value)
         (both_of p.store p.standby) };
 }
 
@@ -71,7 +71,7 @@ struct Twice {
     bytes: Bytes,
 }
 
-// These lines as the next ones behind so many.
+// These lines as the next ones after this many.
 fn notes_of(alloc: Global, first: u32, lines: &[Line]) -> Result<Entry, NoMemory>
     ensures { IfOk result (λ entry. entry ≡ Notes first lines.now) }
 {
@@ -88,9 +88,9 @@ fn room_in_both<D: Disk, C: Clock, M: Disk>(
     standby: &mut Standby<M>,
     entry: &Entry,
 ) -> Result<Bytes, NoMemory>
-    requires ready { Ready D.tells D.told store.old }
+    requires ready { Ready D.tells D.on_disk store.old }
     requires continues { Continues (state_of store.old).version (state_of store.old).issuer (state_of store.old).entries entry.now }
-    ensures ready { Ready D.tells D.told store.new }
+    ensures ready { Ready D.tells D.on_disk store.new }
     ensures shop { IsRoomy (chain_of store.old) (chain_of store.new) }
     ensures clock { clock_of store.new ≡ clock_of store.old }
     ensures standby { IsRoomy standby.old standby.new }
@@ -109,9 +109,9 @@ fn prepare_both<D: Disk, C: Clock, M: Disk>(
     standby: &mut Standby<M>,
     lines: &[Line],
 ) -> Result<Twice, NoMemory>
-    requires ready { Ready D.tells D.told store.old }
+    requires ready { Ready D.tells D.on_disk store.old }
     requires next { AreNext (state_of store.old).entries (length (noted (state_of store.old).entries)) lines.now }
-    ensures ready { Ready D.tells D.told store.new }
+    ensures ready { Ready D.tells D.on_disk store.new }
     ensures shop { IsRoomy (chain_of store.old) (chain_of store.new) }
     ensures clock { clock_of store.new ≡ clock_of store.old }
     ensures standby { IsRoomy standby.old standby.new }
@@ -133,13 +133,13 @@ fn keep_in_store<D: Disk, C: Clock>(
     entry: Entry,
     bytes: &[u8],
 ) -> Result<(), StoreFault>
-    requires sound { IsSoundChain D.tells D.told D.faults (chain_of store.old) }
+    requires sound { IsSoundChain D.tells D.on_disk D.faults (chain_of store.old) }
     requires going_on { stopped_of (journal_of store.old) ≡ None }
     requires continues { Continues (state_of store.old).version (state_of store.old).issuer (state_of store.old).entries entry }
     requires room { (state_of store.old).room ≡ Some entry }
     requires encoding { bytes.now ≡ entry_bytes (state_of store.old).version entry }
-    ensures sound { IsSoundChain D.tells D.told D.faults (chain_of store.new) }
-    ensures keeps { KeepsEntry D.tells D.told D.faults (chain_of store.old) (chain_of store.new) entry result }
+    ensures sound { IsSoundChain D.tells D.on_disk D.faults (chain_of store.new) }
+    ensures keeps { KeepsEntry D.tells D.on_disk D.faults (chain_of store.old) (chain_of store.new) entry result }
     ensures clock { clock_of store.new ≡ clock_of store.old }
     ensures cause { OnErr result (IsErrOf result StoreFault.DiskFault) }
 {
@@ -153,17 +153,17 @@ fn keep_both<D: Disk, C: Clock, M: Disk>(
     standby: &mut Standby<M>,
     twice: Twice,
 ) -> Result<(), StoreFault>
-    requires sound { IsSoundChain D.tells D.told D.faults (chain_of store.old) }
+    requires sound { IsSoundChain D.tells D.on_disk D.faults (chain_of store.old) }
     requires going_on { (stopped_of (journal_of store.old) ≡ None) × (standby.old.stopped ≡ None) }
     requires continues { Continues (state_of store.old).version (state_of store.old).issuer (state_of store.old).entries twice.entry }
     requires standby_continues { Continues standby.old.history.version standby.old.history.issuer standby.old.history.entries twice.entry }
     requires version { standby.old.history.version ≡ (state_of store.old).version }
     requires room { ((state_of store.old).room ≡ Some twice.entry) × (standby.old.history.room ≡ Some twice.entry) }
     requires copy { (twice.copy ≡ twice.entry) × (twice.bytes ≡ entry_bytes (state_of store.old).version twice.entry) }
-    ensures sound { IsSoundChain D.tells D.told D.faults (chain_of store.new) }
-    ensures standby_sound { IsSoundChain M.tells M.told M.faults standby.new }
+    ensures sound { IsSoundChain D.tells D.on_disk D.faults (chain_of store.new) }
+    ensures standby_sound { IsSoundChain M.tells M.on_disk M.faults standby.new }
     ensures clock { clock_of store.new ≡ clock_of store.old }
-    ensures keeps { KeepsBoth D.tells D.told D.faults M.tells M.told M.faults (both_of store.old standby.old)
+    ensures keeps { KeepsBoth D.tells D.on_disk D.faults M.tells M.on_disk M.faults (both_of store.old standby.old)
         (both_of store.new standby.new) twice.entry result }
 {
     let Twice { entry, copy, bytes } = twice;
@@ -181,7 +181,7 @@ fn keep_both<D: Disk, C: Clock, M: Disk>(
 impl<D: Disk, C: Clock, M: Disk> Pair<D, C, M> {
     /// A store and a standby that go on, of one issuer and with equal histories.
     pub fn of(store: Store<D, C>, standby: Standby<M>) -> Pair<D, C, M>
-        requires ready { Ready D.tells D.told store }
+        requires ready { Ready D.tells D.on_disk store }
         requires going_on { (stopped_of (journal_of store) ≡ None) × (standby.stopped ≡ None) }
         requires issuer { standby.history.issuer ≡ (state_of store).issuer }
         requires version { standby.history.version ≡ (state_of store).version }
@@ -216,7 +216,7 @@ impl<D: Disk, C: Clock, M: Disk> Pair<D, C, M> {
 
         // Both are sound, and come from those at the start by notes alone. Where neither has stopped their histories are equal;
         // else they are equal too, or the standby's is the store's without its last notes.
-        ensures pair { IsPair D.tells D.told D.faults M.tells M.told M.faults self.start (both_of result.0 result.1) }
+        ensures pair { IsPair D.tells D.on_disk D.faults M.tells M.on_disk M.faults self.start (both_of result.0 result.1) }
     {
         let Pair {
             store,
@@ -230,12 +230,12 @@ impl<D: Disk, C: Clock, M: Disk> Pair<D, C, M> {
     // Notes lines in both: what needs memory first, then the store's disk, then the standby's.
     fn note_both(&mut self, alloc: Global, lines: &[Line]) -> Result<(), StoreFault>
         requires some { 1 ≤ length lines.now }
-        requires few { length lines.now ≤ BATCH }
+        requires few { length lines.now ≤ MAX_NOTES }
         requires fits { length lines.now ≤ length (waiting self.old.present.standby.history.entries) }
         ensures start { self.new.start ≡ self.old.start }
         ensures notes { NotesBoth D.faults M.faults self.old.present self.new.present lines.now result }
-        ensures pair { IsPair D.tells D.told D.faults M.tells M.told M.faults self.old.start self.old.present }
-        ensures after { IsPair D.tells D.told D.faults M.tells M.told M.faults self.old.start self.new.present }
+        ensures pair { IsPair D.tells D.on_disk D.faults M.tells M.on_disk M.faults self.old.start self.old.present }
+        ensures after { IsPair D.tells D.on_disk D.faults M.tells M.on_disk M.faults self.old.start self.new.present }
     {
         if let Some(faults) = self.store.stopped() {
             return Err(StoreFault::Stopped { faults });
@@ -272,11 +272,11 @@ impl<D: Disk, C: Clock, M: Disk> Outbox for Pair<D, C, M> {
         })
     }
 
-    // Beside what an outbox says: want of memory leaves both as they were, and a fault of either disk stops the pair at its
+    // Beside what an outbox says: lack of memory leaves both as they were, and a fault of either disk stops the pair at its
     // count, which rose.
     fn note<R: Wait>(&mut self, _rt: &R, alloc: Global, lines: &[Line]) -> Result<(), StoreFault>
         requires some { 1 ≤ length lines.now }
-        requires few { length lines.now ≤ BATCH }
+        requires few { length lines.now ≤ MAX_NOTES }
         requires fits { length lines.now ≤ length (waiting (history_of (sight_of self.old))) }
         ensures fixed { self.new.start ≡ self.old.start }
         ensures grows { Grows (sight_of self.old) (sight_of self.new) }
@@ -285,7 +285,7 @@ impl<D: Disk, C: Clock, M: Disk> Outbox for Pair<D, C, M> {
         ensures stopped { (faults : ℕ) →
             IsErrOf result (StoreFault.Stopped faults) ↔ HasStopped (sight_of self.old) (sight_of self.new) faults }
         ensures both { NotesBoth D.faults M.faults self.old.present self.new.present lines.now result }
-        ensures pair { IsPair D.tells D.told D.faults M.tells M.told M.faults self.old.start self.new.present }
+        ensures pair { IsPair D.tells D.on_disk D.faults M.tells M.on_disk M.faults self.old.start self.new.present }
     {
         a_history_notes_its_records();
         self.note_both(alloc, lines)

@@ -1,4 +1,4 @@
-// Pieces of a history.
+//! Pieces of a history.
 ghost use Rattle.std.specs.Prelude.{◌≡◌, ◌≤◌, length, IfOk, IfNone, IfSome};
 ghost use Rattle.standby.specs.Pieces.{IsPieceOf};
 

@@ -1,4 +1,4 @@
-// A copy of a shop's file on a second disk.
+//! A copy of a shop's file on a second disk.
 ghost use Rattle.std.specs.Prelude.{◌≡◌, ◌≤◌, ◌≢◌, ◌↔◌, ◌∷◌, [], ℕ, IsTrue, MatchBool, IfOk, IfErr, OnOk, OnErr, IsErrOf, IsSome, None, Some};
 ghost use Rattle.ports.specs.Causes.{Rose};
 ghost use Rattle.huella.specs.Linked.{Linked};
@@ -55,7 +55,7 @@ impl<D: Disk> Model for Standby<D> {
 
     ghost view = { λ s. chain_by s.state s.journal (option_map (λ t. t.value) s.torn) };
 
-    ghost invariant = { λ s. IsSoundChain D.tells D.told D.faults
+    ghost invariant = { λ s. IsSoundChain D.tells D.on_disk D.faults
         (chain_by s.state s.journal (option_map (λ t. t.value) s.torn)) };
 }
 
@@ -70,7 +70,7 @@ impl<D: Disk> Standby<D> {
     // The standby of a journal that goes on and keeps this history.
     fn of(state: State, journal: Journal<D>) -> Standby<D>
         requires going_on { stopped_of journal ≡ None }
-        requires ready { IsReady D.tells state None (end_of journal) (D.told (disk_of journal)) }
+        requires ready { IsReady D.tells state None (end_of journal) (D.on_disk (disk_of journal)) }
         ensures { result ≡ record { history = state; disk = disk_of journal; gate = end_of journal; stopped = None; torn = None } }
     {
         state.is_legal();
@@ -84,7 +84,7 @@ impl<D: Disk> Standby<D> {
     // The standby of a file that was opened. Of one of another version the disk is given back.
     fn of_opened(opened: Opened<D>, version: Version) -> Result<Standby<D>, StandbyFault<D>>
         requires going_on { stopped_of opened.journal ≡ None }
-        requires ready { IsReady D.tells opened.state None (end_of opened.journal) (D.told (disk_of opened.journal)) }
+        requires ready { IsReady D.tells opened.state None (end_of opened.journal) (D.on_disk (disk_of opened.journal)) }
         ensures same { IfOk result (λ standby. (opened.state.version ≡ version) × (standby ≡ record {
           history = opened.state;
           disk = disk_of opened.journal;
@@ -92,7 +92,7 @@ impl<D: Disk> Standby<D> {
           stopped = None;
           torn = None;
         })) }
-        ensures sound { IfOk result (λ standby. IsSoundChain D.tells D.told D.faults standby) }
+        ensures sound { IfOk result (λ standby. IsSoundChain D.tells D.on_disk D.faults standby) }
         ensures other { IfErr result (λ fault. (fault.cause ≡ cause.OtherVersion opened.state.version)
             × (opened.state.version ≢ version) × (fault.disk ≡ disk_of opened.journal)) }
     {
@@ -117,23 +117,23 @@ impl<D: Disk> Standby<D> {
         issuer: &Nif,
         version: Version,
     ) -> Result<Standby<D>, StandbyFault<D>>
-        ensures sound { IfOk result (λ standby. IsSoundChain D.tells D.told D.faults standby) }
+        ensures sound { IfOk result (λ standby. IsSoundChain D.tells D.on_disk D.faults standby) }
         ensures going_on { IfOk result (λ standby. standby.stopped ≡ None) }
         ensures issuer { IfOk result (λ standby. standby.history.issuer ≡ issuer.now) }
         ensures version { IfOk result (λ standby. standby.history.version ≡ version) }
         ensures found { IfOk result (λ standby. IsTrue D.tells →
-            IsFound version version issuer.now standby.history.entries (D.told disk).content) }
+            IsFound version version issuer.now standby.history.entries (D.on_disk disk).content) }
 
         // From its first sync on, a crash at any moment of the call leaves what was found.
         ensures any_moment { IfOk result (λ standby. IsTrue D.tells →
-            LeavesOnly (synced (D.told disk)) (D.told standby.disk)
+            LeavesOnly (synced (D.on_disk disk)) (D.on_disk standby.disk)
             (IsFound version version issuer.now standby.history.entries)) }
-        ensures unwritten { IfOk result (λ standby. IsTrue D.tells → IsOnlySynced (D.told disk) (D.told standby.disk)) }
+        ensures unwritten { IfOk result (λ standby. IsTrue D.tells → IsOnlySynced (D.on_disk disk) (D.on_disk standby.disk)) }
         ensures later { IfOk result (λ standby. D.faults disk ≤ D.faults standby.disk) }
 
         // What the file is, by the cause, and what the calls of the disk left of it.
         ensures left { IfErr result (λ fault. IsTrue D.tells →
-            IsLeftUnstarted version issuer.now fault.cause (D.told disk) (D.told fault.disk)) }
+            IsLeftUnstarted version issuer.now fault.cause (D.on_disk disk) (D.on_disk fault.disk)) }
         ensures disk_fault { IfErr result (λ fault. fault.cause ≡ cause.DiskFault →
             Rose (D.faults disk) (D.faults fault.disk)) }
         ensures later_err { IfErr result (λ fault. D.faults disk ≤ D.faults fault.disk) }
@@ -150,7 +150,7 @@ impl<D: Disk> Standby<D> {
 
     /// Its history is legal, and is what a crash leaves of its disk. It gives nothing and costs nothing: for proofs of callers.
     pub fn is_sound(&self)
-        ensures { IsSoundChain D.tells D.told D.faults self.now }
+        ensures { IsSoundChain D.tells D.on_disk D.faults self.now }
     {
         let _ = &self.state;
     }
@@ -191,7 +191,7 @@ impl<D: Disk> Standby<D> {
         requires continues { Continues self.old.history.version self.old.history.issuer self.old.history.entries entry }
         requires room { self.old.history.room ≡ Some entry }
         requires encoding { bytes.now ≡ entry_bytes self.old.history.version entry }
-        ensures keeps { KeepsEntry D.tells D.told D.faults self.old self.new entry result }
+        ensures keeps { KeepsEntry D.tells D.on_disk D.faults self.old self.new entry result }
         ensures cause { OnErr result (IsErrOf result StoreFault.DiskFault) }
     {
         a_legal_history_goes_on();
@@ -210,7 +210,7 @@ impl<D: Disk> Standby<D> {
         requires going_on { self.old.stopped ≡ None }
         requires continues { Continues self.old.history.version self.old.history.issuer self.old.history.entries entry }
         requires encoding { bytes.now ≡ entry_bytes self.old.history.version entry }
-        ensures { AddsEntry D.tells D.told D.faults self.old self.new entry result }
+        ensures { AddsEntry D.tells D.on_disk D.faults self.old self.new entry result }
     {
         if self.reserve(&entry).is_err() {
             return Err(StoreFault::NoMemory);
@@ -220,7 +220,7 @@ impl<D: Disk> Standby<D> {
 
     // Takes a piece. A standby that stopped answers so before the piece is looked at.
     fn meet(&mut self, alloc: Global, piece: &Piece) -> Result<Arrived, StoreFault>
-        ensures arrives { self.old.stopped ≡ None → Arrives D.tells D.told D.faults self.old self.new piece.now result }
+        ensures arrives { self.old.stopped ≡ None → Arrives D.tells D.on_disk D.faults self.old self.new piece.now result }
         ensures stopped { (faults : ℕ) → IsErrOf result (StoreFault.Stopped faults) ↔ (self.old.stopped ≡ Some faults) }
         ensures untouched { IsSome self.old.stopped → self.new ≡ self.old }
     {
@@ -243,14 +243,14 @@ impl<D: Disk> Standby<D> {
     /// Takes a piece of the shop's history: it is kept where it is the next one and continues the history. What needs memory
     /// is done before the first call of the disk.
     pub fn arrive(&mut self, alloc: Global, piece: &Piece) -> Result<Arrived, StoreFault>
-        ensures arrives { self.old.stopped ≡ None → Arrives D.tells D.told D.faults self.old self.new piece.now result }
+        ensures arrives { self.old.stopped ≡ None → Arrives D.tells D.on_disk D.faults self.old self.new piece.now result }
         ensures stopped { (faults : ℕ) → IsErrOf result (StoreFault.Stopped faults) ↔ (self.old.stopped ≡ Some faults) }
         ensures untouched { IsSome self.old.stopped → self.new ≡ self.old }
-        ensures sound { IsSoundChain D.tells D.told D.faults self.new }
-        ensures goes { GoesTo D.tells D.told D.faults self.old self.new }
+        ensures sound { IsSoundChain D.tells D.on_disk D.faults self.new }
+        ensures goes { GoesTo D.tells D.on_disk D.faults self.old self.new }
 
         // Of whatever history the piece is, the standby stays a front of it, and so does each file that a crash may leave.
-        ensures follows { Follows D.tells D.told self.old self.new (piece.now ∷ []) }
+        ensures follows { Follows D.tells D.on_disk self.old self.new (piece.now ∷ []) }
     {
         a_file_has_one_meaning();
         encodings_are_apart();
@@ -266,12 +266,17 @@ impl<D: Disk> Standby<D> {
             Received self.old.history.version self.old.history.issuer self.old.history.entries pieces.now
             self.new.history.entries kept) }
         ensures up_to { IfErr result (λ fault. ReceivesUpTo D.faults self.old self.new pieces.now fault) }
-        ensures stopped { OnOk result (self.new.stopped ≡ self.old.stopped) }
-        ensures sound { IsSoundChain D.tells D.told D.faults self.new }
-        ensures goes { GoesTo D.tells D.told D.faults self.old self.new }
+        ensures going_on { OnOk result (self.new.stopped ≡ self.old.stopped) }
+
+        // One that has stopped answers so to the first piece.
+        ensures stopped { (faults : ℕ) → IsErrOf result (StoreFault.Stopped faults) ↔
+            ((self.old.stopped ≡ Some faults) × (pieces.now ≢ [])) }
+        ensures untouched { IsSome self.old.stopped → self.new ≡ self.old }
+        ensures sound { IsSoundChain D.tells D.on_disk D.faults self.new }
+        ensures goes { GoesTo D.tells D.on_disk D.faults self.old self.new }
 
         // Of whatever history all pieces are, the standby stays a front of it, and so does each file that a crash may leave.
-        ensures follows { Follows D.tells D.told self.old self.new pieces.now }
+        ensures follows { Follows D.tells D.on_disk self.old self.new pieces.now }
     {
         a_file_has_one_meaning();
         self.is_sound();
@@ -290,13 +295,13 @@ impl<D: Disk> Standby<D> {
         requires { self.stopped ≡ None }
         ensures parts { chain_of result ≡ record self { torn = None } }
         ensures clock { clock_of result ≡ clock }
-        ensures ready { Ready D.tells D.told result }
+        ensures ready { Ready D.tells D.on_disk result }
         ensures legal { Legal (state_of result).version (state_of result).issuer (state_of result).entries }
         ensures linked { Linked (state_of result).issuer (recs (state_of result).entries) }
 
         // Every crash leaves the whole history.
         ensures every_crash { IsTrue D.tells →
-            LeavesNow (D.told (disk_of (journal_of result)))
+            LeavesNow (D.on_disk (disk_of (journal_of result)))
             (StandsFor (state_of result).version (state_of result).issuer (state_of result).entries) }
     {
         legal_is_chained();
@@ -315,7 +320,7 @@ impl<D: Disk> Standby<D> {
 
         // Of one that goes on every crash leaves the whole history.
         ensures every_crash { self.stopped ≡ None → IsTrue D.tells →
-            LeavesNow (D.told result) (StandsFor self.history.version self.history.issuer self.history.entries) }
+            LeavesNow (D.on_disk result) (StandsFor self.history.version self.history.issuer self.history.entries) }
     {
         let Standby {
             state: _state,

@@ -1,4 +1,4 @@
-// A standby that is told pieces, and a pair that notes.
+//! A standby that is told pieces, and a pair that notes.
 ghost use Rattle.std.specs.Prelude.{◌≡◌, IfOk, IfSome, None};
 ghost use Rattle.chain_store.specs.Store.{Ready, state_of};
 
@@ -13,7 +13,6 @@ use ports::{Clock, CountingClock};
 use record_codec::{BadEntry, Version};
 use record_fields::{Bytes, Draft, Line, Refs};
 use recovery::open_store;
-use rows::holds;
 use series::SeriesName;
 use shop_core::{Ask, Break, Request, State};
 use standby::{Arrived, Pair, Piece, Standby, StandbyCause, catch_up, first_apart, piece_of};
@@ -21,6 +20,7 @@ use std::alloc::Global;
 use std::sync::Wait;
 use std::test::Fail;
 use tax_lines::{Breakdown, Class, LineKey, TaxLine};
+use test_rows::holds;
 
 // 2025-01-01, 10:00 on the peninsular clock.
 const TEN: u64 = 1_735_722_000;
@@ -34,7 +34,7 @@ fn disk_failing_at(alloc: Global, call: u64) -> Result<MemDisk, Fail> {
     Ok(MemDisk::new(alloc, Vec::new(alloc), vec![in alloc; call]?))
 }
 
-// A sale of so many cents by till 1 in the series A.
+// A sale of this many cents by till 1 in the series A.
 fn sale(alloc: Global, serial: u32, cents: i64) -> Result<Ask, Fail> {
     if serial < 1 {
         return Err(Fail::from("a serial"));
@@ -63,8 +63,8 @@ fn sell<D: Disk, C: Clock>(
     serial: u32,
     cents: i64,
 ) -> Result<(), Fail>
-    requires { Ready D.tells D.told store.old }
-    ensures { Ready D.tells D.told store.new }
+    requires { Ready D.tells D.on_disk store.old }
+    ensures { Ready D.tells D.on_disk store.new }
 {
     let ask = sale(alloc, serial, cents)?;
     let _ = store.take(alloc, &ask);
@@ -73,7 +73,7 @@ fn sell<D: Disk, C: Clock>(
 
 // A shop on this disk.
 fn shop_on<D: Disk + Drop>(alloc: Global, disk: D) -> Option<Store<D, CountingClock>>
-    ensures { IfSome result (λ store. Ready D.tells D.told store) }
+    ensures { IfSome result (λ store. Ready D.tells D.on_disk store) }
 {
     let Ok(issuer) = Nif::read("89890001K") else {
         return None;
@@ -84,7 +84,7 @@ fn shop_on<D: Disk + Drop>(alloc: Global, disk: D) -> Option<Store<D, CountingCl
     }
 }
 
-// A shop with three sales, the first of so many cents.
+// A shop with three sales, the first of this many cents.
 fn shop_of_three(alloc: Global, cents: i64) -> Result<Shop, Fail> {
     let Some(mut store) = shop_on(alloc, disk_failing_at(alloc, 0)?) else {
         return Err(Fail::from("a shop"));
@@ -282,7 +282,7 @@ fn order(alloc: Global, number: u64) -> Result<Vec<u64>, Fail> {
     Ok(places)
 }
 
-// How many places come in their order, one behind the other, from 0.
+// How many places come in their order, one after the other, from 0.
 fn followed(places: &[u64]) -> u64 {
     let mut next = 0u64;
     for place in places {
@@ -351,7 +351,7 @@ fn paired<D: Disk + Drop, C: Clock + Drop, M: Disk + Drop>(
     store: Store<D, C>,
     copy: Standby<M>,
 ) -> Option<Pair<D, C, M>>
-    requires ready { Ready D.tells D.told store }
+    requires ready { Ready D.tells D.on_disk store }
     requires going_on { copy.stopped ≡ None }
     requires issuer { copy.history.issuer ≡ (state_of store).issuer }
     requires version { copy.history.version ≡ (state_of store).version }

@@ -19,7 +19,7 @@ use Rattle.statements.proofs.Noting.{at_is}
 use Rattle.statements.proofs.Recording.{body_postings, of_body, recs_still, recs_then}
 use Rattle.statements.proofs.Sums.{same_sym, same_turn}
 use Rattle.statements.specs.Ledger.{IsBooked, IsKept}
-use Rattle.statements.specs.Months.{month_at}
+use Rattle.statements.specs.Months.{is_in, month_at}
 use Rattle.statements.specs.Postings.{AreMonths, ArePostings, AreSame, HaveAll, HaveRoomFor, IsHeldPosting, IsPlan, all_at}
 use Rattle.statements.specs.Statement.{accepted_place, held_lines, is_at, lines_from, lines_in}
 use Rattle.statements.specs.declared.months.TheConstants.{MONTHS}
@@ -38,7 +38,7 @@ pub held_postings : (b : Bool) (body : Record) (found : Option Posting) → IsHe
 held_postings true body found is = body_postings body found is
 held_postings false body found is = subst (λ (o : Option Posting). ArePostings (option_to_list o)) (sym is) tt
 
-take_then : {A : Type 0} (xs : List A) (n : ℕ) (x : A) → slice_get xs n ≡ Some x → take (n + 1) xs ≡ take n xs ++ x ∷ []
+pub take_then : {A : Type 0} (xs : List A) (n : ℕ) (x : A) → slice_get xs n ≡ Some x → take (n + 1) xs ≡ take n xs ++ x ∷ []
 take_then [] n x e = absurd cc
 take_then {A} (y ∷ xs) zero x e = let same : y ≡ x = cc in ap (λ (z : A). z ∷ []) same
 take_then {A} (y ∷ xs) (suc n) x e =
@@ -93,7 +93,7 @@ booking_room version issuer entries n found postings months legal lt few all are
       few_both (length postings) (length (take n (recs entries))) (all_at postings i)
       (lines_from (accepted_place entries) (month_at i) 1 (take n (recs entries))) (omega (arith, a, b)) (omega (arith, c, lt, few))
       (of_postings postings i are)
-      (of_records (accepted_place entries) (month_at i) 1 (take n (recs entries)) (small_take n (recs entries)
+      (of_records (accepted_place entries) (is_in (month_at i)) 1 (take n (recs entries)) (small_take n (recs entries)
       (small_records version issuer entries legal)));
 }
 
@@ -116,7 +116,7 @@ plan_room version issuer entries after put drop months legal few plan kept = rec
       let a = plan.few in
       few_both (length put) (length (recs entries)) (all_at put i) (held_lines entries (month_at i)) (omega (arith, a)) (omega (arith, few))
       (of_postings put i plan.puts)
-      (of_records (accepted_place entries) (month_at i) 1 (recs entries) (small_records version issuer entries legal));
+      (of_records (accepted_place entries) (is_in (month_at i)) 1 (recs entries) (small_records version issuer entries legal));
 }
 
 -- what was put in can be taken out
@@ -165,6 +165,6 @@ drop_there version issuer entries entry put drop months new legal few plan kept 
       let m = one_more entries entry in
       few_both (length drop) (length (recs (entries ++ entry ∷ []))) (all_at drop i) (held_lines (entries ++ entry ∷ []) (month_at i))
       (omega (arith, a)) (omega (arith, few, m)) (of_postings drop i plan.drops)
-      (of_records (accepted_place (entries ++ entry ∷ [])) (month_at i) 1 (recs (entries ++ entry ∷ []))
+      (of_records (accepted_place (entries ++ entry ∷ [])) (is_in (month_at i)) 1 (recs (entries ++ entry ∷ []))
       (small_records version issuer (entries ++ entry ∷ []) legal));
 }

@@ -1,6 +1,6 @@
--- A legal history's lines of a month are few, and near.
+-- A legal history's lines of some days are few, and near.
 use Rattle.std.proofs.Common.{◌≡◌, ℕ, zero, suc, ◌+◌, ◌*◌, ◌≤◌, List, [], ◌∷◌, ◌++◌, length, length-append, refl, sym}
-use Rattle.std.proofs.Common.{subst, inl, inr, cond, arith, Some, None, append_assoc, nat_lt, take, eqb, unsigned_abs}
+use Rattle.std.proofs.Common.{subst, inl, inr, Bool, cond, arith, Some, None, append_assoc, nat_lt, take, eqb, unsigned_abs}
 use Rattle.std.proofs.lemmas.Bool.{cases_Bool, ltb-false}
 use Rattle.std.specs.List.{AllByRecursion, position_or_len}
 use Rattle.record_fields.specs.declared.versions.Version.{Version}
@@ -23,10 +23,9 @@ use Rattle.shop_core.specs.declared.answer.requests.Request.{Request}
 use Rattle.shop_core.specs.declared.answer.requests.Request.TheVariants.{Sale, Fix}
 use Rattle.statements.proofs.Changing.{near_both}
 use Rattle.statements.proofs.Holding.{Holders}
-use Rattle.statements.specs.Months.{YearMonth, is_in}
 use Rattle.statements.specs.Postings.{ArePostings, IsPosting, all_at, lines_at}
 use Rattle.statements.specs.Rows.{AreFew, IsNear}
-use Rattle.statements.specs.Statement.{is_at, lines_from, lines_in}
+use Rattle.statements.specs.Statement.{held_from, is_at, lines_on}
 use Rattle.statements.specs.declared.postings.Posting.{Posting}
 
 -- lines of one invoice
@@ -60,7 +59,7 @@ breakdown_of_one lines is =
 -- ---- the records of a legal history
 
 abbrev pub IsSmallRecord : Sealed → Type 0
-IsSmallRecord s = (month : YearMonth) → AreOfOne (lines_in month s.body)
+IsSmallRecord s = (days : ℕ → Bool) → AreOfOne (lines_on days s.body)
 
 draft_of : (a : Alta) → IsRequest (request_of (record_of.Alta a)) → IsDraft a.draft
 draft_of a is = elim (cases_Bool a.subsanacion) [
@@ -74,9 +73,9 @@ draft_of a is = elim (cases_Bool a.subsanacion) [
       h.1
 ]
 
-small_body : (body : Record) → IsRequest (request_of body) → (month : YearMonth) → AreOfOne (lines_in month body)
-small_body (record_of.Anulacion a) is month = none_of_one
-small_body (record_of.Alta a) is month = elim (cases_Bool (is_in month a.id.day)) [
+small_body : (body : Record) → IsRequest (request_of body) → (days : ℕ → Bool) → AreOfOne (lines_on days body)
+small_body (record_of.Anulacion a) is days = none_of_one
+small_body (record_of.Alta a) is days = elim (cases_Bool (days a.id.day)) [
   | inl e ↦ rw e (breakdown_of_one a.draft.lines (draft_of a is).lines)
   | inr e ↦ rw e none_of_one
 ]
@@ -109,29 +108,29 @@ small_take zero records all = tt
 small_take (suc n) [] all = tt
 small_take (suc n) (s ∷ records) all = (all.0, small_take n records all.1)
 
--- ---- lines of so many invoices
+-- ---- lines of this many invoices
 
 pub record AreOf (n : ℕ) (lines : List TaxLine) : Type 0 where
   pub few : length lines ≤ 12 * n
   pub near : AllByRecursion IsNear lines
 
-pub of_records : (h : Holders) (month : YearMonth) (place : ℕ) (records : List Sealed) → AllByRecursion IsSmallRecord records →
-    AreOf (length records) (lines_from h month place records)
-of_records h month place [] all = record { few = omega arith; near = tt }
-of_records h month place (s ∷ records) all =
-    let rest = of_records h month (place + 1) records all.1 in
+pub of_records : (h : Holders) (days : ℕ → Bool) (place : ℕ) (records : List Sealed) → AllByRecursion IsSmallRecord records →
+    AreOf (length records) (held_from h days place records)
+of_records h days place [] all = record { few = omega arith; near = tt }
+of_records h days place (s ∷ records) all =
+    let rest = of_records h days (place + 1) records all.1 in
     let n = rest.few in
-    let one : AreOfOne (cond (is_at (h (num_of s.body)) place) (lines_in month s.body) []) =
+    let one : AreOfOne (cond (is_at (h (num_of s.body)) place) (lines_on days s.body) []) =
     elim (cases_Bool (is_at (h (num_of s.body)) place)) [
-      | inl e ↦ rw e (all.0 month)
+      | inl e ↦ rw e (all.0 days)
       | inr e ↦ rw e none_of_one
     ] in
     let m = one.few in
-    let here : List TaxLine = cond (is_at (h (num_of s.body)) place) (lines_in month s.body) [] in
-    let l = length-append here (lines_from h month (place + 1) records) in
+    let here : List TaxLine = cond (is_at (h (num_of s.body)) place) (lines_on days s.body) [] in
+    let l = length-append here (held_from h days (place + 1) records) in
     record {
       few = omega (arith, n, m, l);
-      near = near_both here (lines_from h month (place + 1) records) one.near rest.near;
+      near = near_both here (held_from h days (place + 1) records) one.near rest.near;
     }
 
 pub posting_of_one : (p : Posting) (i : ℕ) → IsPosting p → AreOfOne (lines_at p i)

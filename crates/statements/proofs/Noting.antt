@@ -10,7 +10,7 @@ use Rattle.record_fields.specs.Picks.{last_of}
 use Rattle.record_fields.specs.Records.{num_of}
 use Rattle.record_fields.specs.declared.records.Sealed.{Sealed}
 use Rattle.record_fields.specs.declared.lines.Line.{Line}
-use Rattle.record_fields.specs.declared.lines.TheConstants.{BATCH}
+use Rattle.record_codec.specs.declared.entry.TheConstants.{MAX_NOTES}
 use Rattle.record_codec.specs.Heads.{head_of}
 use Rattle.record_codec.specs.declared.entry.Entry.{Entry}
 use Rattle.record_codec.specs.declared.heads.Head.{Head}
@@ -354,7 +354,7 @@ none_noted entries = record {
 }
 
 -- the plan of notes
-pub notes_plan : (entries : List Entry) (first : ℕ) (lines : List Line) (put drop : List Posting) → length lines ≤ BATCH →
+pub notes_plan : (entries : List Entry) (first : ℕ) (lines : List Line) (put drop : List Posting) → length lines ≤ MAX_NOTES →
     AreNoted entries lines put drop → IsPlan entries (entries ++ Notes first lines ∷ []) put drop
 notes_plan entries first lines put drop few are = record {
   puts = are.puts;

@@ -9,7 +9,7 @@ use Rattle.record_fields.specs.Records.{num_of}
 use Rattle.record_fields.specs.declared.records.Record.{Record}
 use Rattle.record_fields.specs.declared.records.Sealed.{Sealed}
 use Rattle.record_fields.specs.declared.lines.Line.{Line}
-use Rattle.record_fields.specs.declared.lines.TheConstants.{BATCH}
+use Rattle.record_codec.specs.declared.entry.TheConstants.{MAX_NOTES}
 use Rattle.record_codec.specs.declared.entry.Entry.{Entry}
 use Rattle.record_codec.specs.declared.entry.Entry.TheVariants.{Rec, Notes}
 use Rattle.shop_core.specs.History.{recs, noted}
@@ -149,7 +149,7 @@ found_postings : (found : Option (ℕ × Sealed)) (o : Option Posting) → IsPos
 found_postings None o is = subst (λ (x : Option Posting). ArePostings (option_to_list x)) (sym is) tt
 found_postings (Some p) o is = body_postings p.1.body o is
 
-one_at_most : (o : Option Posting) → length (option_to_list o) ≤ BATCH
+one_at_most : (o : Option Posting) → length (option_to_list o) ≤ MAX_NOTES
 one_at_most None = omega arith
 one_at_most (Some p) = omega arith
 
@@ -160,8 +160,8 @@ pub record_plan : (entries : List Entry) (till serial : ℕ) (s : Sealed) (now b
 record_plan entries till serial s now before put drop le b n p d = record {
   puts = subst (λ (ps : List Posting). ArePostings ps) (sym p) (body_postings s.body now n);
   drops = subst (λ (ps : List Posting). ArePostings ps) (sym d) (found_postings (last_accepted entries (num_of s.body)) before b);
-  few = subst (λ (ps : List Posting). length ps ≤ BATCH) (sym p) (one_at_most now);
-  few_out = subst (λ (ps : List Posting). length ps ≤ BATCH) (sym d) (one_at_most before);
+  few = subst (λ (ps : List Posting). length ps ≤ MAX_NOTES) (sym p) (one_at_most now);
+  few_out = subst (λ (ps : List Posting). length ps ≤ MAX_NOTES) (sym d) (one_at_most before);
   same = λ i lt.
       let month = month_at i in
       let found = last_accepted entries (num_of s.body) in

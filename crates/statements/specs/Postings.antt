@@ -5,7 +5,7 @@ use Rattle.std.specs.List.{AllByRecursion}
 use Rattle.tax_lines.specs.Breakdown.{IsBreakdown}
 use Rattle.tax_lines.specs.Keys.{Key}
 use Rattle.tax_lines.specs.declared.lines.TaxLine.{TaxLine}
-use Rattle.record_fields.specs.declared.lines.TheConstants.{BATCH}
+use Rattle.record_codec.specs.declared.entry.TheConstants.{MAX_NOTES}
 use Rattle.record_fields.specs.declared.records.Record.{Record}
 use Rattle.record_fields.specs.declared.records.Sealed.{Sealed}
 use Rattle.record_fields.specs.declared.lines.Line.{Line}
@@ -72,12 +72,12 @@ IsPostingFor (Some p) found = IsPostingOf p.1.body found
 pub record IsPlan (entries after : List Entry) (put drop : List Posting) : Type 0 where
   pub puts : ArePostings put
   pub drops : ArePostings drop
-  pub few : length put ≤ BATCH
-  pub few_out : length drop ≤ BATCH
+  pub few : length put ≤ MAX_NOTES
+  pub few_out : length drop ≤ MAX_NOTES
   pub same : (i : ℕ) → i < MONTHS → AreSame (all_at drop i ++ held_lines after (month_at i))
       (all_at put i ++ held_lines entries (month_at i))
 
--- the same where these lines are noted behind those of the history
+-- the same where these lines are noted after those of the history
 pub record AreNoted (entries : List Entry) (lines : List Line) (put drop : List Posting) : Type 0 where
   pub puts : ArePostings put
   pub drops : ArePostings drop

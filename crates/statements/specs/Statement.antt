@@ -17,24 +17,34 @@ use Rattle.statements.specs.declared.rows.Row.{Row}
 abbrev pub accepted_place : List Entry → List ℕ → Option ℕ
 accepted_place entries num = option_map (λ (p : ℕ × Sealed). p.0) (last_accepted entries num)
 
--- the lines of an alta whose day lies in the month; an anulación has none
-abbrev pub lines_in : YearMonth → Record → List TaxLine
-lines_in month (record_of.Alta a) = if is_in month a.id.day then a.draft.lines else []
-lines_in month (record_of.Anulacion a) = []
+-- the lines of an alta whose day is one of those; an anulación has none
+abbrev pub lines_on : (ℕ → Bool) → Record → List TaxLine
+lines_on days (record_of.Alta a) = if days a.id.day then a.draft.lines else []
+lines_on days (record_of.Anulacion a) = []
 
 abbrev pub is_at : Option ℕ → ℕ → Bool
 is_at None place = false
 is_at (Some n) place = n == place
 
 -- of the records from a place on, those that stand where their invoice is said to be held: the lines of each, in order
-abbrev pub lines_from : (List ℕ → Option ℕ) → YearMonth → ℕ → List Sealed → List TaxLine
-lines_from held_at month place [] = []
-lines_from held_at month place (s ∷ records) =
-    (if is_at (held_at (num_of s.body)) place then lines_in month s.body else [])
-    ++ lines_from held_at month (place + 1) records
+abbrev pub held_from : (List ℕ → Option ℕ) → (ℕ → Bool) → ℕ → List Sealed → List TaxLine
+held_from held_at days place [] = []
+held_from held_at days place (s ∷ records) =
+    (if is_at (held_at (num_of s.body)) place then lines_on days s.body else []) ++ held_from held_at days (place + 1) records
 
--- the lines of the month: an invoice is held where its last accepted record is an alta, and that is its last accepted alta. So
+-- both for the days of a month
+abbrev pub lines_in : YearMonth → Record → List TaxLine
+lines_in month body = lines_on (is_in month) body
+
+abbrev pub lines_from : (List ℕ → Option ℕ) → YearMonth → ℕ → List Sealed → List TaxLine
+lines_from held_at month place records = held_from held_at (is_in month) place records
+
+-- the lines of these days: an invoice is held where its last accepted record is an alta, and that is its last accepted alta. So
 -- each record is taken that is its invoice's last accepted one, and it has lines where it is an alta
+abbrev pub held_on : List Entry → (ℕ → Bool) → List TaxLine
+held_on entries days = held_from (accepted_place entries) days 1 (recs entries)
+
+-- the lines of the month
 abbrev pub held_lines : List Entry → YearMonth → List TaxLine
 held_lines entries month = lines_from (accepted_place entries) month 1 (recs entries)
 

@@ -1,7 +1,7 @@
-// What an entry changes in the months' rows.
+//! What an entry changes in the months' rows.
 ghost use Rattle.std.specs.Prelude.{◌≡◌, ◌+◌, ◌<◌, ◌≤◌, ◌++◌, ◌∷◌, [], IfOk, OnOk, option_to_list, length, Some, not, ◌&&◌, MatchOption};
 ghost use Rattle.record_codec.specs.declared.entry.Entry.TheVariants as entry_of;
-ghost use Rattle.record_fields.specs.declared.lines.TheConstants.{BATCH};
+ghost use Rattle.record_codec.specs.declared.entry.TheConstants.{MAX_NOTES};
 ghost use Rattle.record_fields.specs.declared.records.Sealed.{Sealed as AnySealed};
 ghost use Rattle.shop_core.specs.History.{noted, recs, sealed_at};
 ghost use Rattle.shop_core.specs.Legal.{Continues};
@@ -128,7 +128,7 @@ fn push(postings: &mut Vec<Posting>, posting: Option<Posting>) -> Result<(), NoM
     Ok(())
 }
 
-// What one line more changes, of the record behind those that have lines: one that refuses its invoice's last record takes it
+// What one line more changes, of the record after those that have lines: one that refuses its invoice's last record takes it
 // out and brings back the last one that its line accepts. No other line has a record decoded.
 fn note(
     alloc: Global,
@@ -160,7 +160,7 @@ fn note(
     push(&mut plan.put, back)
 }
 
-// What these lines change, noted behind those of the history.
+// What these lines change, noted after those of the history.
 fn plan_notes(alloc: Global, state: &State, lines: &[Line]) -> Result<Plan, NoMemory>
     requires { length (noted state.now.entries) + length lines.now ≤ length (recs state.now.entries) }
     ensures { IfOk result (λ plan. AreNoted state.now.entries lines.now plan.put.items plan.drop.items) }
@@ -177,7 +177,7 @@ fn plan_notes(alloc: Global, state: &State, lines: &[Line]) -> Result<Plan, NoMe
 
 // The same as the entry of the next lines.
 fn plan_entry(alloc: Global, state: &State, first: u32, lines: &[Line]) -> Result<Plan, NoMemory>
-    requires few { length lines.now ≤ BATCH }
+    requires few { length lines.now ≤ MAX_NOTES }
     requires within { length (noted state.now.entries) + length lines.now ≤ length (recs state.now.entries) }
     ensures { IfOk result (λ plan. IsPlan state.now.entries
         (state.now.entries ++ entry_of.Notes first lines.now ∷ []) plan.put.items plan.drop.items) }

@@ -19,7 +19,7 @@ pub enum TotalLines {
     Two(TaxLine, TaxLine),
 }
 
-// Taxes repeat, but for their amount, after so many cents, at every rate.
+// Taxes repeat, but for their amount, after this many cents, at every rate.
 const PERIOD: u64 = 10_000;
 
 // What is to be paid for a base, in cents.

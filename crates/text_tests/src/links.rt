@@ -1,14 +1,14 @@
-// Links written and read. The encoded numbers are those of another program's encoder.
+//! Links written and read. The encoded numbers are those of another program's encoder.
 use amounts::Cents;
 use invoice_kinds::Kind;
 use parties::Nif;
 use record_fields::{Alta, Draft, Link, Previo, Refs};
-use rows::holds;
 use series::{InvoiceId, NumSerie};
 use stamps::{Day, stamp_at};
 use std::alloc::Global;
 use std::test::Fail;
 use tax_lines::{Breakdown, Class, LineKey, TaxLine};
+use test_rows::holds;
 use verify_link::{Host, LinkParts, link_of, read_link};
 
 // What the links below say, but for their number.

@@ -7,12 +7,12 @@ use report::{
     AnswerLine, Answers, Closed, Detail, answers_text, closed_text, ended_text, fault_text,
     followed_text, issuer_text, matches_text, migrated_text, status_of, turns_text, verdict_text,
 };
-use rows::holds;
 use series::{InvoiceId, NumSerie};
 use shop_core::{AuditEnd, Receipt, Refusal, Reply, What, Word};
 use stamps::{civil_day, stamp_at};
 use std::alloc::Global;
 use std::test::Fail;
+use test_rows::holds;
 
 // 2025-01-01, 10:00 on the peninsular clock.
 const TEN: u64 = 1_735_722_000;

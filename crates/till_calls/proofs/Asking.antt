@@ -29,7 +29,7 @@ use Rattle.till_calls.specs.Turns.{IsReading, IsShopList, TillDoes, TillTurn}
 use Rattle.till_calls.proofs.Calls.{call_of}
 use Rattle.till_calls.proofs.Keeping.{sound_gains, sound_stays, sound_stops, between_around, later_more}
 
--- the entries of entries, and of what stands behind them
+-- the entries of entries, and of what stands after them
 pub entries_in_map : (es : List Entry) (more : List Item) → entries_of (map item.Entry es ++ more) ≡ es ++ entries_of more
 entries_in_map [] more = refl
 entries_in_map (e ∷ es) more = ap (λ (l : List Entry). e ∷ l) (entries_in_map es more)
@@ -96,14 +96,14 @@ till_adds coming ask (Err DiskFault) root before after t = inr (
 till_adds coming ask (Err (Stopped count)) root before after s = inl s.0
 till_adds coming ask (Err NoMemory) root before after e = inl e.0
 
-module _ {D C : Type 0} (tells : Bool) (told : D → OnDisk) (faults : D → ℕ) (coming : C → ℕ → Option ℕ) (root : Root C) where
+module _ {D C : Type 0} (tells : Bool) (on_disk : D → OnDisk) (faults : D → ℕ) (coming : C → ℕ → Option ℕ) (root : Root C) where
   -- what one ask of the store does, in its parts
   pub record Took (p q : Parts D C) (ask : Asked) (r : Result Reply StoreFault) : Type 0 where
-    pub ready : IsReady tells q.state q.stopped q.gate (told q.disk)
+    pub ready : IsReady tells q.state q.stopped q.gate (on_disk q.disk)
     pub legal : Legal q.state.version q.state.issuer q.state.entries
-    pub takes : p.stopped ≡ None → Takes (call_of tells told coming p q) ask r
-    pub torn : r ≡ Err DiskFault → StoreTears (call_of tells told coming p q) ask q.torn
-    pub acknowledged : OnOk r (IsTrue tells → LeavesNow (told q.disk) (StandsFor q.state.version q.state.issuer q.state.entries))
+    pub takes : p.stopped ≡ None → Takes (call_of tells on_disk coming p q) ask r
+    pub torn : r ≡ Err DiskFault → StoreTears (call_of tells on_disk coming p q) ask q.torn
+    pub acknowledged : OnOk r (IsTrue tells → LeavesNow (on_disk q.disk) (StandsFor q.state.version q.state.issuer q.state.entries))
     pub going_on : OnOk r ((p.stopped ≡ None) × (q.stopped ≡ None))
     pub no_memory : r ≡ Err NoMemory → (q.disk ≡ p.disk) × (q.stopped ≡ p.stopped)
     pub fault : r ≡ Err DiskFault → Rose (faults p.disk) (faults q.disk) × (q.stopped ≡ Some (faults q.disk))
@@ -112,32 +112,32 @@ module _ {D C : Type 0} (tells : Bool) (told : D → OnDisk) (faults : D → ℕ
     pub later : faults p.disk ≤ faults q.disk
 
   abbrev Outcome : Parts D C → Asked → Result Reply StoreFault → Parts D C → Type 0
-  Outcome p ask r q = IsSound tells told faults coming root q × TillTurn coming ask r root (items_in p) (items_in q)
+  Outcome p ask r q = IsSound tells on_disk faults coming root q × TillTurn coming ask r root (items_in p) (items_in q)
 
-  reading_of : (p : Parts D C) (seconds : ℕ) → IsSound tells told faults coming root p → IsTold (coming p.clock 0) seconds →
+  reading_of : (p : Parts D C) (seconds : ℕ) → IsSound tells on_disk faults coming root p → IsTold (coming p.clock 0) seconds →
       IsReading coming root seconds
   reading_of p seconds s told_it = record {
     number = s.clock.number + 0;
     told = subst (λ (o : Option ℕ). IsTold o seconds) (s.clock.moved 0) told_it;
   }
 
-  pub list_of : (q : Parts D C) → IsSound tells told faults coming root q → IsShopList root (items_in q)
+  pub list_of : (q : Parts D C) → IsSound tells on_disk faults coming root q → IsShopList root (items_in q)
   list_of q s = record {
     legal = subst (λ (es : List Entry). Legal root.version root.issuer es) (sym (entries_in q)) s.legal;
     begins = subst (λ (es : List Entry). StartsWith es root.history) (sym (entries_in q)) s.begins;
   }
 
-  outcome : (p q : Parts D C) (ask : Asked) (r : Result Reply StoreFault) → IsSound tells told faults coming root q →
+  outcome : (p q : Parts D C) (ask : Asked) (r : Result Reply StoreFault) → IsSound tells on_disk faults coming root q →
       TillDoes coming ask r root (items_in p) (items_in q) → Outcome p ask r q
   outcome p q ask r s does = (s, record { list = list_of q s; does = does })
 
-  took_going : (p q : Parts D C) (ask : Asked) (r : Result Reply StoreFault) → IsSound tells told faults coming root p →
+  took_going : (p q : Parts D C) (ask : Asked) (r : Result Reply StoreFault) → IsSound tells on_disk faults coming root p →
       p.stopped ≡ None → Took p q ask r → Outcome p ask r q
   took_going p q ask (Ok reply) s going t =
       let takes = t.takes going in
       let planned = answer p.state.version p.state.issuer p.state.entries ask takes.seconds in
       let clock : IsLater coming root.clock q.clock = later_more coming root.clock p.clock q.clock 1 s.clock takes.moved in
-      let sound = sound_gains tells told faults coming root p q takes.gained (StandsAround p.state.version p.state.issuer p.state.entries planned)
+      let sound = sound_gains tells on_disk faults coming root p q takes.gained (StandsAround p.state.version p.state.issuer p.state.entries planned)
       s going t.going_on.1 t.ready takes.issuer takes.version t.legal takes.entries clock
       takes.any_moment (λ c h. between_around root.version root.issuer root.history p.state.entries takes.gained planned reply c s.begins
       takes.reply (subst (λ (v : Version). StandsAround v root.issuer p.state.entries planned c) s.version
@@ -162,7 +162,7 @@ module _ {D C : Type 0} (tells : Bool) (told : D → OnDisk) (faults : D → ℕ
       let same : q.state.entries ≡ p.state.entries = takes.entries ∙ ap (λ (l : List Entry). p.state.entries ++ l) takes.reply ∙
       append-nil p.state.entries in
       let clock : IsLater coming root.clock q.clock = later_more coming root.clock p.clock q.clock 1 s.clock takes.moved in
-      let sound = sound_stops tells told faults coming root p q tears.entry (faults q.disk) s going fault.1 tears.entry_is refl
+      let sound = sound_stops tells on_disk faults coming root p q tears.entry (faults q.disk) s going fault.1 tears.entry_is refl
       t.ready takes.issuer takes.version same tears.continues clock tears.any_moment fault.0 t.later in
       let stopped : HasStopped faults root q (faults q.disk) = sound.stop (faults q.disk) fault.1 in
       outcome p q ask (Err DiskFault) sound (record {
@@ -188,20 +188,20 @@ module _ {D C : Type 0} (tells : Bool) (told : D → OnDisk) (faults : D → ℕ
       append-nil p.state.entries in
       let clock : IsLater coming root.clock q.clock = later_more coming root.clock p.clock q.clock 1 s.clock takes.moved in
       let goes : q.stopped ≡ None = disk.1 ∙ going in
-      let sound = sound_stays tells told faults coming root p q s going goes disk.0 t.ready takes.issuer takes.version same clock
+      let sound = sound_stays tells on_disk faults coming root p q s going goes disk.0 t.ready takes.issuer takes.version same clock
       in
       outcome p q ask (Err NoMemory) sound (
         items_going q goes ∙ ap (λ (es : List Entry). map item.Entry es) same ∙ sym (items_going p going),
         record { history = p.state.entries; entries = items_going p going },
       )
 
-  took_stopped : (p q : Parts D C) (ask : Asked) (r : Result Reply StoreFault) (count : ℕ) → IsSound tells told faults coming root
+  took_stopped : (p q : Parts D C) (ask : Asked) (r : Result Reply StoreFault) (count : ℕ) → IsSound tells on_disk faults coming root
       p → p.stopped ≡ Some count → Took p q ask r → Outcome p ask r q
   took_stopped p q ask r count s stopped t =
       let here : HasStopped faults root p count = s.stop count stopped in
       let is : r ≡ Err (Stopped count) = (t.stopped count).1 stopped in
       let same : q ≡ p = t.untouched (rw stopped refl) in
-      let sound : IsSound tells told faults coming root q = subst (λ (z : Parts D C). IsSound tells told faults coming root z)
+      let sound : IsSound tells on_disk faults coming root q = subst (λ (z : Parts D C). IsSound tells on_disk faults coming root z)
       (sym same) s in
       outcome p q ask r sound (subst (λ (x : Result Reply StoreFault). TillDoes coming ask x root (items_in p) (items_in q))
       (sym is) (
@@ -209,7 +209,7 @@ module _ {D C : Type 0} (tells : Bool) (told : D → OnDisk) (faults : D → ℕ
         record { history = p.state.entries; torn = here.torn; items_are = items_stopped p count here.torn stopped here.torn_is },
       ))
 
-  pub took : (p q : Parts D C) (ask : Asked) (r : Result Reply StoreFault) → IsSound tells told faults coming root p →
+  pub took : (p q : Parts D C) (ask : Asked) (r : Result Reply StoreFault) → IsSound tells on_disk faults coming root p →
       Took p q ask r → Outcome p ask r q
   took p q ask r s t = by_stop p.stopped refl
     where

@@ -102,19 +102,19 @@ pub later_same : {C : Type 0} (coming : C → ℕ → Option ℕ) (start now nex
     IsLater coming start next
 later_same {C = C} coming start now next h e = subst (λ (c : C). IsLater coming start c) (sym e) h
 
-module _ {D C : Type 0} (tells : Bool) (told : D → OnDisk) (faults : D → ℕ) (coming : C → ℕ → Option ℕ) (root : Root C) where
+module _ {D C : Type 0} (tells : Bool) (on_disk : D → OnDisk) (faults : D → ℕ) (coming : C → ℕ → Option ℕ) (root : Root C) where
   abbrev Sound : Parts D C → Type 0
-  Sound p = IsSound tells told faults coming root p
+  Sound p = IsSound tells on_disk faults coming root p
 
   -- the store goes on, with these entries more
   pub sound_gains : (p q : Parts D C) (gained : List Entry) (P : List ℕ → Type 0) → Sound p → p.stopped ≡ None →
       q.stopped ≡ None →
-      IsReady tells q.state q.stopped q.gate (told q.disk) → q.state.issuer ≡ p.state.issuer →
+      IsReady tells q.state q.stopped q.gate (on_disk q.disk) → q.state.issuer ≡ p.state.issuer →
       q.state.version ≡ p.state.version → Legal q.state.version q.state.issuer q.state.entries →
       q.state.entries ≡ p.state.entries ++ gained →
-      IsLater coming root.clock q.clock → (IsTrue tells → LeavesOnly (told p.disk) (told q.disk) P) →
+      IsLater coming root.clock q.clock → (IsTrue tells → LeavesOnly (on_disk p.disk) (on_disk q.disk) P) →
       ((c : List ℕ) → P c → StandsBetween root.version root.issuer root.history (p.state.entries ++ gained) c) →
-      (IsTrue tells → LeavesNow (told q.disk) (StandsFor q.state.version q.state.issuer q.state.entries)) → faults p.disk ≤ faults q.disk →
+      (IsTrue tells → LeavesNow (on_disk q.disk) (StandsFor q.state.version q.state.issuer q.state.entries)) → faults p.disk ≤ faults q.disk →
       Sound q
   sound_gains p q gained P s going goes ready issuer version legal entries clock only between now later = record {
     ready = ready;
@@ -125,11 +125,11 @@ module _ {D C : Type 0} (tells : Bool) (told : D → OnDisk) (faults : D → ℕ
     begins = subst (λ (es : List Entry). StartsWith es root.history) (sym entries) (front_more root.history p.state.entries gained
         s.begins);
     clock = clock;
-    crashes = λ says. subst (λ (es : List Entry). Leaves root q.state.entries es (told q.disk))
+    crashes = λ says. subst (λ (es : List Entry). Leaves root q.state.entries es (on_disk q.disk))
         (sym (none_torn q.state.entries q.stopped q.torn goes)) (record {
-          since = subst (λ (es : List Entry). LeavesOnly root.told (told q.disk) (StandsBetween root.version root.issuer root.history es))
+          since = subst (λ (es : List Entry). LeavesOnly root.on_disk (on_disk q.disk) (StandsBetween root.version root.issuer root.history es))
               (sym entries)
-              (follows root.told (told p.disk) (told q.disk) _ P _ (s.crashes says).since (only says) (λ c h. older c h) between);
+              (follows root.on_disk (on_disk p.disk) (on_disk q.disk) _ P _ (s.crashes says).since (only says) (λ c h. older c h) between);
           whole = λ c left. inl (subst (λ (v : Version). StandsFor v root.issuer q.state.entries c) (version ∙ s.version)
               (subst (λ (n : List ℕ). StandsFor q.state.version n q.state.entries c) own (now says c left)));
         });
@@ -148,7 +148,7 @@ module _ {D C : Type 0} (tells : Bool) (told : D → OnDisk) (faults : D → ℕ
 
   -- the disk was not called
   pub sound_stays : (p q : Parts D C) → Sound p → p.stopped ≡ None → q.stopped ≡ None → q.disk ≡ p.disk →
-      IsReady tells q.state q.stopped q.gate (told q.disk) → q.state.issuer ≡ p.state.issuer →
+      IsReady tells q.state q.stopped q.gate (on_disk q.disk) → q.state.issuer ≡ p.state.issuer →
       q.state.version ≡ p.state.version → q.state.entries ≡ p.state.entries →
       IsLater coming root.clock q.clock → Sound q
   sound_stays p q s going goes disk ready issuer version entries clock = record {
@@ -161,9 +161,9 @@ module _ {D C : Type 0} (tells : Bool) (told : D → OnDisk) (faults : D → ℕ
     crashes = λ says.
         let same : with_torn q.state.entries q.stopped q.torn ≡ with_torn p.state.entries p.stopped p.torn =
         none_torn q.state.entries q.stopped q.torn goes ∙ entries ∙ sym (none_torn p.state.entries p.stopped p.torn going) in
-        subst (λ (es : List Entry). Leaves root q.state.entries es (told q.disk)) (sym same)
-        (subst (λ (d : D). Leaves root q.state.entries (with_torn p.state.entries p.stopped p.torn) (told d)) (sym disk)
-        (subst (λ (es : List Entry). Leaves root es (with_torn p.state.entries p.stopped p.torn) (told p.disk)) (sym entries)
+        subst (λ (es : List Entry). Leaves root q.state.entries es (on_disk q.disk)) (sym same)
+        (subst (λ (d : D). Leaves root q.state.entries (with_torn p.state.entries p.stopped p.torn) (on_disk d)) (sym disk)
+        (subst (λ (es : List Entry). Leaves root es (with_torn p.state.entries p.stopped p.torn) (on_disk p.disk)) (sym entries)
         (s.crashes says)));
     stop = λ count e. absurd (let x : ◌≡◌ {A = Option ℕ} None (Some count) = sym goes ∙ e in cc);
     later = subst (λ (d : D). root.faults ≤ faults d) (sym disk) s.later;
@@ -172,10 +172,10 @@ module _ {D C : Type 0} (tells : Bool) (told : D → OnDisk) (faults : D → ℕ
   -- the disk failed while an entry was added
   pub sound_stops : (p q : Parts D C) (entry : Entry) (count : ℕ) → Sound p → p.stopped ≡ None → q.stopped ≡ Some count →
       q.torn ≡ Some entry → count ≡ faults q.disk →
-      IsReady tells q.state q.stopped q.gate (told q.disk) → q.state.issuer ≡ p.state.issuer →
+      IsReady tells q.state q.stopped q.gate (on_disk q.disk) → q.state.issuer ≡ p.state.issuer →
       q.state.version ≡ p.state.version → q.state.entries ≡ p.state.entries →
       Continues p.state.version p.state.issuer p.state.entries entry →
-      IsLater coming root.clock q.clock → (IsTrue tells → LeavesOnly (told p.disk) (told q.disk)
+      IsLater coming root.clock q.clock → (IsTrue tells → LeavesOnly (on_disk p.disk) (on_disk q.disk)
       (StandsBeforeOrWith p.state.version p.state.issuer p.state.entries entry)) →
       Rose (faults p.disk) (faults q.disk) → faults p.disk ≤ faults q.disk → Sound q
   sound_stops p q entry count s going stopped torn count_is ready issuer version entries continues clock only rose later =
@@ -191,11 +191,11 @@ module _ {D C : Type 0} (tells : Bool) (told : D → OnDisk) (faults : D → ℕ
             let whole : with_torn q.state.entries q.stopped q.torn ≡ p.state.entries ++ entry ∷ [] =
             some_torn q.state.entries q.stopped q.torn count entry stopped torn ∙ ap (λ (es : List Entry). es ++ entry ∷ []) entries
             in
-            subst (λ (es : List Entry). Leaves root q.state.entries es (told q.disk)) (sym whole)
-            (subst (λ (es : List Entry). Leaves root es (p.state.entries ++ entry ∷ []) (told q.disk)) (sym entries) (record {
-              since = follows root.told (told p.disk) (told q.disk) _ _ _ (s.crashes says).since here (λ c h. older c h)
+            subst (λ (es : List Entry). Leaves root q.state.entries es (on_disk q.disk)) (sym whole)
+            (subst (λ (es : List Entry). Leaves root es (p.state.entries ++ entry ∷ []) (on_disk q.disk)) (sym entries) (record {
+              since = follows root.on_disk (on_disk p.disk) (on_disk q.disk) _ _ _ (s.crashes says).since here (λ c h. older c h)
                   (λ c h. between_with root.version root.issuer root.history p.state.entries entry c s.begins (own c h));
-              whole = λ c left. own c (here.each (moment (told q.disk)) c here.later left);
+              whole = λ c left. own c (here.each (moment (on_disk q.disk)) c here.later left);
             }));
         stop = λ other e. record {
           torn = entry;
@@ -232,10 +232,10 @@ module _ {D C : Type 0} (tells : Bool) (told : D → OnDisk) (faults : D → ℕ
       )
 
 -- a store that begins
-module _ {D C : Type 0} (tells : Bool) (told : D → OnDisk) (faults : D → ℕ) (coming : C → ℕ → Option ℕ) where
-  pub sound_at_start : (p : Parts D C) → p.stopped ≡ None → IsReady tells p.state p.stopped p.gate (told p.disk) →
+module _ {D C : Type 0} (tells : Bool) (on_disk : D → OnDisk) (faults : D → ℕ) (coming : C → ℕ → Option ℕ) where
+  pub sound_at_start : (p : Parts D C) → p.stopped ≡ None → IsReady tells p.state p.stopped p.gate (on_disk p.disk) →
       Legal p.state.version p.state.issuer p.state.entries →
-      IsSound tells told faults coming (root_of told faults p) p
+      IsSound tells on_disk faults coming (root_of on_disk faults p) p
   sound_at_start p going ready legal = record {
     ready = ready;
     issuer = refl;
@@ -244,15 +244,15 @@ module _ {D C : Type 0} (tells : Bool) (told : D → OnDisk) (faults : D → ℕ
     begins = front_all p.state.entries;
     clock = record { number = 0; moved = λ k. ap (coming p.clock) (sym (zero-add k)) };
     crashes = λ says.
-        let holds : Holds p.state p.gate (told p.disk) = ready.holds going says in
-        let stands : StandsFor p.state.version p.state.issuer p.state.entries (told p.disk).content = record {
+        let holds : Holds p.state p.gate (on_disk p.disk) = ready.holds going says in
+        let stands : StandsFor p.state.version p.state.issuer p.state.entries (on_disk p.disk).content = record {
           frames = holds.file.file;
           encoded = holds.encoded;
           legal = legal;
         } in
-        subst (λ (es : List Entry). Leaves (root_of told faults p) p.state.entries es (told p.disk))
+        subst (λ (es : List Entry). Leaves (root_of on_disk faults p) p.state.entries es (on_disk p.disk))
         (sym (none_torn p.state.entries p.stopped p.torn going)) (record {
-          since = weaker (told p.disk) (told p.disk) (StandsFor p.state.version p.state.issuer p.state.entries) _ (started_settled (told p.disk)
+          since = weaker (on_disk p.disk) (on_disk p.disk) (StandsFor p.state.version p.state.issuer p.state.entries) _ (started_settled (on_disk p.disk)
               (StandsFor p.state.version p.state.issuer p.state.entries) holds.file.nothing_pending stands)
               (λ c h. record {
                 history = p.state.entries;
@@ -260,7 +260,7 @@ module _ {D C : Type 0} (tells : Bool) (told : D → OnDisk) (faults : D → ℕ
                 begins = prefix_all p.state.entries;
                 within = prefix_all p.state.entries;
               });
-          whole = λ c left. inl (leaves_now (told p.disk) (StandsFor p.state.version p.state.issuer p.state.entries) holds.file.nothing_pending
+          whole = λ c left. inl (leaves_now (on_disk p.disk) (StandsFor p.state.version p.state.issuer p.state.entries) holds.file.nothing_pending
               stands c left);
         });
     stop = λ count e. absurd (let x : ◌≡◌ {A = Option ℕ} None (Some count) = sym going ∙ e in cc);

@@ -15,12 +15,12 @@ use Rattle.till_calls.specs.Sound.{IsSound}
 use Rattle.till_calls.specs.Turns.{IsShopList, LearnTurn}
 use Rattle.till_calls.proofs.Asking.{entries_in, list_of}
 
-module _ {D C L : Type 0} (tells : Bool) (told : D → OnDisk) (faults : D → ℕ) (coming : C → ℕ → Option ℕ) (root : Root C)
+module _ {D C L : Type 0} (tells : Bool) (on_disk : D → OnDisk) (faults : D → ℕ) (coming : C → ℕ → Option ℕ) (root : Root C)
     (question : Version → List ℕ → List Entry → L → Type 0) (r : Result L NoMemory) where
-  pub learns : (p : Parts D C) → IsSound tells told faults coming root p →
+  pub learns : (p : Parts D C) → IsSound tells on_disk faults coming root p →
       IfOk r (question p.state.version p.state.issuer p.state.entries) → LearnTurn question r root (items_in p) (items_in p)
   learns p s h = record {
-    list = list_of tells told faults coming root p s;
+    list = list_of tells on_disk faults coming root p s;
     same = refl;
     answer = subst (λ (es : List Entry). IfOk r (question root.version root.issuer es)) (sym (entries_in p))
         (subst (λ (n : List ℕ). IfOk r (question root.version n p.state.entries)) s.issuer

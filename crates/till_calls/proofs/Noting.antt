@@ -32,43 +32,43 @@ seat_adds lines (Err DiskFault) root before after t = inr (item.Stop t.count (No
 seat_adds lines (Err (Stopped count)) root before after s = inl s.0
 seat_adds lines (Err NoMemory) root before after e = inl e.0
 
-module _ {D C : Type 0} (tells : Bool) (told : D → OnDisk) (faults : D → ℕ) (coming : C → ℕ → Option ℕ) (root : Root C) where
+module _ {D C : Type 0} (tells : Bool) (on_disk : D → OnDisk) (faults : D → ℕ) (coming : C → ℕ → Option ℕ) (root : Root C) where
   -- what one note of the store does, in its parts
   pub record Noted (p q : Parts D C) (lines : List Line) (r : Result (Unit {0}) StoreFault) : Type 0 where
-    pub ready : IsReady tells q.state q.stopped q.gate (told q.disk)
+    pub ready : IsReady tells q.state q.stopped q.gate (on_disk q.disk)
     pub legal : Legal q.state.version q.state.issuer q.state.entries
     pub issuer : q.state.issuer ≡ p.state.issuer
     pub version : q.state.version ≡ p.state.version
     pub added : OnOk r (q.state.entries ≡ p.state.entries ++ Notes (length (noted p.state.entries)) lines ∷ [])
     pub same : OnErr r (q.state.entries ≡ p.state.entries)
     pub clock : q.clock ≡ p.clock
-    pub any_moment : IsTrue tells → LeavesOnly (told p.disk) (told q.disk) (StandsBeforeOrWith p.state.version p.state.issuer p.state.entries
+    pub any_moment : IsTrue tells → LeavesOnly (on_disk p.disk) (on_disk q.disk) (StandsBeforeOrWith p.state.version p.state.issuer p.state.entries
         (Notes (length (noted p.state.entries)) lines))
-    pub acknowledged : OnOk r (IsTrue tells → LeavesNow (told q.disk) (StandsFor q.state.version q.state.issuer q.state.entries))
+    pub acknowledged : OnOk r (IsTrue tells → LeavesNow (on_disk q.disk) (StandsFor q.state.version q.state.issuer q.state.entries))
     pub going_on : OnOk r ((p.stopped ≡ None) × (q.stopped ≡ None))
     pub no_memory : r ≡ Err NoMemory → (q.disk ≡ p.disk) × (q.stopped ≡ p.stopped)
     pub fault : r ≡ Err DiskFault → Rose (faults p.disk) (faults q.disk) × (q.stopped ≡ Some (faults q.disk))
-    pub torn : r ≡ Err DiskFault → TearsLines (call_of tells told coming p q) lines q.torn
+    pub torn : r ≡ Err DiskFault → TearsLines (call_of tells on_disk coming p q) lines q.torn
     pub stopped : (count : ℕ) → (r ≡ Err (Stopped count)) ↔ (p.stopped ≡ Some count)
     pub later : faults p.disk ≤ faults q.disk
 
   behind : (p : Parts D C) (lines : List Line) → Notes (length (noted p.state.entries)) lines ≡ Notes_behind (items_in p) lines
   behind p lines = ap (λ (es : List Entry). Notes (length (noted es)) lines) (sym (entries_in p))
 
-  pub notes : (p q : Parts D C) (lines : List Line) (r : Result (Unit {0}) StoreFault) → IsSound tells told faults coming root p →
+  pub notes : (p q : Parts D C) (lines : List Line) (r : Result (Unit {0}) StoreFault) → IsSound tells on_disk faults coming root p →
       p.stopped ≡ None → Noted p q lines r →
-      IsSound tells told faults coming root q × SeatTurn lines r root (items_in p) (items_in q)
+      IsSound tells on_disk faults coming root q × SeatTurn lines r root (items_in p) (items_in q)
   notes p q lines (Ok done) s going t =
       let e = Notes (length (noted p.state.entries)) lines in
       let clock : IsLater coming root.clock q.clock = later_same coming root.clock p.clock q.clock s.clock t.clock in
-      let sound = sound_gains tells told faults coming root p q (e ∷ []) (StandsBeforeOrWith p.state.version p.state.issuer p.state.entries e) s
+      let sound = sound_gains tells on_disk faults coming root p q (e ∷ []) (StandsBeforeOrWith p.state.version p.state.issuer p.state.entries e) s
       going t.going_on.1 t.ready t.issuer t.version t.legal t.added clock t.any_moment
       (λ c h. between_with root.version root.issuer root.history p.state.entries e c s.begins
       (subst (λ (v : Version). StandsBeforeOrWith v root.issuer p.state.entries e c) s.version
       (subst (λ (n : List ℕ). StandsBeforeOrWith p.state.version n p.state.entries e c) s.issuer h))) t.acknowledged t.later in (
         sound,
         record {
-          list = list_of tells told faults coming root q sound;
+          list = list_of tells on_disk faults coming root q sound;
           does = record {
             history = p.state.entries;
             going_on = items_going p going;
@@ -84,13 +84,13 @@ module _ {D C : Type 0} (tells : Bool) (told : D → OnDisk) (faults : D → ℕ
       let fault = t.fault refl in
       let torn : q.torn ≡ Some e = (t.torn refl).entry_is in
       let clock : IsLater coming root.clock q.clock = later_same coming root.clock p.clock q.clock s.clock t.clock in
-      let sound = sound_stops tells told faults coming root p q e (faults q.disk) s going fault.1 torn refl t.ready t.issuer
+      let sound = sound_stops tells on_disk faults coming root p q e (faults q.disk) s going fault.1 torn refl t.ready t.issuer
       t.version
       t.same (t.torn refl).continues clock t.any_moment fault.0 t.later in
       let stopped : HasStopped faults root q (faults q.disk) = sound.stop (faults q.disk) fault.1 in (
         sound,
         record {
-          list = list_of tells told faults coming root q sound;
+          list = list_of tells on_disk faults coming root q sound;
           does = record {
             history = p.state.entries;
             going_on = items_going p going;
@@ -109,11 +109,11 @@ module _ {D C : Type 0} (tells : Bool) (told : D → OnDisk) (faults : D → ℕ
   notes p q lines (Err NoMemory) s going t =
       let disk = t.no_memory refl in
       let goes : q.stopped ≡ None = disk.1 ∙ going in
-      let sound = sound_stays tells told faults coming root p q s going goes disk.0 t.ready t.issuer t.version t.same
+      let sound = sound_stays tells on_disk faults coming root p q s going goes disk.0 t.ready t.issuer t.version t.same
       (later_same coming root.clock p.clock q.clock s.clock t.clock) in (
         sound,
         record {
-          list = list_of tells told faults coming root q sound;
+          list = list_of tells on_disk faults coming root q sound;
           does = (
             items_going q goes ∙ ap (λ (es : List Entry). map item.Entry es) t.same ∙ sym (items_going p going),
             record { history = p.state.entries; entries = items_going p going },
@@ -122,20 +122,20 @@ module _ {D C : Type 0} (tells : Bool) (told : D → OnDisk) (faults : D → ℕ
       )
 
   -- nothing was done
-  pub nothing : (p : Parts D C) (lines : List Line) → IsSound tells told faults coming root p → p.stopped ≡ None →
+  pub nothing : (p : Parts D C) (lines : List Line) → IsSound tells on_disk faults coming root p → p.stopped ≡ None →
       SeatTurn lines (Err NoMemory) root (items_in p) (items_in p)
   nothing p lines s going = record {
-    list = list_of tells told faults coming root p s;
+    list = list_of tells on_disk faults coming root p s;
     does = (refl, record { history = p.state.entries; entries = items_going p going });
   }
 
-  pub stopped_already : (p : Parts D C) (lines : List Line) (count : ℕ) → IsSound tells told faults coming root p →
+  pub stopped_already : (p : Parts D C) (lines : List Line) (count : ℕ) → IsSound tells on_disk faults coming root p →
       p.stopped ≡ Some count →
       SeatTurn lines (Err (Stopped count)) root (items_in p) (items_in p)
   stopped_already p lines count s stopped =
       let here : HasStopped faults root p count = s.stop count stopped in
       record {
-        list = list_of tells told faults coming root p s;
+        list = list_of tells on_disk faults coming root p s;
         does = (
           refl,
           record {

@@ -40,7 +40,7 @@ module _ {I : Type 0} where
       grind (arith, nat_tests, ne)) in
       omega (arith, rest, first)
 
-  -- an item that stands so far behind n
+  -- an item that stands so far after n
   abbrev At : List I → ℕ → ℕ × I → Type 0
   At rest n z = (m : ℕ) × (z.0 ≡ n + m) × (slice_get rest m ≡ Some z.1)
 

@@ -19,7 +19,7 @@ module _ {C : Type 0} where
     same = t.same ∙ ap (λ (k : Known Item (Root C)). record k { seen = new.seen; least = new.least }) s.same;
   }
 
-  -- an ask of a till that has seen these items and knows of so many
+  -- an ask of a till that has seen these items and knows of this many
   from_seen : (coming : C → ℕ → Option ℕ) (ask : Asked) (reply : Result Reply StoreFault) (old new : Known Item (Root C))
       (seen : List Item) (least : ℕ) → StartsWith seen old.seen → old.least ≤ least →
       Asks coming ask reply (record old { seen = seen; least = least }) new → Asks coming ask reply old new

@@ -16,8 +16,8 @@ pub record Root (C : Type 0) : Type 0 where
   pub issuer : List ℕ
   pub version : Version
   pub history : List Entry
-  -- what the disk told
-  pub told : OnDisk
+  -- what was on the disk
+  pub on_disk : OnDisk
   -- its count of faults
   pub faults : ℕ
   pub clock : C
@@ -47,7 +47,7 @@ stop_in (Some faults) (Some torn) = item.Stop faults torn ∷ []
 stop_in (Some faults) None = []
 stop_in None torn = []
 
--- what a store has recorded: the entries of its history, and the stop behind them
+-- what a store has recorded: the entries of its history, and the stop after them
 abbrev pub items_in : {D C : Type 0} → Parts D C → List Item
 items_in p = map item.Entry p.state.entries ++ stop_in p.stopped p.torn
 
@@ -59,12 +59,12 @@ with_torn history None torn = history
 
 -- the root of a shop that starts with this store
 abbrev pub root_of : {D C : Type 0} → (D → OnDisk) → (D → ℕ) → Parts D C → Root C
-root_of told faults p =
+root_of on_disk faults p =
     record {
       issuer = p.state.issuer;
       version = p.state.version;
       history = p.state.entries;
-      told = told p.disk;
+      on_disk = on_disk p.disk;
       faults = faults p.disk;
       clock = p.clock;
     }

@@ -16,7 +16,7 @@ pub record SeesOn {R : Type 0} (old new : Known Item R) : Type 0 where
   pub at_least : old.least ≤ new.least
   pub same : new ≡ record old { seen = new.seen; least = new.least }
 
--- One question of a till. The till sees on, to a list of as many items as it knew of or more, and knows of no item behind it. The
+-- One question of a till. The till sees on, to a list of as many items as it knew of or more, and knows of no item after it. The
 -- answer is that at the history of this list.
 pub record Looks {C L : Type 0} (learns : Version → List ℕ → List Entry → L → Type 0) (learnt : Result L NoRoom)
     (old new : Known Item (Root C)) : Type 0 where

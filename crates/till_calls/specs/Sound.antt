@@ -18,7 +18,7 @@ StandsForEither version issuer history longer file = StandsFor version issuer hi
 
 -- each crash since the start leaves a front of the history, or of that with the torn entry; now it leaves the whole
 pub record Leaves {C : Type 0} (root : Root C) (history longer : List Entry) (now : OnDisk) : Type 0 where
-  pub since : LeavesOnly root.told now (StandsBetween root.version root.issuer root.history longer)
+  pub since : LeavesOnly root.on_disk now (StandsBetween root.version root.issuer root.history longer)
   pub whole : LeavesNow now (StandsForEither root.version root.issuer history longer)
 
 -- a stop: its count, and the entry whose append failed
@@ -35,15 +35,15 @@ pub record IsLater {C : Type 0} (coming : C → ℕ → Option ℕ) (start now :
   pub moved : MovedBy number (coming start) (coming now)
 
 -- what a shop's store keeps
-pub record IsSound {D C : Type 0} (tells : Bool) (told : D → OnDisk) (faults : D → ℕ) (coming : C → ℕ → Option ℕ)
+pub record IsSound {D C : Type 0} (tells : Bool) (on_disk : D → OnDisk) (faults : D → ℕ) (coming : C → ℕ → Option ℕ)
     (root : Root C) (p : Parts D C) : Type 0 where
   -- where it hasn't stopped, its file stands for its history
-  pub ready : IsReady tells p.state p.stopped p.gate (told p.disk)
+  pub ready : IsReady tells p.state p.stopped p.gate (on_disk p.disk)
   pub issuer : p.state.issuer ≡ root.issuer
   pub version : p.state.version ≡ root.version
   pub legal : Legal root.version root.issuer p.state.entries
   pub begins : StartsWith p.state.entries root.history
   pub clock : IsLater coming root.clock p.clock
-  pub crashes : IsTrue tells → Leaves root p.state.entries (with_torn p.state.entries p.stopped p.torn) (told p.disk)
+  pub crashes : IsTrue tells → Leaves root p.state.entries (with_torn p.state.entries p.stopped p.torn) (on_disk p.disk)
   pub stop : (count : ℕ) → p.stopped ≡ Some count → HasStopped faults root p count
   pub later : root.faults ≤ faults p.disk

@@ -82,7 +82,7 @@ pub record TillTurn {C : Type 0} (coming : C → ℕ → Option ℕ) (ask : Aske
   pub list : IsShopList root after
   pub does : TillDoes coming ask reply root before after
 
--- these lines as the next ones behind these items
+-- these lines as the next ones after these items
 abbrev pub Notes_behind : List Item → List Line → Entry
 Notes_behind items lines = Notes (length (noted (entries_of items))) lines
 
@@ -109,10 +109,10 @@ SeatDoes lines (Err (Stopped count)) root before after = (after ≡ before) × E
 SeatDoes lines (Err NoMemory) root before after = (after ≡ before) × GoesOn before
 
 -- the turn of the seat that notes
-pub record SeatTurn {C : Type 0} (lines : List Line) (told : Result (Unit {0}) StoreFault) (root : Root C)
+pub record SeatTurn {C : Type 0} (lines : List Line) (answered : Result (Unit {0}) StoreFault) (root : Root C)
     (before after : List Item) : Type 0 where
   pub list : IsShopList root after
-  pub does : SeatDoes lines told root before after
+  pub does : SeatDoes lines answered root before after
 
 -- the counts of a history, and the first of its waiting records
 pub record Shows (history : List Entry) (max : ℕ) (shown : Waiting) : Type 0 where

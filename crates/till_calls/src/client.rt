@@ -1,4 +1,4 @@
-// A till's requests, one after another.
+//! A till's requests, one after another.
 ghost use Rattle.std.specs.Prelude.{◌≡◌, ◌≤◌, ◌<◌, ◌^◌, [], length, vec_capacity};
 ghost use Rattle.till_calls.specs.Shop.{shop_id, till_knows, till_number, till_shop};
 ghost use Rattle.till_calls.specs.Client.{TillRun, asks_of};

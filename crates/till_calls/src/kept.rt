@@ -1,9 +1,9 @@
-// The value under a shop's lock.
+//! The value under a shop's lock.
 ghost use Rattle.std.specs.Prelude.{◌≡◌, length, None};
 ghost use Rattle.std.specs.Int.{IsInRange};
 ghost use Rattle.chain_store.specs.Store.{Ready, journal_of};
 ghost use Rattle.journal.specs.Journal.{stopped_of};
-ghost use Rattle.record_fields.specs.declared.lines.TheConstants.{BATCH};
+ghost use Rattle.record_codec.specs.declared.entry.TheConstants.{MAX_NOTES};
 ghost use Rattle.till_calls.specs.Root.{items_in, parts_of, root_of};
 ghost use Rattle.till_calls.specs.Sound.{IsSound};
 ghost use Rattle.till_calls.specs.Turns.{LearnTurn, LookTurn, SeatTurn, TillTurn};
@@ -34,17 +34,17 @@ impl<D: Disk, C: Clock> Model for Kept<D, C> {
 
     ghost Value = { Guarded D C };
 
-    ghost view = { λ k. record { root = root_of D.told D.faults (parts_of k.start.value); parts = parts_of k.store } };
+    ghost view = { λ k. record { root = root_of D.on_disk D.faults (parts_of k.start.value); parts = parts_of k.store } };
 
-    ghost invariant = { λ k. IsSound D.tells D.told D.faults C.coming (root_of D.told D.faults (parts_of k.start.value))
+    ghost invariant = { λ k. IsSound D.tells D.on_disk D.faults C.coming (root_of D.on_disk D.faults (parts_of k.start.value))
         (parts_of k.store) };
 }
 
 impl<D: Disk, C: Clock> Kept<D, C> {
     pub(crate) fn new(store: Store<D, C>) -> Kept<D, C>
         requires going_on { stopped_of (journal_of store) ≡ None }
-        requires ready { Ready D.tells D.told store }
-        ensures { result ≡ record { root = root_of D.told D.faults (parts_of store); parts = parts_of store } }
+        requires ready { Ready D.tells D.on_disk store }
+        ensures { result ≡ record { root = root_of D.on_disk D.faults (parts_of store); parts = parts_of store } }
     {
         store.state().is_legal();
         let start = Snapshot::of(&store);
@@ -63,7 +63,7 @@ impl<D: Disk, C: Clock> Kept<D, C> {
 
     // One note of the sender. Nothing is added where fewer records wait than there are lines.
     pub(crate) fn note(&mut self, alloc: Global, lines: &[Line]) -> Result<(), StoreFault>
-        requires { IsInRange 1 BATCH (length lines.now) }
+        requires { IsInRange 1 MAX_NOTES (length lines.now) }
         ensures root { self.new.root ≡ self.old.root }
         ensures turn { SeatTurn lines.now result self.old.root (items_in self.old.parts) (items_in self.new.parts) }
     {
@@ -101,7 +101,7 @@ impl<D: Disk, C: Clock> Kept<D, C> {
 
     pub(crate) fn into_store(self) -> Store<D, C>
         ensures parts { parts_of result ≡ self.parts }
-        ensures sound { IsSound D.tells D.told D.faults C.coming self.root (parts_of result) }
+        ensures sound { IsSound D.tells D.on_disk D.faults C.coming self.root (parts_of result) }
     {
         self.store
     }

@@ -1,4 +1,4 @@
-// What holds of runs alone.
+//! What holds of runs alone.
 ghost use Rattle.till_calls.specs.Laws.{AddsForNoOther, AddsWhatIsTaken, OwnsRecordsAndStops, OwnsWithinKnown, ToldAtTheEnd};
 ghost use Rattle.till_calls.specs.Laws.{AsksFromBefore, FitsBefore, SeesOnTwice};
 

@@ -1,4 +1,4 @@
-// Questions on a shop's history.
+//! Questions on a shop's history.
 ghost use Rattle.std.specs.Prelude.{ℕ, List, IfOk};
 ghost use Rattle.record_codec.specs.declared.entry.Entry.{Entry};
 ghost use Rattle.record_fields.specs.declared.versions.Version.{Version};

@@ -1,4 +1,4 @@
-// What no turn changes.
+//! What no turn changes.
 use std::marker::Model;
 use std::snapshot::Snapshot;
 
@@ -18,7 +18,7 @@ impl<C> Model for ShopRoot<C> {
       issuer = [];
       version = One;
       history = [];
-      told = record { content = []; now = record { synced = []; ranges = [] }; past = [] };
+      on_disk = record { content = []; now = record { synced = []; ranges = [] }; past = [] };
       faults = 0;
       clock = r.clock.value;
     } };

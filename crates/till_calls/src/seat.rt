@@ -1,4 +1,4 @@
-// The sender's seat as an outbox.
+//! The sender's seat as an outbox.
 ghost use Rattle.std.specs.Prelude.{◌≡◌};
 ghost use Rattle.till_calls.specs.Shop.{seat_shop, shop_id};
 

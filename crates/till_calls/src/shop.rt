@@ -1,4 +1,4 @@
-// A shop: its start, its tills' asks, and its end.
+//! A shop: its start, its tills' asks, and its end.
 ghost use Rattle.std.specs.Prelude.{◌≡◌, ◌≤◌, ◌<◌, ◌+◌, ◌++◌, ◌∷◌, [], ℕ, length, All, IfOk, IfErr, IfSome, None};
 ghost use Rattle.std.specs.Prelude.{max, vec_capacity};
 ghost use Rattle.std.specs.Int.{IsInRange};
@@ -132,7 +132,7 @@ impl<D: Disk, C: Clock> Shop<D, C> {
     pub fn close(self, tills: Tills<D, C>, seat: SenderSeat<D, C>) -> Store<D, C>
         requires own { (tills_shop tills ≡ shop_id self) × (seat_shop seat ≡ shop_id self) }
         requires whole { (n : ℕ) → n < places self → 0 < holders n (tills_know tills ++ seat_knows seat ∷ []) }
-        ensures sound { IsSound D.tells D.told D.faults C.coming (shop_root self) (parts_of result) }
+        ensures sound { IsSound D.tells D.on_disk D.faults C.coming (shop_root self) (parts_of result) }
         ensures begins { StartsWith (items_in (parts_of result)) (first_items self) }
         ensures each { All (Fits (items_in (parts_of result))) (tills_know tills ++ seat_knows seat ∷ []) }
         ensures before { (n : ℕ) → n < length (first_items self) → owners n (tills_know tills ++ seat_knows seat ∷ []) ≡ 0 }
@@ -159,8 +159,8 @@ impl<D: Disk, C: Clock> Shop<D, C> {
         requires numbers { All (IsInRange 1 LAST_TILL) tills.now }
         requires few { length tills.now ≤ LAST_TILL }
         requires going_on { stopped_of (journal_of store) ≡ None }
-        requires ready { Ready D.tells D.told store }
-        ensures root { IfOk result (λ s. (shop_root s.shop ≡ root_of D.told D.faults (parts_of store))
+        requires ready { Ready D.tells D.on_disk store }
+        ensures root { IfOk result (λ s. (shop_root s.shop ≡ root_of D.on_disk D.faults (parts_of store))
             × (first_items s.shop ≡ items_in (parts_of store))) }
         ensures numbers { IfOk result (λ s. (numbers s.tills ≡ tills.now) × (made_tills s.tills ≡ length tills.now)
             × (places s.shop ≡ length tills.now + 1)) }
@@ -204,7 +204,7 @@ fn store_of<D: Disk, C: Clock>(refused: Refused<Kept<D, C>>) -> Store<D, C>
     value.into_store()
 }
 
-// The numbers as a list of their type. None where memory is wanting.
+// The numbers as a list of their type. None where memory runs out.
 fn till_numbers(alloc: Global, tills: &[u8]) -> Option<Vec<TillNumber>>
     requires { All (IsInRange 1 LAST_TILL) tills.now }
     ensures items { IfSome result (λ list. list.items ≡ tills.now) }

@@ -1,4 +1,4 @@
-// The tills of a shop, and the seat of its sender.
+//! The tills of a shop, and the seat of its sender.
 ghost use Rattle.std.specs.Prelude.{◌≡◌, ◌≤◌, ◌<◌, ◌↔◌, ◌++◌, ◌∷◌, [], length, IsNone, IfSome, IfNone, vec_len, vec_capacity};
 ghost use Rattle.std.specs.Int.{IsInRange};
 ghost use Rattle.chain_lock.specs.Words.{all_known, known, room_of};

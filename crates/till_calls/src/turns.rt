@@ -1,7 +1,7 @@
-// What a turn does.
+//! What a turn does.
 ghost use Rattle.std.specs.Int.{IsInRange};
 ghost use Rattle.std.specs.Prelude.{length};
-ghost use Rattle.record_fields.specs.declared.lines.TheConstants.{BATCH};
+ghost use Rattle.record_codec.specs.declared.entry.TheConstants.{MAX_NOTES};
 
 use crate::kept::Kept;
 use crate::questions::Question;
@@ -37,7 +37,7 @@ impl<D: Disk, C: Clock> Act<Kept<D, C>> for Taking<'_> {
 pub(crate) struct Noting<'a> {
     pub(crate) alloc: Global,
     pub(crate) lines: &'a [Line],
-    ghost count: { IsInRange 1 BATCH (length lines.now) },
+    ghost count: { IsInRange 1 MAX_NOTES (length lines.now) },
 }
 
 impl<D: Disk, C: Clock> Act<Kept<D, C>> for Noting<'_> {

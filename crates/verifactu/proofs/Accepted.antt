@@ -208,7 +208,7 @@ module _ (version : Version) (issuer : List ℕ) (coming : ℕ → Option ℕ) (
     among = s.among;
   }
 
-  -- the records of the till behind those of a front
+  -- the records of the till after those of a front
   own_behind : (front more : List Entry) → length start ≤ length front →
       own_of till (drop (length start) (front ++ more)) ≡ own_of till (drop (length start) front) ++ own_of till more
   own_behind front more low = ap (λ (es : List Entry). own_of till es) (drop-append-le (length start) front more low)

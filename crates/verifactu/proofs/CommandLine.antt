@@ -10,7 +10,7 @@ use Rattle.file_pairs.specs.Pairs.{ArePairs, AreApart, IsPairs}
 use Rattle.issuers.specs.Office.{AreOwn}
 use Rattle.verifactu.specs.declared.command_line.Command.{Command}
 use Rattle.verifactu.specs.declared.command_line.Command.TheVariants.{Chain, Day, Drain, Serve, Audit, Link, Check, Migrate, Follow, Guard, Many}
-use Rattle.verifactu.specs.declared.command_line.Command.TheVariants.{Statement, Export, Matches, Generate, Help, HelpOn, Version}
+use Rattle.verifactu.specs.declared.command_line.Command.TheVariants.{Listing, Statement, Export, Matches, Generate, Help, HelpOn, Version}
 
 length_map : {A B : Type 0} (f : A → B) (xs : List A) → length (map f xs) ≡ length xs
 length_map f [] = refl
@@ -26,12 +26,13 @@ not_said words one two three four many (Drain issuer) h = three (ap length h.wor
 not_said words one two three four many (Serve issuer) h = three (ap length h.words_are)
 not_said words one two three four many Audit h = two (ap length h.words_are)
 not_said words one two three four many (Link num host) h = four (ap length h.words_are)
+not_said words one two three four many (Listing choice) h = three (ap length h.words_are)
 not_said words one two three four many (Check workers) h = three (ap length h.words_are)
 not_said words one two three four many Migrate h = three (ap length h.words_are)
 not_said words one two three four many Follow h = three (ap length h.words_are)
 not_said words one two three four many (Guard issuer) h = four (ap length h.words_are)
 not_said words one two three four many (Many issuers) h = many issuers h
-not_said words one two three four many (Statement month) h = three (ap length h.words_are)
+not_said words one two three four many (Statement period) h = three (ap length h.words_are)
 not_said words one two three four many Export h = two (ap length h.words_are)
 not_said words one two three four many Matches h = two (ap length h.words_are)
 not_said words one two three four many (Generate n) h = two (ap length h.words_are)

@@ -204,7 +204,7 @@ served_accepted d begins t h =
     all_accepted d.version d.issuer d.coming d.start d.end t.till begins (asks_of t.till d.asks) t.replies h.last h.told h.run
     (own_asks t.till d.asks) h.own
 
--- notes that came behind change no till's records
+-- notes that came after change no till's records
 own_stays : (till : ℕ) (start middle end : List Entry) → IsPrefix start middle → AddsNotesAlone middle end →
     own_of till (drop (length start) end) ≡ own_of till (drop (length start) middle)
 own_stays till start middle end begins h =
@@ -218,7 +218,7 @@ own_stays till start middle end begins h =
     ap (λ (es : List Entry). own_of till begins.rest ++ es) (no_notes till h.more h.are) ∙ append-nil (own_of till begins.rest) ∙
     ap (λ (es : List Entry). own_of till es) (sym later)
 
--- notes came behind
+-- notes came after
 pub gains_on : (s : Sources) (start middle end : List Entry) → IsPrefix start middle → AddsNotesAlone middle end →
     TillsGain s start middle → TillsGain s start end
 gains_on s start middle end begins notes g = record {
@@ -233,7 +233,7 @@ gains_on s start middle end begins notes g = record {
   others = λ till none. own_stays till start middle end begins notes ∙ g.others till none;
 }
 
--- tills beside each other
+-- tills at the same time
 pub gains_day : (s : Sources) (d : Day) → AreAskedIn s d.asks → IsPrefix d.start d.end → EachTill d →
     TillsGain s d.start d.end
 gains_day s d asked begins each =

@@ -9,7 +9,7 @@ use Rattle.record_codec.specs.declared.entry.Entry.{Entry}
 use Rattle.record_fields.specs.declared.versions.Version.{Version}
 use Rattle.recovery.specs.Opening.{IsFound}
 use Rattle.report.specs.declared.status.Detail.{Detail}
-use Rattle.sender.specs.Turning.{Desk}
+use Rattle.sender.specs.Turning.{AgencyState}
 use Rattle.shop_core.specs.File.Laws.{NotBegunIsNeither, OneHistory}
 use Rattle.shop_core.specs.History.{noted}
 use Rattle.shop_core.specs.Prefix.{IsPrefix}
@@ -81,19 +81,19 @@ map_left issuer k T U f (grown version start end torn found chain rest) =
     grown version start end torn found chain (f start end torn rest)
 
 module _ {D C Z G : Type 0} (chained : AreLinked) (a : AllDevices D C Z G)
-    (desks : LeftAgency a.agency → a.agency.after ≡ a.agency.before) (l : Disks D)
-    (image : IsTrue l.tells → IsImage (l.told l.disk).now (l.told l.disk).content) (one : OneHistory)
+    (agency_stays : LeftAgency a.agency → a.agency.after ≡ a.agency.before) (l : Disks D)
+    (image : IsTrue l.tells → IsImage (l.on_disk l.disk).now (l.on_disk l.disk).content) (one : OneHistory)
     (neither : NotBegunIsNeither) (issuer : List ℕ) where
   abbrev file : Disks D
   file = a.devices.disk
 
   abbrev IsOf : Version → List Entry → Type 0
-  IsOf version start = IsFound version issuer start (file.told file.disk).content
+  IsOf version start = IsFound version issuer start (file.on_disk file.disk).content
 
   -- what each crash leaves of the copy, where the file is found as one with this history
   abbrev CopyRest : List Entry → List Entry → List Entry → Type 0
   CopyRest start end torn = (version : Version) → IsOf version start → IsTrue l.tells →
-      LeavesOnly (l.told l.disk) (l.told l.disk_after) (IsFollowImage version issuer (end ++ torn) (l.told l.disk))
+      LeavesOnly (l.on_disk l.disk) (l.on_disk l.disk_after) (IsFollowImage version issuer (end ++ torn) (l.on_disk l.disk))
 
   abbrev pub FileRest : List Entry → List Entry → List Entry → Type 0
   FileRest start end torn =
@@ -104,15 +104,15 @@ module _ {D C Z G : Type 0} (chained : AreLinked) (a : AllDevices D C Z G)
     copy : CopyRest start end torn
 
   left_copy : LeftDisk l → (start : List Entry) → CopyRest start start []
-  left_copy same start version found tells = subst (λ (d : D). LeavesOnly (l.told l.disk) (l.told d)
-      (IsFollowImage version issuer (start ++ []) (l.told l.disk))) (sym same)
-      (untouched_image version issuer (start ++ []) (l.told l.disk) (image tells))
+  left_copy same start version found tells = subst (λ (d : D). LeavesOnly (l.on_disk l.disk) (l.on_disk d)
+      (IsFollowImage version issuer (start ++ []) (l.on_disk l.disk))) (sym same)
+      (untouched_image version issuer (start ++ []) (l.on_disk l.disk) (image tells))
 
   nothing_own : LeftAgency a.agency → (start : List Entry) → FileRest start start []
   nothing_own left start = (
     gains_nothing a.devices.source start,
-    left_agency a.agency (desks left) start start [] refl,
-    batches_silent a.agency start start (whole start) (λ tells. ap (λ (desk : Desk). desk.ledger) (desks left)),
+    left_agency a.agency (agency_stays left) start start [] refl,
+    batches_silent a.agency start start (whole start) (λ tells. ap (λ (agency_state : AgencyState). agency_state.ledger) (agency_stays left)),
   )
 
   nothing : LeftAgency a.agency → LeftDisk l → (start : List Entry) → Rest start start []
@@ -120,12 +120,12 @@ module _ {D C Z G : Type 0} (chained : AreLinked) (a : AllDevices D C Z G)
 
   -- for the version with which the file is found
   at_version : (version : Version) (start history : List Entry) → IsOf version start →
-      (IsTrue l.tells → LeavesOnly (l.told l.disk) (l.told l.disk_after) (IsFollowImage version issuer history (l.told l.disk))) →
+      (IsTrue l.tells → LeavesOnly (l.on_disk l.disk) (l.on_disk l.disk_after) (IsFollowImage version issuer history (l.on_disk l.disk))) →
       (another : Version) → IsOf another start → IsTrue l.tells →
-      LeavesOnly (l.told l.disk) (l.told l.disk_after) (IsFollowImage another issuer history (l.told l.disk))
+      LeavesOnly (l.on_disk l.disk) (l.on_disk l.disk_after) (IsFollowImage another issuer history (l.on_disk l.disk))
   at_version version start history here images another there tells =
-      subst (λ (v : Version). LeavesOnly (l.told l.disk) (l.told l.disk_after) (IsFollowImage v issuer history (l.told l.disk)))
-      (same_found one neither version another issuer start start (file.told file.disk).content here there).0 (images tells)
+      subst (λ (v : Version). LeavesOnly (l.on_disk l.disk) (l.on_disk l.disk_after) (IsFollowImage v issuer history (l.on_disk l.disk)))
+      (same_found one neither version another issuer start start (file.on_disk file.disk).content here there).0 (images tells)
 
   module _ (says : IsTrue file.tells) where
     uncalled : LeftDisk file → LeftAgency a.agency → LeftDisk l → Left issuer file Rest
@@ -169,9 +169,9 @@ module _ {D C Z G : Type 0} (chained : AreLinked) (a : AllDevices D C Z G)
                 (batches_of_drain a.agency plan h.start exact moment o to_end d.session tells runs),
           );
           copy = at_version h.version h.start (f.entries ++ f.torn) (h.found says)
-              (λ tells. weaker (l.told l.disk) (l.told l.disk_after) _ _ (d.standby.kept tells).each_moment
+              (λ tells. weaker (l.on_disk l.disk) (l.on_disk l.disk_after) _ _ (d.standby.kept tells).each_moment
               (λ c is. further_image h.version issuer (h.copy_held.entries ++ h.copy_held.torn) (f.entries ++ f.torn)
-              (l.told l.disk) c (copy_within o.end o.torn f h.copy_held d.ahead) is));
+              (l.on_disk l.disk) c (copy_within o.end o.torn f h.copy_held d.ahead) is));
         })
 
     guard_file : (plan : Plan) (exact : Bool) (moment : ℕ) (end : Detail) →
@@ -180,16 +180,16 @@ module _ {D C Z G : Type 0} (chained : AreLinked) (a : AllDevices D C Z G)
         not_opened chained issuer file Rest says n (nothing n.rest.0.agency n.rest.1)
     guard_file plan exact moment end (inr (inl h)) =
         let found = h.found says in
-        let legal = legal_found h.version issuer h.start (file.told file.disk).content found in
+        let legal = legal_found h.version issuer h.start (file.on_disk file.disk).content found in
         grown h.version h.start h.start [] found
         (goes_on chained issuer file h.version h.start h.start [] found (whole h.start) legal (omega arith) (inl refl)
-        (weaker (synced (file.told file.disk)) (file.told file.disk_after) _ _ (h.any_moment says)
-        (λ c is. since_found h.version issuer h.start h.start [] c (whole h.start) is))
+        (weaker (synced (file.on_disk file.disk)) (file.on_disk file.disk_after) _ _ (h.any_moment says)
+        (λ c is. since_found (file.on_disk file.disk).content h.version issuer h.start h.start [] c (whole h.start) is))
         (λ c left. inl (h.every_crash says c left)) (inl (h.reads says))) (record {
           own = nothing_own h.rest.agency h.start;
           copy = at_version h.version h.start (h.start ++ []) found
-              (λ tells. weaker (l.told l.disk) (l.told l.disk_after) _ _ (h.copy.images tells)
-              (λ c is. further_image h.version issuer h.start (h.start ++ []) (l.told l.disk) c
+              (λ tells. weaker (l.on_disk l.disk) (l.on_disk l.disk_after) _ _ (h.copy.images tells)
+              (λ c is. further_image h.version issuer h.start (h.start ++ []) (l.on_disk l.disk) c
               (record { rest = []; is = refl }) is));
         })
     guard_file plan exact moment end (inr (inr h)) = guarded plan exact moment end h
@@ -208,13 +208,13 @@ module _ {D C Z G : Type 0} (chained : AreLinked) (a : AllDevices D C Z G)
 
   unowned : (plan : Plan) (exact : Bool) (moment : ℕ) (end : Detail) →
       GuardsFile issuer plan exact moment a.devices.sink file l a.devices.clock a.sleeper a.agency end → IsTrue file.tells →
-      (IsOwn (Some issuer) (file.told file.disk).content → ⊥) → LeftDisk l
+      (IsOwn (Some issuer) (file.on_disk file.disk).content → ⊥) → LeftDisk l
   unowned plan exact moment end (inl n) says other = n.rest.1
   unowned plan exact moment end (inr (inl h)) says other = absurd (other (h.version, h.start, h.found says))
   unowned plan exact moment end (inr (inr h)) says other = absurd (other (h.version, h.start, h.found says))
 
   unowned_by : (end : Detail) → GuardEnds issuer a l end → IsTrue file.tells →
-      (IsOwn (Some issuer) (file.told file.disk).content → ⊥) → LeftDisk l
+      (IsOwn (Some issuer) (file.on_disk file.disk).content → ⊥) → LeftDisk l
   unowned_by end (ran script how good h) says other = unowned script.plan (tells_moment script.clock a.sleeper)
       (first_moment script.clock a.sleeper) how h.ends says other
   unowned_by end (bad_line line fault bad left) says other = left.1

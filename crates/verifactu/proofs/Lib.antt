@@ -4,6 +4,7 @@ pub mod Stopping
 pub mod Accepted
 pub mod Gaining
 pub mod Sessions
+pub mod Appended
 pub mod Promised
 pub mod Promising
 pub mod GuardPromised

@@ -1,5 +1,5 @@
 -- The promise of `many`, issuer by issuer, from the way it ended.
-use Rattle.std.proofs.Common.{◌≡◌, ◌⊎◌, inl, inr, ℕ, suc, ◌+◌, ◌≤◌, List, [], ◌∷◌, ◌++◌, append-nil, append_assoc, length, map, refl, sym, ◌∙◌, ap, subst, arith}
+use Rattle.std.proofs.Common.{◌≡◌, ◌⊎◌, inl, inr, ℕ, suc, ◌≤◌, List, [], ◌∷◌, ◌++◌, append-nil, append_assoc, length, map, refl, sym, ◌∙◌, ap, subst, arith}
 use Rattle.std.proofs.Common.{IsTrue, Option, Some, Result, ◌<◌, slice_index_or}
 use Rattle.std.specs.Prelude.{remove}
 use Rattle.ports.specs.declared.faults.NoMemory.{NoMemory}
@@ -13,21 +13,21 @@ use Rattle.chain_disk.specs.Disks.{DiskRose, Disks}
 use Rattle.chain_disk.specs.OnDisk.{synced}
 use Rattle.chain_disk.specs.declared.disk.Disk as disk
 use Rattle.agency_port.specs.declared.agency.Agency as agency
-use Rattle.chain_store.specs.Crashes.{Kept}
+use Rattle.chain_store.specs.Crashes.{SurvivesCrashes}
 use Rattle.chain_store.specs.Readings.{IsComing, readings_of}
 use Rattle.chain_store.specs.Replies.{StopsOnce}
 use Rattle.issuers.specs.declared.parts.Part.{Part}
-use Rattle.many.specs.Ends.{IsBegunAlone, IsDrained, ManyEnds, PartsRun, Row, RowEnds, StaysClosed, Works}
-use Rattle.many.specs.Ends.ManyEnds.{bad_line, no_memory, ran, read_fault, too_big}
-use Rattle.many.specs.Scripts.{AreGoodParts}
-use Rattle.many.proofs.Kept.{agree_on, front_legal, kept_on, none_torn_noted, pairs_stay, prefix_on}
-use Rattle.many.proofs.NoNotes.{notes_nothing}
+use Rattle.many_issuers.specs.Ends.{IsBegunAlone, IsDrained, ManyEnds, PartsRun, Row, RowEnds, StaysClosed, Works}
+use Rattle.many_issuers.specs.Ends.ManyEnds.{bad_line, no_memory, ran, read_fault, too_big}
+use Rattle.many_issuers.specs.Scripts.{AreGoodParts}
+use Rattle.many_issuers.proofs.Lasting.{agree_on, front_legal, kept_on, none_torn_noted, pairs_stay, prefix_on}
+use Rattle.many_issuers.proofs.NoNotes.{notes_nothing}
 use Rattle.once_world.specs.Agreement.{Agree}
 use Rattle.shop_drain.proofs.Saying.{noted_both}
 use Rattle.shop_drain.specs.Opening.{IsUnbegun}
 use Rattle.shop_drain.specs.Crashes.{StandsSince}
 use Rattle.shop_drain.specs.Devices.{Agencies, AllDevices, LeftAgency, this_call}
-use Rattle.sender_session.specs.Kinds.{agency_desk}
+use Rattle.sender_session.specs.Kinds.{agency_state_of}
 use Rattle.shop_drain.specs.Draining.{IsSession, IsUnopened, OpensSession, noted_pairs, spanning}
 use Rattle.sender_session.specs.Noting.{all_said}
 use Rattle.shop_drain.specs.declared.posts.Post.{Post}
@@ -53,7 +53,7 @@ use Rattle.verifactu.proofs.Promised.Left.{grown}
 use Rattle.verifactu.proofs.Promising.{LeftBy, Rest, by_writing, nothing, uncalled}
 use Rattle.verifactu.proofs.Sessions.{batches_not_served, batches_of_drain, not_served, of_drain, stays_of_chain}
 
--- What was kept of the agency from behind the commands on is kept from before them, since they note nothing.
+-- What was kept of the agency from after the commands on is kept from before them, since they note nothing.
 module _ {G : Type 0} (a : Agencies G) (start middle : List Entry) (begins : IsPrefix start middle)
     (same : noted middle ≡ noted start) (few : length (noted start) ≤ length (recs start)) where
   there : AgreesAtStart a start → AgreesAtStart a middle
@@ -104,7 +104,7 @@ or_so f (inl a) = inl a
 or_so f (inr p) = inr (f p)
 
 module _ {D C Z G : Type 0} (chained : AreLinked) (a : AllDevices D C Z G)
-    (desks : LeftAgency a.agency → a.agency.after ≡ a.agency.before) (within : NotedWithinRecords)
+    (agency_stays : LeftAgency a.agency → a.agency.after ≡ a.agency.before) (within : NotedWithinRecords)
     (rules : IsTrue a.agency.kind.keeps_rules → IsTrue a.agency.kind.tells) (issuer : List ℕ) (says : IsTrue a.devices.disk.tells) where
   abbrev k : Disks D
   k = a.devices.disk
@@ -125,7 +125,7 @@ module _ {D C Z G : Type 0} (chained : AreLinked) (a : AllDevices D C Z G)
         (front_legal w.played.version issuer start middle w.played.begins w.played.legal)
 
     drained : IsDrained script w.played.version issuer middle w.played.replies k w.middle a.sleeper a.agency w.outcome →
-        LeftBy chained a desks issuer
+        LeftBy chained a agency_stays issuer
     drained d =
         let o = w.outcome in
         let h = d.drains in
@@ -133,8 +133,8 @@ module _ {D C Z G : Type 0} (chained : AreLinked) (a : AllDevices D C Z G)
         let exact = tells_moment script.clock a.sleeper in
         let moment = first_moment script.clock a.sleeper in
         let onward : IsPrefix middle o.end = record { rest = h.notes.more; is = h.notes.is } in
-        let kept = kept_on version issuer start middle o.end o.torn w.played.begins onward w.played.replies (synced (k.told k.disk))
-        (k.told w.middle) (k.told k.disk_after) d.going (w.played.kept says) (h.kept says) in
+        let kept = kept_on (k.on_disk k.disk).content version issuer start middle o.end o.torn w.played.begins onward w.played.replies (synced (k.on_disk k.disk))
+        (k.on_disk w.middle) (k.on_disk k.disk_after) d.going (w.played.kept says) (h.kept says) in
         let tills = gains_on a.devices.source start middle o.end w.played.begins h.notes
         (gains_run a.devices.source version issuer (IsComing coming) start w.asked w.played.replies middle (inr (inr (inr asked)))
         w.played.run) in
@@ -155,7 +155,7 @@ module _ {D C Z G : Type 0} (chained : AreLinked) (a : AllDevices D C Z G)
         one_of (inl none) = let e = ap (λ (es : List Entry). length es) none.torn in omega (arith, e)
         one_of (inr s) = s.sends.at_most_one
 
-    alone : IsBegunAlone script.plan middle w.played.replies k w.middle a.agency w.outcome → LeftBy chained a desks issuer
+    alone : IsBegunAlone script.plan middle w.played.replies k w.middle a.agency w.outcome → LeftBy chained a agency_stays issuer
     alone b =
         let version = w.played.version in
         let q = w.played.kept says in
@@ -164,10 +164,12 @@ module _ {D C Z G : Type 0} (chained : AreLinked) (a : AllDevices D C Z G)
         ⊎ OpensSession a.agency.kind a.agency.begun script.plan middle a.agency.before a.agency.after =
         elim b.session [ inl s ↦ inr s.2 | inr n ↦ inl n.1 ] in
         let none = none_torn_noted version issuer (IsComing coming) w.asked middle w.played.replies torn q.made in
-        let kept : Kept (StandsSince version issuer start middle torn) version issuer middle torn (synced (k.told k.disk))
-        (k.told k.disk_after) =
-        subst (λ (x : D). Kept (StandsSince version issuer start middle torn) version issuer middle torn (synced (k.told k.disk))
-        (k.told x)) (sym b.disk) q.kept in
+        let kept : SurvivesCrashes (StandsSince (k.on_disk k.disk).content version issuer start middle torn) version issuer middle torn
+        (synced (k.on_disk k.disk))
+        (k.on_disk k.disk_after) =
+        subst (λ (x : D). SurvivesCrashes (StandsSince (k.on_disk k.disk).content version issuer start middle torn) version issuer
+        middle torn (synced (k.on_disk k.disk))
+        (k.on_disk x)) (sym b.disk) q.kept in
         let tills = gains_run a.devices.source version issuer (IsComing coming) start w.asked w.played.replies middle
         (inr (inr (inr asked))) w.played.run in
         let agency = agency_back a.agency start middle w.played.begins same few middle torn
@@ -182,12 +184,12 @@ module _ {D C Z G : Type 0} (chained : AreLinked) (a : AllDevices D C Z G)
         by_fault (inl all) = inl ((w.played.kept says).by_a_fault all)
         by_fault (inr stopped) = inr (subst (λ (x : D). Rose (k.faults k.disk) (k.faults x)) (sym b.disk) stopped.risen)
 
-    works_left : LeftBy chained a desks issuer
+    works_left : LeftBy chained a agency_stays issuer
     works_left = elim w.behind [ inl d ↦ drained d | inr b ↦ alone b ]
 
   pub closed_left : (end : Detail) (block : Result (List ℕ) NoMemory) → StaysClosed issuer k a.sleeper a.agency end block →
-      LeftBy chained a desks issuer
-  closed_left end block h = unopened chained issuer k (Rest chained a desks) h.why (h.unopened.left_by says) (nothing chained a desks h.agency)
+      LeftBy chained a agency_stays issuer
+  closed_left end block h = unopened chained issuer k (Rest chained a agency_stays) h.why (h.unopened.left_by says) (nothing chained a agency_stays h.agency)
 
 -- each issuer of a run
 module _ {D C Z G : Type 0} (chained : AreLinked) (within : NotedWithinRecords) (one : OneHistory) (neither : NotBegunIsNeither)
@@ -196,20 +198,20 @@ module _ {D C Z G : Type 0} (chained : AreLinked) (within : NotedWithinRecords) 
   abbrev call : Post D C Z G → Post D C Z G → AllDevices D C Z G
   call post after = this_call source s d c z g post after
 
-  same_desk : (post after : Post D C Z G) → LeftAgency (call post after).agency →
+  same_agency_state : (post after : Post D C Z G) → LeftAgency (call post after).agency →
       (call post after).agency.after ≡ (call post after).agency.before
-  same_desk post after left = ap (λ (x : G). agency_desk g x) left
+  same_agency_state post after left = ap (λ (x : G). agency_state_of g x) left
 
   kept_by : (issuer : List ℕ) (post after : Post D C Z G) →
-      (IsTrue d.tells → LeftBy chained (call post after) (same_desk post after) issuer) → FileKept (Some issuer) (call post after)
-  kept_by issuer post after left = by_writing chained (call post after) (same_desk post after) one neither issuer left
+      (IsTrue d.tells → LeftBy chained (call post after) (same_agency_state post after) issuer) → FileKept (Some issuer) (call post after)
+  kept_by issuer post after left = by_writing chained (call post after) (same_agency_state post after) one neither issuer left
 
   -- nothing was called
   all_left : (issuers : List (List ℕ)) (posts : List (Post D C Z G)) → length posts ≡ length issuers →
       AreKept d c z g issuers source s posts posts
   all_left [] [] e = tt
   all_left (issuer ∷ issuers) (post ∷ posts) e = (
-    kept_by issuer post post (λ says. uncalled chained (call post post) (same_desk post post) says issuer refl refl),
+    kept_by issuer post post (λ says. uncalled chained (call post post) (same_agency_state post post) says issuer refl refl),
     all_left issuers posts (omega (arith, e)),
   )
   all_left [] (post ∷ posts) e = absurd (omega (arith, e))
@@ -219,9 +221,9 @@ module _ {D C Z G : Type 0} (chained : AreLinked) (within : NotedWithinRecords) 
     row_kept : (r : Row D C Z G) (before behind : List Part) → parts ≡ before ++ r.part ∷ behind → RowEnds d c z g r →
         FileKept (Some r.issuer) (call r.post r.after)
     row_kept r before behind among (inl h) = kept_by r.issuer r.post r.after
-        (λ says. closed_left chained (call r.post r.after) (same_desk r.post r.after) within rules r.issuer says r.end r.block h)
+        (λ says. closed_left chained (call r.post r.after) (same_agency_state r.post r.after) within rules r.issuer says r.end r.block h)
     row_kept r before behind among (inr w) = kept_by r.issuer r.post r.after
-        (λ says. works_left chained (call r.post r.after) (same_desk r.post r.after) within rules r.issuer says r.part.script
+        (λ says. works_left chained (call r.post r.after) (same_agency_state r.post r.after) within rules r.issuer says r.part.script
         (readings_of r.part.script.clock (c.coming r.post.clock)) r.end r.block w (record {
           issuers = issuers;
           parts = parts;

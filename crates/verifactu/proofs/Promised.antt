@@ -1,5 +1,5 @@
 -- The history that a run leaves in its file, by the way it ended.
-use Rattle.std.proofs.Common.{◌≡◌, ◌⊎◌, inl, inr, ◌<◌, ◌≤◌, ℕ, List, [], ◌∷◌, ◌++◌, append-nil, length, refl, sym, ◌∙◌, ap}
+use Rattle.std.proofs.Common.{◌≡◌, ◌⊎◌, inl, inr, ◌<◌, ◌≤◌, ℕ, List, [], ◌∷◌, ◌++◌, append-nil, length, take, refl, sym, ◌∙◌, ap}
 use Rattle.std.proofs.Common.{subst, arith, IsTrue, Option, Some, None}
 use Rattle.std.proofs.lemmas.Bool.{cases_lt}
 use Rattle.record_fields.specs.declared.versions.Version.TheVariants.{Two}
@@ -10,7 +10,7 @@ use Rattle.chain_disk.specs.Runs.{leaves_now, left_before, settled_image, starte
 use Rattle.chain_store.specs.declared.causes.OpenCause.{OpenCause}
 use Rattle.chain_store.specs.declared.causes.OpenCause.TheVariants as cause
 use Rattle.huella.specs.Linked.{Linked}
-use Rattle.journal.specs.File.{IsNotBegunOrEmpty}
+use Rattle.journal.specs.File.{IsNotBegun, IsNotBegunOrEmpty, closing_gate}
 use Rattle.shop_core.specs.Prefix.{IsPrefix}
 use Rattle.ports.specs.Causes.{Rose}
 use Rattle.ports.specs.Sinks.{Sinks}
@@ -19,19 +19,20 @@ use Rattle.recovery.specs.Opening.{IsBegunInPart, IsFound, IsLeftUnopened}
 use Rattle.recovery.specs.Opening.IsDiskLost.{not_synced, not_read, in_part}
 use Rattle.report.specs.declared.status.Detail.{Detail}
 use Rattle.shop_core.specs.File.Laws.{NotBegunIsNeither, OneHistory, SoundOrDamaged}
-use Rattle.shop_core.specs.File.Files.{StandsFor}
+use Rattle.shop_core.specs.File.Files.{StandsFor, bodies_of}
 use Rattle.shop_core.specs.History.{recs}
 use Rattle.shop_core.specs.Legal.{Legal}
 use Rattle.chain_store.specs.Crashes.{KeptByRun, StandsForEnd}
 use Rattle.shop_drain.specs.Crashes.{StandsSince}
 use Rattle.sender_beside.specs.Days.{Day, Stop, torn_of}
 use Rattle.shop_drain.specs.Opening.{NotOpened}
-use Rattle.verifactu.specs.Promise.{ChainGoesOn, Crashes, DamagedIsNotOwn, ForeignIsNotOwn, IsEither, IsFoundAgain, IsOwn}
-use Rattle.verifactu.specs.Promise.{IsUnwritten}
+use Rattle.verifactu.specs.Promise.{AppendsOnly, ChainGoesOn, Crashes, DamagedIsNotOwn, ForeignIsNotOwn, IsEither, IsFoundAgain, IsOwn}
+use Rattle.verifactu.specs.Promise.{IsAppendedTo, IsUnwritten}
 use Rattle.verifactu.specs.Promise.Crashes.{unwritten, since_sync}
 use Rattle.chain_store.specs.Replies.{Replies, StopsOnce}
 use Rattle.sender_beside.specs.Tills.{StopIs}
-use Rattle.shop_drain.proofs.Finishing.{since_found}
+use Rattle.verifactu.proofs.Appended.{end_appended, since_appended, unbegun_appended}
+use Rattle.shop_drain.proofs.Finishing.{found_held, found_unbegun, since_found}
 
 pub whole : (start : List Entry) → IsPrefix start start
 whole start = record { rest = []; is = sym (append-nil start) }
@@ -61,14 +62,16 @@ either version issuer end torn file (inl stands) = inl (inr stands)
 either version issuer end torn file (inr stands) = inr (inr stands)
 
 same_crashes : (version : Version) (issuer : List ℕ) (start : List Entry) (old new : OnDisk) → IsUnwritten old new →
-    IsFound version issuer start old.content → Crashes (StandsSince version issuer start start []) (IsEither version issuer start []) old new
+    IsFound version issuer start old.content →
+    Crashes (StandsSince old.content version issuer start start []) (IsEither version issuer start []) old new
 same_crashes version issuer start old new (inl failed) found = unwritten failed
 same_crashes version issuer start old new (inr e) found =
-    let Since : List ℕ → Type 0 = StandsSince version issuer start start [] in
+    let Since : List ℕ → Type 0 = StandsSince old.content version issuer start start [] in
     let Now : List ℕ → Type 0 = IsEither version issuer start [] in
     since_sync
     (subst (λ (t : OnDisk). LeavesOnly (synced old) t Since) (sym e)
-    (started_settled (synced old) Since refl (since_found version issuer start start [] old.content (whole start) found)))
+    (started_settled (synced old) Since refl (since_found old.content version issuer start start [] old.content (whole start)
+    (found_held version issuer start old.content found))))
     (subst (λ (t : OnDisk). LeavesNow t Now) (sym e) (leaves_now (synced old) Now refl (inl found)))
 
 -- a crash at the last moment of a disk with nothing pending leaves its content
@@ -76,7 +79,7 @@ content_left : (t : OnDisk) (m : ℕ) (c : List ℕ) → IsSettled t → moment 
 content_left t m c quiet since (inl now) = settled_image t.content c (subst (λ (p : Pending). IsImage p c) quiet now.1)
 content_left t m c quiet since (inr past) = absurd (let l = left_before t.past m c past in omega (arith, l, since))
 
--- and so does one at the moment behind a sync that failed
+-- and so does one at the moment after a sync that failed
 later_left : (t : OnDisk) (m : ℕ) (c : List ℕ) → IsSettled t → moment t ≤ m → IsLeft (later t) m c → c ≡ t.content
 later_left t m c quiet since (inl now) = settled_image t.content c (subst (λ (p : Pending). IsImage p c) quiet now.1)
 later_left t m c quiet since (inr before) = content_left t m c quiet since before
@@ -98,6 +101,52 @@ plainly Since Now old new (since_sync only now) here quiet m c since left =
     at_start (inl there) early = absurd (let e = there.0 in omega (arith, e, early))
     at_start (inr before) early = subst Since (sym (content_left old m c quiet since before)) here
 
+-- A file begins with the bytes of the chain that it stood for, before that one's closing gate: one that wasn't written, one that
+-- wasn't begun, which stood for none, and one whose history went on.
+module _ (version : Version) (issuer : List ℕ) (start : List Entry) (old new : OnDisk) where
+  abbrev Appends : List ℕ → Type 0
+  Appends file = IsAppendedTo version issuer start old.content file
+
+  still_crashes : IsUnwritten old new → Crashes Appends Appends old new
+  still_crashes (inl failed) = unwritten failed
+  still_crashes (inr e) = since_sync
+      (subst (λ (t : OnDisk). LeavesOnly (synced old) t Appends) (sym e) (started_settled (synced old) Appends refl (λ from. refl)))
+      (subst (λ (t : OnDisk). LeavesNow t Appends) (sym e) (leaves_now (synced old) Appends refl (λ from. refl)))
+
+  still_appended : IsUnwritten old new → AppendsOnly version issuer start old new
+  still_appended same = record {
+    file = λ from. ap (λ (l : List ℕ). take (closing_gate (bodies_of version start)) l) (same_content old new same);
+    each_crash = plainly Appends Appends old new (still_crashes same) (λ from. refl);
+    crashes = still_crashes same;
+  }
+
+  begun_appended : (Q : List ℕ → Type 0) → IsNotBegun old.content → LeavesOnly (synced old) new Q →
+      AppendsOnly version issuer start old new
+  begun_appended Q none only =
+      let each : (c : List ℕ) → Appends c = λ c. unbegun_appended version issuer start old.content c none in
+      let crashes : Crashes Appends Appends old new =
+      since_sync (weaker (synced old) new Q Appends only (λ c is. each c)) (λ c left. each c) in
+      record {
+        file = each new.content;
+        each_crash = plainly Appends Appends old new crashes (each old.content);
+        crashes = crashes;
+      }
+
+  goes_on_appended : (end torn : List Entry) → IsPrefix start end →
+      LeavesOnly (synced old) new (StandsSince old.content version issuer start end torn) →
+      LeavesNow new (StandsForEnd version issuer end torn) → StandsForEnd version issuer end torn new.content →
+      AppendsOnly version issuer start old new
+  goes_on_appended end torn begins moments crash reads =
+      let crashes : Crashes Appends Appends old new =
+      since_sync (weaker (synced old) new (StandsSince old.content version issuer start end torn) Appends moments
+      (λ c is. since_appended version issuer start end torn old.content c is))
+      (λ c left. end_appended version issuer start end torn old.content c begins (crash c left)) in
+      record {
+        file = end_appended version issuer start end torn old.content new.content begins reads;
+        each_crash = plainly Appends Appends old new crashes (λ from. refl);
+        crashes = crashes;
+      }
+
 -- the entry of a day's stop is torn only where the disk's count of faults rose
 pub torn_risen : (d : Day) (before after : ℕ) (stop : Option Stop) → StopIs d before after stop →
     (torn_of stop ≡ []) ⊎ Rose before after
@@ -112,10 +161,10 @@ one_torn (Some stop) = omega arith
 -- What a run for this issuer leaves of its file, and beside it what T says of the histories at the start and at the end and of
 -- the torn entry.
 pub data Left {D : Type 0} (issuer : List ℕ) (k : Disks D) (T : List Entry → List Entry → List Entry → Type 0) : Type 0 where
-  untouched : IsUnwritten (k.told k.disk) (k.told k.disk_after) → ((start : List Entry) → T start start []) → Left issuer k T
-  begun_in_part : IsBegunInPart issuer (synced (k.told k.disk)) (k.told k.disk_after) →
+  untouched : IsUnwritten (k.on_disk k.disk) (k.on_disk k.disk_after) → ((start : List Entry) → T start start []) → Left issuer k T
+  begun_in_part : IsBegunInPart issuer (synced (k.on_disk k.disk)) (k.on_disk k.disk_after) →
       ((start : List Entry) → T start start []) → Left issuer k T
-  grown : (version : Version) (start end torn : List Entry) → IsFound version issuer start (k.told k.disk).content →
+  grown : (version : Version) (start end torn : List Entry) → IsFound version issuer start (k.on_disk k.disk).content →
       ChainGoesOn version issuer start end torn k → T start end torn → Left issuer k T
 
 pub record Grown {D : Type 0} (version : Version) (issuer : List ℕ) (k : Disks D) (T : List Entry → List Entry → List Entry → Type 0)
@@ -168,10 +217,10 @@ AreLinked = (version : Version) (issuer : List ℕ) (entries : List Entry) → L
 
 module _ {D : Type 0} (chained : AreLinked) (issuer : List ℕ) (k : Disks D) where
   abbrev Old : OnDisk
-  Old = k.told k.disk
+  Old = k.on_disk k.disk
 
   abbrev New : OnDisk
-  New = k.told k.disk_after
+  New = k.on_disk k.disk_after
 
   -- a file that wasn't written
   stays : (version : Version) (start : List Entry) → IsUnwritten Old New → IsFound version issuer start Old.content →
@@ -183,18 +232,21 @@ module _ {D : Type 0} (chained : AreLinked) (issuer : List ℕ) (k : Disks D) wh
     at_most_one = omega arith;
     by_a_fault = inl refl;
     file = inl (subst (λ (c : List ℕ). IsFound version issuer start c) (sym (same_content Old New same)) found);
-    each_crash = plainly (StandsSince version issuer start start []) (IsEither version issuer start []) Old New
+    each_crash = plainly (StandsSince Old.content version issuer start start []) (IsEither version issuer start []) Old New
         (same_crashes version issuer start Old New same found)
-        (since_found version issuer start start [] Old.content (whole start) found);
+        (since_found Old.content version issuer start start [] Old.content (whole start)
+        (found_held version issuer start Old.content found));
     crashes = same_crashes version issuer start Old New same found;
+    append_only = still_appended version issuer start Old New same;
   }
 
   -- a file that was begun in part
   begun_crashes : IsBegunInPart issuer (synced Old) New →
-      Crashes (StandsSince Two issuer [] [] []) (IsEither Two issuer [] []) Old New
+      Crashes (StandsSince Old.content Two issuer [] [] []) (IsEither Two issuer [] []) Old New
   begun_crashes h = since_sync
-      (weaker (synced Old) New (IsNotBegunOrEmpty Two issuer) (StandsSince Two issuer [] [] []) h.any_moment
-      (λ c empty. since_found Two issuer [] [] [] c (whole []) (empty_found issuer c empty)))
+      (weaker (synced Old) New (IsNotBegunOrEmpty Two issuer) (StandsSince Old.content Two issuer [] [] []) h.any_moment
+      (λ c empty. since_found Old.content Two issuer [] [] [] c (whole [])
+      (found_unbegun Old.content Two issuer [] c h.not_begun (empty_found issuer c empty))))
       (λ c left. inl (empty_found issuer c (h.any_moment.each (moment New) c h.any_moment.later left)))
 
   begins_file : IsBegunInPart issuer (synced Old) New → ChainGoesOn Two issuer [] [] [] k
@@ -205,19 +257,20 @@ module _ {D : Type 0} (chained : AreLinked) (issuer : List ℕ) (k : Disks D) wh
     at_most_one = omega arith;
     by_a_fault = inl refl;
     file = inl (empty_found issuer New.content h.reads);
-    each_crash = plainly (StandsSince Two issuer [] [] []) (IsEither Two issuer [] []) Old New (begun_crashes h)
-        (since_found Two issuer [] [] [] Old.content (whole []) (inl (h.not_begun, refl, refl)));
+    each_crash = plainly (StandsSince Old.content Two issuer [] [] []) (IsEither Two issuer [] []) Old New (begun_crashes h)
+        (since_found Old.content Two issuer [] [] [] Old.content (whole []) (inl (h.not_begun, h.not_begun, refl, refl)));
     crashes = begun_crashes h;
+    append_only = begun_appended Two issuer [] Old New (IsNotBegunOrEmpty Two issuer) h.not_begun h.any_moment;
   }
 
   -- a file whose history went on
   pub goes_on : (version : Version) (start end torn : List Entry) → IsFound version issuer start Old.content →
       IsPrefix start end → Legal version issuer end →
-      length torn ≤ 1 → (torn ≡ []) ⊎ DiskRose k → LeavesOnly (synced Old) New (StandsSince version issuer start end torn) →
+      length torn ≤ 1 → (torn ≡ []) ⊎ DiskRose k → LeavesOnly (synced Old) New (StandsSince Old.content version issuer start end torn) →
       LeavesNow New (StandsForEnd version issuer end torn) → StandsForEnd version issuer end torn New.content →
       ChainGoesOn version issuer start end torn k
   goes_on version start end torn found begins legal at_most_one by_a_fault moments crash reads =
-      let crashes : Crashes (StandsSince version issuer start end torn) (IsEither version issuer end torn) Old New =
+      let crashes : Crashes (StandsSince Old.content version issuer start end torn) (IsEither version issuer end torn) Old New =
       since_sync moments (λ c left. either version issuer end torn c (crash c left)) in
       record {
         begins = begins;
@@ -226,9 +279,10 @@ module _ {D : Type 0} (chained : AreLinked) (issuer : List ℕ) (k : Disks D) wh
         at_most_one = at_most_one;
         by_a_fault = by_a_fault;
         file = either version issuer end torn New.content reads;
-        each_crash = plainly (StandsSince version issuer start end torn) (IsEither version issuer end torn) Old New crashes
-            (since_found version issuer start end torn Old.content begins found);
+        each_crash = plainly (StandsSince Old.content version issuer start end torn) (IsEither version issuer end torn) Old New crashes
+            (since_found Old.content version issuer start end torn Old.content begins (found_held version issuer start Old.content found));
         crashes = crashes;
+        append_only = goes_on_appended version issuer start Old New end torn begins moments crash reads;
       }
 
   module _ (one : OneHistory) (neither : NotBegunIsNeither) where
@@ -259,7 +313,7 @@ module _ {D : Type 0} (chained : AreLinked) (issuer : List ℕ) (k : Disks D) wh
   -- no call of the disk was made
   pub left_disk : (T : List Entry → List Entry → List Entry → Type 0) → LeftDisk k → ((start : List Entry) → T start start []) →
       Left issuer k T
-  left_disk T same rest = untouched (inl (inl (ap k.told same))) rest
+  left_disk T same rest = untouched (inl (inl (ap k.on_disk same))) rest
 
   pub unopened : (T : List Entry → List Entry → List Entry → Type 0) (why : OpenCause) → IsLeftUnopened issuer why Old New →
       ((start : List Entry) → T start start []) → Left issuer k T
@@ -278,7 +332,7 @@ module _ {D : Type 0} (chained : AreLinked) (issuer : List ℕ) (k : Disks D) wh
   -- a run of replies, and the entry that was cut off in it
   pub by_kept : (P : Entry → Type 0) (version : Version) (start end : List Entry) (replies : Replies) →
       IsFound version issuer start Old.content → IsPrefix start end → Legal version issuer end → StopsOnce (k.faults k.disk) (k.faults k.disk_after) replies →
-      (h : KeptByRun (StandsSince version issuer start end) P version issuer end replies (synced Old) New) →
+      (h : KeptByRun (StandsSince Old.content version issuer start end) P version issuer end replies (synced Old) New) →
       ChainGoesOn version issuer start end h.torn k
   by_kept P version start end replies found begins legal stops h =
       goes_on version start end h.torn found begins legal h.at_most_one (by_a_fault stops) h.kept.each_moment h.kept.every_crash
@@ -290,23 +344,23 @@ module _ {D : Type 0} (chained : AreLinked) (issuer : List ℕ) (k : Disks D) wh
 
 -- a file that wasn't written, whoever's history it stands for
 pub stands_still : {D : Type 0} (chained : AreLinked) (k : Disks D) (T : List Entry → List Entry → List Entry → Type 0)
-    (version : Version) (issuer : List ℕ) (start : List Entry) → IsUnwritten (k.told k.disk) (k.told k.disk_after) →
-    ((start : List Entry) → T start start []) → StandsFor version issuer start (k.told k.disk).content → Grown version issuer k T start
+    (version : Version) (issuer : List ℕ) (start : List Entry) → IsUnwritten (k.on_disk k.disk) (k.on_disk k.disk_after) →
+    ((start : List Entry) → T start start []) → StandsFor version issuer start (k.on_disk k.disk).content → Grown version issuer k T start
 stands_still chained k T version issuer start same rest stands =
     record { end = start; torn = []; chain = stays chained issuer k version start same (inr stands); rest = rest start }
 
 -- whoever's history the file stood for, it went on
 pub sound_of : {D : Type 0} (chained : AreLinked) (k : Disks D) (T : List Entry → List Entry → List Entry → Type 0) →
     OneHistory → NotBegunIsNeither → (own : List ℕ) (version : Version) (issuer : List ℕ) (start : List Entry) → Left own k T →
-    StandsFor version issuer start (k.told k.disk).content → Grown version issuer k T start
+    StandsFor version issuer start (k.on_disk k.disk).content → Grown version issuer k T start
 sound_of chained k T one neither own version issuer start (untouched same rest) stands =
     stands_still chained k T version issuer start same rest stands
 sound_of chained k T one neither own version issuer start (begun_in_part h rest) stands =
-    absurd ((neither version issuer start (k.told k.disk).content 0 h.not_begun).0 stands)
+    absurd ((neither version issuer start (k.on_disk k.disk).content 0 h.not_begun).0 stands)
 sound_of chained k T one neither own version issuer start (grown here first end torn (inl none) chain rest) stands =
-    absurd ((neither version issuer start (k.told k.disk).content 0 none.0).0 stands)
+    absurd ((neither version issuer start (k.on_disk k.disk).content 0 none.0).0 stands)
 sound_of chained k T one neither own version issuer start (grown here first end torn (inr from) chain rest) stands =
-    let same = one here version own issuer first start (k.told k.disk).content from stands in
+    let same = one here version own issuer first start (k.on_disk k.disk).content from stands in
     subst (λ (v : Version). Grown v issuer k T start) same.0
     (subst (λ (es : List Entry). Grown here issuer k T es) same.2
     (subst (λ (i : List ℕ). Grown here i k T first) same.1 (record { end = end; torn = torn; chain = chain; rest = rest })))

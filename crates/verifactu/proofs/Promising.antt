@@ -15,7 +15,7 @@ use Rattle.record_fields.specs.declared.versions.Version.{Version as AnyVersion}
 use Rattle.report.specs.declared.status.Detail.{Detail}
 use Rattle.script.specs.declared.forms.Form.TheVariants.{Full}
 use Rattle.script.specs.declared.scripts.Script.{Script}
-use Rattle.sender.specs.Turning.{Desk}
+use Rattle.sender.specs.Turning.{AgencyState}
 use Rattle.shop_core.specs.File.Laws.{NotBegunIsNeither, OneHistory}
 use Rattle.shop_commands.specs.Chain.{ChainEnds, ScriptEnds}
 use Rattle.shop_commands.specs.Day.{DayEnds, EachCrash, FileDay, HistoryGoesOn, ItsAgency, NotServed, Outcome, day_of, day_with}
@@ -39,18 +39,18 @@ use Rattle.command_ends.specs.Scripts.ScriptedEnds.{ran, bad_line, read_fault, t
 use Rattle.verifactu.specs.CommandLine.{AsksFor, IsAskedFor}
 use Rattle.verifactu.specs.declared.command_line.Command.{Command}
 use Rattle.verifactu.specs.declared.command_line.Command.TheVariants.{Chain, Day, Drain, Serve, Audit, Link, Check, Migrate, Follow, Guard, Many}
-use Rattle.verifactu.specs.declared.command_line.Command.TheVariants.{Statement, Export, Matches, Generate, Help, HelpOn, Version}
+use Rattle.verifactu.specs.declared.command_line.Command.TheVariants.{Listing, Statement, Export, Matches, Generate, Help, HelpOn, Version}
 use Rattle.verifactu.proofs.Sessions.{batches_not_served, batches_of_day, batches_of_drain, batches_silent, left_agency, not_served, of_day, of_drain}
 use Rattle.verifactu.proofs.Gaining.{gains_all, gains_day, gains_notes, gains_nothing, gains_run}
-use Rattle.many.proofs.NoNotes.{notes_nothing}
+use Rattle.many_issuers.proofs.NoNotes.{notes_nothing}
 use Rattle.verifactu.proofs.GuardPromised.{guard_left, only_guarded}
 use Rattle.verifactu.proofs.Promised.{AreLinked, Grown, Left, by_kept, goes_on, left_disk, legal_found, not_opened, others_of}
 use Rattle.verifactu.proofs.Promised.{own_of as own_grown, one_torn, sound_of, stands_still, torn_risen, whole}
 use Rattle.verifactu.proofs.Promised.Left.{grown}
 
--- an agency that wasn't called has the desk that it had
+-- an agency that wasn't called has the state that it had
 module _ {D C Z G : Type 0} (chained : AreLinked) (a : AllDevices D C Z G)
-    (desks : LeftAgency a.agency → a.agency.after ≡ a.agency.before) where
+    (agency_stays : LeftAgency a.agency → a.agency.after ≡ a.agency.before) where
   -- what is said beside the file: of each till, and of the agency
   abbrev pub Rest : List Entry → List Entry → List Entry → Type 0
   Rest start end torn =
@@ -62,8 +62,8 @@ module _ {D C Z G : Type 0} (chained : AreLinked) (a : AllDevices D C Z G)
   pub nothing : LeftAgency a.agency → (start : List Entry) → Rest start start []
   nothing left start = (
     gains_nothing a.devices.source start,
-    left_agency a.agency (desks left) start start [] refl,
-    batches_silent a.agency start start (whole start) (λ tells. ap (λ (desk : Desk). desk.ledger) (desks left)),
+    left_agency a.agency (agency_stays left) start start [] refl,
+    batches_silent a.agency start start (whole start) (λ tells. ap (λ (agency_state : AgencyState). agency_state.ledger) (agency_stays left)),
   )
 
   module _ (says : IsTrue a.devices.disk.tells) (issuer : List ℕ) where
@@ -85,9 +85,9 @@ module _ {D C Z G : Type 0} (chained : AreLinked) (a : AllDevices D C Z G)
         (by_kept chained issuer a.devices.disk _ p.version p.start p.end p.replies (p.found says) p.begins p.legal p.stops kept) (
           gains_run a.devices.source p.version issuer (IsComing coming) p.start script.asks p.replies p.end (inr (inl (script, good, refl)))
               p.run,
-          left_agency a.agency (desks nobody.agency) p.start p.end kept.torn (notes_nothing p.version issuer (IsComing coming) p.start p.run),
+          left_agency a.agency (agency_stays nobody.agency) p.start p.end kept.torn (notes_nothing p.version issuer (IsComing coming) p.start p.run),
           batches_silent a.agency p.start p.end p.begins
-              (λ tells. ap (λ (desk : Desk). desk.ledger) (desks nobody.agency)),
+              (λ tells. ap (λ (agency_state : AgencyState). agency_state.ledger) (agency_stays nobody.agency)),
         )
 
     chain_left : (end : Detail) → ChainEnds issuer a.devices end → NobodyCalled a → LeftBy issuer
@@ -104,7 +104,7 @@ module _ {D C Z G : Type 0} (chained : AreLinked) (a : AllDevices D C Z G)
         NotServed issuer plan (around a) end → LeftBy issuer
     no_day rules plan end h =
         let kept = h.kept says in
-        let legal = legal_found h.version issuer h.start (a.devices.disk.told a.devices.disk.disk).content (h.found says) in
+        let legal = legal_found h.version issuer h.start (a.devices.disk.on_disk a.devices.disk.disk).content (h.found says) in
         grown h.version h.start h.start [] (h.found says)
         (goes_on chained issuer a.devices.disk h.version h.start h.start [] (h.found says) (whole h.start) legal (omega arith) (inl refl)
         kept.each_moment kept.every_crash kept.reads) (
@@ -149,15 +149,12 @@ module _ {D C Z G : Type 0} (chained : AreLinked) (a : AllDevices D C Z G)
     serve_left rules end (inr (inr (line, inl h))) = no_day rules plain end h.shop
     serve_left rules end (inr (inr (line, inr h))) =
         let x = h.speech in
-        a_day x.asks plain line h.outcome
-        (gains_all a.devices.source (day_with issuer x.asks line (around a) h.outcome) (inr (inr (inl (record {
-          lines = x.lines;
-          form = x.form;
-          before = x.before;
-          replies = x.replies;
-          answers = x.answers;
+        a_day x.said.asks plain line h.outcome
+        (gains_all a.devices.source (day_with issuer x.said.asks line (around a) h.outcome) (inr (inr (inl (record {
+          said = x.said;
           how = x.how;
           dialogue = h.spoken.dialogue;
+          asks_are = refl;
           read = h.spoken.read;
         })))) h.history.begins h.tills) h.history h.crashes h.agency
 
@@ -211,7 +208,7 @@ module _ {D C Z G : Type 0} (chained : AreLinked) (a : AllDevices D C Z G)
       record { end = g.end; torn = g.torn; chain = g.chain; tills = g.rest.0; agency = g.rest.1; batches = g.rest.2 }
 
   -- a run that only reads
-  by_reading : a.devices.disk.told a.devices.disk.disk_after ≡ a.devices.disk.told a.devices.disk.disk → NobodyCalled a →
+  by_reading : a.devices.disk.on_disk a.devices.disk.disk_after ≡ a.devices.disk.on_disk a.devices.disk.disk → NobodyCalled a →
       FileKept None a
   by_reading same nobody = record {
     sound = λ says version issuer start stands. grows version issuer start (stands_still chained a.devices.disk Rest version issuer start
@@ -243,22 +240,23 @@ module _ {D C Z G : Type 0} (chained : AreLinked) (a : AllDevices D C Z G)
   own_kept one neither rules (Serve issuer) end h = by_writing one neither issuer (λ says. serve_left says issuer rules end h.ends)
   own_kept one neither rules Audit end h = by_reading h.1.disk h.2
   own_kept one neither rules (Link num host) end h = by_reading h.1.disk h.2
+  own_kept one neither rules (Listing choice) end h = by_reading h.1.disk h.2
   own_kept one neither rules (Check workers) end h = by_reading h.1.disk h.2
   own_kept one neither rules Migrate end h = absurd h
   own_kept one neither rules Follow end h = absurd h
   own_kept one neither rules (Guard issuer) end h = absurd h
   own_kept one neither rules (Many issuers) end h = absurd h
-  own_kept one neither rules (Statement month) end h = by_reading h.1.disk h.2
+  own_kept one neither rules (Statement period) end h = by_reading h.1.disk h.2
   own_kept one neither rules Export end h = by_reading h.1.disk h.2
   own_kept one neither rules Matches end h = by_reading h.1.disk h.2
-  own_kept one neither rules (Generate n) end h = by_reading (ap a.devices.disk.told h.1.disk) h.2
-  own_kept one neither rules Help end h = by_reading (ap a.devices.disk.told h.1.disk) h.2
-  own_kept one neither rules (HelpOn topic) end h = by_reading (ap a.devices.disk.told h.1.disk) h.2
-  own_kept one neither rules Version end h = by_reading (ap a.devices.disk.told h.1.disk) h.2
+  own_kept one neither rules (Generate n) end h = by_reading (ap a.devices.disk.on_disk h.1.disk) h.2
+  own_kept one neither rules Help end h = by_reading (ap a.devices.disk.on_disk h.1.disk) h.2
+  own_kept one neither rules (HelpOn topic) end h = by_reading (ap a.devices.disk.on_disk h.1.disk) h.2
+  own_kept one neither rules Version end h = by_reading (ap a.devices.disk.on_disk h.1.disk) h.2
 
   -- a disk reads as a crash may leave it
   abbrev ReadsAnImage : Type 0
-  ReadsAnImage = (d : D) → IsTrue a.devices.disk.tells → IsImage (a.devices.disk.told d).now (a.devices.disk.told d).content
+  ReadsAnImage = (d : D) → IsTrue a.devices.disk.tells → IsImage (a.devices.disk.on_disk d).now (a.devices.disk.on_disk d).content
 
   -- by what the kinds of the devices tell
   module _ (d : disk.Ghosts D) (c : clock.Ghosts C) (z : sleeper.Ghosts Z) (g : agency.Ghosts G) where
@@ -294,13 +292,13 @@ module _ {D C Z G : Type 0} (chained : AreLinked) (a : AllDevices D C Z G)
         record {
           command = Some (Guard issuer);
           asked = asked;
-          file = by_writing one neither issuer (λ says. guard_left chained a desks l (image h.post.disk) one neither issuer says end
+          file = by_writing one neither issuer (λ says. guard_left chained a agency_stays l (image h.post.disk) one neither issuer says end
               h.ends);
           more = record {
             post = h.post;
             after = h.after;
             posts = h.posts;
-            guards = only_guarded chained a desks l (image h.post.disk) one neither issuer end h.ends;
+            guards = only_guarded chained a agency_stays l (image h.post.disk) one neither issuer end h.ends;
           };
         }
     promised image one neither rules words f (Many issuers) end many asked h =
@@ -309,7 +307,7 @@ module _ {D C Z G : Type 0} (chained : AreLinked) (a : AllDevices D C Z G)
     promised image one neither rules words f command end many asked h = others one neither rules words f command end asked h.0 h.1
 
     pub promised_nothing : (words : List (List ℕ)) (f : Further D C Z G) → IsAskedFor words None →
-        a.devices.disk.told a.devices.disk.disk_after ≡ a.devices.disk.told a.devices.disk.disk → NobodyCalled a →
+        a.devices.disk.on_disk a.devices.disk.disk_after ≡ a.devices.disk.on_disk a.devices.disk.disk → NobodyCalled a →
         LeftFurther f → Promise d c z g words a f
     promised_nothing words f asked same nobody left =
         record { command = None; asked = asked; file = by_reading same nobody; more = left }

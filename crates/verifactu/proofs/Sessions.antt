@@ -14,7 +14,7 @@ use Rattle.agency_port.specs.declared.messages.Message.TheVariants.{Begun}
 use Rattle.shop_core.specs.Prefix.{IsPrefix}
 use Rattle.once_world.specs.Agreement.{Agree}
 use Rattle.sender.specs.Dark.{AreRunsBy}
-use Rattle.sender.specs.Turning.{Desk}
+use Rattle.sender.specs.Turning.{AgencyState}
 use Rattle.sender.specs.declared.answers.DrainFault.{DrainFault}
 use Rattle.shop_core.specs.History.{noted, recs}
 use Rattle.shop_drain.specs.Opening.{IsUnbegun}
@@ -54,10 +54,10 @@ module _ {G : Type 0} (a : Agencies G) where
 
   -- the agency wasn't called
   pub left_agency : a.after ≡ a.before → (start end torn : List Entry) → noted end ≡ noted start → AgencyKept start end torn a
-  left_agency same start end torn none = silent (λ tells. ap (λ (desk : Desk). desk.ledger) same) none
+  left_agency same start end torn none = silent (λ tells. ap (λ (agency_state : AgencyState). agency_state.ledger) same) none
 
   -- an opening hands no batch over
-  of_opened : (plan : Plan) (start : List Entry) (opened : Desk) →
+  of_opened : (plan : Plan) (start : List Entry) (opened : AgencyState) →
       OpensSession a.kind a.begun plan start a.before opened → IsTrue a.kind.tells →
       AreOfChain start Old.messages → AreOfChain start opened.ledger.messages
   of_opened plan start opened opens tells runs =
@@ -88,7 +88,7 @@ module _ {G : Type 0} (a : Agencies G) where
       (of_opened plan start h.opened h.opens tells runs)
 
   -- said since the session was opened is said since before
-  pub since_opening : (plan : Plan) (start : List Entry) (opened : Desk) →
+  pub since_opening : (plan : Plan) (start : List Entry) (opened : AgencyState) →
       OpensSession a.kind a.begun plan start a.before opened →
       (IsTrue a.kind.tells → AreOfChain start opened.ledger.messages →
       SaysNothingBlindly opened.ledger.messages New.messages) →
@@ -105,7 +105,7 @@ module _ {G : Type 0} (a : Agencies G) where
       }
 
   -- the same of the lines that were noted
-  pub said_since : (plan : Plan) (start end : List Entry) (opened : Desk) (answer : Result (Unit {0}) DrainFault) →
+  pub said_since : (plan : Plan) (start end : List Entry) (opened : AgencyState) (answer : Result (Unit {0}) DrainFault) →
       OpensSession a.kind a.begun plan start a.before opened →
       (IsTrue a.kind.tells → NotesSaid start end opened.ledger.messages New.messages answer) →
       IsTrue a.kind.tells → NotesWhatIsSaid start end Old.messages New.messages

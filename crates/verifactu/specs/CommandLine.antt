@@ -1,21 +1,25 @@
 -- What the words of the command line ask for. The commands are this project's own.
-use Rattle.std.specs.Prelude.{◌≡◌, if◌then◌else◌, ℕ, ◌<◌, ◌≤◌, ◌/◌, ◌-◌, nat_lt, List, [], ◌∷◌, length, bytes_eq, codes, decimal, IsTrue, Option, Some, None}
-use Rattle.std.specs.Prelude.{◌⊎◌, ◌||◌, Bool, true, false}
+use Rattle.std.specs.Prelude.{◌*◌, ◌≡◌, if◌then◌else◌, ℕ, ◌<◌, ◌≤◌, ◌/◌, ◌-◌, nat_lt, List, [], ◌∷◌, length, bytes_eq, codes, decimal, IsTrue, Option, Some, None}
+use Rattle.std.specs.Prelude.{◌*◌, ◌⊎◌, ◌||◌, Bool, true, false}
 use Rattle.std.specs.List.{list_any}
 use Rattle.std.specs.Int.{IsInRange}
 use Rattle.parties.specs.Nif.{IsNif}
 use Rattle.file_pairs.specs.Pairs.{IsPairs}
 use Rattle.series.specs.Numbers.{is_num_serie}
-use Rattle.statements.specs.Months.{IsMonth, YearMonth, month_text}
+use Rattle.statements.specs.Periods.{IsPeriod, period_text}
+use Rattle.statements.specs.declared.periods.Period.{Period}
 use Rattle.verify_link.specs.declared.parts.Host.{Host}
 use Rattle.verify_link.specs.declared.parts.Host.TheVariants.{Real, Practice}
 use Rattle.link_check.specs.declared.all.TheConstants.{MAX_WORKERS}
+use Rattle.report.specs.declared.chosen.Choice.{Choice}
+use Rattle.report.specs.declared.chosen.Choice.TheVariants.{All, Waiting, Refused}
 use Rattle.verifactu.specs.declared.command_line.Command.{Command}
 use Rattle.verifactu.specs.declared.command_line.Command.TheVariants.{Chain, Day, Drain, Serve, Audit, Link, Check, Migrate, Follow, Guard, Many}
-use Rattle.verifactu.specs.declared.command_line.Command.TheVariants.{Statement, Export, Matches, Generate, Help, HelpOn, Version}
+use Rattle.verifactu.specs.declared.command_line.Command.TheVariants.{Listing, Statement, Export, Matches, Generate, Help, HelpOn, Version}
 use Rattle.verifactu.specs.declared.topics.Topic.{Topic}
 use Rattle.verifactu.specs.Topics.{topic_name}
 use Rattle.file_commands.specs.declared.generated.TheConstants.{MOST}
+use Rattle.parties.specs.declared.limits.TheConstants.{MAX_ISSUERS}
 
 -- `chain FILE NIF`: a file's name, which isn't empty, and a tax number
 pub record IsChain (words : List (List ℕ)) (issuer : List ℕ) : Type 0 where
@@ -66,6 +70,22 @@ pub record IsLink (words : List (List ℕ)) (num : List ℕ) (host : Host) : Typ
   pub words_are : words ≡ codes "link" ∷ (file ∷ (num ∷ (host_word host ∷ [])))
   pub named : 0 < length file
   pub number : IsTrue (is_num_serie num)
+
+abbrev pub choice_word : Choice → List ℕ
+choice_word All = codes "all"
+choice_word Waiting = codes "waiting"
+choice_word Refused = codes "refused"
+
+-- the records that a word names; none where it names none
+abbrev pub IsChoice : List ℕ → Option Choice → Type 0
+IsChoice word None = (choice : Choice) → word ≡ choice_word choice → ⊥
+IsChoice word (Some choice) = word ≡ choice_word choice
+
+-- `list FILE WHICH`: a file's name, and `all`, `waiting` or `refused`
+pub record IsList (words : List (List ℕ)) (choice : Choice) : Type 0 where
+  pub file : List ℕ
+  pub words_are : words ≡ codes "list" ∷ (file ∷ (choice_word choice ∷ []))
+  pub named : 0 < length file
 
 -- a number of commands, from 1 to the most, in decimal without leading zeros
 pub record IsCountOf (word : List ℕ) (n : ℕ) : Type 0 where
@@ -134,12 +154,12 @@ pub record IsMany (words issuers : List (List ℕ)) : Type 0 where
   pub words_are : words ≡ codes "many" ∷ pairs
   pub are : IsPairs pairs issuers
 
--- `statement FILE MM-YYYY`: a file's name, and a month
-pub record IsStatement (words : List (List ℕ)) (month : YearMonth) : Type 0 where
+-- `statement FILE MM-YYYY` or `statement FILE DD-MM-YYYY`: a file's name, and a month or a day
+pub record IsStatement (words : List (List ℕ)) (period : Period) : Type 0 where
   pub file : List ℕ
-  pub words_are : words ≡ codes "statement" ∷ (file ∷ (month_text month ∷ []))
+  pub words_are : words ≡ codes "statement" ∷ (file ∷ (period_text period ∷ []))
   pub named : 0 < length file
-  pub is_month : IsMonth month
+  pub is_period : IsPeriod period
 
 -- `export FILE`
 pub record IsExport (words : List (List ℕ)) : Type 0 where
@@ -161,12 +181,13 @@ Says words (Drain issuer) = IsDrain words issuer
 Says words (Serve issuer) = IsServe words issuer
 Says words Audit = IsAudit words
 Says words (Link num host) = IsLink words num host
+Says words (Listing choice) = IsList words choice
 Says words (Check workers) = IsCheck words workers
 Says words Migrate = IsMigrate words
 Says words Follow = IsFollow words
 Says words (Guard issuer) = IsGuard words issuer
 Says words (Many issuers) = IsMany words issuers
-Says words (Statement month) = IsStatement words month
+Says words (Statement period) = IsStatement words period
 Says words Export = IsExport words
 Says words Matches = IsMatches words
 Says words (Generate n) = IsGenerate words n
@@ -211,10 +232,10 @@ abbrev pub IsAskedFor : List (List ℕ) → Option Command → Type 0
 IsAskedFor words None = (command : Command) → AsksFor words command → ⊥
 IsAskedFor words (Some command) = AsksFor words command
 
--- how many pairs stand behind the first one of `many`, where they aren't more than there may be
+-- how many pairs stand after the first one of `many`, where they aren't more than there may be
 abbrev pub further_pairs : List ℕ → List (List ℕ) → ℕ
 further_pairs name pairs =
-    if bytes_eq name (codes "many") then (if nat_lt 16 (length pairs) then 0 else length pairs / 2 - 1) else 0
+    if bytes_eq name (codes "many") then (if nat_lt (2 * MAX_ISSUERS) (length pairs) then 0 else length pairs / 2 - 1) else 0
 
 -- how many files these words name beside the first one
 abbrev pub posts_needed : List (List ℕ) → ℕ

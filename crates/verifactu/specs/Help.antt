@@ -1,7 +1,7 @@
 -- What `--help`, the helps of the commands and `--version` print.
 use Rattle.std.specs.Prelude.{ℕ, List, ◌++◌, codes}
 use Rattle.verifactu.specs.declared.topics.Topic.{Topic}
-use Rattle.verifactu.specs.declared.topics.Topic.TheVariants.{Chain, Day, Serve, Drain, Audit, Link, Check, Statement}
+use Rattle.verifactu.specs.declared.topics.Topic.TheVariants.{Chain, Day, Serve, Drain, Audit, Link, Listing, Check, Statement}
 use Rattle.verifactu.specs.declared.topics.Topic.TheVariants.{Export, Matches, Migrate, Follow, Guard, Many, Generate}
 
 abbrev pub help_text : List ℕ
@@ -17,8 +17,9 @@ help_text =
     ++ codes "      verifactu --agency TO FROM ..   day, serve, drain or guard with an adapter\n"
     ++ codes "look  verifactu audit FILE            says whether the file is a sound chain\n"
     ++ codes "      verifactu link FILE NUM HOST    prints the link of an invoice's QR code\n"
+    ++ codes "      verifactu list FILE WHICH       lists all, waiting or refused records\n"
     ++ codes "      verifactu check FILE WORKERS    answers scanned links on standard input\n"
-    ++ codes "      verifactu statement FILE MONTH  a month's sums by tax, class and rate\n"
+    ++ codes "      verifactu statement FILE WHEN   a month's or day's sums by tax and rate\n"
     ++ codes "      verifactu export FILE           prints the chain as lines of JSON\n"
     ++ codes "      verifactu matches FILE          compares such lines with the file\n"
     ++ codes "      verifactu generate N            prints the sums of N made-up commands\n"
@@ -28,8 +29,7 @@ help_text =
     ++ codes "      verifactu --help                prints this text\n"
     ++ codes "      verifactu --version             prints the version\n"
     ++ codes "FILE is the shop's chain, NIF the issuer's tax number. Without --agency nothing\n"
-    ++ codes "is sent to the tax agency: a practice agency answers. OPERATING.md has a shop's\n"
-    ++ codes "day, FORMAT.md each format, TILLS.md what tills say, ADAPTER.md the adapter.\n"
+    ++ codes "is sent to the tax agency: a practice agency answers. OPERATING.md says more.\n"
 
 abbrev pub help_on_chain : List ℕ
 help_on_chain =
@@ -119,7 +119,9 @@ help_on_serve =
     ++ codes "\n"
     ++ codes "Reads   a line on standard input, and the next one once it is answered; FILE,\n"
     ++ codes "        the shop's chain. The lines are a script's (verifactu help chain), but\n"
-    ++ codes "        for vet, warn, wait and link. NIF is the issuer's tax number.\n"
+    ++ codes "        for vet, warn, wait and link, and questions: ticket NUM HOST, record\n"
+    ++ codes "        PLACE, last TILL, lines CLASS TOTAL and chain. NIF is the issuer's tax\n"
+    ++ codes "        number.\n"
     ++ codes "Prints  an answer for each line, for one that it can't read its number and what\n"
     ++ codes "        is wrong; at the end the line chain RECORDS noted NOTED.\n"
     ++ codes "Writes  FILE, which is begun where it isn't there: each record is on the disk\n"
@@ -220,6 +222,30 @@ help_on_link =
     ++ codes "Example\n"
     ++ codes "  $ verifactu link shop.chain A-1 real\n"
 
+abbrev pub help_on_list : List ℕ
+help_on_list =
+    codes "verifactu list FILE WHICH\n"
+    ++ codes "\n"
+    ++ codes "Lists records, and what the agency says of each.\n"
+    ++ codes "\n"
+    ++ codes "Reads   FILE, the shop's chain. WHICH is all, each record; waiting, those that\n"
+    ++ codes "        have no line of the agency yet; or refused, those that it refused and\n"
+    ++ codes "        that no later record of the same invoice answers.\n"
+    ++ codes "Prints  a line for each of them, and the line chain RECORDS noted NOTED, which\n"
+    ++ codes "        counts the whole chain.\n"
+    ++ codes "Writes  nothing.\n"
+    ++ codes "\n"
+    ++ codes "Statuses\n"
+    ++ codes "   0  done\n"
+    ++ codes "   2  faulty command line\n"
+    ++ codes "   5  standard output could not be written\n"
+    ++ codes "   6  a file could not be read or written\n"
+    ++ codes "   7  the file is damaged, and was left as it is\n"
+    ++ codes "  10  out of memory\n"
+    ++ codes "\n"
+    ++ codes "Example\n"
+    ++ codes "  $ verifactu list shop.chain refused\n"
+
 abbrev pub help_on_check : List ℕ
 help_on_check =
     codes "verifactu check FILE WORKERS\n"
@@ -248,14 +274,15 @@ help_on_check =
 
 abbrev pub help_on_statement : List ℕ
 help_on_statement =
-    codes "verifactu statement FILE MONTH\n"
+    codes "verifactu statement FILE WHEN\n"
     ++ codes "\n"
-    ++ codes "Sums the invoices of a month by tax, class and rate.\n"
+    ++ codes "Sums the invoices of a month or of a day by tax, class and rate.\n"
     ++ codes "\n"
-    ++ codes "Reads   FILE, the shop's chain. MONTH is MM-YYYY, from 01-2024 to 12-2100.\n"
+    ++ codes "Reads   FILE, the shop's chain. WHEN is MM-YYYY, from 01-2024 to 12-2100, or\n"
+    ++ codes "        DD-MM-YYYY, a day of one of these months.\n"
     ++ codes "Prints  CLASS LINES BASE TAX SURCHARGE for each kind of line, and their sums. An\n"
-    ++ codes "        invoice counts by its last record that the agency didn't refuse, in the\n"
-    ++ codes "        month of its own day; a cancelled one doesn't count.\n"
+    ++ codes "        invoice counts by its last record that the agency didn't refuse, by its\n"
+    ++ codes "        own day; a cancelled one doesn't count.\n"
     ++ codes "Writes  nothing.\n"
     ++ codes "\n"
     ++ codes "Statuses\n"
@@ -460,6 +487,7 @@ help_on Serve = help_on_serve
 help_on Drain = help_on_drain
 help_on Audit = help_on_audit
 help_on Link = help_on_link
+help_on Listing = help_on_list
 help_on Check = help_on_check
 help_on Statement = help_on_statement
 help_on Export = help_on_export
@@ -474,4 +502,4 @@ help_on Generate = help_on_generate
 abbrev pub version_text : List ℕ
 version_text =
     codes "verifactu 0.1.0\n"
-    ++ codes "rattle-kit-13f logic dac8208d650f15bf\n"
+    ++ codes "rattle-kit-13b logic dac8208d650f15bf\n"

@@ -1,5 +1,5 @@
 -- What a run promises of a shop's file, of its tills and of what its agency was told, whatever it ran and however it ended.
-use Rattle.std.specs.Prelude.{◌≡◌, ◌⊎◌, ◌≤◌, ℕ, List, [], ◌∷◌, ◌++◌, drop, length, map, false, IsTrue}
+use Rattle.std.specs.Prelude.{◌≡◌, ◌⊎◌, ◌≤◌, ℕ, List, [], ◌∷◌, ◌++◌, drop, length, map, take, false, IsTrue}
 use Rattle.std.specs.Prelude.{Option, Some, None, Ok, Err}
 use Rattle.std.specs.List.{AllByRecursion}
 use Rattle.record_fields.specs.declared.versions.Version.{Version}
@@ -7,12 +7,11 @@ use Rattle.record_fields.specs.declared.versions.Version.TheVariants.{Two}
 use Rattle.agency_port.specs.declared.messages.Message.{Message}
 use Rattle.chain_disk.specs.Disks.{DiskRose, Disks, LeftDisk}
 use Rattle.chain_disk.specs.OnDisk.{IsLeft, IsSettled, IsSyncFailed, LeavesNow, LeavesOnly, OnDisk, moment, synced}
-use Rattle.counter.specs.Speech.{IsRead}
-use Rattle.counter.specs.declared.speaking.SpeechEnd.{SpeechEnd}
-use Rattle.dialogue.specs.Protocol.{Dialogue}
-use Rattle.line_reader.specs.Lists.{InputLine}
+use Rattle.dialogue_loop.specs.Speech.{IsRead}
+use Rattle.dialogue_loop.specs.declared.speaking.SpeechEnd.{SpeechEnd}
+use Rattle.dialogue.specs.Protocol.{Dialogue, Transcript}
 use Rattle.huella.specs.Linked.{Linked}
-use Rattle.journal.specs.File.{IsNotBegun}
+use Rattle.journal.specs.File.{IsNotBegun, closing_gate}
 use Rattle.shop_core.specs.Prefix.{IsPrefix}
 use Rattle.once_world.specs.Agreement.{Agree}
 use Rattle.ports.specs.Sinks.{Sinks}
@@ -25,18 +24,16 @@ use Rattle.record_codec.specs.declared.entry.Entry.{Entry}
 use Rattle.record_codec.specs.declared.entry.Entry.TheVariants.{Rec}
 use Rattle.record_fields.specs.declared.records.Sealed.{Sealed}
 use Rattle.recovery.specs.Opening.{IsFound}
-use Rattle.script.specs.declared.forms.Form.{Form}
 use Rattle.script.specs.declared.forms.Form.TheVariants.{Full}
-use Rattle.script.specs.declared.lines.Meaning.{Meaning}
 use Rattle.script.specs.declared.scripts.Script.{Script}
-use Rattle.shop_core.specs.File.Files.{IsDamagedFile, StandsFor}
+use Rattle.shop_core.specs.File.Files.{IsDamagedFile, StandsFor, bodies_of}
 use Rattle.shop_core.specs.History.{noted, receipt, recs}
 use Rattle.shop_core.specs.Legal.{Legal}
 use Rattle.shop_core.specs.Answer.Requests.{Asked}
 use Rattle.shop_core.specs.declared.answer.Reply.TheVariants.{Again, Refused, Taken}
 use Rattle.shop_drain.specs.Crashes.{StandsSince}
 use Rattle.issuers.specs.declared.parts.Part.{Part}
-use Rattle.many.specs.Scripts.{AreGoodParts}
+use Rattle.many_issuers.specs.Scripts.{AreGoodParts}
 use Rattle.shop_drain.specs.Devices.{Agencies, AllDevices, NobodyCalled, this_call}
 use Rattle.shop_commands.specs.Further.{Further, LeftFurther}
 use Rattle.shop_drain.specs.Draining.{AgreesAtStart}
@@ -87,42 +84,56 @@ pub data Crashes (Since Now : List ℕ → Type 0) (old new : OnDisk) : Type 0 w
   unwritten : IsSyncFailed old new → Crashes Since Now old new
   since_sync : LeavesOnly (synced old) new Since → LeavesNow new Now → Crashes Since Now old new
 
+-- Where the file at the start stands for this history, another one begins with all its bytes before its closing gate: byte 0, the
+-- header and the frames. The gate itself, which an append makes 1, and what stands after it are not among them.
+abbrev pub IsAppendedTo : Version → List ℕ → List Entry → List ℕ → List ℕ → Type 0
+IsAppendedTo version issuer start held file = StandsFor version issuer start held →
+    take (closing_gate (bodies_of version start)) file ≡ take (closing_gate (bodies_of version start)) held
+
+-- The file is append-only: so is the file at the end, and each that a crash leaves, at every moment, where nothing was pending at the
+-- start, and otherwise since the first sync.
+pub record AppendsOnly (version : Version) (issuer : List ℕ) (start : List Entry) (old new : OnDisk) : Type 0 where
+  pub file : IsAppendedTo version issuer start old.content new.content
+  pub each_crash : IsSettled old → (m : ℕ) (c : List ℕ) → moment old ≤ m → IsLeft new m c →
+      IsAppendedTo version issuer start old.content c
+  pub crashes : Crashes (IsAppendedTo version issuer start old.content) (IsAppendedTo version issuer start old.content) old new
+
 -- The chain. The history at the end is legal, so that each record names the Huella of the one before it, and begins with the
 -- one at the start. The file stands for it, or for it with the one entry whose writing was under way when the disk failed. Each
 -- crash in the run leaves a front of that, no shorter than the history at the start: at every moment, where nothing was pending
--- at the start, and otherwise since the first sync. Once the disk was synced each crash from now on leaves the whole history.
+-- at the start, and otherwise since the first sync. Once the disk was synced each crash from now on leaves the whole history. The
+-- file is append-only.
 pub record ChainGoesOn {D : Type 0} (version : Version) (issuer : List ℕ) (start end torn : List Entry) (k : Disks D) : Type 0 where
   pub begins : IsPrefix start end
   pub legal : Legal version issuer end
   pub linked : Linked issuer (recs end)
   pub at_most_one : length torn ≤ 1
   pub by_a_fault : (torn ≡ []) ⊎ DiskRose k
-  pub file : IsEither version issuer end torn (k.told k.disk_after).content
-  pub each_crash : IsSettled (k.told k.disk) → (m : ℕ) (c : List ℕ) → moment (k.told k.disk) ≤ m →
-      IsLeft (k.told k.disk_after) m c → StandsSince version issuer start end torn c
-  pub crashes : Crashes (StandsSince version issuer start end torn) (IsEither version issuer end torn) (k.told k.disk) (k.told k.disk_after)
+  pub file : IsEither version issuer end torn (k.on_disk k.disk_after).content
+  pub each_crash : IsSettled (k.on_disk k.disk) → (m : ℕ) (c : List ℕ) → moment (k.on_disk k.disk) ≤ m →
+      IsLeft (k.on_disk k.disk_after) m c → StandsSince (k.on_disk k.disk).content version issuer start end torn c
+  pub crashes : Crashes (StandsSince (k.on_disk k.disk).content version issuer start end torn) (IsEither version issuer end torn)
+      (k.on_disk k.disk) (k.on_disk k.disk_after)
+  pub append_only : AppendsOnly version issuer start (k.on_disk k.disk) (k.on_disk k.disk_after)
 
 -- These records are those of the commands that were answered as taken, each once and in this order: each has its command's till
 -- and serial, and the receipt that was told. Each command has one answer.
 abbrev pub AreAccepted : List Asked → Replies → List Entry → Type 0
 AreAccepted [] [] gained = gained ≡ []
-AreAccepted (ask ∷ asks) (Ok (Taken told) ∷ replies) gained = (sealed : Sealed) × (place : ℕ) × (rest : List Entry) ×
-    (gained ≡ Rec ask.till ask.serial sealed ∷ rest) × (told ≡ receipt place sealed) × AreAccepted asks replies rest
-AreAccepted (ask ∷ asks) (Ok (Again told) ∷ replies) gained = AreAccepted asks replies gained
+AreAccepted (ask ∷ asks) (Ok (Taken given) ∷ replies) gained = (sealed : Sealed) × (place : ℕ) × (rest : List Entry) ×
+    (gained ≡ Rec ask.till ask.serial sealed ∷ rest) × (given ≡ receipt place sealed) × AreAccepted asks replies rest
+AreAccepted (ask ∷ asks) (Ok (Again given) ∷ replies) gained = AreAccepted asks replies gained
 AreAccepted (ask ∷ asks) (Ok (Refused why) ∷ replies) gained = AreAccepted asks replies gained
 AreAccepted (ask ∷ asks) (Err fault ∷ replies) gained = AreAccepted asks replies gained
 AreAccepted _ _ gained = ⊥
 
 -- the commands among lines that were read of the source, each after those before it
 pub record AreAskedByLine (s : Sources) (asks : List Asked) : Type 0 where
-  pub lines : List InputLine
-  pub form : Form
-  pub before : List Meaning
-  pub replies : Replies
-  pub answers : List (List ℕ)
+  pub said : Transcript
   pub how : SpeechEnd
-  pub dialogue : Dialogue lines form before asks replies answers
-  pub read : IsRead how s.left s.left_after lines
+  pub dialogue : Dialogue said
+  pub asks_are : asks ≡ said.asks
+  pub read : IsRead how s.left s.left_after said.lines
 
 -- the commands of an issuer's part of the script for several that the source gave, or the first of them
 pub record AreAskedOfPart (s : Sources) (asks : List Asked) : Type 0 where
@@ -189,13 +200,13 @@ pub record Grows {D C Z G : Type 0} (version : Version) (issuer : List ℕ) (sta
 -- nobody, which then calls no agency either.
 pub record FileKept {D C Z G : Type 0} (writes : Option (List ℕ)) (a : AllDevices D C Z G) : Type 0 where
   pub sound : IsTrue a.devices.disk.tells → (version : Version) (issuer : List ℕ) (start : List Entry) →
-      StandsFor version issuer start (a.devices.disk.told a.devices.disk.disk).content → Grows version issuer start a
+      StandsFor version issuer start (a.devices.disk.on_disk a.devices.disk.disk).content → Grows version issuer start a
   pub fresh : IsTrue a.devices.disk.tells → (issuer : List ℕ) → writes ≡ Some issuer →
-      IsNotBegun (a.devices.disk.told a.devices.disk.disk).content → Grows Two issuer [] a
-  pub others : IsTrue a.devices.disk.tells → (IsOwn writes (a.devices.disk.told a.devices.disk.disk).content → ⊥) →
-      IsUnwritten (a.devices.disk.told a.devices.disk.disk) (a.devices.disk.told a.devices.disk.disk_after)
+      IsNotBegun (a.devices.disk.on_disk a.devices.disk.disk).content → Grows Two issuer [] a
+  pub others : IsTrue a.devices.disk.tells → (IsOwn writes (a.devices.disk.on_disk a.devices.disk.disk).content → ⊥) →
+      IsUnwritten (a.devices.disk.on_disk a.devices.disk.disk) (a.devices.disk.on_disk a.devices.disk.disk_after)
   pub reads : writes ≡ None →
-      (a.devices.disk.told a.devices.disk.disk_after ≡ a.devices.disk.told a.devices.disk.disk) × NobodyCalled a
+      (a.devices.disk.on_disk a.devices.disk.disk_after ≡ a.devices.disk.on_disk a.devices.disk.disk) × NobodyCalled a
 
 -- The copy of a file that stood for this history. Each crash since the start leaves what it left then, or a file that stands for
 -- what begins with the copy that was found and is a front of the history of the file at the end, with the entry whose writing was
@@ -205,13 +216,13 @@ pub record CopyGoesOn {D : Type 0} (version : Version) (issuer : List ℕ) (star
   pub torn : List Entry
   pub chain : ChainGoesOn version issuer start end torn k
   pub images : IsTrue l.tells →
-      LeavesOnly (l.told l.disk) (l.told l.disk_after) (IsFollowImage version issuer (end ++ torn) (l.told l.disk))
+      LeavesOnly (l.on_disk l.disk) (l.on_disk l.disk_after) (IsFollowImage version issuer (end ++ torn) (l.on_disk l.disk))
 
 -- A copy that is written beside a file of this issuer. Where the file is no such one no call of the copy's disk is made.
 pub record OnlyGuarded {D : Type 0} (issuer : List ℕ) (k l : Disks D) : Type 0 where
-  pub own : IsTrue k.tells → (version : Version) (start : List Entry) → IsFound version issuer start (k.told k.disk).content →
+  pub own : IsTrue k.tells → (version : Version) (start : List Entry) → IsFound version issuer start (k.on_disk k.disk).content →
       CopyGoesOn version issuer start k l
-  pub others : IsTrue k.tells → (IsOwn (Some issuer) (k.told k.disk).content → ⊥) → LeftDisk l
+  pub others : IsTrue k.tells → (IsOwn (Some issuer) (k.on_disk k.disk).content → ⊥) → LeftDisk l
 
 pub record OnlyGuards {D C Z G : Type 0} (issuer : List ℕ) (k : Disks D) (f : Further D C Z G) : Type 0 where
   pub post : Post D C Z G
@@ -234,8 +245,9 @@ module _ {D C Z G : Type 0} (d : disk.Ghosts D) (c : clock.Ghosts C) (z : sleepe
   OthersKept (issuer ∷ issuers) a f = AreKept issuers a.devices.source a.devices.sink f.posts f.posts_after
 
   -- The further files: `migrate` writes one. Each file that a crash may leave of it, at any moment of the run, is one that it was
-  -- before, is not begun or an unfinished migration, or stands for the history of the file that is moved, which is only read.
-  -- `follow` and `guard` write a copy. Those of `many` are the files of the issuers behind the first one.
+  -- before; or, where it wasn't begun then or was an unfinished migration, is such a one, or stands for the history of the file that
+  -- is moved, which is only read. One that it can't be moved onto is synced at most.
+  -- `follow` and `guard` write a copy. Those of `many` are the files of the issuers after the first one.
   abbrev pub FurtherKept : Option Command → AllDevices D C Z G → Further D C Z G → Type 0
   FurtherKept (Some Migrate) a f = OnlyMoves a.devices.disk f
   FurtherKept (Some Follow) a f = OnlyFollows a.devices.disk f
@@ -270,3 +282,10 @@ IsFoundAgain = (version another : Version) (issuer : List ℕ) (end torn next : 
 abbrev pub StaysOfChain : Type 0
 StaysOfChain = (end next : List Entry) (messages : List Message) → IsPrefix end next → AreOfChain end messages →
     AreOfChain next messages
+
+-- A copy is append-only as well: where nothing was pending on it at the start, each file that following or guarding may leave of
+-- one that stood for a history begins with the bytes of that before its closing gate.
+abbrev pub CopyAppends : Type 0
+CopyAppends =
+    (version another : Version) (issuer other : List ℕ) (copy history : List Entry) (start : OnDisk) (file : List ℕ) →
+    IsSettled start → IsFollowImage another other history start file → IsAppendedTo version issuer copy start.content file

@@ -13,6 +13,7 @@ use Rattle.file_commands.specs.Auditing.{AuditEnds}
 use Rattle.file_commands.specs.Checking.{CheckEnds}
 use Rattle.file_commands.specs.Exporting.{ExportEnds}
 use Rattle.file_commands.specs.Linking.{LinkEnds}
+use Rattle.file_commands.specs.Listing.{ListEnds}
 use Rattle.file_commands.specs.Matching.{MatchesEnds}
 use Rattle.file_commands.specs.Statements.{StatementEnds}
 use Rattle.file_commands.specs.Output.{PrintEnds}
@@ -20,7 +21,7 @@ use Rattle.shop_commands.specs.Chain.{ChainEnds}
 use Rattle.shop_commands.specs.Day.{DayEnds}
 use Rattle.shop_drain.specs.Devices.{AllDevices, NobodyCalled, OnlyPrints, OnlyReads, OnlyReadsFile, this_call}
 use Rattle.shop_drain.specs.declared.posts.Post.{Post}
-use Rattle.many.specs.Ends.{ManyEnds}
+use Rattle.many_issuers.specs.Ends.{ManyEnds}
 use Rattle.shop_commands.specs.Further.{Further, LeftFurther}
 use Rattle.shop_commands.specs.Drain.{DrainEnds}
 use Rattle.file_commands.specs.Generate.{GenerateEnds}
@@ -32,7 +33,7 @@ use Rattle.shop_commands.specs.Serve.{ServeEnds}
 use Rattle.verifactu.specs.CommandLine.{IsAskedFor}
 use Rattle.verifactu.specs.declared.command_line.Command.{Command}
 use Rattle.verifactu.specs.declared.command_line.Command.TheVariants.{Chain, Day, Drain, Serve, Audit, Link, Check, Migrate, Follow, Guard, Many}
-use Rattle.verifactu.specs.declared.command_line.Command.TheVariants.{Statement, Export, Matches, Generate, Help, HelpOn, Version}
+use Rattle.verifactu.specs.declared.command_line.Command.TheVariants.{Listing, Statement, Export, Matches, Generate, Help, HelpOn, Version}
 
 -- when a command that works on one file ends in this way
 abbrev pub OwnEnds : {D C Z G : Type 0} → Command → AllDevices D C Z G → Detail → Type 0
@@ -42,14 +43,15 @@ OwnEnds (Drain issuer) a end = DrainEnds issuer a end
 OwnEnds (Serve issuer) a end = ServeEnds issuer a end
 OwnEnds Audit a end = AuditEnds a.devices.sink a.devices.disk end × OnlyReadsFile a.devices × NobodyCalled a
 OwnEnds (Link num host) a end = LinkEnds num host a.devices.sink a.devices.disk end × OnlyReadsFile a.devices × NobodyCalled a
+OwnEnds (Listing choice) a end = ListEnds choice a.devices.sink a.devices.disk end × OnlyReadsFile a.devices × NobodyCalled a
 OwnEnds (Check workers) a end =
     CheckEnds a.devices.source a.devices.sink a.devices.disk end × OnlyReads a.devices × NobodyCalled a
 OwnEnds Migrate a end = ⊥
 OwnEnds Follow a end = ⊥
 OwnEnds (Guard issuer) a end = ⊥
 OwnEnds (Many issuers) a end = ⊥
-OwnEnds (Statement month) a end =
-    StatementEnds month a.devices.sink a.devices.disk end × OnlyReadsFile a.devices × NobodyCalled a
+OwnEnds (Statement period) a end =
+    StatementEnds period a.devices.sink a.devices.disk end × OnlyReadsFile a.devices × NobodyCalled a
 OwnEnds Export a end = ExportEnds a.devices.sink a.devices.disk end × OnlyReadsFile a.devices × NobodyCalled a
 OwnEnds Matches a end =
     MatchesEnds a.devices.source a.devices.sink a.devices.disk end × OnlyReads a.devices × NobodyCalled a

@@ -1,7 +1,7 @@
 -- The commands by their names.
 use Rattle.std.specs.Prelude.{◌≡◌, ℕ, List, codes, Option, Some, None}
 use Rattle.verifactu.specs.declared.topics.Topic.{Topic}
-use Rattle.verifactu.specs.declared.topics.Topic.TheVariants.{Chain, Day, Serve, Drain, Audit, Link, Check, Statement}
+use Rattle.verifactu.specs.declared.topics.Topic.TheVariants.{Chain, Day, Serve, Drain, Audit, Link, Listing, Check, Statement}
 use Rattle.verifactu.specs.declared.topics.Topic.TheVariants.{Export, Matches, Migrate, Follow, Guard, Many, Generate}
 
 abbrev pub topic_name : Topic → List ℕ
@@ -11,6 +11,7 @@ topic_name Serve = codes "serve"
 topic_name Drain = codes "drain"
 topic_name Audit = codes "audit"
 topic_name Link = codes "link"
+topic_name Listing = codes "list"
 topic_name Check = codes "check"
 topic_name Statement = codes "statement"
 topic_name Export = codes "export"

@@ -1,7 +1,7 @@
-// The words of the command line.
+//! The words of the command line.
 ghost use Rattle.std.specs.Prelude.{◌≡◌, ◌<◌, ◌≤◌, ◌∷◌, [], map, string_bytes, bytes_eq, codes, false, length};
 ghost use Rattle.std.specs.List.{list_any};
-ghost use Rattle.verifactu.specs.CommandLine.{AsksToSend, IsAskedFor, IsCount, IsHelpAsked, IsHost, IsSaid, IsWorkers};
+ghost use Rattle.verifactu.specs.CommandLine.{AsksToSend, IsAskedFor, IsChoice, IsCount, IsHelpAsked, IsHost, IsSaid, IsWorkers};
 ghost use Rattle.verifactu.specs.CommandLine as spec;
 
 use crate::topics::{Topic, topic_of};
@@ -9,9 +9,10 @@ use amounts::read_whole;
 use file_commands::MOST;
 use file_pairs::{Nifs, read_pairs};
 use link_check::MAX_WORKERS;
-use parties::Nif;
+use parties::{MAX_ISSUERS, Nif};
+use report::Choice;
 use series::NumSerie;
-use statements::Month;
+use statements::Period;
 use verify_link::Host;
 
 /// What the words ask for.
@@ -29,7 +30,9 @@ pub enum Command {
     Audit,
     /// `link FILE NUM HOST`, for the invoice of this number.
     Link(NumSerie, Host),
-    /// `check FILE WORKERS`, by so many workers.
+    /// `list FILE WHICH`, of these records.
+    Listing(Choice),
+    /// `check FILE WORKERS`, by this many workers.
     Check(u8),
     /// `migrate FILE NEW`.
     Migrate,
@@ -39,8 +42,8 @@ pub enum Command {
     Guard(Nif),
     /// `many FILE NIF FILE NIF ..`, for the issuers with these NIFs.
     Many(Nifs),
-    /// `statement FILE MM-YYYY`, of this month.
-    Statement(Month),
+    /// `statement FILE MM-YYYY` or `statement FILE DD-MM-YYYY`, of this month or day.
+    Statement(Period),
     /// `export FILE`.
     Export,
     /// `matches FILE`.
@@ -76,6 +79,7 @@ fn of_issuer(name: &str, file: &str, nif: &str) -> Option<Command>
     requires neither { bytes_eq name.now (codes "migrate") ≡ false }
     requires no_copy { bytes_eq name.now (codes "follow") ≡ false }
     requires nor { bytes_eq name.now (codes "statement") ≡ false }
+    requires no_listing { bytes_eq name.now (codes "list") ≡ false }
     ensures { IsSaid (name.now ∷ (file.now ∷ (nif.now ∷ []))) result }
 {
     let Ok(issuer) = Nif::read(nif) else {
@@ -136,12 +140,37 @@ fn follow_of(file: &str, new: &str) -> Option<Command>
     Some(Command::Follow)
 }
 
-fn statement_of(file: &str, month: &str) -> Option<Command>
+fn statement_of(file: &str, period: &str) -> Option<Command>
     requires { 0 < length file.now }
-    ensures { IsSaid (codes "statement" ∷ (file.now ∷ (month.now ∷ []))) result }
+    ensures { IsSaid (codes "statement" ∷ (file.now ∷ (period.now ∷ []))) result }
 {
-    match Month::read(month) {
-        Some(month) => Some(Command::Statement(month)),
+    match Period::read(period) {
+        Some(period) => Some(Command::Statement(period)),
+        None => None,
+    }
+}
+
+fn choice_of(word: &str) -> Option<Choice>
+    ensures { IsChoice word.now result }
+{
+    if is_word(word, b"all") {
+        return Some(Choice::All);
+    }
+    if is_word(word, b"waiting") {
+        return Some(Choice::Waiting);
+    }
+    if is_word(word, b"refused") {
+        return Some(Choice::Refused);
+    }
+    None
+}
+
+fn list_of(file: &str, which: &str) -> Option<Command>
+    requires { 0 < length file.now }
+    ensures { IsSaid (codes "list" ∷ (file.now ∷ (which.now ∷ []))) result }
+{
+    match choice_of(which) {
+        Some(choice) => Some(Command::Listing(choice)),
         None => None,
     }
 }
@@ -163,6 +192,9 @@ fn three_of(name: &str, file: &str, word: &str) -> Option<Command>
     }
     if is_word(name, b"statement") {
         return statement_of(file, word);
+    }
+    if is_word(name, b"list") {
+        return list_of(file, word);
     }
     of_issuer(name, file, word)
 }
@@ -304,7 +336,7 @@ fn many_of(words: &[String]) -> Option<Command>
     }
 }
 
-// How many pairs stand behind the first one of `many`.
+// How many pairs stand after the first one of `many`.
 fn further_pairs(words: &[String]) -> u16
     requires { 4 < length words.now }
     ensures count { result ≡ spec.posts_needed (map string_bytes words.now) }
@@ -316,7 +348,7 @@ fn further_pairs(words: &[String]) -> u16
     if !is_word(name.as_str(), b"many") {
         return 0;
     }
-    if pairs.len() > 16 {
+    if pairs.len() > 2 * MAX_ISSUERS {
         return 0;
     }
     (pairs.len() / 2 - 1) as u16

@@ -1,4 +1,4 @@
-// What `--help` and `--version` print.
+//! What `--help` and `--version` print.
 ghost use Rattle.std.specs.Prelude.{◌≡◌};
 ghost use Rattle.verifactu.specs.Help as spec;
 
@@ -14,8 +14,9 @@ send  verifactu drain FILE NIF        sends the records that wait to the agency
       verifactu --agency TO FROM ..   day, serve, drain or guard with an adapter
 look  verifactu audit FILE            says whether the file is a sound chain
       verifactu link FILE NUM HOST    prints the link of an invoice's QR code
+      verifactu list FILE WHICH       lists all, waiting or refused records
       verifactu check FILE WORKERS    answers scanned links on standard input
-      verifactu statement FILE MONTH  a month's sums by tax, class and rate
+      verifactu statement FILE WHEN   a month's or day's sums by tax and rate
       verifactu export FILE           prints the chain as lines of JSON
       verifactu matches FILE          compares such lines with the file
       verifactu generate N            prints the sums of N made-up commands
@@ -25,12 +26,11 @@ copy  verifactu follow FILE NEW       brings the copy NEW up to FILE
       verifactu --help                prints this text
       verifactu --version             prints the version
 FILE is the shop's chain, NIF the issuer's tax number. Without --agency nothing
-is sent to the tax agency: a practice agency answers. OPERATING.md has a shop's
-day, FORMAT.md each format, TILLS.md what tills say, ADAPTER.md the adapter.
+is sent to the tax agency: a practice agency answers. OPERATING.md says more.
 ";
 
 // The second line is the toolchain's own, of the last run in which the repository's gate passed whole.
-const VERSION: &[u8] = b"verifactu 0.1.0\nrattle-kit-13f logic dac8208d650f15bf\n";
+const VERSION: &[u8] = b"verifactu 0.1.0\nrattle-kit-13b logic dac8208d650f15bf\n";
 
 /// The commands, and where the rest stands.
 pub fn help_text() -> &'static [u8]

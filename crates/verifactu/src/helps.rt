@@ -1,4 +1,4 @@
-// What the help of each command prints.
+//! What the help of each command prints.
 ghost use Rattle.std.specs.Prelude.{◌≡◌};
 ghost use Rattle.verifactu.specs.Help as spec;
 
@@ -103,7 +103,9 @@ starts and speaks to.
 
 Reads   a line on standard input, and the next one once it is answered; FILE,
         the shop's chain. The lines are a script's (verifactu help chain), but
-        for vet, warn, wait and link. NIF is the issuer's tax number.
+        for vet, warn, wait and link, and questions: ticket NUM HOST, record
+        PLACE, last TILL, lines CLASS TOTAL and chain. NIF is the issuer's tax
+        number.
 Prints  an answer for each line, for one that it can't read its number and what
         is wrong; at the end the line chain RECORDS noted NOTED.
 Writes  FILE, which is begun where it isn't there: each record is on the disk
@@ -229,6 +231,36 @@ fn on_link() -> &'static [u8]
     LINK
 }
 
+const LIST: &[u8] = b"\
+verifactu list FILE WHICH
+
+Lists records, and what the agency says of each.
+
+Reads   FILE, the shop's chain. WHICH is all, each record; waiting, those that
+        have no line of the agency yet; or refused, those that it refused and
+        that no later record of the same invoice answers.
+Prints  a line for each of them, and the line chain RECORDS noted NOTED, which
+        counts the whole chain.
+Writes  nothing.
+
+Statuses
+   0  done
+   2  faulty command line
+   5  standard output could not be written
+   6  a file could not be read or written
+   7  the file is damaged, and was left as it is
+  10  out of memory
+
+Example
+  $ verifactu list shop.chain refused
+";
+
+fn on_list() -> &'static [u8]
+    ensures { result.now ≡ spec.help_on_list }
+{
+    LIST
+}
+
 const CHECK: &[u8] = b"\
 verifactu check FILE WORKERS
 
@@ -262,14 +294,15 @@ fn on_check() -> &'static [u8]
 }
 
 const STATEMENT: &[u8] = b"\
-verifactu statement FILE MONTH
+verifactu statement FILE WHEN
 
-Sums the invoices of a month by tax, class and rate.
+Sums the invoices of a month or of a day by tax, class and rate.
 
-Reads   FILE, the shop's chain. MONTH is MM-YYYY, from 01-2024 to 12-2100.
+Reads   FILE, the shop's chain. WHEN is MM-YYYY, from 01-2024 to 12-2100, or
+        DD-MM-YYYY, a day of one of these months.
 Prints  CLASS LINES BASE TAX SURCHARGE for each kind of line, and their sums. An
-        invoice counts by its last record that the agency didn't refuse, in the
-        month of its own day; a cancelled one doesn't count.
+        invoice counts by its last record that the agency didn't refuse, by its
+        own day; a cancelled one doesn't count.
 Writes  nothing.
 
 Statuses
@@ -526,6 +559,7 @@ pub fn help_on(topic: Topic) -> &'static [u8]
         Topic::Drain => on_drain(),
         Topic::Audit => on_audit(),
         Topic::Link => on_link(),
+        Topic::Listing => on_list(),
         Topic::Check => on_check(),
         Topic::Statement => on_statement(),
         Topic::Export => on_export(),

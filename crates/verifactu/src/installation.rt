@@ -1,10 +1,10 @@
-// The run of several issuers: the first one's post is the outside's own, and those of the others are the further ones.
+//! The run of several issuers: the first one's post is the outside's own, and those of the others are the further ones.
 ghost use Rattle.std.specs.Prelude.{◌≡◌, ◌<◌, ◌≤◌, ◌+◌, ◌∷◌, length, vec_capacity, vec_len};
 ghost use Rattle.ports.specs.Sinks.{this_sink};
 ghost use Rattle.ports.specs.Sources.{this_source};
 ghost use Rattle.issuers.specs.Office.{AreOwn};
-ghost use Rattle.issuers.specs.declared.office.TheConstants.{MAX_ISSUERS};
-ghost use Rattle.many.specs.Ends.{ManyEnds};
+ghost use Rattle.parties.specs.declared.limits.TheConstants.{MAX_ISSUERS};
+ghost use Rattle.many_issuers.specs.Ends.{ManyEnds};
 ghost use Rattle.shop_drain.specs.Devices.{this_call};
 ghost use Rattle.report.specs.Status.{status_of};
 ghost use Rattle.shop_commands.specs.Further.{further, own_post};
@@ -12,7 +12,7 @@ ghost use Rattle.verifactu.specs.Running.{ManyRan};
 
 use agency_port::Agency;
 use chain_disk::Disk;
-use many::many_cmd;
+use many_issuers::many_cmd;
 use parties::Nif;
 use ports::{Clock, Sink, Sleeper, Source};
 use report::{Detail, Ended};
@@ -53,7 +53,7 @@ fn outside_from<D, C, Z, G>(mut posts: Vec<Post<D, C, Z, G>>) -> Outside<D, C, Z
     outside_of(first, posts)
 }
 
-// This post and those behind it, in their room.
+// This post and those after it, in their room.
 fn in_front<D: Drop, C: Drop, Z: Drop, G: Drop>(
     first: Post<D, C, Z, G>,
     mut more: Vec<Post<D, C, Z, G>>,

@@ -1,5 +1,5 @@
-// What the promise of a run comes to.
-ghost use Rattle.verifactu.specs.Promise.{DamagedIsNotOwn, ForeignIsNotOwn, IsFoundAgain, StaysOfChain};
+//! What the promise of a run comes to.
+ghost use Rattle.verifactu.specs.Promise.{CopyAppends, DamagedIsNotOwn, ForeignIsNotOwn, IsFoundAgain, StaysOfChain};
 ghost use Rattle.verifactu.specs.Stopping.{FaultsOnce, TearsAtMostOne, TearsByAFault, TearsForTillOrSender, TearsWhereItRose};
 ghost use Rattle.verifactu.specs.Stopping.{TellsOfItsStop};
 
@@ -17,6 +17,13 @@ pub fn a_strange_file_is_not_own()
 /// The history that a run finds begins with the one that the run before ended with, whether a crash came between them or not.
 pub fn what_a_run_left_is_found_again()
     ensures { IsFoundAgain }
+{
+    a_file_has_one_meaning();
+}
+
+/// A copy that `follow` or `guard` writes is append-only: the bytes of the chain that it stood for stay its first bytes.
+pub fn a_copy_is_append_only()
+    ensures { CopyAppends }
 {
     a_file_has_one_meaning();
 }

@@ -14,10 +14,10 @@ mod topics;
 pub use command_line::{asks_to_send, posts_needed};
 pub use file_commands::generate_cmd;
 pub use laws::{
-    a_day_stops_once, a_strange_file_is_not_own, what_a_run_left_is_found_again,
-    what_was_handed_over_stays_of_the_chain,
+    a_copy_is_append_only, a_day_stops_once, a_strange_file_is_not_own,
+    what_a_run_left_is_found_again, what_was_handed_over_stays_of_the_chain,
 };
-pub use many::many_cmd;
+pub use many_issuers::many_cmd;
 pub use running::run;
 pub use shop_commands::{
     Outside, chain_cmd, day_cmd, drain_cmd, follow_cmd, guard_cmd, migrate_cmd, serve_cmd,

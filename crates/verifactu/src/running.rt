@@ -1,4 +1,4 @@
-// The program: one call does all that it does.
+//! The program: one call does all that it does.
 ghost use Rattle.std.specs.Prelude.{◌≡◌, length, map, string_bytes};
 ghost use Rattle.ports.specs.Sinks.{this_sink};
 ghost use Rattle.ports.specs.Sources.{this_source};
@@ -20,7 +20,8 @@ use crate::installation::run_issuers;
 use agency_port::Agency;
 use chain_disk::Disk;
 use file_commands::{
-    audit_cmd, check_cmd, export_cmd, generate_cmd, link_cmd, matches_cmd, print, statement_cmd,
+    audit_cmd, check_cmd, export_cmd, generate_cmd, link_cmd, list_cmd, matches_cmd, print,
+    statement_cmd,
 };
 use ports::{Clock, Gate, Sink, Sleeper, Source};
 use report::{Detail, Ended};
@@ -34,9 +35,9 @@ use std::alloc::Global;
 use std::sync::Wait;
 use std::thread::Threads;
 
-/// Runs the command that the words are. `audit FILE` prints the verdict on the file, and `link FILE NUM HOST` the link of an
-/// invoice; `statement FILE MM-YYYY` prints the sums of a month and `export FILE` the chain as lines of JSON: these read the disk
-/// alone. `check FILE WORKERS` is `check_cmd` and `matches FILE` `matches_cmd`, which read the source beside it. `chain FILE NIF` is
+/// Runs the command that the words are. `audit FILE` prints the verdict on the file, `link FILE NUM HOST` the link of an
+/// invoice and `list FILE WHICH` the listing of those records; `statement FILE MM-YYYY` prints the sums of a month or, of DD-MM-YYYY,
+/// a day, and `export FILE` the chain as lines of JSON: these read the disk alone. `check FILE WORKERS` is `check_cmd` and `matches FILE` `matches_cmd`, which read the source too. `chain FILE NIF` is
 /// `chain_cmd` for this issuer, `day FILE NIF` `day_cmd`, `drain FILE NIF` `drain_cmd`, and `serve FILE NIF` `serve_cmd`;
 /// `migrate FILE NEW` is `migrate_cmd`, `follow FILE NEW` `follow_cmd`, and `guard FILE NIF NEW` `guard_cmd`, whose new file is that
 /// of the one further post; `many FILE NIF FILE NIF ..` is `many_cmd` for these issuers, whose files are the first one and those of
@@ -129,7 +130,7 @@ where
         sleeper,
         agency,
     };
-    let (ended, post) = obey(rt, alloc, command, source, sink, post, gate);
+    let (ended, post) = run_command(rt, alloc, command, source, sink, post, gate);
     let Post {
         disk,
         clock,
@@ -158,7 +159,7 @@ fn move_to_further<K: Sink, D: Disk + Drop, C: Drop, Z: Drop, G: Drop>(
     ensures status { result.0.status ≡ status_of result.0.detail }
     ensures moves { MovesPost (this_sink K.taken K.faults sink.old sink.new) (disk_in D.Disk (own_post outside) (own_post result.1))
         (further outside result.1) result.0.detail }
-    ensures same { D.told result.1.disk ≡ D.told outside.disk }
+    ensures same { D.on_disk result.1.disk ≡ D.on_disk outside.disk }
     ensures rest { (result.1.clock ≡ outside.clock) × (result.1.sleeper ≡ outside.sleeper) × (result.1.agency ≡ outside.agency) }
 {
     let (other, room) = take_further(outside.more);
@@ -184,7 +185,7 @@ fn follow_by_further<K: Sink, D: Disk + Drop, C: Drop, Z: Drop, G: Drop>(
     ensures status { result.0.status ≡ status_of result.0.detail }
     ensures follows { FollowsPost (this_sink K.taken K.faults sink.old sink.new)
         (disk_in D.Disk (own_post outside) (own_post result.1)) (further outside result.1) result.0.detail }
-    ensures same { D.told result.1.disk ≡ D.told outside.disk }
+    ensures same { D.on_disk result.1.disk ≡ D.on_disk outside.disk }
     ensures rest { (result.1.clock ≡ outside.clock) × (result.1.sleeper ≡ outside.sleeper) × (result.1.agency ≡ outside.agency) }
 {
     let (other, room) = take_further(outside.more);
@@ -206,7 +207,7 @@ fn follow_by_further<K: Sink, D: Disk + Drop, C: Drop, Z: Drop, G: Drop>(
     )
 }
 
-fn obey<S, K, D, C, Z, G, T, R>(
+fn run_command<S, K, D, C, Z, G, T, R>(
     rt: &R,
     alloc: Global,
     command: Command,
@@ -255,13 +256,17 @@ where
             let (ended, disk) = link_cmd(alloc, &num, host, sink, post.disk);
             (ended, Post { disk, ..post })
         }
+        Command::Listing(choice) => {
+            let (ended, disk) = list_cmd(alloc, choice, sink, post.disk);
+            (ended, Post { disk, ..post })
+        }
         Command::Check(workers) => {
             let (ended, disk) = check_cmd(rt, alloc, workers, source, sink, post.disk);
             (ended, Post { disk, ..post })
         }
         Command::Migrate | Command::Follow | Command::Guard(_) | Command::Many(_) => unreachable!(),
-        Command::Statement(month) => {
-            let (ended, disk) = statement_cmd(alloc, month, sink, post.disk);
+        Command::Statement(period) => {
+            let (ended, disk) = statement_cmd(alloc, period, sink, post.disk);
             (ended, Post { disk, ..post })
         }
         Command::Export => {

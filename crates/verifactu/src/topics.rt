@@ -1,4 +1,4 @@
-// The commands that have a help of their own.
+//! The commands that have a help of their own.
 ghost use Rattle.verifactu.specs.Topics.{IsTopic};
 
 /// A command, by its name.
@@ -10,6 +10,7 @@ pub enum Topic {
     Drain,
     Audit,
     Link,
+    Listing,
     Check,
     Statement,
     Export,
@@ -32,6 +33,7 @@ pub fn topic_of(name: &str) -> Option<Topic>
         "drain" => Some(Topic::Drain),
         "audit" => Some(Topic::Audit),
         "link" => Some(Topic::Link),
+        "list" => Some(Topic::Listing),
         "check" => Some(Topic::Check),
         "statement" => Some(Topic::Statement),
         "export" => Some(Topic::Export),

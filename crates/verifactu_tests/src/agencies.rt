@@ -1,4 +1,4 @@
-// Agencies whose answers are told: those that forget, have a hole, fall silent, or answer another question.
+//! Agencies whose answers are told: those that forget, have a hole, fall silent, or answer another question.
 use crate::runs::{DAY, DRAIN, Left, ONE, SERVE, TWO, file_of, ran, run_with};
 use agency_port::{
     Evidence, Message, Reply, ReplyLine, ReplyLines, Seen, SeenList, State3, ToldAgency,
@@ -8,11 +8,11 @@ use batches::HuellaList;
 use ports::OpenGate;
 use record_fields::Line;
 use report::Detail;
-use rows::holds;
 use std::alloc::Global;
 use std::sync::Wait;
 use std::test::Fail;
 use std::thread::Threads;
+use test_rows::holds;
 
 const THREE: &str = "sale 1 1 A F2 21:10000\nsale 1 2 A F2 21:10000\nsale 1 3 A F2 21:10000\n";
 

@@ -1,4 +1,4 @@
-// Days of several tills, and tills that are answered line by line: gates that hold, and disks that fail.
+//! Days of several tills, and tills that are answered line by line: gates that hold, and disks that fail.
 use crate::runs::{
     DAY, DRAIN, FILLS, Left, SERVE, disk_of, holds_at, image_at, last_moment, listing_of, ran,
     run_with,
@@ -7,7 +7,6 @@ use agency_port::{Message, PracticeAgency};
 use chain_disk::{Fill, MemDisk};
 use ports::{Gate, OpenGate};
 use record_fields::{Line, Sealed};
-use rows::holds;
 use std::alloc::Global;
 use std::fmt::Write;
 use std::hint::spin_loop;
@@ -15,8 +14,9 @@ use std::sync::Wait;
 use std::sync::atomic::{AtomicU64, Ordering};
 use std::test::Fail;
 use std::thread::Threads;
+use test_rows::holds;
 
-// Holds one till ahead of each command, for so many looks at most, until another till was answered, or, where that is 0, until the
+// Holds one till ahead of each command, for this many looks at most, until another till was answered, or, where that is 0, until the
 // sender has noted a line for each of its commands before.
 #[derive(Drop)]
 struct Holding {
@@ -95,7 +95,7 @@ const HELD: [Held; 3] = [
         4,
         "till 1 serial 1 taken 1 A-1 D88B42F8D11C4EA2112502EC992F055A7E94F796D67095359B946A4A5B03E616\ntill 1\ntill 2 serial 1 taken 2 A-1 D7E3FEAC06726268788A641ADB7632F969468D128104FD4B798514F066ED78F1\ntill 2\n1 alta A-1 01-01-2025 F2 21.00 121.00 N N D88B42F8D11C4EA2112502EC992F055A7E94F796D67095359B946A4A5B03E616 correcto\n2 anulacion A-1 01-01-2025 N N D7E3FEAC06726268788A641ADB7632F969468D128104FD4B798514F066ED78F1 correcto\nchain 2 noted 2\n",
     ),
-    // The second and the third sale wait for a turn of their own, the latter behind a pause of the sender's.
+    // The second and the third sale wait for a turn of their own, the latter after a pause of the sender's.
     (
         "sale 1 1 A F2 21:10000\nsale 1 2 A F2 21:10000\nsale 1 3 A F2 21:10000\n",
         (1, 0),
@@ -242,7 +242,7 @@ fn times(pairs: &[(Sealed, Line)], huella: &[u8; 32]) -> u32 {
     count
 }
 
-// Whether an agency has processed so many records, none of them twice, in so many sessions.
+// Whether an agency has processed this many records, none of them twice, in this many sessions.
 fn are_once(agency: &PracticeAgency, records: usize, sessions: usize) -> bool {
     let mut begun = 0usize;
     for entry in agency.log() {

@@ -1,4 +1,4 @@
-// A chain whose disk fails at each call in turn.
+//! A chain whose disk fails at each call in turn.
 use crate::runs::{
     CHAIN, FILLS, ONE, TWO, disk_of, holds_at, image_at, last_moment, listing_of, ran,
 };

@@ -1,15 +1,15 @@
-// A file and its copy, with each call of either disk failing in turn.
+//! A file and its copy, with each call of either disk failing in turn.
 use crate::runs::{
     FILLS, NEXT_DAY, TEN, TWO, disk_of, file_of, holds_at, image_at, last_moment, run_in,
 };
 use agency_port::PracticeAgency;
 use chain_disk::{Disk, Fill, MemDisk};
 use ports::{CountingClock, LeapSleeper, MemSink, MemSource, OpenGate};
-use rows::holds;
 use std::alloc::Global;
 use std::sync::Wait;
 use std::test::Fail;
 use std::thread::Threads;
+use test_rows::holds;
 use verifactu::{Outside, Post, Posts};
 
 const FOLLOW: &str = "follow shop.chain copy.chain";

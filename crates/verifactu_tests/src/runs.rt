@@ -1,14 +1,14 @@
-// The one call that each test makes, over devices in memory. The expected Huellas of these tests are SHA-256, by another program,
-// of the field texts of their records. `run_in` has no clauses, so that those of `run` stay out of its callers' proofs.
+//! The one call that each test makes, over devices in memory. The expected Huellas of these tests are SHA-256, by another program,
+//! of the field texts of their records. `run_in` has no clauses, so that those of `run` stay out of its callers' proofs.
 use agency_port::{Agency, PracticeAgency};
 use chain_disk::{Disk, Fill, MemDisk};
 use ports::{Clock, CountingClock, Gate, LeapSleeper, MemSink, MemSource, OpenGate, Sink, Source};
 use report::Ended;
-use rows::holds;
 use std::alloc::Global;
 use std::sync::Wait;
 use std::test::Fail;
 use std::thread::Threads;
+use test_rows::holds;
 use verifactu::{Outside, Posts, posts_needed, run};
 
 // 2025-01-01, 10:00 on the peninsular clock.

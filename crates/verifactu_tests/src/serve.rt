@@ -1,18 +1,18 @@
-// Devices in lockstep: a source that gives a line only once the lines before it are answered, and a disk and a clock that share
-// with the sink how many syncs were made.
+//! Devices in lockstep: a source that gives a line only once the lines before it are answered, and a disk and a clock that share
+//! with the sink how many syncs were made.
 ghost use Rattle.std.specs.Prelude.{◌≡◌, ◌≤◌, ◌-◌, ◌^◌, false};
-ghost use Rattle.chain_disk.specs.File.{untold, untold_reads};
+ghost use Rattle.chain_disk.specs.File.{nothing_on_disk, nothing_reads};
 
 use crate::runs::{CHAIN, DAY, NEXT_DAY, SERVE, TEN, run_in};
 use agency_port::{ToldAgency, ToldAnswers};
 use chain_disk::Disk;
 use ports::{Clock, Failed, LeapSleeper, OpenGate, Sink, Source};
-use rows::holds;
 use std::alloc::Global;
 use std::sync::Wait;
 use std::sync::atomic::{AtomicU64, Ordering};
 use std::test::Fail;
 use std::thread::Threads;
+use test_rows::holds;
 use verifactu::{Outside, Posts};
 
 // A disk in memory that tells nothing, and counts its syncs where others see it.
@@ -40,11 +40,11 @@ impl<'a> CountedDisk<'a> {
 impl<'a> Disk for CountedDisk<'a> {
     ghost tells = { false };
 
-    ghost told = { λ d. untold };
+    ghost on_disk = { λ d. nothing_on_disk };
 
     ghost faults = { λ d. d.faults };
 
-    ghost reads_an_image = { λ d tells. untold_reads };
+    ghost reads_an_image = { λ d tells. nothing_reads };
 
     ghost few_faults = { λ d. d.few };
 
@@ -79,12 +79,12 @@ impl<'a> Disk for CountedDisk<'a> {
     }
 }
 
-// How many syncs there are once so many records were made: four of opening, and two a record.
+// How many syncs there are once this many records were made: four of opening, and two a record.
 fn syncs_for(records: u64) -> u64 {
     records.saturating_mul(2).saturating_add(4)
 }
 
-// A clock that sees at each reading how many syncs were made. Its first commands are sales, and so many.
+// A clock that sees at each reading how many syncs were made. Its first commands are sales, and this many.
 #[derive(Drop)]
 struct WatchingClock<'a> {
     syncs: &'a AtomicU64,

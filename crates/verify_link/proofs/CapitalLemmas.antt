@@ -22,7 +22,7 @@ capitals due (b ∷ rest) = cond (eqb due 0) b (to_ascii_uppercase b) ∷ capita
 abbrev pub due_past : ℕ → ℕ → ℕ
 due_past due b = cond (eqb b 37) 2 (due - 1)
 
--- a byte where so many are due
+-- a byte where this many are due
 abbrev pub shown : ℕ → ℕ → ℕ
 shown due b = cond (eqb due 0) b (to_ascii_uppercase b)
 
@@ -221,7 +221,7 @@ behind_later text k =
     let far : suc (suc k) - 2 ≡ k = omega arith in
     rw (near, far, le-leb 1 (suc (suc k)) (omega arith), le-leb 2 (suc (suc k)) (omega arith)) refl
 
--- something is due exactly behind a `%`
+-- something is due exactly after a `%`
 none_due : (text : List ℕ) (k : ℕ) → k < length text → eqb (due_after 0 (take k text)) 0 ≡ not (is_behind_percent text k)
 unfolding due_after
 none_due text zero within = refl

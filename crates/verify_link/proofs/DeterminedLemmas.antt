@@ -1,4 +1,4 @@
--- A text has one reading, want of memory aside.
+-- A text has one reading, lack of memory aside.
 use Rattle.std.proofs.Common.{◌≡◌, ◌≢◌, ℕ, zero, suc, ◌+◌, ◌<◌, List, length, drop, refl, sym, ap, ◌∙◌, subst, arith, inl, inr}
 use Rattle.std.proofs.Common.{Result, Ok, Err}
 use Rattle.std.proofs.lemmas.Bool.{both_ways, cases_order}
@@ -75,7 +75,7 @@ right_or_wrong : (text : List ℕ) (i place : ℕ) (said : List ℕ) → IsField
 right_or_wrong text i place said valid right (unnamed none) = none right.named
 right_or_wrong text i place said valid right (no_value named whole none) = none said valid right.value
 
--- a right field has none, want of memory aside
+-- a right field has none, lack of memory aside
 no_fault : (text : List ℕ) (i place : ℕ) (said : List ℕ) (fault : LinkFault) → IsFieldValue i said → IsField i (drop place text)
     said
     → IsFieldFault i place text fault → fault ≡ NoMemory

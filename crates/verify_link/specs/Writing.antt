@@ -20,17 +20,17 @@ encoded_byte b = if is_plain b then b ∷ [] else percent_encode_byte b
 unfoldable pub encoded : List ℕ → List ℕ
 encoded bytes = flat_map encoded_byte bytes
 
--- the byte is one of the two behind a `%`
+-- the byte is one of the two after a `%`
 abbrev pub is_behind_percent : List ℕ → ℕ → Bool
 is_behind_percent text k =
     (nat_le 1 k && (slice_index text (k - 1) == 37)) || (nat_le 2 k && (slice_index text (k - 2) == 37))
 
--- the two texts have the same byte there; behind a `%` the first may have the small letter of the second's capital
+-- the two texts have the same byte there; after a `%` the first may have the small letter of the second's capital
 abbrev pub agrees_at : List ℕ → List ℕ → ℕ → Bool
 agrees_at text written k =
     (if is_behind_percent text k then to_ascii_uppercase (slice_index text k) else slice_index text k) == slice_index written k
 
--- the texts agree but in the case of the two characters behind a `%`, which are capitals in the second
+-- the texts agree but in the case of the two characters after a `%`, which are capitals in the second
 pub record AgreeButInCase (text written : List ℕ) : Type 0 where
   pub long : length text ≡ length written
   pub bytes : (k : ℕ) → k < length text → agrees_at text written k ≡ true

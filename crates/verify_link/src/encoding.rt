@@ -1,4 +1,4 @@
-// Values of a link, percent-encoded and read.
+//! Values of a link, percent-encoded and read.
 ghost use Rattle.std.specs.Prelude.{◌≡◌, ℕ, List, ◌++◌, IfOk, OnOk, MatchBool, MatchOption, IfSome, IfNone, IsAscii, ◌<◌, length};
 ghost use Rattle.std.specs.Prelude.{false, slice_index};
 ghost use Rattle.std.specs.String.{string_bytes};
@@ -19,7 +19,7 @@ const ESCAPED: AsciiSet = ascii_set!(
         .remove(b'~')
 );
 
-/// Writes a value behind the text.
+/// Writes a value after the text.
 pub(crate) fn encode_onto(value: &[u8], text: &mut String) -> Result<(), NoMemory>
     ensures { OnOk result (string_bytes text.new ≡ string_bytes text.old ++ spec.encoded value.now) }
 {

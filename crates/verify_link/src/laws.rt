@@ -8,7 +8,7 @@ ghost use Rattle.verify_link.specs.declared.parts.LinkFault.TheVariants.{NoMemor
 use amounts::text_determines_amount;
 use stamps::text_determines_day;
 
-/// A text has one reading, want of memory aside. So each fault comes exactly where its case holds.
+/// A text has one reading, lack of memory aside. So each fault comes exactly where its case holds.
 pub fn text_determines_reading()
     ensures { (text : List ℕ) (one other : Result LinkParts LinkFault) → IsLinkReading text one → IsLinkReading text other
         → one ≢ Err NoMemory → other ≢ Err NoMemory → one ≡ other }

@@ -1,4 +1,4 @@
-// What a link says, and why a text is no link.
+//! What a link says, and why a text is no link.
 ghost use Rattle.std.specs.Prelude.{◌≡◌};
 ghost use Rattle.verify_link.specs.Parts as spec;
 ghost use Rattle.verify_link.specs.declared.parts.LinkFault.TheVariants as link_fault;

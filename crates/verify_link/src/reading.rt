@@ -1,4 +1,4 @@
-// A text read as a link.
+//! A text read as a link.
 ghost use Rattle.std.specs.Prelude.{◌≡◌, ◌+◌, ◌<◌, ◌≤◌, ℕ, List, length, drop, IfOk, IfErr, MatchOption, MatchResult, position};
 ghost use Rattle.amounts.specs.Text.{amount_text};
 ghost use Rattle.amounts.specs.Cents.{IsCents};
@@ -25,7 +25,7 @@ use std::alloc::Global;
 pub fn read_link(alloc: Global, text: &str) -> Result<LinkParts, LinkFault>
     ensures reading { spec.IsLinkReading text.now result }
 
-    // Only want of memory keeps a link from being read.
+    // Only lack of memory keeps a link from being read.
     ensures read_back { (parts : AnyParts) → IsLinkParts parts → AgreeButInCase text.now (link_text parts)
         → MatchResult result (λ read. read ≡ parts) (λ fault. fault ≡ link_fault.NoMemory) }
 

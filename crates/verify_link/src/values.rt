@@ -1,4 +1,4 @@
-// What the bytes of a field's value say.
+//! What the bytes of a field's value say.
 ghost use Rattle.std.specs.Prelude.{◌≡◌, ◌≢◌, ◌≤◌, ℕ, ℤ, IsTrue, IfSome, IfNone};
 ghost use Rattle.amounts.specs.Cents.{IsCents};
 ghost use Rattle.amounts.specs.Text.{amount_text};

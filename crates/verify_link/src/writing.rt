@@ -1,4 +1,4 @@
-// A link as a text.
+//! A link as a text.
 ghost use Rattle.std.specs.Prelude.{◌≡◌, ◌++◌, IfOk, OnOk, IsAscii};
 ghost use Rattle.std.specs.String.{string_bytes};
 ghost use Rattle.verify_link.specs.Writing.{encoded};

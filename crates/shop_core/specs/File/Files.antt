@@ -17,7 +17,7 @@ use Rattle.shop_core.specs.declared.answer.Planned.TheVariants.{Again, Refused, 
 abbrev pub bodies_of : Version → List Entry → List (List ℕ)
 bodies_of version entries = map (entry_bytes version) entries
 
--- the longest file of so many entries ends here: a header of 19 bytes, and 4101 a frame at most
+-- the longest file of this many entries ends here: a header of 19 bytes, and 4101 a frame at most
 abbrev pub furthest_gate : List Entry → ℕ
 furthest_gate entries = 19 + 4101 * length entries
 
@@ -31,7 +31,7 @@ pub record StandsFor (version : Version) (issuer : List ℕ) (entries : List Ent
   pub encoded : AreEncoded version issuer entries
   pub legal : Legal version issuer entries
 
--- a sound header, and behind it counted frames of a legal history up to this place
+-- a sound header, and after it counted frames of a legal history up to this place
 pub record IsSoundUpTo (version : Version) (issuer : List ℕ) (entries : List Entry) (at : ℕ) (file : List ℕ) : Type 0 where
   pub header : IsBegun version issuer file
   pub frames : AreFrames file (bodies_of version entries) at

@@ -72,7 +72,7 @@ SoundEnds =
     (version : Version) (issuer : List ℕ) (entries : List Entry) (at : ℕ) (file : List ℕ) →
     IsSoundUpTo version issuer entries at file → IsClosed (drop at file) → StandsFor version issuer entries file
 
--- Where a file of these entries is damaged once it is cut to so many bytes: at the cut where no byte behind the header is left,
+-- Where a file of these entries is damaged once it is cut to this many bytes: at the cut where no byte after the header is left,
 -- else at the gate of the frame that the cut leaves without its next gate.
 pub data IsCutAt (version : Version) (entries : List Entry) (left : ℕ) : ℕ → Type 0 where
   in_header : left ≤ HEADER → IsCutAt version entries left left

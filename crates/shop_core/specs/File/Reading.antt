@@ -53,7 +53,7 @@ pub data IsRead (file : List ℕ) : FileRead → Type 0 where
 abbrev pub BrokenIsDamaged : Type 0
 BrokenIsDamaged = (file : List ℕ) (place at : ℕ) (what : What) → IsRead file (Broken place at what) → IsDamagedFile file at
 
--- the closing gate stands no further than so many entries can be long
+-- the closing gate stands no further than this many entries can be long
 abbrev pub HasNearGate : FileRead → Type 0
 HasNearGate NotBegun = Unit {0}
 HasNearGate (Sound history end) = end ≤ furthest_gate history.entries

@@ -32,7 +32,7 @@ abbrev pub changed : Change → Standing → Standing
 changed (Recorded place alta) s = after s place alta
 changed (Accepted place) s = settled s place
 
--- the place of the last accepted record, with so many lines noted: that of the last one where it waits for its line
+-- the place of the last accepted record, with this many lines noted: that of the last one where it waits for its line
 abbrev pub accepted : Standing → ℕ → ℕ
 accepted s noted = if nat_lt noted s.last then s.last else s.settled
 

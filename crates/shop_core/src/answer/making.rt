@@ -1,4 +1,4 @@
-// The record that a request makes at a history.
+//! The record that a request makes at a history.
 ghost use Rattle.std.specs.Prelude.{◌≡◌, ◌<◌, IfOk, length, None, true};
 ghost use Rattle.huella.specs.Texts.{sealed_of};
 ghost use Rattle.stamps.specs.Stamp.{moment_at};

@@ -1,4 +1,4 @@
-// What is to be done for an ask, at a history and a reading of the clock.
+//! What is to be done for an ask, at a history and a reading of the clock.
 ghost use Rattle.std.specs.Prelude.{◌≡◌, IfOk, max, None};
 ghost use Rattle.record_codec.specs.declared.entry.Entry.{Entry as AnyEntry};
 ghost use Rattle.shop_core.specs.Answer.Plans as spec;

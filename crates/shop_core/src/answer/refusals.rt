@@ -1,4 +1,4 @@
-// Why an ask is refused, at a history and a reading of the clock: the order of the refusals.
+//! Why an ask is refused, at a history and a reading of the clock: the order of the refusals.
 ghost use Rattle.std.specs.Prelude.{◌≡◌, ◌≤◌, length, option_map, position, not, None};
 ghost use Rattle.std.specs.List.{position_from};
 ghost use Rattle.record_fields.specs.Checks.{draft_fault};

@@ -1,4 +1,4 @@
-// The answer to an ask, and the entry that it makes, in memory.
+//! The answer to an ask, and the entry that it makes, in memory.
 ghost use Rattle.std.specs.Prelude.{◌≡◌, ◌++◌, ◌∷◌, [], IfOk, OnErr, None, true};
 ghost use Rattle.shop_core.specs.History as history;
 ghost use Rattle.shop_core.specs.Legal.{Continues};
@@ -9,7 +9,7 @@ use ports::NoMemory;
 use record_codec::Entry;
 use std::alloc::Global;
 
-/// Answers an ask with the clock at these seconds since 1970, and adds the entry that it makes. Want of memory leaves
+/// Answers an ask with the clock at these seconds since 1970, and adds the entry that it makes. Lack of memory leaves
 /// issuer, version and history as they were.
 pub fn reply_to(
     alloc: Global,
@@ -22,11 +22,11 @@ pub fn reply_to(
     match plan(alloc, state, ask, seconds)? {
         Planned::Again(receipt) => Ok(Reply::Again(receipt)),
         Planned::Refused(why) => Ok(Reply::Refused(why)),
-        Planned::Made(entry) => take(state, entry),
+        Planned::Made(entry) => append_made(state, entry),
     }
 }
 
-fn take(state: &mut State, entry: Entry) -> Result<Reply, NoMemory>
+fn append_made(state: &mut State, entry: Entry) -> Result<Reply, NoMemory>
     requires continues { Continues state.old.version state.old.issuer state.old.entries entry }
     requires of_record { history.is_record entry ≡ true }
     ensures ok { IfOk result (λ reply. IsTaken state.old.entries entry reply

@@ -1,4 +1,4 @@
-// What a till asks.
+//! What a till asks.
 ghost use Rattle.std.specs.Prelude.{◌≡◌, IfOk};
 ghost use Rattle.std.specs.Int.{IsInRange};
 ghost use Rattle.record_codec.specs.declared.entry.TheConstants.{LAST_TILL};

@@ -1,4 +1,4 @@
-// What holds of the file's definitions alone.
+//! What holds of the file's definitions alone.
 ghost use Rattle.shop_core.specs.File.Laws.{CutIsDamaged, NotBegunIsNeither, OneDamage, OneHistory, OneStop, SoundBegins};
 ghost use Rattle.shop_core.specs.File.Laws.{SoundEnds, SoundGoesOn, SoundOrDamaged, StopsAtItsGate};
 

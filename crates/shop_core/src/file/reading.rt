@@ -1,4 +1,4 @@
-// Reads a file frame by frame, to its closing gate or its first break.
+//! Reads a file frame by frame, to its closing gate or its first break.
 ghost use Rattle.std.specs.Prelude.{◌≡◌, ◌≤◌, ◌+◌, ◌++◌, ◌∷◌, [], List, ℕ, IsTrue, IfOk, IfSome, IfNone, IsErrOf, OnErr, Some};
 ghost use Rattle.ports.specs.Causes.{Rose};
 ghost use Rattle.journal.specs.Ahead.{IsAheadIn};
@@ -39,10 +39,10 @@ pub enum ReadFault {
 
 /// Reads what a file stands for, up to its first break. It writes nothing.
 pub fn read_file<D: Disk>(alloc: Global, disk: &mut D) -> Result<FileRead, ReadFault>
-    ensures read { IfOk result (λ read. IsTrue D.tells → IsRead (D.told disk.old).content read) }
+    ensures read { IfOk result (λ read. IsTrue D.tells → IsRead (D.on_disk disk.old).content read) }
     ensures near { IfOk result HasNearGate }
     ensures fault { IsErrOf result ReadFault.DiskFault → Rose (D.faults disk.old) (D.faults disk.new) }
-    ensures same { D.told disk.new ≡ D.told disk.old }
+    ensures same { D.on_disk disk.new ≡ D.on_disk disk.old }
     ensures later { D.faults disk.old ≤ D.faults disk.new }
 {
     let Ok(header) = read_header(disk) else {
@@ -67,18 +67,18 @@ pub fn a_broken_file_is_damaged()
     ensures { BrokenIsDamaged }
 {}
 
-// Reads the frames behind a sound header of this version and issuer.
+// Reads the frames after a sound header of this version and issuer.
 fn read_frames<D: Disk>(
     alloc: Global,
     disk: &mut D,
     issuer: &Nif,
     version: Version,
 ) -> Result<FileRead, ReadFault>
-    requires header { IsTrue D.tells → IsBegun version issuer.now (D.told disk.old).content }
-    ensures read { IfOk result (λ read. IsTrue D.tells → IsRead (D.told disk.old).content read) }
+    requires header { IsTrue D.tells → IsBegun version issuer.now (D.on_disk disk.old).content }
+    ensures read { IfOk result (λ read. IsTrue D.tells → IsRead (D.on_disk disk.old).content read) }
     ensures near { IfOk result HasNearGate }
     ensures fault { IsErrOf result ReadFault.DiskFault → Rose (D.faults disk.old) (D.faults disk.new) }
-    ensures same { D.told disk.new ≡ D.told disk.old }
+    ensures same { D.on_disk disk.new ≡ D.on_disk disk.old }
     ensures later { D.faults disk.old ≤ D.faults disk.new }
 {
     a_history_is_read_by_frames();
@@ -121,17 +121,17 @@ fn read_frame<D: Disk>(
     at: u64,
     body: &mut FrameBuf,
 ) -> Result<AtGate, ReadFault>
-    requires ahead { IsTrue D.tells → IsAheadIn (D.told disk.old).content ahead.old }
+    requires ahead { IsTrue D.tells → IsAheadIn (D.on_disk disk.old).content ahead.old }
     requires place { at ≤ furthest_gate state.old.entries }
     requires sound { IsTrue D.tells →
-        IsSoundUpTo state.old.version state.old.issuer state.old.entries at (D.told disk.old).content }
-    ensures ahead { IsTrue D.tells → IsAheadIn (D.told disk.old).content ahead.new }
+        IsSoundUpTo state.old.version state.old.issuer state.old.entries at (D.on_disk disk.old).content }
+    ensures ahead { IsTrue D.tells → IsAheadIn (D.on_disk disk.old).content ahead.new }
     ensures issuer { state.new.issuer ≡ state.old.issuer }
     ensures version { state.new.version ≡ state.old.version }
     ensures grows { IfOk result (Grows state.old state.new) }
-    ensures seen { IfOk result (λ seen. IsTrue D.tells → IsSeen (D.told disk.old).content at state.old state.new seen) }
+    ensures seen { IfOk result (λ seen. IsTrue D.tells → IsSeen (D.on_disk disk.old).content at state.old state.new seen) }
     ensures fault { IsErrOf result ReadFault.DiskFault → Rose (D.faults disk.old) (D.faults disk.new) }
-    ensures same { D.told disk.new ≡ D.told disk.old }
+    ensures same { D.on_disk disk.new ≡ D.on_disk disk.old }
     ensures later { D.faults disk.old ≤ D.faults disk.new }
 {
     a_history_is_read_by_frames();

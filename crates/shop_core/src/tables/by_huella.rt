@@ -1,4 +1,4 @@
-// Where each Huella stands in the chain.
+//! Where each Huella stands in the chain.
 ghost use Rattle.std.specs.Prelude.{◌≡◌, ℕ, List, [], ◌∷◌, OnOk, bytes_eq, take, true, if◌then◌else◌};
 ghost use Rattle.shop_core.specs.Tables.ByHuella.{has, place_at};
 ghost use Rattle.shop_core.specs.Place.{placed};

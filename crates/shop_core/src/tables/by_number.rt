@@ -1,4 +1,4 @@
-// How each invoice stands: the places of its last records of several sorts.
+//! How each invoice stands: the places of its last records of several sorts.
 ghost use Rattle.std.specs.Prelude.{◌≡◌, ℕ, ◌++◌, ◌∷◌, ◌<◌, ◌&&◌, ◌==◌, [], List, None, Some, OnOk, OnErr, bytes_eq, true, false};
 ghost use Rattle.std.specs.Prelude.{if◌then◌else◌, is_some, length, option_map, slice_get};
 ghost use Rattle.shop_core.specs.Tables.ByNumber.{accepted, after, changed, has, list_of, listed_at, nothing, other_at, settled};
@@ -58,7 +58,7 @@ impl Standing {
         }
     }
 
-    /// The place of the last accepted record, with so many lines noted.
+    /// The place of the last accepted record, with this many lines noted.
     pub fn accepted(self, noted: u32) -> u32
         ensures { result ≡ accepted self noted }
     {

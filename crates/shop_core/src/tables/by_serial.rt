@@ -1,4 +1,4 @@
-// Where each till and serial stands in the chain.
+//! Where each till and serial stands in the chain.
 ghost use Rattle.std.specs.Prelude.{◌≡◌, OnOk, true, if◌then◌else◌};
 ghost use Rattle.shop_core.specs.Tables.BySerial.{has, place_at, same_slot};
 ghost use Rattle.shop_core.specs.declared.tables.by_serial.Slot.{Slot as AnySlot};

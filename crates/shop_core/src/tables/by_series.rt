@@ -1,4 +1,4 @@
-// How many sales each series has.
+//! How many sales each series has.
 ghost use Rattle.std.specs.Prelude.{◌≡◌, ℕ, ◌+◌, ◌<◌, List, OnOk, IsTrue, bytes_eq, true, ◌&&◌, if◌then◌else◌};
 ghost use Rattle.record_fields.specs.Records.{is_sale, num_of};
 ghost use Rattle.series.specs.Numbers.{is_series, series_of};

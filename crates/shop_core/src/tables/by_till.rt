@@ -1,4 +1,4 @@
-// The greatest serial of each till.
+//! The greatest serial of each till.
 ghost use Rattle.std.specs.Prelude.{◌≡◌, ℕ, OnOk, max, nat_eq, true, if◌then◌else◌};
 ghost use Rattle.shop_core.specs.Tables.ByTill.{has, last_at};
 

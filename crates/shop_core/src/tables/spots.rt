@@ -1,4 +1,4 @@
-// Where a number stands in its series.
+//! Where a number stands in its series.
 ghost use Rattle.std.specs.Prelude.{◌≡◌, ◌+◌, ◌&&◌, nat_le, drop, length, IsTrue};
 ghost use Rattle.series.specs.Numbers.{is_series, series_of};
 ghost use Rattle.shop_core.specs.Tables.Spots as spec;

@@ -2,7 +2,7 @@ use Rattle.std.proofs.Common.{◌≡◌, ◌<◌, [], ◌∷◌, ◌++◌, Ok, a
 use Rattle.ports.specs.Sinks.{this_sink}
 use Rattle.ports.specs.Sources.{this_source}
 use Rattle.agency_pipe.specs.Greeting.{Steps}
-use Rattle.agency_pipe.specs.declared.hear.TheConstants.{MOST_EARLIER}
+use Rattle.agency_pipe.specs.declared.answer_reader.TheConstants.{MOST_EARLIER}
 use Rattle.agency_pipe.proofs.Greetings.{began_here, not_here, passed_more, wrote_more}
 use Rattle.agency_pipe.proofs.greet.greet.Goals as goal
 

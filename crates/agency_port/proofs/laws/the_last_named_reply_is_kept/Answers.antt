@@ -1,4 +1,4 @@
-use Rattle.agency_port.proofs.Kept.{kept_is, kept_more}
+use Rattle.agency_port.proofs.LastNamed.{kept_is, kept_more}
 use Rattle.agency_port.proofs.laws.the_last_named_reply_is_kept.Goals as goal
 
 pub returns-clause-is : goal.returns-clause-is

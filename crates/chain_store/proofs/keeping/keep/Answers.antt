@@ -7,7 +7,7 @@ use Rattle.journal.specs.Journal.{disk_of, end_of, stopped_of}
 use Rattle.shop_core.specs.History.{History}
 use Rattle.shop_core.specs.Legal.{Legal}
 use Rattle.chain_store.specs.Ready.{IsReady}
-use Rattle.chain_store.proofs.Stores.{adding, appended, gate_more, holds_more, on_disk}
+use Rattle.chain_store.proofs.Stores.{adding, appended, gate_more, holds_more, leaves_its_history}
 use Rattle.chain_store.proofs.keeping.keep.Goals as goal
 
 pub unreachable-requires : goal.unreachable-requires
@@ -30,11 +30,11 @@ returns-in-Ok g c =
     let body : IsBody c.args.bytes.now = subst (λ (b : List ℕ). IsBody b) (sym is)
     (c.an_encoding_is_a_body.ensures s.version entry fields) in
     let around = λ (tells : IsTrue g.D.Disk.tells). adding s (end_of c.args.journal.now)
-    (g.D.Disk.told (disk_of c.args.journal.now)) entry c.what_continues_fits_its_bytes.ensures
+    (g.D.Disk.on_disk (disk_of c.args.journal.now)) entry c.what_continues_fits_its_bytes.ensures
     c.a_legal_history_goes_on.ensures (c.requires.ready.holds refl tells) c.is_legal.ensures c.requires.continues
     fields in
     let ready = subst (λ (h : History). IsReady g.D.Disk.tells h (stopped_of c.append.new.self) (end_of c.append.new.self)
-    (g.D.Disk.told (disk_of c.append.new.self))) (sym new)
+    (g.D.Disk.on_disk (disk_of c.append.new.self))) (sym new)
     (record {
       place = gate_more s.entries entry (end_of c.args.journal.now) (end_of c.append.new.self) c.args.bytes.now
           c.requires.ready.place c.in-Ok.ensures.place body;
@@ -52,8 +52,8 @@ returns-in-Ok g c =
       same = search rules;
       any_moment = λ tells. appended (around tells) is
           (c.append.ensures.any_moment c.requires.going_on tells s.version s.issuer _ (c.requires.ready.holds refl tells).file);
-      acknowledged = λ tells. on_disk c.apply_encoded.new.self (end_of c.append.new.self)
-          (g.D.Disk.told (disk_of c.append.new.self)) (ready.holds c.in-Ok.ensures.going_on.1 tells) legal;
+      acknowledged = λ tells. leaves_its_history c.apply_encoded.new.self (end_of c.append.new.self)
+          (g.D.Disk.on_disk (disk_of c.append.new.self)) (ready.holds c.in-Ok.ensures.going_on.1 tells) legal;
       fault = search rules;
       later = search rules;
     }
@@ -70,7 +70,7 @@ returns-in-Err-DiskFault g c =
       any_moment = λ tells.
           let holds = c.requires.ready.holds refl tells in
           let a =
-          adding s (end_of c.args.journal.now) (g.D.Disk.told (disk_of c.args.journal.now)) c.args.entry
+          adding s (end_of c.args.journal.now) (g.D.Disk.on_disk (disk_of c.args.journal.now)) c.args.entry
           c.what_continues_fits_its_bytes.ensures c.a_legal_history_goes_on.ensures holds
           c.is_legal.ensures c.requires.continues
           (subst (λ (v : Version). AreFields v c.args.entry) c.version.ensures c.fields_are_valid.ensures) in

@@ -13,7 +13,7 @@ use Rattle.chain_store.proofs.opening.begin.Goals as goal
 pub returns-in-Ok-clause-every_crash : goal.returns-in-Ok-clause-every_crash
 returns-in-Ok-clause-every_crash g c tells =
     let issuer = c.args.issuer.now in
-    let now = g.D.Disk.told (disk_of c.in-Ok.journal) in
+    let now = g.D.Disk.on_disk (disk_of c.in-Ok.journal) in
     let legal : Legal c.args.created issuer [] =
     subst (λ (h : History). Legal h.version h.issuer h.entries) c.empty-state.ensures c.is_legal.ensures in
     subst (λ (h : History). LeavesNow now (StandsFor h.version issuer h.entries)) (sym c.empty-state.ensures)
@@ -23,8 +23,8 @@ pub returns-in-Ok-clause-any_moment : goal.returns-in-Ok-clause-any_moment
 returns-in-Ok-clause-any_moment g c tells =
     let issuer = c.args.issuer.now in
     let created = c.args.created in
-    let old = g.D.Disk.told c.args.disk in
-    let now = g.D.Disk.told (disk_of c.in-Ok.journal) in
+    let old = g.D.Disk.on_disk c.args.disk in
+    let now = g.D.Disk.on_disk (disk_of c.in-Ok.journal) in
     let legal : Legal created issuer [] =
     subst (λ (h : History). Legal h.version h.issuer h.entries) c.empty-state.ensures c.is_legal.ensures in
     subst (λ (h : History). LeavesOnly old now (IsFound created h.version issuer h.entries)) (sym c.empty-state.ensures)

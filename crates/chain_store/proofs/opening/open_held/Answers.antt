@@ -19,18 +19,18 @@ returns-clause-every_crash g c tells =
     let h = c.requires.holds tells in
     let s = c.args.state in
     let own : s.issuer ≡ c.args.issuer.now = search rules in
-    let told = ap (λ d. g.D.Disk.told d) c.at.ensures.parts.0 in
+    let told = ap (λ d. g.D.Disk.on_disk d) c.at.ensures.parts.0 in
     subst (λ (t : OnDisk). LeavesNow t (StandsFor s.version c.args.issuer.now s.entries)) (sym told)
-    (subst (λ (n : List ℕ). LeavesNow (g.D.Disk.told c.args.disk) (StandsFor s.version n s.entries)) own
-    (stays s.version s.issuer s.entries (g.D.Disk.told c.args.disk) h.0.0 h.1))
+    (subst (λ (n : List ℕ). LeavesNow (g.D.Disk.on_disk c.args.disk) (StandsFor s.version n s.entries)) own
+    (stays s.version s.issuer s.entries (g.D.Disk.on_disk c.args.disk) h.0.0 h.1))
 
 pub returns-clause-any_moment : goal.returns-clause-any_moment
 returns-clause-any_moment g c tells =
     let h = c.requires.holds tells in
     let s = c.args.state in
-    let old = g.D.Disk.told c.args.disk in
+    let old = g.D.Disk.on_disk c.args.disk in
     let own : s.issuer ≡ c.args.issuer.now = search rules in
-    let told = ap (λ d. g.D.Disk.told d) c.at.ensures.parts.0 in
+    let told = ap (λ d. g.D.Disk.on_disk d) c.at.ensures.parts.0 in
     subst (λ (t : OnDisk). LeavesOnly old t (IsFound c.args.created s.version c.args.issuer.now s.entries)) (sym told)
     (subst (λ (n : List ℕ). LeavesOnly old old (IsFound c.args.created s.version n s.entries)) own
     (holds_on c.args.created s.version s.issuer s.entries old h.0.0 h.1))
@@ -43,6 +43,6 @@ returns-then-ne-clause-other g c =
 pub returns-clause-ready : goal.returns-clause-ready
 returns-clause-ready g c =
     let parts = c.at.ensures.parts in
-    subst (λ (d : _). IsReady g.D.Disk.tells c.args.state None (end_of c.at.result) (g.D.Disk.told d)) (sym parts.0)
-    (subst (λ (n : ℕ). IsReady g.D.Disk.tells c.args.state None n (g.D.Disk.told c.args.disk)) (sym parts.1)
-    (ready_held g.D.Disk.tells c.args.state None c.args.end (g.D.Disk.told c.args.disk) c.requires.near c.requires.holds))
+    subst (λ (d : _). IsReady g.D.Disk.tells c.args.state None (end_of c.at.result) (g.D.Disk.on_disk d)) (sym parts.0)
+    (subst (λ (n : ℕ). IsReady g.D.Disk.tells c.args.state None n (g.D.Disk.on_disk c.args.disk)) (sym parts.1)
+    (ready_held g.D.Disk.tells c.args.state None c.args.end (g.D.Disk.on_disk c.args.disk) c.requires.near c.requires.holds))

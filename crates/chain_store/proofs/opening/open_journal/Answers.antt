@@ -14,14 +14,14 @@ open_held-requires-clause-holds g c tells = loaded_settled _ _ _ (Begun c.in-Ok-
 pub returns-in-Ok-Begun-clause-any_moment : goal.returns-in-Ok-Begun-clause-any_moment
 returns-in-Ok-Begun-clause-any_moment g c =
     if_ok _ _ c.open_held.result c.open_held.ensures.any_moment (λ opened h tells.
-    subst (λ (t : OnDisk). LeavesOnly t (g.D.Disk.told (disk_of opened.journal))
+    subst (λ (t : OnDisk). LeavesOnly t (g.D.Disk.on_disk (disk_of opened.journal))
     (IsFound c.args.created opened.state.version c.args.issuer.now opened.state.entries))
     (c.load.ensures.same ∙ c.in-Ok.ensures.ok tells) (h tells))
 
 pub returns-in-Ok-Begun-clause-unwritten : goal.returns-in-Ok-Begun-clause-unwritten
 returns-in-Ok-Begun-clause-unwritten g c =
     if_ok _ _ c.open_held.result c.open_held.ensures.same (λ opened h tells begun.
-    ap (λ d. g.D.Disk.told d) h.2 ∙ c.load.ensures.same ∙ c.in-Ok.ensures.ok tells)
+    ap (λ d. g.D.Disk.on_disk d) h.2 ∙ c.load.ensures.same ∙ c.in-Ok.ensures.ok tells)
 
 pub returns-in-Ok-NotBegun-clause-unwritten : goal.returns-in-Ok-NotBegun-clause-unwritten
 returns-in-Ok-NotBegun-clause-unwritten g c =

@@ -4,29 +4,29 @@ use Rattle.shop_core.specs.File.Reading.{IsRead}
 use Rattle.shop_core.specs.declared.file.reading.FileRead.{FileRead}
 use Rattle.file_commands.specs.Checking.AnswersFrom.{read, damaged, disk_fault, no_memory}
 use Rattle.file_commands.proofs.Bytewise.{took_nothing}
-use Rattle.file_commands.proofs.FileReads.{Kept, kept}
+use Rattle.file_commands.proofs.FileReads.{HoldsChain, kept}
 use Rattle.file_commands.proofs.checking.check_bytes.Goals as goal
 
 pub returns-in-Ok-Sound-clause-ends : goal.returns-in-Ok-Sound-clause-ends
 returns-in-Ok-Sound-clause-ends g c =
-    let content = (g.D.Disk.told c.args.disk.now).content in
+    let content = (g.D.Disk.on_disk c.args.disk.now).content in
     let state = c.in-Ok-Sound.state in
     read (begun state.issuer state.entries) c.check_in.result
-    (λ says. subst (λ (r : FileRead). Kept content r) c.in-Ok-Sound.field-0-is (kept content c.in-Ok-Sound.field-0
+    (λ says. subst (λ (r : FileRead). HoldsChain content r) c.in-Ok-Sound.field-0-is (kept content c.in-Ok-Sound.field-0
     (c.in-Ok-Sound.ensures.read says)))
     c.check_in.ensures
 
 pub returns-in-Ok-NotBegun-clause-ends : goal.returns-in-Ok-NotBegun-clause-ends
 returns-in-Ok-NotBegun-clause-ends g c =
-    let content = (g.D.Disk.told c.args.disk.now).content in
+    let content = (g.D.Disk.on_disk c.args.disk.now).content in
     read not_begun c.check_without.result
-    (λ says. subst (λ (r : FileRead). Kept content r) c.in-Ok-NotBegun.field-0-is (kept content c.in-Ok-NotBegun.field-0
+    (λ says. subst (λ (r : FileRead). HoldsChain content r) c.in-Ok-NotBegun.field-0-is (kept content c.in-Ok-NotBegun.field-0
     (c.in-Ok-NotBegun.ensures.read says)))
     c.check_without.ensures
 
 pub returns-in-Ok-Broken-clause-ends : goal.returns-in-Ok-Broken-clause-ends
 returns-in-Ok-Broken-clause-ends g c =
-    let content = (g.D.Disk.told c.args.disk.now).content in
+    let content = (g.D.Disk.on_disk c.args.disk.now).content in
     damaged c.in-Ok-Broken.at
     (λ says. c.a_broken_file_is_damaged.ensures content _ c.in-Ok-Broken.at _ (subst (λ (r : FileRead). IsRead content r)
     c.in-Ok-Broken.field-0-is (c.in-Ok-Broken.ensures.read says)))

@@ -14,7 +14,7 @@ use Rattle.file_commands.proofs.exporting.exported.Goals as goal
 
 pub returns-in-Ok-Sound-clause-ends : goal.returns-in-Ok-Sound-clause-ends
 returns-in-Ok-Sound-clause-ends g c =
-    let content = (g.D.Disk.told c.args.disk.now).content in
+    let content = (g.D.Disk.on_disk c.args.disk.now).content in
     let state = c.in-Ok-Sound.state in
     read (history state.version state.issuer state.entries) c.print_lines.result
     (λ says. subst (λ (r : FileRead). Exports content r) c.in-Ok-Sound.field-0-is (exports content c.in-Ok-Sound.field-0
@@ -23,7 +23,7 @@ returns-in-Ok-Sound-clause-ends g c =
 
 pub returns-in-Ok-NotBegun-clause-ends : goal.returns-in-Ok-NotBegun-clause-ends
 returns-in-Ok-NotBegun-clause-ends g c =
-    let content = (g.D.Disk.told c.args.disk.now).content in
+    let content = (g.D.Disk.on_disk c.args.disk.now).content in
     let s = this_sink g.K.Sink.taken g.K.Sink.faults c.args.sink.now c.args.sink.now in
     read nothing detail.Done
     (λ says. subst (λ (r : FileRead). Exports content r) c.in-Ok-NotBegun.field-0-is (exports content c.in-Ok-NotBegun.field-0
@@ -33,7 +33,7 @@ returns-in-Ok-NotBegun-clause-ends g c =
 
 pub returns-in-Ok-Broken-clause-ends : goal.returns-in-Ok-Broken-clause-ends
 returns-in-Ok-Broken-clause-ends g c =
-    let content = (g.D.Disk.told c.args.disk.now).content in
+    let content = (g.D.Disk.on_disk c.args.disk.now).content in
     damaged c.in-Ok-Broken.at
     (λ says. c.a_broken_file_is_damaged.ensures content _ c.in-Ok-Broken.at _ (subst (λ (r : FileRead). IsRead content r)
     c.in-Ok-Broken.field-0-is (c.in-Ok-Broken.ensures.read says)))

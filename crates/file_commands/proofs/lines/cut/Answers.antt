@@ -25,7 +25,7 @@ next pieces piece left after all size so e lt = record {
   few = rw (length-append pieces (piece ∷ [])) (one_more (length pieces) size (length left) (length after) (length all) so.few lt);
 }
 
--- so many pieces of more than `size` bytes are fewer than `most`, and one more is left
+-- this many pieces of more than `size` bytes are fewer than `most`, and one more is left
 fewer : (n size most all : ℕ) → 0 < most → n * suc size ≤ all → all ≤ size * most → n + 1 ≤ most
 fewer n size most all some h e = elim (cases_lt n most) [
   | inl lt ↦ omega (arith, lt)

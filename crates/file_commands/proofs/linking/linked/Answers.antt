@@ -9,7 +9,7 @@ use Rattle.file_commands.proofs.linking.linked.Goals as goal
 
 pub returns-in-Ok-Sound-clause-ends : goal.returns-in-Ok-Sound-clause-ends
 returns-in-Ok-Sound-clause-ends g c =
-    let content = (g.D.Disk.told c.args.disk.now).content in
+    let content = (g.D.Disk.on_disk c.args.disk.now).content in
     read c.in-Ok-Sound.state.entries c.link_in.result
     (λ says. subst (λ (r : FileRead). Holds content r) c.in-Ok-Sound.field-0-is (holds content c.in-Ok-Sound.field-0
     (c.in-Ok-Sound.ensures.read says)))
@@ -17,7 +17,7 @@ returns-in-Ok-Sound-clause-ends g c =
 
 pub returns-in-Ok-NotBegun-clause-ends : goal.returns-in-Ok-NotBegun-clause-ends
 returns-in-Ok-NotBegun-clause-ends g c =
-    let content = (g.D.Disk.told c.args.disk.now).content in
+    let content = (g.D.Disk.on_disk c.args.disk.now).content in
     read [] _
     (λ says. subst (λ (r : FileRead). Holds content r) c.in-Ok-NotBegun.field-0-is (holds content c.in-Ok-NotBegun.field-0
     (c.in-Ok-NotBegun.ensures.read says)))
@@ -25,7 +25,7 @@ returns-in-Ok-NotBegun-clause-ends g c =
 
 pub returns-in-Ok-Broken-clause-ends : goal.returns-in-Ok-Broken-clause-ends
 returns-in-Ok-Broken-clause-ends g c =
-    let content = (g.D.Disk.told c.args.disk.now).content in
+    let content = (g.D.Disk.on_disk c.args.disk.now).content in
     damaged c.in-Ok-Broken.at
     (λ says. c.a_broken_file_is_damaged.ensures content _ c.in-Ok-Broken.at _ (subst (λ (r : FileRead). IsRead content r)
     c.in-Ok-Broken.field-0-is (c.in-Ok-Broken.ensures.read says)))

@@ -9,7 +9,7 @@ use Rattle.file_commands.proofs.matching.compare_bytes.Goals as goal
 
 pub returns-in-Ok-Sound-clause-ends : goal.returns-in-Ok-Sound-clause-ends
 returns-in-Ok-Sound-clause-ends g c =
-    let content = (g.D.Disk.told c.args.disk.now).content in
+    let content = (g.D.Disk.on_disk c.args.disk.now).content in
     let state = c.in-Ok-Sound.state in
     read (history state.version state.issuer state.entries) c.compare_with.result
     (λ says. subst (λ (r : FileRead). Exports content r) c.in-Ok-Sound.field-0-is (exports content c.in-Ok-Sound.field-0
@@ -18,7 +18,7 @@ returns-in-Ok-Sound-clause-ends g c =
 
 pub returns-in-Ok-NotBegun-clause-ends : goal.returns-in-Ok-NotBegun-clause-ends
 returns-in-Ok-NotBegun-clause-ends g c =
-    let content = (g.D.Disk.told c.args.disk.now).content in
+    let content = (g.D.Disk.on_disk c.args.disk.now).content in
     read nothing c.compare_with_nothing.result
     (λ says. subst (λ (r : FileRead). Exports content r) c.in-Ok-NotBegun.field-0-is (exports content c.in-Ok-NotBegun.field-0
     (c.in-Ok-NotBegun.ensures.read says)))
@@ -26,7 +26,7 @@ returns-in-Ok-NotBegun-clause-ends g c =
 
 pub returns-in-Ok-Broken-clause-ends : goal.returns-in-Ok-Broken-clause-ends
 returns-in-Ok-Broken-clause-ends g c =
-    let content = (g.D.Disk.told c.args.disk.now).content in
+    let content = (g.D.Disk.on_disk c.args.disk.now).content in
     damaged c.in-Ok-Broken.at
     (λ says. c.a_broken_file_is_damaged.ensures content _ c.in-Ok-Broken.at _ (subst (λ (r : FileRead). IsRead content r)
     c.in-Ok-Broken.field-0-is (c.in-Ok-Broken.ensures.read says)))

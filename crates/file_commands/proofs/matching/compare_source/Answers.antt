@@ -12,7 +12,7 @@ use Rattle.file_commands.proofs.matching.compare_source.Goals as goal
 pub returns-in-Ok-clause-ends : goal.returns-in-Ok-clause-ends
 returns-in-Ok-clause-ends g c =
     let s = this_sink g.K.Sink.taken g.K.Sink.faults c.args.sink.now c.compare_bytes.new.sink in
-    let k = this_disk g.D.Disk.tells g.D.Disk.told g.D.Disk.faults c.args.disk.now c.compare_bytes.new.disk in
+    let k = this_disk g.D.Disk.tells g.D.Disk.on_disk g.D.Disk.faults c.args.disk.now c.compare_bytes.new.disk in
     input c.in-Ok.bytes.items c.compare_bytes.result c.in-Ok.ensures.input
     (subst (λ (bytes : List ℕ). ComparedWith bytes s k c.compare_bytes.result) c.deref.ensures.value c.compare_bytes.ensures.ends)
 

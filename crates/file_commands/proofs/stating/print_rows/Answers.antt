@@ -10,7 +10,7 @@ use Rattle.file_commands.proofs.stating.print_rows.Goals as goal
 pub returns-in-Ok : goal.returns-in-Ok
 returns-in-Ok g c =
     let s = this_sink g.K.Sink.taken g.K.Sink.faults c.args.sink.now c.print.new.sink in
-    let same : c.as_slice.result.now ≡ statement_text c.args.month c.args.rows.now = c.as_slice.ensures ∙ c.in-Ok.ensures in
+    let same : c.as_slice.result.now ≡ statement_text c.args.period.now c.args.rows.now = c.as_slice.ensures ∙ c.in-Ok.ensures in
     told c.print.result (subst (λ (t : List ℕ). PrintEnds t detail.Done s c.print.result) same c.print.ensures)
 
 pub returns-in-Err : goal.returns-in-Err

@@ -4,5 +4,5 @@ use Rattle.issuer_tests.proofs.offices.open_more.Goals as goal
 
 pub returns-in-Ok-push : goal.returns-in-Ok-push
 returns-in-Ok-push g c olds =
-    one_more (Ready g.D.Disk.tells g.D.Disk.told) c.args.stores.now.items c.push.new.self.items c.in-Ok.store
+    one_more (Ready g.D.Disk.tells g.D.Disk.on_disk) c.args.stores.now.items c.push.new.self.items c.in-Ok.store
     c.in-Ok-push.ensures.items olds c.in-Ok.ensures.ready

@@ -5,20 +5,20 @@ use Rattle.journal.proofs.Commits.{at_start, after_write, after_sync, after_gate
 use Rattle.journal.proofs.commit.commit.Goals as goal
 
 pub returns-clause-moments : goal.returns-clause-moments
-returns-clause-moments g c = λ tells. four_moments (g.D.Disk.told c.args.disk.now) _ _ _ _ _ _ _ _
+returns-clause-moments g c = λ tells. four_moments (g.D.Disk.on_disk c.args.disk.now) _ _ _ _ _ _ _ _
     (c.in_ok-write_at.ensures.ok tells) (c.in_ok-sync.ensures.ok tells) (c.in_ok-write_at-2.ensures.ok tells)
     (c.in_ok-sync-2.ensures.ok tells)
 
 pub returns-in_err-write_at-clause-any_moment : goal.returns-in_err-write_at-clause-any_moment
 returns-in_err-write_at-clause-any_moment g c = λ tells quiet.
-    let t = g.D.Disk.told c.args.disk.now in
+    let t = g.D.Disk.on_disk c.args.disk.now in
     let within = c.requires.within tells in
     on_write_failed (at_start t c.args.gate c.args.bytes.now within quiet) (c.args.gate + 1) (length c.args.bytes.now)
     (c.in_err-write_at.ensures.err tells) (λ f image. behind_image t.content f c.args.bytes.now c.args.gate within image)
 
 pub returns-in_err-sync-clause-any_moment : goal.returns-in_err-sync-clause-any_moment
 returns-in_err-sync-clause-any_moment g c = λ tells quiet.
-    let t = g.D.Disk.told c.args.disk.now in
+    let t = g.D.Disk.on_disk c.args.disk.now in
     let within = c.requires.within tells in
     on_sync_failed (after_write t c.args.gate c.args.bytes.now within quiet _ (c.in_ok-write_at.ensures.ok tells))
     (c.in_err-sync.ensures.err tells) (λ f image. behind_image t.content f c.args.bytes.now c.args.gate within image)
@@ -33,7 +33,7 @@ write_at-requires-2 g c = λ tells. omega (
 
 pub returns-in_err-write_at-2-clause-any_moment : goal.returns-in_err-write_at-2-clause-any_moment
 returns-in_err-write_at-2-clause-any_moment g c = λ tells quiet.
-    let t = g.D.Disk.told c.args.disk.now in
+    let t = g.D.Disk.on_disk c.args.disk.now in
     let within = c.requires.within tells in
     on_write_failed (after_sync t c.args.gate c.args.bytes.now within quiet _ _ (c.in_ok-write_at.ensures.ok tells)
     (c.in_ok-sync.ensures.ok tells)) c.args.gate 1 (c.in_err-write_at-2.ensures.err tells) (λ f image. gate_image t.content
@@ -41,7 +41,7 @@ returns-in_err-write_at-2-clause-any_moment g c = λ tells quiet.
 
 pub returns-in_err-sync-2-clause-any_moment : goal.returns-in_err-sync-2-clause-any_moment
 returns-in_err-sync-2-clause-any_moment g c = λ tells quiet.
-    let t = g.D.Disk.told c.args.disk.now in
+    let t = g.D.Disk.on_disk c.args.disk.now in
     let within = c.requires.within tells in
     on_sync_failed (after_gate t c.args.gate c.args.bytes.now within quiet _ _ _ (c.in_ok-write_at.ensures.ok tells)
     (c.in_ok-sync.ensures.ok tells) (c.in_ok-write_at-2.ensures.ok tells)) (c.in_err-sync-2.ensures.err tells)
@@ -49,20 +49,20 @@ returns-in_err-sync-2-clause-any_moment g c = λ tells quiet.
 
 pub returns-clause-ok : goal.returns-clause-ok
 returns-clause-ok g c = λ tells quiet.
-    let t = g.D.Disk.told c.args.disk.now in
+    let t = g.D.Disk.on_disk c.args.disk.now in
     let within = c.requires.within tells in
     committed t c.args.gate c.args.bytes.now within quiet _ (after_all t c.args.gate c.args.bytes.now within quiet _ _ _ _
     (c.in_ok-write_at.ensures.ok tells) (c.in_ok-sync.ensures.ok tells) (c.in_ok-write_at-2.ensures.ok tells)
     (c.in_ok-sync-2.ensures.ok tells))
 
 pub returns-clause-content : goal.returns-clause-content
-returns-clause-content g c = λ tells. both_written (g.D.Disk.told c.args.disk.now) _ _ _ _ c.args.gate c.args.bytes.now
+returns-clause-content g c = λ tells. both_written (g.D.Disk.on_disk c.args.disk.now) _ _ _ _ c.args.gate c.args.bytes.now
     (c.requires.within tells) (c.in_ok-write_at.ensures.ok tells) (c.in_ok-sync.ensures.ok tells)
     (c.in_ok-write_at-2.ensures.ok tells) (c.in_ok-sync-2.ensures.ok tells)
 
 pub returns-clause-any_moment : goal.returns-clause-any_moment
 returns-clause-any_moment g c = λ tells quiet.
-    let t = g.D.Disk.told c.args.disk.now in
+    let t = g.D.Disk.on_disk c.args.disk.now in
     let within = c.requires.within tells in
     let all = after_all t c.args.gate c.args.bytes.now within quiet _ _ _ _ (c.in_ok-write_at.ensures.ok tells)
     (c.in_ok-sync.ensures.ok tells) (c.in_ok-write_at-2.ensures.ok tells) (c.in_ok-sync-2.ensures.ok tells) in

@@ -6,7 +6,7 @@ returns-in_err-commit-clause-any_moment g c = λ tells.
     let shut = c.in_ok-shut_first.ensures.ok tells in
     creating c.args.version c.args.issuer.now c.header_bytes-bytes.result c.header_bytes-bytes.ensures.nif
     c.header_bytes-bytes.ensures.bytes
-    (g.D.Disk.told c.args.disk.now) (g.D.Disk.told c.shut_first.new.disk) (g.D.Disk.told c.commit.new.disk)
+    (g.D.Disk.on_disk c.args.disk.now) (g.D.Disk.on_disk c.shut_first.new.disk) (g.D.Disk.on_disk c.commit.new.disk)
     (c.shut_first.ensures.any_moment tells) shut (c.commit.ensures.any_moment tells shut.nothing_pending)
 
 pub returns-clause-any_moment : goal.returns-clause-any_moment
@@ -14,7 +14,7 @@ returns-clause-any_moment g c = λ tells.
     let shut = c.in_ok-shut_first.ensures.ok tells in
     creating c.args.version c.args.issuer.now c.header_bytes-bytes.result c.header_bytes-bytes.ensures.nif
     c.header_bytes-bytes.ensures.bytes
-    (g.D.Disk.told c.args.disk.now) (g.D.Disk.told c.shut_first.new.disk) (g.D.Disk.told c.commit.new.disk)
+    (g.D.Disk.on_disk c.args.disk.now) (g.D.Disk.on_disk c.shut_first.new.disk) (g.D.Disk.on_disk c.commit.new.disk)
     (c.shut_first.ensures.any_moment tells) shut (c.commit.ensures.any_moment tells shut.nothing_pending)
 
 pub returns-clause-ok : goal.returns-clause-ok
@@ -22,17 +22,17 @@ returns-clause-ok g c = λ tells.
     let shut = c.in_ok-shut_first.ensures.ok tells in
     created c.args.version c.args.issuer.now c.header_bytes-bytes.result c.header_bytes-bytes.ensures.nif
     c.header_bytes-bytes.ensures.bytes
-    (g.D.Disk.told c.shut_first.new.disk) (g.D.Disk.told c.commit.new.disk) shut (c.in_ok-commit.ensures.ok tells
+    (g.D.Disk.on_disk c.shut_first.new.disk) (g.D.Disk.on_disk c.commit.new.disk) shut (c.in_ok-commit.ensures.ok tells
     shut.nothing_pending)
 
 pub returns-clause-content : goal.returns-clause-content
 returns-clause-content g c = λ tells.
     let shut = c.in_ok-shut_first.ensures.ok tells in
     empty_content c.args.version c.args.issuer.now c.header_bytes-bytes.result c.header_bytes-bytes.ensures.nif
-    c.header_bytes-bytes.ensures.bytes (g.D.Disk.told c.shut_first.new.disk) (g.D.Disk.told c.commit.new.disk) shut
+    c.header_bytes-bytes.ensures.bytes (g.D.Disk.on_disk c.shut_first.new.disk) (g.D.Disk.on_disk c.commit.new.disk) shut
     (c.in_ok-commit.ensures.ok tells shut.nothing_pending)
 
 pub returns-clause-moments : goal.returns-clause-moments
 returns-clause-moments g c = λ tells.
-    creation_takes (g.D.Disk.told c.args.disk.now) (g.D.Disk.told c.shut_first.new.disk) (g.D.Disk.told c.commit.new.disk)
+    creation_takes (g.D.Disk.on_disk c.args.disk.now) (g.D.Disk.on_disk c.shut_first.new.disk) (g.D.Disk.on_disk c.commit.new.disk)
     (c.in_ok-shut_first.ensures.writes tells) (c.in_ok-shut_first.ensures.leaves tells) (c.in_ok-commit.ensures.moments tells)

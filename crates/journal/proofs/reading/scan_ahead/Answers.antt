@@ -5,7 +5,7 @@ use Rattle.journal.proofs.reading.scan_ahead.Goals as goal
 
 pub returns-clause-step : goal.returns-clause-step
 returns-clause-step g c = λ tells.
-    let content = (g.D.Disk.told c.args.disk.now).content in
+    let content = (g.D.Disk.on_disk c.args.disk.now).content in
     let window : c.window.result.now ≡ take 4102 (drop c.args.at content) = c.window.ensures ∙
     ahead_window content c.reach.new.self c.args.at (c.in_ok-reach.ensures.ok tells) c.in_ok-reach.ensures.covers in
     step_longer (drop c.args.at content) c.step_in.new.body c.step_in.result

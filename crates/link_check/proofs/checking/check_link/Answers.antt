@@ -3,7 +3,7 @@ use Rattle.verify_link.specs.declared.parts.LinkParts.{LinkParts}
 use Rattle.link_check.specs.Checking.{answer_to, IsChecked}
 use Rattle.link_check.specs.Checking.Chain.{begun}
 use Rattle.link_check.specs.Checking.IsChecked.{link}
-use Rattle.link_check.specs.Said.{IsSaid}
+use Rattle.link_check.specs.BeforeChain.{IsSaid}
 use Rattle.link_check.specs.declared.checked.Checked.{Checked}
 use Rattle.link_check.proofs.Reading.{ok_then}
 use Rattle.link_check.proofs.checking.check_link.Goals as goal

@@ -1,7 +1,7 @@
 use Rattle.std.proofs.Common.{subst, refl, Result}
 use Rattle.verify_link.specs.declared.parts.LinkParts.{LinkParts}
 use Rattle.link_check.specs.Checking.IsChecked.{link}
-use Rattle.link_check.specs.Said.{IsSaid}
+use Rattle.link_check.specs.BeforeChain.{IsSaid}
 use Rattle.link_check.specs.declared.checked.Checked.{Checked}
 use Rattle.link_check.specs.declared.checked.Checked.TheVariants.{Unknown}
 use Rattle.link_check.proofs.checking.check_unheld.Goals as goal

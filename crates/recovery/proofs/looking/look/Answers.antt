@@ -6,8 +6,8 @@ use Rattle.recovery.proofs.looking.look.Goals as goal
 
 pub returns-clause-held : goal.returns-clause-held
 returns-clause-held g c = λ tells.
-    let t = g.M.Disk.told c.args.disk.now in
-    let u = g.M.Disk.told c.len.new.self in
+    let t = g.M.Disk.on_disk c.args.disk.now in
+    let u = g.M.Disk.on_disk c.len.new.self in
     let window = read_window 19 u.content 0 c.in_ok-n.n _ c.read_at.new.buf refl (c.in_ok-n.ensures.bytes tells) in
     subst (λ (d : OnDisk). IsHeldAs c.args.issuer.now d.content c.held_in.result) c.len.ensures.same
     (c.held_in.ensures u.content window (c.in_ok-length.ensures.length tells ∙

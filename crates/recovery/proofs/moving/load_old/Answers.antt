@@ -8,7 +8,7 @@ use Rattle.recovery.proofs.moving.load_old.Goals as goal
 
 pub returns-in-Two-clause-cause : goal.returns-in-Two-clause-cause
 returns-in-Two-clause-cause g c = λ tells.
-    let file = (g.D.Disk.told c.args.old.now).content in
+    let file = (g.D.Disk.on_disk c.args.old.now).content in
     let state = c.in-Ok-Begun.state in
     let loaded = subst (λ (l : Loaded). IsLoaded file l) c.in-Ok-Begun.field-0-is (c.in-Ok-Begun.ensures.content tells) in
     newer state.issuer state.entries
@@ -16,5 +16,5 @@ returns-in-Two-clause-cause g c = λ tells.
 
 pub returns-in-Ok-NotBegun-clause-cause : goal.returns-in-Ok-NotBegun-clause-cause
 returns-in-Ok-NotBegun-clause-cause g c = λ tells.
-    let file = (g.D.Disk.told c.args.old.now).content in
+    let file = (g.D.Disk.on_disk c.args.old.now).content in
     not_begun (subst (λ (l : Loaded). IsLoaded file l) c.in-Ok-NotBegun.field-0-is (c.in-Ok-NotBegun.ensures.content tells))

@@ -1,14 +1,14 @@
 use Rattle.recovery.proofs.Entries.{bodies_in_two}
-use Rattle.recovery.proofs.Moves.{sync_lost, prepared, rewritten, whole_file}
+use Rattle.recovery.proofs.Moves.{kept_synced, prepared, rewritten, shut_before, sync_lost, whole_file}
 use Rattle.recovery.proofs.moving.move_state.Goals as goal
 
 pub returns-in_err-sync-clause-any_moment : goal.returns-in_err-sync-clause-any_moment
 returns-in_err-sync-clause-any_moment g c = λ tells file stands.
-    sync_lost c.args.state.now.issuer c.args.state.now.entries (g.M.Disk.told c.args.disk.now) _ (c.in_err-sync.ensures.err tells)
+    sync_lost c.args.state.now.issuer c.args.state.now.entries (g.M.Disk.on_disk c.args.disk.now) _ (c.in_err-sync.ensures.err tells)
 
 pub returns-in_err-prepare-clause-any_moment : goal.returns-in_err-prepare-clause-any_moment
 returns-in_err-prepare-clause-any_moment g c = λ tells file stands.
-    prepared c.args.state.now.issuer c.args.state.now.entries (g.M.Disk.told c.args.disk.now)
+    prepared c.args.state.now.issuer c.args.state.now.entries (g.M.Disk.on_disk c.args.disk.now)
     (g.met.M.Disk.reads_an_image c.args.disk.now tells) _ _ _ c.issuer.ensures (c.in_ok-sync.ensures.ok tells)
     (c.prepare.ensures.any_moment tells)
 
@@ -23,8 +23,9 @@ pub returns-clause-any_moment : goal.returns-clause-any_moment
 returns-clause-any_moment g c = λ tells file stands.
     let issuer = c.args.state.now.issuer in
     let entries = c.args.state.now.entries in
-    let t = g.M.Disk.told c.args.disk.now in
-    rewritten issuer entries t c.a_legal_history_is_legal_in_version_two.ensures file stands _ _
+    let t = g.M.Disk.on_disk c.args.disk.now in
+    rewritten issuer entries t c.a_legal_history_is_legal_in_version_two.ensures file stands
+    (shut_before issuer entries t _ _ c.issuer.ensures (c.in_ok-sync.ensures.ok tells) (c.in_ok-prepare.ensures.free tells)) _ _
     (prepared issuer entries t (g.met.M.Disk.reads_an_image c.args.disk.now tells) _ _ _ c.issuer.ensures
     (c.in_ok-sync.ensures.ok tells) (c.prepare.ensures.any_moment tells))
     (c.rewrite.ensures.any_moment tells (bodies_in_two issuer entries c.an_encoding_is_a_body.ensures stands.encoded))
@@ -33,8 +34,24 @@ pub returns-in_err-rewrite-clause-any_moment : goal.returns-in_err-rewrite-claus
 returns-in_err-rewrite-clause-any_moment g c = λ tells file stands.
     let issuer = c.args.state.now.issuer in
     let entries = c.args.state.now.entries in
-    let t = g.M.Disk.told c.args.disk.now in
-    rewritten issuer entries t c.a_legal_history_is_legal_in_version_two.ensures file stands _ _
+    let t = g.M.Disk.on_disk c.args.disk.now in
+    rewritten issuer entries t c.a_legal_history_is_legal_in_version_two.ensures file stands
+    (shut_before issuer entries t _ _ c.issuer.ensures (c.in_ok-sync.ensures.ok tells) (c.in_ok-prepare.ensures.free tells)) _ _
     (prepared issuer entries t (g.met.M.Disk.reads_an_image c.args.disk.now tells) _ _ _ c.issuer.ensures
     (c.in_ok-sync.ensures.ok tells) (c.prepare.ensures.any_moment tells))
     (c.rewrite.ensures.any_moment tells (bodies_in_two issuer entries c.an_encoding_is_a_body.ensures stands.encoded))
+
+pub returns-in_err-prepare-clause-kept : goal.returns-in_err-prepare-clause-kept
+returns-in_err-prepare-clause-kept g c = λ tells.
+    kept_synced c.args.state.now.issuer c.args.state.now.entries (g.M.Disk.on_disk c.args.disk.now) _ _ _ c.issuer.ensures
+    (c.in_ok-sync.ensures.ok tells) (c.prepare.ensures.kept tells)
+
+pub returns-in_err-rewrite-clause-kept : goal.returns-in_err-rewrite-clause-kept
+returns-in_err-rewrite-clause-kept g c = λ tells apart.
+    absurd (apart (shut_before c.args.state.now.issuer c.args.state.now.entries (g.M.Disk.on_disk c.args.disk.now) _ _
+    c.issuer.ensures (c.in_ok-sync.ensures.ok tells) (c.in_ok-prepare.ensures.free tells)))
+
+pub returns-clause-kept : goal.returns-clause-kept
+returns-clause-kept g c = λ tells apart.
+    absurd (apart (shut_before c.args.state.now.issuer c.args.state.now.entries (g.M.Disk.on_disk c.args.disk.now) _ _
+    c.issuer.ensures (c.in_ok-sync.ensures.ok tells) (c.in_ok-prepare.ensures.free tells)))

@@ -11,7 +11,7 @@ returns-clause-ok g c = λ tells sizes.
     let issuer = c.args.state.now.issuer in
     let bodies = bodies_of Two c.args.state.now.entries in
     let at = c.in_ok-open_up.ensures.ok tells issuer bodies sizes (c.in_ok-at.ensures.ok tells) in
-    leaves_now (g.M.Disk.told c.open_up.new.disk) (IsFile Two issuer bodies) at.nothing_pending at.file
+    leaves_now (g.M.Disk.on_disk c.open_up.new.disk) (IsFile Two issuer bodies) at.nothing_pending at.file
 
 pub returns-clause-any_moment : goal.returns-clause-any_moment
 returns-clause-any_moment g c = λ tells sizes.

@@ -23,8 +23,8 @@ returns-clause-every_crash g c tells =
     let parts = c.of.ensures.parts in
     let own : c.args.state.issuer ≡ c.args.issuer.now = search rules in
     let disk = ap (λ j. disk_of j) parts.1 ∙ c.at.ensures.parts.0 in
-    let told = ap (λ d. g.D.Disk.told d) disk in
-    let old = g.D.Disk.told c.args.disk in
+    let told = ap (λ d. g.D.Disk.on_disk d) disk in
+    let old = g.D.Disk.on_disk c.args.disk in
     let new = c.of.result.state in
     subst (λ (t : OnDisk). LeavesNow t (StandsFor new.version c.args.issuer.now new.entries)) (sym told)
     (subst (λ (s : History). LeavesNow old (StandsFor s.version c.args.issuer.now s.entries)) (sym parts.0)
@@ -35,10 +35,10 @@ pub returns-clause-any_moment : goal.returns-clause-any_moment
 returns-clause-any_moment g c tells =
     let h = c.requires.holds tells in
     let parts = c.of.ensures.parts in
-    let old = g.D.Disk.told c.args.disk in
+    let old = g.D.Disk.on_disk c.args.disk in
     let own : c.args.state.issuer ≡ c.args.issuer.now = search rules in
     let disk = ap (λ j. disk_of j) parts.1 ∙ c.at.ensures.parts.0 in
-    let told = ap (λ d. g.D.Disk.told d) disk in
+    let told = ap (λ d. g.D.Disk.on_disk d) disk in
     let new = c.of.result.state in
     subst (λ (t : OnDisk). LeavesOnly old t (IsFound new.version c.args.issuer.now new.entries)) (sym told)
     (subst (λ (s : History). LeavesOnly old old (IsFound s.version c.args.issuer.now s.entries)) (sym parts.0)
@@ -53,23 +53,23 @@ returns-then-ne-clause-other g c =
 pub of-requires-clause-ready : goal.of-requires-clause-ready
 of-requires-clause-ready g c =
     let parts = c.at.ensures.parts in
-    subst (λ (d : _). IsReady g.D.Disk.tells c.args.state None (end_of c.at.result) (g.D.Disk.told d)) (sym parts.0)
-    (subst (λ (n : ℕ). IsReady g.D.Disk.tells c.args.state None n (g.D.Disk.told c.args.disk)) (sym parts.1)
-    (ready_held g.D.Disk.tells c.args.state None c.args.end (g.D.Disk.told c.args.disk) c.requires.near
+    subst (λ (d : _). IsReady g.D.Disk.tells c.args.state None (end_of c.at.result) (g.D.Disk.on_disk d)) (sym parts.0)
+    (subst (λ (n : ℕ). IsReady g.D.Disk.tells c.args.state None n (g.D.Disk.on_disk c.args.disk)) (sym parts.1)
+    (ready_held g.D.Disk.tells c.args.state None c.args.end (g.D.Disk.on_disk c.args.disk) c.requires.near
     c.requires.holds))
 
 pub returns-clause-ready : goal.returns-clause-ready
 returns-clause-ready g c =
     let parts = c.at.ensures.parts in
     let made = c.of.ensures.parts in
-    subst (λ (j : _). IsReady g.D.Disk.tells c.of.result.state (stopped_of j) (end_of j) (g.D.Disk.told (disk_of j))) (sym made.1)
+    subst (λ (j : _). IsReady g.D.Disk.tells c.of.result.state (stopped_of j) (end_of j) (g.D.Disk.on_disk (disk_of j))) (sym made.1)
     (subst (λ (h : History). IsReady g.D.Disk.tells h (stopped_of c.at.result) (end_of c.at.result)
-    (g.D.Disk.told (disk_of c.at.result))) (sym made.0)
-    (subst (λ (d : _). IsReady g.D.Disk.tells c.args.state (stopped_of c.at.result) (end_of c.at.result) (g.D.Disk.told d))
+    (g.D.Disk.on_disk (disk_of c.at.result))) (sym made.0)
+    (subst (λ (d : _). IsReady g.D.Disk.tells c.args.state (stopped_of c.at.result) (end_of c.at.result) (g.D.Disk.on_disk d))
     (sym parts.0)
-    (subst (λ (n : ℕ). IsReady g.D.Disk.tells c.args.state (stopped_of c.at.result) n (g.D.Disk.told c.args.disk)) (sym parts.1)
+    (subst (λ (n : ℕ). IsReady g.D.Disk.tells c.args.state (stopped_of c.at.result) n (g.D.Disk.on_disk c.args.disk)) (sym parts.1)
     (ready_held g.D.Disk.tells c.args.state (stopped_of c.at.result) c.args.end
-    (g.D.Disk.told c.args.disk) c.requires.near
+    (g.D.Disk.on_disk c.args.disk) c.requires.near
     c.requires.holds))))
 
 pub returns-clause-same : goal.returns-clause-same

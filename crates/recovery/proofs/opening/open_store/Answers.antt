@@ -11,7 +11,7 @@ use Rattle.recovery.proofs.opening.open_store.Goals as goal
 pub returns-in-Ok-Begun-clause-unwritten : goal.returns-in-Ok-Begun-clause-unwritten
 returns-in-Ok-Begun-clause-unwritten g c =
     if_ok _ _ c.open_held.result c.open_held.ensures.same (λ store h tells begun.
-    ap (λ d. g.D.Disk.told d) h.3 ∙ c.load.ensures.same ∙ c.in-Ok.ensures.ok tells)
+    ap (λ d. g.D.Disk.on_disk d) h.3 ∙ c.load.ensures.same ∙ c.in-Ok.ensures.ok tells)
 
 pub open_held-requires-clause-holds : goal.open_held-requires-clause-holds
 open_held-requires-clause-holds g c tells = loaded_settled _ _ _ (Begun c.in-Ok-Begun.state c.in-Ok-Begun.end) (c.in-Ok.ensures.ok tells) c.load.ensures.same
@@ -20,7 +20,7 @@ open_held-requires-clause-holds g c tells = loaded_settled _ _ _ (Begun c.in-Ok-
 pub returns-in-Ok-Begun-clause-any_moment : goal.returns-in-Ok-Begun-clause-any_moment
 returns-in-Ok-Begun-clause-any_moment g c =
     if_ok _ _ c.open_held.result c.open_held.ensures.any_moment (λ store h tells.
-    subst (λ (t : OnDisk). LeavesOnly t (g.D.Disk.told (disk_of (journal_of store))) (IsFound (state_of store).version
+    subst (λ (t : OnDisk). LeavesOnly t (g.D.Disk.on_disk (disk_of (journal_of store))) (IsFound (state_of store).version
     c.args.issuer.now (state_of store).entries)) (c.load.ensures.same ∙ c.in-Ok.ensures.ok tells) (h tells))
 
 pub returns-in-Ok-Begun-clause-created : goal.returns-in-Ok-Begun-clause-created
@@ -40,5 +40,5 @@ returns-in-Ok-NotBegun-clause-unwritten g c =
 pub returns-in-Ok-NotBegun-clause-created : goal.returns-in-Ok-NotBegun-clause-created
 returns-in-Ok-NotBegun-clause-created g c =
     if_ok _ _ c.begin.result c.begin.ensures.created (λ store h tells not.
-    subst (λ (t : OnDisk). IsCreation c.args.issuer.now t (g.D.Disk.told (disk_of (journal_of store))))
+    subst (λ (t : OnDisk). IsCreation c.args.issuer.now t (g.D.Disk.on_disk (disk_of (journal_of store))))
     (c.load.ensures.same ∙ c.in-Ok.ensures.ok tells) (h tells))

@@ -19,7 +19,7 @@ returns-in_err-open_first-clause-any_moment g c = λ tells issuer bodies sizes i
 
 pub returns-clause-ok : goal.returns-clause-ok
 returns-clause-ok g c = λ tells issuer bodies sizes is.
-    subst (λ (n : ℕ). IsAt Two issuer bodies n (g.M.Disk.told c.open_first.new.disk)) (sym is.place)
+    subst (λ (n : ℕ). IsAt Two issuer bodies n (g.M.Disk.on_disk c.open_first.new.disk)) (sym is.place)
     (c.in_ok-open_first.ensures.ok tells issuer bodies (c.args.at + 1) sizes
     (c.in_ok-write_more.ensures.ok tells issuer (framed bodies) is))
 

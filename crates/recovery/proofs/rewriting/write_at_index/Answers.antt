@@ -10,13 +10,13 @@ use Rattle.recovery.proofs.rewriting.write_at_index.Goals as goal
 
 pub returns-in_err-entry-clause-any_moment : goal.returns-in_err-entry-clause-any_moment
 returns-in_err-entry-clause-any_moment g c = λ tells.
-    started (g.M.Disk.told c.args.disk.now) (IsHeldShut c.args.state.now.issuer)
-    (writing_now c.args.state.now.issuer _ c.args.at (g.M.Disk.told c.args.disk.now) (c.requires.within tells))
+    started (g.M.Disk.on_disk c.args.disk.now) (IsHeldShut c.args.state.now.issuer)
+    (writing_now c.args.state.now.issuer _ c.args.at (g.M.Disk.on_disk c.args.disk.now) (c.requires.within tells))
 
 pub returns-clause-ok : goal.returns-clause-ok
 returns-clause-ok g c = λ tells.
     let es = c.args.state.now.entries in
     let i = c.args.index in
     subst (λ (bodies : List (List ℕ)). IsWriting c.args.state.now.issuer (framed bodies) c.in_ok-next.next
-    (g.M.Disk.told c.write_framed.new.disk)) (sym (next_bodies es i c.in_ok-entry.entry c.in_ok-entry.ensures.found))
+    (g.M.Disk.on_disk c.write_framed.new.disk)) (sym (next_bodies es i c.in_ok-entry.entry c.in_ok-entry.ensures.found))
     (c.in_ok-next.ensures.ok tells c.args.state.now.issuer (bodies_of Two (take i es)) (c.requires.within tells))

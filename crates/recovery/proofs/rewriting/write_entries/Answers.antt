@@ -14,8 +14,8 @@ loop-index-init g c = record {
   near = omega arith;
   writing = λ tells. c.requires tells;
   any_moment = λ tells.
-      started (g.M.Disk.told c.args.disk.now) (IsHeldShut c.args.state.now.issuer)
-      (writing_now c.args.state.now.issuer _ 19 (g.M.Disk.told c.args.disk.now) (c.requires tells));
+      started (g.M.Disk.on_disk c.args.disk.now) (IsHeldShut c.args.state.now.issuer)
+      (writing_now c.args.state.now.issuer _ 19 (g.M.Disk.on_disk c.args.disk.now) (c.requires tells));
   later = omega arith;
 }
 
@@ -23,5 +23,5 @@ pub returns-clause-ok : goal.returns-clause-ok
 returns-clause-ok g c = λ tells.
     let es = c.args.state.now.entries in
     subst (λ (l : List Entry). IsWriting c.args.state.now.issuer (framed (bodies_of Two l)) c.loop-index.at
-    (g.M.Disk.told c.loop-index.disk)) (take_all c.loop-index.index es
+    (g.M.Disk.on_disk c.loop-index.disk)) (take_all c.loop-index.index es
     (omega (arith, c.loop-index-test.false, c.entries-index-end.ensures.count))) (c.loop-index.invariant.writing tells)

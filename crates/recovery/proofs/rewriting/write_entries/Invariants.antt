@@ -10,8 +10,8 @@ abbrev pub invariant-loop-index : goal.invariant-loop-index
 invariant-loop-index g l = record {
   near : l.at ≤ 19 + 4101 * l.index;
   writing : IsTrue g.M.Disk.tells →
-      IsWriting l.state.issuer (framed (bodies_of Two (take l.index l.state.entries))) l.at (g.M.Disk.told l.disk);
+      IsWriting l.state.issuer (framed (bodies_of Two (take l.index l.state.entries))) l.at (g.M.Disk.on_disk l.disk);
   any_moment : IsTrue g.M.Disk.tells →
-      LeavesOnly (g.M.Disk.told l.fn.disk) (g.M.Disk.told l.disk) (IsHeldShut l.state.issuer);
+      LeavesOnly (g.M.Disk.on_disk l.fn.disk) (g.M.Disk.on_disk l.disk) (IsHeldShut l.state.issuer);
   later : g.M.Disk.faults l.fn.disk ≤ g.M.Disk.faults l.disk;
 }

@@ -8,7 +8,7 @@ pub write_more-requires : goal.write_more-requires
 write_more-requires g c = record {
   within = λ tells.
       let w = c.requires.within tells in
-      writing_within w.0 (framed w.1) c.args.at (g.M.Disk.told c.args.disk.now) w.2;
+      writing_within w.0 (framed w.1) c.args.at (g.M.Disk.on_disk c.args.disk.now) w.2;
 }
 
 pub returns-in_err-write_more-clause-any_moment : goal.returns-in_err-write_more-clause-any_moment
@@ -19,7 +19,7 @@ pub write_more-requires-2 : goal.write_more-requires-2
 write_more-requires-2 g c = record {
   within = λ tells.
       let w = c.requires.within tells in
-      writing_within w.0 (framed w.1 ++ 1 ∷ []) (c.args.at + 1) (g.M.Disk.told c.write_more.new.disk)
+      writing_within w.0 (framed w.1 ++ 1 ∷ []) (c.args.at + 1) (g.M.Disk.on_disk c.write_more.new.disk)
       (c.in_ok-write_more.ensures.ok tells w.0 (framed w.1) w.2);
 }
 
@@ -31,7 +31,7 @@ returns-in_err-write_more-2-clause-any_moment g c = λ tells issuer bodies is.
 
 pub returns-clause-ok : goal.returns-clause-ok
 returns-clause-ok g c = λ tells issuer bodies is.
-    writing_frame issuer bodies c.args.body.now c.as_slice.result.now _ _ (g.M.Disk.told c.write_more-2.new.disk)
+    writing_frame issuer bodies c.args.body.now c.as_slice.result.now _ _ (g.M.Disk.on_disk c.write_more-2.new.disk)
     (c.as_slice.ensures.value ∙ c.frame_bytes.ensures) (c.in_ok-write_more-2.ensures.ok tells issuer (framed bodies ++ 1 ∷ [])
     (c.in_ok-write_more.ensures.ok tells issuer (framed bodies) is)) c.args.at is.place refl
 

@@ -7,7 +7,7 @@ pub returns-in_err-write_at-clause-any_moment : goal.returns-in_err-write_at-cla
 returns-in_err-write_at-clause-any_moment g c = λ tells.
     let nif = c.header_bytes-bytes.ensures.nif in
     let same = c.header_bytes-bytes.ensures.bytes in
-    let t = g.M.Disk.told c.args.disk.now in
+    let t = g.M.Disk.on_disk c.args.disk.now in
     let bytes = c.header_bytes-bytes.result in
     on_write_failed (header_start c.args.issuer.now bytes nif same t (c.requires tells)) 1 (length bytes)
     (c.in_err-write_at.ensures.err tells)
@@ -17,7 +17,7 @@ pub returns-in_err-sync-clause-any_moment : goal.returns-in_err-sync-clause-any_
 returns-in_err-sync-clause-any_moment g c = λ tells.
     let nif = c.header_bytes-bytes.ensures.nif in
     let same = c.header_bytes-bytes.ensures.bytes in
-    let t = g.M.Disk.told c.args.disk.now in
+    let t = g.M.Disk.on_disk c.args.disk.now in
     let bytes = c.header_bytes-bytes.result in
     on_sync_failed (header_written c.args.issuer.now bytes nif same t (c.requires tells) _ (c.in_ok-write_at.ensures.ok tells))
     (c.in_err-sync.ensures.err tells)
@@ -27,7 +27,7 @@ pub returns-clause-ok : goal.returns-clause-ok
 returns-clause-ok g c = λ tells.
     let nif = c.header_bytes-bytes.ensures.nif in
     let same = c.header_bytes-bytes.ensures.bytes in
-    let t = g.M.Disk.told c.args.disk.now in
+    let t = g.M.Disk.on_disk c.args.disk.now in
     let bytes = c.header_bytes-bytes.result in
     header_sure c.args.issuer.now bytes nif same t (c.requires tells) _
     (header_synced c.args.issuer.now bytes nif same t (c.requires tells) _ _ (c.in_ok-write_at.ensures.ok tells)
@@ -37,7 +37,7 @@ pub returns-clause-any_moment : goal.returns-clause-any_moment
 returns-clause-any_moment g c = λ tells.
     let nif = c.header_bytes-bytes.ensures.nif in
     let same = c.header_bytes-bytes.ensures.bytes in
-    let t = g.M.Disk.told c.args.disk.now in
+    let t = g.M.Disk.on_disk c.args.disk.now in
     let bytes = c.header_bytes-bytes.result in
     (header_synced c.args.issuer.now bytes nif same t (c.requires tells) _ _ (c.in_ok-write_at.ensures.ok tells)
     (c.in_ok-sync.ensures.ok tells)).so_far

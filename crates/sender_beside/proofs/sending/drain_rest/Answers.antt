@@ -8,7 +8,7 @@ use Rattle.till_calls.specs.Mark.{sight_by}
 use Rattle.till_calls.specs.Root.{Root}
 use Rattle.till_calls.specs.Seat.{box_knows}
 use Rattle.till_calls.specs.Shop.{seat_knows}
-use Rattle.sender_session.specs.Kinds.{agency_desk, agency_kind}
+use Rattle.sender_session.specs.Kinds.{agency_state_of, agency_kind}
 use Rattle.sender_session.specs.Session.{DrainsTo, SendsOn}
 use Rattle.sender_session.proofs.Clear.{drained_before}
 use Rattle.sender_session.proofs.Contrary.{drained_answers, drained_shows}
@@ -18,6 +18,7 @@ use Rattle.sender_session.proofs.Stops.{drained_stopped}
 use Rattle.sender_session.proofs.Torn.{drained_tears}
 use Rattle.sender_session.proofs.Turns.{drained_counts, drained_later, drained_notes_or, drains_from, no_error, on_fault, on_ok}
 use Rattle.sender_session.proofs.Turns.{sends_then}
+use Rattle.sender_beside.proofs.Behind.{off_error, on_error}
 use Rattle.sender_beside.proofs.sending.drain_rest.Goals as goal
 
 pub returns-then-is_err-clause-turns : goal.returns-then-is_err-clause-turns
@@ -28,9 +29,9 @@ returns-clause-turns g c =
     let kind = agency_kind g.G.Agency in
     let exact = g.Z.Sleeper.tells in
     let answer = c.drain-answer.result in
-    let before : Known Item (Root g.row.C.Denot) → Scene = λ k. scene_of (agency_desk g.G.Agency c.args.sent.agency) (sight_by k)
+    let before : Known Item (Root g.row.C.Denot) → Scene = λ k. scene_of (agency_state_of g.G.Agency c.args.sent.agency) (sight_by k)
     c.args.sent.sender (g.Z.Sleeper.moment c.args.sent.sleeper) in
-    let after : Known Item (Root g.row.C.Denot) → Scene = λ k. scene_of (agency_desk g.G.Agency c.drain-answer.new.agency)
+    let after : Known Item (Root g.row.C.Denot) → Scene = λ k. scene_of (agency_state_of g.G.Agency c.drain-answer.new.agency)
     (sight_by k) c.drain-answer.new.self (g.Z.Sleeper.moment c.drain-answer.new.sleeper) in
     let drains : DrainsTo kind exact (before (box_knows c.seat_box-outbox.result)) (after (box_knows c.drain-answer.new.outbox))
     answer = drains_from _ _ _ _ _ _ _ c.new-turns.ensures c.drain-answer.ensures.drained in
@@ -41,10 +42,10 @@ returns-clause-turns g c =
     answer) (sym c.into_seat.ensures.knows) drains))
 
 pub returns-clause-sends : goal.returns-clause-sends
-returns-clause-sends g c = λ before desk sending x.
+returns-clause-sends g c = λ before agency_state sending x.
     let kind = agency_kind g.G.Agency in
-    let mid = agency_desk g.G.Agency c.args.sent.agency in
-    let new = agency_desk g.G.Agency c.drain-answer.new.agency in
+    let mid = agency_state_of g.G.Agency c.args.sent.agency in
+    let new = agency_state_of g.G.Agency c.drain-answer.new.agency in
     let answer = c.drain-answer.result in
     let a = sight_by (box_knows c.seat_box-outbox.result) in
     let b = sight_by (box_knows c.drain-answer.new.outbox) in
@@ -77,7 +78,7 @@ returns-clause-sends g c = λ before desk sending x.
         before = first;
         after = last;
         drains = drains;
-        desk = refl;
+        agency_state = refl;
         later = omega arith;
       };
     } in
@@ -87,9 +88,9 @@ returns-clause-sends g c = λ before desk sending x.
     c.args.sent.sender c.drain-answer.new.self answer) c.seat_box-outbox.ensures.knows
     (subst (λ (k : Known Item (Root g.row.C.Denot)). SendsOn kind a (sight_by k) mid new c.args.sent.sender
     c.drain-answer.new.self answer) (sym c.into_seat.ensures.knows) drained) in
-    let beside = subst (λ (r : Result (Unit {0}) DrainFault). SendsOn kind before (sight_by (seat_knows c.args.sent.seat)) desk mid
+    let beside = subst (λ (r : Result (Unit {0}) DrainFault). SendsOn kind before (sight_by (seat_knows c.args.sent.seat)) agency_state mid
     sending c.args.sent.sender r) (no_error c.args.sent.answer (sym c.is_err.ensures.value ∙ c.if-is_err.false)) x in
-    sends_then kind before (sight_by (seat_knows c.args.sent.seat)) (sight_by (seat_knows c.into_seat.result)) desk mid new
+    sends_then kind before (sight_by (seat_knows c.args.sent.seat)) (sight_by (seat_knows c.into_seat.result)) agency_state mid new
     sending c.args.sent.sender c.drain-answer.new.self answer beside into
 
 pub returns-clause-covers : goal.returns-clause-covers
@@ -98,3 +99,9 @@ returns-clause-covers g c =
     (seat_knows c.into_seat.result).seen)) c.seat_box-outbox.ensures.knows
     (subst (λ (k : Known Item (Root g.row.C.Denot)). OnOk c.drain-answer.result ((box_knows c.seat_box-outbox.result).least ≤
     length k.seen)) (sym c.into_seat.ensures.knows) c.drain-answer.ensures.covers)
+
+pub returns-then-is_err-clause-failed : goal.returns-then-is_err-clause-failed
+returns-then-is_err-clause-failed g c = on_error c.args.sent.answer refl
+
+pub returns-clause-failed : goal.returns-clause-failed
+returns-clause-failed g c = off_error _ c.args.sent.answer (sym c.is_err.ensures.value ∙ c.if-is_err.false)

@@ -6,15 +6,15 @@ use Rattle.till_calls.specs.Mark.{sight_by}
 use Rattle.till_calls.specs.Root.{Root}
 use Rattle.till_calls.specs.Seat.{box_knows}
 use Rattle.till_calls.specs.Shop.{seat_knows}
-use Rattle.sender_session.specs.Kinds.{agency_desk, agency_kind}
+use Rattle.sender_session.specs.Kinds.{agency_state_of, agency_kind}
 use Rattle.sender_session.specs.Session.{SendsOn}
 use Rattle.sender_beside.proofs.sending.send_part.Goals as goal
 
 pub returns-clause-sends : goal.returns-clause-sends
 returns-clause-sends g c =
     let kind = agency_kind g.G.Agency in
-    let old = agency_desk g.G.Agency c.args.agency in
-    let new = agency_desk g.G.Agency c.send_until-answer.new.agency in
+    let old = agency_state_of g.G.Agency c.args.agency in
+    let new = agency_state_of g.G.Agency c.send_until-answer.new.agency in
     let answer = c.send_until-answer.result in
     let sender = c.send_until-answer.new.sender in
     let boxed = c.seat_box-outbox.result in

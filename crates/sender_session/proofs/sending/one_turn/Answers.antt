@@ -1,7 +1,7 @@
 use Rattle.std.proofs.Common.{inl, inr, sym, subst, Result}
 use Rattle.sender.specs.declared.answers.DrainFault.{DrainFault}
-use Rattle.sender_session.specs.Kinds.{agency_desk, agency_kind}
-use Rattle.sender_session.specs.Session.{SendsOn}
+use Rattle.sender_session.specs.Kinds.{agency_state_of, agency_kind}
+use Rattle.sender_session.specs.Session.{IsUndelivered, SendsOn}
 use Rattle.sender_session.proofs.Clear.{turn_before}
 use Rattle.sender_session.proofs.Contrary.{turn_answers, turn_shows}
 use Rattle.sender_session.proofs.Noting.{turn_notes}
@@ -16,8 +16,8 @@ returns-clause-fixed g c = c.turn-answer.ensures.above.fixed
 pub returns-clause-sends : goal.returns-clause-sends
 returns-clause-sends g c =
     let kind = agency_kind g.G.Agency in
-    let old = agency_desk g.G.Agency c.args.agency.now in
-    let new = agency_desk g.G.Agency c.turn-answer.new.agency in
+    let old = agency_state_of g.G.Agency c.args.agency.now in
+    let new = agency_state_of g.G.Agency c.turn-answer.new.agency in
     let before = g.O.Outbox.sight c.args.outbox.now in
     let after = g.O.Outbox.sight c.turn-answer.new.outbox in
     let answer = c.turn-answer.result in
@@ -49,3 +49,8 @@ returns-clause-sends g c =
       gives_up = λ tells n r is. absurd (never_gives_up answer n r is);
       gave_up = λ is. absurd (never_gives_up answer is.0 is.1 is.2);
     })
+
+pub returns-clause-never : goal.returns-clause-never
+returns-clause-never g c = λ is.
+    let told = subst (λ (r : Result (Unit {0}) DrainFault). IsUndelivered r) c.going_on.ensures is in
+    never_gives_up c.turn-answer.result told.0 told.1 told.2

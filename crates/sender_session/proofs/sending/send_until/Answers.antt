@@ -1,4 +1,6 @@
-use Rattle.std.proofs.Common.{◌∙◌, refl}
+use Rattle.std.proofs.Common.{◌∙◌, Result, refl, subst, sym}
+use Rattle.sender.specs.declared.answers.DrainFault.{DrainFault}
+use Rattle.sender_session.specs.Session.{IsUndelivered}
 use Rattle.sender_session.proofs.Turns.{sends_after, sends_none}
 use Rattle.sender_session.proofs.sending.send_until.Goals as goal
 
@@ -15,3 +17,7 @@ loop-preserved g c = record {
 
 pub returns-in-Err-clause-sends : goal.returns-in-Err-clause-sends
 returns-in-Err-clause-sends g c = sends_after c.in-Err.is c.loop.invariant.sends c.one_turn.ensures.sends
+
+pub returns-in-Err-clause-never : goal.returns-in-Err-clause-never
+returns-in-Err-clause-never g c = λ is.
+    c.one_turn.ensures.never (subst (λ (r : Result (Unit {0}) DrainFault). IsUndelivered r) (sym c.in-Err.is) is)

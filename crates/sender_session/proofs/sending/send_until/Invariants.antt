@@ -1,5 +1,5 @@
 use Rattle.std.specs.Prelude.{◌≡◌, Ok}
-use Rattle.sender_session.specs.Kinds.{agency_desk, agency_kind}
+use Rattle.sender_session.specs.Kinds.{agency_state_of, agency_kind}
 use Rattle.sender_session.specs.Session.{SendsOn}
 use Rattle.sender_session.proofs.sending.send_until.Given as goal
 
@@ -11,5 +11,5 @@ invariant-loop g l = record {
   fixed : g.O.Outbox.fixed l.outbox ≡ g.O.Outbox.fixed l.fn.outbox;
   sends : SendsOn (agency_kind g.G.Agency) (g.O.Outbox.sight l.fn.outbox)
       (g.O.Outbox.sight l.outbox)
-      (agency_desk g.G.Agency l.fn.agency) (agency_desk g.G.Agency l.agency) l.fn.sender l.sender (Ok tt);
+      (agency_state_of g.G.Agency l.fn.agency) (agency_state_of g.G.Agency l.agency) l.fn.sender l.sender (Ok tt);
 }

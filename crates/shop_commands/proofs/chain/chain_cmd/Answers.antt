@@ -18,7 +18,7 @@ returns-in-Ok-clause-ends g c =
     let devices : Devices g.row.D.Denot g.row.C.Denot = record {
       source = this_source g.S.Source.left g.S.Source.faults c.args.source.now c.read_source.new.source;
       sink = this_sink g.K.Sink.taken g.K.Sink.faults c.args.sink.now run.new.sink;
-      disk = this_disk g.D.Disk.tells g.D.Disk.told g.D.Disk.faults c.args.disk run.result.1;
+      disk = this_disk g.D.Disk.tells g.D.Disk.on_disk g.D.Disk.faults c.args.disk run.result.1;
       clock = this_clock g.C.Clock.coming c.args.clock run.result.2;
     } in
     subst (λ (d : Detail). ChainEnds issuer devices d) (sym c.of-in-Ok.ensures.detail)
@@ -30,7 +30,7 @@ returns-in-Err-clause-ends g c =
     let devices : Devices g.row.D.Denot g.row.C.Denot = record {
       source = this_source g.S.Source.left g.S.Source.faults c.args.source.now c.read_source.new.source;
       sink = this_sink g.K.Sink.taken g.K.Sink.faults c.args.sink.now c.args.sink.now;
-      disk = this_disk g.D.Disk.tells g.D.Disk.told g.D.Disk.faults c.args.disk c.args.disk;
+      disk = this_disk g.D.Disk.tells g.D.Disk.on_disk g.D.Disk.faults c.args.disk c.args.disk;
       clock = this_clock g.C.Clock.coming c.args.clock c.args.clock;
     } in
     subst (λ (d : Detail). ChainEnds issuer devices d) (sym (c.of.ensures.detail ∙ c.detail.ensures))

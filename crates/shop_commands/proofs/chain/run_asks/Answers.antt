@@ -10,6 +10,7 @@ use Rattle.chain_store.specs.Clocks.{this_clock}
 use Rattle.chain_store.specs.Readings.{IsAsked, readings}
 use Rattle.shop_commands.proofs.ChainEnding.{not_asked, store_ran}
 use Rattle.command_ends.proofs.RunEnding.{not_opened}
+use Rattle.shop_drain.proofs.Finishing.{found_since}
 use Rattle.shop_commands.proofs.chain.run_asks.Goals as goal
 
 pub returns-in-Err : goal.returns-in-Err
@@ -33,12 +34,12 @@ returns-in-Ok g c =
     let store = c.in-Ok.store in
     let after = c.run_opened.result.2 in
     let coming = g.C.Clock.coming in
-    let told = g.D.Disk.told in
+    let on_disk = g.D.Disk.on_disk in
     let faults = g.D.Disk.faults in
     let issuer = c.args.issuer.now in
     let asks = c.args.asks.now in
     let sink = this_sink g.K.Sink.taken g.K.Sink.faults c.args.sink.now c.run_opened.new.sink in
-    let disk = this_disk g.D.Disk.tells told faults c.args.disk c.run_opened.result.1 in
+    let disk = this_disk g.D.Disk.tells on_disk faults c.args.disk c.run_opened.result.1 in
     let h = c.run_opened.ensures in
     let span : Stores g.row.D.Denot g.row.C.Denot = record {
       issuer = (state_of store).issuer;
@@ -46,16 +47,18 @@ returns-in-Ok g c =
       start = (state_of store).entries;
       end = h.0;
       tells = g.D.Disk.tells;
-      since = told (disk_of (journal_of store));
-      now = told c.run_opened.result.1;
+      since = on_disk (disk_of (journal_of store));
+      now = on_disk c.run_opened.result.1;
       faults = faults (disk_of (journal_of store));
       faults_after = faults c.run_opened.result.1;
-      disk = this_disk g.D.Disk.tells told faults (disk_of (journal_of store)) c.run_opened.result.1;
+      disk = this_disk g.D.Disk.tells on_disk faults (disk_of (journal_of store)) c.run_opened.result.1;
       clock = this_clock coming (clock_of store) after;
     } in
     let opened = c.in-Ok.ensures in
     let run = store_ran issuer asks h.1.0 span sink disk c.run_opened.result.0 opened.issuer refl refl refl
-    opened.later opened.found opened.any_moment
+    opened.later opened.found
+    (λ says. found_since c.a_file_has_one_meaning.ensures.not_begun (state_of store).version issuer (state_of store).entries
+    (on_disk c.args.disk) (on_disk (disk_of (journal_of store))) (opened.found says) (opened.any_moment says) (opened.unwritten says))
     (λ v n es f. record {
       found = f.found;
       left = f.left;

@@ -19,7 +19,7 @@ returns-in-Some g c =
     let own : ℕ → Option ℕ = λ k. Some (counting c.new-own.result.next c.new-own.result.step k) in
     let end = c.run_asks-detail.result.0 in
     let sink = this_sink g.K.Sink.taken g.K.Sink.faults c.args.sink.now c.run_asks-detail.new.sink in
-    let disk = this_disk g.D.Disk.tells g.D.Disk.told g.D.Disk.faults c.args.disk c.run_asks-detail.result.1 in
+    let disk = this_disk g.D.Disk.tells g.D.Disk.on_disk g.D.Disk.faults c.args.disk c.run_asks-detail.result.1 in
     let ends = script_by issuer c.as_slice.result.now own (readings_of (Some line) (coming c.args.clock)) _
     (LeavesClock clock (Some line)) sink disk end
     c.new-own.ensures (λ replies left. refl) c.run_asks-detail.ensures in
@@ -36,7 +36,7 @@ returns-in-None g c =
     let asks = c.args.script.now.asks in
     let end = c.run_asks.result.0 in
     let sink = this_sink g.K.Sink.taken g.K.Sink.faults c.args.sink.now c.run_asks.new.sink in
-    let disk = this_disk g.D.Disk.tells g.D.Disk.told g.D.Disk.faults c.args.disk c.run_asks.result.1 in
+    let disk = this_disk g.D.Disk.tells g.D.Disk.on_disk g.D.Disk.faults c.args.disk c.run_asks.result.1 in
     subst (λ (l : Option (ℕ × ℕ)). ScriptEnds issuer asks (readings_of l (coming c.args.clock)) (LeavesClock clock l) sink disk
     end) (sym c.in-None.is)
     (subst (λ (xs : List Asked). ScriptEnds issuer xs (coming c.args.clock) (λ replies. IsAsked clock (readings replies)) sink

@@ -5,7 +5,7 @@ use Rattle.shop_commands.specs.SenderEnds.{DayRunEnds}
 use Rattle.shop_commands.specs.SenderEnds.DayRunEnds.{done, write_fault, disk_fault, no_memory}
 use Rattle.chain_store.specs.Replies.{is_disk_fault, is_no_memory}
 use Rattle.sender_beside.specs.Days.{all_replies}
-use Rattle.shop_day.specs.Jobs.{told_in}
+use Rattle.shop_day.specs.TillJobs.{told_in}
 use Rattle.command_ends.proofs.Bytewise.{part_of_output}
 use Rattle.shop_commands.proofs.DayTexts.{any_reply, sender_ends}
 use Rattle.command_ends.proofs.RunEnding.{all_replied, written_either, written_whole, written_part}

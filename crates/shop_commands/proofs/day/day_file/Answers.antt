@@ -11,17 +11,18 @@ use Rattle.shop_core.specs.Answer.Requests.{Asked}
 use Rattle.till_calls.specs.Root.{Parts, Root, parts_of, root_of}
 use Rattle.shop_commands.specs.SenderEnds.{DayRunEnds}
 use Rattle.shop_drain.specs.Opening.{IsUnbegun}
+use Rattle.sender_beside.specs.Behind.{DrainsBehind, scene_in}
 use Rattle.sender_beside.specs.Days.{all_replies, shop_day}
 use Rattle.shop_commands.specs.Day.{day_text}
-use Rattle.sender_session.specs.Kinds.{agency_desk, agency_kind, store_kind}
+use Rattle.sender_session.specs.Kinds.{agency_state_of, agency_kind, store_kind}
 use Rattle.shop_drain.specs.Devices.{agency_in, sleeper_in}
 use Rattle.shop_drain.specs.Draining.{OpensSession}
 use Rattle.sender_beside.specs.Tills.{DayRun, has_asks, tills_of}
-use Rattle.shop_day.specs.Jobs.{told_in}
+use Rattle.shop_day.specs.TillJobs.{told_in}
 use Rattle.shop_day.specs.declared.tills.TillDay.{TillDay}
 use Rattle.shop_commands.proofs.DayEnding.{day_done}
 use Rattle.shop_commands.proofs.ShopDays.{ShopDid, day_facts, not_asked}
-use Rattle.shop_day.proofs.Jobs.{same_numbers}
+use Rattle.shop_day.proofs.TillJobs.{same_numbers}
 use Rattle.command_ends.proofs.RunEnding.{not_opened}
 use Rattle.sender_beside.proofs.TillDays.{distinct, filter_at_most, pairs_of, within}
 use Rattle.shop_commands.proofs.day.day_file.Goals as goal
@@ -74,9 +75,9 @@ returns-in-Err-begin g c =
     let left = c.in-Err-begin.ensures.refused in
     let then = c.close.result in
     let kind = agency_kind g.G.Agency in
-    let Begins : g.row.G.Denot → g.row.G.Denot → Type 0 = λ x y. IsUnbegun kind (agency_desk g.G.Agency x) (agency_desk g.G.Agency y)
-    ⊎ OpensSession kind g.G.Agency.begun c.args.script.now.plan (parts_of o.store).state.entries (agency_desk g.G.Agency x)
-    (agency_desk g.G.Agency y) in
+    let Begins : g.row.G.Denot → g.row.G.Denot → Type 0 = λ x y. IsUnbegun kind (agency_state_of g.G.Agency x) (agency_state_of g.G.Agency y)
+    ⊎ OpensSession kind g.G.Agency.begun c.args.script.now.plan (parts_of o.store).state.entries (agency_state_of g.G.Agency x)
+    (agency_state_of g.G.Agency y) in
     inr (inr (inl (not_asked (store_kind g.D.Disk g.C.Clock) c.args.issuer.now c.args.script.now.asks c.args.script.now.plan
     out.disk then.disk out.clock then.clock (sleeper_in g.Z.Sleeper out then) (agency_in g.G.Agency out then) (parts_of o.store)
     (this_sink g.K.Sink.taken g.K.Sink.faults c.args.sink.now c.args.sink.now) h
@@ -112,14 +113,22 @@ returns-in-Ok-begin g c =
     let sink = this_sink g.K.Sink.taken g.K.Sink.faults c.args.sink.now c.print_day-detail.new.sink in
     let end = c.print_day-detail.result in
     let Ran : List Asked → Root g.row.C.Denot → g.row.G.Denot → Type 0 = λ q r y. DayRun (store_kind g.D.Disk g.C.Clock) r new
-    (shop_day g.C.Clock.coming q r new tills kind (agency_desk g.G.Agency b.agency) (agency_desk g.G.Agency y) served.answer) in
+    (shop_day g.C.Clock.coming q r new tills kind (agency_state_of g.G.Agency b.agency) (agency_state_of g.G.Agency y) served.answer) in
     let same : asks ≡ script.asks = c.as_slice-asks.ensures in
-    let run : Ran script.asks (root_of g.D.Disk.told g.D.Disk.faults p0) then.agency =
-    subst (λ (q : List Asked). Ran q (root_of g.D.Disk.told g.D.Disk.faults p0) then.agency) same
-    (subst (λ (y : g.row.G.Denot). Ran asks (root_of g.D.Disk.told g.D.Disk.faults p0) y) (sym c.close-in-Ok-begin.ensures.rest.1)
+    let run : Ran script.asks (root_of g.D.Disk.on_disk g.D.Disk.faults p0) then.agency =
+    subst (λ (q : List Asked). Ran q (root_of g.D.Disk.on_disk g.D.Disk.faults p0) then.agency) same
+    (subst (λ (y : g.row.G.Denot). Ran asks (root_of g.D.Disk.on_disk g.D.Disk.faults p0) y) (sym c.close-in-Ok-begin.ensures.rest.1)
     (subst (λ (r : Root g.row.C.Denot). Ran asks r served.opened.agency) begun.shop.root c.run_day-opened.ensures.day)) in
     let opens = subst (λ (x : g.row.G.Denot). OpensSession kind g.G.Agency.begun script.plan p0.state.entries
-    (agency_desk g.G.Agency x) (agency_desk g.G.Agency b.agency)) k.kept.1 begun.session in
+    (agency_state_of g.G.Agency x) (agency_state_of g.G.Agency b.agency)) k.kept.1 begun.session in
+    let behind = subst (λ (y : g.row.G.Denot). DrainsBehind kind (agency_state_of g.G.Agency b.agency) (agency_state_of g.G.Agency y)
+    served.answer) (sym c.close-in-Ok-begin.ensures.rest.1) (record {
+      exact = g.Z.Sleeper.tells;
+      met = scene_in (agency_state_of g.G.Agency) g.Z.Sleeper.moment served.met.value;
+      left = scene_in (agency_state_of g.G.Agency) g.Z.Sleeper.moment served.left.value;
+      beside = served.met.value.answer;
+      sends = c.run_day-opened.ensures.behind;
+    }) in
     let ends : DayRunEnds (all_replies tills) served.answer (length (noted new.state.entries)) (length (recs new.state.entries))
     (day_text asks tills new.state.entries) sink end =
     subst (λ (h : History). DayRunEnds (all_replies tills) served.answer (length (noted h.entries)) (length (recs h.entries))
@@ -127,20 +136,21 @@ returns-in-Ok-begin g c =
     (subst (λ (l : List TillDay). DayRunEnds (all_replies (map told_in l)) served.answer
     (length (noted c.state.result.now.entries)) (length (recs c.state.result.now.entries)) (day_text asks (map told_in l)
     c.state.result.now.entries) sink end) c.deref-in-Ok-begin.ensures.value c.print_day-detail.ensures) in
-    let did : ShopDid (store_kind g.D.Disk g.C.Clock) script.asks kind (agency_desk g.G.Agency b.agency)
-    (agency_desk g.G.Agency then.agency) p0 then.disk then.clock = record {
+    let did : ShopDid (store_kind g.D.Disk g.C.Clock) script.asks kind (agency_state_of g.G.Agency b.agency)
+    (agency_state_of g.G.Agency then.agency) p0 then.disk then.clock = record {
       new = new;
       tills = tills;
       answer = served.answer;
       disk = c.close-in-Ok-begin.ensures.disk;
       clock = c.close-in-Ok-begin.ensures.clock;
       run = run;
+      behind = behind;
       linked = c.legal_is_chained.ensures.linked p0.state.version issuer new.state.entries run.sound.legal;
       rising = λ till. c.legal_is_chained.ensures.rising p0.state.version issuer new.state.entries till run.sound.legal;
     } in
     let facts = day_facts (store_kind g.D.Disk g.C.Clock) c.args.issuer.now script.asks script.plan out.disk then.disk out.clock
     then.clock (sleeper_in g.Z.Sleeper out then) (agency_in g.G.Agency out then) p0 sink h
-    c.what_a_disk_reads_is_an_image.ensures c.who_keeps_the_rules_tells.ensures (agency_desk g.G.Agency b.agency) opens did in
+    c.what_a_disk_reads_is_an_image.ensures c.who_keeps_the_rules_tells.ensures (agency_state_of g.G.Agency b.agency) opens did in
     inr (inr (inr (day_done c.args.issuer.now script _ _ facts end
     (same_numbers days ∙ c.run_day-opened.ensures.same ∙ c.in-Ok.ensures.tills ∙ ap tills_of same)
     (subst (λ (q : List Asked). DayRunEnds (all_replies tills) served.answer (length (noted new.state.entries))

@@ -1,7 +1,7 @@
 use Rattle.std.proofs.Common.{◌≡◌, map, take}
 use Rattle.std.specs.List.{flat_map}
 use Rattle.shop_commands.specs.Day.{till_lines}
-use Rattle.shop_day.specs.Jobs.{told_in}
+use Rattle.shop_day.specs.TillJobs.{told_in}
 use Rattle.shop_commands.proofs.day.day_lines.Given as goal
 
 abbrev pub invariant-loop-day : goal.invariant-loop-day

@@ -6,7 +6,7 @@ use Rattle.shop_commands.specs.SenderEnds.{DayRunEnds}
 use Rattle.shop_commands.specs.SenderEnds.DayRunEnds.{no_memory}
 use Rattle.shop_commands.specs.Day.{day_text}
 use Rattle.sender_beside.specs.Days.{all_replies}
-use Rattle.shop_day.specs.Jobs.{told_in}
+use Rattle.shop_day.specs.TillJobs.{told_in}
 use Rattle.shop_commands.proofs.day.print_day.Goals as goal
 
 pub returns-in_default : goal.returns-in_default

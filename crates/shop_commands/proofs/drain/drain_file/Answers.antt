@@ -6,7 +6,7 @@ use Rattle.ports.specs.Sinks.{this_sink}
 use Rattle.till_calls.specs.Root.{parts_of}
 use Rattle.till_calls.specs.Sound.{IsLater}
 use Rattle.chain_store.specs.Crashes.{StandsUpTo}
-use Rattle.sender_session.specs.Kinds.{agency_desk, agency_kind}
+use Rattle.sender_session.specs.Kinds.{agency_state_of, agency_kind}
 use Rattle.shop_drain.specs.Devices.{agency_in, disk_in}
 use Rattle.shop_drain.specs.Draining.{StoreDrains, disk_span, spanning}
 use Rattle.shop_drain.specs.Outcomes.{outcome_of}
@@ -42,7 +42,7 @@ returns-in-Ok g c =
     let version = (state_of store).version in
     let Drains : g.row.D.Denot → g.row.G.Denot → g.row.G.Denot → g.row.Z.Denot → Type 0 = λ d x y z.
     StoreDrains (StandsUpTo version issuer) g.G.Agency.begun c.args.plan.now version issuer
-    (disk_span g.D.Disk (disk_of (journal_of store)) d) (spanning (state_of store).entries (agency_kind g.G.Agency) (agency_desk g.G.Agency x) (agency_desk g.G.Agency y)
+    (disk_span g.D.Disk (disk_of (journal_of store)) d) (spanning (state_of store).entries (agency_kind g.G.Agency) (agency_state_of g.G.Agency x) (agency_state_of g.G.Agency y)
     g.Z.Sleeper.tells (g.Z.Sleeper.moment z) (outcome_of end)) in
     let drains = subst (λ (d : g.row.D.Denot). Drains d out.agency then.agency out.sleeper) (sym c.close.ensures.disk)
     (subst (λ (y : g.row.G.Denot). Drains (disk_of (journal_of end.opened.store)) out.agency y out.sleeper)
@@ -53,7 +53,7 @@ returns-in-Ok g c =
     record {
       ends = inr (opened_drained c.args.issuer.now issuer version c.args.plan.now g.Z.Sleeper.tells
           (g.Z.Sleeper.moment out.sleeper) (this_sink g.K.Sink.taken g.K.Sink.faults c.args.sink.now c.print_turns-detail.new.sink) (disk_in g.D.Disk out then)
-          (agency_in g.G.Agency out then) (state_of store).entries (g.D.Disk.told (disk_of (journal_of store)))
+          (agency_in g.G.Agency out then) (state_of store).entries (g.D.Disk.on_disk (disk_of (journal_of store)))
           (g.D.Disk.faults (disk_of (journal_of store))) c.print_turns-detail.result h.issuer_is h.found h.any_moment
           h.later (outcome_of end, drains, c.print_turns-detail.ensures));
       clock = subst (λ (x : g.row.C.Denot). IsLater g.C.Clock.coming x then.clock) h.clock_is

@@ -8,7 +8,7 @@ use Rattle.ports.specs.Sinks.{this_sink}
 use Rattle.shop_core.specs.History.{History}
 use Rattle.standby.specs.Chains.{chain_of}
 use Rattle.till_calls.specs.Root.{parts_of}
-use Rattle.sender_session.specs.Kinds.{agency_desk, agency_kind, store_kind}
+use Rattle.sender_session.specs.Kinds.{agency_state_of, agency_kind, store_kind}
 use Rattle.shop_drain.specs.Devices.{agency_in}
 use Rattle.shop_drain.specs.Draining.{disk_span, spanning}
 use Rattle.shop_commands.specs.Guard.{IsCopied, LeftUncopied}
@@ -44,7 +44,7 @@ returns-in-Err-copy_of g c =
     let then = c.close.result in
     let clock = c.close.ensures.clock ∙ h.opened.clock_is in
     let uncopied = subst (λ (h : History). LeftUncopied h.version h.issuer h.entries
-    (this_disk g.D.Disk.tells g.D.Disk.told g.D.Disk.faults c.args.copy left.disk) left.end) c.state.ensures
+    (this_disk g.D.Disk.tells g.D.Disk.on_disk g.D.Disk.faults c.args.copy left.disk) left.end) c.state.ensures
     c.in-Err-copy_of.ensures.uncopied in
     record {
       ends = inr (inl (not_copied c.args.issuer.now c.args.plan.now g.Z.Sleeper.tells (g.Z.Sleeper.moment out.sleeper)
@@ -65,7 +65,7 @@ returns-in-Ok-copy_of g c =
     let k = c.in-Ok.ensures in
     let h = k.opened in
     let standby = c.in-Ok-copy_of.standby in
-    let copied = subst (λ (h : History). IsCopied g.D.Disk.tells g.D.Disk.told g.D.Disk.faults h.version h.issuer h.entries
+    let copied = subst (λ (h : History). IsCopied g.D.Disk.tells g.D.Disk.on_disk g.D.Disk.faults h.version h.issuer h.entries
     c.args.copy standby) c.state.ensures c.in-Ok-copy_of.ensures.copied in
     let end = c.guard_opened-end.result in
     let then = c.close-in-Ok-copy_of.result in
@@ -75,7 +75,7 @@ returns-in-Ok-copy_of g c =
     let Drains : g.row.D.Denot → g.row.D.Denot → g.row.G.Denot → g.row.G.Denot → g.row.Z.Denot → Type 0 = λ d e x y z.
     GuardDrains (StandsUpTo version issuer) (StandsUpTo version issuer) g.G.Agency.begun c.args.plan.now version issuer
     (disk_span g.D.Disk (disk_of (journal_of store)) d) (disk_span g.D.Disk standby.disk e)
-    (spanning (state_of store).entries (agency_kind g.G.Agency) (agency_desk g.G.Agency x) (agency_desk g.G.Agency y)
+    (spanning (state_of store).entries (agency_kind g.G.Agency) (agency_state_of g.G.Agency x) (agency_state_of g.G.Agency y)
     g.Z.Sleeper.tells (g.Z.Sleeper.moment z) (guard_outcome end)) (held_by (chain_of end.opened.store)) (held_by end.standby) in
     let drains = subst (λ (d : g.row.D.Denot). Drains d c.into_disk.result out.agency then.agency out.sleeper)
     (sym c.close-in-Ok-copy_of.ensures.disk)

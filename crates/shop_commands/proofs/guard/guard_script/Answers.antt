@@ -16,7 +16,7 @@ returns-in_default g c =
     let run = c.guard_file in
     guard_plain c.args.issuer.now c.args.script.now
     (this_sink g.K.Sink.taken g.K.Sink.faults c.args.sink.now run.new.sink) (disk_in g.D.Disk out run.result.1)
-    (this_disk g.D.Disk.tells g.D.Disk.told g.D.Disk.faults c.args.copy run.result.2)
+    (this_disk g.D.Disk.tells g.D.Disk.on_disk g.D.Disk.faults c.args.copy run.result.2)
     (clock_in g.C.Clock out run.result.1) (sleeper_in g.Z.Sleeper out run.result.1) (agency_in g.G.Agency out run.result.1)
     run.result.0 c.in_default.is run.ensures
 
@@ -32,7 +32,7 @@ returns g c =
     let z = sleeper_in g.Z.Sleeper out back.result in
     let a = agency_in g.G.Agency out back.result in
     let k = disk_in g.D.Disk out back.result in
-    let l = this_disk g.D.Disk.tells g.D.Disk.told g.D.Disk.faults c.args.copy run.result.2 in
+    let l = this_disk g.D.Disk.tells g.D.Disk.on_disk g.D.Disk.faults c.args.copy run.result.2 in
     let sink = this_sink g.K.Sink.taken g.K.Sink.faults c.args.sink.now run.new.sink in
     let own_clock : Clocks CountingClock = this_clock (λ x i. Some (counting x.next x.step i)) own.result.0.clock
     run.result.1.clock in

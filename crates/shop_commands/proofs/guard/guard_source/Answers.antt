@@ -17,7 +17,7 @@ returns-in-Ok-clause-ends g c =
     let all = this_call (this_source g.S.Source.left g.S.Source.faults c.args.source.now c.read_source.new.source)
     (this_sink g.K.Sink.taken g.K.Sink.faults c.args.sink.now run.new.sink) g.D.Disk g.C.Clock g.Z.Sleeper g.G.Agency
     c.args.post run.result.1 in
-    let l = this_disk g.D.Disk.tells g.D.Disk.told g.D.Disk.faults c.args.copy run.result.2 in
+    let l = this_disk g.D.Disk.tells g.D.Disk.on_disk g.D.Disk.faults c.args.copy run.result.2 in
     subst (λ (d : Detail). GuardEnds c.args.issuer.now all l d) (sym c.of-in-Ok.ensures.detail)
     (ran c.in-Ok.script run.result.0 c.in-Ok.ensures run.ensures)
 
@@ -28,7 +28,7 @@ returns-in-Err-clause-ends g c =
     let all = this_call (this_source g.S.Source.left g.S.Source.faults c.args.source.now c.read_source.new.source)
     (this_sink g.K.Sink.taken g.K.Sink.faults c.args.sink.now c.args.sink.now) g.D.Disk g.C.Clock g.Z.Sleeper g.G.Agency out
     out in
-    let l = this_disk g.D.Disk.tells g.D.Disk.told g.D.Disk.faults c.args.copy c.args.copy in
+    let l = this_disk g.D.Disk.tells g.D.Disk.on_disk g.D.Disk.faults c.args.copy c.args.copy in
     subst (λ (d : Detail). GuardEnds issuer all l d) (sym (c.of.ensures.detail ∙ c.detail.ensures))
     (unread NoCommands all.devices.source (LeftAll (around all) × LeftDisk l) (λ (script : Script) (how : Detail).
     ScriptGuardEnds issuer script all.devices.sink all.devices.disk l all.devices.clock all.sleeper all.agency how) c.in-Err.fault

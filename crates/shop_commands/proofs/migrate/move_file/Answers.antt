@@ -13,8 +13,8 @@ use Rattle.shop_commands.proofs.migrate.move_file.Goals as goal
 pub returns-in-Err-clause-ends : goal.returns-in-Err-clause-ends
 returns-in-Err-clause-ends g c =
     let s = this_sink g.K.Sink.taken g.K.Sink.faults c.args.sink.now c.args.sink.now in
-    let old = this_disk g.D.Disk.tells g.D.Disk.told g.D.Disk.faults c.args.old.now c.migrate_counted.new.old in
-    let new = this_disk g.D.Disk.tells g.D.Disk.told g.D.Disk.faults c.args.new c.in-Err.fault.new in
+    let old = this_disk g.D.Disk.tells g.D.Disk.on_disk g.D.Disk.faults c.args.old.now c.migrate_counted.new.old in
+    let new = this_disk g.D.Disk.tells g.D.Disk.on_disk g.D.Disk.faults c.args.new c.in-Err.fault.new in
     subst (λ (d : Detail). MigrateEnds s old new d) (sym c.move_end.ensures)
     (not_moved c.in-Err.fault.cause c.in-Err.ensures.cause (took_nothing (g.K.Sink.taken c.args.sink.now)))
 
@@ -25,6 +25,7 @@ returns-in-Ok-migrated_text-clause-ends g c =
     c.as_slice.ensures ∙ c.in-Ok-migrated_text.ensures in
     moved c.in-Ok.moved.records c.in-Ok.moved.noted c.print.result
     (record {
+      free = c.in-Ok.ensures.free;
       counts = c.in-Ok.ensures.counts;
       every_crash = c.in-Ok.ensures.every_crash;
       reads = c.in-Ok.ensures.reads;
@@ -35,8 +36,24 @@ pub returns-in-Err-migrated_text-clause-ends : goal.returns-in-Err-migrated_text
 returns-in-Err-migrated_text-clause-ends g c =
     untold c.in-Ok.moved.records c.in-Ok.moved.noted
     (record {
+      free = c.in-Ok.ensures.free;
       counts = c.in-Ok.ensures.counts;
       every_crash = c.in-Ok.ensures.every_crash;
       reads = c.in-Ok.ensures.reads;
     })
     (took_nothing (g.K.Sink.taken c.args.sink.now))
+
+pub returns-in-Err-clause-moves : goal.returns-in-Err-clause-moves
+returns-in-Err-clause-moves g c = record { images = c.in-Err.ensures.any_moment_err; kept = c.in-Err.ensures.kept }
+
+pub returns-in-Ok-migrated_text-clause-moves : goal.returns-in-Ok-migrated_text-clause-moves
+returns-in-Ok-migrated_text-clause-moves g c = record {
+  images = c.in-Ok.ensures.any_moment;
+  kept = λ old new unfree. absurd (unfree (c.in-Ok.ensures.free old new));
+}
+
+pub returns-in-Err-migrated_text-clause-moves : goal.returns-in-Err-migrated_text-clause-moves
+returns-in-Err-migrated_text-clause-moves g c = record {
+  images = c.in-Ok.ensures.any_moment;
+  kept = λ old new unfree. absurd (unfree (c.in-Ok.ensures.free old new));
+}

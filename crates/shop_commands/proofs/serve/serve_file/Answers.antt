@@ -1,5 +1,5 @@
 use Rattle.std.proofs.Common.{◌≡◌, ◌∙◌, inl, inr, refl, ap, sym, subst}
-use Rattle.counter.specs.Speech.{ComesFirst, clock_first}
+use Rattle.dialogue_loop.specs.Speech.{ComesFirst, clock_first}
 use Rattle.file_commands.proofs.Bytewise.{took_nothing}
 use Rattle.ports.specs.Sinks.{this_sink}
 use Rattle.ports.specs.Sources.{this_source}
@@ -19,9 +19,9 @@ serve_first-detail-requires-clause-first g c κs within =
     record {
       left = left;
       faults = g.S.Source.faults c.args.source.now;
-      comes = c.hear_first-first.ensures.first left (c.in-Ok.ensures.heard left) c.in-Ok.ensures.first;
-      later = c.hear_first-first.ensures.later;
-      cause = c.hear_first-first.ensures.cause;
+      comes = c.first_action-first.ensures.first left (c.in-Ok.ensures.heard left) c.in-Ok.ensures.first;
+      later = c.first_action-first.ensures.later;
+      cause = c.first_action-first.ensures.cause;
     }
 
 pub returns-in-Err : goal.returns-in-Err
@@ -43,7 +43,7 @@ returns-in-Ok-open g c =
     let o = c.in-Ok-open.opened in
     let k = c.in-Ok-open.ensures in
     let p = parts_of o.store in
-    let first = c.hear_first-first in
+    let first = c.first_action-first in
     let run = c.serve_first-detail in
     let end = run.result.0 in
     let made = parts_of run.result.1.store in

@@ -2,7 +2,7 @@ use Rattle.std.proofs.Common.{◌≡◌, ◌∙◌, ℕ, None, Some, Option, tru
 use Rattle.chain_disk.specs.Disks.{this_disk}
 use Rattle.chain_store.specs.Clocks.{Clocks, this_clock}
 use Rattle.chain_store.specs.Store.{clock_of}
-use Rattle.counter.specs.Speech.{clock_first}
+use Rattle.dialogue_loop.specs.Speech.{clock_first}
 use Rattle.journal.specs.Journal.{disk_of}
 use Rattle.ports.specs.Counting.{counting}
 use Rattle.ports.specs.Sinks.{this_sink}
@@ -10,7 +10,7 @@ use Rattle.ports.specs.declared.memory.CountingClock.{CountingClock}
 use Rattle.ports.specs.declared.sleeper.LeapSleeper.{LeapSleeper}
 use Rattle.till_calls.specs.Root.{parts_of}
 use Rattle.shop_drain.specs.Devices.{Agencies, Sleepers, around_in}
-use Rattle.sender_session.specs.Kinds.{agency_desk, agency_kind, store_kind}
+use Rattle.sender_session.specs.Kinds.{agency_state_of, agency_kind, store_kind}
 use Rattle.shop_commands.specs.Serve.{FileServe, post_with, source_since}
 use Rattle.shop_commands.proofs.ServeEnding.{opened_with, serve_by_line}
 use Rattle.shop_commands.proofs.serve.serve_first.Goals as goal
@@ -49,20 +49,20 @@ returns g c = λ issuer disk left faults is_opened comes later cause.
       sleeper = own.result.0.sleeper;
       sleeper_after = run.result.1.sleeper;
     } in
-    let desks : g.row.G.Denot → g.row.G.Denot → Agencies g.row.G.Denot = λ x y. record {
+    let agency_stays : g.row.G.Denot → g.row.G.Denot → Agencies g.row.G.Denot = λ x y. record {
       kind = agency_kind g.G.Agency;
       begun = g.G.Agency.begun;
       agency = x;
       agency_after = y;
-      before = agency_desk g.G.Agency x;
-      after = agency_desk g.G.Agency y;
+      before = agency_state_of g.G.Agency x;
+      after = agency_state_of g.G.Agency y;
     } in
     let At : g.row.D.Denot → g.row.G.Denot → g.row.G.Denot → Type 0 = λ d x y. FileServe issuer None said sources (record {
       sink = sink;
-      disk = this_disk g.D.Disk.tells g.D.Disk.told g.D.Disk.faults disk d;
+      disk = this_disk g.D.Disk.tells g.D.Disk.on_disk g.D.Disk.faults disk d;
       clock = own_clock;
       sleeper = leap;
-      agency = desks x y;
+      agency = agency_stays x y;
     }) end in
     let opened = opened_with (store_kind g.D.Disk g.C.Clock) coming issuer disk (parts_of o.store) (parts_of own.result.0.store)
     own.ensures.store.0 (ap disk_of own.ensures.store.1) is_opened in

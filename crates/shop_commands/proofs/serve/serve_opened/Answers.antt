@@ -3,9 +3,9 @@ use Rattle.std.specs.Int.{IsInRange}
 use Rattle.std.specs.List.{list_any}
 use Rattle.agency_rules.specs.declared.plans.Plan.{Plan}
 use Rattle.chain_store.specs.Replies.{Replies, is_no_memory}
-use Rattle.counter.specs.Speech.{AreRepliesOf, IsWritten, clock_first, moment_of, moment_since}
-use Rattle.counter.specs.declared.speaking.SpeechEnd.{SpeechEnd}
-use Rattle.counter.specs.declared.speaking.SpeechEnd.TheVariants as speech
+use Rattle.dialogue_loop.specs.Speech.{AreRepliesOf, IsWritten, clock_first, moment_of, moment_since}
+use Rattle.dialogue_loop.specs.declared.speaking.SpeechEnd.{SpeechEnd}
+use Rattle.dialogue_loop.specs.declared.speaking.SpeechEnd.TheVariants as speech
 use Rattle.file_commands.proofs.Bytewise.{took_nothing}
 use Rattle.ports.specs.Sinks.{Sinks, this_sink}
 use Rattle.ports.specs.Sources.{SourceRose, Sources}
@@ -14,11 +14,12 @@ use Rattle.shop_core.specs.Answer.Requests.{Asked}
 use Rattle.shop_core.specs.History.{History, noted, recs}
 use Rattle.till_calls.specs.Root.{Root, parts_of}
 use Rattle.shop_drain.specs.Opening.{IsUnbegun}
-use Rattle.sender_session.specs.Kinds.{agency_desk, agency_kind, store_kind}
+use Rattle.sender_session.specs.Kinds.{agency_state_of, agency_kind, store_kind}
 use Rattle.shop_drain.specs.Devices.{agency_in, sleeper_in}
 use Rattle.shop_drain.specs.Draining.{OpensSession}
+use Rattle.sender_beside.specs.Behind.{DrainsBehind, scene_in}
 use Rattle.shop_commands.specs.Serve.{Closes, SpeechEnds, post_with, printed, source_since}
-use Rattle.shop_dialogue.specs.Talking.{CounterRun}
+use Rattle.shop_dialogue.specs.Dialogues.{CounterRun}
 use Rattle.shop_dialogue.proofs.AllTills.{all_within}
 use Rattle.shop_commands.proofs.ServeEnding.{came_read, not_begun, talked}
 use Rattle.shop_commands.proofs.serve.serve_opened.Goals as goal
@@ -65,8 +66,8 @@ returns-in-Err g c = λ issuer disk left faults is_opened comes later cause.
     let new = post_with then.disk then e.sleeper e.agency in
     let kind = agency_kind g.G.Agency in
     let refused = c.in-Err.ensures.refused in
-    let begun = subst (λ (q : Plan). IsUnbegun kind (agency_desk g.G.Agency o.agency) (agency_desk g.G.Agency e.agency)
-    ⊎ OpensSession kind g.G.Agency.begun q p.state.entries (agency_desk g.G.Agency o.agency) (agency_desk g.G.Agency e.agency))
+    let begun = subst (λ (q : Plan). IsUnbegun kind (agency_state_of g.G.Agency o.agency) (agency_state_of g.G.Agency e.agency)
+    ⊎ OpensSession kind g.G.Agency.begun q p.state.entries (agency_state_of g.G.Agency o.agency) (agency_state_of g.G.Agency e.agency))
     c.plain.ensures refused.2 in
     let rest = g.S.Source.left c.args.source.now in
     not_begun (store_kind g.D.Disk g.C.Clock) issuer disk p then (sleeper_in g.Z.Sleeper old new) (agency_in g.G.Agency old new)
@@ -96,23 +97,30 @@ returns-in-Ok-begin g c = λ issuer disk left faults is_opened comes later cause
     let old = post_with disk p o.sleeper o.agency in
     let new = post_with then.disk then t.opened.sleeper t.opened.agency in
     let kind = agency_kind g.G.Agency in
-    let desk = agency_desk g.G.Agency b.agency in
-    let after = agency_desk g.G.Agency t.opened.agency in
+    let agency_state = agency_state_of g.G.Agency b.agency in
+    let after = agency_state_of g.G.Agency t.opened.agency in
     let clock = clock_first c.args.first.now in
     let from = moment_since left faults (g.K.Sink.taken c.args.sink.now) (g.K.Sink.faults c.args.sink.now) in
     let now = moment_of g.S.Source.left g.S.Source.faults g.K.Sink.taken g.K.Sink.faults c.run_dialogue-opened.new.source
     c.run_dialogue-opened.new.sink in
     let h = store_kind g.D.Disk g.C.Clock in
-    let run = subst (λ (r : Root g.row.C.Denot). CounterRun h r then clock from now kind desk after t.answer t.lacked t.how)
+    let run = subst (λ (r : Root g.row.C.Denot). CounterRun h r then clock from now kind agency_state after t.answer t.lacked t.how)
     begun.shop.root (c.run_dialogue-opened.ensures.run left faults comes later cause) in
-    let opens = subst (λ (q : Plan). OpensSession kind g.G.Agency.begun q p.state.entries (agency_desk g.G.Agency o.agency) desk)
+    let opens = subst (λ (q : Plan). OpensSession kind g.G.Agency.begun q p.state.entries (agency_state_of g.G.Agency o.agency) agency_state)
     c.plain.ensures begun.session in
+    let behind : DrainsBehind kind agency_state after t.answer = record {
+      exact = g.Z.Sleeper.tells;
+      met = scene_in (agency_state_of g.G.Agency) g.Z.Sleeper.moment t.met.value;
+      left = scene_in (agency_state_of g.G.Agency) g.Z.Sleeper.moment t.left.value;
+      beside = t.met.value.answer;
+      sends = c.run_dialogue-opened.ensures.behind;
+    } in
     let closed = c.close_speech-closed.result in
     let end = c.speech_end-detail.result in
     let k = this_sink g.K.Sink.taken g.K.Sink.faults c.args.sink.now c.close_speech-closed.new.sink in
-    let written = subst (λ (v : History). IsWritten closed k (printed t.how run.speech.answers (chain_line (length (recs v.entries))
+    let written = subst (λ (v : History). IsWritten closed k (printed t.how run.speech.said.answers (chain_line (length (recs v.entries))
     (length (noted v.entries))))) c.state.ensures
-    (c.close_speech-closed.ensures.printed from.taken from.sink_faults run.speech.answers run.written run.sink_later) in
+    (c.close_speech-closed.ensures.printed from.taken from.sink_faults run.speech.said.answers run.written run.sink_later) in
     let Comes : History → Type 0 = λ v. (began : SpeechEnd) (asks : List Asked) (replies : Replies) (answers texts : List (List ℕ))
     (s : Sources) (k : Sinks) → Closes began closed → AreRepliesOf began asks replies answers → t.lacked ≡ list_any is_no_memory replies →
     (began ≡ speech.ReadFault → SourceRose s) → IsWritten closed k texts →
@@ -120,7 +128,7 @@ returns-in-Ok-begin g c = λ issuer disk left faults is_opened comes later cause
     let ends = subst (λ (v : History). Comes v) c.state-in-Ok-begin.ensures c.speech_end-detail.ensures in
     talked h issuer disk p then (sleeper_in g.Z.Sleeper old new) (agency_in g.G.Agency old new)
     (source_since left faults (g.S.Source.left c.run_dialogue-opened.new.source) (g.S.Source.faults c.run_dialogue-opened.new.source)) k clock
-    is_opened c.what_a_disk_reads_is_an_image.ensures c.who_keeps_the_rules_tells.ensures desk opens t.answer t.lacked t.how from now
-    run (c.legal_is_chained.ensures.linked p.state.version p.state.issuer then.state.entries run.run.sound.legal)
+    is_opened c.what_a_disk_reads_is_an_image.ensures c.who_keeps_the_rules_tells.ensures agency_state opens t.answer t.lacked t.how from now
+    run behind (c.legal_is_chained.ensures.linked p.state.version p.state.issuer then.state.entries run.run.sound.legal)
     (λ till. c.legal_is_chained.ensures.rising p.state.version p.state.issuer then.state.entries till run.run.sound.legal)
     closed end refl c.close_speech-closed.ensures.closes written ends

@@ -1,6 +1,6 @@
 use Rattle.std.proofs.Common.{◌≡◌, [], ◌∷◌, ◌++◌, List, ℕ, Some, inr, length, rules, sym, subst}
-use Rattle.counter.specs.Speech.{IsAnswered, IsWritten}
-use Rattle.counter.specs.declared.speaking.SpeechEnd.{SpeechEnd}
+use Rattle.dialogue_loop.specs.Speech.{IsAnswered, IsWritten}
+use Rattle.dialogue_loop.specs.declared.speaking.SpeechEnd.{SpeechEnd}
 use Rattle.ports.specs.Sinks.{Wrote}
 use Rattle.report.specs.Pieces.{chain_line}
 use Rattle.shop_core.specs.History.{noted, recs}

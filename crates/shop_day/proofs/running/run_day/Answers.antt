@@ -11,14 +11,17 @@ use Rattle.till_calls.specs.Mark.{Mark, mark_by, sight_by}
 use Rattle.till_calls.specs.Root.{Root, items_in, parts_of}
 use Rattle.till_calls.specs.Shop.{first_items, seat_knows, seat_shop, shop_root, tills_know}
 use Rattle.sender_session.specs.Session.{SendsOn}
-use Rattle.sender_session.specs.Kinds.{agency_desk, agency_kind}
+use Rattle.sender_session.specs.Kinds.{agency_state_of, agency_kind}
+use Rattle.sender_beside.specs.Behind.{scene_in}
 use Rattle.sender_beside.specs.Tills.{asks_of}
-use Rattle.shop_day.specs.Jobs.{day_of, tills_in, told_in}
+use Rattle.sender_beside.specs.declared.sending.Sent.{Sent}
+use Rattle.shop_day.specs.TillJobs.{day_of, tills_in, told_in}
 use Rattle.shop_day.specs.declared.tills.TillDay.{TillDay}
 use Rattle.sender_beside.proofs.DayRuns.{counts, ended, held_again, same_tills, shared}
-use Rattle.shop_day.proofs.Jobs.{all_turned, same_numbers}
+use Rattle.shop_day.proofs.TillJobs.{all_turned, same_numbers}
 use Rattle.sender_beside.proofs.Rows.{ran_as, distinct_of}
 use Rattle.sender_beside.proofs.Joined.{sends_beside}
+use Rattle.sender_beside.proofs.Behind.{shown_behind}
 use Rattle.sender_beside.proofs.ClosedShop.{is_stopped}
 use Rattle.shop_day.proofs.running.run_day.Goals as goal
 
@@ -66,18 +69,18 @@ returns-clause-day g c =
     let seat = seat_knows c.args.begun.started.seat in
     let then = seat_knows c.drain_rest-rest.result.seat in
     let kind = agency_kind g.G.Agency in
-    let opened = agency_desk g.G.Agency c.args.begun.agency in
-    let after = agency_desk g.G.Agency c.drain_rest-rest.result.agency in
+    let opened = agency_state_of g.G.Agency c.args.begun.agency in
+    let after = agency_state_of g.G.Agency c.drain_rest-rest.result.agency in
     let answer = c.drain_rest-rest.result.answer in
     let told = map told_in c.hand_in.new.days.items in
     let sends = c.drain_rest-rest.ensures.sends _ _ _ (subst (λ (s : Sight). SendsOn kind (sight_by seat) s opened
-    (agency_desk g.G.Agency c.tills_beside-sent.result.agency) fresh c.tills_beside-sent.result.sender c.tills_beside-sent.result.answer)
+    (agency_state_of g.G.Agency c.tills_beside-sent.result.agency) fresh c.tills_beside-sent.result.sender c.tills_beside-sent.result.answer)
     (sym (ap (λ (k : Known Item (Root g.row.C.Denot)). sight_by k) c.hand_in.ensures.seat.1)) c.tills_beside-sent.ensures.sends) in
-    let h = shared g.D.Disk.tells g.D.Disk.told g.D.Disk.faults g.C.Clock.coming c.args.asks.now p (shop_root shop)
+    let h = shared g.D.Disk.tells g.D.Disk.on_disk g.D.Disk.faults g.C.Clock.coming c.args.asks.now p (shop_root shop)
     (first_items shop) (tills_in c.args.room.days.items) told (tills_know c.args.begun.started.tills)
     (tills_know c.hand_in.new.tills) seat then ran c.requires.begun.new
     c.a_till_owns_records_and_stops.ensures c.close.ensures.each c.close.ensures.begins c.close.ensures.since sends.adds in
-    ended g.D.Disk.tells g.D.Disk.told g.D.Disk.faults g.C.Clock.coming c.args.asks.now p (shop_root shop) (first_items shop)
+    ended g.D.Disk.tells g.D.Disk.on_disk g.D.Disk.faults g.C.Clock.coming c.args.asks.now p (shop_root shop) (first_items shop)
     (tills_in c.args.room.days.items) told (tills_know c.args.begun.started.tills) (tills_know c.hand_in.new.tills) seat then
     ran c.requires.begun.new kind opened after answer
     c.a_till_adds_for_no_other.ensures c.a_till_adds_what_is_taken.ensures
@@ -90,12 +93,12 @@ returns-clause-day g c =
       begins = c.close.ensures.sound.begins;
     }) (sends.stopped disk))
     c.close.ensures.sound
-    (counts g.D.Disk.tells g.D.Disk.told g.D.Disk.faults g.C.Clock.coming c.args.asks.now p (shop_root shop) (first_items shop)
+    (counts g.D.Disk.tells g.D.Disk.on_disk g.D.Disk.faults g.C.Clock.coming c.args.asks.now p (shop_root shop) (first_items shop)
     (tills_in c.args.room.days.items) told (tills_know c.args.begun.started.tills) (tills_know c.hand_in.new.tills) seat then
     ran c.requires.begun.new answer c.a_till_owns_within_what_it_knows.ensures c.who_sees_all_that_is_owned_sees_all.ensures h
     (seat_knows c.hand_in.new.seat).least c.hand_in.ensures.told c.drain_rest-rest.ensures.covers
     c.drain_rest-rest.ensures.delivered)
-    (sends_beside g.D.Disk.tells g.D.Disk.told g.D.Disk.faults g.C.Clock.coming p (shop_root shop) (first_items shop)
+    (sends_beside g.D.Disk.tells g.D.Disk.on_disk g.D.Disk.faults g.C.Clock.coming p (shop_root shop) (first_items shop)
     (tills_know c.hand_in.new.tills) seat then h c.close.ensures.sound c.requires.begun.base c.requires.begun.legal c.args.asks.now
     told kind opened after c.drain_rest-rest.result.sender answer sends c.agreement_is_kept.ensures.records
     c.a_session_begins.ensures.session c.a_session_begins.ensures.careful)
@@ -107,3 +110,12 @@ returns-clause-same g c =
     c.tills_beside-sent.ensures.ran in
     sym (same_numbers c.hand_in.new.days.items) ∙ same_tills g.C.Clock.coming c.args.asks.now (tills_in c.args.room.days.items)
     (map told_in c.hand_in.new.days.items) (tills_know c.args.begun.started.tills) (tills_know c.hand_in.new.tills) ran
+
+pub returns-clause-behind : goal.returns-clause-behind
+returns-clause-behind g c =
+    let beside = c.tills_beside-sent.ensures in
+    shown_behind {S = Sent g.row.D.Denot g.row.C.Denot g.row.G.Denot g.row.Z.Denot g.D.Disk g.C.Clock}
+    (λ x. scene_in (agency_state_of g.G.Agency) g.Z.Sleeper.moment x) (λ x. x.answer) (agency_kind g.G.Agency) g.Z.Sleeper.tells
+    (agency_state_of g.G.Agency c.args.begun.agency) (agency_state_of g.G.Agency c.drain_rest-rest.result.agency) _ _ _ _
+    c.of-met.ensures c.of-left.ensures beside.sends.says beside.sends.later beside.never c.drain_rest-rest.ensures.failed
+    c.drain_rest-rest.ensures.turns refl

@@ -6,10 +6,10 @@ use Rattle.till_calls.specs.Root.{Root}
 use Rattle.std.proofs.lemmas.List.{length_push}
 use Rattle.std.proofs.lemmas.List.Elements.{All-weaker}
 use Rattle.till_calls.specs.Shop.{numbers, seat_knows, till_knows, till_number, till_shop, tills_know, tills_shop}
-use Rattle.shop_day.specs.Jobs.{day_of, job_knows}
-use Rattle.shop_day.specs.declared.tills.Job.{Job}
+use Rattle.shop_day.specs.TillJobs.{day_of, job_knows}
+use Rattle.shop_day.specs.declared.tills.TillJob.{TillJob}
 use Rattle.shop_day.specs.declared.tills.TillDay.{TillDay}
-use Rattle.shop_day.proofs.Jobs.{all_front, take_back, told_more}
+use Rattle.shop_day.proofs.TillJobs.{all_front, take_back, told_more}
 use Rattle.shop_day.proofs.tills.hand_in.Goals as goal
 
 pub loop-job-preserved : goal.loop-job-preserved
@@ -20,7 +20,7 @@ loop-job-preserved g c =
     let last = c.in-Some.ensures.items in
     let day : TillDay = record { till = c.number-number.result; answers = job.answers; saw = job.saw } in
     let jobs : c.args.jobs.items ≡ c.pop.new.self.items ++ (job ∷ out) =
-    v.back.1 ∙ ap (λ (l : List (Job g.row.D.Denot g.row.C.Denot)). l ++ out) last ∙ append_assoc c.pop.new.self.items (job ∷ [])
+    v.back.1 ∙ ap (λ (l : List (TillJob g.row.D.Denot g.row.C.Denot)). l ++ out) last ∙ append_assoc c.pop.new.self.items (job ∷ [])
     out in
     let days = take_back day_of out job c.loop-job.days.items c.push_reserved.new.self.items day v.back.2
     c.push_reserved.ensures.items (ap (λ (n : ℕ). record day { till = n }) c.number-number.ensures.number) in
@@ -51,9 +51,9 @@ loop-job-preserved g c =
           (till_knows c.tell_seat.new.till) (omega (arith, is))
           (let e = ap (λ (k : Known Item (Root g.row.C.Denot)). k.least) c.tell_seat.ensures.knows in omega (arith, is, e))
           v.told);
-      own = All-weaker (λ (j : Job g.row.D.Denot g.row.C.Denot). till_shop j.till ≡ tills_shop c.loop-job.tills)
-          (λ (j : Job g.row.D.Denot g.row.C.Denot). till_shop j.till ≡ tills_shop c.hand_back.new.self)
+      own = All-weaker (λ (j : TillJob g.row.D.Denot g.row.C.Denot). till_shop j.till ≡ tills_shop c.loop-job.tills)
+          (λ (j : TillJob g.row.D.Denot g.row.C.Denot). till_shop j.till ≡ tills_shop c.hand_back.new.self)
           (λ j e. e ∙ sym c.hand_back.ensures.shop.0) c.pop.new.self.items
-          (all_front (λ (j : Job g.row.D.Denot g.row.C.Denot). till_shop j.till ≡ tills_shop c.loop-job.tills)
+          (all_front (λ (j : TillJob g.row.D.Denot g.row.C.Denot). till_shop j.till ≡ tills_shop c.loop-job.tills)
           c.loop-job.jobs.items c.pop.new.self.items job last v.own);
     }

@@ -1,15 +1,15 @@
 use Rattle.std.proofs.Common.{◌≡◌, ◌≤◌, ◌+◌, ◌++◌, map, vec_capacity, All, length, List}
 use Rattle.std.specs.Prelude.{reverse, vec_len}
 use Rattle.till_calls.specs.Shop.{made_tills, numbers, seat_knows, seat_shop, till_shop, tills_know, tills_shop}
-use Rattle.shop_day.specs.Jobs.{day_of, job_knows}
-use Rattle.shop_day.specs.declared.tills.Job.{Job}
+use Rattle.shop_day.specs.TillJobs.{day_of, job_knows}
+use Rattle.shop_day.specs.declared.tills.TillJob.{TillJob}
 use Rattle.shop_day.proofs.tills.hand_in.Given as goal
 
 abbrev pub invariant-loop-job : goal.invariant-loop-job
 invariant-loop-job g l = record {
   shop : tills_shop l.tills ≡ tills_shop l.fn.tills;
   made : made_tills l.tills ≡ made_tills l.fn.tills;
-  back : (out : List (Job g.row.D.Denot g.row.C.Denot)) × (l.fn.jobs.items ≡ l.jobs.items ++ out) ×
+  back : (out : List (TillJob g.row.D.Denot g.row.C.Denot)) × (l.fn.jobs.items ≡ l.jobs.items ++ out) ×
       (l.days.items ≡ reverse (map day_of out)) × (tills_know l.tills ≡ reverse (map job_knows out));
   space : vec_len l.days + vec_len l.jobs ≤ vec_capacity l.days;
   count : length (numbers l.tills) + vec_len l.jobs ≤ made_tills l.tills;

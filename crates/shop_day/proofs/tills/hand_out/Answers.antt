@@ -2,10 +2,10 @@ use Rattle.std.proofs.Common.{◌≡◌, map, List, ℕ, ap, sym, ◌∙◌, ref
 use Rattle.std.proofs.lemmas.List.{map_push, same_from_push}
 use Rattle.std.proofs.lemmas.List.Elements.{All-push}
 use Rattle.till_calls.specs.Shop.{numbers, till_knows, till_number, till_shop, tills_know, tills_shop}
-use Rattle.shop_day.specs.Jobs.{day_of, job_knows}
-use Rattle.shop_day.specs.declared.tills.Job.{Job}
+use Rattle.shop_day.specs.TillJobs.{day_of, job_knows}
+use Rattle.shop_day.specs.declared.tills.TillJob.{TillJob}
 use Rattle.shop_day.specs.declared.tills.TillDay.{TillDay}
-use Rattle.shop_day.proofs.Jobs.{put_back}
+use Rattle.shop_day.proofs.TillJobs.{put_back}
 use Rattle.shop_day.proofs.tills.hand_out.Goals as goal
 
 pub loop-day-preserved : goal.loop-day-preserved
@@ -17,7 +17,7 @@ loop-day-preserved g c =
     day.till
     (sym c.in-Some-pull.ensures.some ∙ v.numbers ∙ ap (λ (l : List TillDay). map (λ (d : TillDay). d.till) l)
     c.in-Some.ensures.items ∙ map_push (λ (d : TillDay). d.till) c.pop.new.self.items day) in
-    let job : Job g.row.D.Denot g.row.C.Denot = record { till = till; answers = day.answers; saw = day.saw } in
+    let job : TillJob g.row.D.Denot g.row.C.Denot = record { till = till; answers = day.answers; saw = day.saw } in
     record {
       shop = c.in-Some-pull.ensures.shop.0 ∙ v.shop;
       made = c.in-Some-pull.ensures.shop.1 ∙ v.made;
@@ -30,8 +30,8 @@ loop-day-preserved g c =
           c.in-Some-pull.ensures.knows v.knows;
       room = search rules;
       space = search rules;
-      own = subst (λ (l : List (Job g.row.D.Denot g.row.C.Denot)). All (λ (j : Job g.row.D.Denot g.row.C.Denot). till_shop j.till
+      own = subst (λ (l : List (TillJob g.row.D.Denot g.row.C.Denot)). All (λ (j : TillJob g.row.D.Denot g.row.C.Denot). till_shop j.till
           ≡ tills_shop c.args.tills.now) l) (sym c.push_reserved.ensures.items)
-          (All-push (λ (j : Job g.row.D.Denot g.row.C.Denot). till_shop j.till ≡ tills_shop c.args.tills.now)
+          (All-push (λ (j : TillJob g.row.D.Denot g.row.C.Denot). till_shop j.till ≡ tills_shop c.args.tills.now)
           c.loop-day.jobs.items job v.own (c.in-Some-pull.ensures.own ∙ v.shop));
     }

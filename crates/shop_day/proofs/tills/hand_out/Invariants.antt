@@ -1,7 +1,7 @@
 use Rattle.std.proofs.Common.{◌≡◌, ◌≤◌, ◌+◌, ◌++◌, map, vec_capacity, All}
 use Rattle.std.specs.Prelude.{reverse, vec_len}
 use Rattle.till_calls.specs.Shop.{made_tills, numbers, till_shop, tills_know, tills_shop}
-use Rattle.shop_day.specs.Jobs.{day_of, job_knows}
+use Rattle.shop_day.specs.TillJobs.{day_of, job_knows}
 use Rattle.shop_day.proofs.tills.hand_out.Given as goal
 
 abbrev pub invariant-loop-day : goal.invariant-loop-day

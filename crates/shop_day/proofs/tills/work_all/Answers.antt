@@ -1,9 +1,9 @@
 use Rattle.std.proofs.Common.{rules, ◌≡◌, List, length, map, ap, sym, ◌∙◌}
 use Rattle.std.specs.Prelude.{reverse, vec_len}
-use Rattle.shop_day.specs.Jobs.{day_of, job_knows, tills_in, told_in}
-use Rattle.shop_day.specs.declared.tills.Job.{Job}
+use Rattle.shop_day.specs.TillJobs.{day_of, job_knows, tills_in, told_in}
+use Rattle.shop_day.specs.declared.tills.TillJob.{TillJob}
 use Rattle.sender_beside.proofs.Rows.{ran_as}
-use Rattle.shop_day.proofs.Jobs.{ran_of}
+use Rattle.shop_day.proofs.TillJobs.{ran_of}
 use Rattle.sender_session.proofs.Lists.{written_back}
 use mir.Syntax.{erased, of_param}
 use denote.Exit.{no}
@@ -35,15 +35,15 @@ returns-clause-ran g c =
     let xs = c.deref_mut.result.now in
     let ys = c.for_each_mut.new.s in
     let all = c.args.jobs.now.items in
-    let long : length all ≡ length xs = ap (λ (l : List (Job g.row.D.Denot g.row.C.Denot)). length l)
+    let long : length all ≡ length xs = ap (λ (l : List (TillJob g.row.D.Denot g.row.C.Denot)). length l)
     (sym c.deref_mut.ensures.value) in
     let written = written_back ys all (vec_len c.args.jobs.now) (c.for_each_mut.auto.s ∙ c.deref_mut.ensures.len)
     (long ∙ c.deref_mut.ensures.len) in
     let went : xs ≡ all = c.deref_mut.ensures.value in
     ran_as g.C.Clock.coming c.args.asks.now _ _ _ _ _ _ _ _
-    (ap (λ (l : List (Job g.row.D.Denot g.row.C.Denot)). tills_in (reverse (map day_of l))) went)
-    (ap (λ (l : List (Job g.row.D.Denot g.row.C.Denot)). reverse (map job_knows l)) went)
-    (sym (ap (λ (l : List (Job g.row.D.Denot g.row.C.Denot)). map told_in (reverse (map day_of l))) written))
-    (sym (ap (λ (l : List (Job g.row.D.Denot g.row.C.Denot)). reverse (map job_knows l)) written))
+    (ap (λ (l : List (TillJob g.row.D.Denot g.row.C.Denot)). tills_in (reverse (map day_of l))) went)
+    (ap (λ (l : List (TillJob g.row.D.Denot g.row.C.Denot)). reverse (map job_knows l)) went)
+    (sym (ap (λ (l : List (TillJob g.row.D.Denot g.row.C.Denot)). map told_in (reverse (map day_of l))) written))
+    (sym (ap (λ (l : List (TillJob g.row.D.Denot g.row.C.Denot)). reverse (map job_knows l)) written))
     (ran_of g.C.Clock.coming c.args.asks.now xs ys c.for_each_mut.auto.s
     (λ i d l. let h = c.for_each_mut.ensures i d l in (search rules, search rules)))

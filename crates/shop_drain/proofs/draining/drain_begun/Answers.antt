@@ -3,7 +3,7 @@ use Rattle.till_calls.specs.Mark.{Mark, sight_by}
 use Rattle.till_calls.specs.Root.{items_in, parts_of}
 use Rattle.till_calls.specs.Seat.{box_knows}
 use Rattle.till_calls.specs.Shop.{first_items, seat_knows, shop_root, tills_know}
-use Rattle.sender_session.specs.Kinds.{agency_desk, agency_kind}
+use Rattle.sender_session.specs.Kinds.{agency_state_of, agency_kind}
 use Rattle.shop_drain.proofs.WithoutTills.{Closed, closed_from, still_held}
 use Rattle.shop_drain.proofs.Agreed.{Stored}
 use Rattle.shop_drain.proofs.NewSender.{NewDrainSays, drain_sends, drain_stops, of_new}
@@ -34,7 +34,7 @@ stored g c = record { base_is = c.requires.base; log_is = refl; begins = c.close
 
 says : (g : Over) (c : goal.Joined-sender g) → NewDrainSays (agency_kind g.G.Agency) g.Z.Sleeper.tells
     (sight_by (box_knows c.seat_box-outbox.result)) (sight_by (box_knows c.drain-answer.new.outbox))
-    (agency_desk g.G.Agency c.args.begun.agency) (agency_desk g.G.Agency c.drain-answer.new.agency)
+    (agency_state_of g.G.Agency c.args.begun.agency) (agency_state_of g.G.Agency c.drain-answer.new.agency)
     (g.Z.Sleeper.moment c.args.begun.sleeper) (g.Z.Sleeper.moment c.drain-answer.new.sleeper) c.drain-answer.new.turns
     c.drain-answer.result c.drain-answer.new.self
 says g c = of_new _ _ _ _ _ _ _ _ _ _ _ c.new-sender.result c.new-turns.result c.new-sender.ensures c.new-turns.ensures (record {

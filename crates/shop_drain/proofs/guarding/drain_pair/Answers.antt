@@ -4,7 +4,7 @@ use Rattle.standby.specs.Pairs.{Both, GoOn, IsPair, Paired, both_of, items_in, s
 use Rattle.chain_lock.specs.Known.{Known}
 use Rattle.till_calls.specs.Mark.{sight_by}
 use Rattle.till_calls.specs.Root.{Root}
-use Rattle.sender_session.specs.Kinds.{agency_desk, agency_kind}
+use Rattle.sender_session.specs.Kinds.{agency_state_of, agency_kind}
 use Rattle.shop_drain.specs.Guarding.{first_torn}
 use Rattle.shop_drain.proofs.WithoutTills.{Closed}
 use Rattle.shop_drain.proofs.Agreed.{Stored}
@@ -27,17 +27,17 @@ pair_is g c = pair_by c.drain-answer.new.outbox (start g c) (present g c)
     ap (λ (q : Paired g.row.D.Denot g.row.C.Denot g.row.M.Denot). q.start) c.of-pair.ensures)
     (sym c.into_parts-store.ensures.parts)
 
-is_pair : (g : Over) (c : goal.Joined-sender g) → IsPair g.D.Disk.tells g.D.Disk.told g.D.Disk.faults g.M.Disk.tells
-    g.M.Disk.told g.M.Disk.faults (start g c) (present g c)
-is_pair g c = subst (λ (q : Both g.row.D.Denot g.row.C.Denot g.row.M.Denot). IsPair g.D.Disk.tells g.D.Disk.told g.D.Disk.faults
-    g.M.Disk.tells g.M.Disk.told g.M.Disk.faults q (present g c))
+is_pair : (g : Over) (c : goal.Joined-sender g) → IsPair g.D.Disk.tells g.D.Disk.on_disk g.D.Disk.faults g.M.Disk.tells
+    g.M.Disk.on_disk g.M.Disk.faults (start g c) (present g c)
+is_pair g c = subst (λ (q : Both g.row.D.Denot g.row.C.Denot g.row.M.Denot). IsPair g.D.Disk.tells g.D.Disk.on_disk g.D.Disk.faults
+    g.M.Disk.tells g.M.Disk.on_disk g.M.Disk.faults q (present g c))
     (ap (λ (q : Paired g.row.D.Denot g.row.C.Denot g.row.M.Denot). q.start) (pair_is g c)) c.into_parts-store.ensures.pair
 
 pub returns-clause-pair : goal.returns-clause-pair
 returns-clause-pair g c = is_pair g c
 
 abbrev root : (g : Over) (c : goal.Joined-sender g) → Root g.row.C.Denot
-root g c = paired_root g.D.Disk.told g.D.Disk.faults (start g c)
+root g c = paired_root g.D.Disk.on_disk g.D.Disk.faults (start g c)
 
 abbrev first : (g : Over) (c : goal.Joined-sender g) → Known Item (Root g.row.C.Denot)
 first g c = seat_first (root g c) (first_of (start g c))
@@ -49,18 +49,18 @@ going_on : (g : Over) (c : goal.Joined-sender g) → GoOn (start g c)
 going_on g c = record { shop = c.requires.going_on.0; standby = c.requires.going_on.1 }
 
 seen_at_first : (g : Over) (c : goal.Joined-sender g) → sight_by (first g c) ≡ sight_of c.of-pair.result
-seen_at_first g c = seen_first g.D.Disk.tells g.D.Disk.told g.D.Disk.faults g.M.Disk.tells g.M.Disk.told g.M.Disk.faults
+seen_at_first g c = seen_first g.D.Disk.tells g.D.Disk.on_disk g.D.Disk.faults g.M.Disk.tells g.M.Disk.on_disk g.M.Disk.faults
     (start g c) (present g c) (is_pair g c) (going_on g c) ∙
     ap (λ (q : Paired g.row.D.Denot g.row.C.Denot g.row.M.Denot). sight_of q) (sym c.of-pair.ensures)
 
 seen_at_last : (g : Over) (c : goal.Joined-sender g) → sight_by (last g c) ≡ sight_of c.drain-answer.new.outbox
-seen_at_last g c = seen_then g.D.Disk.tells g.D.Disk.told g.D.Disk.faults g.M.Disk.tells g.M.Disk.told g.M.Disk.faults
+seen_at_last g c = seen_then g.D.Disk.tells g.D.Disk.on_disk g.D.Disk.faults g.M.Disk.tells g.M.Disk.on_disk g.M.Disk.faults
     (start g c) (present g c) (is_pair g c) ∙
     ap (λ (q : Paired g.row.D.Denot g.row.C.Denot g.row.M.Denot). sight_of q) (sym (pair_is g c))
 
 says : (g : Over) (c : goal.Joined-sender g) → NewDrainSays (agency_kind g.G.Agency) g.Z.Sleeper.tells
-    (sight_by (first g c)) (sight_by (last g c)) (agency_desk g.G.Agency c.args.opened.agency)
-    (agency_desk g.G.Agency c.drain-answer.new.agency) (g.Z.Sleeper.moment c.args.opened.sleeper)
+    (sight_by (first g c)) (sight_by (last g c)) (agency_state_of g.G.Agency c.args.opened.agency)
+    (agency_state_of g.G.Agency c.drain-answer.new.agency) (g.Z.Sleeper.moment c.args.opened.sleeper)
     (g.Z.Sleeper.moment c.drain-answer.new.sleeper) c.drain-answer.new.turns c.drain-answer.result c.drain-answer.new.self
 says g c = at_sights _ _ _ _ _ _ _ _ _ _ _ _ _ (seen_at_first g c) (seen_at_last g c)
     (of_new _ _ _ _ _ _ _ _ _ _ _ c.new-sender.result c.new-turns.result c.new-sender.ensures c.new-turns.ensures (record {
@@ -76,14 +76,14 @@ says g c = at_sights _ _ _ _ _ _ _ _ _ _ _ _ _ (seen_at_first g c) (seen_at_last
 
 closed : (g : Over) (c : goal.Joined-sender g) →
     Closed (first_of (start g c)) (items_in (present g c)) (root g c) [] (first g c) (last g c)
-closed g c = pair_closed g.D.Disk.tells g.D.Disk.told g.D.Disk.faults g.M.Disk.tells g.M.Disk.told g.M.Disk.faults
+closed g c = pair_closed g.D.Disk.tells g.D.Disk.on_disk g.D.Disk.faults g.M.Disk.tells g.M.Disk.on_disk g.M.Disk.faults
     (start g c) (present g c) (is_pair g c) (says g c).adds
 
 stored : (g : Over) (c : goal.Joined-sender g) →
     Stored (first_of (start g c)) (items_in (present g c)) (root g c) [] (first g c) (last g c) (closed g c) (root g c).history
     (present g c).standby.history.entries (stop_of (present g c))
     (first_torn (present g c).shop.stopped (present g c).shop.torn (present g c).standby.torn)
-stored g c = pair_stored g.D.Disk.tells g.D.Disk.told g.D.Disk.faults g.M.Disk.tells g.M.Disk.told g.M.Disk.faults
+stored g c = pair_stored g.D.Disk.tells g.D.Disk.on_disk g.D.Disk.faults g.M.Disk.tells g.M.Disk.on_disk g.M.Disk.faults
     (start g c) (present g c) (is_pair g c) (closed g c)
 
 pub returns-clause-stopped : goal.returns-clause-stopped

@@ -24,7 +24,7 @@ of-requires-clause-ready g c =
 pub returns-in-Ok-create-clause-ready : goal.returns-in-Ok-create-clause-ready
 returns-in-Ok-create-clause-ready g c =
     let parts = c.of.ensures.parts in
-    subst (λ (j : _). IsReady g.D.Disk.tells c.of.result.state (stopped_of j) (end_of j) (g.D.Disk.told (disk_of j)))
+    subst (λ (j : _). IsReady g.D.Disk.tells c.of.result.state (stopped_of j) (end_of j) (g.D.Disk.on_disk (disk_of j)))
     (sym parts.1)
     (ready_empty g.D.Disk.tells c.in-Ok.issuer c.of.result.state _ _ _ (parts.0 ∙ c.empty-state.ensures)
     c.in-Ok-create.ensures.place c.in-Ok-create.ensures.empty)

@@ -14,8 +14,8 @@ loop-index-init g c =
       held = count;
       going_on = c.requires.going_on;
       sound = c.is_sound.ensures;
-      goes = goes_same g.D.Disk.tells g.D.Disk.told g.D.Disk.faults c.args.standby.now c.is_sound.ensures;
-      follows = following_same g.D.Disk.tells g.D.Disk.told g.D.Disk.faults c.a_file_has_one_meaning.ensures.history
+      goes = goes_same g.D.Disk.tells g.D.Disk.on_disk g.D.Disk.faults c.args.standby.now c.is_sound.ensures;
+      follows = following_same g.D.Disk.tells g.D.Disk.on_disk g.D.Disk.faults c.a_file_has_one_meaning.ensures.history
           c.args.standby.now s.version s.issuer s.entries c.is_sound.ensures c.requires.issuer c.requires.version
           c.requires.going_on c.is_legal.ensures c.requires.front;
     }
@@ -48,24 +48,24 @@ loop-index-preserved g c =
       held = i.held;
       going_on = caught.0;
       sound = e.sound;
-      goes = goes_on g.D.Disk.tells g.D.Disk.told g.D.Disk.faults start old new i.goes e.goes;
-      follows = following_on g.D.Disk.tells g.D.Disk.told g.D.Disk.faults start old new c.args.state.now.entries i.follows
+      goes = goes_on g.D.Disk.tells g.D.Disk.on_disk g.D.Disk.faults start old new i.goes e.goes;
+      follows = following_on g.D.Disk.tells g.D.Disk.on_disk g.D.Disk.faults start old new c.args.state.now.entries i.follows
           e.follows;
     }
 
 pub returns-in-Err-clause-caught : goal.returns-in-Err-clause-caught
 returns-in-Err-clause-caught g c =
-    caught_up_err g.D.Disk.tells g.D.Disk.told g.D.Disk.faults c.args.standby.now c.loop-index.standby c.catch_one.new.standby
+    caught_up_err g.D.Disk.tells g.D.Disk.on_disk g.D.Disk.faults c.args.standby.now c.loop-index.standby c.catch_one.new.standby
     c.args.state.now.entries c.in-Err.fault c.loop-index.invariant.goes c.in-Err.ensures.caught
 
 pub returns-in-Err-clause-goes : goal.returns-in-Err-clause-goes
 returns-in-Err-clause-goes g c =
-    goes_on g.D.Disk.tells g.D.Disk.told g.D.Disk.faults c.args.standby.now c.loop-index.standby c.catch_one.new.standby
+    goes_on g.D.Disk.tells g.D.Disk.on_disk g.D.Disk.faults c.args.standby.now c.loop-index.standby c.catch_one.new.standby
     c.loop-index.invariant.goes c.in-Err.ensures.goes
 
 pub returns-in-Err-clause-follows : goal.returns-in-Err-clause-follows
 returns-in-Err-clause-follows g c =
-    following_on g.D.Disk.tells g.D.Disk.told g.D.Disk.faults c.args.standby.now c.loop-index.standby c.catch_one.new.standby
+    following_on g.D.Disk.tells g.D.Disk.on_disk g.D.Disk.faults c.args.standby.now c.loop-index.standby c.catch_one.new.standby
     c.args.state.now.entries c.loop-index.invariant.follows c.in-Err.ensures.follows
 
 pub returns-clause-caught : goal.returns-clause-caught

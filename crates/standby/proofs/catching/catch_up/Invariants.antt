@@ -9,7 +9,7 @@ invariant-loop-index g l = record {
   place : l.index ≡ length l.standby.history.entries;
   held : l.held ≡ length l.initial.standby.history.entries;
   going_on : l.standby.stopped ≡ None;
-  sound : IsSoundChain g.D.Disk.tells g.D.Disk.told g.D.Disk.faults l.standby;
-  goes : GoesTo g.D.Disk.tells g.D.Disk.told g.D.Disk.faults l.initial.standby l.standby;
-  follows : IsFollowing g.D.Disk.tells g.D.Disk.told l.initial.standby l.standby l.state.entries;
+  sound : IsSoundChain g.D.Disk.tells g.D.Disk.on_disk g.D.Disk.faults l.standby;
+  goes : GoesTo g.D.Disk.tells g.D.Disk.on_disk g.D.Disk.faults l.initial.standby l.standby;
+  follows : IsFollowing g.D.Disk.tells g.D.Disk.on_disk l.initial.standby l.standby l.state.entries;
 }

@@ -7,8 +7,8 @@ returns-then-not-is_word-clause-count c =
     counts_none (string_bytes {Z = Global}) c.args.words.now c.in-Some.pairs.now c.in-Some.name.now c.as_str.result.now
     c.in-Some.ensures.cases.0 c.requires c.as_str.ensures.value (sym c.is_word.ensures ∙ c.if-not-is_word.true)
 
-pub returns-then-pairs-gt16-clause-count : goal.returns-then-pairs-gt16-clause-count
-returns-then-pairs-gt16-clause-count c =
+pub returns-then-pairs-clause-count : goal.returns-then-pairs-clause-count
+returns-then-pairs-clause-count c =
     counts_past (string_bytes {Z = Global}) c.args.words.now c.in-Some.pairs.now c.in-Some.name.now c.as_str.result.now
     c.in-Some.ensures.cases.0 c.requires c.as_str.ensures.value (sym c.is_word.ensures ∙ c.if-not-is_word.false) (omega arith)
 

@@ -1,4 +1,4 @@
-use Rattle.std.proofs.Common.{◌∷◌, ◌∙◌, ◌<◌, List, ap, arith, length}
+use Rattle.std.proofs.Common.{◌∷◌, ◌∙◌, List, ap, arith}
 use Rattle.shop_drain.specs.declared.posts.Post.{Post}
 use Rattle.verifactu.proofs.ManyPromised.{front_back}
 use Rattle.verifactu.proofs.installation.outside_from.Goals as goal

@@ -3,8 +3,8 @@ use Rattle.ports.specs.Sinks.{this_sink}
 use Rattle.ports.specs.Sources.{this_source}
 use Rattle.report.specs.declared.status.Detail.{Detail}
 use Rattle.file_commands.proofs.Bytewise.{took_nothing}
-use Rattle.many.specs.Ends.{ManyEnds}
-use Rattle.many.specs.Ends.ManyEnds.{no_memory}
+use Rattle.many_issuers.specs.Ends.{ManyEnds}
+use Rattle.many_issuers.specs.Ends.ManyEnds.{no_memory}
 use Rattle.shop_drain.specs.Devices.{this_call}
 use Rattle.shop_drain.specs.declared.posts.Post.{Post}
 use Rattle.shop_commands.specs.Further.{further, own_post}

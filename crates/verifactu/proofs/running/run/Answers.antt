@@ -3,7 +3,7 @@ use Rattle.ports.specs.Sinks.{this_sink}
 use Rattle.ports.specs.Sources.{this_source}
 use Rattle.verifactu.specs.CommandLine.{AsksFor}
 use Rattle.shop_commands.specs.Further.{further, own_post}
-use Rattle.sender_session.specs.Kinds.{agency_desk}
+use Rattle.sender_session.specs.Kinds.{agency_state_of}
 use Rattle.shop_drain.specs.Devices.{this_call}
 use Rattle.verifactu.specs.declared.command_line.Command.{Command}
 use Rattle.verifactu.specs.declared.command_line.Command.TheVariants.{Follow, Many, Migrate}
@@ -22,7 +22,7 @@ returns-in-Some-clause-promise g c =
     let a = this_call (this_source g.S.Source.left g.S.Source.faults c.args.source.now c.obey_first.new.source)
     (this_sink g.K.Sink.taken g.K.Sink.faults c.args.sink.now c.obey_first.new.sink) g.D.Disk g.C.Clock g.Z.Sleeper g.G.Agency
     (own_post c.args.outside) (own_post after) in
-    promised c.legal_is_chained.ensures.linked a (λ same. ap (λ (x : g.row.G.Denot). agency_desk g.G.Agency x) same)
+    promised c.legal_is_chained.ensures.linked a (λ same. ap (λ (x : g.row.G.Denot). agency_state_of g.G.Agency x) same)
     g.D.Disk g.C.Clock g.Z.Sleeper g.G.Agency c.what_a_disk_reads_is_an_image.ensures
     c.a_file_has_one_meaning.ensures.history c.a_file_has_one_meaning.ensures.not_begun c.who_keeps_the_rules_tells.ensures
     (map (string_bytes {Z = Global}) c.args.words.now) (further c.args.outside after) c.in-Some.command
@@ -38,7 +38,7 @@ returns-in-Some-Migrate-clause-promise g c =
     let a = this_call (this_source g.S.Source.left g.S.Source.faults c.args.source.now c.args.source.now)
     (this_sink g.K.Sink.taken g.K.Sink.faults c.args.sink.now c.move_to_further.new.sink) g.D.Disk g.C.Clock g.Z.Sleeper
     g.G.Agency (own_post c.args.outside) (own_post after) in
-    promised c.legal_is_chained.ensures.linked a (λ same. ap (λ (x : g.row.G.Denot). agency_desk g.G.Agency x) same)
+    promised c.legal_is_chained.ensures.linked a (λ same. ap (λ (x : g.row.G.Denot). agency_state_of g.G.Agency x) same)
     g.D.Disk g.C.Clock g.Z.Sleeper g.G.Agency c.what_a_disk_reads_is_an_image.ensures
     c.a_file_has_one_meaning.ensures.history c.a_file_has_one_meaning.ensures.not_begun c.who_keeps_the_rules_tells.ensures
     words (further c.args.outside after) Migrate c.move_to_further.result.0.detail
@@ -60,7 +60,7 @@ returns-in-Some-Follow-clause-promise g c =
     let a = this_call (this_source g.S.Source.left g.S.Source.faults c.args.source.now c.args.source.now)
     (this_sink g.K.Sink.taken g.K.Sink.faults c.args.sink.now c.follow_by_further.new.sink) g.D.Disk g.C.Clock g.Z.Sleeper
     g.G.Agency (own_post c.args.outside) (own_post after) in
-    promised c.legal_is_chained.ensures.linked a (λ same. ap (λ (x : g.row.G.Denot). agency_desk g.G.Agency x) same)
+    promised c.legal_is_chained.ensures.linked a (λ same. ap (λ (x : g.row.G.Denot). agency_state_of g.G.Agency x) same)
     g.D.Disk g.C.Clock g.Z.Sleeper g.G.Agency c.what_a_disk_reads_is_an_image.ensures
     c.a_file_has_one_meaning.ensures.history c.a_file_has_one_meaning.ensures.not_begun c.who_keeps_the_rules_tells.ensures
     words (further c.args.outside after) Follow c.follow_by_further.result.0.detail
@@ -80,7 +80,7 @@ returns-in-None-clause-promise g c =
     let a = this_call (this_source g.S.Source.left g.S.Source.faults c.args.source.now c.args.source.now)
     (this_sink g.K.Sink.taken g.K.Sink.faults c.args.sink.now c.args.sink.now) g.D.Disk g.C.Clock g.Z.Sleeper g.G.Agency out
     out in
-    promised_nothing c.legal_is_chained.ensures.linked a (λ same. ap (λ (x : g.row.G.Denot). agency_desk g.G.Agency x) same)
+    promised_nothing c.legal_is_chained.ensures.linked a (λ same. ap (λ (x : g.row.G.Denot). agency_state_of g.G.Agency x) same)
     g.D.Disk g.C.Clock g.Z.Sleeper g.G.Agency
     (map (string_bytes {Z = Global}) c.args.words.now) (further c.args.outside c.args.outside) c.in-None.ensures refl
     (record { sleeper = refl; agency = refl }) refl
@@ -120,7 +120,7 @@ returns-in-Some-Many-clause-promise g c =
     let a = this_call (this_source g.S.Source.left g.S.Source.faults c.args.source.now c.run_issuers.new.source)
     (this_sink g.K.Sink.taken g.K.Sink.faults c.args.sink.now c.run_issuers.new.sink) g.D.Disk g.C.Clock g.Z.Sleeper
     g.G.Agency (own_post c.args.outside) (own_post after) in
-    promised c.legal_is_chained.ensures.linked a (λ same. ap (λ (x : g.row.G.Denot). agency_desk g.G.Agency x) same)
+    promised c.legal_is_chained.ensures.linked a (λ same. ap (λ (x : g.row.G.Denot). agency_state_of g.G.Agency x) same)
     g.D.Disk g.C.Clock g.Z.Sleeper g.G.Agency c.what_a_disk_reads_is_an_image.ensures
     c.a_file_has_one_meaning.ensures.history c.a_file_has_one_meaning.ensures.not_begun c.who_keeps_the_rules_tells.ensures
     words (further c.args.outside after) (Many c.as_slice.result.now) c.run_issuers.result.0.detail

@@ -17,8 +17,8 @@ returns-in_default g c =
       clock = same.1;
       added = search rules;
       same = ap (λ (h : History). h.entries) c.in_default.ensures.err;
-      any_moment = λ tells. subst (λ (j : _). LeavesOnly (g.D.Disk.told (disk_of c.args.self.now.journal))
-          (g.D.Disk.told (disk_of j)) (StandsBeforeOrWith s.version s.issuer s.entries c.args.entry)) (sym same.0)
+      any_moment = λ tells. subst (λ (j : _). LeavesOnly (g.D.Disk.on_disk (disk_of c.args.self.now.journal))
+          (g.D.Disk.on_disk (disk_of j)) (StandsBeforeOrWith s.version s.issuer s.entries c.args.entry)) (sym same.0)
           (untouched_around s _ _ c.args.entry (c.requires.ready.holds refl tells) c.is_legal.ensures);
       acknowledged = search rules;
       no_memory = search rules;

@@ -5,7 +5,7 @@ use Rattle.journal.specs.declared.faults.StoreFault.{StoreFault}
 use Rattle.ports.specs.Readings.{MovedBy}
 use Rattle.shop_core.specs.Answer.Plans.{answer}
 use Rattle.shop_core.specs.declared.answer.Reply.TheVariants as reply
-use Rattle.chain_store.proofs.Stores.{on_disk, untouched}
+use Rattle.chain_store.proofs.Stores.{leaves_its_history, untouched}
 use Rattle.chain_store.proofs.Taking.{made, not_made, told_again, told_refused}
 use Rattle.chain_store.proofs.store.Store.take_asking.Goals as goal
 
@@ -41,7 +41,7 @@ returns-in-Ok-Again g c =
           (told_again s.issuer s.entries planned c.in-Ok-Again.receipt (sym c.in-Ok-Again.ensures.answer ∙ c.in-Ok-Again.field-0-is))
           (λ tells. untouched s (end_of c.args.self.now.journal) _ (c.requires.holds going_on tells) c.is_legal.ensures);
       acknowledged = λ tells.
-          on_disk c.args.self.now.state (end_of c.args.self.now.journal) _ (c.requires.holds (sym c.in_default.ensures) tells)
+          leaves_its_history c.args.self.now.state (end_of c.args.self.now.journal) _ (c.requires.holds (sym c.in_default.ensures) tells)
           c.is_legal.ensures;
       going_on = search rules;
       nothing_taken = search rules;
@@ -66,7 +66,7 @@ returns-in-Ok-Refused g c =
           c.in-Ok-Refused.field-0-is))
           (λ tells. untouched s (end_of c.args.self.now.journal) _ (c.requires.holds going_on tells) c.is_legal.ensures);
       acknowledged = λ tells.
-          on_disk c.args.self.now.state (end_of c.args.self.now.journal) _ (c.requires.holds (sym c.in_default.ensures) tells)
+          leaves_its_history c.args.self.now.state (end_of c.args.self.now.journal) _ (c.requires.holds (sym c.in_default.ensures) tells)
           c.is_legal.ensures;
       going_on = search rules;
       nothing_taken = search rules;

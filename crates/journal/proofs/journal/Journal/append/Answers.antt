@@ -5,41 +5,41 @@ use Rattle.journal.proofs.journal.Journal.append.Goals as goal
 
 pub returns-in-Ok-clause-content : goal.returns-in-Ok-clause-content
 returns-in-Ok-clause-content g c = λ tells.
-    c.in-Ok.ensures.content tells ∙ ap (λ (l : List ℕ). gated (g.D.Disk.told c.args.self.now.disk).content c.args.self.now.end 1 l)
+    c.in-Ok.ensures.content tells ∙ ap (λ (l : List ℕ). gated (g.D.Disk.on_disk c.args.self.now.disk).content c.args.self.now.end 1 l)
     (c.as_slice.ensures.value ∙ c.frame_bytes.ensures)
 
 pub returns-in-Ok-clause-acknowledged : goal.returns-in-Ok-clause-acknowledged
 returns-in-Ok-clause-acknowledged g c = λ tells version issuer bodies at.
-    (acknowledged (g.D.Disk.told c.args.self.now.disk) (g.D.Disk.told c.commit.new.disk) version issuer bodies c.args.body.now
+    (acknowledged (g.D.Disk.on_disk c.args.self.now.disk) (g.D.Disk.on_disk c.commit.new.disk) version issuer bodies c.args.body.now
     c.as_slice.result.now c.args.self.now.end c.requires.size at (c.as_slice.ensures.value ∙ c.frame_bytes.ensures)
     (c.in-Ok.ensures.ok tells at.nothing_pending)).0
 
 pub returns-in-Ok-clause-every_crash : goal.returns-in-Ok-clause-every_crash
 returns-in-Ok-clause-every_crash g c = λ tells version issuer bodies at.
-    (acknowledged (g.D.Disk.told c.args.self.now.disk) (g.D.Disk.told c.commit.new.disk) version issuer bodies c.args.body.now
+    (acknowledged (g.D.Disk.on_disk c.args.self.now.disk) (g.D.Disk.on_disk c.commit.new.disk) version issuer bodies c.args.body.now
     c.as_slice.result.now c.args.self.now.end c.requires.size at (c.as_slice.ensures.value ∙ c.frame_bytes.ensures)
     (c.in-Ok.ensures.ok tells at.nothing_pending)).1
 
 pub returns-in-Ok-clause-any_moment : goal.returns-in-Ok-clause-any_moment
 returns-in-Ok-clause-any_moment g c = λ going tells version issuer bodies at.
-    any_moment (g.D.Disk.told c.args.self.now.disk) (g.D.Disk.told c.commit.new.disk) version issuer bodies c.args.body.now
+    any_moment (g.D.Disk.on_disk c.args.self.now.disk) (g.D.Disk.on_disk c.commit.new.disk) version issuer bodies c.args.body.now
     c.as_slice.result.now c.args.self.now.end c.requires.size at (c.as_slice.ensures.value ∙ c.frame_bytes.ensures)
     (c.commit.ensures.any_moment tells at.nothing_pending)
 
 pub invariant_of-self : goal.invariant_of-self
 invariant_of-self g c = record {
   ready = λ going tells.
-      ready_after (g.D.Disk.told c.args.self.now.disk) (g.D.Disk.told c.commit.new.disk) c.args.body.now c.as_slice.result.now
+      ready_after (g.D.Disk.on_disk c.args.self.now.disk) (g.D.Disk.on_disk c.commit.new.disk) c.args.body.now c.as_slice.result.now
       c.args.self.now.end c.requires.size (c.as_slice.ensures.value ∙ c.frame_bytes.ensures)
       (c.args.self.now.ready going tells) (c.in-Ok.ensures.ok tells);
 }
 
 pub commit-requires-clause-within : goal.commit-requires-clause-within
-commit-requires-clause-within g c = λ tells. within (g.D.Disk.told c.args.self.now.disk) c.args.self.now.end
+commit-requires-clause-within g c = λ tells. within (g.D.Disk.on_disk c.args.self.now.disk) c.args.self.now.end
     (c.args.self.now.ready c.in_default.is tells)
 
 pub returns-in-Err-clause-any_moment : goal.returns-in-Err-clause-any_moment
 returns-in-Err-clause-any_moment g c = λ going tells version issuer bodies at.
-    any_moment (g.D.Disk.told c.args.self.now.disk) (g.D.Disk.told c.commit.new.disk) version issuer bodies c.args.body.now
+    any_moment (g.D.Disk.on_disk c.args.self.now.disk) (g.D.Disk.on_disk c.commit.new.disk) version issuer bodies c.args.body.now
     c.as_slice.result.now c.args.self.now.end c.requires.size at (c.as_slice.ensures.value ∙ c.frame_bytes.ensures)
     (c.commit.ensures.any_moment tells at.nothing_pending)

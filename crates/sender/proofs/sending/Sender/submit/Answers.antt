@@ -52,8 +52,8 @@ returns-then-not-are_of-clause-ends g c =
     (unanswered_is c.args.self.now c.args.now c.self.inside.at_pace c.sent.new.self c.self.inside.last_said
     (ap (λ (s : Sending). s.pace) c.self.view_is) c.sent.ensures (ap (λ (s : Sending). s.said) c.self.view_is))))
 
-pub hear-requires-clause-all : goal.hear-requires-clause-all
-hear-requires-clause-all g c = cut_all _ c.args.shown.now c.as_slice.result.now c.in_ok-batch.field-0 c.in-Some.batch
+pub keep_reply-requires-clause-all : goal.keep_reply-requires-clause-all
+keep_reply-requires-clause-all g c = cut_all _ c.args.shown.now c.as_slice.result.now c.in_ok-batch.field-0 c.in-Some.batch
     c.requires.look c.as_slice.ensures c.in-Some.is c.in_ok-batch.ensures.some
 
 pub returns-clause-ends : goal.returns-clause-ends
@@ -63,5 +63,5 @@ returns-clause-ends g c =
     handed_deal _ _ _ _ _ _ _ _ _ _ c.in-Some.batch c.submit.result (Ok c.in-Ok.reply) c.requires.look c.requires.doubt
     c.requires.due all c.in-Ok.is
     c.submit.ensures.cause c.submit.ensures.stale c.submit.ensures.lists c.submit.ensures.rules
-    (inl (subst (λ (t : ℕ). Replies t c.args.shown.now (g.O.Outbox.sight c.args.outbox.now) (g.O.Outbox.sight c.hear.new.outbox)
-    c.in-Ok.reply c.hear.result c.hear.new.self) (ap (λ (p : Pace). p.last) c.sent.ensures) c.hear.ensures.ends))
+    (inl (subst (λ (t : ℕ). Replies t c.args.shown.now (g.O.Outbox.sight c.args.outbox.now) (g.O.Outbox.sight c.keep_reply.new.outbox)
+    c.in-Ok.reply c.keep_reply.result c.keep_reply.new.self) (ap (λ (p : Pace). p.last) c.sent.ensures) c.keep_reply.ensures.ends))

@@ -23,7 +23,7 @@ pub returns-in-Err-At-clause-seen : goal.returns-in-Err-At-clause-seen
 returns-in-Err-At-clause-seen g c tells =
     let s = c.args.state.now in
     let body = c.scan_ahead.new.body in
-    let counted : IsCounted (drop c.args.at (g.D.Disk.told c.args.disk.now).content) body =
+    let counted : IsCounted (drop c.args.at (g.D.Disk.on_disk c.args.disk.now).content) body =
     counted_step _ body c.in-Ok-Counted.field-0 c.in-Ok-Counted.next c.in-Ok-Counted.field-0-is
     (c.in-Ok-Counted.ensures.step tells) in
     let read : c.as_slice.result.now ≡ body = c.as_slice.ensures.value in
@@ -40,7 +40,7 @@ pub returns-in-Ok-None-clause-seen : goal.returns-in-Ok-None-clause-seen
 returns-in-Ok-None-clause-seen g c tells =
     let s = c.args.state.now in
     let body = c.scan_ahead.new.body in
-    let file = (g.D.Disk.told c.args.disk.now).content in
+    let file = (g.D.Disk.on_disk c.args.disk.now).content in
     let counted : IsCounted (drop c.args.at file) body =
     counted_step _ body c.in-Ok-Counted.field-0 c.in-Ok-Counted.next c.in-Ok-Counted.field-0-is
     (c.in-Ok-Counted.ensures.step tells) in
@@ -68,7 +68,7 @@ pub returns-in-Ok-Some-clause-seen : goal.returns-in-Ok-Some-clause-seen
 returns-in-Ok-Some-clause-seen g c tells =
     let s = c.args.state.now in
     let body = c.scan_ahead.new.body in
-    let file = (g.D.Disk.told c.args.disk.now).content in
+    let file = (g.D.Disk.on_disk c.args.disk.now).content in
     let counted : IsCounted (drop c.args.at file) body =
     counted_step _ body c.in-Ok-Counted.field-0 c.in-Ok-Counted.next c.in-Ok-Counted.field-0-is
     (c.in-Ok-Counted.ensures.step tells) in

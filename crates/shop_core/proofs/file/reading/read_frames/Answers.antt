@@ -12,7 +12,7 @@ use Rattle.shop_core.proofs.file.reading.read_frames.Goals as goal
 
 pub loop-init : goal.loop-init
 loop-init g c =
-    let file = (g.D.Disk.told c.args.disk.now).content in
+    let file = (g.D.Disk.on_disk c.args.disk.now).content in
     let start : History = record { issuer = c.args.issuer.now; version = c.args.version; entries = []; room = None } in
     let empty : c.empty-state.result ≡ start = c.empty-state.ensures in
     record {
@@ -34,8 +34,8 @@ pub returns-in-Closed-clause-read : goal.returns-in-Closed-clause-read
 returns-in-Closed-clause-read g c tells =
     let s = c.loop.state in
     let new = c.read_frame.new.state in
-    let file = (g.D.Disk.told c.args.disk.now).content in
-    let now = g.D.Disk.told c.loop.disk in
+    let file = (g.D.Disk.on_disk c.args.disk.now).content in
+    let now = g.D.Disk.on_disk c.loop.disk in
     let same : new ≡ s = subst (λ (seen : AtGate). Grows s new seen) c.in-Closed.is c.in_ok-next.ensures.grows in
     let shut : IsClosed (drop c.loop.at now.content) =
     subst (λ (seen : AtGate). IsSeen now.content c.loop.at s new seen) c.in-Closed.is (c.in_ok-next.ensures.seen tells) in

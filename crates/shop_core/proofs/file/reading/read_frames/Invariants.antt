@@ -10,8 +10,8 @@ invariant-loop g l = record {
   count : length l.state.entries ≡ l.counter;
   place : l.at ≤ furthest_gate l.state.entries;
   sound : IsTrue g.D.Disk.tells → IsSoundUpTo l.state.version l.state.issuer l.state.entries l.at
-      (g.D.Disk.told l.fn.disk).content;
-  ahead : IsTrue g.D.Disk.tells → IsAheadIn (g.D.Disk.told l.fn.disk).content l.ahead;
-  same : g.D.Disk.told l.disk ≡ g.D.Disk.told l.fn.disk;
+      (g.D.Disk.on_disk l.fn.disk).content;
+  ahead : IsTrue g.D.Disk.tells → IsAheadIn (g.D.Disk.on_disk l.fn.disk).content l.ahead;
+  same : g.D.Disk.on_disk l.disk ≡ g.D.Disk.on_disk l.fn.disk;
   later : g.D.Disk.faults l.fn.disk ≤ g.D.Disk.faults l.disk;
 }

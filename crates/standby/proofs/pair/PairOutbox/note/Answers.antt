@@ -21,7 +21,7 @@ returns-clause-grows g c =
     let is : new ≡ v = ap (λ (s : Both g.row.D.Denot g.row.C.Denot g.row.M.Denot).
     let w : Paired g.row.D.Denot g.row.C.Denot g.row.M.Denot = record { start = s; present = new.present } in w) e.start in
     subst (λ (w : Paired g.row.D.Denot g.row.C.Denot g.row.M.Denot). Grows (sight_of old) (sight_of w)) (sym is)
-    (grows_by g.D.Disk.tells g.D.Disk.told g.D.Disk.faults g.M.Disk.tells g.M.Disk.told g.M.Disk.faults old.start
+    (grows_by g.D.Disk.tells g.D.Disk.on_disk g.D.Disk.faults g.M.Disk.tells g.M.Disk.on_disk g.M.Disk.faults old.start
     old.present new.present c.args.lines.now e.pair e.after c.note_both.result
     (e.after.standby_goes.issuer ∙ sym e.pair.standby_goes.issuer)
     (e.after.standby_goes.version ∙ sym e.pair.standby_goes.version) e.notes)
@@ -35,7 +35,7 @@ returns-clause-within g c =
     let is : new ≡ v = ap (λ (s : Both g.row.D.Denot g.row.C.Denot g.row.M.Denot).
     let w : Paired g.row.D.Denot g.row.C.Denot g.row.M.Denot = record { start = s; present = new.present } in w) e.start in
     subst (λ (w : Paired g.row.D.Denot g.row.C.Denot g.row.M.Denot). OwnWithin (sight_of w)) (sym is)
-    (within_seen g.D.Disk.tells g.D.Disk.told g.D.Disk.faults g.M.Disk.tells g.M.Disk.told g.M.Disk.faults old.start
+    (within_seen g.D.Disk.tells g.D.Disk.on_disk g.D.Disk.faults g.M.Disk.tells g.M.Disk.on_disk g.M.Disk.faults old.start
     new.present e.after)
 
 pub returns-clause-noted : goal.returns-clause-noted
@@ -52,7 +52,7 @@ returns-clause-noted g c =
     e.pair.standby.legal in
     subst (λ (w : Paired g.row.D.Denot g.row.C.Denot g.row.M.Denot). NotedBy (sight_of old) (sight_of w) c.args.lines.now
     c.note_both.result) (sym is)
-    (noted_by g.D.Disk.tells g.D.Disk.told g.D.Disk.faults g.M.Disk.tells g.M.Disk.told g.M.Disk.faults old.start
+    (noted_by g.D.Disk.tells g.D.Disk.on_disk g.D.Disk.faults g.M.Disk.tells g.M.Disk.on_disk g.M.Disk.faults old.start
     old.present new.present c.args.lines.now e.pair e.after c.note_both.result
     (room_for old.present.standby.history.entries c.args.lines.now few whole) e.notes)
 
@@ -68,13 +68,13 @@ returns-clause-stopped g c = λ faults.
     c.requires.fits in
     let whole = c.a_history_notes_its_records.ensures old.present.standby.history.version old.present.standby.history.issuer old.present.standby.history.entries
     e.pair.standby.legal in
-    let told = noted_by g.D.Disk.tells g.D.Disk.told g.D.Disk.faults g.M.Disk.tells g.M.Disk.told g.M.Disk.faults
+    let told = noted_by g.D.Disk.tells g.D.Disk.on_disk g.D.Disk.faults g.M.Disk.tells g.M.Disk.on_disk g.M.Disk.faults
     old.start old.present new.present c.args.lines.now e.pair e.after c.note_both.result
     (room_for old.present.standby.history.entries c.args.lines.now few whole) e.notes in (
       λ answer. subst (λ (w : Paired g.row.D.Denot g.row.C.Denot g.row.M.Denot). HasStopped (sight_of old) (sight_of w) faults)
           (sym is)
           (subst (λ (r : Result (Unit {0}) StoreFault). NotedBy (sight_of old) (sight_of v) c.args.lines.now r) answer told),
-      λ stopped. told_by g.D.Disk.tells g.D.Disk.told g.D.Disk.faults g.M.Disk.tells g.M.Disk.told g.M.Disk.faults
+      λ stopped. told_by g.D.Disk.tells g.D.Disk.on_disk g.D.Disk.faults g.M.Disk.tells g.M.Disk.on_disk g.M.Disk.faults
           old.start old.present new.present c.args.lines.now e.pair e.after c.note_both.result faults e.notes
           (subst (λ (w : Paired g.row.D.Denot g.row.C.Denot g.row.M.Denot). HasStopped (sight_of old) (sight_of w) faults) is
           stopped),

@@ -18,7 +18,7 @@ returns-in-Ok-clause-keeps g c =
     let continues : Continues old.history.version old.history.issuer old.history.entries c.args.entry =
     subst (λ (v : ChainOnDisk g.row.D.Denot). Continues v.history.version v.history.issuer v.history.entries c.args.entry) (sym c.self.view_is)
     c.requires.continues in
-    let both = kept g.D.Disk.tells g.D.Disk.told g.D.Disk.faults {E = StoreFault} old new c.args.entry (Ok tt)
+    let both = kept g.D.Disk.tells g.D.Disk.on_disk g.D.Disk.faults {E = StoreFault} old new c.args.entry (Ok tt)
     c.a_legal_history_goes_on.ensures c.self.invariant going continues
     (record {
       ready = e.ready;
@@ -32,7 +32,7 @@ returns-in-Ok-clause-keeps g c =
       fault = tt;
       later = e.later;
     }) in
-    subst (λ (v : ChainOnDisk g.row.D.Denot). KeepsEntry {E = StoreFault} g.D.Disk.tells g.D.Disk.told g.D.Disk.faults v new
+    subst (λ (v : ChainOnDisk g.row.D.Denot). KeepsEntry {E = StoreFault} g.D.Disk.tells g.D.Disk.on_disk g.D.Disk.faults v new
     c.args.entry (Ok tt)) c.self.view_is both.1
 
 pub returns-in-Err-clause-keeps : goal.returns-in-Err-clause-keeps
@@ -45,7 +45,7 @@ returns-in-Err-clause-keeps g c =
     let continues : Continues old.history.version old.history.issuer old.history.entries c.args.entry =
     subst (λ (v : ChainOnDisk g.row.D.Denot). Continues v.history.version v.history.issuer v.history.entries c.args.entry) (sym c.self.view_is)
     c.requires.continues in
-    let both = kept g.D.Disk.tells g.D.Disk.told g.D.Disk.faults {E = StoreFault} old new c.args.entry (Err DiskFault)
+    let both = kept g.D.Disk.tells g.D.Disk.on_disk g.D.Disk.faults {E = StoreFault} old new c.args.entry (Err DiskFault)
     c.a_legal_history_goes_on.ensures c.self.invariant going continues
     (record {
       ready = e.ready;
@@ -59,5 +59,5 @@ returns-in-Err-clause-keeps g c =
       fault = e.fault;
       later = e.later;
     }) in
-    subst (λ (v : ChainOnDisk g.row.D.Denot). KeepsEntry {E = StoreFault} g.D.Disk.tells g.D.Disk.told g.D.Disk.faults v new
+    subst (λ (v : ChainOnDisk g.row.D.Denot). KeepsEntry {E = StoreFault} g.D.Disk.tells g.D.Disk.on_disk g.D.Disk.faults v new
     c.args.entry (Err DiskFault)) c.self.view_is both.1

@@ -12,7 +12,7 @@ returns-in-Ok-clause-arrives g c going =
     subst (λ (l : Looked). IsLooked s.version s.issuer s.entries c.args.piece.now l) c.in-Ok-Next.field-0-is c.in-Ok-Next.ensures in
     let next = subst (λ (v : ChainOnDisk g.row.D.Denot). IsNextPiece v.history.version v.history.issuer v.history.entries c.args.piece.now
     c.in-Ok-Next.entry) c.self.view_is here in
-    piece_kept g.D.Disk.tells g.D.Disk.told g.D.Disk.faults c.args.self.now c.add.new.self c.args.piece.now c.in-Ok-Next.entry
+    piece_kept g.D.Disk.tells g.D.Disk.on_disk g.D.Disk.faults c.args.self.now c.add.new.self c.args.piece.now c.in-Ok-Next.entry
     next c.in-Ok.ensures
 
 pub returns-in-Err-add-clause-arrives : goal.returns-in-Err-add-clause-arrives
@@ -22,5 +22,5 @@ returns-in-Err-add-clause-arrives g c going =
     subst (λ (l : Looked). IsLooked s.version s.issuer s.entries c.args.piece.now l) c.in-Ok-Next.field-0-is c.in-Ok-Next.ensures in
     let next = subst (λ (v : ChainOnDisk g.row.D.Denot). IsNextPiece v.history.version v.history.issuer v.history.entries c.args.piece.now
     c.in-Ok-Next.entry) c.self.view_is here in
-    piece_failed g.D.Disk.tells g.D.Disk.told g.D.Disk.faults c.args.self.now c.add.new.self c.args.piece.now
+    piece_failed g.D.Disk.tells g.D.Disk.on_disk g.D.Disk.faults c.args.self.now c.add.new.self c.args.piece.now
     c.in-Ok-Next.entry c.in-Err-add.fault next c.in-Err-add.ensures

@@ -24,7 +24,7 @@ returns-clause-every_crash g c tells =
     let parts = c.of.ensures.parts in
     let chain : ChainOnDisk g.row.D.Denot = chain_by s.state s.journal (option_map (λ t. t.value) s.torn) in
     let was : chain.stopped ≡ None = ap (λ (v : ChainOnDisk g.row.D.Denot). v.stopped) c.self.view_is ∙ c.requires in
-    let whole = sound_whole g.D.Disk.tells g.D.Disk.told g.D.Disk.faults chain c.self.invariant was tells in
-    subst (λ (j : _). LeavesNow (g.D.Disk.told (disk_of j)) (StandsFor c.of.result.state.version c.of.result.state.issuer c.of.result.state.entries))
+    let whole = sound_whole g.D.Disk.tells g.D.Disk.on_disk g.D.Disk.faults chain c.self.invariant was tells in
+    subst (λ (j : _). LeavesNow (g.D.Disk.on_disk (disk_of j)) (StandsFor c.of.result.state.version c.of.result.state.issuer c.of.result.state.entries))
     (sym parts.1)
-    (subst (λ (h : History). LeavesNow (g.D.Disk.told (disk_of s.journal)) (StandsFor h.version h.issuer h.entries)) (sym parts.0) whole)
+    (subst (λ (h : History). LeavesNow (g.D.Disk.on_disk (disk_of s.journal)) (StandsFor h.version h.issuer h.entries)) (sym parts.0) whole)

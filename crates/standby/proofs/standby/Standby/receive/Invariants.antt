@@ -6,9 +6,9 @@ use Rattle.standby.proofs.standby.Standby.receive.Given as goal
 
 abbrev pub invariant-loop-piece : goal.invariant-loop-piece
 invariant-loop-piece g l = record {
-  sound : IsSoundChain g.D.Disk.tells g.D.Disk.told g.D.Disk.faults l.self;
-  goes : GoesTo g.D.Disk.tells g.D.Disk.told g.D.Disk.faults l.initial.self l.self;
-  follows : Follows g.D.Disk.tells g.D.Disk.told l.initial.self l.self (take l.piece-index l.pieces);
+  sound : IsSoundChain g.D.Disk.tells g.D.Disk.on_disk g.D.Disk.faults l.self;
+  goes : GoesTo g.D.Disk.tells g.D.Disk.on_disk g.D.Disk.faults l.initial.self l.self;
+  follows : Follows g.D.Disk.tells g.D.Disk.on_disk l.initial.self l.self (take l.piece-index l.pieces);
   received : Received l.initial.self.history.version l.initial.self.history.issuer l.initial.self.history.entries (take l.piece-index l.pieces)
       l.self.history.entries l.kept;
   stopped : l.self.stopped ≡ l.initial.self.stopped;

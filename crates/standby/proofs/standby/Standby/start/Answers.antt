@@ -24,7 +24,7 @@ returns-in-Ok-clause-version g c = if_ok _ _ c.of_opened.result c.of_opened.ensu
 pub returns-in-Ok-clause-found : goal.returns-in-Ok-clause-found
 returns-in-Ok-clause-found g c = if_ok _ _ c.of_opened.result c.of_opened.ensures.same (λ standby h tells.
     let version = c.args.version in
-    let file = (g.D.Disk.told c.args.disk).content in
+    let file = (g.D.Disk.on_disk c.args.disk).content in
     subst (λ (s : ChainOnDisk g.row.D.Denot). IsFound version version c.args.issuer.now s.history.entries file) (sym h.1)
     (subst (λ (v : Version). IsFound version v c.args.issuer.now c.in-Ok.opened.state.entries file) h.0
     (c.in-Ok.ensures.found tells)))
@@ -32,15 +32,15 @@ returns-in-Ok-clause-found g c = if_ok _ _ c.of_opened.result c.of_opened.ensure
 pub returns-in-Ok-clause-any_moment : goal.returns-in-Ok-clause-any_moment
 returns-in-Ok-clause-any_moment g c = if_ok _ _ c.of_opened.result c.of_opened.ensures.same (λ standby h tells.
     let version = c.args.version in
-    let start = synced (g.D.Disk.told c.args.disk) in
-    subst (λ (s : ChainOnDisk g.row.D.Denot). LeavesOnly start (g.D.Disk.told s.disk)
+    let start = synced (g.D.Disk.on_disk c.args.disk) in
+    subst (λ (s : ChainOnDisk g.row.D.Denot). LeavesOnly start (g.D.Disk.on_disk s.disk)
     (IsFound version version c.args.issuer.now s.history.entries)) (sym h.1)
-    (subst (λ (v : Version). LeavesOnly start (g.D.Disk.told (disk_of c.in-Ok.opened.journal))
+    (subst (λ (v : Version). LeavesOnly start (g.D.Disk.on_disk (disk_of c.in-Ok.opened.journal))
     (IsFound version v c.args.issuer.now c.in-Ok.opened.state.entries)) h.0 (c.in-Ok.ensures.any_moment tells)))
 
 pub returns-in-Ok-clause-unwritten : goal.returns-in-Ok-clause-unwritten
 returns-in-Ok-clause-unwritten g c = if_ok _ _ c.of_opened.result c.of_opened.ensures.same (λ standby h tells.
-    subst (λ (s : ChainOnDisk g.row.D.Denot). IsOnlySynced (g.D.Disk.told c.args.disk) (g.D.Disk.told s.disk)) (sym h.1)
+    subst (λ (s : ChainOnDisk g.row.D.Denot). IsOnlySynced (g.D.Disk.on_disk c.args.disk) (g.D.Disk.on_disk s.disk)) (sym h.1)
     (c.in-Ok.ensures.unwritten tells))
 
 pub returns-in-Ok-clause-later : goal.returns-in-Ok-clause-later
@@ -52,10 +52,10 @@ pub returns-in-Ok-clause-left : goal.returns-in-Ok-clause-left
 returns-in-Ok-clause-left g c = if_err _ _ c.of_opened.result c.of_opened.ensures.other (λ fault h tells.
     let version = c.args.version in
     let state = c.in-Ok.opened.state in
-    let old = g.D.Disk.told c.args.disk in
+    let old = g.D.Disk.on_disk c.args.disk in
     let other = other_version c.a_file_not_begun_is_no_chain.ensures version state.version c.args.issuer.now state.entries old
-    (g.D.Disk.told (disk_of c.in-Ok.opened.journal)) h.1 (c.in-Ok.ensures.found tells) (c.in-Ok.ensures.unwritten tells) in
-    subst₂ (λ (e : StandbyCause) (d : g.row.D.Denot). IsLeftUnstarted version c.args.issuer.now e old (g.D.Disk.told d))
+    (g.D.Disk.on_disk (disk_of c.in-Ok.opened.journal)) h.1 (c.in-Ok.ensures.found tells) (c.in-Ok.ensures.unwritten tells) in
+    subst₂ (λ (e : StandbyCause) (d : g.row.D.Denot). IsLeftUnstarted version c.args.issuer.now e old (g.D.Disk.on_disk d))
     (sym h.0) (sym h.2) other)
 
 pub returns-in-Ok-clause-disk_fault : goal.returns-in-Ok-clause-disk_fault

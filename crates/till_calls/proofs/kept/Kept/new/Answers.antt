@@ -9,6 +9,6 @@ pub invariant_of-result : goal.invariant_of-result
 invariant_of-result g c =
     let p = parts_of c.args.store in
     let legal = subst (λ (h : History). Legal h.version h.issuer h.entries) c.state.ensures c.is_legal.ensures in
-    let sound = sound_at_start g.D.Disk.tells g.D.Disk.told g.D.Disk.faults g.C.Clock.coming p c.requires.going_on
+    let sound = sound_at_start g.D.Disk.tells g.D.Disk.on_disk g.D.Disk.faults g.C.Clock.coming p c.requires.going_on
     c.requires.ready legal in
     rw c.of-start.ensures sound

@@ -7,8 +7,8 @@ use Rattle.till_calls.proofs.Noting.{Noted, notes, nothing, stopped_already}
 use Rattle.till_calls.proofs.kept.Kept.note.Goals as goal
 use Rattle.till_calls.proofs.kept.Kept.note.Given.{Over}
 
-facts : (g : Over) (c : goal.After-is_legal g) → Noted g.D.Disk.tells g.D.Disk.told g.D.Disk.faults g.C.Clock.coming
-    (root_of g.D.Disk.told g.D.Disk.faults (parts_of c.self.inside.start.value))
+facts : (g : Over) (c : goal.After-is_legal g) → Noted g.D.Disk.tells g.D.Disk.on_disk g.D.Disk.faults g.C.Clock.coming
+    (root_of g.D.Disk.on_disk g.D.Disk.faults (parts_of c.self.inside.start.value))
     (parts_of c.self.inside.store) (parts_of c.note-told.new.self) c.args.lines.now c.note-told.result
 facts g c =
     let e = c.note-told.ensures in
@@ -32,14 +32,14 @@ facts g c =
 
 pub invariant_of-self : goal.invariant_of-self
 invariant_of-self g c =
-    (notes g.D.Disk.tells g.D.Disk.told g.D.Disk.faults g.C.Clock.coming (root_of g.D.Disk.told g.D.Disk.faults
+    (notes g.D.Disk.tells g.D.Disk.on_disk g.D.Disk.faults g.C.Clock.coming (root_of g.D.Disk.on_disk g.D.Disk.faults
     (parts_of c.self.inside.start.value))
     (parts_of c.self.inside.store) (parts_of c.note-told.new.self) c.args.lines.now c.note-told.result c.self.invariant
     (sym c.in_default.ensures) (facts g c)).0
 
 pub returns-clause-turn : goal.returns-clause-turn
 returns-clause-turn g c =
-    let turn = (notes g.D.Disk.tells g.D.Disk.told g.D.Disk.faults g.C.Clock.coming (root_of g.D.Disk.told g.D.Disk.faults
+    let turn = (notes g.D.Disk.tells g.D.Disk.on_disk g.D.Disk.faults g.C.Clock.coming (root_of g.D.Disk.on_disk g.D.Disk.faults
     (parts_of c.self.inside.start.value))
     (parts_of c.self.inside.store) (parts_of c.note-told.new.self) c.args.lines.now c.note-told.result c.self.invariant
     (sym c.in_default.ensures) (facts g c)).1 in
@@ -47,14 +47,14 @@ returns-clause-turn g c =
 
 pub returns-in-Some-clause-turn : goal.returns-in-Some-clause-turn
 returns-in-Some-clause-turn g c =
-    let turn = stopped_already g.D.Disk.tells g.D.Disk.told g.D.Disk.faults g.C.Clock.coming
-    (root_of g.D.Disk.told g.D.Disk.faults (parts_of c.self.inside.start.value))
+    let turn = stopped_already g.D.Disk.tells g.D.Disk.on_disk g.D.Disk.faults g.C.Clock.coming
+    (root_of g.D.Disk.on_disk g.D.Disk.faults (parts_of c.self.inside.start.value))
     (parts_of c.self.inside.store) c.args.lines.now c.in-Some.faults c.self.invariant (sym c.in-Some.ensures) in
     rw (← c.self.view_is) turn
 
 pub returns-then-records-noted-clause-turn : goal.returns-then-records-noted-clause-turn
 returns-then-records-noted-clause-turn g c =
-    let turn = nothing g.D.Disk.tells g.D.Disk.told g.D.Disk.faults g.C.Clock.coming (root_of g.D.Disk.told g.D.Disk.faults
+    let turn = nothing g.D.Disk.tells g.D.Disk.on_disk g.D.Disk.faults g.C.Clock.coming (root_of g.D.Disk.on_disk g.D.Disk.faults
     (parts_of c.self.inside.start.value))
     (parts_of c.self.inside.store) c.args.lines.now c.self.invariant (sym c.in_default.ensures) in
     rw (← c.self.view_is) turn

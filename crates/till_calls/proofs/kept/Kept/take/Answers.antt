@@ -7,8 +7,8 @@ use Rattle.till_calls.proofs.Asking.{Took, took}
 use Rattle.till_calls.proofs.kept.Kept.take.Goals as goal
 use Rattle.till_calls.proofs.kept.Kept.take.Given.{Over}
 
-facts : (g : Over) (c : goal.After-is_legal g) → Took g.D.Disk.tells g.D.Disk.told g.D.Disk.faults g.C.Clock.coming
-    (root_of g.D.Disk.told g.D.Disk.faults (parts_of c.self.inside.start.value))
+facts : (g : Over) (c : goal.After-is_legal g) → Took g.D.Disk.tells g.D.Disk.on_disk g.D.Disk.faults g.C.Clock.coming
+    (root_of g.D.Disk.on_disk g.D.Disk.faults (parts_of c.self.inside.start.value))
     (parts_of c.self.inside.store) (parts_of c.take_asking-reply.new.self) c.args.ask.now c.take_asking-reply.result
 facts g c =
     let e = c.take_asking-reply.ensures in
@@ -28,14 +28,14 @@ facts g c =
 
 pub invariant_of-self : goal.invariant_of-self
 invariant_of-self g c =
-    (took g.D.Disk.tells g.D.Disk.told g.D.Disk.faults g.C.Clock.coming (root_of g.D.Disk.told g.D.Disk.faults
+    (took g.D.Disk.tells g.D.Disk.on_disk g.D.Disk.faults g.C.Clock.coming (root_of g.D.Disk.on_disk g.D.Disk.faults
     (parts_of c.self.inside.start.value))
     (parts_of c.self.inside.store) (parts_of c.take_asking-reply.new.self) c.args.ask.now c.take_asking-reply.result c.self.invariant
     (facts g c)).0
 
 pub returns-clause-turn : goal.returns-clause-turn
 returns-clause-turn g c =
-    let turn = (took g.D.Disk.tells g.D.Disk.told g.D.Disk.faults g.C.Clock.coming (root_of g.D.Disk.told g.D.Disk.faults
+    let turn = (took g.D.Disk.tells g.D.Disk.on_disk g.D.Disk.faults g.C.Clock.coming (root_of g.D.Disk.on_disk g.D.Disk.faults
     (parts_of c.self.inside.start.value))
     (parts_of c.self.inside.store) (parts_of c.take_asking-reply.new.self) c.args.ask.now c.take_asking-reply.result c.self.invariant
     (facts g c)).1 in

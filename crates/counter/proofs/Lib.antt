@@ -1,4 +1,0 @@
-mod Lists
-mod InARow
-mod Bytewise
-mod Talking

@@ -1,0 +1,5 @@
+mod Lists
+mod InARow
+mod Bytewise
+mod Looking
+mod Dialogues

@@ -1,0 +1,29 @@
+use Rattle.std.proofs.Common.{◌∙◌, refl, ap, List, ℕ}
+use Rattle.std.specs.Prelude.{reverse}
+use Rattle.dialogue_loop.proofs.speaking.speak.Goals as goal
+
+pub loop-init : goal.loop-init
+loop-init g c = record { next = tt; finite = tt; numbers = refl; own = c.requires.own; said = λ clock from olds size later said. (said, later) }
+
+pub one_line-requires-clause-numbers : goal.one_line-requires-clause-numbers
+one_line-requires-clause-numbers g c = ap (λ (l : List ℕ). reverse l) c.loop.invariant.numbers ∙ c.requires.numbers
+
+pub returns-in-Some-one_line-clause-numbers : goal.returns-in-Some-one_line-clause-numbers
+returns-in-Some-one_line-clause-numbers g c = c.one_line.ensures.numbers ∙ c.loop.invariant.numbers
+
+pub returns-in-Some-one_line-clause-spoken : goal.returns-in-Some-one_line-clause-spoken
+returns-in-Some-one_line-clause-spoken g c = λ clock from olds size later said.
+    let before = c.loop.invariant.said clock from olds size later said in
+    c.in-Some-one_line.ensures.goes clock from olds size before.1 before.0
+
+pub loop-preserved : goal.loop-preserved
+loop-preserved g c = record {
+  next = tt;
+  finite = tt;
+  numbers = c.one_line.ensures.numbers ∙ c.loop.invariant.numbers;
+  own = c.one_line.ensures.own;
+  said = λ clock from olds size later said.
+      let before = c.loop.invariant.said clock from olds size later said in
+      c.in-None-one_line.ensures.goes clock from olds size
+      before.1 before.0;
+}

@@ -1,0 +1,21 @@
+use Rattle.std.proofs.Common.{◌≡◌, ℕ, List, Option, length, map, All}
+use Rattle.chain_lock.specs.Known.{Known}
+use Rattle.shop_core.specs.declared.items.Item.{Item}
+use Rattle.till_calls.specs.Root.{Root}
+use Rattle.till_calls.specs.Shop.{shop_id, till_knows, till_number, till_shop}
+use Rattle.dialogue_loop.specs.Speech.{HasAnswered, Moment, DialogueSoFar, moment_of}
+use Rattle.dialogue_loop.proofs.speaking.speak.Given as goal
+
+abbrev pub invariant-loop : goal.invariant-loop
+invariant-loop g l = record {
+  next : (goal.iterator-loop g).can_next l.iterator';
+  finite : (goal.iterator-loop g).is_finite l.iterator';
+  numbers : map till_number l.counter.held.items ≡ map till_number l.fn.counter.held.items;
+  own : All (λ t. till_shop t ≡ shop_id l.fn.shop) l.counter.held.items;
+  said : (clock : Option (ℕ × ℕ)) (from : Moment) (olds : List (Known Item (Root g.row.C.Denot))) → length olds ≡ 64 →
+      HasAnswered l.fn.counter.listener →
+      DialogueSoFar g.C.Clock.coming clock from (moment_of g.S.Source.left g.S.Source.faults g.K.Sink.taken g.K.Sink.faults l.fn.source l.fn.sink)
+      l.fn.counter.listener l.fn.counter.lacked olds (map till_knows l.fn.counter.held.items) →
+      DialogueSoFar g.C.Clock.coming clock from (moment_of g.S.Source.left g.S.Source.faults g.K.Sink.taken g.K.Sink.faults l.source l.sink)
+      l.counter.listener l.counter.lacked olds (map till_knows l.counter.held.items) × HasAnswered l.counter.listener;
+}

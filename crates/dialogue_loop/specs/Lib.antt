@@ -1,0 +1,3 @@
+pub mod InARow
+pub mod Looked
+pub mod Speech

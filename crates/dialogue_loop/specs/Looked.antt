@@ -1,0 +1,81 @@
+-- The histories at which a counter's questions are answered.
+use Rattle.std.specs.Prelude.{◌≡◌, ◌≤◌, ◌∷◌, ℕ, List, [], ◌++◌, length, take, Some, Result, Ok, Err, slice_get, slice_set}
+use Rattle.std.specs.List.{AllByRecursion}
+use Rattle.chain_lock.specs.Known.{Fits, Known}
+use Rattle.chain_lock.specs.Lists.{StartsWith}
+use Rattle.chain_store.specs.Replies.{Replies}
+use Rattle.dialogue.specs.Protocol.{Look}
+use Rattle.journal.specs.declared.faults.StoreFault.{StoreFault}
+use Rattle.ports.specs.declared.faults.NoMemory.{NoMemory as NoRoom}
+use Rattle.questions.specs.Answers.{IsAnswer}
+use Rattle.questions.specs.declared.questions.TillQuestion.{TillQuestion}
+use Rattle.record_codec.specs.declared.entry.Entry.{Entry}
+use Rattle.shop_core.specs.History.{recs}
+use Rattle.shop_core.specs.Items.{entries_of}
+use Rattle.shop_core.specs.declared.answer.Reply.{Reply}
+use Rattle.shop_core.specs.declared.answer.Reply.TheVariants.{Taken, Again, Refused}
+use Rattle.shop_core.specs.declared.items.Item.{Item}
+use Rattle.till_calls.specs.Root.{Root}
+use Rattle.till_calls.specs.Seen.{SeesOn}
+
+-- no history is shorter than the one before it: each begins with it, the first with that at the start, and that at the end with
+-- the last
+abbrev pub Rise : List Entry → List Look → List Entry → Type 0
+Rise start [] end = StartsWith end start
+Rise start (look ∷ looks) end = StartsWith look.history start × Rise look.history looks end
+
+-- a record that is told by its receipt is one of so many
+abbrev pub IsWithin : ℕ → Result Reply StoreFault → Type 0
+IsWithin records (Ok (Taken receipt)) = receipt.place ≤ records
+IsWithin records (Ok (Again receipt)) = receipt.place ≤ records
+IsWithin records (Ok (Refused why)) = Unit {0}
+IsWithin records (Err fault) = Unit {0}
+
+-- each record that was told before a look is of its history
+pub record SeesTold (replies : Replies) (look : Look) : Type 0 where
+  pub before : look.after ≤ length replies
+  pub within : AllByRecursion (IsWithin (length (recs look.history))) (take look.after replies)
+
+-- The questions of a counter were answered at histories from that at the start on to that at the end, in their order, and at none
+-- that lacks a record which was told before.
+pub record AreLooked (start end : List Entry) (replies : Replies) (looks : List Look) : Type 0 where
+  pub rise : Rise start looks end
+  pub told : AllByRecursion (SeesTold replies) looks
+
+-- how many records stand among so many items of a list
+abbrev pub records_in : ℕ → List Item → ℕ
+records_in n log = length (recs (entries_of (take n log)))
+
+module _ {C : Type 0} where
+  -- The looks so far, by what the counter's first till knows and what all do: that till has seen the history of each, and knows of
+  -- each record that was told.
+  pub record FirstLooked (replies : Replies) (looks : List Look) (news : List (Known Item (Root C))) (first : Known Item (Root C)) :
+      Type 0 where
+    pub rise : (root : Root C) (list : List Item) → first.root ≡ Some root → StartsWith list first.seen →
+        StartsWith (entries_of list) root.history → Rise root.history looks (entries_of list)
+    pub told : (log : List Item) → AllByRecursion (Fits log) news → AllByRecursion (SeesTold replies) looks
+    pub within : (log : List Item) → AllByRecursion (Fits log) news → AllByRecursion (IsWithin (records_in first.least log)) replies
+
+  -- the first till stands last
+  abbrev pub LookedOn : Replies → List Look → List (Known Item (Root C)) → Type 0
+  LookedOn replies looks news = (first : Known Item (Root C)) → slice_get news 63 ≡ Some first → FirstLooked replies looks news first
+
+  -- a look of a question, by its answer: none was made, or it is that at a history
+  abbrev pub LookedFor : TillQuestion → Result (List ℕ) NoRoom → List (Known Item (Root C)) → List (Known Item (Root C)) → Type 0
+  LookedFor asked (Ok text) olds news = (history : List Entry) × IsAnswer asked history text ×
+      ((replies : Replies) (looks : List Look) → LookedOn replies looks olds →
+      LookedOn replies (looks ++ record { after = length replies; history = history } ∷ []) news)
+  LookedFor asked (Err e) olds news = (replies : Replies) (looks : List Look) → LookedOn replies looks olds → LookedOn replies looks news
+
+  -- what was answered at a counter whose tills are of one shop, by any list that goes on from what they know at the end
+  abbrev pub AreLookedAt : List (Known Item (Root C)) → List (Known Item (Root C)) → Replies → List Look → Type 0
+  AreLookedAt olds news replies looks = (root : Root C) (log : List Item) →
+      AllByRecursion (λ (k : Known Item (Root C)). k.root ≡ Some root) olds → AllByRecursion (Fits log) news →
+      StartsWith (entries_of log) root.history → AreLooked root.history (entries_of log) replies looks
+
+-- the first till has seen on, and knows of as many items as the one at this place
+pub record FirstInformed {R : Type 0} (olds : List (Known Item R)) (place : ℕ) (news : List (Known Item R)) : Type 0 where
+  pub now : Known Item R
+  pub only : news ≡ slice_set olds 63 now
+  pub sees : (first : Known Item R) → slice_get olds 63 ≡ Some first → SeesOn first now
+  pub as_many : (till : Known Item R) → slice_get olds place ≡ Some till → till.least ≤ now.least

@@ -1,0 +1,317 @@
+-- A dialogue with all tills of a shop.
+use Rattle.std.specs.Prelude.{◌≡◌, ◌⊎◌, ◌<◌, ◌≤◌, ℕ, List, [], ◌∷◌, ◌++◌, length, take, Bool, true, ◌||◌, Option, Some, None, Result, Ok, Err}
+use Rattle.std.specs.List.{AllByRecursion, list_any}
+use Rattle.std.specs.Io.KnownBytes.{Appends, Consumes}
+use Rattle.chain_lock.specs.Known.{Known}
+use Rattle.chain_store.specs.Replies.{AllGoOn, IsGoingOn, Replies, is_disk_fault, is_no_memory}
+use Rattle.dialogue.specs.OneLine.{form_of}
+use Rattle.dialogue.specs.Protocol.{Dialogue, Look as Looked, Transcript, clock_said, reply_text, written_for}
+use Rattle.dialogue.specs.Continuing.{SpeakerKnows, ContinuesBy}
+use Rattle.dialogue.specs.declared.speaker.Action.{Action}
+use Rattle.dialogue.specs.declared.speaker.Action.TheVariants.{Write, Clock, Ask, Look}
+use Rattle.journal.specs.declared.faults.StoreFault.{StoreFault}
+use Rattle.line_reader.specs.Lists.{AreAllLines, AreLines, InputLine}
+use Rattle.line_reader.specs.Read.{HasRead, HasReadAll, StopsBehind}
+use Rattle.line_reader.specs.declared.chunk.TheConstants.{CHUNK}
+use Rattle.ports.specs.Causes.{Rose}
+use Rattle.ports.specs.Sinks.{FailedIn, Sinks, Wrote, WroteNothing}
+use Rattle.script.specs.declared.forms.Form.TheVariants.{First, Later}
+use Rattle.script.specs.declared.lines.Meaning.{Meaning}
+use Rattle.questions.specs.Answers.{IsAnswer}
+use Rattle.questions.specs.declared.questions.TillQuestion.{TillQuestion}
+use Rattle.record_codec.specs.declared.entry.Entry.{Entry}
+use Rattle.shop_core.specs.Answer.Requests.{Asked}
+use Rattle.shop_core.specs.declared.answer.Reply.{Reply}
+use Rattle.shop_core.specs.declared.items.Item.{Item}
+use Rattle.till_calls.specs.Root.{Root}
+use Rattle.dialogue_loop.specs.InARow.{AllRanOn, IsOfTill}
+use Rattle.dialogue_loop.specs.Looked.{AreLookedAt, LookedOn}
+use Rattle.dialogue_loop.specs.declared.listener.Listener.{Listener}
+use Rattle.dialogue_loop.specs.declared.speaking.SpeechEnd.{SpeechEnd}
+use Rattle.dialogue_loop.specs.declared.speaking.SpeechEnd.TheVariants as how
+use Rattle.record_codec.specs.declared.entry.TheConstants.{LAST_TILL}
+
+-- the lines of what was said were read, and the listener knows it
+pub record HasHeard (left left_now : Option (List ℕ)) (l : Listener) (t : Transcript) : Type 0 where
+  pub read : HasRead left left_now l.reader t.lines
+  pub so_far : SpeakerKnows l.speaker t
+
+-- these lines were read, and nothing after them but what came with them in one read: they are all of the source's lines, or fewer
+-- bytes stand after them than one read gives
+pub record HasReadTo (left left_now : Option (List ℕ)) (lines : List InputLine) : Type 0 where
+  pub taken : List ℕ
+  pub consumed : Consumes left left_now taken
+  pub are : ((rest : List ℕ) × AreLines taken lines rest × (length rest ≤ CHUNK)) ⊎ AreAllLines taken lines
+
+-- these lines were read, or one more, which wasn't heard, or a question that wasn't answered
+pub record HasReadPast (left left_now : Option (List ℕ)) (lines : List InputLine) : Type 0 where
+  pub more : List InputLine
+  pub at_most_one : length more < 2
+  pub read : HasReadTo left left_now (lines ++ more)
+
+-- How the source stands at an end. It was read to its end, and these are all of its lines; it failed within the next line; or no
+-- line after these was read, but for one that no memory was left to hear, or to answer where it is a question.
+abbrev pub IsRead : SpeechEnd → Option (List ℕ) → Option (List ℕ) → List InputLine → Type 0
+IsRead how.Ended left left_now lines = HasReadAll left left_now lines
+IsRead how.ReadFault left left_now lines = StopsBehind left left_now lines
+IsRead how.WriteFault left left_now lines = HasReadTo left left_now lines
+IsRead how.NoMemory left left_now lines = HasReadPast left left_now lines
+IsRead how.Stopped left left_now lines = HasReadTo left left_now lines
+
+-- an end ahead of any answer
+abbrev pub IsEarly : SpeechEnd → Type 0
+IsEarly how.Ended = Unit {0}
+IsEarly how.ReadFault = Unit {0}
+IsEarly how.NoMemory = Unit {0}
+IsEarly how.WriteFault = ⊥
+IsEarly how.Stopped = ⊥
+
+-- one line more was read, and what it asks for
+pub record HearsLine (left left_now : Option (List ℕ)) (old new : Listener) (t : Transcript) (action : Action) : Type 0 where
+  pub line : InputLine
+  pub read : HasRead left left_now new.reader (t.lines ++ line ∷ [])
+  pub on : ContinuesBy old.speaker new.speaker t line action
+
+-- what came after what was heard
+abbrev pub Comes : Option (List ℕ) → Option (List ℕ) → Listener → Listener → Transcript → Result Action SpeechEnd → Type 0
+Comes left left_now old new t (Ok action) = HearsLine left left_now old new t action
+Comes left left_now old new t (Err end) = IsEarly end × IsRead end left left_now t.lines
+
+abbrev pub HearsOn : Option (List ℕ) → Option (List ℕ) → Option (List ℕ) → Listener → Listener → Result Action SpeechEnd → Type 0
+HearsOn left left_old left_now old new result =
+    (t : Transcript) → HasHeard left left_old old t → Comes left left_now old new t result
+
+-- lines that were passed over say nothing to the tills
+abbrev pub passed : List InputLine → List Meaning → List (List ℕ) → Transcript
+passed lines before answers =
+    record { lines = lines; form = First; before = before; asks = []; replies = []; looks = []; answers = answers }
+
+-- Lines that were passed over, and the first that is answered: what it asks for. The listener after the last of the others, and
+-- what the source had left there.
+pub record HearsFirst (left left_now : Option (List ℕ)) (new : Listener) (action : Action) : Type 0 where
+  pub mid : Listener
+  pub mid_left : Option (List ℕ)
+  pub lines : List InputLine
+  pub before : List Meaning
+  pub answers : List (List ℕ)
+  pub none : written_for answers ≡ []
+  pub heard : HasHeard left mid_left mid (passed lines before answers)
+  pub line_read : HearsLine left left_now mid new (passed lines before answers) action
+  pub clock_none : clock_said before ≡ None
+  pub later : form_of new.speaker ≡ Later
+
+-- the source ended or failed after lines that were passed over, or memory ran out
+pub record HearsNone (left left_now : Option (List ℕ)) (end : SpeechEnd) : Type 0 where
+  pub early : IsEarly end
+  pub lines : List InputLine
+  pub before : List Meaning
+  pub answers : List (List ℕ)
+  pub none : written_for answers ≡ []
+  pub dialogue : Dialogue (passed lines before answers)
+  pub clock_none : clock_said before ≡ None
+  pub read : IsRead end left left_now lines
+
+abbrev pub ComesFirst : Option (List ℕ) → Option (List ℕ) → Listener → Result Action SpeechEnd → Type 0
+ComesFirst left left_now new (Ok action) = HearsFirst left left_now new action
+ComesFirst left left_now new (Err end) = HearsNone left left_now end
+
+-- the clock line, once this was done
+abbrev pub clock_with : Action → Option (ℕ × ℕ) → Option (ℕ × ℕ)
+clock_with (Write text) clock = clock
+clock_with (Clock start step text) clock = Some (start, step)
+clock_with (Ask ask) clock = clock
+clock_with (Look asked) clock = clock
+
+-- the clock line, where the first line that is answered is one
+abbrev pub clock_first : Result Action SpeechEnd → Option (ℕ × ℕ)
+clock_first (Ok action) = clock_with action None
+clock_first (Err end) = None
+
+-- a fault of the source is counted
+abbrev pub IsCause : ℕ → ℕ → Result Action SpeechEnd → Type 0
+IsCause faults faults_after (Err how.ReadFault) = Rose faults faults_after
+IsCause faults faults_after _ = Unit {0}
+
+-- what is known of a source and a sink at a moment
+pub record Moment : Type 0 where
+  pub left : Option (List ℕ)
+  pub source_faults : ℕ
+  pub taken : Option (List ℕ)
+  pub sink_faults : ℕ
+
+abbrev pub moment_of : {S K : Type 0} → (S → Option (List ℕ)) → (S → ℕ) → (K → Option (List ℕ)) → (K → ℕ) → S → K → Moment
+moment_of left source_faults taken sink_faults source sink = record {
+  left = left source;
+  source_faults = source_faults source;
+  taken = taken sink;
+  sink_faults = sink_faults sink;
+}
+
+-- a moment at which the source had this to give, and the sink was as it is
+abbrev pub moment_since : Option (List ℕ) → ℕ → Option (List ℕ) → ℕ → Moment
+moment_since left source_faults taken sink_faults = record {
+  left = left;
+  source_faults = source_faults;
+  taken = taken;
+  sink_faults = sink_faults;
+}
+
+-- the sink from one moment to another
+abbrev pub sink_since : Moment → Moment → Sinks
+sink_since from now = record {
+  taken = from.taken;
+  taken_after = now.taken;
+  faults = from.sink_faults;
+  faults_after = now.sink_faults;
+}
+
+-- the sink took all of these texts but the last, and this many bytes of that one
+pub record TookToLast (s : Sinks) (texts : List (List ℕ)) : Type 0 where
+  pub before : List (List ℕ)
+  pub last : List ℕ
+  pub texts_are : texts ≡ before ++ last ∷ []
+  pub count : ℕ
+  pub took : Appends s.taken s.taken_after (written_for before ++ take count last)
+
+-- and failed
+pub record FailedAtLast (s : Sinks) (texts : List (List ℕ)) : Type 0 where
+  pub risen : Rose s.faults s.faults_after
+  pub part : TookToLast s texts
+
+-- What the sink took of the answers, by how the dialogue ended: all of them, but where the last one couldn't be written, or made.
+abbrev pub IsWritten : SpeechEnd → Sinks → List (List ℕ) → Type 0
+IsWritten how.Ended s answers = Wrote s (written_for answers)
+IsWritten how.ReadFault s answers = Wrote s (written_for answers)
+IsWritten how.WriteFault s answers = FailedAtLast s answers
+IsWritten how.NoMemory s answers = Wrote s (written_for answers) ⊎ TookToLast s answers
+IsWritten how.Stopped s answers = Wrote s (written_for answers) ⊎ FailedAtLast s answers
+
+-- the disk failed at the last command, which is the last line, and at none before it
+pub record StopsAtLast (asks : List Asked) (replies : Replies) (answers : List (List ℕ)) : Type 0 where
+  pub asks_before : List Asked
+  pub ask : Asked
+  pub asks_are : asks ≡ asks_before ++ ask ∷ []
+  pub replies_before : Replies
+  pub told : Result Reply StoreFault
+  pub replies_are : replies ≡ replies_before ++ told ∷ []
+  pub answers_before : List (List ℕ)
+  pub answers_are : answers ≡ answers_before ++ reply_text ask told ∷ []
+  pub go_on : AllGoOn replies_before
+  pub fault : is_disk_fault told ≡ true
+
+-- What the replies say of how it ended: the first fault of the disk is the last reply, and its answer the last answer.
+abbrev pub AreRepliesOf : SpeechEnd → List Asked → Replies → List (List ℕ) → Type 0
+AreRepliesOf how.Ended asks replies answers = AllGoOn replies
+AreRepliesOf how.ReadFault asks replies answers = AllGoOn replies
+AreRepliesOf how.WriteFault asks replies answers = AllGoOn replies
+AreRepliesOf how.NoMemory asks replies answers = AllGoOn replies ⊎ StopsAtLast asks replies answers
+AreRepliesOf how.Stopped asks replies answers = StopsAtLast asks replies answers
+
+-- the source failed where the end says so
+abbrev pub IsReadFault : SpeechEnd → Moment → Moment → Type 0
+IsReadFault how.ReadFault from now = Rose from.source_faults now.source_faults
+IsReadFault _ from now = Unit {0}
+
+-- How far a dialogue is: the lines that were read and all that was said and written for them, by this clock line; each till ran its
+-- own of the commands, and no fault of the disk was told.
+pub record DialogueSoFar {C : Type 0} (coming : C → ℕ → Option ℕ) (clock : Option (ℕ × ℕ)) (from now : Moment) (l : Listener)
+    (lacked : Bool) (olds news : List (Known Item (Root C))) : Type 0 where
+  pub said : Transcript
+  pub heard : HasHeard from.left now.left l said
+  pub clock_is : clock_said said.before ≡ clock
+  pub ran : AllRanOn coming said.asks said.replies olds news
+  pub looked : LookedOn said.replies said.looks news
+  pub tills : AllByRecursion IsOfTill said.asks
+  pub go_on : AllGoOn said.replies
+  pub lacked_is : lacked ≡ list_any is_no_memory said.replies
+  pub wrote : Wrote (sink_since from now) (written_for said.answers)
+  pub source_later : from.source_faults ≤ now.source_faults
+  pub sink_later : from.sink_faults ≤ now.sink_faults
+
+-- A dialogue that ended so.
+pub record Spoken {C : Type 0} (coming : C → ℕ → Option ℕ) (clock : Option (ℕ × ℕ)) (from now : Moment)
+    (lacked : Bool) (olds news : List (Known Item (Root C))) (end : SpeechEnd) : Type 0 where
+  pub said : Transcript
+  pub dialogue : Dialogue said
+  pub pairs : length said.replies ≡ length said.asks
+  pub clock_is : clock_said said.before ≡ clock
+  pub ran : AllRanOn coming said.asks said.replies olds news
+  pub looked : AreLookedAt olds news said.replies said.looks
+  pub tills : AllByRecursion IsOfTill said.asks
+  pub lacked_is : lacked ≡ list_any is_no_memory said.replies
+  pub read : IsRead end from.left now.left said.lines
+  pub written : IsWritten end (sink_since from now) said.answers
+  pub replies_are : AreRepliesOf end said.asks said.replies said.answers
+  pub read_fault : IsReadFault end from now
+  pub sink_later : from.sink_faults ≤ now.sink_faults
+
+-- no line was answered
+abbrev pub IsFirst : Listener → Type 0
+IsFirst l = form_of l.speaker ≡ First
+
+-- some line was answered
+abbrev pub HasAnswered : Listener → Type 0
+HasAnswered l = form_of l.speaker ≡ Later
+
+-- the dialogue goes on, after a line that was answered, or ended so
+abbrev pub Goes : {C : Type 0} → (C → ℕ → Option ℕ) → Option (ℕ × ℕ) → Moment → Moment → Listener → Bool →
+    List (Known Item (Root C)) → List (Known Item (Root C)) → Option SpeechEnd → Type 0
+Goes coming clock from now l lacked olds news None = DialogueSoFar coming clock from now l lacked olds news × HasAnswered l
+Goes coming clock from now l lacked olds news (Some end) = Spoken coming clock from now lacked olds news end
+
+-- an answer that was written or not
+abbrev pub IsAnswered : Sinks → List ℕ → Option SpeechEnd → Type 0
+IsAnswered s text None = Wrote s text
+IsAnswered s text (Some how.WriteFault) = FailedIn s text
+IsAnswered s text (Some other) = ⊥
+
+-- the answer to a command: after a fault of the disk nothing more is read
+abbrev pub IsReplied : Result Reply StoreFault → Sinks → List ℕ → Option SpeechEnd → Type 0
+IsReplied replied s text None = IsGoingOn replied × Wrote s text
+IsReplied replied s text (Some how.WriteFault) = IsGoingOn replied × FailedIn s text
+IsReplied replied s text (Some how.NoMemory) = WroteNothing s
+IsReplied replied s text (Some how.Stopped) = (is_disk_fault replied ≡ true) × (Wrote s text ⊎ FailedIn s text)
+IsReplied replied s text (Some other) = ⊥
+
+-- a command was asked for, and answered
+pub record AsksOne {C : Type 0} (coming : C → ℕ → Option ℕ) (ask : Asked) (s : Sinks) (old_lacked new_lacked : Bool)
+    (mids news : List (Known Item (Root C))) (end : Option SpeechEnd) : Type 0 where
+  pub told : Result Reply StoreFault
+  pub asks_on : (asks : List Asked) (replies : Replies) (olds : List (Known Item (Root C))) → length replies ≡ length asks →
+      length olds ≡ LAST_TILL → AllRanOn coming asks replies olds mids →
+      AllRanOn coming (asks ++ ask ∷ []) (replies ++ told ∷ []) olds news
+  pub looked : (replies : Replies) (looks : List Looked) → LookedOn replies looks mids → LookedOn (replies ++ told ∷ []) looks news
+  pub of_till : IsOfTill ask
+  pub lacked_is : new_lacked ≡ (old_lacked || is_no_memory told)
+  pub replied : IsReplied told s (reply_text ask told) end
+
+-- no till ran, but some may have seen on
+abbrev pub KeepsRuns : {C : Type 0} → (C → ℕ → Option ℕ) → List (Known Item (Root C)) → List (Known Item (Root C)) → Type 0
+KeepsRuns {C} coming mids news = (asks : List Asked) (replies : Replies) (olds : List (Known Item (Root C))) →
+    AllRanOn coming asks replies olds mids → AllRanOn coming asks replies olds news
+
+-- a question was answered at a history
+pub record AnswersOne {C : Type 0} (asked : TillQuestion) (s : Sinks) (mids news : List (Known Item (Root C)))
+    (end : Option SpeechEnd) : Type 0 where
+  pub history : List Entry
+  pub text : List ℕ
+  pub is : IsAnswer asked history text
+  pub looked : (replies : Replies) (looks : List Looked) → LookedOn replies looks mids →
+      LookedOn replies (looks ++ record { after = length replies; history = history } ∷ []) news
+  pub written : IsAnswered s text end
+
+-- there was no memory for its answer
+pub record AnswersNone {C : Type 0} (s : Sinks) (mids news : List (Known Item (Root C))) (end : Option SpeechEnd) : Type 0 where
+  pub how : end ≡ Some how.NoMemory
+  pub nothing : WroteNothing s
+  pub looked : (replies : Replies) (looks : List Looked) → LookedOn replies looks mids → LookedOn replies looks news
+
+-- what a line asks for was done
+abbrev pub CarriesOut : {C : Type 0} → (C → ℕ → Option ℕ) → Action → Sinks → Bool → Bool → List (Known Item (Root C)) →
+    List (Known Item (Root C)) → Option SpeechEnd → Type 0
+CarriesOut coming (Write text) s old_lacked new_lacked mids news end = (new_lacked ≡ old_lacked) × (news ≡ mids) × IsAnswered s text end
+CarriesOut coming (Clock start step text) s old_lacked new_lacked mids news end =
+    (new_lacked ≡ old_lacked) × (news ≡ mids) × IsAnswered s text end
+CarriesOut coming (Ask ask) s old_lacked new_lacked mids news end = AsksOne coming ask s old_lacked new_lacked mids news end
+CarriesOut coming (Look asked) s old_lacked new_lacked mids news end =
+    (new_lacked ≡ old_lacked) × KeepsRuns coming mids news × (AnswersOne asked s mids news end ⊎ AnswersNone s mids news end)

@@ -1,0 +1,229 @@
+//! A dialogue with the tills of a shop, on one thread.
+ghost use Rattle.std.specs.Prelude.{◌≡◌, ◌≤◌, ℕ, false, List, length, map, reverse, All, Option, ◌||◌};
+ghost use Rattle.std.specs.List.{range_with_len};
+ghost use Rattle.chain_lock.specs.Known.{Known};
+ghost use Rattle.chain_store.specs.Replies as spec;
+ghost use Rattle.ports.specs.Causes.{HasCause};
+ghost use Rattle.ports.specs.Sinks.{OutputIs, this_sink};
+ghost use Rattle.record_codec.specs.declared.entry.TheConstants.{LAST_TILL};
+ghost use Rattle.shop_core.specs.declared.items.Item.{Item};
+ghost use Rattle.till_calls.specs.Root.{Root};
+ghost use Rattle.till_calls.specs.Shop.{shop_id, till_knows, till_number, till_shop};
+ghost use Rattle.dialogue_loop.specs.Speech.{AsksOne, ComesFirst, Goes, HasAnswered, IsAnswered, IsCause, IsReplied, CarriesOut, DialogueSoFar, Spoken};
+ghost use Rattle.dialogue_loop.specs.Speech.{clock_first, moment_of, moment_since};
+ghost use Rattle.dialogue.specs.Protocol.{reply_text};
+
+use crate::held::{ask_held, look_held};
+use crate::listener::Listener;
+use chain_disk::Disk;
+use dialogue::{Action, command_text};
+use journal::StoreFault;
+use ports::{Clock, Failed, Gate, Sink, Source};
+use shop_core::{Ask, Reply};
+use std::alloc::Global;
+use std::sync::Wait;
+use till_calls::{Shop, Till};
+
+/// How a dialogue ends.
+#[derive(Clone, Copy, Debug, PartialEq, Eq)]
+pub enum SpeechEnd {
+    /// The source was read to its end.
+    Ended,
+    ReadFault,
+    /// An answer couldn't be written.
+    WriteFault,
+    NoMemory,
+    /// The disk failed.
+    Stopped,
+}
+
+/// A shop's counter: the tills, and what was heard so far.
+#[derive(Drop)]
+pub struct Counter<D: Disk, C: Clock> {
+    pub listener: Listener,
+    /// All tills, the last one first.
+    pub held: Vec<Till<D, C>>,
+    /// Whether some command found no memory.
+    pub lacked: bool,
+}
+
+// Writes an answer, all of it or until the sink fails.
+fn write<K: Sink>(sink: &mut K, text: &[u8]) -> Result<(), Failed>
+    ensures output { OutputIs (this_sink K.taken K.faults sink.old sink.new) text.now result }
+    ensures later { K.faults sink.old ≤ K.faults sink.new }
+{
+    let mut done = 0;
+    while done < text.len() {
+        done += sink.write(&text[done..])?;
+    }
+    Ok(())
+}
+
+/// Writes an answer, all of it or until the sink fails. None: the dialogue goes on.
+pub fn answer<K: Sink>(sink: &mut K, text: &[u8]) -> Option<SpeechEnd>
+    ensures answered { IsAnswered (this_sink K.taken K.faults sink.old sink.new) text.now result }
+    ensures later { K.faults sink.old ≤ K.faults sink.new }
+{
+    match write(sink, text) {
+        Ok(()) => None,
+        Err(_) => Some(SpeechEnd::WriteFault),
+    }
+}
+
+fn is_no_memory(reply: &Result<Reply, StoreFault>) -> bool
+    ensures { result ≡ spec.is_no_memory reply.now }
+{
+    match reply {
+        Err(StoreFault::NoMemory) => true,
+        _ => false,
+    }
+}
+
+// Writes the answer to a command.
+fn answer_reply<K: Sink>(
+    alloc: Global,
+    ask: &Ask,
+    told: &Result<Reply, StoreFault>,
+    sink: &mut K,
+) -> Option<SpeechEnd>
+    ensures replied { IsReplied told.now (this_sink K.taken K.faults sink.old sink.new) (reply_text ask.now told.now) result }
+    ensures later { K.faults sink.old ≤ K.faults sink.new }
+{
+    match command_text(alloc, ask, told) {
+        Err(_) => Some(SpeechEnd::NoMemory),
+        Ok(text) => {
+            let end = answer(sink, text.as_slice());
+            match told {
+                Err(StoreFault::DiskFault | StoreFault::Stopped { .. }) => Some(SpeechEnd::Stopped),
+                _ => end,
+            }
+        }
+    }
+}
+
+// Does what a line asks for. None: the dialogue goes on.
+fn carry_out<K: Sink, D: Disk, C: Clock, T: Gate, R: Wait>(
+    rt: &R,
+    alloc: Global,
+    gate: &T,
+    shop: &Shop<D, C>,
+    counter: &mut Counter<D, C>,
+    sink: &mut K,
+    action: &Action,
+) -> Option<SpeechEnd>
+    requires own { All (λ t. till_shop t ≡ shop_id shop.now) counter.old.held.items }
+    requires numbers { reverse (map till_number counter.old.held.items) ≡ range_with_len 1 LAST_TILL }
+    ensures own { All (λ t. till_shop t ≡ shop_id shop.now) counter.new.held.items }
+    ensures numbers { map till_number counter.new.held.items ≡ map till_number counter.old.held.items }
+    ensures listener { counter.new.listener ≡ counter.old.listener }
+    ensures carries_out { CarriesOut C.coming action.now (this_sink K.taken K.faults sink.old sink.new) counter.old.lacked counter.new.lacked
+        (map till_knows counter.old.held.items) (map till_knows counter.new.held.items) result }
+    ensures later { K.faults sink.old ≤ K.faults sink.new }
+{
+    match action {
+        Action::Write(text) => answer(sink, text.as_slice()),
+        Action::Clock {
+            start: _,
+            step: _,
+            text,
+        } => answer(sink, text.as_slice()),
+        Action::Ask(ask) => {
+            let told = ask_held(rt, alloc, gate, shop, &mut counter.held, ask);
+            counter.lacked = counter.lacked || is_no_memory(&told);
+            answer_reply(alloc, ask, &told, sink)
+        }
+        Action::Look(question) => match look_held(rt, alloc, shop, &mut counter.held, question) {
+            Err(_) => Some(SpeechEnd::NoMemory),
+            Ok(text) => answer(sink, text.as_slice()),
+        },
+    }
+}
+
+// Reads a line and answers it. None: the dialogue goes on.
+fn one_line<S: Source, K: Sink, D: Disk, C: Clock, T: Gate, R: Wait>(
+    rt: &R,
+    alloc: Global,
+    gate: &T,
+    shop: &Shop<D, C>,
+    counter: &mut Counter<D, C>,
+    source: &mut S,
+    sink: &mut K,
+) -> Option<SpeechEnd>
+    requires own { All (λ t. till_shop t ≡ shop_id shop.now) counter.old.held.items }
+    requires numbers { reverse (map till_number counter.old.held.items) ≡ range_with_len 1 LAST_TILL }
+    ensures own { All (λ t. till_shop t ≡ shop_id shop.now) counter.new.held.items }
+    ensures numbers { map till_number counter.new.held.items ≡ map till_number counter.old.held.items }
+    ensures goes { (clock : Option (ℕ × ℕ)) (from : _) (olds : List (Known Item (Root C))) → length olds ≡ LAST_TILL →
+        HasAnswered counter.old.listener →
+        DialogueSoFar C.coming clock from (moment_of S.left S.faults K.taken K.faults source.old sink.old) counter.old.listener
+        counter.old.lacked olds (map till_knows counter.old.held.items) →
+        Goes C.coming clock from (moment_of S.left S.faults K.taken K.faults source.new sink.new) counter.new.listener
+        counter.new.lacked olds (map till_knows counter.new.held.items) result }
+{
+    match counter.listener.next_action(rt, alloc, source) {
+        Err(end) => Some(end),
+        Ok(action) => carry_out(rt, alloc, gate, shop, counter, sink, &action),
+    }
+}
+
+/// Reads lines and answers each, until the source ends or something fails. A line was answered before, and the clock line with
+/// it where there is one.
+pub fn speak<S: Source, K: Sink, D: Disk, C: Clock, T: Gate, R: Wait>(
+    rt: &R,
+    alloc: Global,
+    gate: &T,
+    shop: &Shop<D, C>,
+    counter: &mut Counter<D, C>,
+    source: &mut S,
+    sink: &mut K,
+) -> SpeechEnd
+    requires own { All (λ t. till_shop t ≡ shop_id shop.now) counter.old.held.items }
+    requires numbers { reverse (map till_number counter.old.held.items) ≡ range_with_len 1 LAST_TILL }
+    ensures own { All (λ t. till_shop t ≡ shop_id shop.now) counter.new.held.items }
+    ensures numbers { map till_number counter.new.held.items ≡ map till_number counter.old.held.items }
+    ensures spoken { (clock : Option (ℕ × ℕ)) (from : _) (olds : List (Known Item (Root C))) → length olds ≡ LAST_TILL →
+        HasAnswered counter.old.listener →
+        DialogueSoFar C.coming clock from (moment_of S.left S.faults K.taken K.faults source.old sink.old) counter.old.listener
+        counter.old.lacked olds (map till_knows counter.old.held.items) →
+        Spoken C.coming clock from (moment_of S.left S.faults K.taken K.faults source.new sink.new)
+        counter.new.lacked olds (map till_knows counter.new.held.items) result }
+{
+    for _ in rt.forever() {
+        match one_line(rt, alloc, gate, shop, counter, source, sink) {
+            Some(end) => return end,
+            None => {}
+        }
+    }
+    unreachable!()
+}
+
+/// Does what the first answered line asks for, and goes on with the next ones; or ends as its reading did.
+pub fn answer_lines<S: Source, K: Sink, D: Disk, C: Clock, T: Gate, R: Wait>(
+    rt: &R,
+    alloc: Global,
+    gate: &T,
+    shop: &Shop<D, C>,
+    counter: &mut Counter<D, C>,
+    first: &Result<Action, SpeechEnd>,
+    source: &mut S,
+    sink: &mut K,
+) -> SpeechEnd
+    requires own { All (λ t. till_shop t ≡ shop_id shop.now) counter.old.held.items }
+    requires numbers { reverse (map till_number counter.old.held.items) ≡ range_with_len 1 LAST_TILL }
+    requires lacked { counter.old.lacked ≡ false }
+    ensures own { All (λ t. till_shop t ≡ shop_id shop.now) counter.new.held.items }
+    ensures numbers { map till_number counter.new.held.items ≡ map till_number counter.old.held.items }
+    ensures spoken { (left : Option (List ℕ)) (faults : ℕ) → ComesFirst left (S.left source.old) counter.old.listener first.now →
+        faults ≤ S.faults source.old → IsCause faults (S.faults source.old) first.now →
+        Spoken C.coming (clock_first first.now) (moment_since left faults (K.taken sink.old) (K.faults sink.old))
+        (moment_of S.left S.faults K.taken K.faults source.new sink.new) counter.new.lacked
+        (map till_knows counter.old.held.items) (map till_knows counter.new.held.items) result }
+{
+    match first {
+        Err(end) => *end,
+        Ok(action) => match carry_out(rt, alloc, gate, shop, counter, sink, action) {
+            Some(end) => end,
+            None => speak(rt, alloc, gate, shop, counter, source, sink),
+        },
+    }
+}

@@ -1,0 +1,3 @@
+mod Tills
+mod Sent
+mod UnderSerial

@@ -1,0 +1,13 @@
+pub mod OwnClock
+pub mod Pairwise
+pub mod Scripts
+pub mod IssuerFiles
+pub mod Served
+pub mod Blocks
+pub mod Work
+pub mod IssuerJobs
+pub mod IssuerTasks
+pub mod Dones
+pub mod Lasting
+pub mod Ends
+pub mod Times

@@ -1,0 +1,46 @@
+//! The clock of an issuer's commands.
+ghost use Rattle.std.specs.Prelude.{◌≡◌, ℕ};
+ghost use Rattle.chain_store.specs.Readings.{readings_of};
+ghost use Rattle.many_issuers.specs.OwnClock as spec;
+
+use ports::{Clock, CountingClock};
+
+/// The clock that was handed in, or that of a script's clock line, with the one in whose place it stands.
+#[derive(Drop)]
+pub(crate) enum OwnClock<C> {
+    Given(C),
+    Line(CountingClock, C),
+}
+
+impl<C: Clock> OwnClock<C> {
+    /// The clock of a script with this clock line.
+    pub(crate) fn of(line: Option<(u64, u64)>, clock: C) -> OwnClock<C>
+        ensures { (k : ℕ) → spec.coming_of C.coming result k ≡ readings_of line (C.coming clock) k }
+    {
+        match line {
+            None => OwnClock::Given(clock),
+            Some((start, step)) => OwnClock::Line(CountingClock::new(start, step), clock),
+        }
+    }
+
+    /// The clock that was handed in.
+    pub(crate) fn given(self) -> C {
+        match self {
+            OwnClock::Given(clock) => clock,
+            OwnClock::Line(_, clock) => clock,
+        }
+    }
+}
+
+impl<C: Clock> Clock for OwnClock<C> {
+    ghost last = { spec.last_of C.last };
+
+    ghost coming = { spec.coming_of C.coming };
+
+    fn now(&mut self) -> u64 {
+        match self {
+            OwnClock::Given(clock) => clock.now(),
+            OwnClock::Line(own, _) => own.now(),
+        }
+    }
+}

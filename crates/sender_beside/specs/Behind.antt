@@ -1,0 +1,38 @@
+-- What a sender does once the tills beside it have ended.
+use Rattle.std.specs.Prelude.{◌≡◌, ◌≤◌, ℕ, Bool, IsTrue, OnErr, OnOk, Result}
+use Rattle.chain_disk.specs.declared.disk.Disk as disk
+use Rattle.ports.specs.declared.Clock as clock
+use Rattle.sender.specs.Draining.{Scene, scene_of}
+use Rattle.sender.specs.Lines.{SaysCalls}
+use Rattle.sender.specs.Turning.{AgencyKind, AgencyState}
+use Rattle.sender.specs.declared.answers.DrainFault.{DrainFault}
+use Rattle.sender_session.specs.Session.{DrainsTo, IsUndelivered}
+use Rattle.till_calls.specs.Mark.{sight_by}
+use Rattle.till_calls.specs.Shop.{seat_knows}
+use Rattle.sender_beside.specs.declared.sending.Sent.{Sent}
+
+-- all that a sender has, by what its agency's type and its sleeper's tell of them
+abbrev pub scene_in : {D C G Z : Type 0} {d : disk.Ghosts D} {c : clock.Ghosts C} → (G → AgencyState) → (Z → ℕ) → Sent D C G Z d c →
+    Scene
+scene_in state moment sent = scene_of (state sent.agency) (sight_by (seat_knows sent.seat)) sent.sender (moment sent.sleeper)
+
+-- From an opened session to the end, by the scene at the tills' end. The turns beside the tills led there and ended so; they gave
+-- up on no link. A fault that had ended them is the answer, and nothing more was done; otherwise one drain led from there to the
+-- end, so that the faults of the link that were met beside the tills don't count towards its eight, and nothing comes after the
+-- eighth.
+pub record SendsBehind (kind : AgencyKind) (exact : Bool) (opened after : AgencyState) (met left : Scene)
+    (beside answer : Result (Unit {0}) DrainFault) : Type 0 where
+  pub says : IsTrue kind.tells → SaysCalls opened.ledger.messages met.agency_state.ledger.messages
+  pub later : opened.faults ≤ met.agency_state.faults
+  pub never : IsUndelivered beside → ⊥
+  pub failed : OnErr beside ((answer ≡ beside) × (left ≡ met))
+  pub drains : OnOk beside (DrainsTo kind exact met left answer)
+  pub agency_state : left.agency_state ≡ after
+
+-- the same, by some scene at the tills' end, with a sleeper that tells its moment or doesn't
+pub record DrainsBehind (kind : AgencyKind) (opened after : AgencyState) (answer : Result (Unit {0}) DrainFault) : Type 0 where
+  pub exact : Bool
+  pub met : Scene
+  pub left : Scene
+  pub beside : Result (Unit {0}) DrainFault
+  pub sends : SendsBehind kind exact opened after met left beside answer

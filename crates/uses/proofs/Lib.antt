@@ -1,3 +1,0 @@
-mod Tills
-mod Sent
-mod Kept
