@@ -266,7 +266,9 @@ def tickets(count):
             seconds, times = min(column)
             paces.append(1 / seconds)
             print(f"{tills} till(s), sales {name}: {shown(1 / seconds, times)}")
-        print(f"{tills} till(s): with their tickets {paces[0] / paces[1]:.2f} of those without (wanted: {wanted})")
+        parts = sorted(without[0] / with_tickets[0] for with_tickets, without in turns)
+        print(f"{tills} till(s): with their tickets {paces[0] / paces[1]:.2f} of those without, in the middle one of {TURNS} pairs of turns "
+              f"{parts[TURNS // 2]:.2f} (wanted: {wanted})")
 
 
 if __name__ == "__main__":
