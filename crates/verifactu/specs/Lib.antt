@@ -1,3 +1,4 @@
+pub mod Pairs
 pub mod CommandLine
 pub mod Help
 pub mod Topics
