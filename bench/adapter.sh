@@ -7,6 +7,7 @@
 set -eu
 
 root=$(CDPATH= cd -- "$(dirname -- "$0")/.." && pwd)
+. "$root/bench/files.sh"
 records=${1:-10000}
 [ $# -eq 0 ] || shift
 [ $# -gt 0 ] || set -- python3 "$root/examples/agency/agency.py"
@@ -55,15 +56,14 @@ run() {
 }
 
 # A file of so many waiting sales.
-sales() {
+waiting() {
     rm -f "$work/shop.chain"
-    { echo "clock 1735722000 1"; seq "$1" | sed 's/.*/sale 1 & A F2 21:1000/'; } >"$work/script"
-    "$VERIFACTU" chain "$work/shop.chain" $nif <"$work/script" >/dev/null
+    make_file "$VERIFACTU" "$work/shop.chain" "$1"
 }
 
 echo "clock 1735900000 0" >"$work/empty"
 for plan in "1 none" "2 lost, 4 taken, 6 stale" "1 lost, 3 taken, 5 half, 7 twice" "2 half, 4 stale, 5 twice"; do
-    sales 1020
+    waiting 1020
     start "$plan" "$@"
     run "drain, $plan" "$work/empty" drain "$work/shop.chain" $nif
     stop
@@ -86,8 +86,7 @@ done
 # The practice adapter, whose agency shows by invoice the last accepted record alone. A call to the service is lost, late, or answered twice or
 # by the reply to another call: it had a refused record before accepted ones, and a sale whose fix and one whose cancellation wait behind it.
 {
-    echo "clock 1735722000 1"
-    seq 5 | sed 's/.*/sale 1 & A F2 21:1000/'
+    sales 1 5
     echo "fix 1 6 A-4 F2 21:2000"
     echo "cancel 1 7 A-5"
 } >"$work/lost"
@@ -99,7 +98,7 @@ for fates in "2 lost" "2 taken" "2 taken, 3 lost, 4 taken" "2 late 1" "2 late 2"
         --log "$work/register/log" --plan "$fates" --verdicts "A-2 1 vet 3000"
     run "by invoice, $fates" "$work/empty" drain "$work/shop.chain" $nif
     # The next run finds no contradiction either.
-    { echo "clock 1735722000 1"; echo "sale 1 8 A F2 21:1000"; } | "$VERIFACTU" chain "$work/shop.chain" $nif >/dev/null
+    sales 8 8 | "$VERIFACTU" chain "$work/shop.chain" $nif >/dev/null
     run "by invoice, $fates, one more" "$work/empty" drain "$work/shop.chain" $nif
     stop
     case $fates in *taken* | *late\ 1* | *stale*) code=0 ;; *) code=3000 ;; esac
@@ -109,14 +108,14 @@ for fates in "2 lost" "2 taken" "2 taken, 3 lost, 4 taken" "2 late 1" "2 late 2"
 done
 
 # An adapter that a shell restarts at once, and that ends amid an answer. The shell holds the files.
-sales 1020
+waiting 1020
 start "" sh -c 'exec 3<"$2" 4>"$3"; trap "kill \$adapter; exit" TERM
     while :; do python3 "$0" --state "$1" --plan "2 half" /dev/fd/3 /dev/fd/4 & adapter=$!; wait $adapter; done' \
     "$root/examples/agency/agency.py" "$work/state"
 run "restarted at once" "$work/empty" drain "$work/shop.chain" $nif
 stop
 
-sales "$records"
+waiting "$records"
 start "" "$@"
 begun=$(date +%s%N)
 run "drain" "$work/empty" drain "$work/shop.chain" $nif

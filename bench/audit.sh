@@ -6,6 +6,7 @@
 # writes. The file is made by several calls of `chain`, whose scripts have 100,000 commands at most: that takes some minutes.
 set -eu
 root=$(CDPATH= cd -- "$(dirname -- "$0")/.." && pwd)
+. "$root/bench/files.sh"
 records=${1:-1000000}
 work=$(mktemp -d /dev/shm/audit.XXXXXX)
 trap 'rm -rf "$work"' EXIT
@@ -40,21 +41,7 @@ PROGRAM
 (cd "$work/crates/sha_bench" && rt run >"$work/log" 2>&1) || { tail -20 "$work/log"; exit 1; }
 hash=$work/crates/sha_bench/out/sha_bench
 
-made=0
-while [ "$made" -lt "$records" ]; do
-    next=$((made + 100000))
-    [ "$next" -le "$records" ] || next=$records
-    {
-        echo "clock 1735722000 1"
-        seq $((made + 1)) "$next" | sed 's/.*/sale 1 & A F2 21:1000/'
-    } >"$work/script"
-    "$program" chain "$work/shop.chain" 89890001K <"$work/script" >/dev/null
-    made=$next
-done
-
-microseconds() {
-    echo $(($(date +%s%N) / 1000))
-}
+make_file "$program" "$work/shop.chain" "$records"
 
 least() {
     sort -n | head -n 1

@@ -5,24 +5,15 @@
 set -eu
 
 root=$(CDPATH= cd -- "$(dirname -- "$0")/.." && pwd)
+. "$root/bench/files.sh"
 folder=$(mktemp -d /dev/shm/chain.XXXXXX)
 trap 'rm -rf "$folder"' EXIT
 
 "$root/verifactu" --version >/dev/null
 program=$root/crates/program/out/program
 
-# A script of so many sales of till 1.
-script() {
-    echo "clock 1735722000 1"
-    seq "$1" | sed 's/.*/sale 1 & A F2 21:1000/'
-}
-
-milliseconds() {
-    echo $(($(date +%s%N) / 1000000))
-}
-
 for sales in 1000 4000 16000; do
-    script "$sales" >"$folder/script"
+    sales 1 "$sales" >"$folder/script"
     best=
     for _ in 1 2 3 4 5; do
         rm -f "$folder/shop.chain"

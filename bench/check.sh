@@ -8,6 +8,7 @@
 # Run by hand, on a machine that does nothing else: bench/check.sh [LINKS] [TURNS] [RECORDS].
 set -eu
 root=$(CDPATH= cd -- "$(dirname -- "$0")/.." && pwd)
+. "$root/bench/files.sh"
 links=${1:-130000}
 turns=${2:-15}
 records=${3:-10000}
@@ -16,21 +17,13 @@ trap 'rm -rf "$work"' EXIT
 
 "$root/verifactu" --version >/dev/null
 program=$root/crates/program/out/program
-{
-    echo "clock 1735722000 0"
-    seq 1 "$records" | sed 's/.*/sale 1 & A F2 21:1000/'
-} >"$work/script"
-"$program" chain "$work/shop.chain" 89890001K <"$work/script" >/dev/null
+sales 1 "$records" 0 | "$program" chain "$work/shop.chain" 89890001K >/dev/null
 front="https://www2.agenciatributaria.gob.es/wlpl/TIKE-CONT/ValidarQR?nif=89890001K\&numserie=A-"
 in_turn() {
     seq 0 $((links - 1)) | awk -v records="$records" '{ print $1 % records + 1 }'
 }
 in_turn | sed "s|.*|$front&\\&fecha=01-01-2025\\&importe=12.10|" >"$work/links"
 in_turn | sed 's/^/found /' >"$work/wanted"
-
-microseconds() {
-    echo $(($(date +%s%N) / 1000))
-}
 
 # Notes the time of a run with so many workers on this source.
 timed() {

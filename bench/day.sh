@@ -7,6 +7,7 @@
 set -eu
 
 root=$(CDPATH= cd -- "$(dirname -- "$0")/.." && pwd)
+. "$root/bench/files.sh"
 real=$(mktemp -d "${1:-/var/tmp}/day.XXXXXX")
 memory=$(mktemp -d /dev/shm/day.XXXXXX)
 turns=${2:-5}
@@ -19,14 +20,7 @@ program=$root/crates/program/out/program
     echo "clock 1735722000 1"
     for sale in $(seq 100); do seq 64 | sed "s/.*/sale & $sale A F2 21:1000/"; done
 } >"$memory/64"
-{
-    echo "clock 1735722000 1"
-    seq 6400 | sed 's/.*/sale 1 & A F2 21:1000/'
-} >"$memory/1"
-
-milliseconds() {
-    echo $(($(date +%s%N) / 1000000))
-}
+sales 1 6400 >"$memory/1"
 
 # One day of so many tills in a folder, whose time is noted.
 turn() {

@@ -5,26 +5,13 @@
 # Run by hand, on a machine that does nothing else: bench/drain.sh [RECORDS]
 set -eu
 root=$(CDPATH= cd -- "$(dirname -- "$0")/.." && pwd)
+. "$root/bench/files.sh"
 records=${1:-100000}
 work=$(mktemp -d /dev/shm/drain.XXXXXX)
 trap 'rm -rf "$work"' EXIT
 
 "$root/verifactu" --version >/dev/null
 program=$root/crates/program/out/program
-
-microseconds() {
-    echo $(($(date +%s%N) / 1000))
-}
-
-# A file of so many sales.
-file_of() {
-    {
-        echo "clock 1735722000 1"
-        seq "$1" | sed 's/.*/sale 1 & A F2 21:1000/'
-    } >"$work/script"
-    rm -f "$work/$1.chain"
-    "$program" chain "$work/$1.chain" 89890001K <"$work/script" >/dev/null
-}
 
 # Opens a file of so many records, and drains a copy of it; the times are noted.
 turn() {
@@ -43,7 +30,7 @@ least() {
 }
 
 for count in $((records / 10)) "$records"; do
-    file_of "$count"
+    make_file "$program" "$work/$count.chain" "$count"
     for _ in 1 2 3; do turn "$count"; done
     drained=$(least "$work/drains.$count")
     opened=$(least "$work/opens.$count")

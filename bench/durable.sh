@@ -9,6 +9,7 @@
 set -eu
 
 root=$(CDPATH= cd -- "$(dirname -- "$0")/.." && pwd)
+. "$root/bench/files.sh"
 folder=$(mktemp -d "${1:-/var/tmp}/durable.XXXXXX")
 sales=${2:-100}
 turns=${3:-20}
@@ -17,10 +18,7 @@ trap 'rm -rf "$folder"' EXIT
 "$root/verifactu" --version >/dev/null
 program=$root/crates/program/out/program
 
-{
-    echo "clock 1735722000 1"
-    seq "$sales" | sed 's/.*/sale 1 & A F2 21:1000/'
-} >"$folder/script"
+sales 1 "$sales" >"$folder/script"
 
 # A body of 240 bytes a sale, as much as a record of these has.
 for mode in DELETE WAL; do
@@ -51,10 +49,6 @@ int main(int argc, char **argv) {
 }
 C
 "${CC:-cc}" -O2 -o "$folder/bare" "$folder/bare.c"
-
-microseconds() {
-    echo $(($(date +%s%N) / 1000))
-}
 
 # Runs one of the four on a new file, and notes its time.
 turn() {

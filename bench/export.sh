@@ -7,6 +7,7 @@
 # Run by hand, on a machine that does nothing else: bench/export.sh [RECORDS]. It needs GNU time, 3 GB of memory and some minutes.
 set -eu
 root=$(CDPATH= cd -- "$(dirname -- "$0")/.." && pwd)
+. "$root/bench/files.sh"
 records=${1:-1000000}
 limit=16777216
 work=$(mktemp -d /dev/shm/export.XXXXXX)
@@ -14,21 +15,6 @@ trap 'rm -rf "$work"' EXIT
 
 [ -n "${VERIFACTU:-}" ] || "$root/verifactu" --version >/dev/null
 program=${VERIFACTU:-$root/crates/program/out/program}
-
-# A file of so many records, by several calls: a script has 100,000 commands at most.
-make_file() {
-    made=0
-    while [ "$made" -lt "$2" ]; do
-        next=$((made + 100000))
-        [ "$next" -le "$2" ] || next=$2
-        {
-            echo "clock 1735722000 1"
-            seq $((made + 1)) "$next" | sed 's/.*/sale 1 & A F2 21:1000/'
-        } >"$work/script"
-        "$program" chain "$1" 89890001K <"$work/script" >/dev/null
-        made=$next
-    done
-}
 
 # Runs the program with these words, three times, on the source; its status has to be the wanted one. Its least microseconds and
 # kilobytes.
@@ -55,7 +41,7 @@ tell() {
 }
 
 source=/dev/null wanted=0
-make_file "$work/large.chain" "$records"
+make_file "$program" "$work/large.chain" "$records"
 measure audit "$work/large.chain"
 audited=$took
 measure link "$work/large.chain" "A-$records" real
@@ -71,7 +57,7 @@ rm "$work/large.chain" "$work/text"
 # The longest lines of such a file have 430 bytes.
 few=$((limit / 430))
 [ "$few" -le "$records" ] || few=$records
-make_file "$work/small.chain" "$few"
+make_file "$program" "$work/small.chain" "$few"
 measure audit "$work/small.chain"
 audited=$took
 measure export "$work/small.chain"

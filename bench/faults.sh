@@ -8,6 +8,7 @@
 set -eu
 
 root=$(CDPATH= cd -- "$(dirname -- "$0")/.." && pwd)
+. "$root/bench/files.sh"
 folder=$(mktemp -d "${1:-/var/tmp}/faults.XXXXXX")
 sales=${2:-3}
 trap 'rm -rf "$folder"' EXIT
@@ -23,10 +24,7 @@ wrong() {
     exit 1
 }
 
-{
-    echo "clock 1735722000 1"
-    seq "$sales" | sed 's/.*/sale 1 & A F2 21:1000/'
-} >sales
+sales 1 "$sales" >sales
 printf 'clock 1735800000 0\nlink 2 taken\n' >plan
 : >nothing
 

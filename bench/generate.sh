@@ -6,6 +6,7 @@
 # OpenSSL's headers, and leaves nothing behind.
 set -eu
 root=$(CDPATH= cd -- "$(dirname -- "$0")/.." && pwd)
+. "$root/bench/files.sh"
 commands=${1:-100000}
 runs=${2:-10}
 work=$(mktemp -d)
@@ -14,10 +15,6 @@ trap 'rm -rf "$work"' EXIT
 "$root/verifactu" --version >/dev/null
 program=$root/crates/program/out/program
 "${CC:-cc}" -O2 -o "$work/peer" "$root/bench/generate_peer.c" -lcrypto
-
-microseconds() {
-    echo $(($(date +%s%N) / 1000))
-}
 
 # Runs one of the two and notes its time.
 turn() {

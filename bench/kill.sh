@@ -6,6 +6,7 @@
 set -eu
 
 root=$(CDPATH= cd -- "$(dirname -- "$0")/.." && pwd)
+. "$root/bench/files.sh"
 folder=$(mktemp -d "${1:-/var/tmp}/kill.XXXXXX")
 rounds=${2:-400}
 sales=${3:-2000}
@@ -16,10 +17,7 @@ program=$root/crates/program/out/program
 file=$folder/shop.chain
 nif=89890001K
 
-{
-    echo "clock 1735722000 1"
-    seq "$sales" | sed 's/.*/sale 1 & A F2 21:1000/'
-} >"$folder/script"
+sales 1 "$sales" >"$folder/script"
 
 # The chain of the file, as a run without commands prints it.
 listed() {

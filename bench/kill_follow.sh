@@ -4,6 +4,7 @@
 # Run by hand: bench/kill_follow.sh [TIMES] [FOLDER].
 set -eu
 root=$(CDPATH= cd -- "$(dirname -- "$0")/.." && pwd)
+. "$root/bench/files.sh"
 times=${1:-40}
 work=$(mktemp -d "${2:-/var/tmp}/kill_follow.XXXXXX")
 trap 'rm -rf "$work"' EXIT
@@ -12,11 +13,7 @@ trap 'rm -rf "$work"' EXIT
 program=${VERIFACTU:-$root/crates/program/out/program}
 cd "$work"
 entries=1000
-{
-    echo "clock 1735722000 1"
-    seq "$entries" | sed 's/.*/sale 1 & A F2 21:1000/'
-} >script
-"$program" chain shop.chain 89890001K <script >text
+make_file "$program" shop.chain "$entries"
 "$program" export shop.chain >lines
 cp shop.chain as_it_was
 

@@ -4,6 +4,7 @@
 # Run by hand: bench/kill_migrate.sh [TIMES] [FOLDER]. It needs Python, which writes the file of version 1 (old_file.py).
 set -eu
 root=$(CDPATH= cd -- "$(dirname -- "$0")/.." && pwd)
+. "$root/bench/files.sh"
 times=${1:-40}
 work=$(mktemp -d "${2:-/var/tmp}/kill_migrate.XXXXXX")
 trap 'rm -rf "$work"' EXIT
@@ -11,11 +12,7 @@ trap 'rm -rf "$work"' EXIT
 [ -n "${VERIFACTU:-}" ] || "$root/verifactu" --version >/dev/null
 program=${VERIFACTU:-$root/crates/program/out/program}
 cd "$work"
-{
-    echo "clock 1735722000 1"
-    seq 60000 | sed 's/.*/sale 1 & A F2 21:1000/'
-} >script
-"$program" chain made.chain 89890001K <script >/dev/null
+make_file "$program" made.chain 60000
 python3 "$root/bench/old_file.py" made.chain old.chain
 cp old.chain as_it_was
 "$program" audit old.chain >verdict

@@ -5,6 +5,7 @@
 set -eu
 
 root=$(CDPATH= cd -- "$(dirname -- "$0")/.." && pwd)
+. "$root/bench/files.sh"
 folder=$(mktemp -d "${1:-/var/tmp}/lock.XXXXXX")
 sales=${2:-3000}
 trap 'rm -rf "$folder"' EXIT
@@ -19,10 +20,7 @@ fail() {
     exit 1
 }
 
-{
-    echo "clock 1735722000 1"
-    seq "$sales" | sed 's/.*/sale 1 & A F2 21:1000/'
-} >"$folder/long"
+sales 1 "$sales" >"$folder/long"
 printf 'clock 1735722000 1\nsale 2 1 B F2 21:1000\n' >"$folder/short"
 
 "$program" chain "$file" $nif <"$folder/long" >"$folder/first" &

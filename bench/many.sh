@@ -6,6 +6,7 @@
 # Run by hand, on a machine that does nothing else: bench/many.sh [RECORDS] [TURNS]
 set -eu
 root=$(CDPATH= cd -- "$(dirname -- "$0")/.." && pwd)
+. "$root/bench/files.sh"
 records=${1:-20000}
 turns=${2:-9}
 work=$(mktemp -d /dev/shm/many.XXXXXX)
@@ -15,14 +16,7 @@ issuers="89890001K 12345678Z 00000001R 00000002W 00000003A 00000004G 00000005M 0
 "$root/verifactu" --version >/dev/null
 program=$root/crates/program/out/program
 
-milliseconds() {
-    echo $(($(date +%s%N) / 1000000))
-}
-
-{
-    echo "clock 1735722000 1"
-    seq "$records" | sed 's/.*/sale 1 & A F2 21:1000/'
-} >"$work/sales"
+sales 1 "$records" >"$work/sales"
 echo "clock 1735900000 0" >"$work/clock"
 mkdir "$work/waiting" "$work/files"
 words=

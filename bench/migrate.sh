@@ -6,29 +6,13 @@
 # of version 1 (old_file.py), since the program begins none.
 set -eu
 root=$(CDPATH= cd -- "$(dirname -- "$0")/.." && pwd)
+. "$root/bench/files.sh"
 records=${1:-1000000}
 work=$(mktemp -d /dev/shm/migrate.XXXXXX)
 trap 'rm -rf "$work"' EXIT
 
 [ -n "${VERIFACTU:-}" ] || "$root/verifactu" --version >/dev/null
 program=${VERIFACTU:-$root/crates/program/out/program}
-
-# A file of so many records, by several calls: a script has 100,000 commands at most.
-make_old() {
-    made=0
-    while [ "$made" -lt "$2" ]; do
-        next=$((made + 100000))
-        [ "$next" -le "$2" ] || next=$2
-        {
-            echo "clock 1735722000 1"
-            seq $((made + 1)) "$next" | sed 's/.*/sale 1 & A F2 21:1000/'
-        } >"$work/script"
-        "$program" chain "$work/made.chain" 89890001K <"$work/script" >/dev/null
-        made=$next
-    done
-    python3 "$root/bench/old_file.py" "$work/made.chain" "$1"
-    rm "$work/made.chain"
-}
 
 # Runs the program with these words, three times, the file NEW absent. Its least microseconds and kilobytes.
 measure() {
@@ -46,7 +30,9 @@ measure() {
 
 # The figures of a file of so many records.
 figures() {
-    make_old "$work/old.chain" "$1"
+    make_file "$program" "$work/made.chain" "$1"
+    python3 "$root/bench/old_file.py" "$work/made.chain" "$work/old.chain"
+    rm "$work/made.chain"
     measure audit "$work/old.chain"
     audited=$took
     mv "$work/text" "$work/verdict"

@@ -7,6 +7,7 @@
 set -eu
 
 root=$(CDPATH= cd -- "$(dirname -- "$0")/.." && pwd)
+. "$root/bench/files.sh"
 records=${1:-1000000}
 folder=$(mktemp -d /dev/shm/scale.XXXXXX)
 trap 'rm -rf "$folder"' EXIT
@@ -16,12 +17,6 @@ program=$root/crates/program/out/program
 cd "$folder"
 nif=89890001K
 faster=0
-
-# So many sales of till 1, the first with this serial.
-sales() {
-    echo "clock 1735722000 1"
-    seq "$2" $(($2 + $1 - 1)) | sed 's/.*/sale 1 & A F2 21:1000/'
-}
 
 # So many sales of 12 lines, and comments up to so many bytes.
 long_script() {
@@ -87,10 +82,10 @@ measure chain shop.chain $nif
 tell
 
 what="100000 commands of one till"
-sales 10000 1 >script
+sales 1 10000 >script
 measure chain shop.chain $nif
 small_is
-sales 100000 1 >script
+sales 1 100000 >script
 measure chain shop.chain $nif
 tell
 
@@ -114,7 +109,7 @@ tell
 tenth=$((records / 10))
 rm -f shop.chain
 for part in 0 1 2 3 4 5 6 7 8 9; do
-    sales $tenth $((part * tenth + 1)) >script
+    sales $((part * tenth + 1)) $(((part + 1) * tenth)) >script
     "$program" chain shop.chain $nif <script >text
     [ $part -gt 0 ] || cp shop.chain tenth.chain
 done

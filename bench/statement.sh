@@ -4,6 +4,7 @@
 # Run by hand, on a machine that does nothing else: bench/statement.sh [RECORDS], at most 1,000,000 of them.
 set -eu
 root=$(CDPATH= cd -- "$(dirname -- "$0")/.." && pwd)
+. "$root/bench/files.sh"
 records=${1:-1000000}
 work=$(mktemp -d /dev/shm/statement.XXXXXX)
 trap 'rm -rf "$work"' EXIT
@@ -11,17 +12,7 @@ trap 'rm -rf "$work"' EXIT
 [ -n "${VERIFACTU:-}" ] || "$root/verifactu" --version >/dev/null
 program=${VERIFACTU:-$root/crates/program/out/program}
 
-made=0
-while [ "$made" -lt "$records" ]; do
-    next=$((made + 100000))
-    [ "$next" -le "$records" ] || next=$records
-    {
-        echo "clock 1735722000 1"
-        seq $((made + 1)) "$next" | sed 's/.*/sale 1 & A F2 21:1000/'
-    } >"$work/script"
-    "$program" chain "$work/shop.chain" 89890001K <"$work/script" >/dev/null
-    made=$next
-done
+make_file "$program" "$work/shop.chain" "$records"
 
 # The fastest of three runs of the program with these words, in microseconds.
 timed() {

@@ -24,7 +24,7 @@ use Rattle.shop_core.specs.declared.answer.refusals.Refusal.{Refusal}
 use Rattle.shop_core.specs.declared.answer.Reply.{Reply}
 use Rattle.shop_core.specs.declared.answer.Reply.TheVariants as reply
 use Rattle.shop_core.specs.declared.answer.receipts.Receipt.{Receipt}
-use Rattle.verifactu.specs.Promise.{AreAccepted}
+use Rattle.verifactu.specs.TillPromise.{AreAccepted}
 use Rattle.chain_store.specs.Replies.{Replies}
 use Rattle.sender_beside.specs.Tills.{AreTaken, ServedRun, is_from, own_of}
 use Rattle.sender_beside.specs.Tills.ServedRun.{unasked, answered, torn, stopped, without_memory}

@@ -1,12 +1,12 @@
 -- A file that stands for a history begins with the bytes of each file that stands for a front of it, up to that one's closing gate.
-use Rattle.std.proofs.Common.{◌≡◌, ◌⊎◌, inl, inr, ℕ, List, [], ◌∷◌, ◌++◌, length, take, refl, sym, ◌∙◌, ap, subst, arith}
+use Rattle.std.proofs.Common.{◌≡◌, inl, inr, ℕ, List, [], ◌∷◌, ◌++◌, length, take, refl, sym, ◌∙◌, ap, subst, arith}
 use Rattle.std.proofs.Common.{append_assoc, length-append}
 use Rattle.std.proofs.lemmas.List.{map-append, take_at}
-use Rattle.chain_disk.specs.OnDisk.{IsImage, OnDisk, Pending}
+use Rattle.chain_disk.specs.OnDisk.{IsImage, Pending}
 use Rattle.chain_disk.specs.Runs.{settled_image}
 use Rattle.chain_store.specs.Crashes.{StandsForEnd}
 use Rattle.frames.specs.Frames.{length_bytes}
-use Rattle.journal.specs.File.{IsFile, IsNotBegun, closing_gate, framed, header}
+use Rattle.journal.specs.File.{IsNotBegun, closing_gate, framed, header}
 use Rattle.parties.specs.Nif.{IsNif}
 use Rattle.record_codec.specs.Writing.{entry_bytes}
 use Rattle.record_codec.specs.declared.entry.Entry.{Entry}
@@ -16,7 +16,8 @@ use Rattle.shop_core.specs.File.Laws.{OneHistory}
 use Rattle.shop_core.specs.Prefix.{IsPrefix}
 use Rattle.shop_drain.specs.Crashes.{StandsSince}
 use Rattle.shop_commands.specs.Follow.IsFollowImage.{as_before, not_begun, front}
-use Rattle.verifactu.specs.Promise.{CopyAppends, IsAppendedTo}
+use Rattle.verifactu.specs.ChainPromise.{IsAppendedTo}
+use Rattle.verifactu.specs.FurtherPromise.{CopyAppends}
 
 framed-append : (xs ys : List (List ℕ)) (rest : List ℕ) → framed (xs ++ ys) ++ rest ≡ framed xs ++ (framed ys ++ rest)
 framed-append [] ys rest = refl

@@ -6,7 +6,7 @@ use Rattle.std.proofs.lemmas.Slice.Eq.{bytes_eq-Decides}
 use Rattle.parties.specs.Nif.{IsNif}
 use Rattle.std.specs.List.{list_any}
 use Rattle.verifactu.specs.CommandLine.{AsksFor, IsAskedFor, IsHelpAsked, IsSaid, Says, asks_help, IsChain, IsDay, IsDrain, IsServe, IsWithin, IsGuard, IsGuarding, IsMany, further_pairs, posts_needed}
-use Rattle.file_pairs.specs.Pairs.{ArePairs, AreApart, IsPairs}
+use Rattle.verifactu.specs.Pairs.{ArePairs, AreApart, IsPairs}
 use Rattle.issuers.specs.Office.{AreOwn}
 use Rattle.verifactu.specs.declared.command_line.Command.{Command}
 use Rattle.verifactu.specs.declared.command_line.Command.TheVariants.{Chain, Day, Drain, Serve, Audit, Link, Check, Migrate, Follow, Guard, Many}

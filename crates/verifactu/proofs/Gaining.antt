@@ -20,7 +20,7 @@ use Rattle.shop_commands.specs.Day.{EachTill, EachTillOf}
 use Rattle.sender_beside.specs.Days.{Day, TillReplies}
 use Rattle.shop_drain.specs.Draining.{AddsNotesAlone}
 use Rattle.sender_session.specs.Session.{AreNotesEntry}
-use Rattle.verifactu.specs.Promise.{AreAccepted, AreAskedIn, TillsGain}
+use Rattle.verifactu.specs.TillPromise.{AreAccepted, AreAskedIn, TillsGain}
 use Rattle.chain_store.specs.Replies.{Replies}
 use Rattle.sender_beside.specs.Tills.{TillServed, asks_of, has_asks, is_from, own_of, tills_of}
 use Rattle.verifactu.proofs.Accepted.{accepted_append, all_accepted, by_reply}

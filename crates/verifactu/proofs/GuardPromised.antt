@@ -19,8 +19,11 @@ use Rattle.shop_drain.specs.Draining.{Beginning, IsSession, IsUnopened, Span, sp
 use Rattle.shop_commands.specs.Follow.{IsFollowImage}
 use Rattle.shop_commands.specs.Guard.{FileGuarded, GuardEnds, GuardsFile}
 use Rattle.shop_drain.specs.Guarding.{AreHeld, Held}
-use Rattle.verifactu.specs.Promise.{AgencyKept, BatchesKept, IsOwn, OnlyGuarded, TillsGain}
-use Rattle.verifactu.specs.Promise.AgencyKept.{silent, in_session}
+use Rattle.verifactu.specs.AgencyPromise.{AgencyKept, BatchesKept}
+use Rattle.verifactu.specs.AgencyPromise.AgencyKept.{silent, in_session}
+use Rattle.verifactu.specs.FilePromise.{IsOwn}
+use Rattle.verifactu.specs.FurtherPromise.{OnlyGuarded}
+use Rattle.verifactu.specs.TillPromise.{TillsGain}
 use Rattle.command_ends.specs.Scripts.ScriptedEnds.{ran, bad_line, read_fault, too_big, no_memory}
 use Rattle.shop_commands.proofs.Follows.{untouched as untouched_image}
 use Rattle.shop_drain.proofs.Finishing.{since_found}

@@ -1,3 +1,5 @@
+pub mod Apart
+pub mod Paired
 pub mod CommandLine
 pub mod Counts
 pub mod Stopping

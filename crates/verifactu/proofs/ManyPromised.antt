@@ -43,8 +43,11 @@ use Rattle.shop_core.specs.File.Laws.{NotBegunIsNeither, OneHistory}
 use Rattle.shop_core.specs.History.{noted, recs}
 use Rattle.shop_core.specs.Prefix.{IsPrefix}
 use Rattle.shop_core.specs.Spans.{NotedWithinRecords}
-use Rattle.verifactu.specs.Promise.{AgencyKept, AreAskedOfPart, AreKept, BatchesKept, FileKept, OthersKept, writes_for}
-use Rattle.verifactu.specs.Promise.AgencyKept.{silent, in_session}
+use Rattle.verifactu.specs.AgencyPromise.{AgencyKept, BatchesKept}
+use Rattle.verifactu.specs.AgencyPromise.AgencyKept.{silent, in_session}
+use Rattle.verifactu.specs.FilePromise.{FileKept, writes_for}
+use Rattle.verifactu.specs.FurtherPromise.{AreKept, OthersKept}
+use Rattle.verifactu.specs.TillPromise.{AreAskedOfPart}
 use Rattle.verifactu.specs.Running.{ManyRan}
 use Rattle.verifactu.specs.declared.command_line.Command.TheVariants.{Many}
 use Rattle.verifactu.proofs.Gaining.{gains_on, gains_run}
@@ -218,11 +221,11 @@ module _ {D C Z G : Type 0} (chained : AreLinked) (within : NotedWithinRecords) 
   all_left (issuer ∷ issuers) [] e = absurd (omega (arith, e))
 
   module _ (issuers : List (List ℕ)) (parts : List Part) (good : AreGoodParts issuers source parts) where
-    row_kept : (r : Row D C Z G) (before behind : List Part) → parts ≡ before ++ r.part ∷ behind → RowEnds d c z g r →
+    row_kept : (r : Row D C Z G) (before after : List Part) → parts ≡ before ++ r.part ∷ after → RowEnds d c z g r →
         FileKept (Some r.issuer) (call r.post r.after)
-    row_kept r before behind among (inl h) = kept_by r.issuer r.post r.after
+    row_kept r before after among (inl h) = kept_by r.issuer r.post r.after
         (λ says. closed_left chained (call r.post r.after) (same_agency_state r.post r.after) within rules r.issuer says r.end r.block h)
-    row_kept r before behind among (inr w) = kept_by r.issuer r.post r.after
+    row_kept r before after among (inr w) = kept_by r.issuer r.post r.after
         (λ says. works_left chained (call r.post r.after) (same_agency_state r.post r.after) within rules r.issuer says r.part.script
         (readings_of r.part.script.clock (c.coming r.post.clock)) r.end r.block w (record {
           issuers = issuers;
@@ -230,7 +233,7 @@ module _ {D C Z G : Type 0} (chained : AreLinked) (within : NotedWithinRecords) 
           good = good;
           before = before;
           part = r.part;
-          behind = behind;
+          after = after;
           among = among;
           front = w.front;
         }))

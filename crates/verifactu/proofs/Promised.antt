@@ -26,9 +26,9 @@ use Rattle.chain_store.specs.Crashes.{KeptByRun, StandsForEnd}
 use Rattle.shop_drain.specs.Crashes.{StandsSince}
 use Rattle.sender_beside.specs.Days.{Day, Stop, torn_of}
 use Rattle.shop_drain.specs.Opening.{NotOpened}
-use Rattle.verifactu.specs.Promise.{AppendsOnly, ChainGoesOn, Crashes, DamagedIsNotOwn, ForeignIsNotOwn, IsEither, IsFoundAgain, IsOwn}
-use Rattle.verifactu.specs.Promise.{IsAppendedTo, IsUnwritten}
-use Rattle.verifactu.specs.Promise.Crashes.{unwritten, since_sync}
+use Rattle.verifactu.specs.ChainPromise.{AppendsOnly, ChainGoesOn, Crashes, IsAppendedTo, IsEither, IsFoundAgain}
+use Rattle.verifactu.specs.ChainPromise.Crashes.{unwritten, since_sync}
+use Rattle.verifactu.specs.FilePromise.{DamagedIsNotOwn, ForeignIsNotOwn, IsOwn, IsUnwritten}
 use Rattle.chain_store.specs.Replies.{Replies, StopsOnce}
 use Rattle.sender_beside.specs.Tills.{StopIs}
 use Rattle.verifactu.proofs.Appended.{end_appended, since_appended, unbegun_appended}

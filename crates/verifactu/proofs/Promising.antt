@@ -30,7 +30,11 @@ use Rattle.shop_drain.specs.Devices.{first_moment, tells_moment}
 use Rattle.shop_drain.specs.Draining.{IsSession, IsUnopened, spanning}
 use Rattle.shop_commands.specs.Migrate.{disk_of_post}
 use Rattle.shop_drain.specs.Opening.{NotOpened}
-use Rattle.verifactu.specs.Promise.{AgencyKept, BatchesKept, FileKept, FurtherKept, Grows, OthersKept, Promise, TillsGain, writes_for}
+use Rattle.verifactu.specs.AgencyPromise.{AgencyKept, BatchesKept}
+use Rattle.verifactu.specs.FilePromise.{FileKept, Grows, writes_for}
+use Rattle.verifactu.specs.FurtherPromise.{FurtherKept, OthersKept}
+use Rattle.verifactu.specs.Promise.{Promise}
+use Rattle.verifactu.specs.TillPromise.{TillsGain}
 use Rattle.chain_store.specs.Replies.{Replies}
 use Rattle.chain_store.specs.Readings.{IsComing, LeavesClock, readings_of}
 use Rattle.verifactu.specs.Running.{CommandEnds, ManyRan, OwnEnds}

@@ -25,8 +25,8 @@ use Rattle.shop_drain.specs.Devices.{Agencies, Around}
 use Rattle.sender_session.specs.Session.{AreOfChain, SaysNothingBlindly}
 use Rattle.shop_drain.specs.Draining.{IsSession, IsUnopened, OpensSession, Outcome, spanning}
 use Rattle.sender_session.specs.Noting.{NotesSaid, NotesWhatIsSaid}
-use Rattle.verifactu.specs.Promise.{AgencyKept, BatchesKept, StaysOfChain}
-use Rattle.verifactu.specs.Promise.AgencyKept.{silent, in_session}
+use Rattle.verifactu.specs.AgencyPromise.{AgencyKept, BatchesKept, StaysOfChain}
+use Rattle.verifactu.specs.AgencyPromise.AgencyKept.{silent, in_session}
 use Rattle.sender_session.proofs.Batches.{runs_more}
 use Rattle.sender_session.proofs.Contrary.{recs_both}
 use Rattle.shop_drain.proofs.Saying.{first_said, noted_both}

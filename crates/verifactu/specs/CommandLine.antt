@@ -4,7 +4,7 @@ use Rattle.std.specs.Prelude.{◌*◌, ◌⊎◌, ◌||◌, Bool, true, false}
 use Rattle.std.specs.List.{list_any}
 use Rattle.std.specs.Int.{IsInRange}
 use Rattle.parties.specs.Nif.{IsNif}
-use Rattle.file_pairs.specs.Pairs.{IsPairs}
+use Rattle.verifactu.specs.Pairs.{IsPairs}
 use Rattle.series.specs.Numbers.{is_num_serie}
 use Rattle.statements.specs.Periods.{IsPeriod, period_text}
 use Rattle.statements.specs.declared.periods.Period.{Period}

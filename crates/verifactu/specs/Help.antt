@@ -434,7 +434,7 @@ help_on_many =
     ++ codes "own part of the script and its own practice agency.\n"
     ++ codes "\n"
     ++ codes "Reads   a script on standard input, to its end (verifactu help chain has its\n"
-    ++ codes "        lines), and each FILE. What stands behind a line issuer NIF is for this\n"
+    ++ codes "        lines), and each FILE. What stands after a line issuer NIF is for this\n"
     ++ codes "        issuer alone, what stands ahead of the first such line for all.\n"
     ++ codes "Prints  a block for each issuer: issuer NIF, what chain prints of it, and the\n"
     ++ codes "        line ended STATUS.\n"

@@ -1,6 +1,12 @@
+pub mod Pairs
 pub mod CommandLine
 pub mod Help
 pub mod Topics
 pub mod Stopping
+pub mod ChainPromise
+pub mod TillPromise
+pub mod AgencyPromise
+pub mod FilePromise
+pub mod FurtherPromise
 pub mod Promise
 pub mod Running

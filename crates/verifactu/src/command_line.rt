@@ -4,10 +4,11 @@ ghost use Rattle.std.specs.List.{list_any};
 ghost use Rattle.verifactu.specs.CommandLine.{AsksToSend, IsAskedFor, IsChoice, IsCount, IsHelpAsked, IsHost, IsSaid, IsWorkers};
 ghost use Rattle.verifactu.specs.CommandLine as spec;
 
+use crate::nifs::Nifs;
+use crate::pairs::read_pairs;
 use crate::topics::{Topic, topic_of};
 use amounts::read_whole;
 use file_commands::MOST;
-use file_pairs::{Nifs, read_pairs};
 use link_check::MAX_WORKERS;
 use parties::{MAX_ISSUERS, Nif};
 use report::Choice;

@@ -490,7 +490,7 @@ Answers and sends for two to eight issuers at once, each with its own file, its
 own part of the script and its own practice agency.
 
 Reads   a script on standard input, to its end (verifactu help chain has its
-        lines), and each FILE. What stands behind a line issuer NIF is for this
+        lines), and each FILE. What stands after a line issuer NIF is for this
         issuer alone, what stands ahead of the first such line for all.
 Prints  a block for each issuer: issuer NIF, what chain prints of it, and the
         line ended STATUS.

@@ -1,11 +1,14 @@
 //! What the promise of a run comes to.
-ghost use Rattle.verifactu.specs.Promise.{CopyAppends, DamagedIsNotOwn, ForeignIsNotOwn, IsFoundAgain, StaysOfChain};
+ghost use Rattle.verifactu.specs.ChainPromise.{IsFoundAgain};
+ghost use Rattle.verifactu.specs.AgencyPromise.{StaysOfChain};
+ghost use Rattle.verifactu.specs.FilePromise.{DamagedIsNotOwn, ForeignIsNotOwn};
+ghost use Rattle.verifactu.specs.FurtherPromise.{CopyAppends};
 ghost use Rattle.verifactu.specs.Stopping.{FaultsOnce, TearsAtMostOne, TearsByAFault, TearsForTillOrSender, TearsWhereItRose};
 ghost use Rattle.verifactu.specs.Stopping.{TellsOfItsStop};
 
 use shop_core::a_file_has_one_meaning;
 
-/// A damaged file may be written for nobody, and one of another issuer not for this one: by `others` of the promise both are as
+/// A damaged file may be written for nobody, and one of another issuer not for this one: by `others` of `FileKept` both are as
 /// they were after every run.
 pub fn a_strange_file_is_not_own()
     ensures damaged { DamagedIsNotOwn }

@@ -8,6 +8,8 @@ mod help;
 mod helps;
 mod installation;
 mod laws;
+mod nifs;
+mod pairs;
 mod running;
 mod topics;
 

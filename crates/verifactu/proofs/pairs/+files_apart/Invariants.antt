@@ -1,5 +1,5 @@
 use Rattle.std.proofs.Common.{length}
-use Rattle.file_pairs.proofs.pairs.+files_apart.Given as goal
+use Rattle.verifactu.proofs.pairs.+files_apart.Given as goal
 
 abbrev pub decreases-files_apart : goal.decreases-files_apart
 decreases-files_apart l = length l.words.now

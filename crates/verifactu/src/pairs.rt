@@ -1,7 +1,7 @@
 //! Pairs of words.
 ghost use Rattle.std.specs.Prelude.{◌≡◌, ◌≤◌, ◌<◌, ◌∷◌, ◌++◌, ◌+◌, ◌↔◌, [], ℕ, List, IfSome, None, bytes_eq, false, length, map, string_bytes, true};
 ghost use Rattle.std.specs.List.{list_any};
-ghost use Rattle.file_pairs.specs.Pairs.{ArePairs, AreApart, IsRead, files_in};
+ghost use Rattle.verifactu.specs.Pairs.{ArePairs, AreApart, IsRead, files_in};
 ghost use Rattle.parties.specs.declared.limits.TheConstants.{MAX_ISSUERS};
 
 use crate::nifs::Nifs;

@@ -1,7 +1,7 @@
 use Rattle.std.proofs.Common.{sym, ◌∙◌, subst}
-use Rattle.file_pairs.specs.Pairs.{AreApart}
-use Rattle.file_pairs.proofs.Apart.{stands, stands_not}
-use Rattle.file_pairs.proofs.pairs.+nifs_apart.Goals as goal
+use Rattle.verifactu.specs.Pairs.{AreApart}
+use Rattle.verifactu.proofs.Apart.{stands, stands_not}
+use Rattle.verifactu.proofs.pairs.+nifs_apart.Goals as goal
 
 pub returns-then-stands_in : goal.returns-then-stands_in
 returns-then-stands_in t c = (

@@ -1,5 +1,5 @@
 use Rattle.std.proofs.Common.{length}
-use Rattle.file_pairs.proofs.pairs.+names.Given as goal
+use Rattle.verifactu.proofs.pairs.+names.Given as goal
 
 abbrev pub decreases-names : goal.decreases-names
 decreases-names l = length l.words.now

@@ -2,7 +2,7 @@
 use Rattle.std.proofs.Common.{◌≡◌, ◌≢◌, ℕ, List, [], ◌∷◌, map, refl, ap, sym, ◌∙◌, subst, Bool, true, false, ◌||◌, bytes_eq}
 use Rattle.std.specs.List.{AllByRecursion, list_any}
 use Rattle.std.proofs.lemmas.Slice.Eq.{bytes_eq-Decides}
-use Rattle.file_pairs.specs.Pairs.{AreApart, files_in}
+use Rattle.verifactu.specs.Pairs.{AreApart, files_in}
 
 pub stands_not : (words : List (List ℕ)) (word : List ℕ) → list_any (λ (o : List ℕ). bytes_eq o word) words ≡ false →
     AllByRecursion (λ (other : List ℕ). word ≢ other) words

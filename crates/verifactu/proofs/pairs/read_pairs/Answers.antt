@@ -1,7 +1,7 @@
 use Rattle.std.proofs.Common.{◌∙◌, ap, length, map, string_bytes, subst, sym, arith, Global}
-use Rattle.file_pairs.specs.Pairs.{AreApart}
-use Rattle.file_pairs.proofs.Paired.{one_list}
-use Rattle.file_pairs.proofs.pairs.read_pairs.Goals as goal
+use Rattle.verifactu.specs.Pairs.{AreApart}
+use Rattle.verifactu.proofs.Paired.{one_list}
+use Rattle.verifactu.proofs.pairs.read_pairs.Goals as goal
 
 pub returns-then-as_slice-lt2 : goal.returns-then-as_slice-lt2
 returns-then-as_slice-lt2 c = λ issuers p.

@@ -1,5 +1,5 @@
 use Rattle.std.proofs.Common.{length}
-use Rattle.file_pairs.proofs.pairs.+add_pairs.Given as goal
+use Rattle.verifactu.proofs.pairs.+add_pairs.Given as goal
 
 abbrev pub decreases-add_pairs : goal.decreases-add_pairs
 decreases-add_pairs l = length l.words.now

@@ -1,6 +1,6 @@
 use Rattle.std.proofs.Common.{length, string_bytes, arith, ap, Global}
-use Rattle.file_pairs.proofs.Paired.{added, behind, one_longer}
-use Rattle.file_pairs.proofs.pairs.+add_pairs.Goals as goal
+use Rattle.verifactu.proofs.Paired.{added, after_first, one_longer}
+use Rattle.verifactu.proofs.pairs.+add_pairs.Goals as goal
 
 pub add-requires : goal.add-requires
 add-requires t c = c.is_full.ensures.room c.if-is_full.false
@@ -15,7 +15,7 @@ returns-in-Ok-clause-pairs t c = λ yes.
 
 pub returns-in-Ok-clause-none : goal.returns-in-Ok-clause-none
 returns-in-Ok-clause-none t c = λ no own are few.
-    let b = behind (string_bytes {Z = Global}) c.args.words.now c.in-Some.others.now c.in-Some-split_first.rest.now
+    let b = after_first (string_bytes {Z = Global}) c.args.words.now c.in-Some.others.now c.in-Some-split_first.rest.now
     c.in-Some.file.now c.in-Some-split_first.nif.now c.in-Some.ensures.cases.0 c.in-Some-split_first.ensures.cases.0 own are in
     let longer = one_longer c.args.nifs.now c.add.new.self c.in-Ok.nif c.add.ensures in
     let size = ap length b.is in

@@ -1,6 +1,6 @@
 use Rattle.std.proofs.Common.{sym, ◌∙◌, string_bytes, Global}
-use Rattle.file_pairs.proofs.Apart.{files_less, files_more, files_twice}
-use Rattle.file_pairs.proofs.pairs.+files_apart.Goals as goal
+use Rattle.verifactu.proofs.Apart.{files_less, files_more, files_twice}
+use Rattle.verifactu.proofs.pairs.+files_apart.Goals as goal
 
 pub returns-then-names : goal.returns-then-names
 returns-then-names t c = (

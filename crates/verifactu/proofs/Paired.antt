@@ -3,8 +3,8 @@ use Rattle.std.proofs.Common.{◌≡◌, ℕ, ◌<◌, ◌+◌, List, [], ◌∷
 use Rattle.std.proofs.Common.{Option, Some, None, IfSome, append_assoc}
 use Rattle.std.proofs.lemmas.List.{length-append}
 use Rattle.parties.specs.Nif.{IsNif}
-use Rattle.file_pairs.specs.Pairs.{ArePairs}
-use Rattle.file_pairs.proofs.Apart.{two_more}
+use Rattle.verifactu.specs.Pairs.{ArePairs}
+use Rattle.verifactu.proofs.Apart.{two_more}
 
 -- the tax numbers of words are theirs alone
 pub one_list : (words xs ys : List (List ℕ)) → ArePairs words xs → ArePairs words ys → xs ≡ ys
@@ -20,20 +20,20 @@ one_list (file ∷ (nif ∷ words)) [] ys a b = absurd a
 one_list (file ∷ (nif ∷ words)) (x ∷ xs) [] a b = absurd b
 
 -- the tax numbers after the first
-pub record Behind (words own : List (List ℕ)) : Type 0 where
+pub record AfterFirst (words own : List (List ℕ)) : Type 0 where
   pub issuer : List ℕ
   pub more : List (List ℕ)
   pub is : own ≡ issuer ∷ more
   pub pairs : ArePairs words more
 
-front_of : (file nif : List ℕ) (words own : List (List ℕ)) → ArePairs (file ∷ (nif ∷ words)) own → Behind words own
-front_of file nif words (issuer ∷ more) h = record { issuer = issuer; more = more; is = refl; pairs = h.3 }
-front_of file nif words [] h = absurd h
+first_of : (file nif : List ℕ) (words own : List (List ℕ)) → ArePairs (file ∷ (nif ∷ words)) own → AfterFirst words own
+first_of file nif words (issuer ∷ more) h = record { issuer = issuer; more = more; is = refl; pairs = h.3 }
+first_of file nif words [] h = absurd h
 
 module _ {A : Type 0} (f : A → List ℕ) (words others rest : List A) (file word : A) (is : words ≡ file ∷ others)
     (then : others ≡ word ∷ rest) where
-  pub behind : (own : List (List ℕ)) → ArePairs (map f words) own → Behind (map f rest) own
-  behind own h = front_of (f file) (f word) (map f rest) own
+  pub after_first : (own : List (List ℕ)) → ArePairs (map f words) own → AfterFirst (map f rest) own
+  after_first own h = first_of (f file) (f word) (map f rest) own
       (subst (λ (l : List (List ℕ)). ArePairs l own) (two_more f words others rest file word is then) h)
 
   pub pairs_more : (text nif : List ℕ) (own : List (List ℕ)) → 0 < length (f file) → text ≡ f word → IsNif text × (nif ≡ text) →
