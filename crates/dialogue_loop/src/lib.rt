@@ -7,4 +7,4 @@ mod speaking;
 
 pub use held::{all_numbers, give_back, hold_all};
 pub use listener::Listener;
-pub use speaking::{Counter, SpeechEnd, answer, answer_lines};
+pub use speaking::{Counter, SpeechEnd, SpeechMeans, answer, answer_lines};

@@ -22,6 +22,7 @@ use ports::{Clock, Failed, Gate, Sink, Source};
 use shop_core::{Ask, Reply};
 use std::alloc::Global;
 use std::sync::Wait;
+use std::sync::atomic::{AtomicBool, Ordering};
 use till_calls::{Shop, Till};
 
 /// How a dialogue ends.
@@ -35,6 +36,16 @@ pub enum SpeechEnd {
     NoMemory,
     /// The disk failed.
     Stopped,
+}
+
+/// What answering works by: the handle of the runtime, the allocator, the gate, which is told of each command, and the flag that
+/// tells the shop's sender to stop.
+#[derive_where(Clone, Copy)]
+pub struct SpeechMeans<'a, R, T> {
+    pub rt: &'a R,
+    pub alloc: Global,
+    pub gate: &'a T,
+    pub stop: &'a AtomicBool,
 }
 
 /// A shop's counter: the tills, and what was heard so far.
@@ -79,6 +90,22 @@ fn is_no_memory(reply: &Result<Reply, StoreFault>) -> bool
     }
 }
 
+fn is_disk_fault(reply: &Result<Reply, StoreFault>) -> bool
+    ensures { result ≡ spec.is_disk_fault reply.now }
+{
+    match reply {
+        Err(StoreFault::DiskFault | StoreFault::Stopped { .. }) => true,
+        _ => false,
+    }
+}
+
+// Tells the sender to stop where this reply is a fault of the disk. No clause can speak of the flag.
+fn stop_at_fault(stop: &AtomicBool, reply: &Result<Reply, StoreFault>) {
+    if is_disk_fault(reply) {
+        stop.store(true, Ordering::SeqCst);
+    }
+}
+
 // Writes the answer to a command.
 fn answer_reply<K: Sink>(
     alloc: Global,
@@ -101,11 +128,10 @@ fn answer_reply<K: Sink>(
     }
 }
 
-// Does what a line asks for. None: the dialogue goes on.
+// Does what a line asks for. None: the dialogue goes on. A fault of the disk stops the sender before it is answered: once the
+// answer can be read no turn of it begins.
 fn carry_out<K: Sink, D: Disk, C: Clock, T: Gate, R: Wait>(
-    rt: &R,
-    alloc: Global,
-    gate: &T,
+    means: SpeechMeans<'_, R, T>,
     shop: &Shop<D, C>,
     counter: &mut Counter<D, C>,
     sink: &mut K,
@@ -128,22 +154,30 @@ fn carry_out<K: Sink, D: Disk, C: Clock, T: Gate, R: Wait>(
             text,
         } => answer(sink, text.as_slice()),
         Action::Ask(ask) => {
-            let told = ask_held(rt, alloc, gate, shop, &mut counter.held, ask);
+            let told = ask_held(
+                means.rt,
+                means.alloc,
+                means.gate,
+                shop,
+                &mut counter.held,
+                ask,
+            );
             counter.lacked = counter.lacked || is_no_memory(&told);
-            answer_reply(alloc, ask, &told, sink)
+            stop_at_fault(means.stop, &told);
+            answer_reply(means.alloc, ask, &told, sink)
         }
-        Action::Look(question) => match look_held(rt, alloc, shop, &mut counter.held, question) {
-            Err(_) => Some(SpeechEnd::NoMemory),
-            Ok(text) => answer(sink, text.as_slice()),
-        },
+        Action::Look(question) => {
+            match look_held(means.rt, means.alloc, shop, &mut counter.held, question) {
+                Err(_) => Some(SpeechEnd::NoMemory),
+                Ok(text) => answer(sink, text.as_slice()),
+            }
+        }
     }
 }
 
 // Reads a line and answers it. None: the dialogue goes on.
 fn one_line<S: Source, K: Sink, D: Disk, C: Clock, T: Gate, R: Wait>(
-    rt: &R,
-    alloc: Global,
-    gate: &T,
+    means: SpeechMeans<'_, R, T>,
     shop: &Shop<D, C>,
     counter: &mut Counter<D, C>,
     source: &mut S,
@@ -160,18 +194,16 @@ fn one_line<S: Source, K: Sink, D: Disk, C: Clock, T: Gate, R: Wait>(
         Goes C.coming clock from (moment_of S.left S.faults K.taken K.faults source.new sink.new) counter.new.listener
         counter.new.lacked olds (map till_knows counter.new.held.items) result }
 {
-    match counter.listener.next_action(rt, alloc, source) {
+    match counter.listener.next_action(means.rt, means.alloc, source) {
         Err(end) => Some(end),
-        Ok(action) => carry_out(rt, alloc, gate, shop, counter, sink, &action),
+        Ok(action) => carry_out(means, shop, counter, sink, &action),
     }
 }
 
 /// Reads lines and answers each, until the source ends or something fails. A line was answered before, and the clock line with
 /// it where there is one.
 pub fn speak<S: Source, K: Sink, D: Disk, C: Clock, T: Gate, R: Wait>(
-    rt: &R,
-    alloc: Global,
-    gate: &T,
+    means: SpeechMeans<'_, R, T>,
     shop: &Shop<D, C>,
     counter: &mut Counter<D, C>,
     source: &mut S,
@@ -188,8 +220,8 @@ pub fn speak<S: Source, K: Sink, D: Disk, C: Clock, T: Gate, R: Wait>(
         Spoken C.coming clock from (moment_of S.left S.faults K.taken K.faults source.new sink.new)
         counter.new.lacked olds (map till_knows counter.new.held.items) result }
 {
-    for _ in rt.forever() {
-        match one_line(rt, alloc, gate, shop, counter, source, sink) {
+    for _ in means.rt.forever() {
+        match one_line(means, shop, counter, source, sink) {
             Some(end) => return end,
             None => {}
         }
@@ -199,9 +231,7 @@ pub fn speak<S: Source, K: Sink, D: Disk, C: Clock, T: Gate, R: Wait>(
 
 /// Does what the first answered line asks for, and goes on with the next ones; or ends as its reading did.
 pub fn answer_lines<S: Source, K: Sink, D: Disk, C: Clock, T: Gate, R: Wait>(
-    rt: &R,
-    alloc: Global,
-    gate: &T,
+    means: SpeechMeans<'_, R, T>,
     shop: &Shop<D, C>,
     counter: &mut Counter<D, C>,
     first: &Result<Action, SpeechEnd>,
@@ -221,9 +251,9 @@ pub fn answer_lines<S: Source, K: Sink, D: Disk, C: Clock, T: Gate, R: Wait>(
 {
     match first {
         Err(end) => *end,
-        Ok(action) => match carry_out(rt, alloc, gate, shop, counter, sink, action) {
+        Ok(action) => match carry_out(means, shop, counter, sink, action) {
             Some(end) => end,
-            None => speak(rt, alloc, gate, shop, counter, source, sink),
+            None => speak(means, shop, counter, source, sink),
         },
     }
 }

@@ -164,6 +164,9 @@ module _ {D C : Type 0} (tells : Bool) (tell : D → OnDisk) (faults : D → ℕ
   abbrev Sound : Type 0
   Sound = IsSound tells tell faults coming root p
 
+  abbrev Counted : Type 0
+  Counted = length (noted_in p.state.entries) ≡ length (recs p.state.entries)
+
   low : Sound → length root.history ≤ length p.state.entries
   low sound = let e = ap (λ (l : List Entry). length l) sound.begins.1 in let g = length-append root.history sound.begins.0 in
       omega (arith, e, g)
@@ -182,9 +185,10 @@ module _ {D C : Type 0} (tells : Bool) (tell : D → OnDisk) (faults : D → ℕ
   served : (base : List Item) → length base ≡ length root.history → Sound → (r : Row C) → RowTold coming asks base root p.stopped
       p.torn p.state.entries for_no_other what_is_taken r →
       TakenItems r.part.replies (records_of r.part.till (drop (length base) (items_in p))) →
-      (tills : List TillReplies) (kind : AgencyKind) (opened after : AgencyState) (answer : Result (Unit {0}) DrainFault) →
-      TillServed (shop_day coming asks root p tills kind opened after answer) (r.part)
-  served base size sound r t own_items tills kind opened after answer =
+      (tills : List TillReplies) (kind : AgencyKind) (opened after : AgencyState) (drains : Bool)
+      (answer : Result (Unit {0}) DrainFault) →
+      TillServed (shop_day coming asks root p tills kind opened after drains answer) (r.part)
+  served base size sound r t own_items tills kind opened after drains answer =
       let total = length-append (map item.Entry p.state.entries) (stop_in p.stopped p.torn) in
       let entries = length-map p.state.entries (λ (x : Entry). item.Entry x) in
       let stops = stop_size p.stopped p.torn in
@@ -203,7 +207,7 @@ module _ {D C : Type 0} (tells : Bool) (tell : D → OnDisk) (faults : D → ℕ
       (distinct : AreDistinct (map (λ (r : Row C). r.part.till) rows))
       (news : AllByRecursion (λ (r : Row C). IsNew base root r.from) rows)
       (first : Known Item (Root C)) (first_new : IsNew base root first) (kind : AgencyKind) (opened after : AgencyState)
-      (answer : Result (Unit {0}) DrainFault)
+      (drains : Bool) (answer : Result (Unit {0}) DrainFault)
       (bare : (till : ℕ) → OwnsNone till seat)
       (Untorn : Type 0) (noted : AllByRecursion (λ (z : ℕ × Item). AreNotesOrTorn z.1 × (Untorn → AreNotes z.1)) seat.own)
       (fails : Untorn ⊎ FailsAtNotes kind opened after answer)
@@ -211,7 +215,7 @@ module _ {D C : Type 0} (tells : Bool) (tell : D → OnDisk) (faults : D → ℕ
       (fits : AllByRecursion (Fits (items_in p)) (after_all coming asks rows ++ seat ∷ [])) (starts : StartsWith (items_in p)
       base)
       (since : (n : ℕ) → length base ≤ n → n < length (items_in p) → owners n (after_all coming asks rows ++ seat ∷ []) ≡ 1)
-      (sound : Sound) (counted : OnOk answer (length (noted_in p.state.entries) ≡ length (recs p.state.entries))) where
+      (sound : Sound) (counted : drains ≡ true → OnOk answer Counted) where
     abbrev RTold : Row C → Type 0
     RTold = RowTold coming asks base root p.stopped p.torn p.state.entries for_no_other what_is_taken
 
@@ -223,12 +227,12 @@ module _ {D C : Type 0} (tells : Bool) (tell : D → OnDisk) (faults : D → ℕ
     tills = map (λ (r : Row C). r.part) rows
 
     abbrev day : Day
-    day = shop_day coming asks root p tills kind opened after answer
+    day = shop_day coming asks root p tills kind opened after drains answer
 
     all_served : AllByRecursion (λ (r : Row C). TillServed day (r.part)) rows
     all_served = each_both RTold (λ (r : Row C). TakenItems r.part.replies
         (records_of r.part.till (drop (length base) (items_in p)))) (λ (r : Row C). TillServed day (r.part)) rows
-        (λ r t own_items. served base size sound r t own_items tills kind opened after answer) all_told
+        (λ r t own_items. served base size sound r t own_items tills kind opened after drains answer) all_told
         (rows_own coming asks base root p.stopped p.torn p.state.entries for_no_other
         what_is_taken size rows seat distinct news bare worked fits starts since)
 
@@ -375,16 +379,17 @@ module _ {D C : Type 0} (tells : Bool) (tell : D → OnDisk) (faults : D → ℕ
       (seen_whole tell faults coming asks p root base within sees ran.rows news.0 ran.worked seat then h' told') delivered)
 
   -- the day of the tills that ran and of the sender beside them, once their shop is closed
-  pub ended : (kind : AgencyKind) (opened after : AgencyState) (answer : Result (Unit {0}) DrainFault) → AddsForNoOther coming → AddsWhatIsTaken coming →
+  pub ended : (kind : AgencyKind) (opened after : AgencyState) (drains : Bool) (answer : Result (Unit {0}) DrainFault) →
+      AddsForNoOther coming → AddsWhatIsTaken coming →
       length base ≡ length root.history → AreDistinct tills → Shared base (items_in p) root new
       seat then →
       Adds AreNotes (sight_by seat) (sight_by then) ⊎ FailsAtNotes kind opened after answer → (IsDiskAnswer answer → IsSome p.stopped) →
       IsSound tells tell faults coming root p →
-      OnOk answer (length (noted_in p.state.entries) ≡ length (recs p.state.entries)) →
-      SendsBeside (shop_day coming asks root p parts kind opened after answer) →
+      (drains ≡ true → OnOk answer (length (noted_in p.state.entries) ≡ length (recs p.state.entries))) →
+      SendsBeside (shop_day coming asks root p parts kind opened after drains answer) →
       DayRun (record { tells = tells; on_disk = tell; faults = faults; coming = coming }) root p
-      (shop_day coming asks root p parts kind opened after answer)
-  ended kind opened after answer for_no_other what_is_taken size distinct h notes disk sound counted sends =
+      (shop_day coming asks root p parts kind opened after drains answer)
+  ended kind opened after drains answer for_no_other what_is_taken size distinct h notes disk sound counted sends =
       let distinct' : AreDistinct (map (λ (r : Row C). r.part.till) ran.rows) =
       subst (λ (l : List ℕ). AreDistinct l) ran.tills_are distinct in
       let fits' : AllByRecursion (Fits (items_in p)) (after_all coming asks ran.rows ++ then ∷ []) =
@@ -394,10 +399,10 @@ module _ {D C : Type 0} (tells : Bool) (tell : D → OnDisk) (faults : D → ℕ
       1 =
       subst (λ (l : List (Known Item (Root C))). (n : ℕ) → length base ≤ n → n < length (items_in p) → owners n (l ++ then ∷ []) ≡
       1) ran.new_are h.since in
-      let Told : List TillReplies → Day = λ l. shop_day coming asks root p l kind opened after answer in
+      let Told : List TillReplies → Day = λ l. shop_day coming asks root p l kind opened after drains answer in
       subst (λ (l : List TillReplies). DayRun (record { tells = tells; on_disk = tell; faults = faults; coming = coming }) root p (Told l))
       (sym ran.parts_are)
       (whole tells tell faults coming asks root p for_no_other what_is_taken base size ran.rows then distinct' news.0 seat news.1 kind opened after
-      answer (bare base (items_in p) root new seat then h) (Adds AreNotes (sight_by seat) (sight_by then))
+      drains answer (bare base (items_in p) root new seat then h) (Adds AreNotes (sight_by seat) (sight_by then))
       (all_noted base (items_in p) root new seat then h (Adds AreNotes (sight_by seat) (sight_by then)) (λ added. added)) notes
       disk ran.worked fits' h.starts since' sound counted (subst (λ (l : List TillReplies). SendsBeside (Told l)) ran.parts_are sends))

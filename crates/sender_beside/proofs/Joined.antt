@@ -1,8 +1,7 @@
 -- What a sender beside tills leaves, once its shop is closed.
 use Rattle.std.proofs.Common.{◌≡◌, ◌∙◌, ◌⊎◌, inl, inr, ℕ, ◌+◌, ◌-◌, List, [], length, map, sym, ap, subst, refl, append-nil}
 use Rattle.std.proofs.Common.{Bool, IsTrue, Option, Result, Err, length-append, length-drop, arith}
-use Rattle.std.specs.Prelude.{◌++◌, None, Some, IsErrOf}
-use Rattle.std.specs.List.{AllByRecursion}
+use Rattle.std.specs.Prelude.{IsErrOf}
 use Rattle.record_fields.specs.declared.lines.Line.{Line}
 use Rattle.record_fields.specs.declared.records.Sealed.{Sealed}
 use Rattle.chain_disk.specs.OnDisk.{OnDisk}
@@ -28,10 +27,10 @@ use Rattle.sender.specs.Turning.{AgencyState, AgencyKind}
 use Rattle.sender.specs.declared.answers.DrainFault.{DrainFault}
 use Rattle.sender.specs.declared.answers.DrainFault.TheVariants as drain
 use Rattle.shop_core.specs.Answer.Requests.{Asked}
-use Rattle.sender_beside.specs.Beside.{CountsWithin, IsTornSaid, SendsBeside, StaysAgreed}
+use Rattle.sender_beside.specs.Beside.{CountsWithin, SendsBeside, StaysAgreed}
 use Rattle.sender_session.specs.Session.{SendsOn, AreOfChain, SaysNothingBlindly}
 use Rattle.sender_session.specs.Contradictions.{ShowsLast}
-use Rattle.sender_beside.specs.Days.{Day, TillReplies, shop_day, stop_of, torn_of}
+use Rattle.sender_beside.specs.Days.{Day, TillReplies, shop_day}
 use Rattle.sender_beside.proofs.StartAndStop.{agree_new, sight_new, with_stop}
 use Rattle.sender_session.proofs.Entries.{entries_back}
 use Rattle.sender_session.specs.Noting.{NotesSaid}
@@ -46,10 +45,10 @@ module _ {D C : Type 0} (tells : Bool) (on_disk : D → OnDisk) (faults : D → 
     (h : Shared base (items_in p) root tills seat then)
     (sound : IsSound tells on_disk faults coming root p) (is : base ≡ map item.Entry root.history)
     (legal : Legal root.version root.issuer root.history) (asks : List Asked) (told_all : List TillReplies)
-    (kind : AgencyKind) (old new : AgencyState) (sending : Sending) (answer : Result (Unit {0}) DrainFault)
+    (kind : AgencyKind) (old new : AgencyState) (drains : Bool) (sending : Sending) (answer : Result (Unit {0}) DrainFault)
     (sends : SendsOn kind (sight_by seat) (sight_by then) old new fresh sending answer) where
   abbrev day : Day
-  day = shop_day coming asks root p told_all kind old new answer
+  day = shop_day coming asks root p told_all kind old new drains answer
 
   kept : GivenStore base (items_in p) root tills seat then h root.history p.state.entries p.stopped p.torn
   kept = record { base_is = is; log_is = refl; begins = sound.begins }

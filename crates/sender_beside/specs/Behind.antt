@@ -1,5 +1,5 @@
 -- What a sender does once the tills beside it have ended.
-use Rattle.std.specs.Prelude.{◌≡◌, ◌≤◌, ℕ, Bool, IsTrue, OnErr, OnOk, Result}
+use Rattle.std.specs.Prelude.{◌≡◌, ◌≤◌, ℕ, Bool, true, false, IsTrue, OnErr, OnOk, Result}
 use Rattle.chain_disk.specs.declared.disk.Disk as disk
 use Rattle.ports.specs.declared.Clock as clock
 use Rattle.sender.specs.Draining.{Scene, scene_of}
@@ -17,22 +17,24 @@ abbrev pub scene_in : {D C G Z : Type 0} {d : disk.Ghosts D} {c : clock.Ghosts C
 scene_in state moment sent = scene_of (state sent.agency) (sight_by (seat_knows sent.seat)) sent.sender (moment sent.sleeper)
 
 -- From an opened session to the end, by the scene at the tills' end. The turns beside the tills led there and ended so; they gave
--- up on no link. A fault that had ended them is the answer, and nothing more was done; otherwise one drain led from there to the
--- end, so that the faults of the link that were met beside the tills don't count towards its eight, and nothing comes after the
--- eighth.
-pub record SendsBehind (kind : AgencyKind) (exact : Bool) (opened after : AgencyState) (met left : Scene)
+-- up on no link. A fault that had ended them is the answer, and nothing more was done. Else, where a drain follows, one drain led
+-- from there to the end, so that the faults of the link that were met beside the tills don't count towards its eight, and nothing
+-- comes after the eighth. Where none follows nothing more was done: not a turn, not a message, not a rest.
+pub record SendsBehind (kind : AgencyKind) (exact drains : Bool) (opened after : AgencyState) (met left : Scene)
     (beside answer : Result (Unit {0}) DrainFault) : Type 0 where
   pub says : IsTrue kind.tells → SaysCalls opened.ledger.messages met.agency_state.ledger.messages
   pub later : opened.faults ≤ met.agency_state.faults
   pub never : IsUndelivered beside → ⊥
   pub failed : OnErr beside ((answer ≡ beside) × (left ≡ met))
-  pub drains : OnOk beside (DrainsTo kind exact met left answer)
+  pub drains_to : drains ≡ true → OnOk beside (DrainsTo kind exact met left answer)
+  pub ends : drains ≡ false → (answer ≡ beside) × (left ≡ met)
   pub agency_state : left.agency_state ≡ after
 
 -- the same, by some scene at the tills' end, with a sleeper that tells its moment or doesn't
-pub record DrainsBehind (kind : AgencyKind) (opened after : AgencyState) (answer : Result (Unit {0}) DrainFault) : Type 0 where
+pub record DrainsBehind (kind : AgencyKind) (drains : Bool) (opened after : AgencyState) (answer : Result (Unit {0}) DrainFault) :
+    Type 0 where
   pub exact : Bool
   pub met : Scene
   pub left : Scene
   pub beside : Result (Unit {0}) DrainFault
-  pub sends : SendsBehind kind exact opened after met left beside answer
+  pub sends : SendsBehind kind exact drains opened after met left beside answer

@@ -1,10 +1,9 @@
 -- What a sender beside tills, and after them, leaves of a day.
-use Rattle.std.specs.Prelude.{◌≡◌, ◌⊎◌, ℕ, ◌+◌, ◌-◌, ◌<◌, ◌≤◌, List, [], ◌++◌, length, true, IsTrue, IsErrOf, Err}
+use Rattle.std.specs.Prelude.{◌≡◌, ◌⊎◌, ℕ, ◌+◌, ◌<◌, ◌≤◌, List, ◌++◌, length, true, IsTrue, IsErrOf, Err}
 use Rattle.std.specs.List.{AllByRecursion}
 use Rattle.record_codec.specs.declared.entry.Entry.{Entry}
 use Rattle.shop_core.specs.History.{is_record, recs, noted}
 use Rattle.agency_port.specs.Messages.{batches_in}
-use Rattle.agency_port.specs.declared.answers.AgencyFault.TheVariants as agency
 use Rattle.agency_port.specs.declared.messages.Message.{Message}
 use Rattle.agency_port.specs.declared.turns.Evidence.{Evidence}
 use Rattle.once_world.specs.Agreement.{Agree}

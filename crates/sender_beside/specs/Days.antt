@@ -1,5 +1,5 @@
 -- The record of a day.
-use Rattle.std.specs.Prelude.{ℕ, List, [], ◌∷◌, flat_map, Option, Some, None, Result}
+use Rattle.std.specs.Prelude.{ℕ, Bool, List, [], ◌∷◌, flat_map, Option, Some, None, Result}
 use Rattle.record_fields.specs.declared.versions.Version.{Version}
 use Rattle.record_codec.specs.declared.entry.Entry.{Entry}
 use Rattle.sender.specs.Turning.{AgencyState, AgencyKind}
@@ -25,7 +25,8 @@ pub record Stop : Type 0 where
 
 -- A day of a shop: whose it is, the version of its history, what was asked, and the coming answers of the clock; the history at
 -- its start and at its end, and the stop after that; what each till was told; what the agency's kind tells, and its state once the
--- session was open and at the end; and how the sending ended.
+-- session was open and at the end; whether a drain followed the tills' end: always, but after a dialogue that ended at a fault of
+-- the disk; and how the sending ended.
 pub record Day : Type 0 where
   pub issuer : List ℕ
   pub version : Version
@@ -38,6 +39,7 @@ pub record Day : Type 0 where
   pub kind : AgencyKind
   pub opened : AgencyState
   pub after : AgencyState
+  pub drains : Bool
   pub answer : Result (Unit {0}) DrainFault
 
 -- the entry of the stop, where there is one
@@ -53,8 +55,8 @@ stop_of None torn = None
 
 -- the day of a shop that was this at its start, and left these parts of its store
 abbrev pub shop_day : {D C : Type 0} → (C → ℕ → Option ℕ) → List Asked → Root C → Parts D C → List TillReplies → AgencyKind → AgencyState →
-    AgencyState → Result (Unit {0}) DrainFault → Day
-shop_day coming asks root new tills kind opened after answer = record {
+    AgencyState → Bool → Result (Unit {0}) DrainFault → Day
+shop_day coming asks root new tills kind opened after drains answer = record {
   issuer = root.issuer;
   version = root.version;
   asks = asks;
@@ -66,5 +68,6 @@ shop_day coming asks root new tills kind opened after answer = record {
   kind = kind;
   opened = opened;
   after = after;
+  drains = drains;
   answer = answer;
 }

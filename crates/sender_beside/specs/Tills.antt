@@ -148,7 +148,7 @@ StopIs d faults faults_after None = AllGoOn (all_replies d.tills) × (IsDiskAnsw
 StopIs d faults faults_after (Some stop) = IsStop d faults faults_after stop
 
 -- What a day makes of a shop, which was this at its start, with the parts of its store after its close. No other till has a
--- record since the start. Where the sender is done each record has its line noted.
+-- record since the start. Where a drain is done each record has its line noted.
 pub record DayRun {D C : Type 0} (h : StoreKind D C) (root : Root C) (new : Parts D C) (d : Day) : Type 0 where
   pub sound : IsSound h.tells h.on_disk h.faults h.coming root new
   pub served : AllByRecursion (TillServed d) d.tills
@@ -156,4 +156,4 @@ pub record DayRun {D C : Type 0} (h : StoreKind D C) (root : Root C) (new : Part
       own_of till (drop (length d.start) d.end) ≡ []
   pub stop : StopIs d root.faults (h.faults new.disk) d.stop
   pub sends : SendsBeside d
-  pub all_noted : OnOk d.answer (length (noted d.end) ≡ length (recs d.end))
+  pub all_noted : d.drains ≡ true → OnOk d.answer (length (noted d.end) ≡ length (recs d.end))

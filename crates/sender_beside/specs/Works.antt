@@ -1,5 +1,5 @@
 -- What the tills of a day do while their threads run.
-use Rattle.std.specs.Prelude.{◌≡◌, ◌≤◌, ℕ, List, [], map, Option}
+use Rattle.std.specs.Prelude.{◌≡◌, ◌≤◌, ℕ, List, map, Option}
 use Rattle.std.specs.List.{AllByRecursion}
 use Rattle.chain_lock.specs.Known.{Known}
 use Rattle.shop_core.specs.Answer.Requests.{Asked}

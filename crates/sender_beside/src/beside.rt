@@ -54,6 +54,7 @@ fn run_beside<D, C, G, Z, T, R, W>(
     seat: SenderSeat<D, C>,
     agency: G,
     sleeper: Z,
+    stop: &AtomicBool,
     work: W,
 ) -> (Sent<D, C, G, Z>, W::Output)
 where
@@ -72,8 +73,6 @@ where
         (agency_state_of G.Agency agency) (agency_state_of G.Agency result.0.agency) fresh result.0.sender result.0.answer }
     ensures never { IsUndelivered result.0.answer → ⊥ }
 {
-    let stop = AtomicBool::new(false);
-    let told = &stop;
     join(
         means.rt,
         move || -> Sent<D, C, G, Z>
@@ -82,13 +81,13 @@ where
                 × SendsOn (agency_kind G.Agency) (sight_by (seat_knows seat)) (sight_by (seat_knows result.seat))
                 (agency_state_of G.Agency agency) (agency_state_of G.Agency result.agency) fresh result.sender result.answer
                 × (IsUndelivered result.answer → ⊥) }
-        { send_part(means, shop, seat, agency, sleeper, told) },
+        { send_part(means, shop, seat, agency, sleeper, stop) },
         move || -> W::Output
             requires { W.can_run work }
             ensures { W.run_gives work result }
         {
             let done = work.run();
-            told.store(true, Ordering::SeqCst);
+            stop.store(true, Ordering::SeqCst);
             done
         },
     )
@@ -99,14 +98,15 @@ fn take_back<X>(x: &mut X)
     ensures { x.new ≡ x.old }
 {}
 
-/// Does the tills' work in this thread, and sends in another until it is done. Where no thread can be made the sender runs after
-/// the work, and ends at once.
+/// Does the tills' work in this thread, and sends in another until it is done. The sender ends at its next turn once `stop` is set:
+/// by the work itself, or after it. Where no thread can be made it runs after the work, and ends at once.
 pub fn with_sender<D, C, G, Z, T, R, F>(
     means: Means<'_, R, T>,
     shop: &Shop<D, C>,
     seat: SenderSeat<D, C>,
     agency: G,
     sleeper: Z,
+    stop: &AtomicBool,
     work: &mut F,
 ) -> Sent<D, C, G, Z>
 where
@@ -125,7 +125,7 @@ where
         (agency_state_of G.Agency agency) (agency_state_of G.Agency result.agency) fresh result.sender result.answer }
     ensures never { IsUndelivered result.answer → ⊥ }
 {
-    let (sent, work) = run_beside(means, shop, seat, agency, sleeper, Lent { work });
+    let (sent, work) = run_beside(means, shop, seat, agency, sleeper, stop, Lent { work });
     take_back(work);
     sent
 }

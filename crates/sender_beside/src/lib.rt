@@ -7,4 +7,4 @@ mod beside;
 mod sending;
 
 pub use beside::with_sender;
-pub use sending::{Sent, drain_rest};
+pub use sending::{Sent, drain_if, drain_rest};

@@ -1,5 +1,5 @@
 //! A day's sender: its turns at the same time as the tills, and its drain after them.
-ghost use Rattle.std.specs.Prelude.{◌≡◌, ◌≤◌, length, OnErr, OnOk};
+ghost use Rattle.std.specs.Prelude.{◌≡◌, ◌≤◌, true, false, length, OnErr, OnOk};
 ghost use Rattle.once_world.specs.Outbox.{Sight, history_of};
 ghost use Rattle.shop_core.specs.History.{noted, recs};
 ghost use Rattle.sender.specs.Sending.{Sending, fresh};
@@ -115,4 +115,33 @@ pub fn drain_rest<D: Disk, C: Clock, G: Agency + Drop, Z: Sleeper + Drop, T, R: 
         sleeper,
         answer,
     }
+}
+
+/// Drains with the same sender (`drain_rest`), or does nothing more.
+pub fn drain_if<D: Disk, C: Clock, G: Agency + Drop, Z: Sleeper + Drop, T, R: Wait>(
+    drains: bool,
+    means: Means<'_, R, T>,
+    shop: &Shop<D, C>,
+    sent: Sent<D, C, G, Z>,
+) -> Sent<D, C, G, Z>
+    requires own { seat_shop sent.seat ≡ shop_id shop.now }
+    ensures mark { mark_by (seat_shop result.seat) (seat_knows result.seat)
+        ≡ mark_by (seat_shop sent.seat) (seat_knows sent.seat) }
+    ensures sends { (before : Sight) (old : AgencyState) (sending : Sending) →
+        SendsOn (agency_kind G.Agency) before (sight_by (seat_knows sent.seat)) old (agency_state_of G.Agency sent.agency) sending
+        sent.sender sent.answer →
+        SendsOn (agency_kind G.Agency) before (sight_by (seat_knows result.seat)) old (agency_state_of G.Agency result.agency)
+        sending result.sender result.answer }
+    ensures turns { drains ≡ true → OnOk sent.answer (DrainsTo (agency_kind G.Agency) Z.tells
+        (scene_in (agency_state_of G.Agency) Z.moment sent) (scene_in (agency_state_of G.Agency) Z.moment result) result.answer) }
+    ensures failed { OnErr sent.answer (result ≡ sent) }
+    ensures ends { drains ≡ false → result ≡ sent }
+    ensures covers { drains ≡ true → OnOk result.answer ((seat_knows sent.seat).least ≤ length (seat_knows result.seat).seen) }
+    ensures delivered { drains ≡ true → OnOk result.answer (length (noted (history_of (sight_by (seat_knows result.seat))))
+        ≡ length (recs (history_of (sight_by (seat_knows result.seat))))) }
+{
+    if drains {
+        return drain_rest(means, shop, sent);
+    }
+    sent
 }

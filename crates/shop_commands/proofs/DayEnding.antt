@@ -48,7 +48,7 @@ none_of asks tills till are none =
 
 -- the day of a script on an opened file, and how it ended
 module _ {D C Z G : Type 0} (issuer : List ℕ) (script : Script) (c : Around D C Z G) (o : Outcome)
-    (f : IsDayOf issuer script.asks script.plan c o) where
+    (f : IsDayOf issuer script.asks script.plan true c o) where
   abbrev day : Day
   day = day_of issuer script None c o
 

@@ -34,22 +34,23 @@ use Rattle.shop_core.specs.Answer.Requests.{Asked}
 use Rattle.shop_core.specs.File.Files.{StandsFor}
 use Rattle.shop_core.specs.History.{History, recs, noted}
 use Rattle.shop_core.specs.Rising.{SerialsRise}
-use Rattle.till_calls.specs.Root.{Parts, root_of}
+use Rattle.till_calls.specs.Root.{Parts, Root, root_of}
 use Rattle.shop_drain.specs.Opening.{IsUnbegun, IsOpened}
 use Rattle.sender_session.specs.Contradictions.{ShowsLast}
-use Rattle.shop_commands.specs.Day.{Outcome, day_with}
+use Rattle.shop_commands.specs.Day.{Outcome}
 use Rattle.sender_beside.specs.Behind.{DrainsBehind}
-use Rattle.sender_beside.specs.Days.{Day, TillReplies, all_replies}
+use Rattle.sender_beside.specs.Days.{Day, TillReplies, all_replies, shop_day}
 use Rattle.shop_drain.specs.Devices.{Agencies, AllDevices, Around, LeftSleeper, Sleepers, around}
 use Rattle.sender_session.specs.Kinds.{StoreKind}
 use Rattle.shop_drain.specs.Draining.{AgreesAtStart, OpensSession}
 use Rattle.shop_commands.specs.Drain.{NothingRose}
 use Rattle.sender_session.specs.Session.{IsDiskAnswer}
-use Rattle.shop_commands.specs.Serve.{Closes, FileServe, ServeEnds, ServeWays, SpeechEnds, SpeechServed, printed, source_since}
-use Rattle.shop_dialogue.specs.Dialogues.{CounterRun, IsSpeech, Speech}
+use Rattle.shop_commands.specs.Serve.{Closes, FileServe, ServeEnds, ServeWays, SpeechEnds, SpeechServed, day_said, printed}
+use Rattle.shop_commands.specs.Serve.{source_since}
+use Rattle.shop_dialogue.specs.Dialogues.{CounterRun, IsSpeech, Speech, drains_after}
 use Rattle.shop_commands.specs.Serve.SpeechEnds.{done, read_fault, write_fault, undelivered, contradiction, disk_fault}
 use Rattle.shop_commands.specs.Serve.SpeechEnds.{no_memory}
-use Rattle.sender_beside.specs.Tills.{has_asks, own_of}
+use Rattle.sender_beside.specs.Tills.{DayRun, has_asks, own_of}
 use Rattle.command_ends.proofs.RunEnding.{rose_opening}
 use Rattle.shop_commands.proofs.ShopDays.{IsDayOf, ShopDid, agency_by, crashes_by, day_facts, history_by, not_asked, rose_day}
 use Rattle.shop_commands.proofs.ShopDays.{sender_by, tills_by}
@@ -57,10 +58,10 @@ use Rattle.shop_commands.proofs.Speeches.{quiet, told_some}
 
 -- a dialogue on an opened file, and how it ended
 module _ {D C Z G : Type 0} (issuer : List ℕ) (clock : Option (ℕ × ℕ)) (s : Sources) (c : Around D C Z G) (x : Speech) (o : Outcome)
-    (f : IsDayOf issuer x.said.asks plain c o) (spoken : IsSpeech clock o.start o.end s o.tills x)
+    (f : IsDayOf issuer x.said.asks plain (drains_after x.how) c o) (spoken : IsSpeech clock o.start o.end s o.tills x)
     (are : map (λ (t : TillReplies). t.till) o.tills ≡ range_with_len 1 LAST_TILL) where
   abbrev day : Day
-  day = day_with issuer x.said.asks None c o
+  day = day_said issuer x None c o
 
   abbrev Failing : ℕ → ℕ → Type 0
   Failing n m = (n < m) × (c.agency.after.faults < 2 ^ 64 - 1 → c.agency.before.faults + MAX_LINK_FAULTS ≤ c.agency.after.faults)
@@ -200,7 +201,7 @@ module _ {D C Z G : Type 0} (h : StoreKind D C) (issuer : List ℕ) (disk : D) (
   module _ (agency_state : AgencyState) (opens : OpensSession a.kind a.begun plain first a.before agency_state) (answer : Result (Unit {0}) DrainFault)
       (lacked : Bool) (how : SpeechEnd) (from now : Moment)
       (run : CounterRun h (root_of h.on_disk h.faults old) new clock from now a.kind agency_state a.after answer lacked how)
-      (behind : DrainsBehind a.kind agency_state a.after answer)
+      (behind : DrainsBehind a.kind (drains_after how) agency_state a.after answer)
       (linked : Linked old.state.issuer (recs new.state.entries)) (rising : (till : ℕ) → SerialsRise new.state.entries till) where
     abbrev lines : ℕ
     lines = length (noted new.state.entries)
@@ -218,19 +219,26 @@ module _ {D C Z G : Type 0} (h : StoreKind D C) (issuer : List ℕ) (disk : D) (
         FileServe issuer None clock s opened_call end
     talked closed end same closes written ends =
         let x = run.speech in
-        let did : ShopDid h x.said.asks a.kind agency_state a.after old new.disk new.clock = record {
+        let root : Root C = root_of h.on_disk h.faults old in
+        let served : DayRun h root new (shop_day h.coming x.said.asks root new run.tills a.kind agency_state a.after
+        (drains_after x.how) answer) =
+        subst (λ (b : SpeechEnd). DayRun h root new (shop_day h.coming x.said.asks root new run.tills a.kind agency_state a.after
+        (drains_after b) answer)) (sym run.how_is) run.run in
+        let sent : DrainsBehind a.kind (drains_after x.how) agency_state a.after answer =
+        subst (λ (b : SpeechEnd). DrainsBehind a.kind (drains_after b) agency_state a.after answer) (sym run.how_is) behind in
+        let did : ShopDid h x.said.asks a.kind agency_state a.after (drains_after x.how) old new.disk new.clock = record {
           new = new;
           tills = run.tills;
           answer = answer;
           disk = refl;
           clock = refl;
-          run = run.run;
-          behind = behind;
+          run = served;
+          behind = sent;
           linked = linked;
           rising = rising;
         } in
-        let facts = day_facts h issuer x.said.asks plain disk new.disk old.clock new.clock z a old k is_opened reads rules_tell agency_state opens did
-        in
+        let facts = day_facts h issuer x.said.asks plain disk new.disk old.clock new.clock z a old k is_opened reads rules_tell agency_state opens
+        (drains_after x.how) did in
         let spoken : IsSpeech clock first new.state.entries s run.tills x =
         subst (λ (v : Sources). IsSpeech clock first new.state.entries v run.tills x) (sym same) run.spoken in
         let closes' : Closes x.how closed = subst (λ (b : SpeechEnd). Closes b closed) (sym run.how_is) closes in
@@ -285,7 +293,7 @@ module _ {D C Z O P G : Type 0} (issuer : List ℕ) (said : Option (ℕ × ℕ))
     read = h.read;
   })
   serve_by_line (inr h) =
-      let d : Day = day_with issuer h.speech.said.asks None own h.outcome in
+      let d : Day = day_said issuer h.speech None own h.outcome in
       let new : ℕ → Option ℕ = readings_of (Some line) (c.clock.coming c.clock.clock) in
       inr (record {
         speech = h.speech;
@@ -314,10 +322,10 @@ module _ {D C Z G : Type 0} (issuer : List ℕ) (line said : Option (ℕ × ℕ)
       o = h.outcome
 
       rose : (list_any is_disk_fault x.said.replies ≡ true) ⊎ IsDiskAnswer o.answer → DiskRose c.disk
-      rose (inl some) = rose_day (day_with issuer x.said.asks line c o) (c.disk.faults c.disk.disk) (c.disk.faults c.disk.disk_after)
+      rose (inl some) = rose_day (day_said issuer x line c o) (c.disk.faults c.disk.disk) (c.disk.faults c.disk.disk_after)
           o.stop h.crashes.stop (inl (told_some is_disk_fault x.said.asks x.said.replies o.tills h.spoken.pairs h.spoken.of_tills h.tills.are
           h.spoken.told some))
-      rose (inr disk) = rose_day (day_with issuer x.said.asks line c o) (c.disk.faults c.disk.disk) (c.disk.faults c.disk.disk_after)
+      rose (inr disk) = rose_day (day_said issuer x line c o) (c.disk.faults c.disk.disk) (c.disk.faults c.disk.disk_after)
           o.stop h.crashes.stop (inr disk)
 
       by_end : (how : Detail) → SpeechEnds x.how x.said.replies o.answer (length (noted o.end)) (length (recs o.end))

@@ -95,31 +95,31 @@ pub record ShopLeft {D C : Type 0} (left : Type 0) (old : Parts D C) (disk_after
   pub rest : left
 
 -- the tills of an opened store asked beside a sender, and this is what the day made of it
-pub record ShopDid {D C : Type 0} (h : StoreKind D C) (asks : List Asked) (kind : AgencyKind) (opened after : AgencyState) (old : Parts D C)
-    (disk_after : D) (clock_after : C) : Type 0 where
+pub record ShopDid {D C : Type 0} (h : StoreKind D C) (asks : List Asked) (kind : AgencyKind) (opened after : AgencyState)
+    (drains : Bool) (old : Parts D C) (disk_after : D) (clock_after : C) : Type 0 where
   pub new : Parts D C
   pub tills : List TillReplies
   pub answer : Result (Unit {0}) DrainFault
   pub disk : disk_after ≡ new.disk
   pub clock : clock_after ≡ new.clock
   pub run : DayRun h (root_of h.on_disk h.faults old) new
-      (shop_day h.coming asks (root_of h.on_disk h.faults old) new tills kind opened after answer)
-  pub behind : DrainsBehind kind opened after answer
+      (shop_day h.coming asks (root_of h.on_disk h.faults old) new tills kind opened after drains answer)
+  pub behind : DrainsBehind kind drains opened after answer
   pub linked : Linked old.state.issuer (recs new.state.entries)
   pub rising : (till : ℕ) → SerialsRise new.state.entries till
 
 -- what a day of an opened file is of the call that opened it, by the call's own clock
-pub record IsDayOf {D C Z G : Type 0} (issuer : List ℕ) (asks : List Asked) (plan : Plan) (c : Around D C Z G) (o : Outcome) : Type 0
-  where
-    pub history : HistoryGoesOn (day_with issuer asks None c o)
-    pub served : AllByRecursion (TillServed (day_with issuer asks None c o)) o.tills
-    pub others : (till : ℕ) → AllByRecursion (λ (t : TillReplies). t.till ≢ till) o.tills →
-        own_of till (drop (length o.start) o.end) ≡ []
-    pub crashes : EachCrash (day_with issuer asks None c o) c.disk
-    pub agency : ItsAgency (day_with issuer asks None c o) plan c.agency c.disk
-    pub gives_up : (n m : ℕ) → o.answer ≡ Err (drain.Undelivered n m) → (length (noted o.end) < length (recs o.end)) ×
-        (c.agency.after.faults < 2 ^ 64 - 1 → c.agency.before.faults + MAX_LINK_FAULTS ≤ c.agency.after.faults)
-    pub time : LeavesTime None c.clock c.sleeper
+pub record IsDayOf {D C Z G : Type 0} (issuer : List ℕ) (asks : List Asked) (plan : Plan) (drains : Bool) (c : Around D C Z G)
+    (o : Outcome) : Type 0 where
+  pub history : HistoryGoesOn (day_with issuer asks None drains c o)
+  pub served : AllByRecursion (TillServed (day_with issuer asks None drains c o)) o.tills
+  pub others : (till : ℕ) → AllByRecursion (λ (t : TillReplies). t.till ≢ till) o.tills →
+      own_of till (drop (length o.start) o.end) ≡ []
+  pub crashes : EachCrash (day_with issuer asks None drains c o) c.disk
+  pub agency : ItsAgency (day_with issuer asks None drains c o) plan c.agency c.disk
+  pub gives_up : (n m : ℕ) → o.answer ≡ Err (drain.Undelivered n m) → (length (noted o.end) < length (recs o.end)) ×
+      (c.agency.after.faults < 2 ^ 64 - 1 → c.agency.before.faults + MAX_LINK_FAULTS ≤ c.agency.after.faults)
+  pub time : LeavesTime None c.clock c.sleeper
 
 module _ {D C Z G : Type 0} (h : StoreKind D C) (issuer : List ℕ) (asks : List Asked) (plan : Plan) (disk disk_after : D)
     (clock clock_after : C) (z : Sleepers Z) (a : Agencies G) (opened : Parts D C) (s : Sinks)
@@ -169,8 +169,8 @@ module _ {D C Z G : Type 0} (h : StoreKind D C) (issuer : List ℕ) (asks : List
     sleeper = l.rest;
   }
 
-  module _ (agency_state : AgencyState) (opens : OpensSession a.kind a.begun plan first a.before agency_state)
-      (r : ShopDid h asks a.kind agency_state a.after opened disk_after clock_after) where
+  module _ (agency_state : AgencyState) (opens : OpensSession a.kind a.begun plan first a.before agency_state) (drains : Bool)
+      (r : ShopDid h asks a.kind agency_state a.after drains opened disk_after clock_after) where
     abbrev pub outcome : Outcome
     outcome = record {
       version = opened.state.version;
@@ -183,7 +183,7 @@ module _ {D C Z G : Type 0} (h : StoreKind D C) (issuer : List ℕ) (asks : List
     }
 
     abbrev day : Day
-    day = day_with issuer asks None call outcome
+    day = day_with issuer asks None drains call outcome
 
     -- the day of this version and issuer, and from this clock on
     abbrev at : Version → List ℕ → C → Day
@@ -293,7 +293,7 @@ module _ {D C Z G : Type 0} (h : StoreKind D C) (issuer : List ℕ) (asks : List
     )
 
     -- the day of an opened store is one of its file, from its opening on
-    pub day_facts : IsDayOf issuer asks plan call outcome
+    pub day_facts : IsDayOf issuer asks plan drains call outcome
     day_facts = record {
       history = history;
       served = here (λ (d : Day). AllByRecursion (TillServed d) r.tills) r.run.served;

@@ -21,6 +21,7 @@ use Rattle.shop_core.specs.Answer.Requests.{Asked}
 use Rattle.shop_commands.specs.SenderEnds.{sender_end}
 use Rattle.command_ends.specs.DrainEnds.{sender_lacks_memory}
 use Rattle.sender_session.specs.Session.{IsDiskAnswer}
+use Rattle.shop_dialogue.specs.Dialogues.{drains_after}
 use Rattle.shop_commands.specs.Serve.{Closes, SpeechEnds, end_of, sink_to}
 use Rattle.shop_commands.specs.Serve.SpeechEnds.{done, read_fault, write_fault, undelivered, contradiction, disk_fault}
 use Rattle.shop_commands.specs.Serve.SpeechEnds.{no_memory}
@@ -81,6 +82,14 @@ closed_write speech.ReadFault asks replies answers c h = absurd (let x = c in cc
 closed_write speech.NoMemory asks replies answers c h = absurd (let x = c in cc)
 closed_write speech.Stopped asks replies answers c h = absurd (let x = c in cc)
 
+-- a drain followed where it ends so, the chain line written or not
+pub closed_drains : (began closed : SpeechEnd) → Closes began closed → drains_after closed ≡ true → drains_after began ≡ true
+closed_drains speech.Ended closed c is = refl
+closed_drains speech.ReadFault closed c is = refl
+closed_drains speech.WriteFault closed c is = refl
+closed_drains speech.NoMemory closed c is = refl
+closed_drains speech.Stopped closed c is = absurd (let no : false ≡ true = sym (ap drains_after c) ∙ is in cc)
+
 -- a dialogue that began to end so, with these replies, after which memory never ran out
 module _ (began : SpeechEnd) (asks : List Asked) (replies : Replies) (answers : List (List ℕ)) (answer : Result (Unit {0}) DrainFault)
     (n r : ℕ) (texts : List (List ℕ)) (s : Sources) (k : Sinks) (memory : list_any is_no_memory replies ≡ false) (sender : sender_lacks_memory answer ≡ false) where
@@ -102,24 +111,25 @@ module _ (began : SpeechEnd) (asks : List Asked) (replies : Replies) (answers : 
   answered : AllGoOn replies → AllReplied replies
   answered go = all_replied replies memory (went_on replies go)
 
-  by_answer : (how : SpeechEnd) (a : Result (Unit {0}) DrainFault) → answer ≡ a → OnOk a (n ≡ r) → Closes began how →
+  by_answer : (how : SpeechEnd) (a : Result (Unit {0}) DrainFault) → answer ≡ a → (drains_after how ≡ true → OnOk a (n ≡ r)) → Closes began how →
       AreRepliesOf began asks replies answers → (began ≡ speech.ReadFault → SourceRose s) → IsWritten how k texts → Ends (end_of how n r a)
   by_answer speech.NoMemory a is same c h rose w = no_memory w
   by_answer speech.Stopped a is same c h rose w = disk_fault memory sender
       (inl (some_fault asks replies answers (subst (λ (b : SpeechEnd). AreRepliesOf b asks replies answers) (closed_stopped began c) h))) w
   by_answer speech.Ended (Ok u) is same c h rose w = done (closed_ended began c)
-      (answered (subst (λ (b : SpeechEnd). AreRepliesOf b asks replies answers) (closed_ended began c) h)) is same w
+      (answered (subst (λ (b : SpeechEnd). AreRepliesOf b asks replies answers) (closed_ended began c) h)) is (same refl) w
   by_answer speech.Ended (Err fault) is same c h rose w = sender_ended fault is
       (answered (subst (λ (b : SpeechEnd). AreRepliesOf b asks replies answers) (closed_ended began c) h)) (inl w)
   by_answer speech.ReadFault (Ok u) is same c h rose w = read_fault (closed_read began c) (rose (closed_read began c))
-      (answered (subst (λ (b : SpeechEnd). AreRepliesOf b asks replies answers) (closed_read began c) h)) is same w
+      (answered (subst (λ (b : SpeechEnd). AreRepliesOf b asks replies answers) (closed_read began c) h)) is (same refl) w
   by_answer speech.ReadFault (Err fault) is same c h rose w = sender_ended fault is
       (answered (subst (λ (b : SpeechEnd). AreRepliesOf b asks replies answers) (closed_read began c) h)) (inl w)
-  by_answer speech.WriteFault (Ok u) is same c h rose w = write_fault (answered (closed_write began asks replies answers c h)) is same w
+  by_answer speech.WriteFault (Ok u) is same c h rose w = write_fault (answered (closed_write began asks replies answers c h)) is
+      (same refl) w
   by_answer speech.WriteFault (Err fault) is same c h rose w = sender_ended fault is (answered (closed_write began asks replies answers c h)) (inr w)
 
   -- the end that it comes to
-  pub ended_so : (how : SpeechEnd) → OnOk answer (n ≡ r) → Closes began how → AreRepliesOf began asks replies answers →
+  pub ended_so : (how : SpeechEnd) → (drains_after how ≡ true → OnOk answer (n ≡ r)) → Closes began how → AreRepliesOf began asks replies answers →
       (began ≡ speech.ReadFault → SourceRose s) → IsWritten how k texts → Ends (end_of how n r answer)
   ended_so how same c h rose w = by_answer how answer refl same c h rose w
 

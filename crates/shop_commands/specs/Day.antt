@@ -1,5 +1,5 @@
 -- How `day` ends.
-use Rattle.std.specs.Prelude.{◌≡◌, ◌⊎◌, ◌<◌, ◌≤◌, ◌+◌, ℕ, false, List, [], ◌∷◌, ◌++◌, drop, flat_map, length, map}
+use Rattle.std.specs.Prelude.{◌≡◌, ◌⊎◌, ◌<◌, ◌≤◌, ◌+◌, ℕ, Bool, true, false, List, [], ◌∷◌, ◌++◌, drop, flat_map, length, map}
 use Rattle.std.specs.Prelude.{IsTrue, Option, Result}
 use Rattle.std.specs.List.{AllByRecursion}
 use Rattle.record_fields.specs.declared.versions.Version.{Version}
@@ -63,9 +63,9 @@ pub record Outcome : Type 0 where
   pub opened : AgencyState
   pub answer : Result (Unit {0}) DrainFault
 
--- a day with these asks for this issuer, by this clock line, of which this came
-abbrev pub day_with : {D C Z G : Type 0} → List ℕ → List Asked → Option (ℕ × ℕ) → Around D C Z G → Outcome → Day
-day_with issuer asks line c o = record {
+-- a day with these asks for this issuer, by this clock line, after whose tills a drain followed or not, and of which this came
+abbrev pub day_with : {D C Z G : Type 0} → List ℕ → List Asked → Option (ℕ × ℕ) → Bool → Around D C Z G → Outcome → Day
+day_with issuer asks line drains c o = record {
   issuer = issuer;
   version = o.version;
   asks = asks;
@@ -77,12 +77,13 @@ day_with issuer asks line c o = record {
   kind = c.agency.kind;
   opened = o.opened;
   after = c.agency.after;
+  drains = drains;
   answer = o.answer;
 }
 
 -- the day of a script
 abbrev pub day_of : {D C Z G : Type 0} → List ℕ → Script → Option (ℕ × ℕ) → Around D C Z G → Outcome → Day
-day_of issuer script line c o = day_with issuer script.asks line c o
+day_of issuer script line c o = day_with issuer script.asks line true c o
 
 -- the history: it goes on from the one at the start, and is legal
 pub record HistoryGoesOn (d : Day) : Type 0 where
@@ -112,12 +113,12 @@ pub record EachCrash {D : Type 0} (d : Day) (k : Disks D) : Type 0 where
       (torn_of d.stop) (synced (k.on_disk k.disk)) (k.on_disk k.disk_after)
 
 -- One session with the agency was opened, with the plan and the pairs noted in the history at the start, and in it one new sender
--- sent, beside the tills and in one drain behind them. Where shop and agency agreed they still do, also with the history of each
--- file that a crash now leaves.
+-- sent, beside the tills and, where a drain follows, in one drain after them. Where shop and agency agreed they still do, also with
+-- the history of each file that a crash now leaves.
 pub record ItsAgency {D G : Type 0} (d : Day) (plan : Plan) (a : Agencies G) (k : Disks D) : Type 0 where
   pub opens : OpensSession d.kind a.begun plan d.start a.before d.opened
   pub sends : SendsBeside d
-  pub behind : DrainsBehind d.kind d.opened d.after d.answer
+  pub behind : DrainsBehind d.kind d.drains d.opened d.after d.answer
   pub agreement : IsTrue d.kind.keeps_rules → AgreesAtStart a d.start → StaysAgreed d
   pub images : IsTrue k.tells → StaysAgreed d → LeavesNow (k.on_disk k.disk_after) (AgreesInFile d.version d.issuer d.after)
 

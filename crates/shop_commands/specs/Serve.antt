@@ -30,7 +30,7 @@ use Rattle.shop_drain.specs.Draining.{AgreesAtStart}
 use Rattle.shop_commands.specs.Drain.{AllLeft, LeavesTime, NothingRose}
 use Rattle.sender_session.specs.Session.{IsDiskAnswer}
 use Rattle.shop_drain.specs.Opening.{NotOpened}
-use Rattle.shop_dialogue.specs.Dialogues.{IsSpeech, Speech}
+use Rattle.shop_dialogue.specs.Dialogues.{IsSpeech, Speech, drains_after}
 use Rattle.shop_drain.specs.declared.posts.Post.{Post}
 
 -- what is printed: the answers, one after another, and the chain line after a source that was read to its end
@@ -98,6 +98,10 @@ pub record EndsAsSpoken {D C Z G : Type 0} (d : Day) (x : Speech) (s : Sources) 
   pub complete : (SourceRose s → ⊥) → NothingRose c.sink c.disk c.agency → IsTrue d.kind.keeps_rules →
       AgreesAtStart c.agency d.start → (end ≡ detail.Done) ⊎ (end ≡ detail.NoMemory)
 
+-- the day of a dialogue
+abbrev pub day_said : {D C Z G : Type 0} → List ℕ → Speech → Option (ℕ × ℕ) → Around D C Z G → Outcome → Day
+day_said issuer x line c o = day_with issuer x.said.asks line (drains_after x.how) c o
+
 -- The file was opened, and the lines were answered one by one beside the sender, with this clock line among them: all tills of the
 -- shop asked for the commands among the lines, each for its own, and each question among them was answered at a history between that
 -- at the start and that at the end.
@@ -106,11 +110,11 @@ pub record SpeechServed {D C Z G : Type 0} (issuer : List ℕ) (line clock : Opt
   pub speech : Speech
   pub outcome : Outcome
   pub spoken : IsSpeech clock outcome.start outcome.end s outcome.tills speech
-  pub history : HistoryGoesOn (day_with issuer speech.said.asks line c outcome)
-  pub tills : EachTillOf (range_with_len 1 LAST_TILL) (day_with issuer speech.said.asks line c outcome)
-  pub crashes : EachCrash (day_with issuer speech.said.asks line c outcome) c.disk
-  pub agency : ItsAgency (day_with issuer speech.said.asks line c outcome) plain c.agency c.disk
-  pub ends : EndsAsSpoken (day_with issuer speech.said.asks line c outcome) speech s c end
+  pub history : HistoryGoesOn (day_said issuer speech line c outcome)
+  pub tills : EachTillOf (range_with_len 1 LAST_TILL) (day_said issuer speech line c outcome)
+  pub crashes : EachCrash (day_said issuer speech line c outcome) c.disk
+  pub agency : ItsAgency (day_said issuer speech line c outcome) plain c.agency c.disk
+  pub ends : EndsAsSpoken (day_said issuer speech line c outcome) speech s c end
   pub time : LeavesTime line c.clock c.sleeper
 
 -- the file was opened, and there was no memory for the shop: lines were passed over, and none was answered

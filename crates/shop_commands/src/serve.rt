@@ -1,6 +1,6 @@
 //! The command `serve`: opens the file, begins the agency's session, and answers the lines of the source one by one, with a sender
-//! at the same time, until the source ends. Then it drains, and prints the chain line.
-ghost use Rattle.std.specs.Prelude.{◌≡◌, ◌≤◌, ◌∷◌, ◌++◌, [], ℕ, List, length, Option, OnOk, None};
+//! at the same time, until the source ends. Then it drains, and prints the chain line. After a fault of the disk it ends at once.
+ghost use Rattle.std.specs.Prelude.{◌≡◌, ◌≤◌, ◌∷◌, ◌++◌, [], ℕ, true, List, length, Option, OnOk, None};
 ghost use Rattle.std.specs.List.{list_any};
 ghost use Rattle.chain_store.specs.Replies.{Replies, is_no_memory};
 ghost use Rattle.chain_store.specs.Store.{Ready, journal_of};
@@ -20,7 +20,7 @@ ghost use Rattle.sender_session.specs.Kinds.{store_kind};
 ghost use Rattle.shop_drain.specs.Opening.{IsOpened};
 ghost use Rattle.shop_commands.specs.Serve as spec;
 ghost use Rattle.shop_commands.specs.Serve.{Closes, FileServe, ServeEnds, SpeechEnds, post_with, sink_to, source_since};
-ghost use Rattle.shop_dialogue.specs.Dialogues.{HasCome};
+ghost use Rattle.shop_dialogue.specs.Dialogues.{HasCome, drains_after};
 
 use crate::day::sender_end;
 use agency_port::{Agency, Turns};
@@ -47,7 +47,8 @@ use std::thread::Threads;
 
 /// Opens the disk for this issuer, and answers the lines of the source one by one: each answer is written before the next line is
 /// read. The agency's session is opened once, with the pairs noted in the file, and a sender sends at the same time. Once the source has ended
-/// the sender drains, and the chain line is printed. A clock line ahead of every other line that is answered replaces clock and
+/// the sender drains, and the chain line is printed. After a command that is answered with a fault of the disk nothing more is read,
+/// the sender makes no further turn, and nothing is drained. A clock line ahead of every other line that is answered replaces clock and
 /// sleeper. All parts come back.
 pub fn serve_cmd<S, K, D, C, Z, G, T, R>(
     rt: &R,
@@ -255,7 +256,7 @@ fn write_chain<K: Sink>(alloc: Global, state: &State, sink: &mut K) -> SpeechEnd
 // The end of a dialogue that ended so, its chain line written or not: lack of memory before a fault of the disk, that before a
 // contradiction and an undelivered drain, and these before a fault of the source or of the sink.
 fn speech_end(how: SpeechEnd, lacked: bool, sent: &Result<(), DrainFault>, state: &State) -> Detail
-    requires counts { OnOk sent.now (length (noted state.now.entries) ≡ length (recs state.now.entries)) }
+    requires counts { drains_after how ≡ true → OnOk sent.now (length (noted state.now.entries) ≡ length (recs state.now.entries)) }
     ensures { (began : SpeechEnd) (asks : List Asked) (replies : Replies) (answers texts : List (List ℕ)) (s : Sources) (k : Sinks) →
         Closes began how → AreRepliesOf began asks replies answers → lacked ≡ list_any is_no_memory replies →
         (began ≡ speech.ReadFault → SourceRose s) → IsWritten how k texts →

@@ -1,5 +1,5 @@
 //! The day of a shop: its tills, and a sender at the same time.
-ghost use Rattle.std.specs.Prelude.{◌≡◌, ◌≢◌, ◌≤◌, [], map, reverse, All, AllPairs, vec_capacity, vec_len};
+ghost use Rattle.std.specs.Prelude.{◌≡◌, ◌≢◌, ◌≤◌, [], true, map, reverse, All, AllPairs, vec_capacity, vec_len};
 ghost use Rattle.till_calls.specs.Root.{parts_of};
 ghost use Rattle.till_calls.specs.Shop.{made_tills, numbers, seat_knows, seat_shop, shop_id, shop_root, till_shop};
 ghost use Rattle.till_calls.specs.Mark.{mark_by, sight_by};
@@ -26,6 +26,7 @@ use shop_core::Ask;
 use shop_drain::{Begun, Opened};
 use std::snapshot::Snapshot;
 use std::sync::Wait;
+use std::sync::atomic::AtomicBool;
 use std::thread::Threads;
 use till_calls::{
     Kept, SenderSeat, Shop, Started, a_run_is_told_at_the_end, a_till_adds_for_no_other,
@@ -74,12 +75,14 @@ where
         (agency_state_of G.Agency agency) (agency_state_of G.Agency result.agency) fresh result.sender result.answer }
     ensures never { IsUndelivered result.answer → ⊥ }
 {
+    let stop = AtomicBool::new(false);
     with_sender(
         means,
         shop,
         seat,
         agency,
         sleeper,
+        &stop,
         &mut move ||
             requires { All (λ j. till_shop j.till ≡ shop_id shop.now) jobs.now.items
                 × All (λ j. HasRoom asks.now (day_of j)) jobs.now.items }
@@ -116,11 +119,12 @@ pub fn run_day<
     requires begun { IsStarted begun.started }
     ensures day { DayRun (store_kind D.Disk C.Clock) (shop_root begun.started.shop) (parts_of result.opened.store)
         (shop_day C.coming asks.now (shop_root begun.started.shop) (parts_of result.opened.store) (map told_in result.tills.items)
-        (agency_kind G.Agency) (agency_state_of G.Agency begun.agency) (agency_state_of G.Agency result.opened.agency) result.answer) }
+        (agency_kind G.Agency) (agency_state_of G.Agency begun.agency) (agency_state_of G.Agency result.opened.agency) true
+        result.answer) }
     ensures same { map (λ t. t.till) result.tills.items ≡ map (λ t. t.till) room.days.items }
 
     // What the sender did by the tills' end, and what it did from there.
-    ensures behind { SendsBehind (agency_kind G.Agency) Z.tells (agency_state_of G.Agency begun.agency)
+    ensures behind { SendsBehind (agency_kind G.Agency) Z.tells true (agency_state_of G.Agency begun.agency)
         (agency_state_of G.Agency result.opened.agency) (scene_in (agency_state_of G.Agency) Z.moment result.met.value)
         (scene_in (agency_state_of G.Agency) Z.moment result.left.value) result.met.value.answer result.answer }
 {

@@ -1,5 +1,5 @@
 -- What is said at a shop's counter, and what it makes of the shop.
-use Rattle.std.specs.Prelude.{◌≡◌, ◌≤◌, ℕ, Bool, List, length, map, Option, Result}
+use Rattle.std.specs.Prelude.{◌≡◌, ◌≤◌, ℕ, Bool, true, false, List, length, map, Option, Result}
 use Rattle.std.specs.List.{AllByRecursion, list_any, range_with_len}
 use Rattle.chain_lock.specs.Known.{Known}
 use Rattle.chain_store.specs.Replies.{is_no_memory}
@@ -61,6 +61,14 @@ SpeaksOn coming listener first from now lacked olds news how =
     IsCause faults from.source_faults first →
     Spoken coming (clock_first first) (moment_since left faults from.taken from.sink_faults) now lacked olds news how
 
+-- whether a drain follows a dialogue that ended so: always, but after a fault of the disk
+abbrev pub drains_after : SpeechEnd → Bool
+drains_after speech.Ended = true
+drains_after speech.ReadFault = true
+drains_after speech.WriteFault = true
+drains_after speech.NoMemory = true
+drains_after speech.Stopped = false
+
 -- A dialogue at the counter of a shop, which was this at its start, beside its sender: what was said, and what it made of the shop.
 pub record CounterRun {D C : Type 0} (h : StoreKind D C) (root : Root C) (new : Parts D C) (clock : Option (ℕ × ℕ))
     (from now : Moment) (kind : AgencyKind) (opened after : AgencyState) (answer : Result (Unit {0}) DrainFault) (lacked : Bool)
@@ -78,4 +86,4 @@ pub record CounterRun {D C : Type 0} (h : StoreKind D C) (root : Root C) (new : 
   pub lacked_is : lacked ≡ list_any is_no_memory speech.said.replies
   pub written : IsWritten how (sink_since from now) speech.said.answers
   pub sink_later : from.sink_faults ≤ now.sink_faults
-  pub run : DayRun h root new (shop_day h.coming speech.said.asks root new tills kind opened after answer)
+  pub run : DayRun h root new (shop_day h.coming speech.said.asks root new tills kind opened after (drains_after how) answer)

@@ -11,6 +11,7 @@ ghost use Rattle.till_calls.specs.Shop.{till_shop};
 ghost use Rattle.sender_session.specs.Session.{IsUndelivered, SendsOn};
 ghost use Rattle.sender_session.specs.Kinds.{agency_state_of, agency_kind, store_kind};
 ghost use Rattle.sender_beside.specs.Behind.{SendsBehind, scene_in};
+ghost use Rattle.shop_dialogue.specs.Dialogues as spec;
 ghost use Rattle.shop_dialogue.specs.Dialogues.{CounterRun, HasCome, SpeaksOn};
 ghost use Rattle.shop_drain.specs.Started.{IsStarted};
 
@@ -18,15 +19,16 @@ use agency_port::Agency;
 use chain_disk::Disk;
 use chain_lock::who_sees_all_that_is_owned_sees_all;
 use dialogue::Action;
-use dialogue_loop::{Counter, Listener, SpeechEnd, answer_lines, give_back, hold_all};
+use dialogue_loop::{Counter, Listener, SpeechEnd, SpeechMeans, answer_lines, give_back, hold_all};
 use once_world::agreement_is_kept;
 use ports::{Clock, Gate, Sink, Sleeper, Source};
 use sender::{DrainFault, a_session_begins};
-use sender_beside::{Sent, drain_rest, with_sender};
+use sender_beside::{Sent, drain_if, with_sender};
 use sender_session::Means;
 use shop_drain::{Begun, Opened};
 use std::snapshot::Snapshot;
 use std::sync::Wait;
+use std::sync::atomic::AtomicBool;
 use std::thread::Threads;
 use till_calls::{
     Kept, SenderSeat, Shop, Started, Till, a_run_is_told_at_the_end, a_till_adds_for_no_other,
@@ -40,14 +42,24 @@ pub struct DialogueDone<D: Disk, C: Clock, Z: Sleeper + Drop, G: Agency + Drop> 
     pub how: SpeechEnd,
     /// Whether some command found no memory.
     pub lacked: bool,
-    /// How the sending ended. Ok: no record waits.
+    /// How the sending ended. Ok: no record waits, or the dialogue ended at a fault of the disk, and nothing was drained.
     pub answer: Result<(), DrainFault>,
     /// The sender and all that it had once the dialogue had ended, and at the end, as contracts see them.
     pub met: Snapshot<Sent<D, C, G, Z>>,
     pub left: Snapshot<Sent<D, C, G, Z>>,
 }
 
-// Answers line by line, and tells how it ended.
+// Whether a drain follows a dialogue that ended so.
+fn drains_after(how: SpeechEnd) -> bool
+    ensures { result ≡ spec.drains_after how }
+{
+    match how {
+        SpeechEnd::Stopped => false,
+        _ => true,
+    }
+}
+
+// Answers line by line, and tells how it ended. A fault of the disk stops the sender before it is answered.
 fn converse_to<S: Source, K: Sink, D: Disk, C: Clock, T: Gate, R: Wait>(
     means: Means<'_, R, T>,
     shop: &Shop<D, C>,
@@ -56,6 +68,7 @@ fn converse_to<S: Source, K: Sink, D: Disk, C: Clock, T: Gate, R: Wait>(
     source: &mut S,
     sink: &mut K,
     how: &mut SpeechEnd,
+    stop: &AtomicBool,
 )
     requires own { All (λ t. till_shop t ≡ shop_id shop.now) counter.old.held.items }
     requires numbers { reverse (map till_number counter.old.held.items) ≡ range_with_len 1 LAST_TILL }
@@ -67,19 +80,16 @@ fn converse_to<S: Source, K: Sink, D: Disk, C: Clock, T: Gate, R: Wait>(
         (moment_of S.left S.faults K.taken K.faults source.new sink.new) counter.new.lacked
         (map till_knows counter.old.held.items) (map till_knows counter.new.held.items) how.new }
 {
-    *how = answer_lines(
-        means.rt,
-        means.alloc,
-        means.gate,
-        shop,
-        counter,
-        first,
-        source,
-        sink,
-    );
+    let by = SpeechMeans {
+        rt: means.rt,
+        alloc: means.alloc,
+        gate: means.gate,
+        stop,
+    };
+    *how = answer_lines(by, shop, counter, first, source, sink);
 }
 
-// Answers line by line, and sends at the same time.
+// Answers line by line, and sends at the same time, until the dialogue has ended or the disk failed.
 fn answer_lines_with_sender<S, K, D, C, Z, G, T, R>(
     means: Means<'_, R, T>,
     shop: &Shop<D, C>,
@@ -116,12 +126,15 @@ where
         (agency_state_of G.Agency agency) (agency_state_of G.Agency result.agency) fresh result.sender result.answer }
     ensures never { IsUndelivered result.answer → ⊥ }
 {
+    let stop = AtomicBool::new(false);
+    let told = &stop;
     with_sender(
         means,
         shop,
         seat,
         agency,
         sleeper,
+        told,
         &mut move ||
             requires { All (λ t. till_shop t ≡ shop_id shop.now) counter.now.held.items
                 × (reverse (map till_number counter.now.held.items) ≡ range_with_len 1 LAST_TILL)
@@ -132,12 +145,13 @@ where
                 (moment_of S.left S.faults K.taken K.faults source.entry.now sink.entry.now)
                 (moment_of S.left S.faults K.taken K.faults source.exit.now sink.exit.now) counter.exit.now.lacked
                 (map till_knows counter.entry.now.held.items) (map till_knows counter.exit.now.held.items) how.exit.now }
-        { converse_to(means, shop, counter, first, source, sink, how) },
+        { converse_to(means, shop, counter, first, source, sink, how, told) },
     )
 }
 
 /// The dialogue of a shop that has just begun, from its first answered line on, if there is one. Beside it a sender sends what
-/// waits to an agency whose session is open, and once it has ended the sender drains.
+/// waits to an agency whose session is open, and once it has ended the sender drains. After a command that is answered with a fault
+/// of the disk the sender makes no further turn, and nothing is drained.
 pub fn run_dialogue<
     S: Source,
     K: Sink,
@@ -169,7 +183,7 @@ pub fn run_dialogue<
         (agency_state_of G.Agency begun.agency) (agency_state_of G.Agency result.opened.agency) result.answer result.lacked result.how }
 
     // What the sender did by the dialogue's end, and what it did from there.
-    ensures behind { SendsBehind (agency_kind G.Agency) Z.tells (agency_state_of G.Agency begun.agency)
+    ensures behind { SendsBehind (agency_kind G.Agency) Z.tells (spec.drains_after result.how) (agency_state_of G.Agency begun.agency)
         (agency_state_of G.Agency result.opened.agency) (scene_in (agency_state_of G.Agency) Z.moment result.met.value)
         (scene_in (agency_state_of G.Agency) Z.moment result.left.value) result.met.value.answer result.answer }
 {
@@ -217,7 +231,7 @@ pub fn run_dialogue<
     } = counter;
     give_back(&shop, &mut tills, held, &mut sent.seat);
     let met = Snapshot::of(&sent);
-    let rest = drain_rest(means, &shop, sent);
+    let rest = drain_if(drains_after(how), means, &shop, sent);
     let left = Snapshot::of(&rest);
     let Sent {
         seat,

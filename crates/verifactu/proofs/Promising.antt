@@ -1,6 +1,6 @@
 -- The promise of each command, from the way it ended.
 use Rattle.std.proofs.Common.{◌≡◌, ◌⊎◌, inl, inr, ◌≤◌, ℕ, List, [], length, refl, ap, subst, arith}
-use Rattle.std.proofs.Common.{Bool, IsTrue, Option, Some, None}
+use Rattle.std.proofs.Common.{Bool, true, IsTrue, Option, Some, None}
 use Rattle.agency_rules.specs.declared.plans.Plan.{Plan}
 use Rattle.ports.specs.declared.Clock as clock
 use Rattle.ports.specs.declared.sleeper.Sleeper as sleeper
@@ -19,7 +19,7 @@ use Rattle.sender.specs.Turning.{AgencyState}
 use Rattle.shop_core.specs.File.Laws.{NotBegunIsNeither, OneHistory}
 use Rattle.shop_commands.specs.Chain.{ChainEnds, ScriptEnds}
 use Rattle.shop_commands.specs.Day.{DayEnds, EachCrash, FileDay, HistoryGoesOn, ItsAgency, NotServed, Outcome, day_of, day_with}
-use Rattle.shop_commands.specs.Serve.{ServeWays}
+use Rattle.shop_commands.specs.Serve.{ServeWays, day_said}
 use Rattle.agency_rules.specs.Plans.{plain}
 use Rattle.shop_core.specs.Answer.Requests.{Asked}
 use Rattle.sender_beside.specs.Days.{torn_of}
@@ -118,20 +118,20 @@ module _ {D C Z G : Type 0} (chained : AreLinked) (a : AllDevices D C Z G)
         )
 
     -- it had a day
-    a_day : (asks : List Asked) (plan : Plan) (line : Option (ℕ × ℕ)) (o : Outcome) →
-        TillsGain a.devices.source o.start o.end → HistoryGoesOn (day_with issuer asks line (around a) o) →
-        EachCrash (day_with issuer asks line (around a) o) a.devices.disk →
-        ItsAgency (day_with issuer asks line (around a) o) plan a.agency a.devices.disk → LeftBy issuer
-    a_day asks plan line o gains history crashes agency =
-        let d = day_with issuer asks line (around a) o in
+    a_day : (asks : List Asked) (plan : Plan) (line : Option (ℕ × ℕ)) (drains : Bool) (o : Outcome) →
+        TillsGain a.devices.source o.start o.end → HistoryGoesOn (day_with issuer asks line drains (around a) o) →
+        EachCrash (day_with issuer asks line drains (around a) o) a.devices.disk →
+        ItsAgency (day_with issuer asks line drains (around a) o) plan a.agency a.devices.disk → LeftBy issuer
+    a_day asks plan line drains o gains history crashes agency =
+        let d = day_with issuer asks line drains (around a) o in
         let kept = crashes.kept says in
         grown o.version o.start o.end (torn_of o.stop) (crashes.found says)
         (goes_on chained issuer a.devices.disk o.version o.start o.end (torn_of o.stop) (crashes.found says) history.begins
         history.legal (one_torn o.stop) (torn_risen d (a.devices.disk.faults a.devices.disk.disk)
         (a.devices.disk.faults a.devices.disk.disk_after) o.stop crashes.stop) kept.each_moment kept.every_crash kept.reads) (
           gains,
-          of_day issuer asks plan line (around a) o agency,
-          batches_of_day issuer asks plan line (around a) o agency,
+          of_day issuer asks plan line drains (around a) o agency,
+          batches_of_day issuer asks plan line drains (around a) o agency,
         )
 
     day_file : (rules : IsTrue a.agency.kind.keeps_rules → IsTrue a.agency.kind.tells) (script : Script) (end : Detail) →
@@ -142,7 +142,7 @@ module _ {D C Z G : Type 0} (chained : AreLinked) (a : AllDevices D C Z G)
         not_opened chained issuer a.devices.disk Rest says h (nothing h.rest.agency)
     day_file rules script end good (inr (inr (inl h))) = no_day rules script.plan end h
     day_file rules script end good (inr (inr (inr h))) =
-        a_day script.asks script.plan script.clock h.outcome
+        a_day script.asks script.plan script.clock true h.outcome
         (gains_day a.devices.source (day_of issuer script script.clock (around a) h.outcome) (inr (inl (script, good, refl)))
         h.history.begins h.tills) h.history h.crashes h.agency
 
@@ -153,8 +153,9 @@ module _ {D C Z G : Type 0} (chained : AreLinked) (a : AllDevices D C Z G)
     serve_left rules end (inr (inr (line, inl h))) = no_day rules plain end h.shop
     serve_left rules end (inr (inr (line, inr h))) =
         let x = h.speech in
-        a_day x.said.asks plain line h.outcome
-        (gains_all a.devices.source (day_with issuer x.said.asks line (around a) h.outcome) (inr (inr (inl (record {
+        let d = day_said issuer x line (around a) h.outcome in
+        a_day x.said.asks plain line d.drains h.outcome
+        (gains_all a.devices.source d (inr (inr (inl (record {
           said = x.said;
           how = x.how;
           dialogue = h.spoken.dialogue;

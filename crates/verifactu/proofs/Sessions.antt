@@ -160,8 +160,8 @@ module _ {G : Type 0} (a : Agencies G) where
   })
 
 -- a day's session
-module _ {D C Z G : Type 0} (issuer : List ℕ) (asks : List Asked) (plan : Plan) (line : Option (ℕ × ℕ)) (c : Around D C Z G)
-    (o : DayOutcome) (h : ItsAgency (day_with issuer asks line c o) plan c.agency c.disk) where
+module _ {D C Z G : Type 0} (issuer : List ℕ) (asks : List Asked) (plan : Plan) (line : Option (ℕ × ℕ)) (drains : Bool)
+    (c : Around D C Z G) (o : DayOutcome) (h : ItsAgency (day_with issuer asks line drains c o) plan c.agency c.disk) where
   pub of_day : AgencyKept o.start o.end (torn_of o.stop) c.agency
   of_day = in_session (record {
     careful = since_opening c.agency plan o.start o.opened h.opens h.sends.careful;

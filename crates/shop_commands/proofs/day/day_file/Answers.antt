@@ -1,4 +1,4 @@
-use Rattle.std.proofs.Common.{◌≡◌, ◌∙◌, ◌≤◌, ◌<◌, ◌+◌, ◌⊎◌, ℕ, List, inl, inr, sym, ap, subst, map, length, refl, arith, All}
+use Rattle.std.proofs.Common.{◌≡◌, ◌∙◌, ◌≤◌, ◌<◌, ◌+◌, ◌⊎◌, ℕ, true, List, inl, inr, sym, ap, subst, map, length, refl, arith, All}
 use Rattle.std.specs.Prelude.{◌≢◌}
 use Rattle.std.specs.Int.{IsInRange}
 use Rattle.std.specs.List.{range_with_len}
@@ -113,7 +113,8 @@ returns-in-Ok-begin g c =
     let sink = this_sink g.K.Sink.taken g.K.Sink.faults c.args.sink.now c.print_day-detail.new.sink in
     let end = c.print_day-detail.result in
     let Ran : List Asked → Root g.row.C.Denot → g.row.G.Denot → Type 0 = λ q r y. DayRun (store_kind g.D.Disk g.C.Clock) r new
-    (shop_day g.C.Clock.coming q r new tills kind (agency_state_of g.G.Agency b.agency) (agency_state_of g.G.Agency y) served.answer) in
+    (shop_day g.C.Clock.coming q r new tills kind (agency_state_of g.G.Agency b.agency) (agency_state_of g.G.Agency y) true
+    served.answer) in
     let same : asks ≡ script.asks = c.as_slice-asks.ensures in
     let run : Ran script.asks (root_of g.D.Disk.on_disk g.D.Disk.faults p0) then.agency =
     subst (λ (q : List Asked). Ran q (root_of g.D.Disk.on_disk g.D.Disk.faults p0) then.agency) same
@@ -121,7 +122,7 @@ returns-in-Ok-begin g c =
     (subst (λ (r : Root g.row.C.Denot). Ran asks r served.opened.agency) begun.shop.root c.run_day-opened.ensures.day)) in
     let opens = subst (λ (x : g.row.G.Denot). OpensSession kind g.G.Agency.begun script.plan p0.state.entries
     (agency_state_of g.G.Agency x) (agency_state_of g.G.Agency b.agency)) k.kept.1 begun.session in
-    let behind = subst (λ (y : g.row.G.Denot). DrainsBehind kind (agency_state_of g.G.Agency b.agency) (agency_state_of g.G.Agency y)
+    let behind = subst (λ (y : g.row.G.Denot). DrainsBehind kind true (agency_state_of g.G.Agency b.agency) (agency_state_of g.G.Agency y)
     served.answer) (sym c.close-in-Ok-begin.ensures.rest.1) (record {
       exact = g.Z.Sleeper.tells;
       met = scene_in (agency_state_of g.G.Agency) g.Z.Sleeper.moment served.met.value;
@@ -137,7 +138,7 @@ returns-in-Ok-begin g c =
     (length (noted c.state.result.now.entries)) (length (recs c.state.result.now.entries)) (day_text asks (map told_in l)
     c.state.result.now.entries) sink end) c.deref-in-Ok-begin.ensures.value c.print_day-detail.ensures) in
     let did : ShopDid (store_kind g.D.Disk g.C.Clock) script.asks kind (agency_state_of g.G.Agency b.agency)
-    (agency_state_of g.G.Agency then.agency) p0 then.disk then.clock = record {
+    (agency_state_of g.G.Agency then.agency) true p0 then.disk then.clock = record {
       new = new;
       tills = tills;
       answer = served.answer;
@@ -150,7 +151,7 @@ returns-in-Ok-begin g c =
     } in
     let facts = day_facts (store_kind g.D.Disk g.C.Clock) c.args.issuer.now script.asks script.plan out.disk then.disk out.clock
     then.clock (sleeper_in g.Z.Sleeper out then) (agency_in g.G.Agency out then) p0 sink h
-    c.what_a_disk_reads_is_an_image.ensures c.who_keeps_the_rules_tells.ensures (agency_state_of g.G.Agency b.agency) opens did in
+    c.what_a_disk_reads_is_an_image.ensures c.who_keeps_the_rules_tells.ensures (agency_state_of g.G.Agency b.agency) opens true did in
     inr (inr (inr (day_done c.args.issuer.now script _ _ facts end
     (same_numbers days ∙ c.run_day-opened.ensures.same ∙ c.in-Ok.ensures.tills ∙ ap tills_of same)
     (subst (λ (q : List Asked). DayRunEnds (all_replies tills) served.answer (length (noted new.state.entries))

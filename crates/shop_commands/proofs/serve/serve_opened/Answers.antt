@@ -19,9 +19,10 @@ use Rattle.shop_drain.specs.Devices.{agency_in, sleeper_in}
 use Rattle.shop_drain.specs.Draining.{OpensSession}
 use Rattle.sender_beside.specs.Behind.{DrainsBehind, scene_in}
 use Rattle.shop_commands.specs.Serve.{Closes, SpeechEnds, post_with, printed, source_since}
-use Rattle.shop_dialogue.specs.Dialogues.{CounterRun}
+use Rattle.shop_dialogue.specs.Dialogues.{CounterRun, drains_after}
 use Rattle.shop_dialogue.proofs.AllTills.{all_within}
 use Rattle.shop_commands.proofs.ServeEnding.{came_read, not_begun, talked}
+use Rattle.shop_commands.proofs.SpeechTexts.{closed_drains}
 use Rattle.shop_commands.proofs.serve.serve_opened.Goals as goal
 
 pub returns-in_default : goal.returns-in_default
@@ -82,8 +83,10 @@ speech_end-detail-requires g c =
     let f = c.requires.first in
     let run = c.run_dialogue-opened.ensures.run f.left f.faults f.comes f.later f.cause in
     record {
-      counts = subst (λ (h : History). OnOk c.run_dialogue-opened.result.answer (length (noted h.entries) ≡ length (recs h.entries)))
-          (sym c.state-in-Ok-begin.ensures) run.run.all_noted;
+      counts = λ is. subst (λ (h : History). OnOk c.run_dialogue-opened.result.answer (length (noted h.entries) ≡
+          length (recs h.entries)))
+          (sym c.state-in-Ok-begin.ensures) (run.run.all_noted (closed_drains c.run_dialogue-opened.result.how
+          c.close_speech-closed.result c.close_speech-closed.ensures.closes is));
     }
 
 pub returns-in-Ok-begin : goal.returns-in-Ok-begin
@@ -108,7 +111,7 @@ returns-in-Ok-begin g c = λ issuer disk left faults is_opened comes later cause
     begun.shop.root (c.run_dialogue-opened.ensures.run left faults comes later cause) in
     let opens = subst (λ (q : Plan). OpensSession kind g.G.Agency.begun q p.state.entries (agency_state_of g.G.Agency o.agency) agency_state)
     c.plain.ensures begun.session in
-    let behind : DrainsBehind kind agency_state after t.answer = record {
+    let behind : DrainsBehind kind (drains_after t.how) agency_state after t.answer = record {
       exact = g.Z.Sleeper.tells;
       met = scene_in (agency_state_of g.G.Agency) g.Z.Sleeper.moment t.met.value;
       left = scene_in (agency_state_of g.G.Agency) g.Z.Sleeper.moment t.left.value;

@@ -1,4 +1,4 @@
-use Rattle.std.proofs.Common.{◌≡◌, ◌≤◌, ◌∙◌, List, [], length, map, refl, rules, sym, ap, subst, arith, vec_capacity}
+use Rattle.std.proofs.Common.{◌≡◌, ◌≤◌, ◌∙◌, List, [], length, map, refl, rules, sym, ap, subst, arith, true, vec_capacity}
 use Rattle.std.proofs.lemmas.List.{length-map, length-reverse}
 use Rattle.record_codec.specs.declared.entry.Entry.{Entry}
 use Rattle.shop_core.specs.declared.items.Item.{Item}
@@ -82,7 +82,7 @@ returns-clause-day g c =
     c.a_till_owns_records_and_stops.ensures c.close.ensures.each c.close.ensures.begins c.close.ensures.since sends.adds in
     ended g.D.Disk.tells g.D.Disk.on_disk g.D.Disk.faults g.C.Clock.coming c.args.asks.now p (shop_root shop) (first_items shop)
     (tills_in c.args.room.days.items) told (tills_know c.args.begun.started.tills) (tills_know c.hand_in.new.tills) seat then
-    ran c.requires.begun.new kind opened after answer
+    ran c.requires.begun.new kind opened after true answer
     c.a_till_adds_for_no_other.ensures c.a_till_adds_what_is_taken.ensures
     (ap (λ (l : List Item). length l) c.requires.begun.base ∙ length-map (shop_root shop).history (λ (e : Entry). item.Entry e))
     (distinct_of (λ (d : TillDay). d.till) c.args.room.days.items c.requires.distinct) h sends.notes
@@ -93,14 +93,14 @@ returns-clause-day g c =
       begins = c.close.ensures.sound.begins;
     }) (sends.stopped disk))
     c.close.ensures.sound
-    (counts g.D.Disk.tells g.D.Disk.on_disk g.D.Disk.faults g.C.Clock.coming c.args.asks.now p (shop_root shop) (first_items shop)
+    (λ is. counts g.D.Disk.tells g.D.Disk.on_disk g.D.Disk.faults g.C.Clock.coming c.args.asks.now p (shop_root shop) (first_items shop)
     (tills_in c.args.room.days.items) told (tills_know c.args.begun.started.tills) (tills_know c.hand_in.new.tills) seat then
     ran c.requires.begun.new answer c.a_till_owns_within_what_it_knows.ensures c.who_sees_all_that_is_owned_sees_all.ensures h
     (seat_knows c.hand_in.new.seat).least c.hand_in.ensures.told c.drain_rest-rest.ensures.covers
     c.drain_rest-rest.ensures.delivered)
     (sends_beside g.D.Disk.tells g.D.Disk.on_disk g.D.Disk.faults g.C.Clock.coming p (shop_root shop) (first_items shop)
     (tills_know c.hand_in.new.tills) seat then h c.close.ensures.sound c.requires.begun.base c.requires.begun.legal c.args.asks.now
-    told kind opened after c.drain_rest-rest.result.sender answer sends c.agreement_is_kept.ensures.records
+    told kind opened after true c.drain_rest-rest.result.sender answer sends c.agreement_is_kept.ensures.records
     c.a_session_begins.ensures.session c.a_session_begins.ensures.careful)
 
 pub returns-clause-same : goal.returns-clause-same
@@ -116,6 +116,6 @@ returns-clause-behind g c =
     let beside = c.tills_beside-sent.ensures in
     shown_behind {S = Sent g.row.D.Denot g.row.C.Denot g.row.G.Denot g.row.Z.Denot g.D.Disk g.C.Clock}
     (λ x. scene_in (agency_state_of g.G.Agency) g.Z.Sleeper.moment x) (λ x. x.answer) (agency_kind g.G.Agency) g.Z.Sleeper.tells
-    (agency_state_of g.G.Agency c.args.begun.agency) (agency_state_of g.G.Agency c.drain_rest-rest.result.agency) _ _ _ _
+    true (agency_state_of g.G.Agency c.args.begun.agency) (agency_state_of g.G.Agency c.drain_rest-rest.result.agency) _ _ _ _
     c.of-met.ensures c.of-left.ensures beside.sends.says beside.sends.later beside.never c.drain_rest-rest.ensures.failed
-    c.drain_rest-rest.ensures.turns refl
+    (λ is. c.drain_rest-rest.ensures.turns) (λ none. absurd (let x = none in cc)) refl

@@ -1,4 +1,4 @@
-use Rattle.std.proofs.Common.{◌≡◌, ◌∙◌, ℕ, List, length, map, refl, rules, sym, ap, subst, arith}
+use Rattle.std.proofs.Common.{◌≡◌, ◌∙◌, ℕ, List, length, map, refl, rules, sym, ap, subst, arith, true}
 use Rattle.std.specs.List.{range_with_len}
 use Rattle.std.proofs.lemmas.List.{length-map, length-reverse}
 use Rattle.std.proofs.lemmas.List.FromFn.{length-range_with_len}
@@ -17,6 +17,7 @@ use Rattle.sender_session.specs.Kinds.{agency_state_of, agency_kind}
 use Rattle.sender_beside.specs.Behind.{scene_in}
 use Rattle.sender_beside.specs.declared.sending.Sent.{Sent}
 use Rattle.sender_beside.specs.Works.{Ran}
+use Rattle.shop_dialogue.specs.Dialogues.{drains_after}
 use Rattle.shop_dialogue.proofs.AllTills.{AllBehind, all_distinct, all_fit_behind, holders_behind, least_behind, looked_closed}
 use Rattle.shop_dialogue.proofs.AllTills.{owners_behind, ran_in_a_row, read_failed}
 use Rattle.sender_beside.proofs.DayRuns.{counts, ended, held_again, same_tills, shared}
@@ -53,13 +54,13 @@ close-requires-clause-whole g c = λ n l.
     let shown : mark_by (seat_shop new) (seat_knows new) ≡ mark_by (seat_shop old) (seat_knows old) =
     ap (λ (k : Known Item (Root g.row.C.Denot)). mark_by (seat_shop new) k) c.give_back.ensures.seat.1
     ∙ ap (λ (s : TableId). mark_by s (seat_knows old)) c.give_back.ensures.seat.0 in
-    let marks = c.drain_rest-rest.ensures.mark ∙ shown ∙ c.answer_lines_with_sender-sent.ensures.mark in
+    let marks = c.drain_if-rest.ensures.mark ∙ shown ∙ c.answer_lines_with_sender-sent.ensures.mark in
     let again = held_again g.C.Clock.coming spoken.said.asks (range_with_len 1 (length olds)) row.parts
     (tills_know c.args.begun.started.tills) row.backs (seat_knows c.args.begun.started.seat)
-    (seat_knows c.drain_rest-rest.result.seat) ran
+    (seat_knows c.drain_if-rest.result.seat) ran
     (ap (λ (m : Mark g.row.C.Denot). m.numbers) marks) n in
     let behind = subst (λ (l : List (Known Item (Root g.row.C.Denot))). AllBehind row.backs l) (sym c.give_back.ensures.knows) row.behind in
-    let same = holders_behind n row.backs (tills_know c.give_back.new.tills) (seat_knows c.drain_rest-rest.result.seat) behind in
+    let same = holders_behind n row.backs (tills_know c.give_back.new.tills) (seat_knows c.drain_if-rest.result.seat) behind in
     let once = c.requires.begun.whole n l in
     omega (arith, again, same, once)
 
@@ -83,12 +84,14 @@ returns-clause-run g c = λ left faults first later cause.
     let p = parts_of c.close.result in
     let shop = c.args.begun.started.shop in
     let seat = seat_knows c.args.begun.started.seat in
-    let then = seat_knows c.drain_rest-rest.result.seat in
+    let then = seat_knows c.drain_if-rest.result.seat in
     let kind = agency_kind g.G.Agency in
     let opened = agency_state_of g.G.Agency c.args.begun.agency in
-    let after = agency_state_of g.G.Agency c.drain_rest-rest.result.agency in
-    let answer = c.drain_rest-rest.result.answer in
-    let sends = c.drain_rest-rest.ensures.sends _ _ _ (subst (λ (s : Sight). SendsOn kind (sight_by seat) s opened
+    let after = agency_state_of g.G.Agency c.drain_if-rest.result.agency in
+    let answer = c.drain_if-rest.result.answer in
+    let drains = drains_after c.answer_lines_with_sender-sent.new.how in
+    let told_drains : drains ≡ true → c.drains_after.result ≡ true = λ is. c.drains_after.ensures ∙ is in
+    let sends = c.drain_if-rest.ensures.sends _ _ _ (subst (λ (s : Sight). SendsOn kind (sight_by seat) s opened
     (agency_state_of g.G.Agency c.answer_lines_with_sender-sent.result.agency) fresh c.answer_lines_with_sender-sent.result.sender
     c.answer_lines_with_sender-sent.result.answer)
     (sym (ap (λ (k : Known Item (Root g.row.C.Denot)). sight_by k) c.give_back.ensures.seat.1)) c.answer_lines_with_sender-sent.ensures.sends) in
@@ -99,7 +102,7 @@ returns-clause-run g c = λ left faults first later cause.
     c.close.ensures.begins (λ n a b. owners_behind n row.backs back then behind ∙ c.close.ensures.since n a b) sends.adds in
     let run = ended g.D.Disk.tells g.D.Disk.on_disk g.D.Disk.faults g.C.Clock.coming spoken.said.asks p (shop_root shop) (first_items shop)
     (range_with_len 1 64) told (tills_know c.args.begun.started.tills) row.backs seat then
-    ran c.requires.begun.new kind opened after answer
+    ran c.requires.begun.new kind opened after drains answer
     c.a_till_adds_for_no_other.ensures c.a_till_adds_what_is_taken.ensures
     (ap (λ (l : List Item). length l) c.requires.begun.base ∙ length-map (shop_root shop).history (λ (e : Entry). item.Entry e))
     (all_distinct 1 64) h sends.notes
@@ -110,15 +113,15 @@ returns-clause-run g c = λ left faults first later cause.
       begins = c.close.ensures.sound.begins;
     }) (sends.stopped disk))
     c.close.ensures.sound
-    (counts g.D.Disk.tells g.D.Disk.on_disk g.D.Disk.faults g.C.Clock.coming spoken.said.asks p (shop_root shop) (first_items shop)
+    (λ is. counts g.D.Disk.tells g.D.Disk.on_disk g.D.Disk.faults g.C.Clock.coming spoken.said.asks p (shop_root shop) (first_items shop)
     (range_with_len 1 64) told (tills_know c.args.begun.started.tills) row.backs seat then
     ran c.requires.begun.new answer c.a_till_owns_within_what_it_knows.ensures c.who_sees_all_that_is_owned_sees_all.ensures h
     (seat_knows c.give_back.new.seat).least
-    (least_behind (seat_knows c.give_back.new.seat).least row.backs back behind c.give_back.ensures.told) c.drain_rest-rest.ensures.covers
-    c.drain_rest-rest.ensures.delivered)
+    (least_behind (seat_knows c.give_back.new.seat).least row.backs back behind c.give_back.ensures.told)
+    (c.drain_if-rest.ensures.covers (told_drains is)) (c.drain_if-rest.ensures.delivered (told_drains is)))
     (sends_beside g.D.Disk.tells g.D.Disk.on_disk g.D.Disk.faults g.C.Clock.coming p (shop_root shop) (first_items shop)
     row.backs seat then h c.close.ensures.sound c.requires.begun.base c.requires.begun.legal spoken.said.asks
-    told kind opened after c.drain_rest-rest.result.sender answer sends c.agreement_is_kept.ensures.records
+    told kind opened after drains c.drain_if-rest.result.sender answer sends c.agreement_is_kept.ensures.records
     c.a_session_begins.ensures.session c.a_session_begins.ensures.careful) in
     record {
       speech = record { said = spoken.said; how = c.answer_lines_with_sender-sent.new.how };
@@ -150,6 +153,8 @@ returns-clause-behind g c =
     let beside = c.answer_lines_with_sender-sent.ensures in
     shown_behind {S = Sent g.row.D.Denot g.row.C.Denot g.row.G.Denot g.row.Z.Denot g.D.Disk g.C.Clock}
     (λ x. scene_in (agency_state_of g.G.Agency) g.Z.Sleeper.moment x) (λ x. x.answer) (agency_kind g.G.Agency) g.Z.Sleeper.tells
-    (agency_state_of g.G.Agency c.args.begun.agency) (agency_state_of g.G.Agency c.drain_rest-rest.result.agency) _ _ _ _
-    c.of-met.ensures c.of-left.ensures beside.sends.says beside.sends.later beside.never c.drain_rest-rest.ensures.failed
-    c.drain_rest-rest.ensures.turns refl
+    (drains_after c.answer_lines_with_sender-sent.new.how) (agency_state_of g.G.Agency c.args.begun.agency)
+    (agency_state_of g.G.Agency c.drain_if-rest.result.agency) _ _ _ _
+    c.of-met.ensures c.of-left.ensures beside.sends.says beside.sends.later beside.never c.drain_if-rest.ensures.failed
+    (λ is. c.drain_if-rest.ensures.turns (c.drains_after.ensures ∙ is))
+    (λ none. c.drain_if-rest.ensures.ends (c.drains_after.ensures ∙ none)) refl
