@@ -3,16 +3,19 @@
 
     python3 examples/till.py till.chain 89890001K
 
-It sells twice, has the program killed between a sale and its answer, asks again, and prints the link of each ticket. The serial of a
-command stands on the till's own disk (till.chain.serial) before the command is asked. A till that may be killed itself keeps the whole
-line there (docs/TILLS.md), so that it can ask the same again. With CLOCK="START STEP" it is tried by a clock that leaps, so that
-the end doesn't sit out the agency's pause.
+It sells twice at a shelf price, and prints each ticket with its link. Amid the second sale it has the program killed, and asks the same
+again. What it asks stands in till.chain.till, on its own disk, before it is asked: where it was ended amid a sale it asks that one again
+first, and where that file is lost it goes on with the serial that the chain has. The talk is shown on standard error, `>` for what is asked
+and `<` for what is answered. With CLOCK="START STEP" it is tried by a clock that leaps, so that the end doesn't sit out the agency's pause.
 """
 import os
 import subprocess
 import sys
+import time
 
 PROGRAM = os.environ.get("VERIFACTU", os.path.join(os.path.dirname(os.path.abspath(__file__)), "..", "verifactu"))
+MENDED_BY_NO_RESTART = (2, 7, 11, 13)
+LONGEST_PAUSE = 8
 
 
 class Shop:
@@ -20,61 +23,107 @@ class Shop:
 
     def __init__(self, chain, issuer):
         self.words = [PROGRAM, "serve", chain, issuer]
+        self.pause = 0
         self.start()
 
     def start(self):
-        self.program = subprocess.Popen(self.words, stdin=subprocess.PIPE, stdout=subprocess.PIPE, text=True)
+        self.program = subprocess.Popen(self.words, stdin=subprocess.PIPE, stdout=subprocess.PIPE, encoding="utf-8")
+        # (a till that names customers says them here, for a program that starts knows none)
         if "CLOCK" in os.environ:
-            self.program.stdin.write("clock " + os.environ["CLOCK"] + "\n")
+            self.exchange("clock " + os.environ["CLOCK"])
+
+    def exchange(self, line, killed=False):
+        """The answer to a line, or None where the program ended without one."""
+        print(">", line, file=sys.stderr)
+        try:
+            self.program.stdin.write(line + "\n")
             self.program.stdin.flush()
-            self.program.stdout.readline()
+        except BrokenPipeError:
+            return None
+        if killed:
+            self.program.kill()
+            return None
+        answer = self.program.stdout.readline()
+        if not answer.endswith("\n"):
+            return None
+        print("<", answer, end="", file=sys.stderr)
+        return answer.rstrip("\n")
 
     def ask(self, line, killed=False):
+        """Asks until there is an answer. One of a fault says nothing certain: the same is asked again."""
         while True:
-            try:
-                self.program.stdin.write(line + "\n")
-                self.program.stdin.flush()
-                if killed:
-                    self.program.kill()
-                    killed = False
-                    self.program.stdout.read()
-                answer = self.program.stdout.readline()
-            except BrokenPipeError:
-                answer = ""
-            if answer.endswith("\n"):
-                return answer.rstrip("\n")
-            self.program.wait()
-            self.start()
+            answer = self.exchange(line, killed)
+            killed = False
+            if answer is None:
+                self.restart()
+            elif answer.split(" ")[4:5] == ["fault"]:
+                time.sleep(1)
+            else:
+                self.pause = 0
+                return answer
+
+    def restart(self):
+        """At once where the program had answered, else after 1, 2, 4 and then every 8 seconds."""
+        _, status = self.close()
+        if status in MENDED_BY_NO_RESTART:
+            sys.exit(status)
+        time.sleep(self.pause)
+        self.pause = min(2 * self.pause or 1, LONGEST_PAUSE)
+        self.start()
 
     def close(self):
-        """The last line, with how many records there are and how many lines of the agency, and the program's status."""
-        self.program.stdin.close()
-        return self.program.stdout.read().rstrip("\n"), self.program.wait()
+        """What the program still says, and its status."""
+        text, _ = self.program.communicate()
+        return text, self.program.returncode
 
 
-def next_serial(chain):
-    """The serial of the next command. It is kept before the command is asked, so that no other command ever gets it."""
-    path = chain + ".serial"
-    serial = int(open(path).read()) + 1 if os.path.exists(path) else 1
-    with open(path + ".new", "w") as kept:
-        kept.write(str(serial))
+def keep(path, word, line):
+    """Writes to the till's own disk, whole or not at all, that a command is `open` or `settled`."""
+    with open(path + ".new", "w", encoding="utf-8") as kept:
+        kept.write(f"{word} {line}\n")
         kept.flush()
         os.fsync(kept.fileno())
     os.replace(path + ".new", path)
-    return serial
+    folder = os.open(os.path.dirname(path) or ".", os.O_RDONLY)
+    os.fsync(folder)
+    os.close(folder)
+
+
+def settle(shop, path, line, killed=False):
+    """Asks a command and prints its ticket."""
+    keep(path, "open", line)
+    answer = shop.ask(line, killed)
+    words = answer.split(" ")
+    if words[4:5] in (["taken"], ["again"]):
+        _, _, num, date, _, _, total, _, _, link = shop.ask(f"ticket {words[6]} test").split(" ")[:10]
+        print(num, date, total)
+        print(link)
+    else:
+        print("not registered:", answer)
+    keep(path, "settled", line)
+
+
+def last_serial(shop, path):
+    """The serial that this till used last. A command that is still open is settled first."""
+    if not os.path.exists(path):
+        return int(shop.ask("last 1").split(" ")[2])
+    with open(path, encoding="utf-8") as kept:
+        word, line = kept.read().rstrip("\n").split(" ", 1)
+    if word == "open":
+        settle(shop, path, line)
+    return int(line.split(" ")[2])
 
 
 def main():
     chain, issuer = sys.argv[1:]
-    shop = Shop(chain, issuer)
-    for base, killed in ((450, False), (1295, True)):
-        answer = shop.ask(f"sale 1 {next_serial(chain)} A F2 21:{base}", killed)
-        print(answer)
-        words = answer.split()
-        if words[4] in ("taken", "again"):
-            subprocess.run([PROGRAM, "link", chain, words[6], "test"], check=True)
+    shop, path = Shop(chain, issuer), chain + ".till"
+    serial = last_serial(shop, path)
+    for total, killed in ((1000, False), (250, True)):
+        serial += 1
+        lines = shop.ask(f"lines 21 {total}").split(" ", 1)[1]
+        settle(shop, path, f"sale 1 {serial} A F2 {lines}", killed)
     text, status = shop.close()
-    print(text)
+    print(text, end="")
     return status
 
 

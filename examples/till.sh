@@ -1,13 +1,16 @@
 #!/bin/sh
-# A till that speaks with `verifactu serve`, line by line. It sells twice, has the program killed between a sale and its answer, asks
-# again, and prints the link of each ticket. The serial of a command stands on the till's own disk before the command is asked; a till that
-# may be killed itself keeps the whole line there (docs/TILLS.md). With CLOCK="START STEP" it is tried by a clock that leaps, so that the
-# end doesn't sit out the agency's pause.
+# A till that speaks with `verifactu serve`, line by line. It sells twice at a shelf price, and prints each ticket with its link. Amid the
+# second sale it has the program killed, and asks the same again. What it asks stands in till.chain.till, on its own disk, before it is
+# asked: where it was ended amid a sale it asks that one again first, and where that file is lost it goes on with the serial that the chain
+# has. The talk is shown on standard error, `>` for what is asked and `<` for what is answered. With CLOCK="START STEP" it is tried by a
+# clock that leaps, so that the end doesn't sit out the agency's pause.
 # usage: examples/till.sh till.chain 89890001K
 set -eu
 : "${VERIFACTU:=$(dirname -- "$0")/../verifactu}"
 chain=$1
 issuer=$2
+kept=$chain.till
+pause=0
 pipes=$(mktemp -d)
 mkfifo "$pipes/to" "$pipes/from"
 trap 'rm -r "$pipes"' EXIT
@@ -18,41 +21,92 @@ start() {
     "$VERIFACTU" serve "$chain" "$issuer" <"$pipes/to" >"$pipes/from" 3>&- 4<&- &
     program=$!
     exec 3>"$pipes/to" 4<"$pipes/from"
-    if [ -n "${CLOCK-}" ]; then
-        echo "clock $CLOCK" >&3
-        read -r answer <&4
+    # (a till that names customers says them here, for a program that starts knows none)
+    [ -z "${CLOCK-}" ] || exchange "clock $CLOCK" || true
+}
+
+# The answer to a line. It fails where the program ended without one.
+exchange() {
+    printf '> %s\n' "$1" >&2
+    printf '%s\n' "$1" 2>/dev/null >&3 || return 1
+    [ "${2-}" != killed ] || { kill -9 "$program"; return 1; }
+    IFS= read -r answer <&4 || return 1
+    printf '< %s\n' "$answer" >&2
+}
+
+# Asks until there is an answer. One of a fault says nothing certain: the same is asked again.
+ask() {
+    until exchange "$@"; do
+        set -- "$1"
+        restart
+    done
+    case $answer in "till "*" serial "*" fault "*) sleep 1 && ask "$1" ;; esac
+    pause=0
+}
+
+# At once where the program had answered, else after 1, 2, 4 and then every 8 seconds. Nothing that is left in a pipe comes to the next one.
+restart() {
+    close >/dev/null
+    case $status in 2 | 7 | 11 | 13) exit "$status" ;; esac
+    sleep "$pause"
+    pause=$((pause == 0 ? 1 : pause < 8 ? 2 * pause : 8))
+    start
+}
+
+# What the program still says, and its status.
+close() {
+    exec 3>&-
+    cat <&4
+    exec 4<&-
+    status=0
+    wait "$program" || status=$?
+}
+
+# Writes to the till's own disk, whole or not at all, that a command is `open` or `settled`.
+keep() {
+    printf '%s\n' "$1 $2" >"$kept.new"
+    sync "$kept.new"
+    mv "$kept.new" "$kept"
+    sync "$(dirname -- "$kept")"
+}
+
+# Asks a command and prints its ticket.
+settle() {
+    keep open "$1"
+    ask "$@"
+    case $answer in
+        "till "*" serial "*" taken "* | "till "*" serial "*" again "*)
+            ask "ticket $(echo "$answer" | cut -d ' ' -f 7) test"
+            echo "$answer" | cut -d ' ' -f 3,4,7
+            echo "$answer" | cut -d ' ' -f 10
+            ;;
+        *) echo "not registered: $answer" ;;
+    esac
+    keep settled "$1"
+}
+
+# The serial that this till used last. A command that is still open is settled first.
+last_serial() {
+    if [ -e "$kept" ]; then
+        IFS=' ' read -r word line <"$kept"
+        [ "$word" = settled ] || settle "$line"
+        serial=$(echo "$line" | cut -d ' ' -f 3)
+    else
+        ask "last 1"
+        serial=$(echo "$answer" | cut -d ' ' -f 3)
     fi
 }
 
-# The answer to a line. Where the program has ended it is started again, and asked the same once more.
-ask() {
-    until printf '%s\n' "$1" >&3 2>/dev/null && [ "${2-}" != killed ] && IFS= read -r answer <&4; do
-        [ "${2-}" != killed ] || kill -9 "$program"
-        set -- "$1"
-        wait "$program" || true
-        start
-    done
-}
-
-# The next serial, kept before its command is asked, so that no other command ever gets it.
-next_serial() {
-    serial=$(($(cat "$chain.serial" 2>/dev/null || echo 0) + 1))
-    echo "$serial" >"$chain.serial.new"
-    sync "$chain.serial.new"
-    mv "$chain.serial.new" "$chain.serial"
+# A sale at a shelf price.
+sell() {
+    ask "lines 21 $1"
+    serial=$((serial + 1))
+    settle "sale 1 $serial A F2 ${answer#lines }" "${2-}"
 }
 
 start
-for sale in "450" "1295 killed"; do
-    next_serial
-    # shellcheck disable=SC2086
-    set -- $sale
-    ask "sale 1 $serial A F2 21:$1" "${2-}"
-    echo "$answer"
-    # shellcheck disable=SC2086
-    set -- $answer
-    case $5 in taken | again) "$VERIFACTU" link "$chain" "$7" test ;; esac
-done
-exec 3>&-
-cat <&4
-wait "$program"
+last_serial
+sell 1000
+sell 250 killed
+close
+exit "$status"

@@ -356,8 +356,8 @@ class WireTest(OverAHub):
         with self.hub.connect() as connection:
             bodies = [json.dumps({**SALE, "serial": serial}).encode() for serial in (1, 2, 3)]
             connection.sendall(b"".join(self.head(f"Content-Length: {len(body)}") + body for body in bodies))
-            answers = [read_answer(connection) for _ in bodies[:1]]
-        self.assertEqual([answer and answer.json["num"] for answer in answers], ["A-1"])
+            answers = [read_answer(connection) for _ in bodies]
+        self.assertEqual([answer and answer.json["num"] for answer in answers], ["A-1", "A-2", "A-3"])
 
 
 class TlsTest(unittest.TestCase):

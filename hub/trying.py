@@ -206,19 +206,22 @@ def _is_serve(process: int, parent: int) -> bool:
 
 
 def read_answer(connection: socket.socket) -> Optional[Answer]:
-    """Reads an answer from a bare connection, None where it was closed without one."""
-    text = b""
-    while b"\r\n\r\n" not in text:
+    """Reads an answer from a bare connection, and nothing of the next one; None where it was closed without one."""
+    head = b""
+    while not head.endswith(b"\r\n\r\n"):
         try:
-            data = connection.recv(65_536)
+            data = connection.recv(1)
         except ConnectionResetError:
             data = b""
         if not data:
             return None
-        text += data
-    head, _, body = text.partition(b"\r\n\r\n")
-    first, *fields = head.decode("latin-1").split("\r\n")
+        head += data
+    first, *fields = head.decode("latin-1").strip().split("\r\n")
     headers = {name.lower(): value.strip() for name, _, value in (field.partition(":") for field in fields)}
-    while len(body) < int(headers.get("content-length", 0)):
-        body += connection.recv(65_536)
+    body, length = b"", int(headers.get("content-length", 0))
+    while len(body) < length:
+        data = connection.recv(length - len(body))
+        if not data:
+            return None
+        body += data
     return Answer(int(first.split()[1]), headers, body)
