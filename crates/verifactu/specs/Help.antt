@@ -502,4 +502,4 @@ help_on Generate = help_on_generate
 abbrev pub version_text : List ℕ
 version_text =
     codes "verifactu 0.1.0\n"
-    ++ codes "rattle-kit-13b logic dac8208d650f15bf\n"
+    ++ codes "rattle-kit-13f logic dac8208d650f15bf\n"
