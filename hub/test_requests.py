@@ -465,6 +465,9 @@ class DescriptionTest(OverAHub):
         for path, methods in self.api["paths"].items():
             for method in ("get", "post", "put", "delete", "patch"):
                 status = self.hub.ask(method.upper(), owner.get(path, path), "x").status
+                if path == "/metrics":  # which a hub of one shop hasn't
+                    self.assertEqual(status, 404)
+                    continue
                 self.assertEqual(status != 405, method in methods, (path, method))
                 self.assertNotEqual(status, 404, path)
         with open(os.path.join(HERE, "hub_http.py"), encoding="utf-8") as code:
