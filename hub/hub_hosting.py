@@ -15,7 +15,7 @@ from hub_books import Books, list_refused
 from hub_limits import ANSWER_WITHIN, CLOSING, DEAF, ENDING, FAULT_STANDS, LISTS_APART, LOOK_EVERY, MAKING_ROOM, ROUND_AGAIN
 from hub_pipe import MENDED_BY_NO_RESTART, Counts, Shop, Unavailable, tell
 from hub_served import Served
-from hub_shops import ShopLine
+from hub_shops import ShopLine, counted
 
 STATUS_KILLED = 137
 NOT_SERVED = "this hub doesn't serve the shop"
@@ -58,7 +58,7 @@ class Many:
             self.owing[served] = None
         for served in self.shops.values():
             served.faulty_until = served.round_at = float("-inf")
-        return f"{len(self.shops)} shops, {len(come)} new or changed, {len(left)} gone or changed"
+        return f"{counted(len(self.shops))}, {len(come)} new or changed, {len(left)} gone or changed"
 
     def _let_go(self, served: Served) -> None:
         """A shop isn't served any more: what is under way is answered, and its program ended."""

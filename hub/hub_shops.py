@@ -33,6 +33,11 @@ class ShopLine(NamedTuple):
         return [program, *agency, "serve", self.file, self.nif]
 
 
+def counted(number: int) -> str:
+    """So many shops, in words."""
+    return f"{number} shop" + ("" if number == 1 else "s")
+
+
 def read_shops(path: str, has_host: bool) -> Dict[str, ShopLine]:
     """Reads a file of lines `SHOP NIF FILE` or `SHOP NIF FILE TO FROM`; empty lines and those that begin with `#` are skipped.
 

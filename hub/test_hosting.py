@@ -22,6 +22,7 @@ import hub_shops
 import hub_tokens
 import tills
 from hub_shops import ShopsFault, read_shops
+from test_clients import CLIENTS
 from tills import Till
 from trying import HERE, HUB, NIF, PATIENCE, PYTHON, Agency, Answer, Hub, Options, Street, run_program, until
 
@@ -189,6 +190,18 @@ class WhoTest(Hosting):
         self.assertEqual(hub.ask("GET", "/shops/a/").headers["www-authenticate"], 'Basic realm="verifactu a", charset="UTF-8"')
         self.assertRegex(hub.ask("GET", "/shops/a/v1/last").headers["www-authenticate"], "^Bearer ")
 
+    def test_the_clients_keep_the_prefix(self) -> None:
+        street = self.street("a", shop_tills=4)
+        hub = self.hub(street)
+        there = [words for words in CLIENTS.values() if shutil.which(words[0])]
+        for till, (language, file) in enumerate(there, 1):
+            words = [language, os.path.join(HERE, "clients", file), f"http://127.0.0.1:{hub.port}/shops/a", street.till["a", till], f"{street.path}/{file}.json"]
+            subprocess.run(words, stdout=subprocess.DEVNULL, timeout=PATIENCE, check=True)
+            asked = [line for line in hub.log if f" a till {till} " in line]
+            self.assertGreaterEqual(len(asked), 2, file)
+            self.assertEqual([line for line in asked if " POST /shops/a/v1/sales " not in line], [], file)
+        self.assertGreaterEqual(len(there), 1)
+
     def test_each_path_of_the_description_is_there_with_the_prefix(self) -> None:
         hub = self.hub(self.street("a"))
         api = hub.ask("GET", "/shops/a/v1/openapi.json").json
@@ -229,7 +242,7 @@ class WhoTest(Hosting):
         street.lines["b"] += f" {agency.words[1]} {agency.words[2]}"
         street.write()
         hub = self.hub(street, "--host", "real")
-        self.assertTrue(hub.logged("2 shops, 1 of them trials"))
+        self.assertTrue(hub.logged("2 shops, trials among them: 1, practice agency"))
         for name, host, is_trial in (("a", "prewww2.aeat.es", True), ("b", "www2.agenciatributaria.gob.es", False)):
             link = self.sell(hub, name, 1).json["ticket"]["link"]
             self.assertTrue(link.startswith(f"https://{host}/"), link)
@@ -461,7 +474,7 @@ class ReadAgainTest(Hosting):
         self.sells(hub, "c", 1)
         # a token of a shop that isn't served here: its till asks again until a proxy leads it elsewhere
         self.is_unavailable(self.sell(hub, "b", 4), "doesn't serve")
-        self.assertTrue(hub.logged("1 shops have a token and aren't served here: b$"))
+        self.assertTrue(hub.logged("tokens name 1 shop not served here: b$"))
         self.rests(hub, "b")
         self.assertEqual(self.program_of(hub, "a"), kept)
         street.lines["b"] = old
@@ -483,7 +496,7 @@ class ReadAgainTest(Hosting):
             del street.lines["a"]
             street.write()
             hub.process.send_signal(signal.SIGHUP)
-            until(lambda: hub.logged("read again: 1 shops"), "it is read")
+            until(lambda: hub.logged("read again: 1 shop,"), "it is read")
             time.sleep(1)
             os.kill(process, signal.SIGCONT)
             answer = under_way.result()

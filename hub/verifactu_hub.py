@@ -31,7 +31,7 @@ from hub_limits import (
 )
 from hub_pipe import BadLine, Unavailable, tell
 from hub_served import One
-from hub_shops import ShopLine, ShopsFault, read_shops
+from hub_shops import ShopLine, ShopsFault, counted, read_shops
 from hub_tokens import Tokens, TokensFault, read_tokens
 
 STATUS_USAGE = 2
@@ -292,7 +292,7 @@ def tell_unserved(tokens: Tokens, shops: Dict[str, ShopLine]) -> None:
     """Says which shops have a token and aren't served here: they may be another hub's, or mistyped."""
     names = sorted(tokens.shops() - set(shops))
     if names:
-        tell(f"{len(names)} shops have a token and aren't served here: {', '.join(names[:5])}" + (", .." if names[5:] else ""))
+        tell(f"tokens name {counted(len(names))} not served here: {', '.join(names[:5])}" + (", .." if names[5:] else ""))
 
 
 @dataclass(frozen=True)
@@ -342,7 +342,7 @@ def tell_beginning(prepared: Prepared) -> None:
         tell(listening + (", a trial: practice agency" if settings.one.is_trial else ""))
         return
     trials = sum(line.is_trial for line in prepared.shops.values())
-    tell(f"{listening}, {len(prepared.shops)} shops" + (f", {trials} of them trials: practice agency" if trials else ""))
+    tell(f"{listening}, {counted(len(prepared.shops))}" + (f", trials among them: {trials}, practice agency" if trials else ""))
     tell_unserved(prepared.tokens, prepared.shops)
 
 
