@@ -6,8 +6,8 @@
 - `shops`: 1,000 shops of 10 sales each through one hub, 32 tills at once. Wanted: each once.
 - `beside`: sales a second over 64 shops of one till, and over one shop of 64 tills, in turns, the fastest of three counts. Wanted: no fewer.
 - `idle`: a shop of 10,000 records whose program was ended: seconds of the first request. Wanted: within 0.2.
-- `memory`: what a resting shop takes in the hub, with 3 tills and an owner, of 10,000; what a running one takes in the hub, and its program.
-  Wanted: under 10 KB; under 4 MB beside the hub.
+- `memory`: what a resting shop takes in the hub, with 3 tills and an owner, of 10,000; what a running one takes in the hub, and its program,
+  at 10 records and at 10,010. Wanted: under 10 KB; under 4 MB beside the hub.
 - `kills`: 16 shops that sell beside one whose program is killed every second, and beside the same one in peace. Wanted: no shop's slowest
   hundredth of sales more than doubles.
 
@@ -198,19 +198,31 @@ def memory() -> None:
     many = over(Street([f"shop-{number}" for number in range(10_001)], 3), rested)
     print(f"memory: a resting shop with 3 tills and an owner {(many - few) / 10_000:.2f} KB (wanted: under 10); a hub of one such {few / 1000:.0f} MB, of 10,001 "
           f"{many / 1000:.0f} MB", flush=True)
-    names = [f"shop-{number}" for number in range(100)]
+    running(100, 0)
+    if Options.program != STAND_IN:
+        running(8, 10_000)
 
-    def run(hub: Hub) -> None:
+
+def running(count: int, records: int) -> None:
+    """So many running programs, of files with so many records."""
+    names = [f"shop-{number}" for number in range(count)]
+    street = Street(names)
+    for name in names if records else []:
+        file_of(street.file(name), records)
+    if records:
+        print(f"memory: on the disk {os.path.getsize(street.file(names[0])) / records:.0f} bytes a record with its note", flush=True)
+
+    def work(hub: Hub) -> None:
         before = memory_of(hub.process.pid)
-        together(hub, [(name, 1) for name in names], 10, 16)
+        together(hub, [(name, 1) for name in names], 10, 16, records + 1)
         programs = hub.programs()
         shares = [own_memory(process) for process in programs]
         whole = [memory_of(process) for process in programs]
         grown = (memory_of(hub.process.pid) - before) / len(programs)
-        print(f"memory: of {len(programs)} running programs each {sum(shares) / len(shares) / 1000:.2f} MB by its share, the greatest {max(shares) / 1000:.2f} "
-              f"({max(whole) / 1000:.2f} with what all share; wanted: under 4); the hub {grown:.0f} KB more for each", flush=True)
+        print(f"memory: of {len(programs)} running programs with {records + 10} records each {sum(shares) / len(shares) / 1000:.2f} MB by its share, the greatest "
+              f"{max(shares) / 1000:.2f} ({max(whole) / 1000:.2f} with what all share; wanted: under 4); the hub {grown:.0f} KB more for each", flush=True)
 
-    over(Street(names), run)
+    over(street, work)
 
 
 def kill_each_second(hub: Hub, stop: threading.Event, killed: List[int]) -> None:
@@ -253,7 +265,7 @@ def kills() -> None:
     least: Dict[bool, Dict[str, float]] = {}
     for _ in range(3):
         for is_killed in (False, True):
-            seen = late_sales(names, 300, is_killed)
+            seen = late_sales(names, 600, is_killed)
             least[is_killed] = {name: min(seen[name], least.get(is_killed, seen)[name]) for name in names}
             print(f"  {'beside kills' if is_killed else 'in peace'}: 99 of 100 within {tills.middle(list(seen.values())) * 1000:.1f} ms in the middle of the shops, "
                   f"{max(seen.values()) * 1000:.1f} at the slowest", flush=True)
