@@ -74,7 +74,7 @@ def together(hub: Hub, sellers: List[Seller], count: int, at_once: int, first: i
         assert run.stdin is not None
         run.stdin.write("go\n")
         run.stdin.flush()
-    told = {}
+    told: Dict[Seller, Any] = {}
     for run, mine in runs:
         told.update(zip(mine, json.loads(run.communicate()[0])))
     return time.perf_counter() - began, told
@@ -126,7 +126,8 @@ def shops() -> None:
 def beside() -> None:
     """64 shops, and 64 tills of one."""
     names = [f"shop-{number}" for number in range(64)]
-    count, best = 50, {}
+    count = 50
+    best: Dict[str, float] = {}
     for turn in range(3):
         for kind, sellers in (("64 shops", [(name, 1) for name in names]), ("64 tills of one", [("large", number) for number in range(1, 65)])):
             street = Street(names)

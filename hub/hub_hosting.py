@@ -12,7 +12,7 @@ import traceback
 from typing import Any, Dict, List, Optional
 
 from hub_books import Books, list_refused
-from hub_limits import ANSWER_WITHIN, CLOSING, DEAF, ENDING, FAULT_STANDS, LISTS_APART, LOOK_EVERY, MAKING_ROOM, ROUND_AGAIN
+from hub_limits import ANSWER_WITHIN, CLOSING, DEAF, ENDING, FAULT_STANDS, LISTS_APART, LOOK_EVERY, MAKING_ROOM, ROUND_AGAIN, TURNS
 from hub_pipe import MENDED_BY_NO_RESTART, Counts, Shop, Unavailable, tell
 from hub_served import Served
 from hub_shops import ShopLine, counted
@@ -33,7 +33,8 @@ class Many:
         self.idle = idle
         self.most = most
         self.shops: Dict[str, Served] = {}
-        self.owing: Dict[Served, None] = {}  # their program doesn't run, and something is to be sent or to be found out
+        self.owing: Dict[Served, None] = {}  # their program doesn't run, and something is to be sent, or it isn't known
+        self.unlisted: Dict[Served, None] = {}  # nothing is to be sent, and what was refused isn't known
         self.running: Dict[Served, None] = {}
         self.waiting_for_room = 0
         self.place_free: "asyncio.Future[None]" = self.loop.create_future()
@@ -63,7 +64,7 @@ class Many:
     def _let_go(self, served: Served) -> None:
         """A shop isn't served any more: what is under way is answered, and its program ended."""
         served.is_gone = True
-        self.owing.pop(served, None)
+        self._forget(served)
         if served in self.running:
             self._spawn(self._end_once_answered(served))
 
@@ -92,6 +93,8 @@ class Many:
             elif shop.closing or shop.ended.done():
                 await asyncio.wait({shop.ended})
                 await asyncio.sleep(0)  # `_ended` comes first
+            elif shop.failures >= TURNS and shop.run is None:
+                raise Unavailable(shop.reason)  # it is started again soon, whoever asks
             else:
                 self.running.pop(served)
                 self.running[served] = None
@@ -116,7 +119,7 @@ class Many:
     def _begin(self, served: Served) -> Shop:
         """Starts a shop's program, for which there is room."""
         shop = served.begin(self.program)
-        self.owing.pop(served, None)
+        self._forget(served)
         self.running[served] = None
         self.starts += 1
         served.begun_at = self.loop.time()
@@ -169,8 +172,9 @@ class Many:
             served.fault, served.faulty_until = shop.reason, self.loop.time() + FAULT_STANDS
             tell("no restart mends that: it is tried again at a request after a minute, or after a SIGHUP", served.line.name)
         if not served.is_gone and not (served.is_done and served.is_listed):
-            self.owing[served] = None
-            served.round_at = max(served.round_at, served.faulty_until)
+            (self.unlisted if served.is_done else self.owing)[served] = None
+            if not shop.has_answered:
+                served.round_at = self.loop.time() + ROUND_AGAIN
         self.place_free.set_result(None)
         self.place_free = self.loop.create_future()
         if self.closing and not self.running and not self.ended.done():
@@ -211,7 +215,6 @@ class Many:
             served.see()
             if counts is None:
                 if self._is_idle(served) and self.loop.time() - served.begun_at >= DEAF:
-                    served.round_at = self.loop.time() + ROUND_AGAIN
                     served.fault = served.trouble or "the program doesn't answer"
                     self._close(served, 0)
                 return
@@ -231,22 +234,34 @@ class Many:
             served.see()
 
     async def _go_round(self) -> None:
-        """Starts programs, one after another, of shops where something waits or of which nothing is known."""
+        """Goes to the shops that nobody asks, one after another, for ever."""
         while True:
-            served = self._next_owing()
-            if served is None:
-                await asyncio.sleep(1)
-                continue
             try:
-                await self._visit(served)
+                if not await self._visit_next():
+                    await asyncio.sleep(1)
             except Exception:
                 traceback.print_exc()  # the round goes on
+                await asyncio.sleep(1)
 
-    def _next_owing(self) -> Optional[Served]:
-        """The next one, if there is room."""
+    async def _visit_next(self) -> bool:
+        """Goes to the next shop; False where there is none, or no room."""
+        unlisted, owing = self._next(self.unlisted), self._next(self.owing)
+        if unlisted is not None:
+            await self._list_resting(unlisted)
+        elif owing is not None and self._has_room():
+            await self._visit(owing)
+        else:
+            return False
+        return True
+
+    def _next(self, shops: Dict[Served, None]) -> Optional[Served]:
         now = self.loop.time()
-        found = next((served for served in self.owing if served.round_at <= now and served.beginning is None and served.books is None), None)
-        return found if found is not None and self._has_room() else None
+        return next((served for served in shops if served.round_at <= now and served.beginning is None and served.books is None), None)
+
+    def _forget(self, served: Served) -> None:
+        """There is no need to go to this shop."""
+        self.owing.pop(served, None)
+        self.unlisted.pop(served, None)
 
     def _has_room(self) -> bool:
         """Whether the round may start a program: a quarter of all places is left to tills, and one that rests goes behind what waits."""
@@ -261,12 +276,8 @@ class Many:
 
     async def _visit(self, served: Served) -> None:
         """Has a shop's program started, and looks at it: it is ended again where nothing waits."""
-        served.round_at = self.loop.time() + ROUND_AGAIN
-        if served.is_done:
-            await self._list_resting(served)
-            return
         if served.counts is None and not await self.loop.run_in_executor(None, os.path.exists, served.line.file):
-            self.owing.pop(served, None)  # nothing was ever sold
+            self._forget(served)  # nothing was ever sold
             return
         if served.is_gone or served.beginning is not None or served.books is not None or len(self.running) >= self.most:
             return
@@ -278,6 +289,7 @@ class Many:
     async def _list_resting(self, served: Served) -> None:
         """Lists the refused records of a shop where nothing waits."""
         assert served.counts is not None
+        served.round_at = self.loop.time() + ROUND_AGAIN
         noted = served.counts.noted
         try:
             async with self.one_list:
@@ -286,7 +298,7 @@ class Many:
             return
         if rows is not None:
             served.refused, served.listed = len(rows), noted
-            self.owing.pop(served, None)
+            self._forget(served)
 
     # ---- the hub's end
 

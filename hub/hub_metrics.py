@@ -68,10 +68,10 @@ class ShopFigures:
         restarts = CounterMetricFamily("verifactu_program_restarts", "Programs started again after they ended by themselves or were killed", labels=["shop"])
         faulty = GaugeMetricFamily("verifactu_program_faulty", "1 where the program ended as no restart mends, or doesn't come up", labels=["shop"])
         for served in shops:
-            name = [served.line.name]
-            for family, value in ((waiting, served.waiting), (refused, served.refused), (restarts, served.all_restarts), (faulty, served.trouble != "")):
+            values: List[Any] = [(waiting, served.waiting), (refused, served.refused), (restarts, served.all_restarts), (faulty, served.trouble != "")]
+            for family, value in values:
                 if value is not None:
-                    family.add_metric(name, float(value))
+                    family.add_metric([served.line.name], float(value))
         yield from (waiting, refused, restarts, faulty)
 
 

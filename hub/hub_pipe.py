@@ -313,6 +313,11 @@ class Shop:
         self.starting: Optional["asyncio.Task[None]"] = None
         self.ping: Optional["asyncio.Future[Counts]"] = None
 
+    @property
+    def has_answered(self) -> bool:
+        """Whether the program ever answered a line."""
+        return self.heard > float("-inf")
+
     # ---- asking
 
     def ask(self, line: Line[T]) -> "asyncio.Future[T]":

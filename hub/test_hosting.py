@@ -274,6 +274,7 @@ class ProgramsTest(Hosting):
         self.sells(hub, "b", 1)
         self.rests(hub, "b")
         time.sleep(3)
+        self.sells(hub, "a", 3)
         self.assertEqual(self.program_of(hub, "a"), first)
 
     def test_no_more_run_at_once_than_may(self) -> None:
@@ -532,7 +533,7 @@ class FiguresTest(Hosting):
         self.addCleanup(agency.end)
         street.lines["a"] += f" {agency.words[1]} {agency.words[2]}"
         street.write()
-        hub = self.hub(street, "--host", "test", "--idle", "5", environment=agency.environment)
+        hub = self.hub(street, "--host", "test", environment=agency.environment)
         for serial in (1, 2):
             self.sells(hub, "a", serial)
         self.assertEqual(self.sell(hub, "a", 1).json["answer"], "again")
@@ -549,10 +550,17 @@ class FiguresTest(Hosting):
              'answers_total{answer="taken"}': 2, 'answers_total{answer="again"}': 2, 'answers_total{answer="refused"}': 1, "sale_seconds_count": 4,
              "shops": 2, "programs": 1, 'program_restarts_total{shop="a"}': 1, 'program_restarts_total{shop="b"}': 0})
         until(lambda: self.figures(hub).get('verifactu_records_refused{shop="a"}') == 1, "the refused one is counted")
-        self.rests(hub, "a")
-        rested = self.figures(hub)
-        self.assertEqual([rested[f'verifactu_records_{name}{{shop="a"}}'] for name in ("waiting", "refused")], [0, 1])
-        self.assertEqual((rested["verifactu_programs"], self.sell(hub, "b", 1).status), (0, 201))
+        self.assertTrue(self.program_of(hub, "a"))
+        self.assertEqual(self.figures(hub)['verifactu_records_waiting{shop="a"}'], 0)
+
+    def test_a_shop_that_made_room_is_counted_too(self) -> None:
+        hub = self.hub(self.street("a", "b"), "--programs", "1", "--idle", "2")
+        for name in ("a", "b"):
+            self.sells(hub, name, 1)
+        wanted = [f'verifactu_records_{kind}{{shop="{name}"}}' for kind in ("waiting", "refused") for name in ("a", "b")]
+        until(lambda: [self.figures(hub).get(name) for name in wanted] == [0, 0, 0, 0], "nothing waits and nothing is refused", 60)
+        self.rests(hub, "b")
+        self.assertEqual([self.figures(hub).get(name) for name in (*wanted, "verifactu_programs")], [0] * 5)
 
     def test_the_host_may_ask_nothing_else_and_nobody_else_may_ask_it(self) -> None:
         street = self.street("a")
