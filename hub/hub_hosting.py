@@ -144,12 +144,11 @@ class Many:
         return sum(1 for served in self.running if served.shop is not None and served.shop.closing and served.closed_at >= since)
 
     def _end_the_idlest(self) -> bool:
-        """Ends the program that was idle for longest; False where each is busy or being ended."""
-        for served in self.running:
-            if served.under_way == 0 and served.shop is not None and not served.shop.closing:
-                self._close(served, MAKING_ROOM)
-                return True
-        return self._being_ended() > 0
+        """Ends the program that was idle for longest, before all one where nothing waits; False where each is busy or being ended."""
+        idle = [served for served in self.running if served.under_way == 0 and served.shop is not None and not served.shop.closing]
+        if idle:
+            self._close(next((served for served in idle if served.is_surely_done), idle[0]), MAKING_ROOM)
+        return bool(idle) or self._being_ended() > 0
 
     # ---- the end of a program
 
@@ -268,7 +267,7 @@ class Many:
         if len(self.running) < self.most - self.most // 4:
             return True
         since = self.loop.time() - LOOK_EVERY
-        resting = (served for served in self.running if served.under_way == 0 and served.used < since and served.is_done)
+        resting = (served for served in self.running if served.under_way == 0 and served.used < since and served.is_surely_done)
         found = next((served for served in resting if served.shop is not None and not served.shop.closing), None)
         if found is not None:
             self._close(found, CLOSING)

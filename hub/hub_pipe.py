@@ -303,6 +303,7 @@ class Shop:
         self.starts = 0
         self.heard = float("-inf")  # when the last answer came, on the loop's clock
         self.counts_seen: Optional[Counts] = None
+        self.seen_at = float("-inf")  # when they were, on the loop's clock
         self.noted_at: Optional[datetime] = None
         self.failures = 0  # runs in a row that answered nothing
         self.status = 0  # of the last run
@@ -339,7 +340,7 @@ class Shop:
         """Keeps what `chain` answered."""
         if self.counts_seen is not None and counts.noted > self.counts_seen.noted:
             self.noted_at = datetime.now(timezone.utc)
-        self.counts_seen = counts
+        self.counts_seen, self.seen_at = counts, self.loop.time()
         return counts
 
     async def is_alive(self) -> bool:

@@ -107,6 +107,12 @@ class Served:
         return self.waiting == 0
 
     @property
+    def is_surely_done(self) -> bool:
+        """Whether its program was seen with nothing that waits since the last request."""
+        shop = self.shop
+        return shop is not None and self.is_done and shop.seen_at >= self.used
+
+    @property
     def is_listed(self) -> bool:
         """Whether the refused records were listed since the agency said something."""
         counts = self.counts

@@ -3,7 +3,6 @@ hosts, of which one is lost."""
 from __future__ import annotations
 
 import asyncio
-import base64
 import concurrent.futures
 import fcntl
 import json
@@ -18,13 +17,10 @@ import time
 import unittest
 from typing import Any, Dict, List, Optional, Tuple
 
-import hub_shops
-import hub_tokens
 import tills
-from hub_shops import ShopsFault, read_shops
 from test_clients import CLIENTS
 from tills import Till
-from trying import HERE, HUB, NIF, PATIENCE, PYTHON, Agency, Answer, Hub, Options, Street, run_program, until
+from trying import HERE, NIF, PATIENCE, PYTHON, Agency, Answer, Hub, Options, Street, run_program, until
 
 OTHER_NIF = "12345678Z"
 
@@ -92,67 +88,6 @@ class Hosting(unittest.TestCase):
         self.assertEqual(tills.faults(sellers, rows, count)[:3], [], name)
         status, text = run_program("audit", street.file(name))
         self.assertEqual((status, text.split(" ")[0]), (0, "sound"), name)
-
-
-class FilesTest(unittest.TestCase):
-    """SHOPS and TOKENS, read by themselves."""
-
-    def read(self, text: str, has_host: bool = True) -> Dict[str, hub_shops.ShopLine]:
-        """Reads shops of this text."""
-        street = Street([])
-        self.addCleanup(street.remove)
-        with open(street.shops, "w", encoding="utf-8") as file:
-            file.write(text)
-        return read_shops(street.shops, has_host)
-
-    def test_each_line_is_a_shop(self) -> None:
-        shops = self.read("# shops\n\na 1 /a.chain\nbar-sol-2 2 b.chain /to /from\n" + "x" * 32 + " 1 x\n")
-        self.assertEqual(list(shops), ["a", "bar-sol-2", "x" * 32])
-        self.assertEqual(shops["a"].serve("/p"), ["/p", "serve", "/a.chain", "1"])
-        self.assertEqual(shops["bar-sol-2"].serve("/p"), ["/p", "--agency", "/to", "/from", "serve", "b.chain", "2"])
-        self.assertEqual([shop.is_trial for shop in shops.values()], [True, False, True])
-        self.assertEqual(self.read(""), {})
-
-    def test_a_faulty_line_is_named(self) -> None:
-        for line in ("a", "a 1", "a 1 f to", "a 1 f to from more", "A 1 f", "a_b 1 f", "ñ 1 f", "x" * 33 + " 1 f", "b 1 other", "a 1 b.chain",
-                     "a 1 f same same", "a 1 f f from"):
-            with self.subTest(line), self.assertRaisesRegex(ShopsFault, "line 3: "):
-                self.read(f"# one that is right\nb 1 b.chain\n{line}\n")
-        with self.assertRaisesRegex(ShopsFault, "line 1: TO and FROM need --host"):
-            self.read("a 1 f to from\n", has_host=False)
-        with self.assertRaises(ShopsFault):
-            read_shops("/nowhere", True)
-
-    def test_tokens_name_their_shop(self) -> None:
-        street = Street(["a"], 64)
-        self.addCleanup(street.remove)
-        tokens = hub_tokens.read_tokens(street.tokens, True)
-        askers = [str(tokens.asker(f"Bearer {token}")) for token in (street.till["a", 64], street.owner["a"], street.host)]
-        self.assertEqual((askers, tokens.shops()), (["a till 64", "a owner", "host"], {"a"}))
-        for user, token in (("owner", street.host), ("host", street.host), ("owner", street.till["a", 1])):
-            self.assertIsNone(tokens.asker("Basic " + base64.b64encode(f"{user}:{token}".encode()).decode()))
-        for line in ("till 1 TOKEN", "till a 0 TOKEN", "till a 65 TOKEN", "owner TOKEN", "owner A TOKEN", "host a TOKEN", "till a b 1 TOKEN"):
-            with open(street.tokens, "w", encoding="ascii") as file:
-                file.write(line.replace("TOKEN", "t" * 32) + "\n")
-            with self.subTest(line), self.assertRaisesRegex(hub_tokens.TokensFault, "line 1"):
-                hub_tokens.read_tokens(street.tokens, True)
-
-    def test_words_that_are_wrong(self) -> None:
-        street = Street(["a"])
-        self.addCleanup(street.remove)
-        with open(os.path.join(street.path, "bad"), "w", encoding="ascii") as file:
-            file.write("a 1 f to from\n")
-        ok = ["--tokens", street.tokens, "--program", Options.program, "--listen", "127.0.0.1:0"]
-        many = ["--shops", street.shops]
-        for words, what in ((many + ["--agency", "a", "b", "--host", "test"], "--agency"), (many + [street.file("a"), NIF], NIF),
-                            (many + ["--idle", "0"], "--idle"), (many + ["--programs", "x"], "--programs"), (["--shops", "/nowhere"], "/nowhere"),
-                            (["--shops", f"{street.path}/bad"], "line 1"), ([street.file("a"), NIF, "--idle", "9"], "--shops"),
-                            ([street.file("a"), NIF], "line 1")):
-            with self.subTest(words):
-                done = subprocess.run([HUB, *words, *ok], stderr=subprocess.PIPE, stdout=subprocess.PIPE, text=True, timeout=60, check=False)
-                self.assertEqual((done.returncode, done.stdout, done.stderr.count("\n")), (2, "", 1), done.stderr)
-                self.assertIn(what, done.stderr)
-        self.assertFalse(os.path.exists(street.file("a")))
 
 
 class WhoTest(Hosting):
@@ -323,6 +258,16 @@ class ProgramsTest(Hosting):
             self.assertEqual([self.program_of(hub, name) for name in ("a", "b")], [0, stopped[1]])
             os.kill(stopped[1], signal.SIGCONT)
             self.assertEqual(under_way[1].result().status, 201)
+
+    def test_a_request_at_a_program_that_is_being_ended_waits_for_the_next_one(self) -> None:
+        hub = self.hub(self.street("a", "b", "c"), "--programs", "2", environment={"STAND_IN_PAUSE": "1000"})
+        self.with_one_that_waits(hub, "a")
+        self.sells(hub, "c", 1)
+        with concurrent.futures.ThreadPoolExecutor(1) as pool:
+            other = pool.submit(self.sell, hub, "b", 1)
+            time.sleep(0.05)  # a makes room for b, which it takes a moment to do
+            self.sells(hub, "a", 3)
+            self.assertEqual(other.result().status, 201)
 
     def test_what_waits_is_sent_although_no_till_asks(self) -> None:
         street = self.street("a", "b")
