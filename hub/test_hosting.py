@@ -314,7 +314,8 @@ class FaultTest(Hosting):
         hub = self.hub(street)
         sellers = {name: [Till(hub.port, number, street.till[name, number], prefix=f"/shops/{name}") for number in range(1, 5)] for name in names}
         count = max(100, Options.sales)
-        work = threading.Thread(target=lambda: tills.run(tills.sell_together([till for some in sellers.values() for till in some], count)))
+        everyone = [till for some in sellers.values() for till in some]
+        work = threading.Thread(target=lambda: tills.run(tills.sell_together(everyone, count)), daemon=True)
         work.start()
         kills = 0
         for part in range(1, 9):
@@ -689,7 +690,8 @@ class ThreeHostsTest(Hosting):
         self.lead({"s1": "a", "s2": "a", "s3": "b", "s4": "b"})
         nginx = self.start_nginx()
         sellers = {shop: [Till(8080, number, self.road.till[shop, number], PROXY, f"/shops/{shop}") for number in range(1, 5)] for shop in self.shops}
-        work = threading.Thread(target=lambda: tills.run(tills.sell_together([till for some in sellers.values() for till in some], count)))
+        everyone = [till for some in sellers.values() for till in some]
+        work = threading.Thread(target=lambda: tills.run(tills.sell_together(everyone, count)), daemon=True)
         work.start()
         until(lambda: sum(len(till.sold) for shop in self.shops[:2] for till in sellers[shop]) >= 8 * count // 3, "a third is sold", 600)
         programs = hubs[0].programs()
