@@ -63,13 +63,17 @@ class Books:
             raise Unavailable("the refused records couldn't be listed")
         return self.refused
 
+    async def list_again(self, counts: Counts, seconds: float) -> None:
+        """Lists the refused records anew, where the agency has said more since they were listed; waits for it at most so long."""
+        if self.listing is None and counts.noted != self.listed_noted:
+            self.listing = self.shop.loop.create_task(self._list(counts.noted))
+        if self.listing is not None:
+            await asyncio.wait({self.listing}, timeout=seconds)
+
     async def _list(self, noted: int) -> None:
         try:
-            status, text = await self._beside("list", self.file, "refused")
-            rows = read_listing(text) if status == 0 else None
-            if rows is None:
-                tell(f"list ended with status {status}: the refused records aren't known")
-            else:
+            rows = await list_refused(self.program, self.file, self.shop.name)
+            if rows is not None:
                 self.refused, self.listed_noted = rows, noted
         finally:
             self.listed_at = self.shop.loop.time()
@@ -78,7 +82,7 @@ class Books:
     async def statement(self, period: str) -> Values:
         """The sums of MM-YYYY or DD-MM-YYYY. BadRequest where the program knows no such period."""
         async with self.one_statement:
-            status, text = await self._beside("statement", self.file, period)
+            status, text = await _beside(self.program, "statement", self.file, period)
         if status == STATUS_USAGE:
             raise BadRequest("the program has no sums of such a period")
         sums = read_statement(text, period) if status == 0 else None
@@ -86,17 +90,27 @@ class Books:
             raise Unavailable(f"statement ended with status {status}")
         return sums
 
-    async def _beside(self, *words: str) -> Any:
-        """Runs a command that only reads: its status and what it printed. It is killed where nobody waits for it any more."""
-        run = await asyncio.create_subprocess_exec(
-            self.program, *words, stdin=asyncio.subprocess.DEVNULL, stdout=asyncio.subprocess.PIPE, stderr=asyncio.subprocess.DEVNULL,
-            start_new_session=True, preexec_fn=_be_nice)
-        try:
-            text, _ = await run.communicate()
-            return run.returncode, text.decode("utf-8", "replace")
-        finally:
-            if run.returncode is None:
-                run.kill()
+
+async def list_refused(program: str, file: str, name: str) -> Optional[List[Values]]:
+    """The refused records of a file, as `list` prints them; None where it fails. `name` is that of one of many shops."""
+    status, text = await _beside(program, "list", file, "refused")
+    rows = read_listing(text) if status == 0 else None
+    if rows is None:
+        tell(f"list ended with status {status}: the refused records aren't known", name)
+    return rows
+
+
+async def _beside(program: str, *words: str) -> Any:
+    """Runs a command that only reads: its status and what it printed. It is killed where nobody waits for it any more."""
+    run = await asyncio.create_subprocess_exec(
+        program, *words, stdin=asyncio.subprocess.DEVNULL, stdout=asyncio.subprocess.PIPE, stderr=asyncio.subprocess.DEVNULL,
+        start_new_session=True, preexec_fn=_be_nice)
+    try:
+        text, _ = await run.communicate()
+        return run.returncode, text.decode("utf-8", "replace")
+    finally:
+        if run.returncode is None:
+            run.kill()
 
 
 def _be_nice() -> None:

@@ -4,11 +4,12 @@ from __future__ import annotations
 import asyncio
 import json
 import os
+import re
 import sys
 import traceback
 from dataclasses import dataclass
 from datetime import datetime, timezone
-from typing import Any, Awaitable, Callable, Dict, FrozenSet, List, Optional, Tuple
+from typing import TYPE_CHECKING, Any, Awaitable, Callable, Dict, FrozenSet, List, Optional, Tuple, Union
 from urllib.parse import quote
 
 from aiohttp import web
@@ -19,10 +20,16 @@ from hub_forms import (
     BadRequest, Command, NoMemory, Receipt, Refused, Values, last_line, parting_line, read_command, read_day, read_month,
     read_word, ticket_line,
 )
-from hub_limits import ANSWER_WITHIN, MOST_BODY, MOST_LINES, MOST_UNDER_WAY
+from hub_hosting import NOT_SERVED, Many
+from hub_limits import ANSWER_WITHIN, LONGEST_SHOP, MOST_BODY, MOST_LINES, MOST_UNDER_WAY
 from hub_pipe import BadLine, Shop, Unavailable, tell
+from hub_served import One, Queue, Served
 from hub_tokens import Asker, Tokens
 
+if TYPE_CHECKING:
+    from hub_metrics import Figures
+
+PREFIX = re.compile(r"(/shops/([a-z0-9-]{1,%d}))(/.*)?" % LONGEST_SHOP, re.DOTALL)  # of a path that names one of many shops
 PREFLIGHT_AGE = 600  # seconds for which a browser keeps a preflight's answer
 
 FOLDER = os.path.dirname(os.path.realpath(__file__))
@@ -76,11 +83,16 @@ def answer_json(values: Any, status: int = 200, headers: Optional[Dict[str, str]
     return web.Response(status=status, body=_json(values), headers={"Content-Type": "application/json", **(headers or {})})
 
 
-class Limit:
-    """Until when a request must be answered: what runs under it ends with Unavailable after so many seconds."""
+class Moved(Exception):
+    """The path is another one, which the text names."""
 
-    def __init__(self, seconds: float) -> None:
+
+class Limit:
+    """Until when a request must be answered: what runs under it ends with Unavailable after so many seconds, and says why where it is known."""
+
+    def __init__(self, seconds: float, served: Optional[Served] = None) -> None:
         self.seconds = seconds
+        self.served = served
         self.late = False
 
     def __enter__(self) -> None:
@@ -97,25 +109,32 @@ class Limit:
         self.timer.cancel()
         if self.late and kind is asyncio.CancelledError:
             getattr(self.task, "uncancel", int)()  # from Python 3.11 on
-            raise Unavailable(f"not answered in {self.seconds:g} seconds")
-
-
-class Queue:
-    """The requests of one till, or of the owner: how many are under way, and a lock that hands itself on in their order."""
-
-    def __init__(self) -> None:
-        self.under_way = 0
-        self.turn = asyncio.Lock()
+            trouble = self.served.trouble if self.served is not None else ""
+            raise Unavailable(f"not answered in {self.seconds:g} seconds" + (f": {trouble}" if trouble else ""))
 
 
 @dataclass(frozen=True)
+class Place:
+    """Where a path leads: the prefix that names a shop, if it has one, the shop's name, the path after it, the pattern that the routes
+    have of it, and what stands in the place of the pattern's parameter."""
+
+    prefix: str
+    name: str
+    path: str
+    pattern: str
+    rest: str
+
+
+@dataclass
 class Asking:
-    """A request that arrived whole, and who asks."""
+    """A request that arrived whole, who asks, and at which shop. `books` are there where its program is asked."""
 
     asker: Optional[Asker]
+    served: Optional[Served]
     body: bytes
     query: Tuple[Tuple[str, str], ...]
-    rest: str  # of the path, behind `months/` and `days/`
+    place: Place
+    books: Optional[Books] = None
 
 
 Handler = Callable[[Asking], Awaitable[web.Response]]
@@ -128,22 +147,27 @@ class Route:
     handler: Handler
     tills: bool = False
     owner: bool = False
+    host: bool = False
 
     @property
     def is_open(self) -> bool:
-        return not self.tills and not self.owner
+        return not (self.tills or self.owner or self.host)
+
+    def is_for(self, asker: Asker) -> bool:
+        """Whether this one may ask it."""
+        return self.host if asker.is_host else self.owner if asker.is_owner else self.tills
 
 
 class Hub:
-    """One shop over HTTP."""
+    """One shop over HTTP, or many."""
 
-    def __init__(self, shop: Shop, books: Books, tokens: Tokens, host: str, origins: FrozenSet[str], most_connections: int) -> None:
-        self.shop = shop
-        self.books = books
+    def __init__(self, shops: Union[One, Many], tokens: Tokens, origins: FrozenSet[str], most_connections: int) -> None:
+        self.shops = shops
         self.tokens = tokens
-        self.host = host
         self.origins = origins
-        self.queues: Dict[Optional[int], Queue] = {}
+        self.loop = asyncio.get_running_loop()
+        self.host_queue = Queue()
+        self.figures: Optional[Figures] = None
         self.stopping = False
         self.under_way = 0  # requests that arrived whole and whose answer isn't made
         self.files = {path: _read_file(name) for path, (name, _) in PAGE.items()}
@@ -163,7 +187,10 @@ class Hub:
             "/v1/days/{day}": {"GET": Route(self._day, owner=True)},
             "/v1/openapi.json": {"GET": Route(self._describe)},
             "/health": {"GET": Route(self._health)},
+            "/metrics": {"GET": Route(self._metrics, host=True)},
         }
+        if not self.shops.are_many:
+            del routes["/metrics"]
         for path in PAGE:
             routes[path] = {"GET": Route(self._page_of(path), owner=True)}
         return routes
@@ -172,11 +199,14 @@ class Hub:
 
     async def answer(self, request: web.BaseRequest) -> web.StreamResponse:
         """Answers a request: what is raised becomes a problem."""
-        request["began"] = self.shop.loop.time()
+        request["began"] = self.loop.time()
+        request["inner"] = self._inner(request.path)
         try:
             response: web.Response = await self._answer(request)
         except Problem as problem:
             response = problem.response()
+        except Moved as to:
+            response = web.Response(status=308, headers={"Location": str(to)})
         except BadRequest as fault:
             response = Problem("bad-request", str(fault)).response()
         except BadLine as line:
@@ -194,7 +224,7 @@ class Hub:
         response.headers["Cache-Control"] = "no-store"
         response.headers["Server"] = "verifactu-hub"
         response.headers["X-Content-Type-Options"] = "nosniff"
-        if self.origins and request.path.startswith("/v1/"):
+        if self.origins and request["inner"].startswith("/v1/"):
             response.headers["Vary"] = "Origin"
             if request.headers.get("Origin") in self.origins:
                 response.headers["Access-Control-Allow-Origin"] = request.headers["Origin"]
@@ -202,33 +232,53 @@ class Hub:
 
     async def _answer(self, request: web.BaseRequest) -> web.Response:
         self._refuse_while_stopping()
-        pattern, rest = self._pattern(request.path)
-        methods = self.routes.get(pattern)
+        place = self._place(request.path)
+        methods = self.routes.get(place.pattern)
         if methods is None:
             raise Problem("not-found", "there is no such path")
-        request["path"] = request.path if set(rest) <= set("0123456789-") else pattern
+        request["path"] = self._logged(place)
         if request.method == "OPTIONS" and self._is_preflight(request):
             return self._preflight(methods)
         route = methods.get("GET" if request.method == "HEAD" else request.method)
         if route is None:
             raise Problem("method", "the path has no such method", headers={"Allow": ", ".join(_allowed(methods))})
-        asker = None if route.is_open else self._authorize(request, route)
-        if asker is None:
-            return await self._ask(request, route, None, rest)
-        if asker.till not in self.queues:
-            self.queues[asker.till] = Queue()
-        queue = self.queues[asker.till]
+        if route.is_open:
+            return await self._ask(request, route, None, self._open_at(place), place)
+        asker = self._authorize(request, route, place)
+        served = None if asker.is_host else self.shops.find(asker.shop)
+        if served is None and not asker.is_host:
+            raise Unavailable(NOT_SERVED)
+        queue = served.queue(asker.till) if served is not None else self.host_queue
         if queue.under_way >= MOST_UNDER_WAY:
             raise Problem("too-many", f"{MOST_UNDER_WAY} requests of {asker} are under way")
         queue.under_way += 1
         try:
-            return await self._ask(request, route, asker, rest)
+            return await self._ask(request, route, asker, served, place)
         finally:
             queue.under_way -= 1
 
     def _refuse_while_stopping(self) -> None:
         if self.stopping:
             raise Unavailable("the hub is being stopped")
+
+    def _prefix(self, path: str) -> "Optional[re.Match[str]]":
+        """What names a shop in front of a path; a hub of one shop knows no prefix."""
+        return PREFIX.fullmatch(path) if self.shops.are_many else None
+
+    def _inner(self, path: str) -> str:
+        """The path without what names a shop."""
+        found = self._prefix(path)
+        return path if found is None else found[3] or ""
+
+    def _place(self, path: str) -> Place:
+        """Where a path leads; what is for the host of all shops has no prefix."""
+        found = self._prefix(path)
+        if found is None:
+            return Place("", "", path, *self._pattern(path))
+        if found[3] is None:
+            raise Moved(f"{found[1]}/")
+        pattern, rest = self._pattern(found[3])
+        return Place(found[1], found[2], found[3], "" if pattern == "/metrics" else pattern, rest)
 
     def _pattern(self, path: str) -> Tuple[str, str]:
         """The path as the routes have it, and what stands in the place of its parameter."""
@@ -238,38 +288,62 @@ class Hub:
         pattern = {"/v1/months": "/v1/months/{month}", "/v1/days": "/v1/days/{day}"}.get(parent, "")
         return (pattern, rest) if rest and "{" not in rest else ("", "")
 
-    def _authorize(self, request: web.BaseRequest, route: Route) -> Asker:
+    def _logged(self, place: Place) -> str:
+        """What the log may say of a path: only what is there, since anything may be typed in its place."""
+        prefix = place.prefix if self.shops.find(place.name) is not None else ""
+        return prefix + (place.path if set(place.rest) <= set("0123456789-") else place.pattern)
+
+    def _open_at(self, place: Place) -> Optional[Served]:
+        """The shop of a path that anybody may ask, None where it is one of all shops."""
+        served = self.shops.find(place.name)
+        if served is None and place.prefix:
+            raise Problem("not-found", "there is no such shop here")
+        return served
+
+    def _authorize(self, request: web.BaseRequest, route: Route, place: Place) -> Asker:
         asker = self.tokens.asker(request.headers.get("Authorization", ""))
         if asker is None:
-            scheme = 'Basic realm="verifactu", charset="UTF-8"' if request.path in PAGE else 'Bearer realm="verifactu"'
+            realm = f"verifactu {place.name}" if place.name else "verifactu"  # a browser keeps one password a realm
+            scheme = f'Basic realm="{realm}", charset="UTF-8"' if place.pattern in PAGE else f'Bearer realm="{realm}"'
             raise Problem("unauthorized", "the request has no token that is known", headers={"WWW-Authenticate": scheme})
         request["asker"] = asker
-        if not (route.owner if asker.till is None else route.tills):
+        if place.name not in ("", asker.shop):
+            raise Problem("forbidden", "this path is another shop's")
+        if not route.is_for(asker):
             raise Problem("forbidden", f"this path is not for {asker}")
         return asker
 
-    async def _ask(self, request: web.BaseRequest, route: Route, asker: Optional[Asker], rest: str) -> web.Response:
+    async def _ask(self, request: web.BaseRequest, route: Route, asker: Optional[Asker], served: Optional[Served], place: Place) -> web.Response:
         body = await self._whole(request)
-        asking = Asking(asker, body, tuple(request.rel_url.query.items()), rest)
+        asking = Asking(asker, served, body, tuple(request.rel_url.query.items()), place)
         self._refuse_while_stopping()
         self.under_way += 1
+        if served is not None and asker is not None:
+            served.under_way += 1
         try:
-            with Limit(ANSWER_WITHIN):
+            with Limit(ANSWER_WITHIN, served):
                 return await self._in_turn(route.handler, asking)
         finally:
             self.under_way -= 1
+            if served is not None and asker is not None:
+                served.under_way -= 1
+                served.used = self.loop.time()
 
     async def _in_turn(self, handler: Handler, asking: Asking) -> web.Response:
         """A till's requests one after another, all others beside each other."""
-        if asking.asker is None or asking.asker.till is None:
+        if asking.asker is None or asking.served is None:
             return await handler(asking)
-        async with self.queues[asking.asker.till].turn:
+        if asking.asker.is_owner:
+            asking.books = await self.shops.use(asking.served)
+            return await handler(asking)
+        async with asking.served.queue(asking.asker.till).turn:
+            asking.books = await self.shops.use(asking.served)
             return await handler(asking)
 
     async def wait_until_answered(self, seconds: float) -> None:
         """Waits until what arrived whole is answered and its answer written, or for so long."""
-        until = self.shop.loop.time() + seconds
-        while (self.under_way or self.connections.answering) and self.shop.loop.time() < until:
+        until = self.loop.time() + seconds
+        while (self.under_way or self.connections.answering) and self.loop.time() < until:
             await asyncio.sleep(0.01)
 
     async def _whole(self, request: web.BaseRequest) -> bytes:
@@ -292,7 +366,7 @@ class Hub:
         return body
 
     def _is_preflight(self, request: web.BaseRequest) -> bool:
-        return (request.path.startswith("/v1/") and request.headers.get("Origin") in self.origins
+        return (request["inner"].startswith("/v1/") and request.headers.get("Origin") in self.origins
                 and "Access-Control-Request-Method" in request.headers)
 
     def _preflight(self, methods: Dict[str, Route]) -> web.Response:
@@ -302,11 +376,13 @@ class Hub:
 
     def _log(self, request: web.BaseRequest, response: web.StreamResponse) -> None:
         """A line a request: no query, token, customer or amount, and of paths only those that are there."""
-        loop_now = self.shop.loop.time()
-        milliseconds = (loop_now - request.get("began", loop_now)) * 1000
+        loop_now = self.loop.time()
+        seconds = loop_now - request.get("began", loop_now)
+        if self.figures is not None:
+            self.figures.request(response.status, seconds, request.get("inner") == "/v1/sales")
         now = datetime.now(timezone.utc).isoformat(timespec="milliseconds")
         method = request.method if request.method in METHODS else "-"
-        line = f"{now} {request.get('asker', '-')} {method} {request.get('path', '-')} {response.status} {milliseconds:.1f}\n"
+        line = f"{now} {request.get('asker', '-')} {method} {request.get('path', '-')} {response.status} {seconds * 1000:.1f}\n"
         try:
             sys.stderr.write(line)
         except OSError:
@@ -325,50 +401,37 @@ class Hub:
 
     async def _command(self, asking: Asking, verb: str) -> web.Response:
         _no_query(asking)
+        shop = _books(asking).shop
         command = read_command(verb, asking.body)
-        answer = await self.shop.ask(command.line(_till(asking), await self._bases(command)))
+        answer = await shop.ask(command.line(_till(asking), await _bases(shop, command)))
         if isinstance(answer, Refused):
+            self._count("refused")
             raise Problem("refused", f"the program refused it: {answer.reason}", {"reason": answer.reason})
         if isinstance(answer, NoMemory):
             raise Unavailable("the program is out of memory")
         assert isinstance(answer, Receipt)
+        self._count(answer.answer)
         values: Values = {"answer": answer.answer, "place": answer.place, "num": answer.num, "huella": answer.huella}
         if verb != "cancel":
-            values["ticket"] = await self._ticket(answer.num)
+            values["ticket"] = await _ticket(asking, answer.num)
         if answer.answer == "again":
             return answer_json(values)
-        return answer_json(values, 201, {"Location": f"/v1/invoices?num={quote(answer.num, safe='')}"})
+        return answer_json(values, 201, {"Location": f"{asking.place.prefix}/v1/invoices?num={quote(answer.num, safe='')}"})
 
-    async def _bases(self, command: Command) -> List[str]:
-        """The lines CLASS:BASE of a command: each total is parted by the program."""
-        if len(command.amounts) > MOST_LINES:
-            raise BadLine("Lines")
-        totals = [amount for amount in command.amounts if amount.total is not None]
-        parted = iter(await asyncio.gather(*(self.shop.ask(parting_line(amount.line_class, amount.total or 0)) for amount in totals)))
-        bases: List[str] = []
-        for amount in command.amounts:
-            parts = [f"{amount.line_class}:{amount.base}"] if amount.total is None else next(parted)
-            if not parts:
-                raise BadLine("Lines")
-            bases += parts
-        return bases
-
-    async def _ticket(self, num: str) -> Values:
-        ticket = await self.shop.ask(ticket_line(num, self.host))
-        if not ticket:
-            raise Unavailable("the program has no ticket of what it took")
-        return ticket
+    def _count(self, answer: str) -> None:
+        if self.figures is not None:
+            self.figures.answer(answer)
 
     async def _last(self, asking: Asking) -> web.Response:
         _no_query(asking)
         till = _till(asking)
-        return answer_json({"till": till, "serial": await self.shop.ask(last_line(till))})
+        return answer_json({"till": till, "serial": await _books(asking).shop.ask(last_line(till))})
 
     async def _invoice(self, asking: Asking) -> web.Response:
         if [name for name, _ in asking.query] != ["num"]:
             raise BadRequest("the query isn't num alone, once")
         num = read_word(asking.query[0][1], "num")
-        ticket = await self.shop.ask(ticket_line(num, self.host))
+        ticket = await _books(asking).shop.ask(ticket_line(num, _host(asking)))
         if not ticket:
             raise Problem("not-found", "the chain has no invoice of this number")
         return answer_json(ticket)
@@ -377,23 +440,38 @@ class Hub:
 
     async def _state(self, asking: Asking) -> web.Response:
         _no_query(asking)
-        return answer_json(await self.books.state())
+        return answer_json(await _books(asking).state())
 
     async def _month(self, asking: Asking) -> web.Response:
         _no_query(asking)
-        return answer_json({"month": asking.rest, **await self.books.statement(read_month(asking.rest, "the path"))})
+        return answer_json({"month": asking.place.rest, **await _books(asking).statement(read_month(asking.place.rest, "the path"))})
 
     async def _day(self, asking: Asking) -> web.Response:
         _no_query(asking)
-        return answer_json({"day": asking.rest, **await self.books.statement(read_day(asking.rest, "the path"))})
+        return answer_json({"day": asking.place.rest, **await _books(asking).statement(read_day(asking.place.rest, "the path"))})
 
     async def _describe(self, asking: Asking) -> web.Response:
         return web.Response(body=self.description, headers={"Content-Type": "application/json"})
 
     async def _health(self, asking: Asking) -> web.Response:
-        if not await self.shop.is_alive():
+        """Of a hub of many: that it serves. Of a shop: whether its program answers; one that rests isn't started for this."""
+        served = asking.served
+        if served is None:
+            return answer_json({"status": "ok"})
+        if served.shop is None and not served.fault:
+            return answer_json({"status": "resting"})
+        if served.shop is None or not await served.shop.is_alive():
             raise Unavailable("the program doesn't answer")
         return answer_json({"status": "ok"})
+
+    # ---- what the host asks
+
+    async def _metrics(self, asking: Asking) -> web.Response:
+        _no_query(asking)
+        if self.figures is None:
+            raise Problem("not-found", "there are no figures without python3-prometheus-client")
+        body = await self.loop.run_in_executor(None, self.figures.text)
+        return web.Response(body=body, headers={"Content-Type": self.figures.content_type})
 
     def _page_of(self, path: str) -> Handler:
         async def page(asking: Asking) -> web.Response:
@@ -410,6 +488,38 @@ def _read_file(name: str) -> bytes:
 
 def _allowed(methods: Dict[str, Route]) -> List[str]:
     return [*methods, "HEAD"] if "GET" in methods else [*methods]
+
+
+def _books(asking: Asking) -> Books:
+    assert asking.books is not None
+    return asking.books
+
+
+def _host(asking: Asking) -> str:
+    assert asking.served is not None
+    return asking.served.host
+
+
+async def _bases(shop: Shop, command: Command) -> List[str]:
+    """The lines CLASS:BASE of a command: each total is parted by the program."""
+    if len(command.amounts) > MOST_LINES:
+        raise BadLine("Lines")
+    totals = [amount for amount in command.amounts if amount.total is not None]
+    parted = iter(await asyncio.gather(*(shop.ask(parting_line(amount.line_class, amount.total or 0)) for amount in totals)))
+    bases: List[str] = []
+    for amount in command.amounts:
+        parts = [f"{amount.line_class}:{amount.base}"] if amount.total is None else next(parted)
+        if not parts:
+            raise BadLine("Lines")
+        bases += parts
+    return bases
+
+
+async def _ticket(asking: Asking, num: str) -> Values:
+    ticket = await _books(asking).shop.ask(ticket_line(num, _host(asking)))
+    if not ticket:
+        raise Unavailable("the program has no ticket of what it took")
+    return ticket
 
 
 def _till(asking: Asking) -> int:

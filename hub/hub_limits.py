@@ -30,6 +30,26 @@ TURNS = 2  # so often the program may end at a line's turn
 FRESH = 1  # seconds for which an answer shows that the program is alive
 PING = 5  # seconds in which it has to answer `chain`
 LAST_ANSWERS = 2  # seconds for answers to be written at the end
+MOST_FAULTS = 4  # lines of a program's standard error that say why it ended
+LONGEST_FAULT = 1_000  # bytes of such a line
+
+# many shops
+LONGEST_SHOP = 32  # characters of a shop's name
+MOST_CONNECTIONS_OF_MANY = 10_000
+IDLE = 300  # seconds without a request after which a shop's program is ended, where --idle doesn't say otherwise
+LONGEST_IDLE = 86_400
+PROGRAMS = 200  # that run at once, where --programs doesn't say otherwise
+MOST_PROGRAMS = 10_000
+HANDLES_OF_A_PROGRAM = 6  # three pipes, its end, and two more while it starts
+CLOSING = 5  # seconds that a program has to end in, once its pipe is closed; then it is killed, and what waits is sent by the next one
+LONGEST_PAUSE_OF_MANY = 5  # seconds until the program of one of many shops is started again, at most: a shop that moves waits for a lock
+MAKING_ROOM = 0.2  # the same, where another shop's program waits for its place
+LOOK_EVERY = 10  # seconds from one `chain` asked for the figures to the next
+LISTS_APART = 300  # seconds from one `list FILE refused` for the figures to the next, at least
+FAULT_STANDS = 60  # seconds for which a program that no restart mends isn't tried again
+ROUND_AGAIN = 600  # seconds from one try to send what waits at a shop that nobody asks to the next, at least
+DEAF = 60  # seconds after its start from which on an idle program that doesn't answer is killed
+ENDING = 2  # seconds for which a program whose pipe was closed counts as one that will make room
 
 # the owner
 NEWEST = 20  # records

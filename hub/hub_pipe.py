@@ -15,11 +15,15 @@ from dataclasses import dataclass
 from datetime import datetime, timezone
 from typing import Any, Callable, Deque, Dict, Generic, List, Optional, Sequence, Tuple, TypeVar
 
-from hub_limits import FRESH, LONGEST_PAUSE, MOST_ANSWER, MOST_CUSTOMERS, PATIENCE, PING, TURNS
+from hub_limits import (
+    FRESH, LONGEST_FAULT, LONGEST_PAUSE, LONGEST_PAUSE_OF_MANY, MOST_ANSWER, MOST_CUSTOMERS, MOST_FAULTS, PATIENCE, PING, TURNS,
+)
 
 T = TypeVar("T")
 
 MENDED_BY_NO_RESTART = (2, 7, 11, 13)  # statuses
+STDERR = 2  # its number in the program
+PRACTICE = "practice agency: "  # how the program's line begins by which it says that it is a trial
 
 _libc = ctypes.CDLL(None)
 
@@ -116,11 +120,37 @@ class Flying:
         self.says = says
 
 
+class Faults:
+    """What a program says on its standard error: each line is told with the shop's name, and the last ones say why it ended."""
+
+    def __init__(self, name: str) -> None:
+        self.name = name
+        self.rest = b""
+        self.lines: Deque[str] = deque(maxlen=MOST_FAULTS)
+
+    def hear(self, data: bytes) -> None:
+        """Takes what was read; a line that is too long is cut off."""
+        *lines, self.rest = (self.rest + data).split(b"\n")
+        self.rest = self.rest[:LONGEST_FAULT]
+        for line in lines:
+            text = line[:LONGEST_FAULT].decode("utf-8", "replace")
+            text = text[len("verifactu: "):] if text.startswith("verifactu: ") else text
+            tell(text, self.name)
+            if not text.startswith(PRACTICE):
+                self.lines.append(text)
+
+    def reason(self, status: int) -> str:
+        """Why a run ended, as somebody may be told who isn't to know the file's path."""
+        said = "; ".join(line.rpartition(": ")[2] for line in self.lines)
+        return f"the program ended with status {status}" + (f": {said}" if said else "")
+
+
 class Run(asyncio.SubprocessProtocol):
     """One start of the program, until it has ended and all that it wrote was read."""
 
     def __init__(self, shop: "Shop") -> None:
         self.shop = shop
+        self.faults = Faults(shop.name)
         self.program: Optional[asyncio.SubprocessTransport] = None
         self.stdin: Any = None
         self.flight: Deque[Flying] = deque()
@@ -180,6 +210,9 @@ class Run(asyncio.SubprocessProtocol):
         self.shop.begun(self)
 
     def pipe_data_received(self, fd: int, data: bytes) -> None:
+        if fd == STDERR:
+            self.faults.hear(data)
+            return
         *answers, self.rest = (self.rest + data).split(b"\n")
         for answer in answers:
             if self.over:
@@ -195,12 +228,15 @@ class Run(asyncio.SubprocessProtocol):
 
     def _hear(self, answer: str) -> None:
         flying = self.flight.popleft() if self.flight else None
-        if flying is None and self.shop.closing and read_counts(answer):
-            return  # the chain line, after the pipe was closed
+        counts = read_counts(answer) if flying is None and self.shop.closing else None
+        if counts is not None:
+            self.shop.see(counts)  # the chain line, after the pipe was closed
+            return
         if flying is None or not self._take(flying, answer):
             self._distrust(flying)
             return
         self.shop.heard = self.shop.loop.time()
+        self.shop.reason = ""
         if self.is_full and not self.flight and not self.over:
             self.kill()
 
@@ -244,7 +280,7 @@ class Run(asyncio.SubprocessProtocol):
 
     def _distrust(self, flying: Optional[Flying]) -> None:
         """An answer that isn't its line's: what it was meant for isn't known."""
-        tell("the program's answer isn't that of its line: it is killed and started again")
+        tell("the program's answer isn't that of its line: it is killed and started again", self.shop.name)
         if flying is not None:
             flying.asked.fail(Unavailable("the program answered another line"))
         self.kill()
@@ -253,25 +289,35 @@ class Run(asyncio.SubprocessProtocol):
 class Shop:
     """A program, its pipe, what waits for it, and when it is started again.
 
-    `ended` is the status by which the hub has to end: of a program that no restart mends, or of the last one after `close` or `kill`.
+    `ended` is the status by which the hub has to end: of a program that no restart mends, or of the last one after `close` or `kill`. With a
+    name, that of one of many shops, what the program says on its standard error is told with it; else it goes to the hub's own.
     """
 
-    def __init__(self, words: Sequence[str]) -> None:
+    def __init__(self, words: Sequence[str], name: str = "") -> None:
         self.words = list(words)
+        self.name = name
         self.loop = asyncio.get_running_loop()
         self.ended: "asyncio.Future[int]" = self.loop.create_future()
         self.run: Optional[Run] = None
         self.held: Deque[Asked] = deque()  # not in the pipe
         self.starts = 0
         self.heard = float("-inf")  # when the last answer came, on the loop's clock
-        self.noted: Optional[int] = None
+        self.counts_seen: Optional[Counts] = None
+        self.seen_at = float("-inf")  # when they were, on the loop's clock
         self.noted_at: Optional[datetime] = None
         self.failures = 0  # runs in a row that answered nothing
         self.status = 0  # of the last run
+        self.reason = ""  # why the last run ended, until one answers
         self.closing = False
+        self.killing = False
         self.timer: Optional[asyncio.TimerHandle] = None
         self.starting: Optional["asyncio.Task[None]"] = None
         self.ping: Optional["asyncio.Future[Counts]"] = None
+
+    @property
+    def has_answered(self) -> bool:
+        """Whether the program ever answered a line."""
+        return self.heard > float("-inf")
 
     # ---- asking
 
@@ -279,7 +325,7 @@ class Shop:
         """The future answer. It fails with BadLine, or Unavailable; a future that is cancelled is waited for no more."""
         asked = Asked(line, self.loop.create_future())
         if self.ended.done():
-            asked.fail(Unavailable("the program has ended"))
+            asked.fail(Unavailable(self.reason or "the program has ended"))
         elif self.run is None or self.run.over or self.run.is_full:
             self.held.append(asked)
         else:
@@ -288,26 +334,30 @@ class Shop:
 
     async def counts(self) -> Counts:
         """Asks `chain`, and keeps when the agency's lines were seen to become more."""
-        return self._see(await self.ask(CHAIN))
+        return self.see(await self.ask(CHAIN))
 
-    def _see(self, counts: Counts) -> Counts:
-        if self.noted is not None and counts.noted > self.noted:
+    def see(self, counts: Counts) -> Counts:
+        """Keeps what `chain` answered."""
+        if self.counts_seen is not None and counts.noted > self.counts_seen.noted:
             self.noted_at = datetime.now(timezone.utc)
-        self.noted = counts.noted
+        self.counts_seen, self.seen_at = counts, self.loop.time()
         return counts
 
     async def is_alive(self) -> bool:
-        """Whether the program answered a line in the last second, or answers `chain` within five. All who ask share one line."""
+        """Whether the program answered a line in the last second, or answers `chain` within five."""
         if self.loop.time() - self.heard <= FRESH and self.run is not None:
             return True
+        return await self.look() is not None
+
+    async def look(self) -> Optional[Counts]:
+        """What `chain` answers, None where nothing comes within five seconds. All who look share one line."""
         if self.ping is None or self.ping.done():
             self.ping = self.ask(CHAIN)
             self.ping.add_done_callback(lambda ping: ping.cancelled() or ping.exception())
         try:
-            self._see(await asyncio.wait_for(asyncio.shield(self.ping), PING))
+            return self.see(await asyncio.wait_for(asyncio.shield(self.ping), PING))
         except (asyncio.TimeoutError, Unavailable, BadLine):
-            return False
-        return True
+            return None
 
     # ---- the program
 
@@ -320,16 +370,19 @@ class Shop:
         self.starts += 1
         try:
             await self.loop.subprocess_exec(
-                lambda: Run(self), *self.words, stdin=asyncio.subprocess.PIPE, stdout=asyncio.subprocess.PIPE, stderr=None,
-                start_new_session=True, preexec_fn=_die_with_the_hub)
+                lambda: Run(self), *self.words, stdin=asyncio.subprocess.PIPE, stdout=asyncio.subprocess.PIPE,
+                stderr=asyncio.subprocess.PIPE if self.name else None, start_new_session=True, preexec_fn=_die_with_the_hub)
         except OSError as fault:
-            tell(f"{self.words[0]}: {fault.strerror}")
+            self.reason = f"the program can't be started: {fault.strerror}"
+            tell(f"{self.words[0]}: {fault.strerror}", self.name)
             self._after(False)
 
     def begun(self, run: Run) -> None:
         """A run can be written to: all that is held goes into its pipe."""
         self.run = run
-        if self.closing:
+        if self.killing:
+            run.kill()
+        elif self.closing:
             run.close()
         self._write_held(run)
 
@@ -345,25 +398,28 @@ class Shop:
         self.run = None
         status = run.program.get_returncode() or 0
         self.status = status if status >= 0 else 128 - status
+        self.reason = run.faults.reason(self.status)
         left = [flying.asked for flying in run.flight if not flying.says]
         if run.flight and not run.killed:
             self._count_turn(run.flight[0].asked)
         self.held.extendleft(asked for asked in reversed(left) if not asked.answer.done())
-        if not self.closing or self.status:
-            tell(f"the program ended with status {self.status}")
+        is_planned = self.closing and (self.status == 0 or run.killed and self.name != "")
+        if not is_planned:
+            tell(f"the program ended with status {self.status}", self.name)
         self._after(run.answered)
 
     def _count_turn(self, asked: Asked) -> None:
         asked.ended += 1
         if asked.ended >= TURNS:
-            asked.fail(Unavailable("the program ended at this line's turn"))
+            asked.fail(Unavailable(f"{self.reason} (twice at this line's turn)"))
 
     def _after(self, answered: bool) -> None:
         """Ends for good, or starts the program again: at once where the run had answered a line."""
         if self.closing or self.status in MENDED_BY_NO_RESTART:
             self._end()
             return
-        pause = 0 if answered else min(LONGEST_PAUSE, 2 ** min(self.failures, 10))
+        longest = LONGEST_PAUSE_OF_MANY if self.name else LONGEST_PAUSE
+        pause = 0 if answered else min(longest, 2 ** min(self.failures, 10))
         self.failures = 0 if answered else self.failures + 1
         self.timer = self.loop.call_later(pause, self.start)
 
@@ -371,7 +427,7 @@ class Shop:
         if not self.ended.done():
             self.ended.set_result(self.status)
         for asked in self.held:
-            asked.fail(Unavailable("the program has ended"))
+            asked.fail(Unavailable(self.reason or "the program has ended"))
         self.held.clear()
 
     def close(self) -> None:
@@ -385,7 +441,7 @@ class Shop:
 
     def kill(self) -> None:
         """Kills the program, and ends."""
-        self.closing = True
+        self.closing = self.killing = True
         if self.run is not None:
             self.run.kill()
         elif self.timer is not None:
@@ -398,10 +454,10 @@ def _die_with_the_hub() -> None:
     _libc.prctl(1, signal.SIGKILL)
 
 
-def tell(text: str) -> None:
-    """A line of the hub on standard error."""
+def tell(text: str, name: str = "") -> None:
+    """A line of the hub on standard error, about a shop where it is one of many."""
     try:
-        sys.stderr.write(f"verifactu-hub: {text}\n")
+        sys.stderr.write(f"verifactu-hub: {name}: {text}\n" if name else f"verifactu-hub: {text}\n")
         sys.stderr.flush()
     except OSError:
         pass

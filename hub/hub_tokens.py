@@ -1,4 +1,4 @@
-"""Who may ask: tokens of tills and owners, read from a file that only its owner may read."""
+"""Who may ask: tokens of tills and owners, and of the host of many shops, read from a file that only its owner may read."""
 from __future__ import annotations
 
 import base64
@@ -7,10 +7,11 @@ import hashlib
 import os
 import re
 import stat
-from dataclasses import dataclass
-from typing import Dict, Optional
+import sys
+from typing import Dict, List, NamedTuple, Optional
 
 from hub_limits import LONGEST_TOKEN, SHORTEST_TOKEN
+from hub_shops import SHOP
 
 MODES = (0o600, 0o400)
 MOST_TILLS = 64
@@ -23,17 +24,23 @@ class TokensFault(Exception):
     """The file can't be used; the text says why, and names no token."""
 
 
-@dataclass(frozen=True)
-class Asker:
-    """Who asks: a till, by its number, or the owner (till None)."""
+class Asker(NamedTuple):
+    """Who asks: a shop's till, by its number, the shop's owner (till None), or the host of all shops. A hub of one has no shop's name."""
 
     till: Optional[int]
+    shop: str = ""
+    is_host: bool = False
 
     def __str__(self) -> str:
-        return "owner" if self.till is None else f"till {self.till}"
+        if self.is_host:
+            return "host"
+        who = "owner" if self.till is None else f"till {self.till}"
+        return f"{self.shop} {who}" if self.shop else who
 
-
-OWNER = Asker(None)
+    @property
+    def is_owner(self) -> bool:
+        """Whether it is a shop's owner."""
+        return self.till is None and not self.is_host
 
 
 class Tokens:
@@ -55,15 +62,22 @@ class Tokens:
         except (binascii.Error, ValueError):
             return None
         found = self._askers.get(_digest(token))
-        return found if user == "owner" and found == OWNER else None
+        return found if user == "owner" and found is not None and found.is_owner else None
+
+    def shops(self) -> "set[str]":
+        """The names of all shops that have a token."""
+        return {asker.shop for asker in self._askers.values() if asker.shop}
 
 
 def _digest(token: str) -> bytes:
     return hashlib.sha256(token.encode("utf-8", "surrogateescape")).digest()
 
 
-def read_tokens(path: str) -> Tokens:
-    """Reads a file of lines `till NUMBER TOKEN` and `owner TOKEN`; empty lines and those that begin with `#` are skipped."""
+def read_tokens(path: str, are_many: bool = False) -> Tokens:
+    """Reads a file of lines `till NUMBER TOKEN` and `owner TOKEN`; empty lines and those that begin with `#` are skipped.
+
+    For a hub of many shops the lines are `till SHOP NUMBER TOKEN`, `owner SHOP TOKEN` and `host TOKEN`.
+    """
     try:
         with open(path, encoding="ascii") as file:
             mode = os.fstat(file.fileno()).st_mode
@@ -74,18 +88,19 @@ def read_tokens(path: str) -> Tokens:
         raise TokensFault(f"{path}: {fault.strerror}") from None
     except UnicodeDecodeError:
         raise TokensFault(f"{path} isn't ASCII") from None
-    return Tokens(_read_lines(path, lines))
+    return Tokens(_read_lines(path, lines, are_many))
 
 
-def _read_lines(path: str, lines: "list[str]") -> Dict[bytes, Asker]:
+def _read_lines(path: str, lines: List[str], are_many: bool) -> Dict[bytes, Asker]:
+    forms = "till SHOP NUMBER TOKEN, owner SHOP TOKEN or host TOKEN" if are_many else "till NUMBER TOKEN or owner TOKEN"
     askers: Dict[bytes, Asker] = {}
     for number, line in enumerate(lines, 1):
         words = line.split()
         if not words or words[0].startswith("#"):
             continue
-        asker = _asker_of(words[:-1])
+        asker = _asker_of_many(words[:-1]) if are_many else _asker_of(words[:-1], "")
         if asker is None:
-            raise TokensFault(f"{path}, line {number}: neither till NUMBER TOKEN nor owner TOKEN")
+            raise TokensFault(f"{path}, line {number}: the line isn't {forms}")
         if not TOKEN.fullmatch(words[-1]):
             raise TokensFault(f"{path}, line {number}: a token has {SHORTEST_TOKEN} to {LONGEST_TOKEN} visible characters")
         if askers.setdefault(_digest(words[-1]), asker) is not asker:
@@ -95,9 +110,17 @@ def _read_lines(path: str, lines: "list[str]") -> Dict[bytes, Asker]:
     return askers
 
 
-def _asker_of(words: "list[str]") -> Optional[Asker]:
+def _asker_of_many(words: List[str]) -> Optional[Asker]:
+    if words == ["host"]:
+        return Asker(None, "", True)
+    if len(words) < 2 or not SHOP.fullmatch(words[1]):
+        return None
+    return _asker_of([words[0], *words[2:]], sys.intern(words[1]))
+
+
+def _asker_of(words: List[str], shop: str) -> Optional[Asker]:
     if words == ["owner"]:
-        return Asker(None)
+        return Asker(None, shop)
     if len(words) == 2 and words[0] == "till" and NUMBER.fullmatch(words[1]) and int(words[1]) <= MOST_TILLS:
-        return Asker(int(words[1]))
+        return Asker(int(words[1]), shop)
     return None

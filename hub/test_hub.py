@@ -19,11 +19,11 @@ import sys
 import unittest
 from typing import Any, Iterator, List
 
-PACKAGES = {"aiohttp": "python3-aiohttp", "jsonschema": "python3-jsonschema"}
+PACKAGES = {"aiohttp": "python3-aiohttp", "jsonschema": "python3-jsonschema", "prometheus_client": "python3-prometheus-client"}
 COMMANDS = {"curl": "curl", "ip": "iproute2", "nginx": "nginx-light", "openssl": "openssl", "php": "php-cli"}  # that CI wants
-MODULES = ["test_parts", "test_requests", "test_running", "test_machines", "test_clients"]
+MODULES = ["test_parts", "test_requests", "test_running", "test_machines", "test_clients", "test_hosting"]
 # each of these in a process of its own, beside the others; the first two wait for 75 and 30 seconds
-BESIDE = ["test_running.SlowTest.test_a_request_must_have_arrived_within_75_seconds", "test_running.LimitTest", "test_requests"]
+BESIDE = ["test_running.SlowTest.test_a_request_must_have_arrived_within_75_seconds", "test_running.LimitTest", "test_requests", "test_hosting"]
 
 
 def missing_packages() -> List[str]:

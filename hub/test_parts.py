@@ -1,4 +1,4 @@
-"""The pipe, the forms and who may ask, each by itself."""
+"""The pipe, the forms, who may ask and which shops there are, each by itself."""
 from __future__ import annotations
 
 import asyncio
@@ -9,13 +9,16 @@ import sys
 import tempfile
 import unittest
 import unittest.mock
-from typing import Any, Awaitable, Callable, List
+from typing import Any, Awaitable, Callable, Dict, List
 
 import hub_forms
 import hub_pipe
+import hub_shops
 import hub_tokens
 from hub_forms import BadRequest, Receipt, Refused, last_line, parting_line, read_command, read_json, receipt_reader, ticket_line
 from hub_pipe import CHAIN, BadLine, Ending, Line, Shop, Unavailable
+from hub_shops import ShopsFault, read_shops
+from trying import Street
 
 HUELLA = "A" * 64
 LINK = "https://prewww2.aeat.es/wlpl/TIKE-CONT/ValidarQR?nif=89890001K&numserie=A-1&fecha=01-01-2025&importe=10.00"
@@ -320,6 +323,50 @@ class TokensTest(unittest.TestCase):
         for mode in (0o640, 0o604, 0o644, 0o700, 0o660):
             with self.subTest(oct(mode)), self.assertRaises(hub_tokens.TokensFault):
                 self.read(f"owner {token}\n", mode)
+
+
+class ShopsTest(unittest.TestCase):
+    """SHOPS and TOKENS, read by themselves."""
+
+    def read(self, text: str, has_host: bool = True) -> Dict[str, hub_shops.ShopLine]:
+        """Reads shops of this text."""
+        street = Street([])
+        self.addCleanup(street.remove)
+        with open(street.shops, "w", encoding="utf-8") as file:
+            file.write(text)
+        return read_shops(street.shops, has_host)
+
+    def test_each_line_is_a_shop(self) -> None:
+        shops = self.read("# shops\n\na 1 /a.chain\nbar-sol-2 2 b.chain /to /from\n" + "x" * 32 + " 1 x\n")
+        self.assertEqual(list(shops), ["a", "bar-sol-2", "x" * 32])
+        self.assertEqual(shops["a"].serve("/p"), ["/p", "serve", "/a.chain", "1"])
+        self.assertEqual(shops["bar-sol-2"].serve("/p"), ["/p", "--agency", "/to", "/from", "serve", "b.chain", "2"])
+        self.assertEqual([shop.is_trial for shop in shops.values()], [True, False, True])
+        self.assertEqual(self.read(""), {})
+
+    def test_a_faulty_line_is_named(self) -> None:
+        for line in ("a", "a 1", "a 1 f to", "a 1 f to from more", "A 1 f", "a_b 1 f", "ñ 1 f", "x" * 33 + " 1 f", "b 1 other", "a 1 b.chain",
+                     "a 1 f same same", "a 1 f f from"):
+            with self.subTest(line), self.assertRaisesRegex(ShopsFault, "line 3: "):
+                self.read(f"# one that is right\nb 1 b.chain\n{line}\n")
+        with self.assertRaisesRegex(ShopsFault, "line 1: TO and FROM need --host"):
+            self.read("a 1 f to from\n", has_host=False)
+        with self.assertRaises(ShopsFault):
+            read_shops("/nowhere", True)
+
+    def test_tokens_name_their_shop(self) -> None:
+        street = Street(["a"], 64)
+        self.addCleanup(street.remove)
+        tokens = hub_tokens.read_tokens(street.tokens, True)
+        askers = [str(tokens.asker(f"Bearer {token}")) for token in (street.till["a", 64], street.owner["a"], street.host)]
+        self.assertEqual((askers, tokens.shops()), (["a till 64", "a owner", "host"], {"a"}))
+        for user, token in (("owner", street.host), ("host", street.host), ("owner", street.till["a", 1])):
+            self.assertIsNone(tokens.asker("Basic " + base64.b64encode(f"{user}:{token}".encode()).decode()))
+        for line in ("till 1 TOKEN", "till a 0 TOKEN", "till a 65 TOKEN", "owner TOKEN", "owner A TOKEN", "host a TOKEN", "till a b 1 TOKEN"):
+            with open(street.tokens, "w", encoding="ascii") as file:
+                file.write(line.replace("TOKEN", "t" * 32) + "\n")
+            with self.subTest(line), self.assertRaisesRegex(hub_tokens.TokensFault, "line 1"):
+                hub_tokens.read_tokens(street.tokens, True)
 
 
 if __name__ == "__main__":

@@ -16,7 +16,7 @@ from typing import Any, Dict, List, Optional
 
 import jsonschema  # type: ignore[import]
 
-from trying import HERE, HUB, NIF, Agency, Answer, Hub, Options, Place, read_answer, until
+from trying import HERE, HUB, NIF, Agency, Answer, Hub, Options, Place, Street, read_answer, until
 
 SALE: Dict[str, Any] = {"serial": 1, "series": "A", "kind": "F2", "lines": [{"class": "21", "total": 1000}]}
 
@@ -425,6 +425,23 @@ class WordsTest(unittest.TestCase):
         self.assertEqual((done.returncode, done.stdout, done.stderr.count("\n")), (2, "", 1), done.stderr)
         self.assertIn(what, done.stderr)
 
+    def test_each_reason_of_a_hub_of_many(self) -> None:
+        street = Street(["a"])
+        self.addCleanup(street.remove)
+        with open(os.path.join(street.path, "bad"), "w", encoding="ascii") as file:
+            file.write("a 1 f to from\n")
+        ok = ["--tokens", street.tokens, "--program", Options.program, "--listen", "127.0.0.1:0"]
+        many = ["--shops", street.shops]
+        for words, what in ((many + ["--agency", "a", "b", "--host", "test"], "--agency"), (many + [street.file("a"), NIF], NIF),
+                            (many + ["--idle", "0"], "--idle"), (many + ["--programs", "x"], "--programs"), (["--shops", "/nowhere"], "/nowhere"),
+                            (["--shops", f"{street.path}/bad"], "line 1"), ([street.file("a"), NIF, "--idle", "9"], "--shops"),
+                            ([street.file("a"), NIF], "line 1")):
+            with self.subTest(words):
+                done = subprocess.run([HUB, *words, *ok], stderr=subprocess.PIPE, stdout=subprocess.PIPE, text=True, timeout=60, check=False)
+                self.assertEqual((done.returncode, done.stdout, done.stderr.count("\n")), (2, "", 1), done.stderr)
+                self.assertIn(what, done.stderr)
+        self.assertFalse(os.path.exists(street.file("a")))
+
     def test_an_address_that_is_no_loopback_is_warned_of(self) -> None:
         place = Place()
         self.addCleanup(place.remove)
@@ -465,6 +482,9 @@ class DescriptionTest(OverAHub):
         for path, methods in self.api["paths"].items():
             for method in ("get", "post", "put", "delete", "patch"):
                 status = self.hub.ask(method.upper(), owner.get(path, path), "x").status
+                if path == "/metrics":  # which a hub of one shop hasn't
+                    self.assertEqual(status, 404)
+                    continue
                 self.assertEqual(status != 405, method in methods, (path, method))
                 self.assertNotEqual(status, 404, path)
         with open(os.path.join(HERE, "hub_http.py"), encoding="utf-8") as code:

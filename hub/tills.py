@@ -10,11 +10,12 @@ Sold = Tuple[int, str, str]  # place, number, HUELLA
 
 
 class Till:
-    """A till with one keep-alive connection. `times` are the seconds of each answered sale, `again` how many were asked more than once."""
+    """A till with one keep-alive connection. `times` are the seconds of each answered sale, `repeats` how often one was asked again; `prefix`
+    stands in front of its path, where it is that of one of many shops."""
 
-    def __init__(self, port: int, number: int, token: str, address: str = "127.0.0.1") -> None:
+    def __init__(self, port: int, number: int, token: str, address: str = "127.0.0.1", prefix: str = "") -> None:
         self.address, self.port, self.number = address, port, number
-        self.head = f"POST /v1/sales HTTP/1.1\r\nHost: hub\r\nAuthorization: Bearer {token}\r\nContent-Type: application/json\r\nContent-Length: "
+        self.head = f"POST {prefix}/v1/sales HTTP/1.1\r\nHost: hub\r\nAuthorization: Bearer {token}\r\nContent-Type: application/json\r\nContent-Length: "
         self.sold: Dict[int, Sold] = {}
         self.times: List[float] = []
         self.repeats = 0

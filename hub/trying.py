@@ -1,4 +1,4 @@
-"""What the hub's tests share: a place with tokens and a file, a running hub over the program that is tried, and clients."""
+"""What the hub's tests share: places with tokens and files, a running hub over the program that is tried, and clients."""
 from __future__ import annotations
 
 import http.client
@@ -29,6 +29,11 @@ class Options:
 
     program = STAND_IN
     sales = 200  # of each of 64 tills
+
+    @classmethod
+    def is_whole(cls) -> bool:
+        """Whether tests are to have their whole size."""
+        return cls.sales >= 200
 
 
 def until(true: Any, what: str, seconds: float = PATIENCE) -> Any:
@@ -75,10 +80,63 @@ class Place:
             file.write("# tokens\n\n" + "\n".join(lines) + "\n")
         os.chmod(self.tokens, mode)
 
+    @property
+    def words(self) -> List[str]:
+        """A hub's words for it."""
+        return [self.file, NIF, "--tokens", self.tokens]
+
     def run(self, *words: str) -> Tuple[int, str]:
         """Runs a command of the program that is tried."""
-        done = subprocess.run([Options.program, *words], stdin=subprocess.DEVNULL, stdout=subprocess.PIPE, text=True, check=False)
-        return done.returncode, done.stdout
+        return run_program(*words)
+
+    def remove(self) -> None:
+        """Removes it all."""
+        shutil.rmtree(self.path, ignore_errors=True)
+
+
+def run_program(*words: str) -> Tuple[int, str]:
+    """Runs a command of the program that is tried: its status, and what it printed."""
+    done = subprocess.run([Options.program, *words], stdin=subprocess.DEVNULL, stdout=subprocess.PIPE, text=True, check=False)
+    return done.returncode, done.stdout
+
+
+class Street:
+    """A folder with many shops, all of one issuer: the files SHOPS and TOKENS, and a token for each till, each owner and the host."""
+
+    def __init__(self, names: List[str], tills: int = 1) -> None:
+        self.path = tempfile.mkdtemp(prefix="verifactu-hosting-")
+        self.shops = os.path.join(self.path, "shops")
+        self.tokens = os.path.join(self.path, "tokens")
+        self.lines = {name: f"{name} {NIF} {self.file(name)}" for name in names}
+        self.till: Dict[Tuple[str, int], str] = {}
+        self.owner: Dict[str, str] = {}
+        self.host = secrets.token_hex(24)
+        for name in names:
+            self.add_tokens(name, tills)
+        self.write()
+
+    def file(self, name: str) -> str:
+        """The file of a shop."""
+        return os.path.join(self.path, f"{name}.chain")
+
+    def add_tokens(self, name: str, tills: int = 1) -> None:
+        """Tokens for a shop's tills and owner."""
+        self.till.update({(name, number): secrets.token_hex(24) for number in range(1, tills + 1)})
+        self.owner[name] = secrets.token_hex(24)
+
+    def write(self) -> None:
+        """Writes both files anew."""
+        with open(self.shops, "w", encoding="utf-8") as file:
+            file.write("# shops\n\n" + "".join(f"{line}\n" for line in self.lines.values()))
+        lines = [f"till {name} {number} {token}" for (name, number), token in self.till.items()]
+        lines += [f"owner {name} {token}" for name, token in self.owner.items()] + [f"host {self.host}"]
+        with open(os.open(self.tokens, os.O_WRONLY | os.O_CREAT | os.O_TRUNC, 0o600), "w", encoding="ascii") as file:
+            file.write("\n".join(lines) + "\n")
+
+    @property
+    def words(self) -> List[str]:
+        """A hub's words for it."""
+        return ["--shops", self.shops, "--tokens", self.tokens]
 
     def remove(self) -> None:
         """Removes it all."""
@@ -108,10 +166,10 @@ class Agency:
 class Hub:
     """A hub that runs, at a port of its own. Its log is read as it comes."""
 
-    def __init__(self, place: Place, *words: str, program: str = "", prefix: Tuple[str, ...] = (), environment: Optional[Dict[str, str]] = None,
+    def __init__(self, place: Any, *words: str, program: str = "", prefix: Tuple[str, ...] = (), environment: Optional[Dict[str, str]] = None,
                  address: str = "127.0.0.1:0") -> None:
-        self.place = place
-        command = [*prefix, HUB, place.file, NIF, "--tokens", place.tokens, "--listen", address, "--program", program or Options.program, *words]
+        self.place = place  # a Place or a Street
+        command = [*prefix, HUB, *place.words, "--listen", address, "--program", program or Options.program, *words]
         self.log: List[str] = []
         self.process = subprocess.Popen(command, stderr=subprocess.PIPE, text=True, env={**os.environ, **(environment or {})})
         self.reader = threading.Thread(target=self._read, daemon=True)

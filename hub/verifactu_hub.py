@@ -1,10 +1,13 @@
 #!/usr/bin/python3
-"""Tills of several machines, and a page for the owner, over one `verifactu serve`. docs/HUB.md says how it is used.
+"""Tills of several machines, and a page for the owner, over one `verifactu serve`, or over those of many shops. docs/HUB.md says how it is
+used, docs/HOSTING.md how for many shops.
 
     verifactu-hub FILE NIF --tokens TOKENS [--agency TO FROM] [--host real|test] [--listen ADDRESS:PORT] [--tls CERT KEY]
                   [--origin ORIGIN].. [--program PATH]
+    verifactu-hub --shops SHOPS --tokens TOKENS [--host real|test] [--idle SECONDS] [--programs N] [--listen ADDRESS:PORT] [--tls CERT KEY]
+                  [--origin ORIGIN].. [--program PATH]
 
-Status 2 where it can't begin, else that of the program: docs/OPERATING.md lists these.
+Status 2 where it can't begin, else that of the program: docs/OPERATING.md lists these. With --shops it is 0 after a stop.
 """
 from __future__ import annotations
 
@@ -18,12 +21,17 @@ import socket
 import ssl
 import sys
 from dataclasses import dataclass
-from typing import Any, FrozenSet, List, NoReturn, Optional, Tuple
+from typing import Any, Dict, FrozenSet, List, NoReturn, Optional, Tuple, Union
 
-from hub_books import Books
+from hub_hosting import Many
 from hub_http import Hub
-from hub_limits import ANSWER_WITHIN, BACKLOG, HANDSHAKE, LAST_ANSWERS, MOST_CONNECTIONS, SPARE_HANDLES
-from hub_pipe import BadLine, Shop, Unavailable, tell
+from hub_limits import (
+    ANSWER_WITHIN, BACKLOG, HANDLES_OF_A_PROGRAM, HANDSHAKE, IDLE, LAST_ANSWERS, LONGEST_IDLE, MOST_CONNECTIONS, MOST_CONNECTIONS_OF_MANY,
+    MOST_PROGRAMS, PROGRAMS, SPARE_HANDLES,
+)
+from hub_pipe import BadLine, Unavailable, tell
+from hub_served import One
+from hub_shops import ShopLine, ShopsFault, counted, read_shops
 from hub_tokens import Tokens, TokensFault, read_tokens
 
 STATUS_USAGE = 2
@@ -44,13 +52,14 @@ class Words(argparse.ArgumentParser):
 
 @dataclass(frozen=True)
 class Settings:
-    """The words of the command line."""
+    """The words of the command line: `one` is the shop of a hub of one, `shops` the file of shops of a hub of many."""
 
-    file: str
-    nif: str
+    one: Optional[ShopLine]
+    shops: str
+    idle: int
+    programs: int
     tokens: str
-    agency: Optional[Tuple[str, str]]
-    host: str
+    host: str  # empty where it isn't said
     address: str
     port: int
     tls: Optional[Tuple[str, str]]
@@ -58,17 +67,31 @@ class Settings:
     program: str
 
     @property
-    def serve(self) -> List[str]:
-        """The words by which the program is started."""
-        agency = ["--agency", *self.agency] if self.agency else []
-        return [self.program, *agency, "serve", self.file, self.nif]
+    def most_connections(self) -> int:
+        """Connections that there may be."""
+        return MOST_CONNECTIONS if self.one else MOST_CONNECTIONS_OF_MANY
 
 
 def read_words(words: List[str]) -> Settings:
     """Reads the command line, or raises WordsFault."""
-    parser = Words(prog="verifactu-hub", allow_abbrev=False, description="Tills of several machines over one verifactu serve.")
-    parser.add_argument("file", metavar="FILE")
-    parser.add_argument("nif", metavar="NIF")
+    are_many = any(word == "--shops" or word.startswith("--shops=") for word in words)
+    found = _parser(are_many).parse_args(words)
+    one = None if are_many else _read_one(found)
+    if are_many and found.agency:
+        raise WordsFault("--shops takes no --agency: the lines of SHOPS have TO and FROM")
+    address, port = _read_listen(found.listen)
+    return Settings(one, found.shops or "", found.idle or IDLE, found.programs or PROGRAMS, found.tokens, found.host or "", address, port,
+                    _pair(found.tls), frozenset(map(_read_origin, found.origin)), found.program)
+
+
+def _parser(are_many: bool) -> Words:
+    parser = Words(prog="verifactu-hub", allow_abbrev=False, description="Tills of several machines over one verifactu serve, or those of many shops.")
+    if not are_many:
+        parser.add_argument("file", metavar="FILE", help="of one shop")
+        parser.add_argument("nif", metavar="NIF", help="its issuer's")
+    parser.add_argument("--shops", metavar="SHOPS", help="in place of FILE and NIF: a file of many shops (docs/HOSTING.md)")
+    parser.add_argument("--idle", type=_whole(LONGEST_IDLE), metavar="SECONDS")
+    parser.add_argument("--programs", type=_whole(MOST_PROGRAMS), metavar="N")
     parser.add_argument("--tokens", required=True, metavar="TOKENS")
     parser.add_argument("--agency", nargs=2, metavar=("TO", "FROM"))
     parser.add_argument("--host", choices=("real", "test"))
@@ -76,14 +99,26 @@ def read_words(words: List[str]) -> Settings:
     parser.add_argument("--tls", nargs=2, metavar=("CERT", "KEY"))
     parser.add_argument("--origin", action="append", default=[], metavar="ORIGIN")
     parser.add_argument("--program", default=PROGRAM, metavar="PATH")
-    found = parser.parse_args(words)
+    return parser
+
+
+def _read_one(found: argparse.Namespace) -> ShopLine:
+    if found.idle or found.programs:
+        raise WordsFault("--idle and --programs need --shops")
     if found.agency and not found.host:
         raise WordsFault("--agency needs --host real or --host test")
     if found.host == "real" and not found.agency:
         raise WordsFault("--host real needs --agency")
-    address, port = _read_listen(found.listen)
-    return Settings(found.file, found.nif, found.tokens, _pair(found.agency), found.host or "test", address, port,
-                    _pair(found.tls), frozenset(map(_read_origin, found.origin)), found.program)
+    return ShopLine("", found.nif, found.file, _pair(found.agency))
+
+
+def _whole(most: int) -> Any:
+    def read(text: str) -> int:
+        if not text.isascii() or not text.isdecimal() or not 1 <= int(text) <= most:
+            raise argparse.ArgumentTypeError(f"{text} is no whole number from 1 to {most}")
+        return int(text)
+
+    return read
 
 
 def _pair(words: Optional[List[str]]) -> Optional[Tuple[str, str]]:
@@ -133,16 +168,25 @@ def bind(address: str, port: int) -> socket.socket:
     return listening
 
 
-def raise_handles() -> int:
-    """Raises the limit of file handles as far as it goes, and gives how many connections that allows."""
+def raise_handles(connections: int, programs: int) -> int:
+    """Raises the limit of file handles as far as it goes, and gives how many of so many connections that allows beside so many programs."""
     soft, hard = resource.getrlimit(resource.RLIMIT_NOFILE)
-    wanted = 4 * MOST_CONNECTIONS
+    taken = HANDLES_OF_A_PROGRAM * programs
+    wanted = 4 * connections + taken
     most = wanted if hard == resource.RLIM_INFINITY else min(hard, wanted)
     if soft == resource.RLIM_INFINITY or soft >= most:
         most = wanted if soft == resource.RLIM_INFINITY else soft
     else:
         resource.setrlimit(resource.RLIMIT_NOFILE, (most, hard))
-    return max(1, min(MOST_CONNECTIONS, most - SPARE_HANDLES - BACKLOG))
+    return max(1, min(connections, most - SPARE_HANDLES - BACKLOG - taken))
+
+
+def check_handles(programs: int) -> None:
+    """Whether the limit of file handles allows so many programs; else WordsFault."""
+    needed = HANDLES_OF_A_PROGRAM * programs + 2 * (SPARE_HANDLES + BACKLOG)
+    hard = resource.getrlimit(resource.RLIMIT_NOFILE)[1]
+    if hard != resource.RLIM_INFINITY and hard < needed:
+        raise WordsFault(f"--programs {programs} needs {needed} file handles, and the limit is {hard} (ulimit -n, LimitNOFILE=)")
 
 
 def notify(state: str) -> None:
@@ -159,14 +203,19 @@ def notify(state: str) -> None:
 class Service:
     """The hub while it runs: what each signal does."""
 
-    def __init__(self, settings: Settings, tokens: Tokens, context: Optional[ssl.SSLContext], listening: socket.socket) -> None:
-        self.settings = settings
-        self.context = context
-        self.listening = listening
-        self.shop = Shop(settings.serve)
-        practice = settings.agency is None
-        books = Books(self.shop, settings.program, settings.file, settings.nif, practice)
-        self.hub = Hub(self.shop, books, tokens, settings.host, settings.origins, raise_handles())
+    def __init__(self, prepared: "Prepared") -> None:
+        self.settings = settings = prepared.settings
+        self.context = prepared.context
+        self.listening = prepared.listening
+        self.shops: Union[One, Many]
+        if settings.one is not None:
+            self.shops = One(settings.one, settings.host or "test", settings.program)
+        else:
+            self.shops = Many(prepared.shops, settings.host, settings.program, settings.idle, settings.programs)
+        handles = raise_handles(settings.most_connections, 0 if settings.one else settings.programs)
+        self.hub = Hub(self.shops, prepared.tokens, settings.origins, handles)
+        if isinstance(self.shops, Many):
+            self.hub.figures = _figures(self.shops)
         self.stopped = asyncio.Event()
 
     async def run(self) -> int:
@@ -178,29 +227,29 @@ class Service:
         words: Any = {"ssl": self.context, "ssl_handshake_timeout": HANDSHAKE} if self.context else {}
         server = await loop.create_server(self.hub.connections, sock=self.listening, backlog=BACKLOG, **words)
         tasks = [loop.create_task(self.hub.connections.close_late()), loop.create_task(self.tell_ready())]
-        self.shop.start()
+        self.shops.start()
         await self.end()
         server.close()
         for task in tasks:
             task.cancel()
-        return self.shop.ended.result()
+        return self.shops.ended.result()
 
     async def end(self) -> None:
         """Waits for a signal or the program's end; then answers what is under way, and closes the pipe."""
         stop: "asyncio.Future[Any]" = asyncio.ensure_future(self.stopped.wait())
-        ended: "asyncio.Future[Any]" = self.shop.ended
+        ended: "asyncio.Future[Any]" = self.shops.ended
         await asyncio.wait({stop, ended}, return_when=asyncio.FIRST_COMPLETED)
         stop.cancel()
         self.hub.stopping = True
         await self.hub.wait_until_answered(ANSWER_WITHIN + LAST_ANSWERS)
-        self.shop.close()
-        await asyncio.wait({self.shop.ended})
+        self.shops.close()
+        await asyncio.wait({self.shops.ended})
         await self.hub.wait_until_answered(LAST_ANSWERS)
 
     async def tell_ready(self) -> None:
-        """Tells systemd once the program has answered."""
+        """Tells systemd once the program has answered, or at once where it is one of many."""
         try:
-            await self.shop.counts()
+            await self.shops.wait_until_ready()
             notify("READY=1")
         except (Unavailable, BadLine) as fault:
             tell(f"the program didn't answer at the beginning: {fault}")
@@ -208,51 +257,110 @@ class Service:
     def stop(self) -> None:
         """The first signal stops it in order, a second one kills the program."""
         if self.stopped.is_set():
-            self.shop.kill()
+            self.shops.kill()
         else:
             notify("STOPPING=1")
             self.stopped.set()
 
     def read_again(self) -> None:
-        """SIGHUP: tokens and certificate anew. What can't be read changes nothing."""
+        """SIGHUP: tokens, shops and certificate anew. Where one of them can't be read nothing changes."""
         try:
-            tokens = read_tokens(self.settings.tokens)
+            tokens = read_tokens(self.settings.tokens, self.settings.one is None)
+            lines = read_shops(self.settings.shops, self.settings.host != "") if isinstance(self.shops, Many) else {}
             if self.settings.tls and self.context:
                 read_tls(self.settings.tls, self.context)
-            self.hub.tokens = tokens
-            tell("read again: tokens" + (" and certificate" if self.context else ""))
-        except (TokensFault, WordsFault) as fault:
+        except (TokensFault, ShopsFault, WordsFault) as fault:
             tell(f"{fault}: the old ones stay")
+            return
+        self.hub.tokens = tokens
+        tell("read again: tokens" + (" and certificate" if self.context else ""))
+        if isinstance(self.shops, Many):
+            tell("read again: " + self.shops.take(lines))
+            tell_unserved(tokens, lines)
 
 
-def prepare(words: List[str]) -> Tuple[Settings, Tokens, Optional[ssl.SSLContext], socket.socket]:
-    """All that can be wrong before the program is started."""
+def _figures(shops: Many) -> Any:
+    from hub_metrics import figures_of  # which a hub of one shop doesn't need
+
+    figures = figures_of(shops)
+    if figures is None:
+        tell("warning: python3-prometheus-client isn't there: no figures at /metrics")
+    return figures
+
+
+def tell_unserved(tokens: Tokens, shops: Dict[str, ShopLine]) -> None:
+    """Says which shops have a token and aren't served here: they may be another hub's, or mistyped."""
+    names = sorted(tokens.shops() - set(shops))
+    if names:
+        tell(f"tokens name {counted(len(names))} not served here: {', '.join(names[:5])}" + (", .." if names[5:] else ""))
+
+
+@dataclass(frozen=True)
+class Prepared:
+    """All that a hub begins with."""
+
+    settings: Settings
+    tokens: Tokens
+    shops: Dict[str, ShopLine]
+    context: Optional[ssl.SSLContext]
+    listening: socket.socket
+
+
+def prepare(words: List[str]) -> Prepared:
+    """All that can be wrong before a program is started."""
     settings = read_words(words)
-    tokens = read_tokens(settings.tokens)
+    tokens = read_tokens(settings.tokens, settings.one is None)
+    shops = {} if settings.one else read_shops(settings.shops, settings.host != "")
+    if not settings.one:
+        check_handles(settings.programs)
     if not os.path.isfile(settings.program) or not os.access(settings.program, os.X_OK):
         raise WordsFault(f"--program {settings.program}: no program there")
     context = read_tls(settings.tls) if settings.tls else None
-    return settings, tokens, context, bind(settings.address, settings.port)
+    return Prepared(settings, tokens, shops, context, bind(settings.address, settings.port))
 
 
-async def serve(settings: Settings, tokens: Tokens, context: Optional[ssl.SSLContext], listening: socket.socket) -> int:
+async def serve(prepared: Prepared) -> int:
     """Runs the hub."""
-    return await Service(settings, tokens, context, listening).run()
+    return await Service(prepared).run()
+
+
+def watch_ends() -> None:
+    """Has the ends of programs told by file handles and not by a thread a program, which newer Pythons do by themselves."""
+    if sys.version_info < (3, 12) and hasattr(os, "pidfd_open"):
+        try:
+            os.close(os.pidfd_open(os.getpid()))
+        except OSError:
+            return  # a kernel without
+        asyncio.set_child_watcher(asyncio.PidfdChildWatcher())
+
+
+def tell_beginning(prepared: Prepared) -> None:
+    """Where it listens, and what it serves."""
+    settings, port = prepared.settings, prepared.listening.getsockname()[1]
+    listening = f"listening at {settings.address}:{port}"
+    if settings.one:
+        tell(listening + (", a trial: practice agency" if settings.one.is_trial else ""))
+        return
+    trials = sum(line.is_trial for line in prepared.shops.values())
+    tell(f"{listening}, {counted(len(prepared.shops))}" + (f", trials among them: {trials}, practice agency" if trials else ""))
+    tell_unserved(prepared.tokens, prepared.shops)
 
 
 def main() -> int:
     """The hub's status."""
     try:
         prepared = prepare(sys.argv[1:])
-    except (WordsFault, TokensFault) as fault:
+    except (WordsFault, TokensFault, ShopsFault) as fault:
         tell(str(fault))
         return STATUS_USAGE
-    settings = prepared[0]
+    settings = prepared.settings
     if settings.tls is None and not ipaddress.ip_address(settings.address).is_loopback:
         tell(f"warning: {settings.address} is no loopback and there is no --tls: tokens and sales go over the network in clear")
     os.umask(0o077)
-    tell(f"listening at {settings.address}:{prepared[3].getsockname()[1]}" + ("" if settings.agency else ", a trial: practice agency"))
-    return asyncio.run(serve(*prepared))
+    tell_beginning(prepared)
+    if not settings.one:
+        watch_ends()
+    return asyncio.run(serve(prepared))
 
 
 if __name__ == "__main__":

@@ -145,7 +145,7 @@ def tree(version: str, date: int) -> dict[str, tuple[bytes, int]]:
     folders = {"docs": f"{DOC}/docs", "examples": f"{DOC}/examples", "examples/agency": "share/verifactu/agency", "examples/systemd": UNITS}
     for folder, to in folders.items():
         for name in files_of(folder):
-            if to == UNITS and name.startswith("verifactu-hub"):  # of the hub's own package
+            if to == UNITS and name.startswith(("verifactu-hub", "verifactu-hosting")):  # of the hub's own package
                 continue
             path = os.path.join(ROOT, folder, name)
             made[f"{to}/{name}"] = (text_of(path), 0o755 if os.access(path, os.X_OK) and to != UNITS else 0o644)

@@ -1,5 +1,5 @@
 #!/usr/bin/env python3
-"""Makes out/package/verifactu-hub_VERSION_all.deb: the hub (docs/HUB.md), its unit and its clients, beside the program's own package.
+"""Makes out/package/verifactu-hub_VERSION_all.deb: the hub (docs/HUB.md), its units and its clients, beside the program's own package.
 
 usage: tools/package_hub.py
 
@@ -19,16 +19,17 @@ from lanes import ROOT
 from package import DOC, PLACE, UNITS, Refused, output, put, set_dates, text_of
 
 SHARE = "share/verifactu-hub"
-UNIT = "verifactu-hub@.service"
-PARTS = ("verifactu_hub.py", "hub_books.py", "hub_connections.py", "hub_forms.py", "hub_http.py", "hub_limits.py", "hub_pipe.py", "hub_tokens.py",
-         "openapi.json", "page.html", "page.css", "page.js")
+UNITS_OF_HUB = ("verifactu-hub@.service", "verifactu-hosting.service")
+PARTS = ("verifactu_hub.py", "hub_books.py", "hub_connections.py", "hub_forms.py", "hub_hosting.py", "hub_http.py", "hub_limits.py", "hub_metrics.py",
+         "hub_pipe.py", "hub_served.py", "hub_shops.py", "hub_tokens.py", "openapi.json", "page.html", "page.css", "page.js")
+PAGES = ("HUB.md", "HOSTING.md")
 LAUNCHER = b"""#!/bin/sh
 exec "$(dirname "$(readlink -f "$0")")/../share/verifactu-hub/verifactu_hub.py" "$@"
 """
 CLIENTS = ("till.py", "till.php", "till.js", "Till.java")
 SCRIPTS = {
     "postinst": "[ ! -d /run/systemd/system ] || systemctl daemon-reload || true",
-    "prerm": "[ ! -d /run/systemd/system ] || systemctl stop 'verifactu-hub@*.service' || true\nrm -rf /usr/share/verifactu-hub/__pycache__",
+    "prerm": "[ ! -d /run/systemd/system ] || systemctl stop 'verifactu-hub@*.service' verifactu-hosting.service || true\nrm -rf /usr/share/verifactu-hub/__pycache__",
     "postrm": "[ ! -d /run/systemd/system ] || systemctl daemon-reload || true",
 }
 CONTROL = """Package: verifactu-hub
@@ -37,11 +38,13 @@ Architecture: all
 Maintainer: The verifactu authors <root@localhost>
 Installed-Size: {size}
 Depends: verifactu, python3 (>= 3.9), python3-aiohttp (>= 3.8)
+Recommends: python3-prometheus-client
 Section: misc
 Priority: optional
 Description: tills of several machines over one verifactu, and a page for the owner
  Starts verifactu serve, keeps it up, and speaks HTTP with JSON to tills on
- other machines, and a page that only reads to the shop's owner.
+ other machines, and a page that only reads to the shop's owner. It serves one
+ shop or many.
 """
 
 
@@ -57,8 +60,8 @@ def tree() -> dict[str, tuple[bytes, int]]:
     """The bytes and the mode of each file below /usr."""
     made = {f"{SHARE}/{name}": text_of(os.path.join(ROOT, "hub", name)) for name in PARTS}
     made.update({f"{DOC}-hub/clients/{name}": text_of(os.path.join(ROOT, "hub", "clients", name)) for name in CLIENTS})
-    made[f"{DOC}-hub/HUB.md"] = text_of(os.path.join(ROOT, "docs", "HUB.md"))
-    made[f"{UNITS}/{UNIT}"] = text_of(os.path.join(ROOT, "examples", "systemd", UNIT))
+    made.update({f"{DOC}-hub/{name}": text_of(os.path.join(ROOT, "docs", name)) for name in PAGES})
+    made.update({f"{UNITS}/{name}": text_of(os.path.join(ROOT, "examples", "systemd", name)) for name in UNITS_OF_HUB})
     made["bin/verifactu-hub"] = LAUNCHER
     return {name: (text, 0o755 if name.endswith(("/verifactu_hub.py", "/verifactu-hub")) else 0o644) for name, text in made.items()}
 

@@ -33,7 +33,7 @@ public class Till {
 
     static void cutOff(String sale) throws IOException {
         try (Socket line = new Socket(URI.create(hub).getHost(), URI.create(hub).getPort())) { // without TLS: only to show what a lost answer does
-            line.getOutputStream().write(("POST /v1/sales HTTP/1.1\r\nHost: hub\r\nAuthorization: Bearer " + token + "\r\nContent-Length: " + sale.length() + "\r\n\r\n" + sale).getBytes());
+            line.getOutputStream().write(("POST " + URI.create(hub).getPath() + "/v1/sales HTTP/1.1\r\nHost: hub\r\nAuthorization: Bearer " + token + "\r\nContent-Length: " + sale.length() + "\r\n\r\n" + sale).getBytes());
         }
     }
 

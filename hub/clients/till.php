@@ -30,7 +30,7 @@ function cutOff(string $hub, string $token, array $sale): void
     $url = parse_url($hub);
     $line = stream_socket_client(($url['scheme'] === 'https' ? 'tls' : 'tcp') . "://{$url['host']}:" . ($url['port'] ?? 443));
     $body = json_encode($sale);
-    fwrite($line, "POST /v1/sales HTTP/1.1\r\nHost: {$url['host']}\r\nAuthorization: Bearer $token\r\nContent-Length: " . strlen($body) . "\r\n\r\n$body");
+    fwrite($line, 'POST ' . ($url['path'] ?? '') . "/v1/sales HTTP/1.1\r\nHost: {$url['host']}\r\nAuthorization: Bearer $token\r\nContent-Length: " . strlen($body) . "\r\n\r\n$body");
     fclose($line);
 }
 

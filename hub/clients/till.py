@@ -25,7 +25,7 @@ def ask(hub, token, sale, is_cut):
     url = urlsplit(hub)
     connection = getattr(http.client, f"{url.scheme.upper()}Connection")(url.netloc, timeout=40)
     try:
-        connection.request("POST", "/v1/sales", json.dumps(sale), {"Authorization": f"Bearer {token}", "Content-Type": "application/json"})
+        connection.request("POST", f"{url.path}/v1/sales", json.dumps(sale), {"Authorization": f"Bearer {token}", "Content-Type": "application/json"})
         if not is_cut:
             answer = connection.getresponse()
             return answer.status, json.load(answer)
