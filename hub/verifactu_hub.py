@@ -7,7 +7,7 @@ used, docs/HOSTING.md how for many shops.
     verifactu-hub --shops SHOPS --tokens TOKENS [--host real|test] [--idle SECONDS] [--programs N] [--listen ADDRESS:PORT] [--tls CERT KEY]
                   [--origin ORIGIN].. [--program PATH]
 
-Status 2 where it can't begin, else that of the program: docs/OPERATING.md lists these. With --shops it is 0 after a stop.
+Status 2 where it can't begin, else that of the program: docs/COMMANDS.md lists these. With --shops it is 0 after a stop.
 """
 from __future__ import annotations
 
