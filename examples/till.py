@@ -16,6 +16,7 @@ import time
 PROGRAM = os.environ.get("VERIFACTU", os.path.join(os.path.dirname(os.path.abspath(__file__)), "..", "verifactu"))
 MENDED_BY_NO_RESTART = (2, 7, 11, 13)
 LONGEST_PAUSE = 8
+LONGEST_END = 30
 
 
 class Shop:
@@ -64,16 +65,20 @@ class Shop:
 
     def restart(self):
         """At once where the program had answered, else after 1, 2, 4 and then every 8 seconds."""
-        _, status = self.close()
+        _, status = self.close(LONGEST_END)
         if status in MENDED_BY_NO_RESTART:
             sys.exit(status)
         time.sleep(self.pause)
         self.pause = min(2 * self.pause or 1, LONGEST_PAUSE)
         self.start()
 
-    def close(self):
-        """What the program still says, and its status."""
-        text, _ = self.program.communicate()
+    def close(self, seconds=None):
+        """What the program still says, and its status. Where it hasn't ended in so many seconds it is killed."""
+        try:
+            text, _ = self.program.communicate(timeout=seconds)
+        except subprocess.TimeoutExpired:
+            self.program.kill()
+            text, _ = self.program.communicate()
         return text, self.program.returncode
 
 
