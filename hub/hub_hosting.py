@@ -192,7 +192,7 @@ class Many:
 
     async def _look_for_ever(self) -> None:
         """Looks at each program that runs, and ends those that are idle."""
-        while True:
+        while not self.closing:
             await asyncio.sleep(min(1, self.idle / 2))
             now = self.loop.time()
             for served in list(self.running):
@@ -234,7 +234,7 @@ class Many:
 
     async def _go_round(self) -> None:
         """Goes to the shops that nobody asks, one after another, for ever."""
-        while True:
+        while not self.closing:
             try:
                 if not await self._visit_next():
                     await asyncio.sleep(1)
@@ -278,7 +278,7 @@ class Many:
         if served.counts is None and not await self.loop.run_in_executor(None, os.path.exists, served.line.file):
             self._forget(served)  # nothing was ever sold
             return
-        if served.is_gone or served.beginning is not None or served.books is not None or len(self.running) >= self.most:
+        if self.closing or served.is_gone or served.beginning is not None or served.books is not None or len(self.running) >= self.most:
             return
         self._begin(served)
         if served.looking is None:
@@ -311,8 +311,15 @@ class Many:
             task.cancel()
         for served in self.running:
             self._close(served, CLOSING)
+        self.loop.call_later(2 * CLOSING, self._kill_the_rest)
         if not self.running and not self.ended.done():
             self.ended.set_result(0)
+
+    def _kill_the_rest(self) -> None:
+        """Kills what still runs long after all pipes were closed."""
+        for served in list(self.running):
+            if served.shop is not None:
+                served.shop.kill()
 
     def kill(self) -> None:
         """Kills all programs."""
