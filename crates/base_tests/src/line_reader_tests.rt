@@ -27,12 +27,14 @@ impl Trickle<'_> {
 }
 
 impl Source for Trickle<'_> {
-    ghost use Rattle.std.specs.Prelude.{None};
+    ghost use Rattle.std.specs.Prelude.{None, true};
     ghost use Rattle.std.proofs.Common.{rules, arith};
 
     ghost left = { λ s. None };
 
     ghost faults = { λ s. 0 };
+
+    ghost counts = { true };
 
     ghost few_faults = { Prim.search (rules, arith) };
 

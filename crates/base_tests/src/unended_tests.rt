@@ -38,12 +38,14 @@ struct Pairs<'a> {
 }
 
 impl Source for Pairs<'_> {
-    ghost use Rattle.std.specs.Prelude.{None};
+    ghost use Rattle.std.specs.Prelude.{None, true};
     ghost use Rattle.std.proofs.Common.{rules, arith};
 
     ghost left = { λ s. None };
 
     ghost faults = { λ s. 0 };
+
+    ghost counts = { true };
 
     ghost few_faults = { Prim.search (rules, arith) };
 

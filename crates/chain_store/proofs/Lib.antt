@@ -2,6 +2,7 @@ mod Loads
 mod Opens
 mod Readies
 mod Stores
+pub mod Fronts
 mod Taking
 mod EachElement
 mod Stepping

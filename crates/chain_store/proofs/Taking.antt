@@ -1,6 +1,7 @@
 -- What one ask leaves.
-use Rattle.std.proofs.Common.{◌≡◌, ℕ, List, [], ◌∷◌, ◌++◌, refl, sym, ◌∙◌, subst, append-nil, inl, Bool, Option, Result, Ok, Err}
-use Rattle.std.specs.Prelude.{IsTrue, IfOk, OnErr}
+use Rattle.std.proofs.Common.{◌≡◌, ℕ, List, [], ◌∷◌, ◌++◌, length, length-append, arith, refl, sym, ◌∙◌, ap, subst, append-nil, inl}
+use Rattle.std.proofs.Common.{Bool, Option, Result, Ok, Err}
+use Rattle.std.specs.Prelude.{IsTrue, IfOk, OnErr, OnOk}
 use Rattle.record_fields.specs.declared.versions.Version.{Version}
 use Rattle.chain_disk.specs.OnDisk.{OnDisk, LeavesOnly}
 use Rattle.chain_disk.specs.Runs.{weaker}
@@ -25,6 +26,21 @@ stands_around : (version : Version) (issuer : List ℕ) (entries : List Entry) (
 stands_around version issuer entries (Again receipt) file s = s
 stands_around version issuer entries (Refused why) file s = s
 stands_around version issuer entries (Made entry) file s = inl s
+
+pub none_gained : (entries : List Entry) (gained : Entry) → entries ≡ entries ++ gained ∷ [] → ⊥
+none_gained entries gained is = omega (arith, ap length is, length-append entries (gained ∷ []))
+
+last_same : (entries : List Entry) (a b : Entry) → entries ++ a ∷ [] ≡ entries ++ b ∷ [] → a ≡ b
+last_same [] a b is = cc
+last_same (e ∷ entries) a b is =
+    let rest : entries ++ a ∷ [] ≡ entries ++ b ∷ [] = cc in
+    last_same entries a b rest
+
+-- an entry that the history gained is the one that was added
+pub of_gained : {X : Type 0} (P : Entry → Type 0) (old new : List Entry) (r : Result X StoreFault) (added gained : Entry) →
+    OnOk r (new ≡ old ++ added ∷ []) → OnErr r (new ≡ old) → OnOk r (P added) → new ≡ old ++ gained ∷ [] → P gained
+of_gained P old new (Ok x) added gained more same wrote is = subst P (last_same old added gained (sym more ∙ is)) wrote
+of_gained P old new (Err fault) added gained more same wrote is = absurd (none_gained old gained (sym same ∙ is))
 
 -- where nothing is added and no call of the disk is made
 pub not_made : (old : History) (ask : Asked) (coming coming_after : ℕ → Option ℕ) (tells : Bool) (t : OnDisk)

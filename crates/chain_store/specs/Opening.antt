@@ -2,6 +2,7 @@
 use Rattle.std.specs.Prelude.{◌≡◌, ◌≢◌, ◌⊎◌, ℕ, List, []}
 use Rattle.chain_disk.specs.OnDisk.{OnDisk, IsSyncFailed, LeavesOnly, synced}
 use Rattle.journal.specs.File.{IsNotBegun, IsNotBegunOrEmpty}
+use Rattle.journal.specs.Written.{CreationTakes, empty_file}
 use Rattle.record_fields.specs.declared.versions.Version.{Version}
 use Rattle.record_codec.specs.declared.entry.Entry.{Entry}
 use Rattle.shop_core.specs.File.Files.{IsDamagedFile, StandsFor}
@@ -23,6 +24,15 @@ pub record IsBegunInPart (created : Version) (issuer : List ℕ) (settled new : 
 -- nothing was written of a file that was begun already: what the disk tells is what a sync leaves
 abbrev pub IsOnlySynced : OnDisk → OnDisk → Type 0
 IsOnlySynced old new = (IsNotBegun old.content → ⊥) → new ≡ synced old
+
+-- or what a sync leaves that failed
+abbrev pub IsAtMostSynced : OnDisk → OnDisk → Type 0
+IsAtMostSynced old new = (IsNotBegun old.content → ⊥) → (new ≡ synced old) ⊎ IsSyncFailed old new
+
+-- a file that wasn't begun has its twenty bytes, of this version, and was written for that alone
+pub record IsCreation (created : Version) (issuer : List ℕ) (settled new : OnDisk) : Type 0 where
+  pub content : new.content ≡ empty_file created issuer
+  pub takes : CreationTakes settled new
 
 -- the file stands for a chain of another issuer
 pub record IsOthers (issuer held file : List ℕ) : Type 0 where

@@ -2,11 +2,14 @@
 use Rattle.std.specs.Prelude.{◌≡◌, ◌≤◌, ◌++◌, ℕ, List, length, Bool, IsTrue, Option, None, Some, Result}
 use Rattle.chain_disk.specs.OnDisk.{OnDisk, LeavesOnly}
 use Rattle.journal.specs.File.{IsAt}
+use Rattle.journal.specs.Written.{with_frame}
 use Rattle.journal.specs.declared.faults.StoreFault.{StoreFault}
 use Rattle.ports.specs.Readings.{IsTold, MovedBy}
+use Rattle.record_codec.specs.Writing.{entry_bytes}
 use Rattle.record_codec.specs.declared.entry.Entry.{Entry}
 use Rattle.record_codec.specs.declared.entry.Entry.TheVariants.{Notes}
 use Rattle.record_fields.specs.declared.lines.Line.{Line}
+use Rattle.record_fields.specs.declared.versions.Version.{Version}
 use Rattle.shop_core.specs.Answer.Plans.{answer}
 use Rattle.shop_core.specs.Answer.Requests.{Asked}
 use Rattle.shop_core.specs.History.{History, noted}
@@ -26,6 +29,10 @@ pub record Holds (history : History) (gate : ℕ) (t : OnDisk) : Type 0 where
 pub record IsReady (tells : Bool) (history : History) (stopped : Option ℕ) (gate : ℕ) (t : OnDisk) : Type 0 where
   pub place : gate ≤ furthest_gate history.entries
   pub holds : stopped ≡ None → IsTrue tells → Holds history gate t
+
+-- the file is the one before with a frame of this entry's bytes at this gate, and nothing else was written
+abbrev pub WritesEntry : Version → Entry → ℕ → OnDisk → OnDisk → Type 0
+WritesEntry version entry gate old new = new.content ≡ with_frame old.content gate (entry_bytes version entry)
 
 -- one call of a store: its history, its clock's answers to come and what its disk tells, before the call and after it
 pub record StoreCall : Type 0 where

@@ -10,7 +10,8 @@ use Rattle.shop_core.specs.History.{History}
 use Rattle.journal.specs.declared.faults.StoreFault.{StoreFault}
 use Rattle.journal.specs.declared.journal.Journal.{Journal}
 use Rattle.journal.specs.Journal.{disk_of, end_of, stopped_of}
-use Rattle.chain_store.specs.Ready.{IsReady, StoreCall}
+use Rattle.journal.specs.Written.{AppendsFrom}
+use Rattle.chain_store.specs.Ready.{IsReady, StoreCall, WritesEntry}
 use Rattle.chain_store.specs.declared.store.Store.{Store}
 
 -- its history
@@ -52,6 +53,17 @@ abbrev pub Acknowledged : {D C : Type 0} {g : Ghosts D} → Bool → (D → OnDi
 Acknowledged tells on_disk store = IsTrue tells →
     LeavesNow (on_disk (disk_of store.journal)) (StandsFor store.state.version store.state.issuer store.state.entries)
 
+-- Where its journal went on and its disk tells what it holds, its file was only appended to: the bytes before the closing gate
+-- stay, in the file and in each that a crash leaves.
+abbrev pub IsAppended : {D C : Type 0} {g : Ghosts D} → Bool → (D → OnDisk) → Store D C g → Store D C g → Type 0
+IsAppended tells on_disk old new = stopped_of old.journal ≡ None → IsTrue tells →
+    AppendsFrom (end_of old.journal) (on_disk (disk_of old.journal)) (on_disk (disk_of new.journal))
+
+-- where its disk tells what it holds, a frame of this entry's bytes is all that was written
+abbrev pub Writes : {D C : Type 0} {g : Ghosts D} → Bool → (D → OnDisk) → Store D C g → Store D C g → Entry → Type 0
+Writes tells on_disk old new entry = IsTrue tells →
+    WritesEntry old.state.version entry (end_of old.journal) (on_disk (disk_of old.journal)) (on_disk (disk_of new.journal))
+
 -- its journal went on, and goes on
 abbrev pub GoesOn : {D C : Type 0} {g : Ghosts D} → Store D C g → Store D C g → Type 0
 GoesOn old new = (stopped_of old.journal ≡ None) × (stopped_of new.journal ≡ None)
@@ -77,6 +89,8 @@ pub record Adds {D C X : Type 0} {g : Ghosts D} (tells : Bool) (on_disk : D → 
   pub same : OnErr result (new.state.entries ≡ old.state.entries)
   pub any_moment : IsTrue tells → LeavesOnly (on_disk (disk_of old.journal)) (on_disk (disk_of new.journal))
       (StandsBeforeOrWith old.state.version old.state.issuer old.state.entries entry)
+  pub appended : IsAppended tells on_disk old new
+  pub content : OnOk result (Writes tells on_disk old new entry)
   pub acknowledged : OnOk result (Acknowledged tells on_disk new)
   pub no_memory : IsErrOf result StoreFault.NoMemory → new.journal ≡ old.journal
   pub fault : IsErrOf result StoreFault.DiskFault → IsStoppedByFault faults old new

@@ -68,6 +68,7 @@ module _ {D C : Type 0} where
       Type 0 where
     pub ready : Ready d.tells d.on_disk now
     pub run : RunsBy (stopped_of (journal_of first)) d c first now asks replies
+    pub read : c.by_readings (clock_of first) (clock_of now)
 
 -- the replies of a store whose journal had stopped at this count of faults: each says so, and neither disk nor clock was asked
 pub record StaysStopped {D C : Type 0} (count : ℕ) (asks : List Asked) (replies : Replies) (s : Stores D C) : Type 0 where

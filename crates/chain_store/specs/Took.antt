@@ -1,14 +1,16 @@
 -- All that one ask at a store leaves.
-use Rattle.std.specs.Prelude.{◌≡◌, ℕ, Some, None, Result, OnOk, IfOk, IsErrOf, IsSome, ◌↔◌}
+use Rattle.std.specs.Prelude.{◌≡◌, ◌++◌, ◌∷◌, [], ℕ, Some, None, Result, OnOk, IfOk, IsErrOf, IsSome, ◌↔◌}
 use Rattle.ports.specs.declared.Clock as clock
 use Rattle.chain_disk.specs.declared.disk.Disk as disk
 use Rattle.journal.specs.Journal.{stopped_of}
 use Rattle.journal.specs.declared.faults.StoreFault.{StoreFault}
 use Rattle.journal.specs.declared.faults.StoreFault.TheVariants.{DiskFault, Stopped, NoMemory}
+use Rattle.record_codec.specs.declared.entry.Entry.{Entry}
 use Rattle.shop_core.specs.Answer.Requests.{Asked}
 use Rattle.shop_core.specs.declared.answer.Reply.{Reply}
 use Rattle.chain_store.specs.Ready.{IfNothingTaken, Takes, Tears}
-use Rattle.chain_store.specs.Store.{Acknowledged, GoesOn, IsLater, IsStoppedByFault, Ready, journal_of, this_call, torn_of}
+use Rattle.chain_store.specs.Store.{Acknowledged, GoesOn, IsAppended, IsLater, IsStoppedByFault, Ready, Writes}
+use Rattle.chain_store.specs.Store.{clock_of, journal_of, state_of, this_call, torn_of}
 use Rattle.chain_store.specs.declared.store.Store.{Store}
 
 -- one ask, of a store as it was and as it is then
@@ -16,6 +18,10 @@ pub record Took {D C : Type 0} (d : disk.Ghosts D) (c : clock.Ghosts C) (old new
     (replied : Result Reply StoreFault) : Type 0 where
   pub ready : Ready d.tells d.on_disk new
   pub takes : stopped_of (journal_of old) ≡ None → Takes (this_call d.tells d.on_disk c.coming old new) ask replied
+  -- the bytes before the closing gate stay, and the frame of an entry that the history gained is all that was written
+  pub appended : IsAppended d.tells d.on_disk old new
+  pub content : (entry : Entry) → (state_of new).entries ≡ (state_of old).entries ++ entry ∷ [] →
+      Writes d.tells d.on_disk old new entry
   -- after Ok every crash leaves the whole history
   pub acknowledged : OnOk replied (Acknowledged d.tells d.on_disk new)
   pub going_on : OnOk replied (GoesOn old new)
@@ -27,3 +33,5 @@ pub record Took {D C : Type 0} (d : disk.Ghosts D) (c : clock.Ghosts C) (old new
   pub stopped : (count : ℕ) → IsErrOf replied (Stopped count) ↔ (stopped_of (journal_of old) ≡ Some count)
   pub untouched : IsSome (stopped_of (journal_of old)) → new ≡ old
   pub later : IsLater d.faults old new
+  -- nothing is asked of the clock but readings
+  pub read : c.by_readings (clock_of old) (clock_of new)

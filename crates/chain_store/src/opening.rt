@@ -6,7 +6,7 @@ ghost use Rattle.journal.specs.File.{IsNotBegun};
 ghost use Rattle.journal.specs.Journal.{disk_of, end_of, stopped_of};
 ghost use Rattle.shop_core.specs.File.Files.{StandsFor, furthest_gate};
 ghost use Rattle.chain_store.specs.Loading.{IsLoaded};
-ghost use Rattle.chain_store.specs.Opening.{IsBegunInPart, IsFound, IsLeftUnopened, IsOnlySynced};
+ghost use Rattle.chain_store.specs.Opening.{IsAtMostSynced, IsBegunInPart, IsCreation, IsFound, IsLeftUnopened, IsOnlySynced};
 ghost use Rattle.chain_store.specs.Ready.{IsReady};
 ghost use Rattle.chain_store.specs.declared.causes.OpenCause.TheVariants as cause;
 ghost use Rattle.chain_store.specs.declared.loading.Loaded.TheVariants.{Begun};
@@ -55,8 +55,13 @@ pub fn open_journal<D: Disk>(
     ensures any_moment { IfOk result (λ opened. IsTrue D.tells →
         LeavesOnly (synced (D.on_disk disk)) (D.on_disk (disk_of opened.journal))
         (IsFound created opened.state.version issuer.now opened.state.entries)) }
+
+    // Nothing is written but a file's creation: of a file that is begun already the sync is all that is told.
     ensures unwritten { IfOk result (λ opened. IsTrue D.tells →
         IsOnlySynced (D.on_disk disk) (D.on_disk (disk_of opened.journal))) }
+    ensures created { IfOk result (λ opened. IsTrue D.tells → IsNotBegun (D.on_disk disk).content →
+        IsCreation created issuer.now (synced (D.on_disk disk)) (D.on_disk (disk_of opened.journal))) }
+    ensures unwritten_err { IfErr result (λ fault. IsTrue D.tells → IsAtMostSynced (D.on_disk disk) (D.on_disk fault.disk)) }
     ensures later { IfOk result (λ opened. D.faults disk ≤ D.faults (disk_of opened.journal)) }
 
     // What the file is, by the cause, and what the calls of the disk left of it.
@@ -138,6 +143,8 @@ fn begin<D: Disk>(
     ensures any_moment { IfOk result (λ opened. IsTrue D.tells →
         LeavesOnly (D.on_disk disk) (D.on_disk (disk_of opened.journal))
         (IsFound created opened.state.version issuer.now opened.state.entries)) }
+    ensures created { IfOk result (λ opened. IsTrue D.tells →
+        IsCreation created issuer.now (D.on_disk disk) (D.on_disk (disk_of opened.journal))) }
     ensures in_part { IfErr result (λ fault. IsTrue D.tells →
         IsBegunInPart created issuer.now (D.on_disk disk) (D.on_disk fault.disk)) }
     ensures lost { IfErr result (λ fault. (fault.cause ≡ cause.DiskFault) × Rose (D.faults disk) (D.faults fault.disk)) }

@@ -36,8 +36,8 @@ pub struct Store<D: Disk, C: Clock> {
 impl<D: Disk, C: Clock> Store<D, C> {
     ghost use Rattle.journal.specs.Journal.{disk_of, end_of, stopped_of};
     ghost use Rattle.chain_store.specs.Took.{Took};
-    ghost use Rattle.chain_store.specs.Store.{Acknowledged, Adds, GoesOn, IsLater, IsStoppedByFault, Ready, this_call, torn_of};
-    ghost use Rattle.chain_store.specs.Store.{clock_of, journal_of, state_of};
+    ghost use Rattle.chain_store.specs.Store.{Acknowledged, Adds, GoesOn, IsAppended, IsLater, IsStoppedByFault, Ready, Writes};
+    ghost use Rattle.chain_store.specs.Store.{clock_of, journal_of, state_of, this_call, torn_of};
 
     /// The store of a journal that goes on and keeps this history.
     pub fn of(state: State, journal: Journal<D>, clock: C) -> Store<D, C>
@@ -165,6 +165,10 @@ impl<D: Disk, C: Clock> Store<D, C> {
             LeavesOnly (D.on_disk (disk_of self.old.journal)) (D.on_disk (disk_of self.new.journal))
             (StandsBeforeOrWith self.old.state.version self.old.state.issuer self.old.state.entries
             (noted_next self.old.state.entries lines.now)) }
+
+        // The bytes before the closing gate stay, and the frame of these lines is all that is written.
+        ensures appended { IsAppended D.tells D.on_disk self.old self.new }
+        ensures content { OnOk result (Writes D.tells D.on_disk self.old self.new (noted_next self.old.state.entries lines.now)) }
         ensures acknowledged { OnOk result (Acknowledged D.tells D.on_disk self.new) }
         ensures going_on { OnOk result (GoesOn self.old self.new) }
         ensures no_memory { IsErrOf result StoreFault.NoMemory → self.new.journal ≡ self.old.journal }

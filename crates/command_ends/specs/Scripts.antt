@@ -1,6 +1,6 @@
 -- How a command that reads a script ends.
 use Rattle.std.specs.Prelude.{ℕ, List, Result, Ok, Err}
-use Rattle.ports.specs.Sources.{Sources}
+use Rattle.ports.specs.Sources.{NoReadFailed, OneReadFailed, Sources}
 use Rattle.shop_core.specs.declared.words.Word.{Word}
 use Rattle.script.specs.Script.{IsScript}
 use Rattle.script.specs.declared.forms.Form.{Form}
@@ -31,6 +31,11 @@ ScriptIs form s (Err ReadFault) = ReadFailed s
 ScriptIs form s (Err TooBig) = ReadPast s
 ScriptIs form s (Err (BadLine line fault)) = IsBadScript form s line fault
 ScriptIs form s (Err NoMemory) = Unit {0}
+
+-- A failed read ends the reading of a script: one failed where a read fault is told, else none.
+abbrev pub EndsAtFault : {A : Type 0} → Sources → Result A NoScript → Type 0
+EndsAtFault s (Err ReadFault) = OneReadFailed s
+EndsAtFault s _ = NoReadFailed s
 
 abbrev pub no_script_end : NoScript → Detail
 no_script_end ReadFault = detail.ReadFault

@@ -1,7 +1,7 @@
 //! Reads a source as a script.
-ghost use Rattle.std.specs.Prelude.{◌≡◌};
+ghost use Rattle.std.specs.Prelude.{◌≡◌, IsTrue};
 ghost use Rattle.ports.specs.Sources.{this_source};
-ghost use Rattle.command_ends.specs.Scripts.{ScriptIs};
+ghost use Rattle.command_ends.specs.Scripts.{EndsAtFault, ScriptIs};
 ghost use Rattle.command_ends.specs.Scripts as spec;
 
 use file_commands::{InputFault, read_input};
@@ -36,7 +36,8 @@ impl NoScript {
 
 /// The script of this form that the source is, which is read to its end.
 pub fn read_source<S: Source>(alloc: Global, source: &mut S, form: Form) -> Result<Script, NoScript>
-    ensures { ScriptIs form (this_source S.left S.faults source.old source.new) result }
+    ensures script { ScriptIs form (this_source S.left S.faults source.old source.new) result }
+    ensures once { IsTrue S.counts → EndsAtFault (this_source S.left S.faults source.old source.new) result }
 {
     let bytes = match read_input(alloc, source) {
         Ok(bytes) => bytes,

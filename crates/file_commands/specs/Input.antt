@@ -2,7 +2,7 @@
 use Rattle.std.specs.Prelude.{ℕ, ◌<◌, ◌≤◌, List, length, Result, Ok, Err, Vec}
 use Rattle.std.specs.Io.KnownBytes.{Consumes, IsAtEnd}
 use Rattle.std.specs.declared.alloc.Global.{Global}
-use Rattle.ports.specs.Sources.{Sources, SourceRose}
+use Rattle.ports.specs.Sources.{NoReadFailed, OneReadFailed, Sources, SourceRose}
 use Rattle.file_commands.specs.declared.input.InputFault.{InputFault}
 use Rattle.file_commands.specs.declared.input.InputFault.TheVariants.{ReadFault, TooBig, NoMemory}
 use Rattle.file_commands.specs.declared.input.TheConstants.{MAX_INPUT}
@@ -32,3 +32,8 @@ InputIs s (Ok bytes) = ReadAll s bytes.items
 InputIs s (Err ReadFault) = ReadFailed s
 InputIs s (Err TooBig) = ReadPast s
 InputIs s (Err NoMemory) = Unit {0}
+
+-- A failed read ends the reading: one failed where a read fault is told, else none.
+abbrev pub EndsAtFault : Sources → Result (Vec ℕ Global) InputFault → Type 0
+EndsAtFault s (Err ReadFault) = OneReadFailed s
+EndsAtFault s _ = NoReadFailed s

@@ -1,7 +1,7 @@
 //! Reads a source to its end.
-ghost use Rattle.std.specs.Prelude.{◌≡◌, ◌≤◌};
+ghost use Rattle.std.specs.Prelude.{◌≡◌, ◌≤◌, IsTrue};
 ghost use Rattle.ports.specs.Sources.{this_source};
-ghost use Rattle.file_commands.specs.Input.{InputIs};
+ghost use Rattle.file_commands.specs.Input.{EndsAtFault, InputIs};
 
 use ports::Source;
 use std::alloc::Global;
@@ -21,6 +21,7 @@ pub enum InputFault {
 pub fn read_input<S: Source>(alloc: Global, source: &mut S) -> Result<Vec<u8>, InputFault>
     ensures input { InputIs (this_source S.left S.faults source.old source.new) result }
     ensures later { S.faults source.old ≤ S.faults source.new }
+    ensures once { IsTrue S.counts → EndsAtFault (this_source S.left S.faults source.old source.new) result }
 {
     let mut bytes = Vec::new(alloc);
     let mut buf = [0u8; 65_536];

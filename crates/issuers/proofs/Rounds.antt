@@ -141,6 +141,7 @@ module _ {D C : Type 0} (d : disk.Ghosts D) (c : clock.Ghosts C) (parts : List P
         comes.fails old (asks_in (mine index s.made)) (replies_to index answers) (s.own index old new was is) going;
     stays = λ index old new was is. let comes = all_at (ComesTo d c) after index new ends is in
         comes.stays old (asks_in (mine index s.made)) (replies_to index answers) (s.own index old new was is);
+    read = λ index old new was is. (s.own index old new was is).read;
     goes_on = λ index old new was is going all. let comes = all_at (ComesTo d c) after index new ends is in
         comes.goes_on old (asks_in (mine index s.made)) (replies_to index answers) (s.own index old new was is) going all;
   }

@@ -7,7 +7,7 @@ use Rattle.journal.specs.Journal.{disk_of, stopped_of}
 use Rattle.journal.specs.declared.faults.StoreFault.{StoreFault}
 use Rattle.shop_core.specs.Answer.Requests.{Asked}
 use Rattle.shop_core.specs.declared.answer.Reply.{Reply}
-use Rattle.chain_store.specs.Store.{journal_of, state_of}
+use Rattle.chain_store.specs.Store.{clock_of, journal_of, state_of}
 use Rattle.chain_store.specs.declared.store.Store.{Store}
 use Rattle.chain_store.specs.Replies.{AllGoOn, Replies}
 use Rattle.chain_store.specs.Runs.{this_store}
@@ -59,6 +59,9 @@ module _ {D C : Type 0} where
         (this_store d.tells d.on_disk d.faults c.coming old new)
     pub stays : (index : ℕ) (old new : Store D C d) → slice_get before index ≡ Some old → slice_get after index ≡ Some new →
         StaysOwn old new
+    -- nothing is asked of its clock but readings
+    pub read : (index : ℕ) (old new : Store D C d) → slice_get before index ≡ Some old → slice_get after index ≡ Some new →
+        c.by_readings (clock_of old) (clock_of new)
     -- and where its disk failed, it failed first in one call
     pub fails : (index : ℕ) (old new : Store D C d) → slice_get before index ≡ Some old → slice_get after index ≡ Some new →
         stopped_of (journal_of old) ≡ None → FailsOnce d c old new (asks_in (mine index made)) (replies_to index answers)

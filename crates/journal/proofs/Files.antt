@@ -12,6 +12,7 @@ use Rattle.record_fields.specs.declared.versions.Version.{Version}
 use Rattle.journal.specs.Framed.{framed-push, length-framed-push, AreBodies-push}
 use Rattle.journal.specs.Commit.{gated, IsCommitImage, IsCommitted}
 use Rattle.journal.specs.File.{header, framed, IsFile, IsBeforeOrAfter, closing_gate, IsAt, IsAtSome}
+use Rattle.journal.proofs.Fronts.{bytes_before}
 
 module _ (version : Version) (issuer : List ℕ) (bodies : List (List ℕ)) (content : List ℕ)
     (file : IsFile version issuer bodies content) where
@@ -34,8 +35,8 @@ module _ (version : Version) (issuer : List ℕ) (bodies : List (List ℕ)) (con
   )
 
   take_front : take (closing_gate bodies) content ≡ (1 ∷ header version issuer) ++ framed bodies
-  take_front = ap (λ (l : List ℕ). take (closing_gate bodies) l) split ∙ take_at ((1 ∷ header version issuer) ++ framed bodies)
-      (file.gate ∷ file.rest) (closing_gate bodies) length-front
+  take_front = ap (λ (l : List ℕ). take (closing_gate bodies) l) file.parts ∙
+      bytes_before version issuer bodies (file.gate ∷ file.rest) file.nif
 
   -- with the front and the closed gate it stands for the same
   pub same_front : (c : List ℕ) → take (closing_gate bodies + 1) c ≡ take (closing_gate bodies + 1) content →

@@ -1,6 +1,8 @@
 pub mod Images
 pub mod Commits
+pub mod Fronts
 pub mod Files
+pub mod Appends
 pub mod Creations
 pub mod Windows
 pub mod Headers

@@ -6,7 +6,7 @@ ghost use Rattle.chain_disk.specs.OnDisk.{LeavesOnly, LeavesNow, IsSettled, mome
 ghost use Rattle.frames.specs.Frames.{IsBody, frame};
 ghost use Rattle.record_fields.specs.declared.versions.Version.{Version as AnyVersion};
 ghost use Rattle.journal.specs.File.{IsAt, IsAtSome, IsFile, IsBeforeOrAfter, IsNotBegun, IsNotBegunOrEmpty};
-ghost use Rattle.journal.specs.Written.{with_frame, empty_file, CreationTakes};
+ghost use Rattle.journal.specs.Written.{AppendsFrom, with_frame, empty_file, CreationTakes};
 
 use crate::HEADER;
 use crate::commit::commit;
@@ -149,6 +149,10 @@ impl<D: Disk> Journal<D> {
             IsAt version issuer bodies (end_of self.old) (D.on_disk (disk_of self.old)) →
             LeavesOnly (D.on_disk (disk_of self.old)) (D.on_disk (disk_of self.new))
             (IsBeforeOrAfter version issuer bodies body.now) }
+
+        // The bytes before the closing gate stay, in the file and in each that a crash leaves.
+        ensures appended { stopped_of self.old ≡ None → IsTrue D.tells →
+            AppendsFrom (end_of self.old) (D.on_disk (disk_of self.old)) (D.on_disk (disk_of self.new)) }
 
         // A fault of the disk stops the journal for good. From then on no call of the disk is made.
         ensures fault { IsErrOf result JournalFault.DiskFault →

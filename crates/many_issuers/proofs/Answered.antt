@@ -56,6 +56,7 @@ module _ {D C : Type 0} (d : disk.Ghosts D) (c : clock.Ghosts C) (parts : List P
       stays = s.stays index old new was is;
       answers = subst (λ (o : Option ℕ). OwnRun o (asks_in (mine index s.made)) (replies_to index answers)
           (this_store d.tells d.on_disk d.faults c.coming old new)) going (s.own index old new was is);
+      read = s.read index old new was is;
       fails = s.fails index old new was is going;
       goes_on = s.goes_on index old new was is going;
     };

@@ -1,5 +1,5 @@
 -- The rows of a run, by the posts that were handed in.
-use Rattle.std.proofs.Common.{◌≡◌, ℕ, List, [], ◌∷◌, map, refl, ap, sym, ◌∙◌, subst, Option, Result}
+use Rattle.std.proofs.Common.{◌≡◌, inl, inr, ℕ, List, [], ◌∷◌, map, refl, ap, sym, ◌∙◌, subst, Option, None, Result}
 use Rattle.std.proofs.Math.Path.{fun_ext}
 use Rattle.std.specs.List.{AllByRecursion}
 use Rattle.ports.specs.Sinks.{Sinks}
@@ -9,17 +9,62 @@ use Rattle.ports.specs.declared.sleeper.Sleeper as sleeper
 use Rattle.chain_disk.specs.Disks.{Disks}
 use Rattle.chain_disk.specs.declared.disk.Disk as disk
 use Rattle.agency_port.specs.declared.agency.Agency as agency
-use Rattle.chain_store.specs.Readings.{readings_of}
+use Rattle.chain_store.specs.Clocks.{this_clock}
+use Rattle.chain_store.specs.Readings.{LeavesClock, readings_of}
+use Rattle.chain_store.specs.Replies.{Replies}
 use Rattle.issuers.specs.declared.parts.Part.{Part}
 use Rattle.report.specs.declared.status.Detail.{Detail}
-use Rattle.shop_drain.specs.Devices.{Agencies, Sleepers, agency_in, disk_in, sleeper_in}
-use Rattle.many_issuers.specs.Ends.{IssuerEnds, IssuersRun, OwnRowEnds, Row, RowEnds}
+use Rattle.script.specs.declared.scripts.Script.{Script}
+use Rattle.shop_drain.specs.Devices.{Agencies, Sleepers, agency_in, clock_in, disk_in, sleeper_in}
+use Rattle.many_issuers.specs.Ends.{IssuerEnds, IssuersRun, OwnRowEnds, Row, RowEnds, Works}
 use Rattle.many_issuers.specs.Dones.{IssuersEnd}
 use Rattle.many_issuers.specs.Times.{AreOwnPosts, IsGivenBack, IsOwnPost}
-use Rattle.many_issuers.specs.OwnClock.{coming_of}
+use Rattle.many_issuers.specs.OwnClock.{IsReadOn, coming_of}
 use Rattle.many_issuers.specs.Pairwise.{Both}
 use Rattle.many_issuers.specs.declared.own_clock.OwnClock.{OwnClock}
+use Rattle.many_issuers.proofs.OwnClocks.{left_same, left_so}
 use Rattle.shop_drain.specs.declared.posts.Post.{Post}
+
+-- the same, said of another clock
+works_leaving : {D Z G : Type 0} (issuer : List ℕ) (script : Script) (coming : ℕ → Option ℕ) (Leaves Left : Replies → Type 0)
+    (k : Disks D) (s : Sleepers Z) (a : Agencies G) (end : Detail) (block : Result (List ℕ) NoMemory) →
+    ((replies : Replies) → Leaves replies → Left replies) → Works issuer script coming Leaves k s a end block →
+    Works issuer script coming Left k s a end block
+works_leaving issuer script coming Leaves Left k s a end block each w =
+    let p = w.played in
+    record {
+      asked = w.asked;
+      front = w.front;
+      middle = w.middle;
+      later = w.later;
+      played = record {
+        version = p.version;
+        start = p.start;
+        replies = p.replies;
+        end = p.end;
+        found = p.found;
+        run = p.run;
+        begins = p.begins;
+        legal = p.legal;
+        linked = p.linked;
+        rising = p.rising;
+        stops = p.stops;
+        fails = p.fails;
+        kept = p.kept;
+        clock = each p.replies p.clock;
+      };
+      outcome = w.outcome;
+      behind = w.behind;
+      ends = w.ends;
+      printed = w.printed;
+      sleeper = w.sleeper;
+      history = w.history;
+      agency = w.agency;
+      risen = w.risen;
+      all_noted = w.all_noted;
+      undelivered = w.undelivered;
+      complete = w.complete;
+    }
 
 module _ {D C Z G : Type 0} (d : disk.Ghosts D) (c : clock.Ghosts C) (z : sleeper.Ghosts Z) (g : agency.Ghosts G)
   where
@@ -33,21 +78,44 @@ module _ {D C Z G : Type 0} (d : disk.Ghosts D) (c : clock.Ghosts C) (z : sleepe
       block = r.block;
     }
 
+    given_time : (r : Row D (OwnClock C) Z G) (post after : Post D C Z G) → IsOwnPost c.coming r.part post r.post → IsGivenBack r.after after →
+        IsReadOn r.post.clock r.after.clock → (k : Disks D) (s : Sleepers Z) (a : Agencies G) →
+        IssuerEnds r.issuer r.part.script None (this_clock (coming_of c.coming) r.post.clock r.after.clock) k s a r.end r.block →
+        IssuerEnds r.issuer r.part.script r.part.script.clock (clock_in c post after) k s a r.end r.block
+    given_time r post after own back read k s a (inl h) = inl (record {
+      why = h.why;
+      unopened = h.unopened;
+      every_crash = h.every_crash;
+      clock = left_same c.coming post.clock after.clock r.post.clock r.after.clock own.given_is back.clock_is h.clock;
+      sleeper = h.sleeper;
+      agency = h.agency;
+      ends = h.ends;
+      printed = h.printed;
+    })
+    given_time r post after own back read k s a (inr w) =
+        let line = r.part.script.clock in
+        let t = this_clock (coming_of c.coming) r.post.clock r.after.clock in
+        let coming : coming_of c.coming r.post.clock ≡ readings_of line (c.coming post.clock) = fun_ext own.times in
+        inr (works_leaving r.issuer r.part.script (readings_of line (c.coming post.clock)) (LeavesClock t None)
+        (LeavesClock (clock_in c post after) line) k s a r.end r.block
+        (λ replies asked. left_so c.coming post.clock after.clock r.post.clock r.after.clock own.given_is back.clock_is line replies
+        own.times own.replaced_is read asked)
+        (subst (λ (f : ℕ → Option ℕ). Works r.issuer r.part.script f (LeavesClock t None) k s a r.end r.block) coming w))
+
     given_ends : (r : Row D (OwnClock C) Z G) (post after : Post D C Z G) → IsOwnPost c.coming r.part post r.post → IsGivenBack r.after after →
-        OwnRowEnds d (coming_of c.coming) z g r → RowEnds d c z g (given_row r post after)
+        OwnRowEnds d (coming_of c.coming) IsReadOn z g r → RowEnds d c z g (given_row r post after)
     given_ends r post after own back h =
-        let coming : coming_of c.coming r.post.clock ≡ readings_of r.part.script.clock (c.coming post.clock) = fun_ext own.times in
+        let t = this_clock (coming_of c.coming) r.post.clock r.after.clock in
         let disks : disk_in d r.post r.after ≡ disk_in d post after = cc (own.disk_is, back.disk_is) in
         let sleepers : sleeper_in z r.post r.after ≡ sleeper_in z post after = cc (own.sleeper_is, back.sleeper_is) in
         let agencies : agency_in g r.post r.after ≡ agency_in g post after = cc (own.agency_is, back.agency_is) in
-        subst (λ (a : Agencies G). IssuerEnds r.issuer r.part.script (readings_of r.part.script.clock (c.coming post.clock))
-        (disk_in d post after) (sleeper_in z post after) a r.end r.block) agencies
-        (subst (λ (s : Sleepers Z). IssuerEnds r.issuer r.part.script (readings_of r.part.script.clock (c.coming post.clock))
-        (disk_in d post after) s (agency_in g r.post r.after) r.end r.block) sleepers
-        (subst (λ (k : Disks D). IssuerEnds r.issuer r.part.script (readings_of r.part.script.clock (c.coming post.clock)) k
-        (sleeper_in z r.post r.after) (agency_in g r.post r.after) r.end r.block) disks
-        (subst (λ (f : ℕ → Option ℕ). IssuerEnds r.issuer r.part.script f (disk_in d r.post r.after)
-        (sleeper_in z r.post r.after) (agency_in g r.post r.after) r.end r.block) coming h)))
+        given_time r post after own back h.0 (disk_in d post after) (sleeper_in z post after) (agency_in g post after)
+        (subst (λ (a : Agencies G). IssuerEnds r.issuer r.part.script None t (disk_in d post after) (sleeper_in z post after) a r.end
+        r.block) agencies
+        (subst (λ (s : Sleepers Z). IssuerEnds r.issuer r.part.script None t (disk_in d post after) s (agency_in g r.post r.after) r.end
+        r.block) sleepers
+        (subst (λ (k : Disks D). IssuerEnds r.issuer r.part.script None t k (sleeper_in z r.post r.after) (agency_in g r.post r.after) r.end
+        r.block) disks h.1)))
 
     -- the rows of these posts, with what they say
     record GivenRows (own : List (Row D (OwnClock C) Z G)) (posts after : List (Post D C Z G)) : Type 0 where
@@ -62,7 +130,7 @@ module _ {D C Z G : Type 0} (d : disk.Ghosts D) (c : clock.Ghosts C) (z : sleepe
 
     given_rows : (own : List (Row D (OwnClock C) Z G)) (posts after : List (Post D C Z G)) →
         AreOwnPosts c.coming (map (λ (r : Row D (OwnClock C) Z G). r.part) own) posts (map (λ (r : Row D (OwnClock C) Z G). r.post) own) →
-        Both IsGivenBack (map (λ (r : Row D (OwnClock C) Z G). r.after) own) after → AllByRecursion (OwnRowEnds d (coming_of c.coming) z g) own →
+        Both IsGivenBack (map (λ (r : Row D (OwnClock C) Z G). r.after) own) after → AllByRecursion (OwnRowEnds d (coming_of c.coming) IsReadOn z g) own →
         GivenRows own posts after
     given_rows [] [] [] owns backs each = record {
       rows = [];
@@ -93,7 +161,7 @@ module _ {D C Z G : Type 0} (d : disk.Ghosts D) (c : clock.Ghosts C) (z : sleepe
 
     pub given_run : (issuers : List (List ℕ)) (parts : List Part) (posts after : List (Post D C Z G)) (own own' : List (Post D (OwnClock C) Z G))
         (s : Sinks) (end : Detail) → AreOwnPosts c.coming parts posts own → Both IsGivenBack own' after →
-        IssuersRun (OwnRowEnds d (coming_of c.coming) z g) issuers parts own own' s end → IssuersRun (RowEnds d c z g) issuers parts posts after s end
+        IssuersRun (OwnRowEnds d (coming_of c.coming) IsReadOn z g) issuers parts own own' s end → IssuersRun (RowEnds d c z g) issuers parts posts after s end
     given_run issuers parts posts after own own' s end owns backs h =
         let there = subst (λ (l : List Part). AreOwnPosts c.coming l posts (map (λ (r : Row D (OwnClock C) Z G). r.post) h.rows))
         (sym h.are.parts_are) (subst (λ (l : List (Post D (OwnClock C) Z G)). AreOwnPosts c.coming parts posts l) (sym h.are.posts_are) owns) in

@@ -13,4 +13,5 @@ mod Rows
 mod Dones
 mod Times
 mod Run
+mod OwnClocks
 mod GivenBack

@@ -1,6 +1,6 @@
 -- What became of each issuer of an installation.
 use Rattle.std.proofs.Common.{◌≡◌, ◌⊎◌, inl, inr, ℕ, ◌+◌, ◌≤◌, List, [], ◌∷◌, ◌++◌, length, refl, ap, sym, ◌∙◌, subst, arith, true, IsTrue}
-use Rattle.std.proofs.Common.{Some, None, Result, Ok, Err, IfOk, OnOk}
+use Rattle.std.proofs.Common.{Some, None, Result, Ok, Err, IfOk, OnOk, IsSome}
 use Rattle.std.specs.List.{list_any}
 use Rattle.record_fields.specs.declared.versions.Version.{Version}
 use Rattle.ports.specs.Causes.{Rose}
@@ -20,9 +20,9 @@ use Rattle.sender.specs.declared.answers.DrainFault.TheVariants as drain
 use Rattle.shop_core.specs.History.{noted, recs}
 use Rattle.shop_core.specs.Prefix.{IsPrefix}
 use Rattle.shop_core.specs.Spans.{NotedWithinRecords}
-use Rattle.chain_store.specs.Clocks.{this_clock}
+use Rattle.chain_store.specs.Clocks.{Clocks, this_clock}
 use Rattle.chain_store.specs.Crashes.{FailsIn, IsCutOff, KeptByRun, StandsUpTo}
-use Rattle.chain_store.specs.Readings.{IsComing}
+use Rattle.chain_store.specs.Readings.{IsAsked, IsComing, LeavesClock, readings}
 use Rattle.chain_store.specs.Replies.{AllGoOn, Replies, StopsOnce, is_disk_fault}
 use Rattle.chain_store.specs.Runs.{Answers, Stores}
 use Rattle.chain_store.specs.Store.{clock_of, journal_of, state_of}
@@ -32,7 +32,7 @@ use Rattle.issuers.specs.declared.parts.Part.{Part}
 use Rattle.shop_drain.specs.Opening.{IsUnbegun}
 use Rattle.command_ends.specs.Played.{Played}
 use Rattle.shop_drain.specs.Crashes.{StandsSince}
-use Rattle.shop_drain.specs.Devices.{Agencies, agency_in, disk_in, sleeper_in}
+use Rattle.shop_drain.specs.Devices.{Agencies, agency_in, clock_in, disk_in, sleeper_in}
 use Rattle.sender_session.specs.Kinds.{agency_state_of, agency_kind}
 use Rattle.shop_drain.specs.Draining.{AgreesAtStart}
 use Rattle.shop_drain.specs.Devices.{first_moment, tells_moment}
@@ -92,7 +92,8 @@ module _ {D C Z G : Type 0} (d : disk.Ghosts D) (c : clock.Ghosts C) (z : sleepe
 
   closed_row : (s : Start D C Z G) (issuer : List ℕ) (u : Unopened D C Z G) (done : Done D C Z G) → IsClosed d c s issuer u →
       DoesClosed issuer u done →
-      StaysClosed s.issuer (disk_in d s.post done.post) (sleeper_in z s.post done.post) (agency_in g s.post done.post) done.end done.block
+      StaysClosed s.issuer (clock_in c s.post done.post) (disk_in d s.post done.post) (sleeper_in z s.post done.post)
+      (agency_in g s.post done.post) done.end done.block
   closed_row s issuer u done a w =
       let unopened : IsUnopened s.issuer u.why (disk_in d s.post done.post) =
       subst (λ (p : Post D C Z G). IsUnopened s.issuer u.why (disk_in d s.post p)) (sym w.post) a.unopened in
@@ -100,6 +101,7 @@ module _ {D C Z G : Type 0} (d : disk.Ghosts D) (c : clock.Ghosts C) (z : sleepe
         why = u.why;
         unopened = unopened;
         every_crash = λ says. keeps_file s.issuer u.why (d.on_disk s.post.disk) (d.on_disk done.post.disk) (unopened.left_by says);
+        clock = ap (λ (p : Post D C Z G). p.clock) w.post ∙ a.clock_is;
         sleeper = ap (λ (p : Post D C Z G). p.sleeper) w.post ∙ a.sleeper_is;
         agency = ap (λ (p : Post D C Z G). p.agency) w.post ∙ a.agency_is;
         ends = w.end;
@@ -147,7 +149,10 @@ module _ {D C Z G : Type 0} (d : disk.Ghosts D) (c : clock.Ghosts C) (z : sleepe
       late = f.late;
     }
 
-    abbrev played : Played s.issuer a.served.asked (c.coming s.post.clock) (λ (replies : Replies). Unit {0}) disks
+    abbrev clocks : Clocks C
+    clocks = clock_in c s.post done.post
+
+    abbrev played : Played s.issuer a.served.asked (c.coming s.post.clock) (LeavesClock clocks None) disks
     played = record {
       version = (state_of first).version;
       start = (state_of first).entries;
@@ -167,7 +172,7 @@ module _ {D C Z G : Type 0} (d : disk.Ghosts D) (c : clock.Ghosts C) (z : sleepe
           (state_of now).entries a.replies
           (synced (d.on_disk s.post.disk)) (d.on_disk (disk_of (journal_of first))) (d.on_disk (disk_of (journal_of now))) answers.begins
           (a.opened.any_moment says) (answers.kept says);
-      clock = tt;
+      clock = subst (λ (x : C). IsAsked (this_clock c.coming s.post.clock x) (readings a.replies)) (sym w.clock_is) answers.asked;
     }
 
     abbrev outcome : Outcome
@@ -377,9 +382,13 @@ module _ {D C Z G : Type 0} (d : disk.Ghosts D) (c : clock.Ghosts C) (z : sleepe
           complete = λ still linked keeps agree. absurd (still rose);
         }
 
+    read_on : c.by_readings s.post.clock done.post.clock
+    read_on = subst (λ (x : C). c.by_readings x done.post.clock) a.opened.clock_is
+        (subst (λ (y : C). c.by_readings (clock_of first) y) (sym w.clock_is) a.served.read)
+
     open_row : NotedWithinRecords → (IsTrue g.keeps_rules → IsTrue g.tells) →
-        Works s.issuer s.part.script (c.coming s.post.clock) (disk_in d s.post done.post) (sleeper_in z s.post done.post)
-        (agency_in g s.post done.post) done.end done.block
+        Works s.issuer s.part.script (c.coming s.post.clock) (LeavesClock clocks None) (disk_in d s.post done.post)
+        (sleeper_in z s.post done.post) (agency_in g s.post done.post) done.end done.block
     open_row within rules =
         let told = told_by told a.all a.tells a.served.whole w.ends in
         let f : Follows = elim w.behind [
@@ -396,6 +405,7 @@ module _ {D C Z G : Type 0} (d : disk.Ghosts D) (c : clock.Ghosts C) (z : sleepe
           behind = f.behind;
           ends = told.0;
           printed = told.1;
+          sleeper = λ some. w.replaced (subst (λ (p : Part). IsSome p.script.clock) (sym a.part_is) some) ∙ a.sleeper_is;
           history = f.history;
           agency = f.agency;
           risen = f.risen;
@@ -404,7 +414,11 @@ module _ {D C Z G : Type 0} (d : disk.Ghosts D) (c : clock.Ghosts C) (z : sleepe
           complete = f.complete;
         }
 
-  pub row_ends : NotedWithinRecords → (IsTrue g.keeps_rules → IsTrue g.tells) → (s : Start D C Z G) (t : IssuerTask D C Z G d)
-      (done : Done D C Z G) → IsTaskOf d c s t → DoesTask d z g t done → OwnRowEnds d c.coming z g (row_of s done)
-  row_ends within rules s (Closed issuer u) done a w = inl (closed_row s issuer u done a w)
-  row_ends within rules s (Open issuer part told opened) done a w = inr (open_row s issuer part told opened done a w within rules)
+  pub row_ends : NotedWithinRecords → (IsTrue g.keeps_rules → IsTrue g.tells) → ((x : C) → c.by_readings x x) → (s : Start D C Z G)
+      (t : IssuerTask D C Z G d) (done : Done D C Z G) → IsTaskOf d c s t → DoesTask d z g t done →
+      OwnRowEnds d c.coming c.by_readings z g (row_of s done)
+  row_ends within rules unread s (Closed issuer u) done a w =
+      let h = closed_row s issuer u done a w in
+      (subst (λ (x : C). c.by_readings s.post.clock x) (sym h.clock) (unread s.post.clock), inl h)
+  row_ends within rules unread s (Open issuer part told opened) done a w =
+      (read_on s issuer part told opened done a w, inr (open_row s issuer part told opened done a w within rules))

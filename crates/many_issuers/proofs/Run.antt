@@ -62,11 +62,11 @@ module _ {D C Z G : Type 0} (d : disk.Ghosts D) (c : clock.Ghosts C) (z : sleepe
     pub after_are : map (λ (r : Row D C Z G). r.after) rows ≡ map (λ (x : Done D C Z G). x.post) (dones_in jobs)
     pub ends_are : map (λ (r : Row D C Z G). r.end) rows ≡ map (λ (x : Done D C Z G). x.end) (dones_in jobs)
     pub blocks_are : map (λ (r : Row D C Z G). r.block) rows ≡ map (λ (x : Done D C Z G). x.block) (dones_in jobs)
-    pub each : AllByRecursion (OwnRowEnds d c.coming z g) rows
+    pub each : AllByRecursion (OwnRowEnds d c.coming c.by_readings z g) rows
 
-  pub rows_of : NotedWithinRecords → (IsTrue g.keeps_rules → IsTrue g.tells) → (starts : List (Start D C Z G))
+  pub rows_of : NotedWithinRecords → (IsTrue g.keeps_rules → IsTrue g.tells) → ((x : C) → c.by_readings x x) → (starts : List (Start D C Z G))
       (jobs jobs' : List (IssuerJob D C Z G d)) → Both (IsTasked d c) starts jobs → Both (WorksJob d z g) jobs jobs' → Rows starts jobs'
-  rows_of within rules [] [] [] tasked works = record {
+  rows_of within rules unread [] [] [] tasked works = record {
     rows = [];
     issuers_are = refl;
     parts_are = refl;
@@ -76,8 +76,8 @@ module _ {D C Z G : Type 0} (d : disk.Ghosts D) (c : clock.Ghosts C) (z : sleepe
     blocks_are = refl;
     each = tt;
   }
-  rows_of within rules (s ∷ starts) (job ∷ jobs) (job' ∷ jobs') tasked works =
-      let more = rows_of within rules starts jobs jobs' tasked.1 works.1 in
+  rows_of within rules unread (s ∷ starts) (job ∷ jobs) (job' ∷ jobs') tasked works =
+      let more = rows_of within rules unread starts jobs jobs' tasked.1 works.1 in
       let w = works.0.does tasked.0.task tasked.0.is in
       let done = w.0 in
       let dones : dones_in (job' ∷ jobs') ≡ done ∷ dones_in jobs' = dones_some job' jobs' done w.1 in
@@ -92,9 +92,9 @@ module _ {D C Z G : Type 0} (d : disk.Ghosts D) (c : clock.Ghosts C) (z : sleepe
             ap (λ (l : List (Done D C Z G)). map (λ (x : Done D C Z G). x.end) l) (sym dones);
         blocks_are = ap (λ (l : List (Result (List ℕ) NoMemory)). done.block ∷ l) more.blocks_are ∙
             ap (λ (l : List (Done D C Z G)). map (λ (x : Done D C Z G). x.block) l) (sym dones);
-        each = (row_ends d c z g within rules s tasked.0.task done tasked.0.own w.2, more.each);
+        each = (row_ends d c z g within rules unread s tasked.0.task done tasked.0.own w.2, more.each);
       }
-  rows_of within rules [] [] (job' ∷ jobs') tasked works = absurd works
-  rows_of within rules [] (job ∷ jobs) jobs' tasked works = absurd tasked
-  rows_of within rules (s ∷ starts) [] jobs' tasked works = absurd tasked
-  rows_of within rules (s ∷ starts) (job ∷ jobs) [] tasked works = absurd works
+  rows_of within rules unread [] [] (job' ∷ jobs') tasked works = absurd works
+  rows_of within rules unread [] (job ∷ jobs) jobs' tasked works = absurd tasked
+  rows_of within rules unread (s ∷ starts) [] jobs' tasked works = absurd tasked
+  rows_of within rules unread (s ∷ starts) (job ∷ jobs) [] tasked works = absurd works

@@ -1,5 +1,5 @@
 -- How `many` ends: each issuer, and the run.
-use Rattle.std.specs.Prelude.{◌≡◌, ◌⊎◌, ℕ, ◌<◌, ◌≤◌, ◌+◌, List, [], length, map, true, IsTrue, Option, Result, Err, IfOk}
+use Rattle.std.specs.Prelude.{◌≡◌, ◌⊎◌, ℕ, ◌<◌, ◌≤◌, ◌+◌, List, [], length, map, true, IsTrue, Option, None, IsSome, Result, Err, IfOk}
 use Rattle.std.specs.List.{AllByRecursion, list_any}
 use Rattle.ports.specs.Causes.{Rose}
 use Rattle.ports.specs.Sinks.{Sinks, WroteNothing}
@@ -17,7 +17,8 @@ use Rattle.record_fields.specs.declared.versions.Version.{Version}
 use Rattle.file_commands.specs.Input.{ReadFailed, ReadPast}
 use Rattle.chain_store.specs.declared.causes.OpenCause.{OpenCause}
 use Rattle.chain_store.specs.Crashes.{StandsUpTo}
-use Rattle.chain_store.specs.Readings.{readings_of}
+use Rattle.chain_store.specs.Clocks.{Clocks, LeftClock, this_clock}
+use Rattle.chain_store.specs.Readings.{LeavesClock, readings_of}
 use Rattle.chain_store.specs.Replies.{AllGoOn, Replies, is_disk_fault}
 use Rattle.issuers.specs.declared.parts.Part.{Part}
 use Rattle.report.specs.declared.status.Detail.{Detail}
@@ -32,7 +33,7 @@ use Rattle.shop_core.specs.declared.words.Word.{Word}
 use Rattle.shop_drain.specs.Opening.{IsUnbegun}
 use Rattle.command_ends.specs.Played.{Played}
 use Rattle.shop_drain.specs.Crashes.{KeepsFile}
-use Rattle.shop_drain.specs.Devices.{Agencies, LeftAgency, LeftSleeper, Sleepers, agency_in, disk_in, sleeper_in}
+use Rattle.shop_drain.specs.Devices.{Agencies, LeftAgency, LeftSleeper, Sleepers, agency_in, clock_in, disk_in, sleeper_in}
 use Rattle.shop_drain.specs.Draining.{AgreesAtStart}
 use Rattle.shop_drain.specs.Devices.{first_moment, tells_moment}
 use Rattle.shop_drain.specs.Draining.{DiskSpan, OpensSession, Outcome, StoreDrains, spanning}
@@ -55,11 +56,12 @@ pub record Row (D C Z G : Type 0) : Type 0 where
   pub block : Result (List ℕ) NoMemory
 
 -- The file wasn't opened: the commands were left out, and nothing else was touched.
-pub record StaysClosed {D Z G : Type 0} (issuer : List ℕ) (k : Disks D) (s : Sleepers Z) (a : Agencies G) (end : Detail)
-    (block : Result (List ℕ) NoMemory) : Type 0 where
+pub record StaysClosed {D C Z G : Type 0} (issuer : List ℕ) (t : Clocks C) (k : Disks D) (s : Sleepers Z) (a : Agencies G)
+    (end : Detail) (block : Result (List ℕ) NoMemory) : Type 0 where
   pub why : OpenCause
   pub unopened : IsUnopened issuer why k
   pub every_crash : IsTrue k.tells → KeepsFile issuer (k.on_disk k.disk) (k.on_disk k.disk_after)
+  pub clock : LeftClock t
   pub sleeper : LeftSleeper s
   pub agency : LeftAgency a
   pub ends : end ≡ opening_end why
@@ -99,20 +101,23 @@ pub record IsBegunAlone {D G : Type 0} (plan : Plan) (history : List Entry) (rep
       ⊎ ((o.answer ≡ Err drain.NoMemory) × IsUnbegun a.kind a.before a.after)
 
 -- The file was opened. The commands of the part, or the first of them where memory ran out, were answered from the history that
--- it stood for, at the clock's coming answers: a chain run of their own. After them the file was drained, or its disk had failed.
-pub record Works {D Z G : Type 0} (issuer : List ℕ) (script : Script) (coming : ℕ → Option ℕ) (k : Disks D) (s : Sleepers Z)
-    (a : Agencies G) (end : Detail) (block : Result (List ℕ) NoMemory) : Type 0 where
+-- it stood for, at these coming answers: a chain run of their own. They alone read the clock, and left it so. After them the file was
+-- drained, or its disk had failed.
+pub record Works {D Z G : Type 0} (issuer : List ℕ) (script : Script) (coming : ℕ → Option ℕ) (Leaves : Replies → Type 0) (k : Disks D)
+    (s : Sleepers Z) (a : Agencies G) (end : Detail) (block : Result (List ℕ) NoMemory) : Type 0 where
   pub asked : List Asked
   pub front : IsPrefix asked script.asks
   pub middle : D
   pub later : k.faults k.disk ≤ k.faults middle
-  pub played : Played issuer asked coming (λ (replies : Replies). Unit {0}) (up_to k middle)
+  pub played : Played issuer asked coming Leaves (up_to k middle)
   pub outcome : Outcome
   pub behind : IsDrained script played.version issuer played.end played.replies k middle s a outcome
       ⊎ IsBegunAlone script.plan played.end played.replies k middle a outcome
   -- all commands were answered, and the end is that of the answers and of what came after them, or memory ran out
   pub ends : (end ≡ detail.NoMemory) ⊎ ((asked ≡ script.asks) × (end ≡ issuer_end played.replies outcome.answer))
   pub printed : IfOk block (λ text. text ≡ answered_block issuer script.asks played.replies outcome.end end)
+  -- a sleeper that a clock line replaces is as it was
+  pub sleeper : IsSome script.clock → LeftSleeper s
   -- the history, the file and the agency, from the opening to the end
   pub history : HistoryKept played.version issuer played.start played.end outcome.end k
   pub agency : ((end ≡ detail.NoMemory) × IsUnbegun a.kind a.before a.after)
@@ -126,10 +131,12 @@ pub record Works {D Z G : Type 0} (issuer : List ℕ) (script : Script) (coming 
   pub complete : (DiskRose k → ⊥) → (Rose a.before.faults a.after.faults → ⊥) → IsTrue a.kind.keeps_rules →
       AgreesAtStart a played.start → (end ≡ detail.Done) ⊎ (end ≡ detail.NoMemory)
 
--- what became of an issuer whose commands are dated by these coming answers
-abbrev pub IssuerEnds : {D Z G : Type 0} → List ℕ → Script → (ℕ → Option ℕ) → Disks D → Sleepers Z → Agencies G → Detail →
-    Result (List ℕ) NoMemory → Type 0
-IssuerEnds issuer script coming k s a end block = StaysClosed issuer k s a end block ⊎ Works issuer script coming k s a end block
+-- what became of an issuer whose commands are dated by this clock, or by a clock line that replaces it
+abbrev pub IssuerEnds : {D C Z G : Type 0} → List ℕ → Script → Option (ℕ × ℕ) → Clocks C → Disks D → Sleepers Z → Agencies G →
+    Detail → Result (List ℕ) NoMemory → Type 0
+IssuerEnds issuer script line t k s a end block =
+    StaysClosed issuer t k s a end block
+    ⊎ Works issuer script (readings_of line (t.coming t.clock)) (LeavesClock t line) k s a end block
 
 module _ {D C Z G : Type 0} where
   -- these rows are of these issuers, parts and posts
@@ -142,12 +149,14 @@ module _ {D C Z G : Type 0} where
 
   -- what became of the issuer of a row, by its own clock, or by the clock line of its part
   abbrev pub RowEnds : disk.Ghosts D → clock.Ghosts C → sleeper.Ghosts Z → agency.Ghosts G → Row D C Z G → Type 0
-  RowEnds d c z g r = IssuerEnds r.issuer r.part.script (readings_of r.part.script.clock (c.coming r.post.clock))
+  RowEnds d c z g r = IssuerEnds r.issuer r.part.script r.part.script.clock (clock_in c r.post r.after)
       (disk_in d r.post r.after) (sleeper_in z r.post r.after) (agency_in g r.post r.after) r.end r.block
 
-  -- the same by its own clock alone
-  abbrev pub OwnRowEnds : disk.Ghosts D → (C → ℕ → Option ℕ) → sleeper.Ghosts Z → agency.Ghosts G → Row D C Z G → Type 0
-  OwnRowEnds d coming z g r = IssuerEnds r.issuer r.part.script (coming r.post.clock)
+  -- the same by its own clock alone, which was read and nothing else
+  abbrev pub OwnRowEnds : disk.Ghosts D → (C → ℕ → Option ℕ) → (C → C → Type 0) → sleeper.Ghosts Z → agency.Ghosts G →
+      Row D C Z G → Type 0
+  OwnRowEnds d coming by_readings z g r = by_readings r.post.clock r.after.clock
+      × IssuerEnds r.issuer r.part.script None (this_clock coming r.post.clock r.after.clock)
       (disk_in d r.post r.after) (sleeper_in z r.post r.after) (agency_in g r.post r.after) r.end r.block
 
   -- the issuers were run, each for itself, and this is how the run ended

@@ -8,7 +8,7 @@ use Rattle.shop_core.specs.Answer.Requests.{Asked}
 use Rattle.shop_core.specs.Prefix.{IsPrefix}
 use Rattle.chain_store.specs.Replies.{AllGoOn, Replies}
 use Rattle.chain_store.specs.Runs.{Answers, this_store}
-use Rattle.chain_store.specs.Store.{journal_of}
+use Rattle.chain_store.specs.Store.{clock_of, journal_of}
 use Rattle.chain_store.specs.Taking.{FailsOnce}
 use Rattle.chain_store.specs.declared.store.Store.{Store}
 use Rattle.issuers.specs.Serving.{StaysOwn, replies_to}
@@ -24,6 +24,7 @@ pub record ServedAt {D C : Type 0} (d : disk.Ghosts D) (c : clock.Ghosts C) (par
   pub whole : OnOk all (asked ≡ part.script.asks)
   pub stays : StaysOwn old new
   pub answers : Answers asked replies (this_store d.tells d.on_disk d.faults c.coming old new)
+  pub read : c.by_readings (clock_of old) (clock_of new)
   pub fails : FailsOnce d c old new asked replies
   -- its journal goes on where no reply tells of a fault of its disk
   pub goes_on : AllGoOn replies → stopped_of (journal_of new) ≡ None

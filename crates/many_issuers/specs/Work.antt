@@ -1,5 +1,5 @@
 -- What is done of each issuer of an installation after its commands.
-use Rattle.std.specs.Prelude.{◌≡◌, ◌⊎◌, ℕ, Bool, List, [], Some, None, Result, Ok, Err, IfOk, Vec}
+use Rattle.std.specs.Prelude.{◌≡◌, ◌⊎◌, ℕ, Bool, List, [], Some, None, IsSome, Result, Ok, Err, IfOk, Vec}
 use Rattle.std.specs.declared.alloc.Global.{Global}
 use Rattle.ports.specs.declared.faults.NoMemory.{NoMemory}
 use Rattle.ports.specs.declared.sleeper.Sleeper as sleeper
@@ -12,7 +12,7 @@ use Rattle.journal.specs.declared.faults.StoreFault.{StoreFault}
 use Rattle.journal.specs.declared.faults.StoreFault.TheVariants as store_fault
 use Rattle.shop_core.specs.declared.answer.Reply.{Reply}
 use Rattle.chain_store.specs.Crashes.{StandsUpTo}
-use Rattle.chain_store.specs.Store.{Ready, journal_of, state_of}
+use Rattle.chain_store.specs.Store.{Ready, clock_of, journal_of, state_of}
 use Rattle.script.specs.declared.scripts.Script.{Script}
 use Rattle.report.specs.declared.status.Detail.{Detail}
 use Rattle.report.specs.declared.status.Detail.TheVariants as detail
@@ -59,6 +59,7 @@ pub record BeginsOnly {D C Z G : Type 0} {d : disk.Ghosts D} (g : agency.Ghosts 
   pub count : ℕ
   pub stopped : stopped_of (journal_of from.store) ≡ Some count
   pub store : end.opened.store ≡ from.store
+  pub sleeper : end.opened.sleeper ≡ from.sleeper
   pub turns : end.turns ≡ []
   pub session : ((end.answer ≡ Err (drain.Store (store_fault.Stopped count)))
       × OpensSession (agency_kind g) g.begun plan (state_of from.store).entries (agency_state_of g from.agency)
@@ -85,14 +86,17 @@ EndsTold issuer script (Err fault) last end block = (end ≡ detail.NoMemory) ×
 EndsTold issuer script (Ok replies) last end block = (end ≡ issuer_end replies.items last.answer)
     × IfOk block (λ text. text ≡ answered_block issuer script.asks replies.items (parts_of last.opened.store).state.entries end)
 
--- what was done of an issuer whose commands were answered
+-- What was done of an issuer whose commands were answered. Its clock wasn't read any more, and where a clock line replaces its sleeper
+-- that is as it was.
 pub record DoesOpen {D C Z G : Type 0} (d : disk.Ghosts D) (z : sleeper.Ghosts Z) (g : agency.Ghosts G) (issuer : List ℕ)
     (script : Script) (replies : Told) (from : Opened D C Z G d) (done : Done D C Z G) : Type 0 where
   pub last : DrainEnd D C Z G d
   pub behind : IsBehind d z g script from last
   pub ends : EndsTold issuer script replies last done.end done.block
   pub disk_is : done.post.disk ≡ disk_of (journal_of last.opened.store)
+  pub clock_is : done.post.clock ≡ clock_of from.store
   pub sleeper_is : done.post.sleeper ≡ last.opened.sleeper
+  pub replaced : IsSome script.clock → done.post.sleeper ≡ from.sleeper
   pub agency_is : done.post.agency ≡ last.opened.agency
 
 abbrev pub DoesTask : {D C Z G : Type 0} (d : disk.Ghosts D) → sleeper.Ghosts Z → agency.Ghosts G → IssuerTask D C Z G d →

@@ -1,5 +1,5 @@
 //! The command `many`: several issuers in one installation, each with its own part of the script and its own file.
-ghost use Rattle.std.specs.Prelude.{◌≡◌, ◌≤◌, [], ℕ, All, IfOk, length, vec_capacity};
+ghost use Rattle.std.specs.Prelude.{◌≡◌, ◌≤◌, [], ℕ, All, IfOk, length, option_map, vec_capacity};
 ghost use Rattle.ports.specs.Sinks.{this_sink};
 ghost use Rattle.ports.specs.Sources.{this_source};
 ghost use Rattle.chain_store.specs.Readings.{readings_of};
@@ -9,7 +9,7 @@ ghost use Rattle.parties.specs.declared.limits.TheConstants.{MAX_ISSUERS};
 ghost use Rattle.report.specs.Status.{status_of};
 ghost use Rattle.many_issuers.specs.Ends.{ManyEnds, PartsRun};
 ghost use Rattle.many_issuers.specs.Times.{AreOwnPosts, HasRoomForAll, IsGivenBack};
-ghost use Rattle.many_issuers.specs.OwnClock.{coming_of};
+ghost use Rattle.many_issuers.specs.OwnClock.{coming_of, given_of, replaced_of};
 ghost use Rattle.many_issuers.specs.Pairwise.{Both};
 
 use crate::opening::turned;
@@ -33,6 +33,8 @@ fn own_post<D, C: Clock, Z, G>(
     post: Post<D, C, Z, G>,
 ) -> Post<D, OwnClock<C>, Z, G>
     ensures coming { (k : ℕ) → coming_of C.coming result.clock k ≡ readings_of line (C.coming post.clock) k }
+    ensures given { given_of result.clock ≡ post.clock }
+    ensures replaced { replaced_of result.clock ≡ option_map (λ _. post.clock) line }
     ensures rest { (result.disk ≡ post.disk) × (result.sleeper ≡ post.sleeper) × (result.agency ≡ post.agency) }
 {
     let Post {

@@ -1,6 +1,7 @@
 //! Reads a source as a script for several issuers.
-ghost use Rattle.std.specs.Prelude.{◌≡◌, All, IfOk, length};
+ghost use Rattle.std.specs.Prelude.{◌≡◌, All, IfOk, IsTrue, length};
 ghost use Rattle.ports.specs.Sources.{this_source};
+ghost use Rattle.command_ends.specs.Scripts.{EndsAtFault};
 ghost use Rattle.issuers.specs.Parts.{HasLines};
 ghost use Rattle.many_issuers.specs.Scripts.{PartsRead};
 
@@ -19,6 +20,7 @@ pub fn read_parts<S: Source>(
     source: &mut S,
 ) -> Result<Parts, NoScript>
     ensures parts { PartsRead issuers.now (this_source S.left S.faults source.old source.new) result }
+    ensures once { IsTrue S.counts → EndsAtFault (this_source S.left S.faults source.old source.new) result }
     ensures one_each { IfOk result (λ parts. length parts ≡ length issuers.now) }
     ensures lines { IfOk result (λ parts. All HasLines parts) }
 {

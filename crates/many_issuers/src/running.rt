@@ -111,7 +111,7 @@ where
     requires each { length parts.items ≡ length issuers.now }
     requires lines { All HasLines parts.items }
     requires room { HasRoomFor (length issuers.now) room }
-    ensures { IssuersRun (OwnRowEnds D.Disk C.coming Z.Sleeper G.Agency) issuers.now parts.items posts.items result.1.items
+    ensures { IssuersRun (OwnRowEnds D.Disk C.coming C.by_readings Z.Sleeper G.Agency) issuers.now parts.items posts.items result.1.items
         (this_sink K.taken K.faults sink.old sink.new) result.0 }
 {
     a_history_notes_its_records();

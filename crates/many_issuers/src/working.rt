@@ -1,6 +1,6 @@
 //! What is done of each issuer after the commands: its agency's session, the drain, its end and its block.
-ghost use Rattle.std.specs.Prelude.{◌≡◌, All, None, Some};
-ghost use Rattle.chain_store.specs.Store.{Ready, journal_of};
+ghost use Rattle.std.specs.Prelude.{◌≡◌, All, IsSome, None, Some};
+ghost use Rattle.chain_store.specs.Store.{Ready, clock_of, journal_of};
 ghost use Rattle.journal.specs.Journal.{stopped_of};
 ghost use Rattle.many_issuers.specs.Pairwise.{Both};
 ghost use Rattle.many_issuers.specs.Work.{BeginsOnly, DoesClosed, DoesOpen, DoesTask, Drained, EndsTold, IsBehind, IsReadyTask};
@@ -67,7 +67,9 @@ fn drain_timed<D: Disk, C: Clock, Z: Sleeper, G: Agency, R: Wait>(
 ) -> DrainEnd<D, C, Z, G>
     requires going_on { stopped_of (journal_of opened.store) ≡ None }
     requires ready { Ready D.tells D.on_disk opened.store }
-    ensures { Drained D.Disk Z.Sleeper G.Agency script.now opened result }
+    ensures drained { Drained D.Disk Z.Sleeper G.Agency script.now opened result }
+    ensures clock { clock_of result.opened.store ≡ clock_of opened.store }
+    ensures replaced { IsSome script.now.clock → result.opened.sleeper ≡ opened.sleeper }
 {
     let Some((start, _)) = script.clock else {
         return drain_opened(rt, alloc, &script.plan, opened);
@@ -145,7 +147,9 @@ fn go_on<D: Disk, C: Clock, Z: Sleeper, G: Agency, R: Wait>(
     opened: Opened<D, C, Z, G>,
 ) -> DrainEnd<D, C, Z, G>
     requires { Ready D.tells D.on_disk opened.store }
-    ensures { IsBehind D.Disk Z.Sleeper G.Agency script.now opened result }
+    ensures behind { IsBehind D.Disk Z.Sleeper G.Agency script.now opened result }
+    ensures clock { clock_of result.opened.store ≡ clock_of opened.store }
+    ensures replaced { IsSome script.now.clock → result.opened.sleeper ≡ opened.sleeper }
 {
     match opened.store.stopped() {
         None => drain_timed(rt, alloc, script, opened),

@@ -1,6 +1,6 @@
 -- What a call reads from a source.
-use Rattle.std.specs.Prelude.{ℕ, List, Option}
-use Rattle.ports.specs.Causes.{Rose}
+use Rattle.std.specs.Prelude.{◌≡◌, ℕ, List, Option}
+use Rattle.ports.specs.Causes.{Rose, RoseByOne}
 
 -- what a source had still to give and its count of faults, before the call and after it
 pub record Sources : Type 0 where
@@ -21,3 +21,11 @@ this_source left faults old new = record {
 -- the source failed in the call
 abbrev pub SourceRose : Sources → Type 0
 SourceRose s = Rose s.faults s.faults_after
+
+-- of a source that counts each failed read: none failed in the call
+abbrev pub NoReadFailed : Sources → Type 0
+NoReadFailed s = s.faults_after ≡ s.faults
+
+-- one failed in the call
+abbrev pub OneReadFailed : Sources → Type 0
+OneReadFailed s = RoseByOne s.faults s.faults_after

@@ -1,5 +1,5 @@
 //! Devices over the standard streams and the system's clock, which tell nothing of content.
-ghost use Rattle.std.specs.Prelude.{◌≡◌, None};
+ghost use Rattle.std.specs.Prelude.{◌≡◌, None, true, ⊤};
 ghost use Rattle.ports.specs.Reasons.{count_of};
 
 use crate::{Clock, Failed, Faults, Sink, Source, reason_of};
@@ -35,6 +35,8 @@ impl<R: Input> Source for StdSource<R> {
     ghost left = { λ s. None };
 
     ghost faults = { λ s. count_of s.faults };
+
+    ghost counts = { true };
 
     ghost few_faults = { λ s. s.faults.few };
 
@@ -117,6 +119,12 @@ impl<R: SystemTimeSource> Clock for SystemClock<R> {
     ghost last = { λ c. c.last };
 
     ghost coming = { λ c k. None };
+
+    ghost by_readings = { λ _ _. ⊤ };
+
+    ghost unread = { λ _. tt };
+
+    ghost reading_goes_on = { λ _ _ _ _ _. tt };
 
     fn now(&mut self) -> u64 {
         self.last = seconds_of(&self.rt);

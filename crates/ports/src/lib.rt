@@ -4,8 +4,8 @@
 //! at the greatest u64; where a fault has a cause, it is that the count of a device that was handed in rose.
 #![tactic(auto)]
 
-ghost use Rattle.std.specs.Prelude.{◌≡◌, ◌+◌, ◌-◌, ◌^◌, ◌≤◌, ℕ, List, Option};
-ghost use Rattle.ports.specs.Causes.{HasCause};
+ghost use Rattle.std.specs.Prelude.{◌≡◌, ◌+◌, ◌-◌, ◌^◌, ◌≤◌, ℕ, Bool, IsTrue, List, Option};
+ghost use Rattle.ports.specs.Causes.{HasCause, IsCounted};
 ghost use Rattle.ports.specs.Given.{Reads, Writes, IsWithin};
 ghost use Rattle.ports.specs.Readings.{IsTold, MovedBy};
 
@@ -31,12 +31,16 @@ pub trait Source {
     /// How often it has failed.
     ghost faults: { Self → ℕ };
 
+    /// Whether it counts each failed call, and each once.
+    ghost counts: { Bool };
+
     /// The next bytes, at most as many as the buffer holds. `Ok(0)` on a buffer with room is the end of input. After
     /// an `Err` the same bytes are still to come.
     fn read(&mut self, buf: &mut [u8]) -> Result<usize, Failed>
         ensures within { IsWithin result buf.new }
         ensures bytes { Reads (left self.old) (left self.new) result buf.new }
-        ensures cause { HasCause (faults self.old) (faults self.new) result };
+        ensures cause { HasCause (faults self.old) (faults self.new) result }
+        ensures counted { IsTrue counts → IsCounted (faults self.old) (faults self.new) result };
 
     /// The count of faults is one that a u64 holds.
     ghost few_faults: { (source : Self) → faults source ≤ 2 ^ 64 - 1 };
@@ -68,9 +72,19 @@ pub trait Clock {
     /// The coming answer of each number from 0, where the clock tells them.
     ghost coming: { Self → ℕ → Option ℕ };
 
+    /// The one became the other by readings alone. Of a clock of any type only `now` says so.
+    ghost by_readings: { Self → Self → Type 0 };
+
     /// Seconds since 1970-01-01T00:00:00Z.
     fn now(&mut self) -> u64
         ensures last { result ≡ last self.new }
         ensures told { IsTold (coming self.old 0) result }
-        ensures moved { MovedBy 1 (coming self.old) (coming self.new) };
+        ensures moved { MovedBy 1 (coming self.old) (coming self.new) }
+        ensures read { by_readings self.old self.new };
+
+    /// A clock that stays as it is became so by readings, by none.
+    ghost unread: { (clock : Self) → by_readings clock clock };
+
+    /// Readings after readings are readings.
+    ghost reading_goes_on: { (a b c : Self) → by_readings a b → by_readings b c → by_readings a c };
 }

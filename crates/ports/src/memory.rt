@@ -1,7 +1,7 @@
 //! Devices in memory, which tell what they hold.
-ghost use Rattle.std.specs.Prelude.{◌≡◌, ℕ, ◌+◌, ◌*◌, ◌-◌, ◌^◌, ◌<◌, ◌≤◌, ◌↔◌, [], drop, take, length, min, vec_len, Some};
+ghost use Rattle.std.specs.Prelude.{◌≡◌, ℕ, ◌+◌, ◌*◌, ◌-◌, ◌^◌, ◌<◌, ◌≤◌, ◌↔◌, [], drop, take, length, min, vec_len, Some, true, ⊤};
 ghost use Rattle.std.specs.Prelude.{slice_index, IsErr, IfOk};
-ghost use Rattle.ports.specs.Causes.{HasCause};
+ghost use Rattle.ports.specs.Causes.{HasCause, IsCounted};
 ghost use Rattle.ports.specs.Given.{Reads, Writes, IsWithin};
 ghost use Rattle.ports.specs.Memory.{Held, counted, IsListed, IsOneCall};
 ghost use Rattle.std.proofs.Common.{rules, arith};
@@ -68,6 +68,8 @@ impl Source for MemSource {
 
     ghost faults = { counted };
 
+    ghost counts = { true };
+
     ghost few_faults = { Prim.search (rules, arith) };
 
     /// Gives as many bytes as there are and fit.
@@ -75,6 +77,7 @@ impl Source for MemSource {
         ensures within { IsWithin result buf.new }
         ensures bytes { Reads (Some self.old.bytes) (Some self.new.bytes) result buf.new }
         ensures cause { HasCause (counted self.old) (counted self.new) result }
+        ensures counted { IsCounted (counted self.old) (counted self.new) result }
         ensures fails { IsErr result ↔ IsListed self.old }
         ensures call { IsOneCall self.old self.new result }
         ensures all_that_fit { IfOk result (λ n. n ≡ min (length buf.old) (length self.old.bytes)) }
@@ -189,6 +192,12 @@ impl Clock for CountingClock {
 
     ghost coming = { λ c k. Some (counting c.next c.step k) };
 
+    ghost by_readings = { λ _ _. ⊤ };
+
+    ghost unread = { λ _. tt };
+
+    ghost reading_goes_on = { λ _ _ _ _ _. tt };
+
     fn now(&mut self) -> u64 {
         self.last = self.next;
         self.next = self.next.saturating_add(self.step);
@@ -224,6 +233,12 @@ impl Clock for ListClock {
     ghost last = { λ c. c.last };
 
     ghost coming = { λ c k. Some (slice_index c.values.items (min (c.at + k) (vec_len c.values - 1))) };
+
+    ghost by_readings = { λ _ _. ⊤ };
+
+    ghost unread = { λ _. tt };
+
+    ghost reading_goes_on = { λ _ _ _ _ _. tt };
 
     fn now(&mut self) -> u64 {
         self.last = self.values[self.at];

@@ -18,19 +18,30 @@ pub trait Sleeper {
     /// Its moment, in seconds since 1970-01-01T00:00:00Z. What it answers is never below it.
     ghost moment: { Self → ℕ };
 
+    /// The one became the other without a rest. Of a sleeper of any type only `now` and `wait_until` say so.
+    ghost without_rest: { Self → Self → Type 0 };
+
     /// Seconds since 1970-01-01T00:00:00Z.
     fn now(&mut self) -> u64
         ensures later { moment self.old ≤ result }
         ensures told { IsTrue tells → result ≡ moment self.old }
-        ensures same { moment self.new ≡ moment self.old };
+        ensures same { moment self.new ≡ moment self.old }
+        ensures no_rest { without_rest self.old self.new };
 
     /// Waits until this second. After it the moment is at least this second.
     fn wait_until<R: Wait>(&mut self, rt: &R, at: u64)
-        ensures { moment self.new ≡ max (moment self.old) at };
+        ensures moment { moment self.new ≡ max (moment self.old) at }
+        ensures no_rest { without_rest self.old self.new };
 
     /// Waits a short while.
     fn rest<R: Wait>(&mut self, rt: &R)
         ensures { moment self.new ≡ moment self.old };
+
+    /// A sleeper that stays as it is doesn't rest.
+    ghost unrested: { (sleeper : Self) → without_rest sleeper sleeper };
+
+    /// Without a rest up to one, and without one from there on, there was none at all.
+    ghost no_rest_goes_on: { (a b c : Self) → without_rest a b → without_rest b c → without_rest a c };
 }
 
 /// A sleeper that never waits: it leaps to the second for which it is asked to wait.
@@ -49,11 +60,17 @@ impl LeapSleeper {
 }
 
 impl Sleeper for LeapSleeper {
-    ghost use Rattle.std.specs.Prelude.{true};
+    ghost use Rattle.std.specs.Prelude.{true, ⊤};
 
     ghost tells = { true };
 
     ghost moment = { λ s. s.at };
+
+    ghost without_rest = { λ _ _. ⊤ };
+
+    ghost unrested = { λ _. tt };
+
+    ghost no_rest_goes_on = { λ _ _ _ _ _. tt };
 
     fn now(&mut self) -> u64 {
         self.at
@@ -84,11 +101,17 @@ impl<R: SystemTimeSource> ThreadSleeper<R> {
 }
 
 impl<R: SystemTimeSource> Sleeper for ThreadSleeper<R> {
-    ghost use Rattle.std.specs.Prelude.{false};
+    ghost use Rattle.std.specs.Prelude.{false, ⊤};
 
     ghost tells = { false };
 
     ghost moment = { λ s. s.reached };
+
+    ghost without_rest = { λ _ _. ⊤ };
+
+    ghost unrested = { λ _. tt };
+
+    ghost no_rest_goes_on = { λ _ _ _ _ _. tt };
 
     fn now(&mut self) -> u64 {
         seconds_of(&self.rt).max(self.reached)

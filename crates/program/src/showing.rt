@@ -1,6 +1,6 @@
 //! Long work shows itself on a terminal: a file and a sleeper that say on standard error how far they are, and are else those of
 //! `chain_disk` and `ports`. Nothing is claimed of what they print.
-ghost use Rattle.std.specs.Prelude.{false};
+ghost use Rattle.std.specs.Prelude.{false, ⊤};
 ghost use Rattle.chain_disk.specs.File.{nothing_on_disk, nothing_reads};
 
 use chain_disk::{Disk, FileDisk};
@@ -199,6 +199,12 @@ impl<'a> Sleeper for ShownSleeper<'a> {
     ghost tells = { ⟦<ThreadSleeper<&'a HostRuntime> as Sleeper>⟧.tells };
 
     ghost moment = { λ s. ⟦<ThreadSleeper<&'a HostRuntime> as Sleeper>⟧.moment s.sleeper };
+
+    ghost without_rest = { λ _ _. ⊤ };
+
+    ghost unrested = { λ _. tt };
+
+    ghost no_rest_goes_on = { λ _ _ _ _ _. tt };
 
     fn now(&mut self) -> u64 {
         self.sleeper.now()

@@ -2,7 +2,6 @@
 use Rattle.std.specs.Prelude.{◌≡◌, ◌≢◌, ◌⊎◌, ℕ, List, []}
 use Rattle.chain_disk.specs.OnDisk.{OnDisk, IsSyncFailed, LeavesOnly, synced}
 use Rattle.journal.specs.File.{IsNotBegun, IsNotBegunOrEmpty}
-use Rattle.journal.specs.Written.{CreationTakes, empty_file}
 use Rattle.record_fields.specs.declared.versions.Version.{Version}
 use Rattle.record_fields.specs.declared.versions.Version.TheVariants.{Two}
 use Rattle.record_codec.specs.declared.entry.Entry.{Entry}
@@ -22,19 +21,6 @@ pub record IsBegunInPart (issuer : List ℕ) (settled new : OnDisk) : Type 0 whe
   pub not_begun : IsNotBegun settled.content
   pub reads : IsNotBegunOrEmpty Two issuer new.content
   pub any_moment : LeavesOnly settled new (IsNotBegunOrEmpty Two issuer)
-
--- nothing was written of a file that was begun already: what the disk tells is what a sync leaves
-abbrev pub IsOnlySynced : OnDisk → OnDisk → Type 0
-IsOnlySynced old new = (IsNotBegun old.content → ⊥) → new ≡ synced old
-
--- or what a sync leaves that failed
-abbrev pub IsAtMostSynced : OnDisk → OnDisk → Type 0
-IsAtMostSynced old new = (IsNotBegun old.content → ⊥) → (new ≡ synced old) ⊎ IsSyncFailed old new
-
--- a file that wasn't begun has its twenty bytes, of version Two, and was written for that alone
-pub record IsCreation (issuer : List ℕ) (settled new : OnDisk) : Type 0 where
-  pub content : new.content ≡ empty_file Two issuer
-  pub takes : CreationTakes settled new
 
 -- the file stands for a chain of another issuer
 pub record IsOthers (issuer held file : List ℕ) : Type 0 where

@@ -7,10 +7,11 @@ ghost use Rattle.journal.specs.File.{IsNotBegun};
 ghost use Rattle.journal.specs.Journal.{disk_of, stopped_of};
 ghost use Rattle.shop_core.specs.File.Files.{StandsFor, furthest_gate};
 ghost use Rattle.chain_store.specs.Loading.{IsLoaded};
+ghost use Rattle.chain_store.specs.Opening.{IsAtMostSynced, IsCreation, IsOnlySynced};
 ghost use Rattle.chain_store.specs.Store.{Ready, clock_of, journal_of, state_of, torn_of};
 ghost use Rattle.chain_store.specs.declared.causes.OpenCause.TheVariants as cause;
 ghost use Rattle.chain_store.specs.declared.loading.Loaded.TheVariants.{Begun};
-ghost use Rattle.recovery.specs.Opening.{IsAtMostSynced, IsBegunInPart, IsCreation, IsFound, IsLeftUnopened, IsOnlySynced};
+ghost use Rattle.recovery.specs.Opening.{IsBegunInPart, IsFound, IsLeftUnopened};
 
 use chain_disk::Disk;
 use chain_store::{Loaded, OpenCause, Store, load};
@@ -57,7 +58,7 @@ pub fn open_store<D: Disk, C: Clock>(
     ensures unwritten { IfOk result (λ store. IsTrue D.tells →
         IsOnlySynced (D.on_disk disk) (D.on_disk (disk_of (journal_of store)))) }
     ensures created { IfOk result (λ store. IsTrue D.tells → IsNotBegun (D.on_disk disk).content →
-        IsCreation issuer.now (synced (D.on_disk disk)) (D.on_disk (disk_of (journal_of store)))) }
+        IsCreation Two issuer.now (synced (D.on_disk disk)) (D.on_disk (disk_of (journal_of store)))) }
     ensures unwritten_err { IfErr result (λ fault. IsTrue D.tells → IsAtMostSynced (D.on_disk disk) (D.on_disk fault.disk)) }
     ensures clock { IfOk result (λ store. clock_of store ≡ clock) }
     ensures later { IfOk result (λ store. D.faults disk ≤ D.faults (disk_of (journal_of store))) }
@@ -146,7 +147,7 @@ fn begin<D: Disk, C: Clock>(
         LeavesOnly (D.on_disk disk) (D.on_disk (disk_of (journal_of store)))
         (IsFound (state_of store).version issuer.now (state_of store).entries)) }
     ensures created { IfOk result (λ store. IsTrue D.tells →
-        IsCreation issuer.now (D.on_disk disk) (D.on_disk (disk_of (journal_of store)))) }
+        IsCreation Two issuer.now (D.on_disk disk) (D.on_disk (disk_of (journal_of store)))) }
     ensures in_part { IfErr result (λ fault. IsTrue D.tells → IsBegunInPart issuer.now (D.on_disk disk) (D.on_disk fault.disk)) }
     ensures lost { IfErr result (λ fault. (fault.cause ≡ cause.DiskFault) × Rose (D.faults disk) (D.faults fault.disk)
         × (fault.clock ≡ clock)) }

@@ -89,7 +89,8 @@ fn tell(turns: &mut Turns, answer: &Result<Turn, SendFault>) -> Result<(), NoMem
 
 // At `WaitUntil` it sleeps.
 fn pause<R: Wait, Z: Sleeper>(rt: &R, sleeper: &mut Z, answer: &Result<Turn, SendFault>)
-    ensures { Z.moment sleeper.new ≡ moment_after (Z.moment sleeper.old) answer.now }
+    ensures moment { Z.moment sleeper.new ≡ moment_after (Z.moment sleeper.old) answer.now }
+    ensures no_rest { Z.without_rest sleeper.old sleeper.new }
 {
     if let Ok(Turn::WaitUntil(at)) = answer {
         sleeper.wait_until(rt, *at);
@@ -115,6 +116,7 @@ impl Sender {
             turns.old turns.new links.old links.new result }
         ensures fixed { O.fixed outbox.new ≡ O.fixed outbox.old }
         ensures covers { O.least outbox.old ≤ length (O.sight outbox.new).items }
+        ensures no_rest { Z.without_rest sleeper.old sleeper.new }
     {
         let now = sleeper.now();
         let made = self.counted_turn(rt, alloc, outbox, agency, now);
@@ -142,6 +144,9 @@ impl Sender {
             (scene_of (agency_state_from G.ledger G.faults agency.new) (O.sight outbox.new) self.new (Z.moment sleeper.new))
             turns.old turns.new result }
         ensures fixed { O.fixed outbox.new ≡ O.fixed outbox.old }
+
+        // The sleeper rests at no turn.
+        ensures no_rest { Z.without_rest sleeper.old sleeper.new }
 
         // With an agency that keeps its rules, in whose session the earlier turns were, agreement stays, and it contradicts
         // itself never.
@@ -215,6 +220,7 @@ impl Sender {
             turns.old turns.new result }
         ensures fixed { O.fixed outbox.new ≡ O.fixed outbox.old }
         ensures covers { OnOk result (O.least outbox.old ≤ length (O.sight outbox.new).items) }
+        ensures no_rest { Z.without_rest sleeper.old sleeper.new }
     {
         let mut links = 0;
         for _ in rt.forever() {

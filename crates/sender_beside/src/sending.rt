@@ -86,6 +86,7 @@ pub fn drain_rest<D: Disk, C: Clock, G: Agency + Drop, Z: Sleeper + Drop, T, R: 
     ensures covers { OnOk result.answer ((seat_knows sent.seat).least ≤ length (seat_knows result.seat).seen) }
     ensures delivered { OnOk result.answer (length (noted (history_of (sight_by (seat_knows result.seat))))
         ≡ length (recs (history_of (sight_by (seat_knows result.seat))))) }
+    ensures no_rest { Z.without_rest sent.sleeper result.sleeper }
 {
     what_came_beside_is_records();
     if sent.answer.is_err() {

@@ -7,11 +7,12 @@ use Rattle.chain_disk.specs.Runs.{follows, started_settled, weaker}
 use Rattle.journal.specs.File.{IsNotBegun}
 use Rattle.journal.specs.declared.faults.StoreFault.{StoreFault}
 use Rattle.record_codec.specs.declared.entry.Entry.{Entry}
-use Rattle.recovery.specs.Opening.{IsFound, IsOnlySynced}
+use Rattle.recovery.specs.Opening.{IsFound}
 use Rattle.shop_core.specs.File.Laws.{NotBegunIsNeither}
 use Rattle.shop_core.specs.Prefix.{IsPrefix}
 use Rattle.shop_core.specs.declared.answer.Reply.{Reply}
 use Rattle.chain_store.specs.Crashes.{KeptByRun, StandsUpTo}
+use Rattle.chain_store.specs.Opening.{IsOnlySynced}
 use Rattle.shop_drain.specs.Crashes.{IsFoundSince, StandsSince}
 
 -- what is found of the file as it is held

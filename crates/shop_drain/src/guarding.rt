@@ -52,6 +52,7 @@ fn drain_pair<D: Disk, C: Clock, M: Disk, Z: Sleeper, G: Agency, R: Wait>(
     ensures missed { IsTrue G.tells → MissesTorn (spanning standby.history.entries (agency_kind G.Agency)
         (agency_state_of G.Agency opened.agency) (agency_state_of G.Agency result.opened.agency) Z.tells (Z.moment opened.sleeper)
         (guard_outcome result)) }
+    ensures no_rest { Z.without_rest opened.sleeper result.opened.sleeper }
 {
     what_came_beside_is_records();
     a_session_begins();
@@ -103,6 +104,7 @@ pub fn guard_opened<D: Disk, C: Clock, M: Disk, Z: Sleeper, G: Agency, R: Wait>(
 
     // The clock isn't read.
     ensures clock { clock_of result.opened.store ≡ clock_of opened.store }
+    ensures no_rest { Z.without_rest opened.sleeper result.opened.sleeper }
 {
     legal_is_chained();
     opened.store.state().is_legal();

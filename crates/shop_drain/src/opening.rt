@@ -40,6 +40,27 @@ impl<D: Disk, C: Clock, Z, G> Opened<D, C, Z, G> {
     ghost use Rattle.chain_store.specs.Store.{clock_of, journal_of, state_of, torn_of};
     ghost use Rattle.ports.specs.Counting.{counting};
 
+    /// The same by another clock, and the one that it had.
+    pub(crate) fn with_clock<B: Clock>(self, clock: B) -> (Opened<D, B, Z, G>, C)
+        ensures store { (state_of result.0.store ≡ state_of self.store) × (journal_of result.0.store ≡ journal_of self.store)
+            × (torn_of result.0.store ≡ torn_of self.store) }
+        ensures clocks { (clock_of result.0.store ≡ clock) × (result.1 ≡ clock_of self.store) }
+        ensures rest { (result.0.sleeper ≡ self.sleeper) × (result.0.agency ≡ self.agency) }
+    {
+        let Opened {
+            store,
+            sleeper,
+            agency,
+        } = self;
+        let (store, before) = store.with_clock(clock);
+        let opened = Opened {
+            store,
+            sleeper,
+            agency,
+        };
+        (opened, before)
+    }
+
     /// The clock and the sleeper of a clock line in their places, and those that it replaces.
     pub fn with_own_time(
         self,

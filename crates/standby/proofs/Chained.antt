@@ -5,15 +5,17 @@ use Rattle.std.specs.Prelude.{IsErrOf, OnErr, OnOk}
 use Rattle.chain_disk.specs.OnDisk.{OnDisk, LeavesNow, LeavesOnly, moment}
 use Rattle.chain_disk.specs.Runs.{follows, leaves_now, started, weaker}
 use Rattle.chain_disk.specs.declared.disk.Disk.{Ghosts}
-use Rattle.chain_store.specs.Ready.{Holds, IsReady}
+use Rattle.chain_store.specs.Ready.{Holds, IsReady, WritesEntry}
 use Rattle.chain_store.specs.Store.{Adds}
 use Rattle.chain_store.specs.declared.store.Store.{Store}
 use Rattle.journal.specs.File.{IsAt}
+use Rattle.journal.specs.Written.{with_frame}
 use Rattle.journal.specs.declared.faults.StoreFault.{StoreFault}
 use Rattle.journal.specs.declared.faults.StoreFault.TheVariants.{DiskFault, Stopped, NoMemory}
 use Rattle.shop_core.specs.Prefix.{IsPrefix}
 use Rattle.ports.specs.Causes.{Rose}
 use Rattle.ports.specs.declared.faults.NoMemory.{NoMemory as NoRoom}
+use Rattle.record_codec.specs.Writing.{entry_bytes}
 use Rattle.record_codec.specs.declared.entry.Entry.{Entry}
 use Rattle.shop_core.specs.File.Files.{AreEncoded, StandsBeforeOrWith, StandsFor, bodies_of, furthest_gate}
 use Rattle.shop_core.specs.History.{History}
@@ -172,6 +174,8 @@ module _ {D : Type 0} (tells : Bool) (on_disk : D → OnDisk) (faults : D → �
     pub any_moment : IsTrue tells → LeavesOnly (on_disk old.disk) (on_disk new.disk)
         (StandsBeforeOrWith old.history.version old.history.issuer old.history.entries entry)
     pub acknowledged : OnOk r (IsTrue tells → LeavesNow (on_disk new.disk) (StandsFor new.history.version new.history.issuer new.history.entries))
+    pub content : OnOk r (IsTrue tells →
+        WritesEntry old.history.version entry old.gate (on_disk old.disk) (on_disk new.disk))
     pub torn : OnErr r (new.torn ≡ Some entry)
     pub fault : OnErr r (Rose (faults old.disk) (faults new.disk) × (new.stopped ≡ Some (faults new.disk)))
     pub later : faults old.disk ≤ faults new.disk
@@ -217,6 +221,7 @@ module _ {D : Type 0} (tells : Bool) (on_disk : D → OnDisk) (faults : D → �
           same = tt;
           any_moment = k.any_moment;
           acknowledged = k.acknowledged;
+          content = k.content;
           torn = tt;
           fault = tt;
         },
@@ -251,6 +256,7 @@ module _ {D : Type 0} (tells : Bool) (on_disk : D → OnDisk) (faults : D → �
           same = k.same;
           any_moment = k.any_moment;
           acknowledged = tt;
+          content = tt;
           torn = k.torn;
           fault = k.fault;
         },
@@ -339,6 +345,14 @@ module _ {D : Type 0} (tells : Bool) (on_disk : D → OnDisk) (faults : D → �
       (subst (λ (es : List Entry). LeavesOnly (on_disk b.disk) (on_disk c.disk) (StandsBeforeOrWith b.history.version b.history.issuer es entry))
       r.entries only))
 
+  same_frame : (a b : ChainOnDisk D) (entry : Entry) → IsRoomy a b →
+      with_frame (on_disk b.disk).content b.gate (entry_bytes b.history.version entry)
+      ≡ with_frame (on_disk a.disk).content a.gate (entry_bytes a.history.version entry)
+  same_frame a b entry r =
+      ap (λ (d : D). with_frame (on_disk d).content b.gate (entry_bytes b.history.version entry)) r.disk
+      ∙ ap (λ (n : ℕ). with_frame (on_disk a.disk).content n (entry_bytes b.history.version entry)) r.gate
+      ∙ ap (λ (v : Version). with_frame (on_disk a.disk).content a.gate (entry_bytes v entry)) r.version
+
   keeps_roomy : {E : Type 0} (a b c : ChainOnDisk D) (entry : Entry) (r : Result (Unit {0}) E) → IsRoomy a b →
       KeepsEntry tells on_disk faults b c entry r → KeepsEntry tells on_disk faults a c entry r
   keeps_roomy {E = E} a b c entry (Ok done) r k = record {
@@ -347,6 +361,7 @@ module _ {D : Type 0} (tells : Bool) (on_disk : D → OnDisk) (faults : D → �
     same = tt;
     any_moment = λ says. moment_roomy a b c entry r (k.any_moment says);
     acknowledged = k.acknowledged;
+    content = λ says. k.content says ∙ same_frame a b entry r;
     torn = tt;
     fault = tt;
   }
@@ -356,6 +371,7 @@ module _ {D : Type 0} (tells : Bool) (on_disk : D → OnDisk) (faults : D → �
     same = k.same ∙ r.entries;
     any_moment = λ says. moment_roomy a b c entry r (k.any_moment says);
     acknowledged = tt;
+    content = tt;
     torn = k.torn;
     fault = (subst (λ (d : D). Rose (faults d) (faults c.disk)) r.disk k.fault.0, k.fault.1);
   }
@@ -377,6 +393,8 @@ module _ {D : Type 0} (tells : Bool) (on_disk : D → OnDisk) (faults : D → �
     entries = k.added.1;
     going_on = k.added.0;
     acknowledged = k.acknowledged;
+    content = λ says. k.content says ∙
+        ap (λ (body : List ℕ). with_frame (on_disk old.disk).content old.gate body) (sym next.encoding.bytes);
   }
 
   pub piece_failed : (old new : ChainOnDisk D) (piece : Piece) (entry : Entry) (fault : StoreFault) →
@@ -436,6 +454,7 @@ module _ {D C : Type 0} {g : Ghosts D} (tells : Bool) (on_disk : D → OnDisk) (
       same = tt;
       any_moment = a.any_moment;
       acknowledged = a.acknowledged;
+      content = a.content;
       torn = tt;
       fault = tt;
       later = a.later;
@@ -451,6 +470,7 @@ module _ {D C : Type 0} {g : Ghosts D} (tells : Bool) (on_disk : D → OnDisk) (
       same = a.same;
       any_moment = a.any_moment;
       acknowledged = tt;
+      content = tt;
       torn = a.torn refl;
       fault = a.fault refl;
       later = a.later;

@@ -1,3 +1,4 @@
+mod Appended
 mod CaughtUp
 mod Chained
 mod Followed

@@ -1,6 +1,8 @@
 -- What arrives at a standby.
 use Rattle.std.specs.Prelude.{◌≡◌, ◌<◌, ◌+◌, ◌++◌, ◌∷◌, [], ℕ, List, length, Bool, IsTrue, Some, None, Result, Ok, Err, OnOk, OnErr}
 use Rattle.chain_disk.specs.OnDisk.{OnDisk, LeavesNow, LeavesOnly}
+use Rattle.chain_store.specs.Ready.{WritesEntry}
+use Rattle.journal.specs.Written.{with_frame}
 use Rattle.journal.specs.declared.faults.StoreFault.{StoreFault}
 use Rattle.journal.specs.declared.faults.StoreFault.TheVariants.{DiskFault, Stopped, NoMemory}
 use Rattle.ports.specs.Causes.{Rose}
@@ -58,8 +60,8 @@ ArrivesAs version issuer entries piece (Foreign why) then = IsForeignPiece versi
 ArrivesAs version issuer entries piece Kept then = (entry : Entry) × IsNextPiece version issuer entries piece entry
     × (then ≡ entries ++ entry ∷ [])
 
--- Keeping an entry: at Ok the history has it, and a crash leaves it. After a fault of the disk the history is as it was, and
--- the entry may be in the file.
+-- Keeping an entry: at Ok the history has it, a crash leaves it, and its frame is all that was written. After a fault of the disk
+-- the history is as it was, and the entry may be in the file.
 pub record KeepsEntry {D E : Type 0} (tells : Bool) (on_disk : D → OnDisk) (faults : D → ℕ) (old new : ChainOnDisk D)
     (entry : Entry) (result : Result (Unit {0}) E) : Type 0 where
   pub goes : GoesTo tells on_disk faults old new
@@ -69,6 +71,8 @@ pub record KeepsEntry {D E : Type 0} (tells : Bool) (on_disk : D → OnDisk) (fa
       (StandsBeforeOrWith old.history.version old.history.issuer old.history.entries entry)
   pub acknowledged : OnOk result (IsTrue tells →
       LeavesNow (on_disk new.disk) (StandsFor new.history.version new.history.issuer new.history.entries))
+  pub content : OnOk result (IsTrue tells →
+      WritesEntry old.history.version entry old.gate (on_disk old.disk) (on_disk new.disk))
   pub torn : OnErr result (new.torn ≡ Some entry)
   pub fault : OnErr result (Rose (faults old.disk) (faults new.disk) × (new.stopped ≡ Some (faults new.disk)))
 
@@ -89,7 +93,7 @@ pub record Brings {D : Type 0} (tells : Bool) (on_disk : D → OnDisk) (faults :
   pub any_moment : IsTrue tells → LeavesOnly (on_disk old.disk) (on_disk new.disk)
       (StandsBeforeOrWith old.history.version old.history.issuer old.history.entries entry)
 
--- the entry was added, and every crash from now on leaves it
+-- the entry was added, every crash from now on leaves it, and a frame of the piece's bytes is all that was written
 pub record KeepsPiece {D : Type 0} (tells : Bool) (on_disk : D → OnDisk) (faults : D → ℕ) (old new : ChainOnDisk D)
     (piece : Piece) : Type 0 where
   pub entry : Entry
@@ -97,6 +101,7 @@ pub record KeepsPiece {D : Type 0} (tells : Bool) (on_disk : D → OnDisk) (faul
   pub entries : new.history.entries ≡ old.history.entries ++ entry ∷ []
   pub going_on : new.stopped ≡ None
   pub acknowledged : IsTrue tells → LeavesNow (on_disk new.disk) (StandsFor new.history.version new.history.issuer new.history.entries)
+  pub content : IsTrue tells → (on_disk new.disk).content ≡ with_frame (on_disk old.disk).content old.gate piece.body
 
 -- the disk failed while the entry was added, which stops the standby
 pub record TearsPiece {D : Type 0} (tells : Bool) (on_disk : D → OnDisk) (faults : D → ℕ) (old new : ChainOnDisk D)

@@ -7,6 +7,7 @@ use Rattle.chain_store.specs.Ready.{IsReady}
 use Rattle.chain_store.specs.Store.{journal_of, state_of, torn_of}
 use Rattle.chain_store.specs.declared.store.Store.{Store}
 use Rattle.journal.specs.Journal.{disk_of, end_of, stopped_of}
+use Rattle.journal.specs.Written.{AppendsFrom}
 use Rattle.journal.specs.declared.journal.Journal.{Journal}
 use Rattle.shop_core.specs.Prefix.{IsPrefix}
 use Rattle.record_codec.specs.declared.entry.Entry.{Entry}
@@ -82,6 +83,12 @@ pub record GoesTo {D : Type 0} (tells : Bool) (on_disk : D → OnDisk) (faults :
   pub since : IsTrue tells → LeavesOnly (on_disk old.disk) (on_disk new.disk)
       (StandsBetween old.history.version old.history.issuer old.history.entries (longest new))
   pub later : faults old.disk ≤ faults new.disk
+
+-- Where the one goes on and its disk tells what it holds, its file was only appended to: the bytes before the closing gate stay, in
+-- the file and in each that a crash leaves.
+abbrev pub IsAppended : {D : Type 0} → Bool → (D → OnDisk) → ChainOnDisk D → ChainOnDisk D → Type 0
+IsAppended tells on_disk old new =
+    old.stopped ≡ None → IsTrue tells → AppendsFrom old.gate (on_disk old.disk) (on_disk new.disk)
 
 -- as it was, but for the room
 pub record IsRoomy {D : Type 0} (old new : ChainOnDisk D) : Type 0 where

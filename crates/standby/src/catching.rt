@@ -3,7 +3,7 @@ ghost use Rattle.std.specs.Prelude.{◌≡◌, ◌<◌, length, slice_get, IfOk,
 ghost use Rattle.shop_core.specs.Prefix.{IsPrefix};
 ghost use Rattle.shop_core.specs.declared.limits.TheConstants.{MAX_ENTRIES};
 ghost use Rattle.standby.specs.Catching.{CatchesOne, CatchesUp, IsFirstApart};
-ghost use Rattle.standby.specs.Chains.{GoesTo, IsSoundChain};
+ghost use Rattle.standby.specs.Chains.{GoesTo, IsAppended, IsSoundChain};
 ghost use Rattle.standby.specs.Following.{IsFollowing};
 ghost use Rattle.standby.specs.Pieces.{IsPieceOf};
 
@@ -110,6 +110,9 @@ pub fn catch_up<D: Disk>(
     ensures caught { CatchesUp D.faults standby.old standby.new state.now.entries result }
     ensures sound { IsSoundChain D.tells D.on_disk D.faults standby.new }
     ensures goes { GoesTo D.tells D.on_disk D.faults standby.old standby.new }
+
+    // The bytes before its closing gate at the start stay, in the copy and in each file that a crash leaves.
+    ensures appended { IsAppended D.tells D.on_disk standby.old standby.new }
 
     // It stays a front of that history, and so does each file that a crash may leave.
     ensures follows { IsFollowing D.tells D.on_disk standby.old standby.new state.now.entries }

@@ -3,16 +3,17 @@ ghost use Rattle.std.specs.Prelude.{◌≡◌, ◌≤◌, ◌≢◌, ◌↔◌, 
 ghost use Rattle.ports.specs.Causes.{Rose};
 ghost use Rattle.huella.specs.Linked.{Linked};
 ghost use Rattle.chain_disk.specs.OnDisk.{LeavesNow, LeavesOnly, synced};
-ghost use Rattle.chain_store.specs.Opening.{IsFound, IsOnlySynced};
+ghost use Rattle.chain_store.specs.Opening.{IsAtMostSynced, IsCreation, IsFound, IsOnlySynced};
 ghost use Rattle.chain_store.specs.Ready.{IsReady};
 ghost use Rattle.chain_store.specs.Store.{Ready, clock_of, journal_of, state_of, torn_of};
+ghost use Rattle.journal.specs.File.{IsNotBegun};
 ghost use Rattle.journal.specs.Journal.{disk_of, end_of, stopped_of};
 ghost use Rattle.record_codec.specs.Writing.{entry_bytes};
 ghost use Rattle.shop_core.specs.File.Files.{StandsFor};
 ghost use Rattle.shop_core.specs.History.{recs};
 ghost use Rattle.shop_core.specs.Legal.{Continues, Legal};
 ghost use Rattle.standby.specs.Arriving.{AddsEntry, Arrives, KeepsEntry, Received, ReceivesUpTo};
-ghost use Rattle.standby.specs.Chains.{ChainOnDisk, GoesTo, IsSoundChain, chain_of};
+ghost use Rattle.standby.specs.Chains.{ChainOnDisk, GoesTo, IsAppended, IsSoundChain, chain_of};
 ghost use Rattle.standby.specs.Following.{Follows};
 ghost use Rattle.standby.specs.Starting.{IsLeftUnstarted};
 ghost use Rattle.standby.specs.declared.causes.StandbyCause.TheVariants as cause;
@@ -128,7 +129,12 @@ impl<D: Disk> Standby<D> {
         ensures any_moment { IfOk result (λ standby. IsTrue D.tells →
             LeavesOnly (synced (D.on_disk disk)) (D.on_disk standby.disk)
             (IsFound version version issuer.now standby.history.entries)) }
+
+        // Nothing is written but a file's creation: of a file that is begun already the sync is all that is told.
         ensures unwritten { IfOk result (λ standby. IsTrue D.tells → IsOnlySynced (D.on_disk disk) (D.on_disk standby.disk)) }
+        ensures created { IfOk result (λ standby. IsTrue D.tells → IsNotBegun (D.on_disk disk).content →
+            IsCreation version issuer.now (synced (D.on_disk disk)) (D.on_disk standby.disk)) }
+        ensures unwritten_err { IfErr result (λ fault. IsTrue D.tells → IsAtMostSynced (D.on_disk disk) (D.on_disk fault.disk)) }
         ensures later { IfOk result (λ standby. D.faults disk ≤ D.faults standby.disk) }
 
         // What the file is, by the cause, and what the calls of the disk left of it.
@@ -249,6 +255,9 @@ impl<D: Disk> Standby<D> {
         ensures sound { IsSoundChain D.tells D.on_disk D.faults self.new }
         ensures goes { GoesTo D.tells D.on_disk D.faults self.old self.new }
 
+        // The bytes before its closing gate stay, in the copy and in each file that a crash leaves.
+        ensures appended { IsAppended D.tells D.on_disk self.old self.new }
+
         // Of whatever history the piece is, the standby stays a front of it, and so does each file that a crash may leave.
         ensures follows { Follows D.tells D.on_disk self.old self.new (piece.now ∷ []) }
     {
@@ -274,6 +283,9 @@ impl<D: Disk> Standby<D> {
         ensures untouched { IsSome self.old.stopped → self.new ≡ self.old }
         ensures sound { IsSoundChain D.tells D.on_disk D.faults self.new }
         ensures goes { GoesTo D.tells D.on_disk D.faults self.old self.new }
+
+        // The bytes before its closing gate at the start stay, in the copy and in each file that a crash leaves.
+        ensures appended { IsAppended D.tells D.on_disk self.old self.new }
 
         // Of whatever history all pieces are, the standby stays a front of it, and so does each file that a crash may leave.
         ensures follows { Follows D.tells D.on_disk self.old self.new pieces.now }

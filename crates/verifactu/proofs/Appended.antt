@@ -1,14 +1,12 @@
 -- A file that stands for a history begins with the bytes of each file that stands for a front of it, up to that one's closing gate.
-use Rattle.std.proofs.Common.{◌≡◌, inl, inr, ℕ, List, [], ◌∷◌, ◌++◌, length, take, refl, sym, ◌∙◌, ap, subst, arith}
+use Rattle.std.proofs.Common.{◌≡◌, inl, inr, List, ℕ, ◌∷◌, ◌++◌, take, refl, sym, ◌∙◌, ap, subst, arith}
 use Rattle.std.proofs.Common.{append_assoc, length-append}
-use Rattle.std.proofs.lemmas.List.{map-append, take_at}
 use Rattle.chain_disk.specs.OnDisk.{IsImage, Pending}
 use Rattle.chain_disk.specs.Runs.{settled_image}
+use Rattle.chain_store.proofs.Fronts.{front_of_whole}
 use Rattle.chain_store.specs.Crashes.{StandsForEnd}
-use Rattle.frames.specs.Frames.{length_bytes}
+use Rattle.journal.proofs.Fronts.{header_long}
 use Rattle.journal.specs.File.{IsNotBegun, closing_gate, framed, header}
-use Rattle.parties.specs.Nif.{IsNif}
-use Rattle.record_codec.specs.Writing.{entry_bytes}
 use Rattle.record_codec.specs.declared.entry.Entry.{Entry}
 use Rattle.record_fields.specs.declared.versions.Version.{Version}
 use Rattle.shop_core.specs.File.Files.{StandsFor, bodies_of}
@@ -19,39 +17,10 @@ use Rattle.shop_commands.specs.Follow.IsFollowImage.{as_before, not_begun, front
 use Rattle.verifactu.specs.ChainPromise.{IsAppendedTo}
 use Rattle.verifactu.specs.FurtherPromise.{CopyAppends}
 
-framed-append : (xs ys : List (List ℕ)) (rest : List ℕ) → framed (xs ++ ys) ++ rest ≡ framed xs ++ (framed ys ++ rest)
-framed-append [] ys rest = refl
-framed-append (x ∷ xs) ys rest =
-    simp append_assoc (ap (λ (l : List ℕ). 1 ∷ (length_bytes (length x) ++ (x ++ l))) (framed-append xs ys rest))
-
-header_long : (version : Version) (issuer : List ℕ) → IsNif issuer → length (header version issuer) ≡ 18
-header_long version issuer nif = omega (arith, nif.nine)
-
--- the bytes before the closing gate, whatever stands there and after it
-bytes_before : (version : Version) (issuer : List ℕ) (bodies : List (List ℕ)) (rest : List ℕ) → IsNif issuer →
-    take (closing_gate bodies) ((1 ∷ header version issuer) ++ (framed bodies ++ rest)) ≡ (1 ∷ header version issuer) ++ framed bodies
-bytes_before version issuer bodies rest nif =
-    let first : List ℕ = 1 ∷ header version issuer in
-    let long : length (first ++ framed bodies) ≡ closing_gate bodies =
-    omega (arith, length-append first (framed bodies), header_long version issuer nif) in
-    ap (λ (l : List ℕ). take (closing_gate bodies) l) (sym (append_assoc first (framed bodies) rest))
-    ∙ take_at (first ++ framed bodies) rest (closing_gate bodies) long
-
 pub keeps_bytes : (version : Version) (issuer : List ℕ) (start end : List Entry) (held c : List ℕ) → IsPrefix start end →
     StandsFor version issuer end c → IsAppendedTo version issuer start held c
-keeps_bytes version issuer start end held c begins to = λ from.
-    let bodies : List (List ℕ) = bodies_of version start in
-    let more : List (List ℕ) = bodies_of version begins.rest in
-    let behind : List ℕ = to.frames.gate ∷ to.frames.rest in
-    let split : bodies_of version end ≡ bodies ++ more =
-    ap (λ (es : List Entry). bodies_of version es) begins.is ∙ map-append (entry_bytes version) start begins.rest in
-    let parts : c ≡ (1 ∷ header version issuer) ++ (framed bodies ++ (framed more ++ behind)) =
-    to.frames.parts ∙ ap (λ (b : List (List ℕ)). (1 ∷ header version issuer) ++ (framed b ++ behind)) split
-    ∙ ap (λ (l : List ℕ). (1 ∷ header version issuer) ++ l) (framed-append bodies more behind) in
-    ap (λ (l : List ℕ). take (closing_gate bodies) l) parts
-    ∙ bytes_before version issuer bodies (framed more ++ behind) to.frames.nif
-    ∙ sym (ap (λ (l : List ℕ). take (closing_gate bodies) l) from.frames.parts
-    ∙ bytes_before version issuer bodies (from.frames.gate ∷ from.frames.rest) from.frames.nif)
+keeps_bytes version issuer start end held c begins to =
+    λ from. front_of_whole version issuer start end held c begins from.frames to.frames
 
 -- a file that isn't begun stands for nothing
 unbegun_none : (version : Version) (issuer : List ℕ) (start : List Entry) (held : List ℕ) → IsNotBegun held →

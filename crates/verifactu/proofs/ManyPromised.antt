@@ -14,8 +14,8 @@ use Rattle.chain_disk.specs.OnDisk.{synced}
 use Rattle.chain_disk.specs.declared.disk.Disk as disk
 use Rattle.agency_port.specs.declared.agency.Agency as agency
 use Rattle.chain_store.specs.Crashes.{SurvivesCrashes}
-use Rattle.chain_store.specs.Readings.{IsComing, readings_of}
-use Rattle.chain_store.specs.Replies.{StopsOnce}
+use Rattle.chain_store.specs.Readings.{IsComing, LeavesClock, readings_of}
+use Rattle.chain_store.specs.Replies.{Replies, StopsOnce}
 use Rattle.issuers.specs.declared.parts.Part.{Part}
 use Rattle.many_issuers.specs.Ends.{IsBegunAlone, IsDrained, ManyEnds, PartsRun, Row, RowEnds, StaysClosed, Works}
 use Rattle.many_issuers.specs.Ends.ManyEnds.{bad_line, no_memory, ran, read_fault, too_big}
@@ -26,7 +26,7 @@ use Rattle.once_world.specs.Agreement.{Agree}
 use Rattle.shop_drain.proofs.Saying.{noted_both}
 use Rattle.shop_drain.specs.Opening.{IsUnbegun}
 use Rattle.shop_drain.specs.Crashes.{StandsSince}
-use Rattle.shop_drain.specs.Devices.{Agencies, AllDevices, LeftAgency, this_call}
+use Rattle.shop_drain.specs.Devices.{Agencies, AllDevices, LeftAgency, clock_in, this_call}
 use Rattle.sender_session.specs.Kinds.{agency_state_of}
 use Rattle.shop_drain.specs.Draining.{IsSession, IsUnopened, OpensSession, noted_pairs, spanning}
 use Rattle.sender_session.specs.Noting.{all_said}
@@ -112,8 +112,8 @@ module _ {D C Z G : Type 0} (chained : AreLinked) (a : AllDevices D C Z G)
   abbrev k : Disks D
   k = a.devices.disk
 
-  module _ (script : Script) (coming : ℕ → Option ℕ) (end : Detail) (block : Result (List ℕ) NoMemory)
-      (w : Works issuer script coming k a.sleeper a.agency end block) (asked : AreAskedOfPart a.devices.source w.asked) where
+  module _ (script : Script) (coming : ℕ → Option ℕ) (Leaves : Replies → Type 0) (end : Detail) (block : Result (List ℕ) NoMemory)
+      (w : Works issuer script coming Leaves k a.sleeper a.agency end block) (asked : AreAskedOfPart a.devices.source w.asked) where
     abbrev start : List Entry
     start = w.played.start
 
@@ -190,8 +190,8 @@ module _ {D C Z G : Type 0} (chained : AreLinked) (a : AllDevices D C Z G)
     works_left : LeftBy chained a agency_stays issuer
     works_left = elim w.behind [ inl d ↦ drained d | inr b ↦ alone b ]
 
-  pub closed_left : (end : Detail) (block : Result (List ℕ) NoMemory) → StaysClosed issuer k a.sleeper a.agency end block →
-      LeftBy chained a agency_stays issuer
+  pub closed_left : (end : Detail) (block : Result (List ℕ) NoMemory) →
+      StaysClosed issuer a.devices.clock k a.sleeper a.agency end block → LeftBy chained a agency_stays issuer
   closed_left end block h = unopened chained issuer k (Rest chained a agency_stays) h.why (h.unopened.left_by says) (nothing chained a agency_stays h.agency)
 
 -- each issuer of a run
@@ -227,7 +227,8 @@ module _ {D C Z G : Type 0} (chained : AreLinked) (within : NotedWithinRecords) 
         (λ says. closed_left chained (call r.post r.after) (same_agency_state r.post r.after) within rules r.issuer says r.end r.block h)
     row_kept r before after among (inr w) = kept_by r.issuer r.post r.after
         (λ says. works_left chained (call r.post r.after) (same_agency_state r.post r.after) within rules r.issuer says r.part.script
-        (readings_of r.part.script.clock (c.coming r.post.clock)) r.end r.block w (record {
+        (readings_of r.part.script.clock (c.coming r.post.clock)) (LeavesClock (clock_in c r.post r.after) r.part.script.clock) r.end r.block w
+        (record {
           issuers = issuers;
           parts = parts;
           good = good;

@@ -1,11 +1,12 @@
 -- The promise's part on the chain: a file goes on as one legal history, whatever crashes come, and is append-only.
-use Rattle.std.specs.Prelude.{◌≡◌, ◌⊎◌, ◌≤◌, ℕ, List, [], ◌++◌, length, take}
+use Rattle.std.specs.Prelude.{◌≡◌, ◌⊎◌, ◌≤◌, ℕ, List, [], ◌++◌, length}
 use Rattle.chain_disk.specs.Disks.{DiskRose, Disks}
 use Rattle.chain_disk.specs.OnDisk.{IsLeft, IsSettled, IsSyncFailed, LeavesNow, LeavesOnly, OnDisk, moment, synced}
 use Rattle.record_fields.specs.declared.versions.Version.{Version}
 use Rattle.huella.specs.Linked.{Linked}
 use Rattle.record_codec.specs.declared.entry.Entry.{Entry}
 use Rattle.journal.specs.File.{closing_gate}
+use Rattle.journal.specs.Written.{KeepsFront}
 use Rattle.shop_core.specs.File.Files.{StandsFor, bodies_of}
 use Rattle.shop_core.specs.History.{recs}
 use Rattle.shop_core.specs.Legal.{Legal}
@@ -28,7 +29,7 @@ pub data Crashes (Since Now : List ℕ → Type 0) (old new : OnDisk) : Type 0 w
 -- header and the frames. The gate itself, which an append makes 1, and what stands after it are not among them.
 abbrev pub IsAppendedTo : Version → List ℕ → List Entry → List ℕ → List ℕ → Type 0
 IsAppendedTo version issuer start held file = StandsFor version issuer start held →
-    take (closing_gate (bodies_of version start)) file ≡ take (closing_gate (bodies_of version start)) held
+    KeepsFront (closing_gate (bodies_of version start)) held file
 
 -- The file is append-only: so is the file at the end, and each that a crash leaves, at every moment, where nothing was pending at the
 -- start, and otherwise since the first sync.

@@ -94,11 +94,17 @@ struct WatchingClock<'a> {
 }
 
 impl<'a> Clock for WatchingClock<'a> {
-    ghost use Rattle.std.specs.Prelude.{None};
+    ghost use Rattle.std.specs.Prelude.{None, ⊤};
 
     ghost last = { λ c. 1_735_722_000 };
 
     ghost coming = { λ c k. None };
+
+    ghost by_readings = { λ _ _. ⊤ };
+
+    ghost unread = { λ _. tt };
+
+    ghost reading_goes_on = { λ _ _ _ _ _. tt };
 
     fn now(&mut self) -> u64 {
         if self.syncs.load(Ordering::SeqCst) < syncs_for(self.readings.min(self.sales)) {
@@ -130,12 +136,14 @@ impl<'a> LockstepSource<'a> {
 }
 
 impl<'a> Source for LockstepSource<'a> {
-    ghost use Rattle.std.specs.Prelude.{None};
+    ghost use Rattle.std.specs.Prelude.{None, true};
     ghost use Rattle.std.proofs.Common.{rules, arith};
 
     ghost left = { λ s. None };
 
     ghost faults = { λ s. 0 };
+
+    ghost counts = { true };
 
     ghost few_faults = { Prim.search (rules, arith) };
 

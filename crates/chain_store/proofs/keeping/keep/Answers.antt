@@ -4,6 +4,7 @@ use Rattle.record_codec.specs.Validity.{AreFields}
 use Rattle.journal.specs.declared.journal.JournalFault.{JournalFault}
 use Rattle.frames.specs.Frames.{IsBody}
 use Rattle.journal.specs.Journal.{disk_of, end_of, stopped_of}
+use Rattle.journal.specs.Written.{with_frame}
 use Rattle.shop_core.specs.History.{History}
 use Rattle.shop_core.specs.Legal.{Legal}
 use Rattle.chain_store.specs.Ready.{IsReady}
@@ -52,6 +53,9 @@ returns-in-Ok g c =
       same = search rules;
       any_moment = λ tells. appended (around tells) is
           (c.append.ensures.any_moment c.requires.going_on tells s.version s.issuer _ (c.requires.ready.holds refl tells).file);
+      appended = c.append.ensures.appended c.requires.going_on;
+      content = λ tells. c.in-Ok.ensures.content tells ∙
+          ap (λ (b : List ℕ). with_frame (g.D.Disk.on_disk (disk_of c.args.journal.now)).content (end_of c.args.journal.now) b) is;
       acknowledged = λ tells. leaves_its_history c.apply_encoded.new.self (end_of c.append.new.self)
           (g.D.Disk.on_disk (disk_of c.append.new.self)) (ready.holds c.in-Ok.ensures.going_on.1 tells) legal;
       fault = search rules;
@@ -76,6 +80,8 @@ returns-in-Err-DiskFault g c =
           (subst (λ (v : Version). AreFields v c.args.entry) c.version.ensures c.fields_are_valid.ensures) in
           appended a c.requires.encoding
           (c.append.ensures.any_moment c.requires.going_on tells s.version s.issuer _ holds.file);
+      appended = c.append.ensures.appended c.requires.going_on;
+      content = search rules;
       acknowledged = search rules;
       fault = search rules;
       later = search rules;

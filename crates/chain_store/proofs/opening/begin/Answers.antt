@@ -1,6 +1,5 @@
-use Rattle.std.proofs.Common.{◌≡◌, List, [], sym, ap, subst}
-use Rattle.record_fields.specs.declared.versions.Version.{Version}
-use Rattle.chain_disk.specs.OnDisk.{OnDisk, LeavesNow, LeavesOnly}
+use Rattle.std.proofs.Common.{[], sym, subst}
+use Rattle.chain_disk.specs.OnDisk.{LeavesNow, LeavesOnly}
 use Rattle.journal.specs.Journal.{disk_of}
 use Rattle.shop_core.specs.History.{History}
 use Rattle.shop_core.specs.Legal.{Legal}
@@ -33,3 +32,6 @@ returns-in-Ok-clause-any_moment g c tells =
 pub returns-in-Ok-clause-ready : goal.returns-in-Ok-clause-ready
 returns-in-Ok-clause-ready g c = ready_empty g.D.Disk.tells c.args.created c.args.issuer.now c.empty-state.result _ _ _
     c.empty-state.ensures c.in-Ok.ensures.place c.in-Ok.ensures.empty
+
+pub returns-in-Ok-clause-created : goal.returns-in-Ok-clause-created
+returns-in-Ok-clause-created g c tells = record { content = c.in-Ok.ensures.content tells; takes = c.in-Ok.ensures.moments tells }

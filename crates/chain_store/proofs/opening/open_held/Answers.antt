@@ -1,6 +1,6 @@
 use Rattle.std.proofs.Common.{◌≡◌, List, ℕ, rules, sym, ap, subst, refl, None}
 use Rattle.chain_disk.specs.OnDisk.{OnDisk, LeavesNow, LeavesOnly}
-use Rattle.journal.specs.Journal.{disk_of, end_of}
+use Rattle.journal.specs.Journal.{end_of}
 use Rattle.shop_core.specs.File.Files.{StandsFor}
 use Rattle.chain_store.specs.Opening.{IsFound}
 use Rattle.chain_store.specs.Ready.{IsReady}

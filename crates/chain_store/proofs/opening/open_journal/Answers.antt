@@ -2,7 +2,7 @@ use Rattle.std.proofs.Common.{◌∙◌, sym, ap, subst}
 use Rattle.chain_disk.specs.OnDisk.{OnDisk, LeavesOnly}
 use Rattle.journal.specs.File.{IsNotBegun}
 use Rattle.journal.specs.Journal.{disk_of}
-use Rattle.chain_store.specs.Opening.{IsFound}
+use Rattle.chain_store.specs.Opening.{IsCreation, IsFound}
 use Rattle.chain_store.specs.declared.loading.Loaded.TheVariants.{Begun}
 use Rattle.chain_store.proofs.Opens.{if_ok, loaded_settled}
 use Rattle.chain_store.proofs.opening.open_journal.Goals as goal
@@ -29,3 +29,16 @@ returns-in-Ok-NotBegun-clause-unwritten g c =
     let not = rw c.in-Ok-NotBegun.field-0-is at (c.in-Ok-NotBegun.ensures.content tells) in
     let content = ap (λ (t : OnDisk). t.content) (c.in-Ok.ensures.ok tells) in
     absurd (begun (subst IsNotBegun content not)))
+
+pub returns-in-Ok-Begun-clause-created : goal.returns-in-Ok-Begun-clause-created
+returns-in-Ok-Begun-clause-created g c =
+    if_ok _ _ c.open_held.result c.open_held.ensures.same (λ opened h tells not.
+    let loaded = rw c.in-Ok-Begun.field-0-is at (c.in-Ok-Begun.ensures.content tells) in
+    let content = ap (λ (t : OnDisk). t.content) (c.in-Ok.ensures.ok tells) in
+    absurd (c.a_file_not_begun_is_no_chain.ensures _ _ _ _ (subst IsNotBegun (sym content) not) loaded.0.frames))
+
+pub returns-in-Ok-NotBegun-clause-created : goal.returns-in-Ok-NotBegun-clause-created
+returns-in-Ok-NotBegun-clause-created g c =
+    if_ok _ _ c.begin.result c.begin.ensures.created (λ opened h tells not.
+    subst (λ (t : OnDisk). IsCreation c.args.created c.args.issuer.now t (g.D.Disk.on_disk (disk_of opened.journal)))
+    (c.load.ensures.same ∙ c.in-Ok.ensures.ok tells) (h tells))

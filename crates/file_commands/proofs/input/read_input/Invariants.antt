@@ -1,4 +1,4 @@
-use Rattle.std.proofs.Common.{◌≡◌, ◌≤◌, length, vec_len}
+use Rattle.std.proofs.Common.{◌≡◌, ◌≤◌, IsTrue, length, vec_len}
 use Rattle.std.specs.Io.KnownBytes.{Consumes}
 use Rattle.file_commands.proofs.input.read_input.Given as goal
 
@@ -9,4 +9,5 @@ invariant-loop-turn g l = record {
   size : vec_len l.bytes ≤ 16777216;
   room : length l.buf ≡ 65536;
   later : g.S.Source.faults l.initial.source ≤ g.S.Source.faults l.source;
+  once : IsTrue g.S.Source.counts → g.S.Source.faults l.source ≡ g.S.Source.faults l.initial.source;
 }

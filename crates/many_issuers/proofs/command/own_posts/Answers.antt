@@ -30,6 +30,8 @@ loop-post-preserved g c =
           c.push_reserved.ensures.items
           (subst (λ (p : Part). IsOwnPost g.C.Clock.coming p c.in-Some.post c.own_post.result) (sym c.index-parts-len.is) (record {
             times = c.own_post.ensures.coming;
+            given_is = c.own_post.ensures.given;
+            replaced_is = c.own_post.ensures.replaced;
             disk_is = c.own_post.ensures.rest.0;
             sleeper_is = c.own_post.ensures.rest.1;
             agency_is = c.own_post.ensures.rest.2;

@@ -7,8 +7,9 @@ use Rattle.record_codec.specs.declared.entry.Entry.{Entry}
 use Rattle.shop_core.specs.History.{History}
 use Rattle.shop_core.specs.Legal.{Legal}
 use Rattle.shop_core.specs.File.Files.{StandsFor}
-use Rattle.recovery.specs.Opening.{IsCreation, IsFound}
+use Rattle.recovery.specs.Opening.{IsFound}
 use Rattle.recovery.proofs.Opens.{begun, begins}
+use Rattle.chain_store.specs.Opening.{IsCreation}
 use Rattle.chain_store.specs.Ready.{IsReady}
 use Rattle.journal.specs.Journal.{end_of, stopped_of}
 use Rattle.recovery.proofs.Readies.{ready_empty}
@@ -47,7 +48,7 @@ returns-in-Ok-clause-any_moment g c tells =
 
 pub returns-in-Ok-clause-created : goal.returns-in-Ok-clause-created
 returns-in-Ok-clause-created g c tells =
-    subst (λ (t : OnDisk). IsCreation c.args.issuer.now (g.D.Disk.on_disk c.args.disk) t)
+    subst (λ (t : OnDisk). IsCreation Two c.args.issuer.now (g.D.Disk.on_disk c.args.disk) t)
     (sym (ap (λ j. g.D.Disk.on_disk (disk_of j)) c.of.ensures.parts.1))
     (record { content = c.in-Ok.ensures.content tells; takes = c.in-Ok.ensures.moments tells })
 

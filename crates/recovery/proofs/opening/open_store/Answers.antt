@@ -1,10 +1,12 @@
 use Rattle.std.proofs.Common.{◌∙◌, sym, ap, subst}
 use Rattle.chain_disk.specs.OnDisk.{OnDisk, LeavesOnly}
+use Rattle.record_fields.specs.declared.versions.Version.TheVariants.{Two}
 use Rattle.chain_store.specs.declared.loading.Loaded.TheVariants.{Begun}
+use Rattle.chain_store.specs.Opening.{IsCreation}
 use Rattle.chain_store.specs.Store.{journal_of, state_of}
 use Rattle.journal.specs.File.{IsNotBegun}
 use Rattle.journal.specs.Journal.{disk_of}
-use Rattle.recovery.specs.Opening.{IsCreation, IsFound}
+use Rattle.recovery.specs.Opening.{IsFound}
 use Rattle.recovery.proofs.Opens.{if_ok, loaded_settled}
 use Rattle.recovery.proofs.opening.open_store.Goals as goal
 
@@ -40,5 +42,5 @@ returns-in-Ok-NotBegun-clause-unwritten g c =
 pub returns-in-Ok-NotBegun-clause-created : goal.returns-in-Ok-NotBegun-clause-created
 returns-in-Ok-NotBegun-clause-created g c =
     if_ok _ _ c.begin.result c.begin.ensures.created (λ store h tells not.
-    subst (λ (t : OnDisk). IsCreation c.args.issuer.now t (g.D.Disk.on_disk (disk_of (journal_of store))))
+    subst (λ (t : OnDisk). IsCreation Two c.args.issuer.now t (g.D.Disk.on_disk (disk_of (journal_of store))))
     (c.load.ensures.same ∙ c.in-Ok.ensures.ok tells) (h tells))

@@ -105,3 +105,6 @@ returns-then-is_err-clause-failed g c = on_error c.args.sent.answer refl
 
 pub returns-clause-failed : goal.returns-clause-failed
 returns-clause-failed g c = off_error _ c.args.sent.answer (sym c.is_err.ensures.value ∙ c.if-is_err.false)
+
+pub returns-then-is_err-clause-no_rest : goal.returns-then-is_err-clause-no_rest
+returns-then-is_err-clause-no_rest g c = g.met.Z.Sleeper.unrested c.args.sent.sleeper

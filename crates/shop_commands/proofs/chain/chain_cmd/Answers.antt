@@ -22,7 +22,7 @@ returns-in-Ok-clause-ends g c =
       clock = this_clock g.C.Clock.coming c.args.clock run.result.2;
     } in
     subst (λ (d : Detail). ChainEnds issuer devices d) (sym c.of-in-Ok.ensures.detail)
-    (chain_ran issuer devices c.in-Ok.script run.result.0 c.in-Ok.ensures run.ensures)
+    (chain_ran issuer devices c.in-Ok.script run.result.0 c.in-Ok.ensures.script run.ensures)
 
 pub returns-in-Err-clause-ends : goal.returns-in-Err-clause-ends
 returns-in-Err-clause-ends g c =
@@ -34,5 +34,5 @@ returns-in-Err-clause-ends g c =
       clock = this_clock g.C.Clock.coming c.args.clock c.args.clock;
     } in
     subst (λ (d : Detail). ChainEnds issuer devices d) (sym (c.of.ensures.detail ∙ c.detail.ensures))
-    (unread Full devices.source (Untouched devices) (ChainRan issuer devices) c.in-Err.fault c.in-Err.ensures
+    (unread Full devices.source (Untouched devices) (ChainRan issuer devices) c.in-Err.fault c.in-Err.ensures.script
     (record { wrote = search rules; disk = refl; clock = refl }))

@@ -17,7 +17,7 @@ returns-in-Ok-clause-ends g c =
     (this_sink g.K.Sink.taken g.K.Sink.faults c.args.sink.now run.new.sink) g.D.Disk g.C.Clock g.Z.Sleeper g.G.Agency
     c.args.post run.result.1 in
     subst (λ (d : Detail). DrainEnds c.args.issuer.now all d) (sym c.of-in-Ok.ensures.detail)
-    (ran c.in-Ok.script run.result.0 c.in-Ok.ensures run.ensures)
+    (ran c.in-Ok.script run.result.0 c.in-Ok.ensures.script run.ensures)
 
 pub returns-in-Err-clause-ends : goal.returns-in-Err-clause-ends
 returns-in-Err-clause-ends g c =
@@ -29,4 +29,4 @@ returns-in-Err-clause-ends g c =
     subst (λ (d : Detail). DrainEnds issuer all d) (sym (c.of.ensures.detail ∙ c.detail.ensures))
     (unread NoCommands all.devices.source (LeftAll (around all)) (λ (script : Script) (how : Detail).
     ScriptDrainEnds issuer script all.devices.sink all.devices.disk all.devices.clock all.sleeper all.agency how) c.in-Err.fault
-    c.in-Err.ensures (record { wrote = search rules; disk = refl; clock = refl; sleeper = refl; agency = refl }))
+    c.in-Err.ensures.script (record { wrote = search rules; disk = refl; clock = refl; sleeper = refl; agency = refl }))

@@ -1,5 +1,5 @@
 use Rattle.std.proofs.Common.{inl, inr, sym, subst}
-use Rattle.chain_store.specs.Store.{journal_of, state_of}
+use Rattle.chain_store.specs.Store.{clock_of, journal_of, state_of}
 use Rattle.journal.specs.Journal.{disk_of}
 use Rattle.file_commands.proofs.Bytewise.{took_nothing}
 use Rattle.ports.specs.Sinks.{this_sink}
@@ -58,5 +58,5 @@ returns-in-Ok g c =
           h.later (outcome_of end, drains, c.print_turns-detail.ensures));
       clock = subst (λ (x : g.row.C.Denot). IsLater g.C.Clock.coming x then.clock) h.clock_is
           (subst (λ (y : g.row.C.Denot). IsLater g.C.Clock.coming (parts_of store).clock y) (sym c.close.ensures.clock)
-          c.drain_opened-end.ensures.clock);
+          (not_later g.C.Clock.coming (clock_of store) (clock_of end.opened.store) c.drain_opened-end.ensures.clock));
     }

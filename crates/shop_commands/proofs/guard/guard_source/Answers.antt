@@ -19,7 +19,7 @@ returns-in-Ok-clause-ends g c =
     c.args.post run.result.1 in
     let l = this_disk g.D.Disk.tells g.D.Disk.on_disk g.D.Disk.faults c.args.copy run.result.2 in
     subst (λ (d : Detail). GuardEnds c.args.issuer.now all l d) (sym c.of-in-Ok.ensures.detail)
-    (ran c.in-Ok.script run.result.0 c.in-Ok.ensures run.ensures)
+    (ran c.in-Ok.script run.result.0 c.in-Ok.ensures.script run.ensures)
 
 pub returns-in-Err-clause-ends : goal.returns-in-Err-clause-ends
 returns-in-Err-clause-ends g c =
@@ -32,4 +32,4 @@ returns-in-Err-clause-ends g c =
     subst (λ (d : Detail). GuardEnds issuer all l d) (sym (c.of.ensures.detail ∙ c.detail.ensures))
     (unread NoCommands all.devices.source (LeftAll (around all) × LeftDisk l) (λ (script : Script) (how : Detail).
     ScriptGuardEnds issuer script all.devices.sink all.devices.disk l all.devices.clock all.sleeper all.agency how) c.in-Err.fault
-    c.in-Err.ensures (record { wrote = search rules; disk = refl; clock = refl; sleeper = refl; agency = refl }, refl))
+    c.in-Err.ensures.script (record { wrote = search rules; disk = refl; clock = refl; sleeper = refl; agency = refl }, refl))

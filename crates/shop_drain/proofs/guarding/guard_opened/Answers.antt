@@ -82,3 +82,6 @@ returns-in-Err-clause-drains g c =
     (ap (λ (l : Ledger). l.messages) (c.in-Err.ensures.err.0 tells)))
     (λ tells. nothing_said d.start start.standby.history.entries old.ledger.messages new.ledger.messages c.requires.entries
     (ap (λ (l : Ledger). l.messages) (c.in-Err.ensures.err.0 tells)))
+
+pub returns-in-Err-clause-no_rest : goal.returns-in-Err-clause-no_rest
+returns-in-Err-clause-no_rest g c = g.met.Z.Sleeper.unrested c.args.opened.sleeper

@@ -1,5 +1,6 @@
 use Rattle.std.proofs.Common.{◌≡◌, ◌∙◌, length, ap, arith}
 use Rattle.shop_core.specs.History.{History}
+use Rattle.standby.proofs.Appended.{goes_appended}
 use Rattle.standby.proofs.CaughtUp.{caught_up_err, following_on, following_same, no_longer, whole}
 use Rattle.standby.proofs.Chained.{goes_on, goes_same}
 use Rattle.standby.proofs.catching.catch_up.Goals as goal
@@ -67,6 +68,18 @@ pub returns-in-Err-clause-follows : goal.returns-in-Err-clause-follows
 returns-in-Err-clause-follows g c =
     following_on g.D.Disk.tells g.D.Disk.on_disk g.D.Disk.faults c.args.standby.now c.loop-index.standby c.catch_one.new.standby
     c.args.state.now.entries c.loop-index.invariant.follows c.in-Err.ensures.follows
+
+pub returns-in-Err-clause-appended : goal.returns-in-Err-clause-appended
+returns-in-Err-clause-appended g c =
+    goes_appended g.D.Disk.tells g.D.Disk.on_disk g.D.Disk.faults c.args.standby.now c.catch_one.new.standby c.is_sound.ensures
+    (goes_on g.D.Disk.tells g.D.Disk.on_disk g.D.Disk.faults c.args.standby.now c.loop-index.standby c.catch_one.new.standby
+    c.loop-index.invariant.goes c.in-Err.ensures.goes)
+    (λ says. g.met.D.Disk.reads_an_image c.catch_one.new.standby.disk says)
+
+pub returns-clause-appended : goal.returns-clause-appended
+returns-clause-appended g c =
+    goes_appended g.D.Disk.tells g.D.Disk.on_disk g.D.Disk.faults c.args.standby.now c.loop-index.standby c.is_sound.ensures
+    c.loop-index.invariant.goes (λ says. g.met.D.Disk.reads_an_image c.loop-index.standby.disk says)
 
 pub returns-clause-caught : goal.returns-clause-caught
 returns-clause-caught g c =

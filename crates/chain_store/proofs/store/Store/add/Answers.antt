@@ -1,6 +1,8 @@
 use Rattle.std.proofs.Common.{rules, ap, refl, subst, sym}
 use Rattle.chain_disk.specs.OnDisk.{LeavesOnly}
-use Rattle.journal.specs.Journal.{disk_of}
+use Rattle.journal.proofs.Appends.{appends_none}
+use Rattle.journal.specs.Journal.{disk_of, end_of}
+use Rattle.journal.specs.Written.{AppendsFrom}
 use Rattle.shop_core.specs.File.Files.{StandsBeforeOrWith}
 use Rattle.shop_core.specs.History.{History}
 use Rattle.chain_store.proofs.Stores.{untouched_around}
@@ -20,6 +22,11 @@ returns-in_default g c =
       any_moment = λ tells. subst (λ (j : _). LeavesOnly (g.D.Disk.on_disk (disk_of c.args.self.now.journal))
           (g.D.Disk.on_disk (disk_of j)) (StandsBeforeOrWith s.version s.issuer s.entries c.args.entry)) (sym same.0)
           (untouched_around s _ _ c.args.entry (c.requires.ready.holds refl tells) c.is_legal.ensures);
+      appended = λ going tells. subst (λ (j : _). AppendsFrom (end_of c.args.self.now.journal)
+          (g.D.Disk.on_disk (disk_of c.args.self.now.journal)) (g.D.Disk.on_disk (disk_of j))) (sym same.0)
+          (appends_none (end_of c.args.self.now.journal) (g.D.Disk.on_disk (disk_of c.args.self.now.journal))
+          (c.requires.ready.holds refl tells).file.nothing_pending);
+      content = search rules;
       acknowledged = search rules;
       no_memory = search rules;
       fault = search rules;

@@ -1,3 +1,4 @@
+use Rattle.journal.proofs.Appends.{appends_none}
 use Rattle.journal.specs.Journal.{end_of}
 use Rattle.chain_store.proofs.Stores.{untouched_around}
 use Rattle.chain_store.proofs.store.Store.note.Goals as goal
@@ -6,3 +7,7 @@ pub returns-in_default-from_slice-clause-any_moment : goal.returns-in_default-fr
 returns-in_default-from_slice-clause-any_moment g c going_on tells =
     untouched_around c.args.self.now.state (end_of c.args.self.now.journal) _ _ (c.requires.ready.holds going_on tells)
     c.is_legal.ensures
+
+pub returns-in_default-from_slice-clause-appended : goal.returns-in_default-from_slice-clause-appended
+returns-in_default-from_slice-clause-appended g c going tells =
+    appends_none (end_of c.args.self.now.journal) _ (c.requires.ready.holds going tells).file.nothing_pending

@@ -1,13 +1,35 @@
 use Rattle.std.proofs.lemmas.Result.{on_ok_weaker}
 use Rattle.std.proofs.Common.{rules, refl, sym, ◌∙◌, subst, Ok, Err}
+use Rattle.journal.proofs.Appends.{appends_none}
 use Rattle.journal.specs.Journal.{end_of}
 use Rattle.journal.specs.declared.faults.StoreFault.{StoreFault}
 use Rattle.ports.specs.Readings.{MovedBy}
+use Rattle.record_codec.specs.declared.entry.Entry.{Entry}
 use Rattle.shop_core.specs.Answer.Plans.{answer}
 use Rattle.shop_core.specs.declared.answer.Reply.TheVariants as reply
 use Rattle.chain_store.proofs.Stores.{leaves_its_history, untouched}
-use Rattle.chain_store.proofs.Taking.{made, not_made, told_again, told_refused}
+use Rattle.chain_store.specs.Store.{Writes}
+use Rattle.chain_store.proofs.Taking.{made, none_gained, not_made, of_gained, told_again, told_refused}
 use Rattle.chain_store.proofs.store.Store.take_asking.Goals as goal
+
+pub returns-in-Some : goal.returns-in-Some
+returns-in-Some g c =
+    record {
+      ready = search rules;
+      takes = search rules;
+      appended = search rules;
+      content = λ entry gained. absurd (none_gained c.args.self.now.state.entries entry gained);
+      acknowledged = search rules;
+      going_on = search rules;
+      nothing_taken = search rules;
+      no_memory = search rules;
+      fault = search rules;
+      torn = search rules;
+      stopped = search rules;
+      untouched = search rules;
+      later = search rules;
+      read = g.met.C.Clock.unread c.args.self.now.clock;
+    }
 
 pub returns-in-Err : goal.returns-in-Err
 returns-in-Err g c =
@@ -18,6 +40,9 @@ returns-in-Err g c =
           c.now-seconds.ensures.told c.now-seconds.ensures.moved refl
           (λ tells. untouched c.args.self.now.state (end_of c.args.self.now.journal) _ (c.requires.holds going_on tells)
           c.is_legal.ensures);
+      appended = λ going_on tells. appends_none (end_of c.args.self.now.journal) _
+          (c.requires.holds going_on tells).file.nothing_pending;
+      content = λ entry gained. absurd (none_gained c.args.self.now.state.entries entry gained);
       acknowledged = search rules;
       going_on = search rules;
       nothing_taken = search rules;
@@ -27,6 +52,7 @@ returns-in-Err g c =
       stopped = search rules;
       untouched = search rules;
       later = search rules;
+      read = c.now-seconds.ensures.read;
     }
 
 pub returns-in-Ok-Again : goal.returns-in-Ok-Again
@@ -40,6 +66,9 @@ returns-in-Ok-Again g c =
           c.now-seconds.ensures.told c.now-seconds.ensures.moved
           (told_again s.issuer s.entries planned c.in-Ok-Again.receipt (sym c.in-Ok-Again.ensures.answer ∙ c.in-Ok-Again.field-0-is))
           (λ tells. untouched s (end_of c.args.self.now.journal) _ (c.requires.holds going_on tells) c.is_legal.ensures);
+      appended = λ going_on tells. appends_none (end_of c.args.self.now.journal) _
+          (c.requires.holds going_on tells).file.nothing_pending;
+      content = λ entry gained. absurd (none_gained c.args.self.now.state.entries entry gained);
       acknowledged = λ tells.
           leaves_its_history c.args.self.now.state (end_of c.args.self.now.journal) _ (c.requires.holds (sym c.in_default.ensures) tells)
           c.is_legal.ensures;
@@ -51,6 +80,7 @@ returns-in-Ok-Again g c =
       stopped = search rules;
       untouched = search rules;
       later = search rules;
+      read = c.now-seconds.ensures.read;
     }
 
 pub returns-in-Ok-Refused : goal.returns-in-Ok-Refused
@@ -65,6 +95,9 @@ returns-in-Ok-Refused g c =
           (told_refused s.issuer s.entries planned c.in-Ok-Refused.why (sym c.in-Ok-Refused.ensures.answer ∙
           c.in-Ok-Refused.field-0-is))
           (λ tells. untouched s (end_of c.args.self.now.journal) _ (c.requires.holds going_on tells) c.is_legal.ensures);
+      appended = λ going_on tells. appends_none (end_of c.args.self.now.journal) _
+          (c.requires.holds going_on tells).file.nothing_pending;
+      content = λ entry gained. absurd (none_gained c.args.self.now.state.entries entry gained);
       acknowledged = λ tells.
           leaves_its_history c.args.self.now.state (end_of c.args.self.now.journal) _ (c.requires.holds (sym c.in_default.ensures) tells)
           c.is_legal.ensures;
@@ -76,6 +109,7 @@ returns-in-Ok-Refused g c =
       stopped = search rules;
       untouched = search rules;
       later = search rules;
+      read = c.now-seconds.ensures.read;
     }
 
 pub returns-in-Ok-Made : goal.returns-in-Ok-Made
@@ -92,6 +126,13 @@ returns-in-Ok-Made g c =
           c.now-seconds.ensures.moved)
           t.issuer t.version (sym c.in-Ok-Made.ensures.answer ∙ c.in-Ok-Made.field-0-is) c.take_made.ensures.reply
           (on_ok_weaker c.take_made.result (λ both. both.1) t.added) t.same t.any_moment;
+      appended = c.take_made.ensures.adds.appended;
+      content = λ gained is.
+          let s = c.args.self.now in
+          let t = c.take_made.ensures.adds in
+          of_gained (λ (e : Entry). Writes g.D.Disk.tells g.D.Disk.on_disk s c.take_made.new.self e) s.state.entries
+          c.take_made.new.self.state.entries c.take_made.result c.in-Ok-Made.entry gained
+          (on_ok_weaker c.take_made.result (λ both. both.1) t.added) t.same t.content is;
       acknowledged = search rules;
       going_on = search rules;
       nothing_taken = search rules;
@@ -101,4 +142,6 @@ returns-in-Ok-Made g c =
       stopped = search rules;
       untouched = search rules;
       later = search rules;
+      read = subst (λ (k : g.row.C.Denot). g.C.Clock.by_readings c.args.self.now.clock k) (sym c.take_made.ensures.adds.clock)
+          c.now-seconds.ensures.read;
     }

@@ -1,4 +1,3 @@
-use Rattle.std.proofs.Common.{arith}
 use Rattle.journal.proofs.Windows.{read_window}
 use Rattle.journal.specs.declared.ahead.TheConstants.{AHEAD}
 use Rattle.journal.proofs.ahead.ReadAhead.fill.Goals as goal

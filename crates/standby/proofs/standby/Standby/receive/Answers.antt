@@ -9,6 +9,7 @@ use Rattle.standby.specs.Arriving.{ArrivesAs, Received, kept_by}
 use Rattle.standby.specs.Arriving.Received.{none, more}
 use Rattle.standby.specs.Following.{Follows}
 use Rattle.standby.specs.declared.pieces.Piece.{Piece}
+use Rattle.standby.proofs.Appended.{goes_appended}
 use Rattle.standby.proofs.Chained.{goes_on, goes_same}
 use Rattle.standby.proofs.Followed.{arrived_as, follows_front, follows_on, follows_same}
 use Rattle.standby.proofs.Receiving.{as_begun, ends_by, going_by, never_stops, not_stopped, same_by_fault, stays_going, stops_by}
@@ -68,6 +69,18 @@ loop-piece-preserved g c =
 pub returns-in-Err-clause-goes : goal.returns-in-Err-clause-goes
 returns-in-Err-clause-goes g c = goes_on g.D.Disk.tells g.D.Disk.on_disk g.D.Disk.faults c.args.self.now c.loop-piece.self
     c.arrive.new.self c.loop-piece.invariant.goes c.in-Err.ensures.goes
+
+pub returns-in-Err-clause-appended : goal.returns-in-Err-clause-appended
+returns-in-Err-clause-appended g c =
+    goes_appended g.D.Disk.tells g.D.Disk.on_disk g.D.Disk.faults c.args.self.now c.arrive.new.self c.is_sound.ensures
+    (goes_on g.D.Disk.tells g.D.Disk.on_disk g.D.Disk.faults c.args.self.now c.loop-piece.self c.arrive.new.self
+    c.loop-piece.invariant.goes c.in-Err.ensures.goes)
+    (λ says. g.met.D.Disk.reads_an_image c.arrive.new.self.disk says)
+
+pub returns-clause-appended : goal.returns-clause-appended
+returns-clause-appended g c =
+    goes_appended g.D.Disk.tells g.D.Disk.on_disk g.D.Disk.faults c.args.self.now c.loop-piece.self c.is_sound.ensures
+    c.loop-piece.invariant.goes (λ says. g.met.D.Disk.reads_an_image c.loop-piece.self.disk says)
 
 pub returns-in-Err-clause-up_to : goal.returns-in-Err-clause-up_to
 returns-in-Err-clause-up_to g c =

@@ -1,6 +1,6 @@
-use Rattle.std.proofs.Common.{◌≤◌, ◌∙◌, sym, ap, subst, subst₂}
+use Rattle.std.proofs.Common.{◌≤◌, ◌∙◌, inl, sym, ap, subst, subst₂}
 use Rattle.chain_disk.specs.OnDisk.{LeavesOnly, synced}
-use Rattle.chain_store.specs.Opening.{IsFound, IsOnlySynced}
+use Rattle.chain_store.specs.Opening.{IsCreation, IsFound, IsOnlySynced}
 use Rattle.journal.specs.Journal.{disk_of}
 use Rattle.record_fields.specs.declared.versions.Version.{Version}
 use Rattle.standby.specs.Chains.{ChainOnDisk}
@@ -42,6 +42,15 @@ pub returns-in-Ok-clause-unwritten : goal.returns-in-Ok-clause-unwritten
 returns-in-Ok-clause-unwritten g c = if_ok _ _ c.of_opened.result c.of_opened.ensures.same (λ standby h tells.
     subst (λ (s : ChainOnDisk g.row.D.Denot). IsOnlySynced (g.D.Disk.on_disk c.args.disk) (g.D.Disk.on_disk s.disk)) (sym h.1)
     (c.in-Ok.ensures.unwritten tells))
+
+pub returns-in-Ok-clause-created : goal.returns-in-Ok-clause-created
+returns-in-Ok-clause-created g c = if_ok _ _ c.of_opened.result c.of_opened.ensures.same (λ standby h tells not.
+    subst (λ (s : ChainOnDisk g.row.D.Denot). IsCreation c.args.version c.args.issuer.now (synced (g.D.Disk.on_disk c.args.disk))
+    (g.D.Disk.on_disk s.disk)) (sym h.1) (c.in-Ok.ensures.created tells not))
+
+pub returns-in-Ok-clause-unwritten_err : goal.returns-in-Ok-clause-unwritten_err
+returns-in-Ok-clause-unwritten_err g c = if_err _ _ c.of_opened.result c.of_opened.ensures.other (λ fault h tells begun.
+    inl (ap (λ d. g.D.Disk.on_disk d) h.2 ∙ c.in-Ok.ensures.unwritten tells begun))
 
 pub returns-in-Ok-clause-later : goal.returns-in-Ok-clause-later
 returns-in-Ok-clause-later g c = if_ok _ _ c.of_opened.result c.of_opened.ensures.same (λ standby h.
