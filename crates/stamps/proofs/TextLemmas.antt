@@ -33,7 +33,7 @@ date_text_of-bytes xs n e = rw e record {
 }
 
 -- the digits of a two-digit number are those of no other
-digits_injective : (m n : ℕ) → 48 + m / 10 ≡ 48 + n / 10 → 48 + m % 10 ≡ 48 + n % 10 → m ≡ n
+pub digits_injective : (m n : ℕ) → 48 + m / 10 ≡ 48 + n / 10 → 48 + m % 10 ≡ 48 + n % 10 → m ≡ n
 digits_injective m n tens ones = omega arith
 
 -- the date whose digits stand in a date's text is that date

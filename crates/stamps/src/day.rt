@@ -1,10 +1,11 @@
 //! Days from 01-01-1970 to 31-12-2100.
-ghost use Rattle.std.specs.Prelude.{◌≡◌, ℕ, ◌≤◌, ◌↔◌, IsSome, IfSome, IfNone, Some, ◌<◌, ◌+◌, ◌/◌, ◌%◌, ◌≢◌};
+ghost use Rattle.std.specs.Prelude.{◌≡◌, ℕ, ◌≤◌, ◌↔◌, IsSome, IfSome, IfNone, Some, ◌≢◌};
 ghost use Rattle.std.specs.Int.{IsInRange};
 ghost use Rattle.stamps.specs.Day.{last_day, date_at};
 ghost use Rattle.stamps.specs.Text.{date_text_of};
 
 use crate::civil::{CivilDate, day_number, to_jiff};
+use crate::digits::{read_two_digits, two_digits};
 use std::marker::Model;
 
 /// A day, as the number of days since 01-01-1970, up to 31-12-2100.
@@ -100,10 +101,10 @@ impl Day {
         if bytes.len() != 10 {
             return None;
         }
-        let day = number(bytes[0], bytes[1])?;
-        let month = number(bytes[3], bytes[4])?;
-        let century = number(bytes[6], bytes[7])?;
-        let year = number(bytes[8], bytes[9])?;
+        let day = read_two_digits(bytes[0], bytes[1])?;
+        let month = read_two_digits(bytes[3], bytes[4])?;
+        let century = read_two_digits(bytes[6], bytes[7])?;
+        let year = read_two_digits(bytes[8], bytes[9])?;
         let day = Day::of(CivilDate {
             year: century as u16 * 100 + year as u16,
             month,
@@ -115,29 +116,6 @@ impl Day {
             None
         }
     }
-}
-
-// The number that two digits write.
-fn number(tens: u8, ones: u8) -> Option<u8>
-    ensures bound { IfSome result (λ n. n < 100) }
-    ensures tens { IfSome result (λ n. tens ≡ 48 + n / 10) }
-    ensures ones { IfSome result (λ n. ones ≡ 48 + n % 10) }
-    ensures none { IfNone result ((n : ℕ) → n < 100 → tens ≡ 48 + n / 10 → ones ≢ 48 + n % 10) }
-{
-    if tens.is_ascii_digit() && ones.is_ascii_digit() {
-        Some((tens - b'0') * 10 + (ones - b'0'))
-    } else {
-        None
-    }
-}
-
-// A number below 100 as two digits.
-pub(crate) fn two_digits(n: u8) -> (u8, u8)
-    requires { n < 100 }
-    ensures tens { result.0 ≡ 48 + n / 10 }
-    ensures ones { result.1 ≡ 48 + n % 10 }
-{
-    (b'0' + n / 10, b'0' + n % 10)
 }
 
 /// The day as `DD-MM-YYYY`, the form in which the records give an invoice's date of issue.

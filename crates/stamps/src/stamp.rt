@@ -5,7 +5,8 @@ ghost use Rattle.stamps.specs.Stamp as spec;
 
 use crate::civil::CivilDate;
 use crate::clock;
-use crate::day::{Day, two_digits};
+use crate::day::Day;
+use crate::digits::two_digits;
 use std::marker::Model;
 
 /// The first second of the clock, in seconds since 1970 began at UTC: 2024 begins.
