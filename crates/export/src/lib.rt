@@ -8,6 +8,7 @@ mod faults;
 mod fields;
 mod heads;
 mod laws;
+mod line_words;
 mod lines;
 mod objects;
 mod pairs;
@@ -17,6 +18,7 @@ mod values;
 pub use faults::LineFault;
 pub use heads::Head;
 pub use laws::objects_are_apart;
+pub use line_words::{line_code, line_named, line_word};
 pub use lines::{
     entry_text, head_text, is_entry_line, is_head_line, read_entry, read_head, value_of,
 };

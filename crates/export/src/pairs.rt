@@ -1,12 +1,11 @@
 //! Pairs: what an invoice refers to, its lines, and the agency's lines.
-ghost use Rattle.std.specs.Prelude.{◌≡◌, ◌≤◌, ℤ, IfOk, Some, unsigned_abs};
+ghost use Rattle.std.specs.Prelude.{◌≡◌, ◌≤◌, ℤ, IfOk, unsigned_abs};
 ghost use Rattle.serde_json.specs.Data.{Data, number};
 ghost use Rattle.serde_json.specs.Find.{of_integer};
 ghost use Rattle.serde_json.specs.View.{view};
 ghost use Rattle.tax_lines.specs.Keys.{IsKey};
 ghost use Rattle.tax_lines.specs.declared.lines.TheConstants.{MAX_BASE};
 ghost use Rattle.record_fields.specs.Valid.{IsId};
-ghost use Rattle.record_fields.specs.declared.lines.Line.{Line as AnyLine};
 ghost use Rattle.record_codec.specs.Validity.{IsLine};
 ghost use Rattle.export.specs.Objects as spec;
 ghost use Rattle.export.specs.Fields.{Gives, GivesBy};
@@ -14,9 +13,10 @@ ghost use Rattle.export.specs.Fields.{Gives, GivesBy};
 use crate::elements::Element;
 use crate::faults::Unread;
 use crate::fields::{day_of, num_of, short_of, text_of};
-use crate::values::{day_value, key_value, line_code, line_word, num_value};
+use crate::line_words::{line_code, line_named, line_word};
+use crate::values::{day_value, key_value, num_value};
 use amounts::Cents;
-use record_fields::{Cause, Line};
+use record_fields::Line;
 use serde_json::{Value, push};
 use series::InvoiceId;
 use std::alloc::{AllocError, Global};
@@ -42,20 +42,6 @@ fn second_of(value: &Value) -> Result<&Value, Unread>
     ensures { (a b : Data) → view value.now ≡ spec.pair_of a b → GivesBy (λ v. view v.now) b result }
 {
     value.get(1usize).ok_or(Unread::Shape)
-}
-
-fn line_of(word: &str, code: u16) -> Option<Line>
-    ensures { (line : AnyLine) → word.now ≡ spec.line_word line → code ≡ spec.line_code line → result ≡ Some line }
-{
-    match word {
-        "correcto" => Some(Line::Correcto),
-        "con-errores" => Some(Line::ConErrores(code)),
-        "vet" => Some(Line::Incorrecto(Cause::Vet(code))),
-        "held" => Some(Line::Incorrecto(Cause::Held)),
-        "not-held" => Some(Line::Incorrecto(Cause::NotHeld)),
-        "gone" => Some(Line::Incorrecto(Cause::Gone)),
-        _ => None,
-    }
 }
 
 fn base_of(value: &Value) -> Result<Cents, Unread>
@@ -113,6 +99,6 @@ impl Element for Line {
     fn of_value(value: &Value) -> Result<Line, Unread> {
         let word = text_of(first_of(value)?)?;
         let code = short_of(second_of(value)?)?;
-        line_of(word, code).ok_or(Unread::Shape)
+        line_named(word, code).ok_or(Unread::Shape)
     }
 }

@@ -8,7 +8,7 @@ ghost use Rattle.export.specs.Objects as spec;
 use huella::huella_text;
 use invoice_kinds::RectKind;
 use parties::{Nif, Party};
-use record_fields::{Cause, Line, Link, Previo};
+use record_fields::{Link, Previo};
 use serde_json::{Map, Value, put};
 use series::NumSerie;
 use stamps::{Day, date_text};
@@ -117,37 +117,5 @@ pub(crate) fn link_value(alloc: Global, link: &Link) -> Result<Value, AllocError
             put(&mut members, alloc, "num", num)?;
             Ok(Value::Object(members))
         }
-    }
-}
-
-fn cause_word(cause: Cause) -> &'static str
-    ensures { result.now ≡ spec.cause_word cause }
-{
-    match cause {
-        Cause::Vet(_) => "vet",
-        Cause::Held => "held",
-        Cause::NotHeld => "not-held",
-        Cause::Gone => "gone",
-    }
-}
-
-/// The word of the agency's line.
-pub(crate) fn line_word(line: Line) -> &'static str
-    ensures { result.now ≡ spec.line_word line }
-{
-    match line {
-        Line::Correcto => "correcto",
-        Line::ConErrores(_) => "con-errores",
-        Line::Incorrecto(cause) => cause_word(cause),
-    }
-}
-
-/// Its code, 0 where it has none.
-pub(crate) fn line_code(line: Line) -> u16
-    ensures { result ≡ spec.line_code line }
-{
-    match line {
-        Line::ConErrores(code) | Line::Incorrecto(Cause::Vet(code)) => code,
-        _ => 0,
     }
 }

@@ -1,0 +1,53 @@
+//! The words of the agency's lines, with their codes.
+ghost use Rattle.std.specs.Prelude.{◌≡◌, Some};
+ghost use Rattle.record_fields.specs.declared.lines.Line.{Line as AnyLine};
+ghost use Rattle.export.specs.Objects as spec;
+
+use record_fields::{Cause, Line};
+
+fn cause_word(cause: Cause) -> &'static str
+    ensures { result.now ≡ spec.cause_word cause }
+{
+    match cause {
+        Cause::Vet(_) => "vet",
+        Cause::Held => "held",
+        Cause::NotHeld => "not-held",
+        Cause::Gone => "gone",
+    }
+}
+
+/// The word of the agency's line.
+pub fn line_word(line: Line) -> &'static str
+    ensures { result.now ≡ spec.line_word line }
+{
+    match line {
+        Line::Correcto => "correcto",
+        Line::ConErrores(_) => "con-errores",
+        Line::Incorrecto(cause) => cause_word(cause),
+    }
+}
+
+/// Its code, 0 where it has none.
+pub fn line_code(line: Line) -> u16
+    ensures { result ≡ spec.line_code line }
+{
+    match line {
+        Line::ConErrores(code) | Line::Incorrecto(Cause::Vet(code)) => code,
+        _ => 0,
+    }
+}
+
+/// The only line that may have this word and this code.
+pub fn line_named(word: &str, code: u16) -> Option<Line>
+    ensures { (line : AnyLine) → word.now ≡ spec.line_word line → code ≡ spec.line_code line → result ≡ Some line }
+{
+    match word {
+        "correcto" => Some(Line::Correcto),
+        "con-errores" => Some(Line::ConErrores(code)),
+        "vet" => Some(Line::Incorrecto(Cause::Vet(code))),
+        "held" => Some(Line::Incorrecto(Cause::Held)),
+        "not-held" => Some(Line::Incorrecto(Cause::NotHeld)),
+        "gone" => Some(Line::Incorrecto(Cause::Gone)),
+        _ => None,
+    }
+}
