@@ -1,14 +1,12 @@
 //! A sale, and what is said of it.
-use amounts::Cents;
 use batches::{Batch, are_linked};
-use invoice_kinds::Kind;
 use parties::Nif;
-use record_fields::{Alta, Draft, Link, Previo, Record, Refs, Sealed};
+use record_fields::{Alta, Link, Previo, Record, Sealed};
 use series::{InvoiceId, NumSerie};
 use stamps::{Day, Stamp};
 use std::alloc::Global;
 use std::test::Fail;
-use tax_lines::{Breakdown, Class, LineKey, TaxLine};
+use test_rows::sale_draft;
 
 pub(crate) const SUBMISSION: &str =
     "{\"n\":7,\"records\":[{\"cuota\":2100,\"customer\":null,\"day\":\"01-01-2025\",\"fix\":false,\"huella\":\"0A0A0A0A0A0A0A0A0A0A0A0A0A0A0A0A0A0A0A0A0A0A0A0A0A0A0A0A0A0A0A0A\",\"issuer\":\"89890001K\",\"kind\":\"F2\",\"lines\":[[\"21\",10000]],\"link\":null,\"num\":\"A-1\",\"offset\":60,\"qr\":\"https://www2.agenciatributaria.gob.es/wlpl/TIKE-CONT/ValidarQR?nif=89890001K&numserie=A-1&fecha=01-01-2025&importe=121.00\",\"rechazo\":\"N\",\"rect\":null,\"refs\":[],\"seconds\":1735722000,\"t\":\"alta\",\"total\":12100}],\"t\":\"submit\"}\n";
@@ -25,23 +23,13 @@ pub(crate) fn nif() -> Result<Nif, Fail> {
 }
 
 fn sale(alloc: Global) -> Result<Sealed, Fail> {
-    let lines = [TaxLine {
-        key: LineKey::iva(Class::General),
-        base: Cents::new(10_000).ok_or("base")?,
-    }];
     let alta = Alta {
         issuer: nif()?,
         id: InvoiceId {
             num: NumSerie::read("A-1").ok_or("num")?,
             day: Day::read("01-01-2025").ok_or("day")?,
         },
-        draft: Draft {
-            kind: Kind::F2,
-            rect: None,
-            customer: None,
-            refs: Refs::of(Vec::new(alloc)),
-            lines: Breakdown::of(alloc, &lines)?,
-        },
+        draft: sale_draft(alloc, 10_000)?,
         subsanacion: false,
         rechazo: Previo::N,
         link: Link::First,

@@ -1,14 +1,13 @@
 use crate::records as samples;
-use crate::records::{TEN, anulacion, draft, id, issuer, moment, number};
+use crate::records::{TEN, anulacion, id, issuer, moment, number};
 use agency_rules::{Delivered, Pairs, Past, PlannedVerdict, Verdict, Verdicts, judge};
-use invoice_kinds::Kind;
 use record_fields::{Cause, Line, Link, Previo, Record, Sealed};
 use std::alloc::Global;
 use std::test::Fail;
-use test_rows::holds;
+use test_rows::{holds, sale_draft};
 
 fn alta(alloc: Global, day: &str, subsanacion: bool, rechazo: Previo) -> Result<Record, Fail> {
-    let draft = draft(alloc, Kind::F2, 10_000)?;
+    let draft = sale_draft(alloc, 10_000)?;
     let mut alta = samples::alta(issuer()?, id("A-1", day)?, draft, Link::First, moment(TEN)?);
     alta.subsanacion = subsanacion;
     alta.rechazo = rechazo;

@@ -1,7 +1,6 @@
 //! A ledger that goes on with a worked history: a sale, its fix, which the agency refuses, and its cancellation. The taxes are reckoned by
 //! hand.
-use crate::records::{TEN, draft, issuer, number};
-use invoice_kinds::Kind;
+use crate::records::{TEN, issuer, number};
 use record_codec::{Entry, Version};
 use record_fields::{Cause, Line, Lines};
 use series::SeriesName;
@@ -9,7 +8,7 @@ use shop_core::{Ask, Planned, Request, State, next_fault, plan};
 use statements::{Ledger, Month};
 use std::alloc::Global;
 use std::test::Fail;
-use test_rows::holds;
+use test_rows::{holds, sale_draft};
 
 // What happens next: a sale of this many cents at 21 percent, its fix to this many, its cancellation, or the agency's line for the next record.
 #[derive(Clone, Copy)]
@@ -24,12 +23,12 @@ fn request(alloc: Global, step: Step) -> Result<Request, Fail> {
     match step {
         Step::Sale(base) => {
             let series = SeriesName::read("A").ok_or("a series")?;
-            let draft = draft(alloc, Kind::F2, base)?;
+            let draft = sale_draft(alloc, base)?;
             Ok(Request::Sale { series, draft })
         }
         Step::Fix(base) => {
             let num = number("A-1")?;
-            let draft = draft(alloc, Kind::F2, base)?;
+            let draft = sale_draft(alloc, base)?;
             Ok(Request::Fix { num, draft })
         }
         _ => {

@@ -10,7 +10,8 @@ use series::{InvoiceId, NumSerie, SeriesName, number as number_in};
 use stamps::{Day, Stamp, stamp_at};
 use std::alloc::Global;
 use std::test::Fail;
-use tax_lines::{Breakdown, Class, LineKey, TaxLine};
+use tax_lines::{Breakdown, LineKey, TaxLine};
+use test_rows::sale_draft;
 
 /// 2025-01-01, 10:00 on the peninsular clock.
 pub const TEN: u64 = 1_735_722_000;
@@ -59,13 +60,6 @@ pub fn draft_of(alloc: Global, kind: Kind, lines: &[TaxLine]) -> Result<Draft, F
     })
 }
 
-/// A draft of one line at the general rate.
-pub fn draft(alloc: Global, kind: Kind, base: i64) -> Result<Draft, Fail>
-    ensures { IfOk result (λ draft. draft.refs ≡ []) }
-{
-    draft_of(alloc, kind, &[line(LineKey::iva(Class::General), base)?])
-}
-
 /// An alta of a new invoice.
 pub fn alta(issuer: Nif, id: InvoiceId, draft: Draft, link: Link, moment: Stamp) -> Alta {
     Alta {
@@ -108,7 +102,7 @@ pub fn digest(n: u32) -> [u8; 32] {
 }
 
 fn sale(alloc: Global, id: InvoiceId, link: Link) -> Result<Record, Fail> {
-    let draft = draft(alloc, Kind::F2, 10_000)?;
+    let draft = sale_draft(alloc, 10_000)?;
     Ok(Record::Alta(alta(issuer()?, id, draft, link, moment(TEN)?)))
 }
 

@@ -1,18 +1,16 @@
 //! The values that the tests share: shops with this many sales, and agencies with a plan.
 use agency_port::{Agency, PracticeAgency};
 use agency_rules::{Fates, Plan, PlannedFate, Verdicts};
-use amounts::Cents;
 use batches::HuellaList;
-use invoice_kinds::Kind;
 use once_world::PlainOutbox;
 use parties::Nif;
 use record_codec::Version;
-use record_fields::{Draft, DraftFault, Refs};
+use record_fields::DraftFault;
 use series::SeriesName;
 use shop_core::{Ask, Refusal, Reply, Request, State, reply_to};
 use std::alloc::Global;
 use std::test::Fail;
-use tax_lines::{Breakdown, Class, LineKey, TaxLine};
+use test_rows::sale_draft;
 
 // 2025-01-01, 10:00 on the peninsular clock.
 const TEN: u64 = 1_735_722_000;
@@ -23,21 +21,7 @@ pub const NEXT_DAY: u64 = 1_735_800_000;
 // A sale of 100 euros.
 fn sale(alloc: Global) -> Result<Request, Fail> {
     let series = SeriesName::read("A").ok_or("a series")?;
-    let base = Cents::new(10_000).ok_or("a base")?;
-    let line = TaxLine {
-        key: LineKey::iva(Class::General),
-        base,
-    };
-    let Ok(lines) = Breakdown::of(alloc, &[line]) else {
-        return Err(Fail::from("lines"));
-    };
-    let draft = Draft {
-        kind: Kind::F2,
-        rect: None,
-        customer: None,
-        refs: Refs::of(Vec::new(alloc)),
-        lines,
-    };
+    let draft = sale_draft(alloc, 10_000)?;
     Ok(Request::Sale { series, draft })
 }
 

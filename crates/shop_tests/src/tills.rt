@@ -4,22 +4,18 @@ ghost use Rattle.chain_store.specs.Store.{Ready, journal_of};
 ghost use Rattle.journal.specs.File.{IsNotBegun};
 ghost use Rattle.journal.specs.Journal.{stopped_of};
 
-use amounts::Cents;
 use chain_disk::{Disk, MemDisk};
 use chain_store::Store;
-use invoice_kinds::Kind;
 use journal::{Journal, StoreFault};
 use parties::Nif;
 use ports::{Clock, CountingClock, NoMemory};
 use record_codec::Version;
-use record_fields::{Draft, Refs};
 use series::SeriesName;
 use shop_core::{Reply, Request, State};
 use std::alloc::Global;
 use std::sync::Wait;
 use std::test::Fail;
-use tax_lines::{Breakdown, Class, LineKey, TaxLine};
-use test_rows::holds;
+use test_rows::{holds, sale_draft};
 use till_calls::{Question, Shop, Started};
 
 // 2025-01-01, 10:00 on the peninsular clock.
@@ -27,22 +23,8 @@ const TEN: u64 = 1_735_722_000;
 
 // A sale of 100 euros.
 fn sale(alloc: Global) -> Result<Request, Fail> {
-    let base = Cents::new(10_000).ok_or("a base")?;
-    let line = TaxLine {
-        key: LineKey::iva(Class::General),
-        base,
-    };
-    let Ok(lines) = Breakdown::of(alloc, &[line]) else {
-        return Err(Fail::from("lines"));
-    };
     let series = SeriesName::read("A").ok_or("a series")?;
-    let draft = Draft {
-        kind: Kind::F2,
-        rect: None,
-        customer: None,
-        refs: Refs::of(Vec::new(alloc)),
-        lines,
-    };
+    let draft = sale_draft(alloc, 10_000)?;
     Ok(Request::Sale { series, draft })
 }
 

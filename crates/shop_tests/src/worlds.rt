@@ -1,15 +1,11 @@
 use agency_rules::Plan;
-use amounts::Cents;
-use invoice_kinds::Kind;
 use once_world::{Event, World, run_events};
 use parties::Nif;
-use record_fields::{Draft, Refs};
 use series::SeriesName;
 use shop_core::{Ask, Request};
 use std::alloc::Global;
 use std::test::Fail;
-use tax_lines::{Breakdown, Class, LineKey, TaxLine};
-use test_rows::holds;
+use test_rows::{holds, sale_draft};
 
 // 2025-01-01, 10:00 on the peninsular clock.
 const TEN: u64 = 1_735_722_000;
@@ -27,21 +23,7 @@ fn sale(alloc: Global, serial: u32) -> Result<Ask, Fail> {
         return Err(Fail::from("a serial"));
     }
     let series = SeriesName::read("A").ok_or("a series")?;
-    let base = Cents::new(10_000).ok_or("a base")?;
-    let line = TaxLine {
-        key: LineKey::iva(Class::General),
-        base,
-    };
-    let Ok(lines) = Breakdown::of(alloc, &[line]) else {
-        return Err(Fail::from("lines"));
-    };
-    let draft = Draft {
-        kind: Kind::F2,
-        rect: None,
-        customer: None,
-        refs: Refs::of(Vec::new(alloc)),
-        lines,
-    };
+    let draft = sale_draft(alloc, 10_000)?;
     Ok(Ask::new(1, serial, Request::Sale { series, draft }))
 }
 

@@ -2,16 +2,14 @@
 ghost use Rattle.std.specs.Prelude.{◌≡◌, IfOk, IfSome, None};
 ghost use Rattle.chain_store.specs.Store.{Ready, state_of};
 
-use amounts::Cents;
 use chain_disk::{Disk, MemDisk};
 use chain_store::Store;
-use invoice_kinds::Kind;
 use journal::StoreFault;
 use once_world::Outbox;
 use parties::Nif;
 use ports::{Clock, CountingClock};
 use record_codec::{BadEntry, Version};
-use record_fields::{Bytes, Draft, Line, Refs};
+use record_fields::{Bytes, Line};
 use recovery::open_store;
 use series::SeriesName;
 use shop_core::{Ask, Break, Request, State};
@@ -19,8 +17,7 @@ use standby::{Arrived, Pair, Piece, Standby, StandbyCause, catch_up, first_apart
 use std::alloc::Global;
 use std::sync::Wait;
 use std::test::Fail;
-use tax_lines::{Breakdown, Class, LineKey, TaxLine};
-use test_rows::holds;
+use test_rows::{holds, sale_draft};
 
 // 2025-01-01, 10:00 on the peninsular clock.
 const TEN: u64 = 1_735_722_000;
@@ -39,20 +36,8 @@ fn sale(alloc: Global, serial: u32, cents: i64) -> Result<Ask, Fail> {
     if serial < 1 {
         return Err(Fail::from("a serial"));
     }
-    let base = Cents::new(cents).ok_or("a base")?;
-    let key = LineKey::iva(Class::General);
-    let line = TaxLine { key, base };
-    let Ok(lines) = Breakdown::of(alloc, &[line]) else {
-        return Err(Fail::from("lines"));
-    };
     let series = SeriesName::read("A").ok_or("a series")?;
-    let draft = Draft {
-        kind: Kind::F2,
-        rect: None,
-        customer: None,
-        refs: Refs::of(Vec::new(alloc)),
-        lines,
-    };
+    let draft = sale_draft(alloc, cents)?;
     Ok(Ask::new(1, serial, Request::Sale { series, draft }))
 }
 

@@ -1,17 +1,8 @@
-//! What a test holds of a row of its table. There is nothing here that a program calls.
+//! What a test holds of a row of its table, and what tests sell. There is nothing here that a program calls.
 #![tactic(auto)]
 
-ghost use Rattle.std.specs.Prelude.{◌≡◌, is_ok};
+mod rows;
+mod sales;
 
-use std::test::Fail;
-
-/// Fails a test at this row where what it holds of it isn't so.
-pub fn holds(is: bool, row: &str) -> Result<(), Fail>
-    ensures { is_ok result ≡ is }
-{
-    if is {
-        Ok(())
-    } else {
-        Err(Fail::new(format_args!("at {row}")))
-    }
-}
+pub use rows::holds;
+pub use sales::sale_draft;

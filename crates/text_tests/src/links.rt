@@ -1,14 +1,12 @@
 //! Links written and read. The encoded numbers are those of another program's encoder.
 use amounts::Cents;
-use invoice_kinds::Kind;
 use parties::Nif;
-use record_fields::{Alta, Draft, Link, Previo, Refs};
+use record_fields::{Alta, Link, Previo};
 use series::{InvoiceId, NumSerie};
 use stamps::{Day, stamp_at};
 use std::alloc::Global;
 use std::test::Fail;
-use tax_lines::{Breakdown, Class, LineKey, TaxLine};
-use test_rows::holds;
+use test_rows::{holds, sale_draft};
 use verify_link::{Host, LinkParts, link_of, read_link};
 
 // What the links below say, but for their number.
@@ -32,27 +30,13 @@ fn alta(alloc: Global, parts: &LinkParts) -> Result<Alta, Fail> {
         Ok(moment) => moment,
         Err(_) => return Err(Fail::from("a moment")),
     };
-    let line = TaxLine {
-        key: LineKey::iva(Class::General),
-        base: Cents::new(10_000).ok_or("a base")?,
-    };
-    let lines = match Breakdown::of(alloc, &[line]) {
-        Ok(lines) => lines,
-        Err(_) => return Err(Fail::from("lines")),
-    };
     Ok(Alta {
         issuer: parts.nif,
         id: InvoiceId {
             num: parts.num,
             day: parts.day,
         },
-        draft: Draft {
-            kind: Kind::F2,
-            rect: None,
-            customer: None,
-            refs: Refs::of(Vec::new(alloc)),
-            lines,
-        },
+        draft: sale_draft(alloc, 10_000)?,
         subsanacion: false,
         rechazo: Previo::N,
         link: Link::First,
