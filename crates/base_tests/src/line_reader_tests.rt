@@ -7,17 +7,17 @@ use test_rows::holds;
 
 const END: u8 = 4;
 
-// A source that gives a few bytes at a time. At a byte END it says that it is at its end, and may have more after it, as a
-// terminal does.
+/// A source that gives a few bytes at a time, and counts how often it was asked. At a byte END it says that it is at its end, and
+/// may have more after it, as a terminal does.
 #[derive(Drop)]
-struct Trickle<'a> {
+pub struct Trickle<'a> {
     bytes: &'a [u8],
     room: usize,
-    calls: u64,
+    pub calls: u64,
 }
 
 impl Trickle<'_> {
-    fn of(bytes: &[u8], room: usize) -> Trickle<'_> {
+    pub fn of(bytes: &[u8], room: usize) -> Trickle<'_> {
         Trickle {
             bytes,
             room,
