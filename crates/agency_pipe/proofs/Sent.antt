@@ -86,7 +86,7 @@ source_send a R T r w s d y = let fields = source_fields a R T r w s d y in sear
 sink_send : (a : NamedLft) (R T : RattleType) → IsSync R → IsSend (pipe_sink.the_row a R T)
 sink_send a R T y = let fields = sink_fields a R T y in search (sendable, crosses, fields)
 
--- The agency behind two files.
+-- The agency at the other end of two files.
 pub files_send : (a b : NamedLft) (R T : RattleType) (r : Read.Ghosts File) (w : Write.Ghosts File) (s : Seek.Ghosts File)
     (d : Read.Ghosts T.Denot) → IsSync R → IsSend (agency.the_row (pipe_source.the_row a R T r w s d) (pipe_sink.the_row b R T))
 files_send a b R T r w s d y = agency_send _ _ (source_send a R T r w s d y) (sink_send b R T y)

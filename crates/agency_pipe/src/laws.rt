@@ -7,7 +7,7 @@ use std::time::Clock;
 
 fn crosses<G: Send>(_agency: &G) {}
 
-/// An agency behind two files may go to another thread. That is shown here once; there is nothing to be done.
+/// An agency at the other end of two files may go to another thread. That is shown here once; there is nothing to be done.
 pub fn may_cross_threads<'a, R: Files<File = File> + Sync>(
     agency: &PipeAgency<PipeSource<'a, R>, PipeSink<'a, R>>,
 ) {

@@ -1,4 +1,4 @@
-//! The agency behind two streams of bytes: typed messages as lines of JSON, an answer a line. A message is written only once the
+//! The agency at the end of two streams: typed messages as lines of JSON, an answer a line. A message is written only once the
 //! begin of its call was answered. What each line is read as is a relation over serde_json's values; nothing is assumed of who
 //! writes them.
 #![tactic(auto)]

@@ -1,4 +1,4 @@
-//! The agency behind a source and a sink.
+//! The agency that a source and a sink lead to.
 ghost use Rattle.std.specs.Prelude.{◌≡◌, ◌≤◌, vec_capacity};
 ghost use Rattle.ports.specs.Memory.{counted_up};
 ghost use Rattle.agency_pipe.specs.Speaking as spec;
@@ -106,7 +106,7 @@ impl<S: Source + Drop, K: Sink + Drop> PipeAgency<S, K> {
     ghost use Rattle.agency_pipe.specs.MessageLog.{said_in};
     ghost use Rattle.agency_pipe.specs.Speaking.{Asks, Speaks, after, call_of, faults_by, kept};
 
-    /// The agency behind these, whose first begin has this number. It takes the memory for the longest answer.
+    /// The agency that these lead to. Its first begin has this number. It takes the memory for the longest answer.
     pub fn new(
         alloc: Global,
         source: S,

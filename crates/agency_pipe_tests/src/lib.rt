@@ -1,4 +1,4 @@
-//! Tests of the agency behind two streams of bytes, as whoever hands it streams meets it. There is nothing here that a program calls.
+//! Tests of the agency at the end of two streams, as whoever hands it streams meets it. There is nothing here that a program calls.
 #![tactic(auto)]
 
 #[cfg(test)]

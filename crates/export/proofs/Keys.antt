@@ -41,7 +41,7 @@ both_own c d r s is also e =
     let class = class_same c d (sym one.1 ∙ e ∙ other.1) in
     one.0 ∙ ap (λ (k : Class). keyed Iva k (class_rate k)) class ∙ sym other.0
 
--- no word has a slash behind two bytes, as every word under another tax
+-- no word has a slash after two bytes, as every word under another tax
 no_slash : (class : Class) → get_or (class_text class) 2 0 ≡ 47 → ⊥
 no_slash General e = omega (arith, e)
 no_slash other e = omega (arith, e)

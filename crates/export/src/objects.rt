@@ -54,7 +54,7 @@ fn put_sealed(
     put(members, alloc, "seconds", Value::from(moment.seconds))
 }
 
-// What an alta's has beside it.
+// What else an alta's has.
 fn put_alta(members: &mut Map<String, Value>, alloc: Global, alta: &Alta) -> Result<(), AllocError>
     ensures { OnOk result (members_view members.new.entries ≡ building.with_alta alta.now (members_view members.old.entries)) }
 {
@@ -75,7 +75,7 @@ fn put_alta(members: &mut Map<String, Value>, alloc: Global, alta: &Alta) -> Res
     put(members, alloc, "t", sort)
 }
 
-// What an anulación's has beside it.
+// What else an anulación's has.
 fn put_anulacion(
     members: &mut Map<String, Value>,
     alloc: Global,

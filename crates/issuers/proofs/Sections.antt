@@ -237,7 +237,7 @@ sooner_none (Some best) = refl
 abbrev pub those : List (Option BadLine) → List BadLine
 those faults = filter_map (λ (fault : Option BadLine). fault) faults
 
--- what was read of the first issuers, beside the bad lines that begin sections
+-- what was read of the first issuers, and the bad lines that begin sections
 pub record Many (bytes : List ℕ) (issuers : List (List ℕ)) (sections : List BadLine) (bad : Option BadLine) (parts : List Part) :
     Type 0 where
   pub faults : List (Option BadLine)

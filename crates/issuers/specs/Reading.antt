@@ -117,7 +117,7 @@ sooner_fault best None = best
 sooner_fault None (Some other) = Some other
 sooner_fault (Some best) (Some other) = if nat_lt other.line best.line then Some other else Some best
 
--- one part more, or its bad line beside the soonest one so far
+-- one part more, or the soonest bad line, its own included
 abbrev pub Adds : Result Part ScriptFault → Option BadLine → List Part → Option BadLine → List Part → Type 0
 Adds (Ok part) bad parts now more = (now ≡ bad) × (more ≡ parts ++ part ∷ [])
 Adds (Err (script_fault.BadLine line fault)) bad parts now more =

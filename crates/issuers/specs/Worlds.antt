@@ -68,7 +68,7 @@ OwnWorlds {D} {C} {E} {F} d c e f =
     Served d c parts before after answers (Ok tt) → Served e f parts' before' after' answers' (Ok tt) →
     IsOneWorld d c e f parts parts' before after before' after' answers answers' index index'
 
--- the same of one installation beside every other one of its kind
+-- the same of one installation and every other one of its kind
 abbrev pub HasOwnWorlds : {D C : Type 0} (d : disk.Ghosts D) (c : clock.Ghosts C) (parts : List Part)
     (before after : List (Store D C d)) (answers : List OfficeAnswer) → Type 0
 HasOwnWorlds {D} {C} d c parts before after answers =

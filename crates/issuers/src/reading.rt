@@ -187,7 +187,7 @@ fn read_part(alloc: Global, bytes: &[u8], issuer: &Nif) -> Result<Part, ScriptFa
     Ok(Part { script, lines })
 }
 
-// One part more, or its bad line beside the soonest one so far.
+// One part more, or the soonest bad line, its own included.
 fn add_part(
     parts: &mut Vec<Part>,
     bad: Option<BadLine>,

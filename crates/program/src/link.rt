@@ -1,4 +1,4 @@
-//! The agency behind two files, and whether they are such as one can be spoken with by.
+//! The agency at the other end of two files, and whether they are such as one can be spoken with by.
 ghost use Rattle.std.specs.Prelude.{◌≡◌, IfOk, vec_len};
 
 use crate::option::PipeFiles;
@@ -10,7 +10,7 @@ use report::{Detail, Ended};
 use std::time::{SystemTime, UNIX_EPOCH};
 use verify_link::Host;
 
-/// The agency behind two files, with a pause before a call that follows failed ones.
+/// The agency at the other end of two files, with a pause before a call that follows failed ones.
 pub type Link<'a> = Patient<
     'a,
     HostRuntime,
@@ -29,7 +29,7 @@ fn first_number(rt: &HostRuntime) -> u64 {
     }
 }
 
-/// The agency behind these files. Nothing is opened yet.
+/// The agency that these files lead to. Nothing is opened yet.
 pub fn agency_behind<'a>(
     rt: &'a HostRuntime,
     files: PipeFiles<'_>,

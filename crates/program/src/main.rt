@@ -1,4 +1,4 @@
-//! The invoicing chain of a shop: hands the real devices and an agency, a practice one or that behind two files, to
+//! The invoicing chain of a shop: hands the real devices and an agency, a practice one or one over two files, to
 //! `verifactu::run`, and prints why it failed, where it did.
 #![tactic(auto)]
 
@@ -145,7 +145,7 @@ fn issuer_of(words: &[String]) -> Option<Nif> {
     }
 }
 
-// `many`, whose issuers have no agency behind the two files of one.
+// `many`, whose issuers have no agency at the other end of one's two files.
 fn is_for_many(words: &[String]) -> bool {
     match words.first() {
         Some(name) => name.as_str() == "many",
@@ -242,7 +242,7 @@ fn practice_agencies(rt: &HostRuntime, count: u16) -> Result<Vec<PracticeAgency>
     Ok(spares)
 }
 
-// Runs the command with the agency behind these files.
+// Runs the command with the agency that these files lead to.
 fn run_by_pipe<R: Threads + Wait + Sync>(
     handle: &R,
     rt: &HostRuntime,

@@ -1,4 +1,4 @@
--- What a consultation shows, beside the last reply that named its batch.
+-- What a consultation shows, and the last reply that named its batch.
 use Rattle.std.specs.Prelude.{◌≡◌, ℕ, ◌+◌, List, [], ◌∷◌, Option, Some, None, Result, Ok, Err, bytes_eq, if◌then◌else◌, ⊤}
 use Rattle.record_fields.specs.declared.lines.Line.{Line}
 use Rattle.agency_port.specs.Reply.{Replied}

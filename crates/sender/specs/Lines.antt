@@ -40,7 +40,7 @@ ReplyLineOf batch reply told.Link = Names reply batch → ⊥
 ReplyLineOf batch reply (told.Doubt place) = Names reply batch × ((index : ℕ) × IsFirstAgain reply.lines index)
 ReplyLineOf batch reply line = NotedLineOf (AreAllNew batch reply) (λ (n : ℕ). AreAllNew batch reply × (n ≡ length batch)) line
 
--- the line of a consultation that was answered; what contradicts itself may do so beside an earlier reply
+-- the line of a consultation that was answered; what contradicts may contradict an earlier reply
 abbrev pub SeenLineOf : List (List ℕ) → List Seen → Told → Type 0
 SeenLineOf huellas seen told.Cleared = IsFront seen []
 SeenLineOf huellas seen told.Contradiction =

@@ -1,4 +1,4 @@
--- What is said where a sender's answer is a fault, and where it is none; and what a sender did behind its tills, said of values that
+-- What is said where a sender's answer is a fault, and where it is none; and what a sender did after its tills, said of values that
 -- snapshots show.
 use Rattle.std.proofs.Common.{◌≡◌, ◌≤◌, Bool, IsTrue, true, false, Result, Ok, Err, ap, subst, sym}
 use Rattle.std.specs.Prelude.{OnErr, OnOk, is_err}

@@ -1,4 +1,4 @@
--- A closed shop's list, by what its sender's seat has seen and added beside the tills.
+-- A closed shop's list, by what its sender's seat has seen and added while the tills ran.
 use Rattle.std.proofs.Common.{◌≡◌, ◌⊎◌, inl, inr, ℕ, suc, ◌+◌, ◌<◌, ◌≤◌, ◌==◌, cond, List, [], ◌∷◌, ◌++◌, length, length-append}
 use Rattle.std.proofs.Common.{map, drop, Option, Some, None, slice_get, All, true, false, refl, ap, sym, ◌∙◌, subst, arith}
 use Rattle.std.proofs.Common.{append-nil}

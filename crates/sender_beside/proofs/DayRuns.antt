@@ -378,7 +378,7 @@ module _ {D C : Type 0} (tells : Bool) (tell : D → OnDisk) (faults : D → ℕ
       subst (λ (es : List Entry). length (noted_in es) ≡ length (recs es))
       (seen_whole tell faults coming asks p root base within sees ran.rows news.0 ran.worked seat then h' told') delivered)
 
-  -- the day of the tills that ran and of the sender beside them, once their shop is closed
+  -- the day of the tills that ran and of the sender that ran with them, once their shop is closed
   pub ended : (kind : AgencyKind) (opened after : AgencyState) (drains : Bool) (answer : Result (Unit {0}) DrainFault) →
       AddsForNoOther coming → AddsWhatIsTaken coming →
       length base ≡ length root.history → AreDistinct tills → Shared base (items_in p) root new

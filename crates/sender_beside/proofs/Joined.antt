@@ -1,4 +1,4 @@
--- What a sender beside tills leaves, once its shop is closed.
+-- What a sender that ran with tills leaves, once its shop is closed.
 use Rattle.std.proofs.Common.{◌≡◌, ◌∙◌, ◌⊎◌, inl, inr, ℕ, ◌+◌, ◌-◌, List, [], length, map, sym, ap, subst, refl, append-nil}
 use Rattle.std.proofs.Common.{Bool, IsTrue, Option, Result, Err, length-append, length-drop, arith}
 use Rattle.std.specs.Prelude.{IsErrOf}

@@ -1,4 +1,4 @@
--- What a sender does once the tills beside it have ended.
+-- What a sender does once the tills have ended.
 use Rattle.std.specs.Prelude.{◌≡◌, ◌≤◌, ℕ, Bool, true, false, IsTrue, OnErr, OnOk, Result}
 use Rattle.chain_disk.specs.declared.disk.Disk as disk
 use Rattle.ports.specs.declared.Clock as clock
@@ -16,9 +16,9 @@ abbrev pub scene_in : {D C G Z : Type 0} {d : disk.Ghosts D} {c : clock.Ghosts C
     Scene
 scene_in state moment sent = scene_of (state sent.agency) (sight_by (seat_knows sent.seat)) sent.sender (moment sent.sleeper)
 
--- From an opened session to the end, by the scene at the tills' end. The turns beside the tills led there and ended so; they gave
+-- From an opened session to the end, by the scene at the tills' end. The turns while the tills ran led there and ended so; they gave
 -- up on no link. A fault that had ended them is the answer, and nothing more was done. Else, where a drain follows, one drain led
--- from there to the end, so that the faults of the link that were met beside the tills don't count towards its eight, and nothing
+-- from there to the end, so that the faults of the link met while the tills ran don't count towards its eight, and nothing
 -- comes after the eighth. Where none follows nothing more was done: not a turn, not a message, not a rest.
 pub record SendsBehind (kind : AgencyKind) (exact drains : Bool) (opened after : AgencyState) (met left : Scene)
     (beside answer : Result (Unit {0}) DrainFault) : Type 0 where

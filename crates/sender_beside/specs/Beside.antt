@@ -1,4 +1,4 @@
--- What a sender beside tills, and after them, leaves of a day.
+-- What a sender leaves of a day, while its tills run and after them.
 use Rattle.std.specs.Prelude.{◌≡◌, ◌⊎◌, ℕ, ◌+◌, ◌<◌, ◌≤◌, List, ◌++◌, length, true, IsTrue, IsErrOf, Err}
 use Rattle.std.specs.List.{AllByRecursion}
 use Rattle.record_codec.specs.declared.entry.Entry.{Entry}

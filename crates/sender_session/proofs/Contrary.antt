@@ -1,4 +1,4 @@
--- A contradiction is what the last message of a session shows, beside the reply that is kept.
+-- A contradiction is what the last message of a session shows, and the reply that is kept.
 use Rattle.std.proofs.Common.{◌≡◌, ◌⊎◌, inl, inr, ℕ, zero, suc, ◌+◌, List, [], ◌∷◌, ◌++◌, length, length-append, map, take}
 use Rattle.std.proofs.Common.{drop, refl, sym, ◌∙◌, ap, subst, arith, Bool, IsTrue, Option, Some, None, Result, Ok, Err}
 use Rattle.std.proofs.Common.{append_assoc, add-one}

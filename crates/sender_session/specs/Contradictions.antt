@@ -14,7 +14,7 @@ use Rattle.sender.specs.declared.answers.DrainFault.{DrainFault}
 use Rattle.sender.specs.declared.answers.DrainFault.TheVariants as drain
 
 -- The last message of a session, which began after these, is a consultation of the first waiting records, and what it was
--- answered shows this contradiction beside the reply that is kept of the session's messages before it.
+-- answered shows this contradiction with the reply that is kept of the session's messages before it.
 pub record ShowsLast (entries : List Entry) (past messages : List Message) (evidence : Evidence) : Type 0 where
   pub before : List Message
   pub huellas : List (List ℕ)

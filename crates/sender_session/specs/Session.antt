@@ -122,7 +122,7 @@ TearsSaid before after messages = (items : List Item) (faults : ℕ) (torn : Ent
     after.items ≡ items ++ item.Stop faults torn ∷ [] → Contains (drop (length before.own) after.own) (length items) →
     TornSaid (history_of after) messages torn
 
--- Turns of one sender with one agency, between two sights of a shop to which others add beside it. What they added is their own
+-- Turns of one sender with one agency, between two sights of a shop to which others add too. What they added is their own
 -- notes, or the stop over them. In a session in which the agency keeps its rules and agreed, and no other notes came, it still
 -- agrees, also with what may be torn, and doesn't contradict itself.
 pub record SendsOn (kind : AgencyKind) (before after : Sight) (old new : AgencyState) (sending sending_then : Sending)

@@ -157,7 +157,7 @@ IsSubmissionLine st batch (Ok reply) printed = IsReplyLine st batch reply printe
 IsSubmissionLine st batch (Err agency.Failed) printed = printed ≡ told.Link
 IsSubmissionLine st batch (Err agency.NoMemory) printed = printed ≡ told.Memory
 
--- what these answers show of the records that wait, beside the last reply
+-- what these answers and the last reply show of the records that wait
 abbrev pub ShowsHere : Standing → List (List ℕ) → List Seen → Result (List Line) Evidence → Type 0
 ShowsHere st huellas seen shown = Shows st.said (st.noted + 1) huellas seen shown
 

@@ -166,7 +166,7 @@ copy_failed s file new (load.Damaged at) none damaged rose wrote =
     copy_damaged at (λ says. inl (none says)) (damaged at refl) wrote
 copy_failed s file new load.NoMemory none damaged rose wrote = no_memory wrote
 
--- beside a file that isn't begun
+-- next to a file that isn't begun
 pub nothing_ends : {D : Type 0} (s : Sinks) (file new : Disks D) (end : Detail) →
     (IsTrue file.tells → IsNotBegun (file.on_disk file.disk).content) →
     (IsTrue new.tells → HasNoEntry (new.on_disk new.disk).content) → CountsPrinted 0 0 s end → FollowEnds s file new end

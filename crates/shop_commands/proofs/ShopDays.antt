@@ -94,7 +94,7 @@ pub record ShopLeft {D C : Type 0} (left : Type 0) (old : Parts D C) (disk_after
   pub clock : clock_after ≡ old.clock
   pub rest : left
 
--- the tills of an opened store asked beside a sender, and this is what the day made of it
+-- the tills of an opened store asked while a sender ran, and this is what the day made of it
 pub record ShopDid {D C : Type 0} (h : StoreKind D C) (asks : List Asked) (kind : AgencyKind) (opened after : AgencyState)
     (drains : Bool) (old : Parts D C) (disk_after : D) (clock_after : C) : Type 0 where
   pub new : Parts D C

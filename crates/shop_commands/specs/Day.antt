@@ -113,7 +113,7 @@ pub record EachCrash {D : Type 0} (d : Day) (k : Disks D) : Type 0 where
       (torn_of d.stop) (synced (k.on_disk k.disk)) (k.on_disk k.disk_after)
 
 -- One session with the agency was opened, with the plan and the pairs noted in the history at the start, and in it one new sender
--- sent, beside the tills and, where a drain follows, in one drain after them. Where shop and agency agreed they still do, also with
+-- sent, while the tills ran and, where a drain follows, in one drain after them. Where shop and agency agreed they still do, also with
 -- the history of each file that a crash now leaves.
 pub record ItsAgency {D G : Type 0} (d : Day) (plan : Plan) (a : Agencies G) (k : Disks D) : Type 0 where
   pub opens : OpensSession d.kind a.begun plan d.start a.before d.opened

@@ -52,7 +52,7 @@ abbrev pub CountsPrinted : ℕ → ℕ → Sinks → Detail → Type 0
 CountsPrinted kept entries s end =
     PrintEnds (followed_text kept entries) detail.Done s end ⊎ ((end ≡ detail.NoMemory) × WroteNothing s)
 
--- a copy of this history beside a file that isn't begun: it has an entry, or the line of no entries was printed
+-- a copy of this history next to a file that isn't begun: it has an entry, or the line of no entries was printed
 abbrev pub BesideNothing : List Entry → Sinks → Detail → Type 0
 BesideNothing entries s end =
     ((1 ≤ length entries) × (end ≡ detail.Parted 1) × WroteNothing s) ⊎ ((length entries ≡ 0) × CountsPrinted 0 0 s end)
@@ -88,7 +88,7 @@ pub data IsParted (file new : List ℕ) : ℕ → Type 0 where
       StandsFor version issuer history file → StandsFor version issuer copy new → IsFirstApart history copy at →
       IsParted file new (at + 1)
 
--- what became of a copy that was opened beside this history: it has all of it, and each crash from now on leaves that; or it has
+-- what became of a copy that was opened next to this history: it has all of it, and each crash from now on leaves that; or it has
 -- an entry of its own, or its disk failed, or memory ran out
 abbrev pub BringsUp : {D : Type 0} → Bool → (D → OnDisk) → (D → ℕ) → Version → List ℕ → List Entry → ChainOnDisk D → D →
     Result ℕ Detail → Type 0

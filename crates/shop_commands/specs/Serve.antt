@@ -102,7 +102,7 @@ pub record EndsAsSpoken {D C Z G : Type 0} (d : Day) (x : Speech) (s : Sources) 
 abbrev pub day_said : {D C Z G : Type 0} → List ℕ → Speech → Option (ℕ × ℕ) → Around D C Z G → Outcome → Day
 day_said issuer x line c o = day_with issuer x.said.asks line (drains_after x.how) c o
 
--- The file was opened, and the lines were answered one by one beside the sender, with this clock line among them: all tills of the
+-- The file was opened, and the lines were answered one by one while the sender ran, with this clock line among them: all tills of the
 -- shop asked for the commands among the lines, each for its own, and each question among them was answered at a history between that
 -- at the start and that at the end.
 pub record SpeechServed {D C Z G : Type 0} (issuer : List ℕ) (line clock : Option (ℕ × ℕ)) (s : Sources) (c : Around D C Z G)

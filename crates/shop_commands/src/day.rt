@@ -42,8 +42,8 @@ use std::thread::Threads;
 
 /// Reads a script from the source, opens the disk for this issuer, and opens the agency's session once with the script's plan
 /// and the pairs noted in the file. Then it runs the script's tills at the same time on the history that the file holds, each
-/// for its own commands in line order and in a thread of its own, with the gate asked ahead of each command and after it. Beside
-/// them a sender sends the records that wait, and the gate is told of each turn that noted lines. Once the tills have ended the
+/// for its own commands in line order and in a thread of its own, with the gate asked ahead of each command and after it. Meanwhile a
+/// sender sends the records that wait, and the gate is told of each turn that noted lines. Once the tills have ended the
 /// same sender drains, unless a fault had ended its turns. At last it prints what each till was told, in order of number, and
 /// the chain to the sink. A clock line of the script replaces clock and sleeper. All parts come back.
 pub fn day_cmd<S, K, D, C, Z, G, T, R>(

@@ -99,7 +99,7 @@ fn print_counts<K: Sink>(alloc: Global, sink: &mut K, kept: u64, entries: u64) -
     }
 }
 
-// Beside a file that isn't begun a copy has no entry. It is only read.
+// Next to a file that isn't begun a copy has no entry. It is only read.
 fn follow_nothing<K: Sink, D: Disk>(alloc: Global, sink: &mut K, copy: D) -> (Detail, D)
     ensures ends { (file : Disks D) → (IsTrue file.tells → IsNotBegun (file.on_disk file.disk).content) →
         FollowEnds (this_sink K.taken K.faults sink.old sink.new) file (this_disk D.tells D.on_disk D.faults copy result.1) result.0 }
@@ -113,7 +113,7 @@ fn follow_nothing<K: Sink, D: Disk>(alloc: Global, sink: &mut K, copy: D) -> (De
     }
 }
 
-// A copy of this history beside a file that isn't begun.
+// A copy of this history next to a file that isn't begun.
 fn beside_nothing<K: Sink>(alloc: Global, sink: &mut K, state: &State) -> Detail
     ensures { spec.BesideNothing state.now.entries (this_sink K.taken K.faults sink.old sink.new) result }
 {

@@ -96,7 +96,7 @@ where
 }
 
 /// The day of a shop that has just begun: its tills ask at the same time, each for its own asks in order and in a thread of its
-/// own, and then each looks at the count. Beside them a sender sends what waits to an agency whose session is open, and once they
+/// own, and then each looks at the count. Meanwhile a sender sends what waits to an agency whose session is open, and once they
 /// have ended it drains.
 pub fn run_day<
     D: Disk + Send + Drop,

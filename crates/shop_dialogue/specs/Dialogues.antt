@@ -30,8 +30,8 @@ pub record Speech : Type 0 where
 
 -- The lines are those of the source, one after another; what is written is the answer to each; each till was told its own of the
 -- replies, in this order, and the first fault of the disk is the last of them; each question was answered at a history that begins
--- with the one at the start, is a front of the one at the end, and falls behind none before it and no record that was told before it;
--- and this is the clock line among them, or none.
+-- with the one at the start, is a front of the one at the end, is no shorter than any before it, and has each record that was told
+-- before it; and this is the clock line among them, or none.
 pub record IsSpeech (clock : Option (ℕ × ℕ)) (start end : List Entry) (s : Sources) (tills : List TillReplies) (x : Speech) :
     Type 0 where
   pub dialogue : Dialogue x.said
@@ -69,7 +69,7 @@ drains_after speech.WriteFault = true
 drains_after speech.NoMemory = true
 drains_after speech.Stopped = false
 
--- A dialogue at the counter of a shop, which was this at its start, beside its sender: what was said, and what it made of the shop.
+-- A dialogue at the counter of a shop, which was this at its start, and of its sender: what was said, and what it made of the shop.
 pub record CounterRun {D C : Type 0} (h : StoreKind D C) (root : Root C) (new : Parts D C) (clock : Option (ℕ × ℕ))
     (from now : Moment) (kind : AgencyKind) (opened after : AgencyState) (answer : Result (Unit {0}) DrainFault) (lacked : Bool)
     (how : SpeechEnd) : Type 0 where

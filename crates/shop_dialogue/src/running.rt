@@ -149,7 +149,7 @@ where
     )
 }
 
-/// The dialogue of a shop that has just begun, from its first answered line on, if there is one. Beside it a sender sends what
+/// The dialogue of a shop that has just begun, from its first answered line on, if there is one. Meanwhile a sender sends what
 /// waits to an agency whose session is open, and once it has ended the sender drains. After a command that is answered with a fault
 /// of the disk the sender makes no further turn, and nothing is drained.
 pub fn run_dialogue<

@@ -85,7 +85,7 @@ at_sights kind exact before after here there old new moment last turns answer th
     subst (λ (s : Sight). NewDrainSays kind exact s there old new moment last turns answer then) (sym e)
     (subst (λ (s : Sight). NewDrainSays kind exact before s old new moment last turns answer then) (sym f) h)
 
--- what holds of every new sender, and of what comes beside it
+-- what holds of every new sender, and of what comes meanwhile
 pub record SessionLaws : Type 0 where
   pub session : BeginsInSession
   pub careful : BeginsCareful

@@ -1,5 +1,5 @@
 //! An opened shop without tills: the file of a post is opened for its issuer, the agency's session is begun, and the records that wait
-//! are sent until none is left, with or without a copy of the file beside it. What each call leaves is given back. A day
+//! are sent until none is left, with or without a copy of the file. What each call leaves is given back. A day
 //! (`shop_day`) and a dialogue (`shop_dialogue`) begin with the same opening and the same session.
 #![tactic(auto)]
 

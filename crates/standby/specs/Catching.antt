@@ -1,4 +1,4 @@
--- A copy beside the history that it is of, and what is left once it was brought up to it.
+-- A copy and the history that it is of, and what is left once it was brought up to it.
 use Rattle.std.specs.Prelude.{◌≡◌, ◌≢◌, ◌+◌, ◌<◌, ℕ, List, length, take, slice_get, None, Some, Result, Ok, Err}
 use Rattle.journal.specs.declared.faults.StoreFault.{StoreFault}
 use Rattle.journal.specs.declared.faults.StoreFault.TheVariants.{DiskFault, Stopped, NoMemory}

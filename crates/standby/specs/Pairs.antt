@@ -39,7 +39,7 @@ pub record IsAheadByNotes (entries : List Entry) (torn : Option Entry) (ahead : 
   pub torn_is : torn ≡ Some (noted_next entries lines)
   pub is : ahead ≡ entries ++ noted_next entries lines ∷ []
 
--- What the shop's history is beside the standby's, by which of the two has stopped: the same; or, where the standby stopped while
+-- What the shop's history is compared with the standby's, by which of the two has stopped: the same; or, where the standby stopped while
 -- lines arrived, that with these lines. They never both stop.
 abbrev pub AreBeside : Option ℕ → List Entry → Option ℕ → Option Entry → List Entry → Type 0
 AreBeside None shop None torn standby = shop ≡ standby

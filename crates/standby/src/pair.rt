@@ -272,7 +272,7 @@ impl<D: Disk, C: Clock, M: Disk> Outbox for Pair<D, C, M> {
         })
     }
 
-    // Beside what an outbox says: lack of memory leaves both as they were, and a fault of either disk stops the pair at its
+    // Besides what an outbox says: lack of memory leaves both as they were, and a fault of either disk stops the pair at its
     // count, which rose.
     fn note<R: Wait>(&mut self, _rt: &R, alloc: Global, lines: &[Line]) -> Result<(), StoreFault>
         requires some { 1 ≤ length lines.now }

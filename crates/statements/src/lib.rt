@@ -1,5 +1,5 @@
 //! Statements of a period, a month or a day: how many lines of the invoices that are held have each key, and the sums of their
-//! amounts. A `Ledger` holds a shop's history and keeps the rows of every month beside it, entry by entry.
+//! amounts. A `Ledger` holds a shop's history and keeps the rows of every month with it, entry by entry.
 #![tactic(auto)]
 
 mod laws;

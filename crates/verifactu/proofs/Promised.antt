@@ -158,7 +158,7 @@ pub one_torn : (stop : Option Stop) → length (torn_of stop) ≤ 1
 one_torn None = omega arith
 one_torn (Some stop) = omega arith
 
--- What a run for this issuer leaves of its file, and beside it what T says of the histories at the start and at the end and of
+-- What a run for this issuer leaves of its file, and with it what T says of the histories at the start and at the end and of
 -- the torn entry.
 pub data Left {D : Type 0} (issuer : List ℕ) (k : Disks D) (T : List Entry → List Entry → List Entry → Type 0) : Type 0 where
   untouched : IsUnwritten (k.on_disk k.disk) (k.on_disk k.disk_after) → ((start : List Entry) → T start start []) → Left issuer k T

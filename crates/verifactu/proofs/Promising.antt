@@ -55,7 +55,7 @@ use Rattle.verifactu.proofs.Promised.Left.{grown}
 -- an agency that wasn't called has the state that it had
 module _ {D C Z G : Type 0} (chained : AreLinked) (a : AllDevices D C Z G)
     (agency_stays : LeftAgency a.agency → a.agency.after ≡ a.agency.before) where
-  -- what is said beside the file: of each till, and of the agency
+  -- what is said besides the file: of each till, and of the agency
   abbrev pub Rest : List Entry → List Entry → List Entry → Type 0
   Rest start end torn =
       TillsGain a.devices.source start end × AgencyKept start end torn a.agency × BatchesKept start end a.agency

@@ -237,7 +237,7 @@ abbrev pub further_pairs : List ℕ → List (List ℕ) → ℕ
 further_pairs name pairs =
     if bytes_eq name (codes "many") then (if nat_lt (2 * MAX_ISSUERS) (length pairs) then 0 else length pairs / 2 - 1) else 0
 
--- how many files these words name beside the first one
+-- how many files these words name besides the first one
 abbrev pub posts_needed : List (List ℕ) → ℕ
 posts_needed (name ∷ (file ∷ (new ∷ []))) =
     if bytes_eq name (codes "migrate") then 1 else (if bytes_eq name (codes "follow") then 1 else 0)

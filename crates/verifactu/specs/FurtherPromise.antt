@@ -31,7 +31,7 @@ pub record CopyGoesOn {D : Type 0} (version : Version) (issuer : List ℕ) (star
   pub images : IsTrue l.tells →
       LeavesOnly (l.on_disk l.disk) (l.on_disk l.disk_after) (IsFollowImage version issuer (end ++ torn) (l.on_disk l.disk))
 
--- A copy (disk l) that is written beside a file of this issuer (disk k). Where the file is no such one no call of the copy's disk
+-- A copy (disk l) that is written next to a file of this issuer (disk k). Where the file is no such one no call of the copy's disk
 -- is made.
 pub record OnlyGuarded {D : Type 0} (issuer : List ℕ) (k l : Disks D) : Type 0 where
   pub own : IsTrue k.tells → (version : Version) (start : List Entry) → IsFound version issuer start (k.on_disk k.disk).content →

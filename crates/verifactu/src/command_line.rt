@@ -355,7 +355,7 @@ fn further_pairs(words: &[String]) -> u16
     (pairs.len() / 2 - 1) as u16
 }
 
-/// How many posts a run by these words needs beside the first one: 1 for those of `migrate`, `follow`
+/// How many posts a run by these words needs besides the first one: 1 for those of `migrate`, `follow`
 /// and `guard`, whose file is NEW, and for those of `many` one less than its pairs.
 pub fn posts_needed(words: &[String]) -> u16
     ensures count { result ≡ spec.posts_needed (map string_bytes words.now) }
