@@ -1,5 +1,5 @@
 #!/bin/sh
-# How long a file of so many records takes to open (by `link`, which prints one line) and to `audit`, beside the bare SHA-256 of as
+# How long a file of RECORDS records takes to open (by `link`, which prints one line) and to `audit`, and the bare SHA-256 of as
 # many field texts in the same language; the fastest of three runs each. The texts of these records have 252 to 258 bytes, which
 # are five blocks each. The file lies in memory (/dev/shm). Each is to take 2.5 times the hashing at most, at 1,000,000 records.
 # Run by hand, on a machine that does nothing else: bench/audit.sh [RECORDS]. It needs rt, and proves the small program that it

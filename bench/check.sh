@@ -3,8 +3,8 @@
 # it takes, of the 10,000 records of a chain in turn. The time with an empty source, which is that of opening the file, is taken off: so
 # the chain is short, else that is most of a run. Turns of each kind alternate, and the fastest count. The file and the links lie in
 # memory (/dev/shm). Two workers are to be 1.8 times as fast as one, and four 3.0 times, where four processors are free. What one worker
-# still does alone: the source is read, and the texts joined and printed. Its peer is the machine itself: so many programs of one worker
-# each, beside each other, and what they do together in the time of one.
+# still does alone: the source is read, and the texts joined and printed. Its peer is the machine itself: as many programs of one
+# worker each, at the same time, and what they do together in the time of one.
 # Run by hand, on a machine that does nothing else: bench/check.sh [LINKS] [TURNS] [RECORDS].
 set -eu
 root=$(CDPATH= cd -- "$(dirname -- "$0")/.." && pwd)
@@ -67,5 +67,5 @@ for workers in 1 2 4; do
 done
 echo "opening takes $opened microseconds"
 for programs in 2 4; do
-    echo "$programs programs beside each other: $(($(least beside.1) * programs * 100 / $(least "beside.$programs"))) hundredths of what one does alone"
+    echo "$programs programs at the same time: $(($(least beside.1) * programs * 100 / $(least "beside.$programs"))) hundredths of what one does alone"
 done

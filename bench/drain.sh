@@ -13,7 +13,7 @@ trap 'rm -rf "$work"' EXIT
 "$root/verifactu" --version >/dev/null
 program=$root/crates/program/out/program
 
-# Opens a file of so many records, and drains a copy of it; the times are noted.
+# Opens a file of $1 records, and drains a copy of it; the times are noted.
 turn() {
     cp "$work/$1.chain" "$work/shop.chain"
     begun=$(microseconds)

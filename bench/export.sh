@@ -1,9 +1,9 @@
 #!/bin/sh
-# How long `export` takes on a file of so many records, beside `audit` of the same file, and how much memory it takes beyond that of
-# opening the file (by `link`), beside the bytes that it prints; how long `matches` takes on the largest such export that it reads
-# (16,777,216 bytes), beside `audit` of its file; and the memory of `matches` on bad lines of that size, beside the line. The fastest
-# of three runs each. The files lie in memory (/dev/shm). `export` is to take 3 times `audit` at most, at 1,000,000 records, and 1.2
-# times the bytes that it prints; `matches` 4 times `audit` at most.
+# How long `export` takes on a file of RECORDS records, compared with `audit` of the same file, and how much memory it takes beyond
+# that of opening the file (by `link`), compared with the bytes that it prints; how long `matches` takes on the largest such export
+# that it reads (16,777,216 bytes), compared with `audit` of its file; and the memory of `matches` on bad lines of that size, compared
+# with the line. The fastest of three runs each. The files lie in memory (/dev/shm). `export` is to take 3 times `audit` at most, at
+# 1,000,000 records, and 1.2 times the bytes that it prints; `matches` 4 times `audit` at most.
 # Run by hand, on a machine that does nothing else: bench/export.sh [RECORDS]. It needs GNU time, 3 GB of memory and some minutes.
 set -eu
 root=$(CDPATH= cd -- "$(dirname -- "$0")/.." && pwd)
@@ -33,7 +33,7 @@ measure() {
 }
 
 failed=0
-# Tells a quotient of the first two in hundredths, which is to be so many at most.
+# Tells a quotient of the first two in hundredths, which is to be the third at most.
 tell() {
     quotient=$(($1 * 100 / $2))
     echo "$4: $quotient hundredths, of $3 at most"

@@ -1,5 +1,5 @@
 #!/bin/sh
-# Kills `follow` at random moments, so many times, each time on a new file NEW. Wanted: the lines that NEW exports are the first ones of
+# Kills `follow` at random moments, TIMES times, each time on a new file NEW. Wanted: the lines that NEW exports are the first ones of
 # those of FILE; a second `follow` adds the others; FILE has no other byte than before.
 # Run by hand: bench/kill_follow.sh [TIMES] [FOLDER].
 set -eu

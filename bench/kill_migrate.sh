@@ -1,5 +1,5 @@
 #!/bin/sh
-# Kills `migrate` at random moments, so many times, each time on a new file NEW. Wanted: NEW isn't begun, or is damaged at 0, or is the whole
+# Kills `migrate` at random moments, TIMES times, each time on a new file NEW. Wanted: NEW isn't begun, or is damaged at 0, or is the whole
 # chain; a second `migrate` then ends it, or says that it is whole; both files have one verdict; FILE has no other byte than before.
 # Run by hand: bench/kill_migrate.sh [TIMES] [FOLDER]. It needs Python, which writes the file of version 1 (old_file.py).
 set -eu

@@ -27,7 +27,7 @@ use std::time::Instant;
 const TURNS: u64 = @TURNS@;
 // The glancing thread starts first and ends last, or nearly so.
 const GLANCES: u64 = TURNS * 10;
-// The best of so many runs is printed.
+// The best of these runs is printed.
 const RUNS: u32 = 5;
 
 #[derive(Drop)]

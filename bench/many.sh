@@ -1,7 +1,7 @@
 #!/bin/sh
-# Eight issuers' drains beside each other, one `many`, against one after another, eight `drain`: files of so many waiting records each
+# Eight issuers' drains at the same time, one `many`, against one after another, eight `drain`: files of RECORDS waiting records each
 # (20,000 where nothing is said), through a practice agency each, in memory (/dev/shm), where syncs cost nothing. And what of it can't
-# be beside each other, since `many` opens the files and prints the blocks one after another: a `many` of the same files once they are
+# be done at the same time, since `many` opens the files and prints the blocks one after another: a `many` of the same files once they are
 # sent, and eight `drain` of those. Turns alternate, and the fastest count. In the end each record of each file is noted.
 # Run by hand, on a machine that does nothing else: bench/many.sh [RECORDS] [TURNS]
 set -eu

@@ -18,7 +18,7 @@ cd "$folder"
 nif=89890001K
 faster=0
 
-# So many sales of 12 lines, and comments up to so many bytes.
+# Sales of 12 lines, this many, and comments up to a size in bytes.
 long_script() {
     echo "clock 1735722000 1"
     seq "$1" | sed 's/.*/sale 1 & A F2 21:1000 10:1000 4:1000 0:1000 21+:1000 10+:1000 4+:1000 S2:1000 N1:1000 N2:1000 E1:1000 E2:1000/'
@@ -105,7 +105,7 @@ customers_script 10000 >script
 measure chain shop.chain $nif
 tell
 
-# A file of so many records, and one of a tenth.
+# A file of RECORDS records, and one of a tenth.
 tenth=$((records / 10))
 rm -f shop.chain
 for part in 0 1 2 3 4 5 6 7 8 9; do

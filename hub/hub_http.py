@@ -330,7 +330,7 @@ class Hub:
                 served.used = self.loop.time()
 
     async def _in_turn(self, handler: Handler, asking: Asking) -> web.Response:
-        """A till's requests one after another, all others beside each other."""
+        """A till's requests one after another, all others at the same time."""
         if asking.asker is None or asking.served is None:
             return await handler(asking)
         if asking.asker.is_owner:

@@ -1,5 +1,5 @@
 #!/usr/bin/env python3
-"""Builds the program: proves its crates, those that don't stand on each other beside each other, and then links it.
+"""Builds the program: proves its crates, those that don't stand on each other at the same time, and then links it.
 
 usage: tools/build.py [LANES]
 

@@ -1,3 +1,4 @@
+//! Amounts as texts: what is refused, and why.
 use amounts::*;
 use std::test::Fail;
 use test_rows::holds;

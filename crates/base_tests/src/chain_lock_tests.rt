@@ -1,3 +1,4 @@
+//! Two threads that add at one lock while a third looks, and what a pass tells another.
 ghost use Rattle.std.specs.Prelude.{◌≡◌};
 ghost use Rattle.chain_lock.specs.Words.{known, lock_id, pass_lock};
 

@@ -1,3 +1,4 @@
+//! Frames, written and read.
 use frames::{Frame, FrameBuf, frame_bytes, read_frame};
 use std::test::Fail;
 use test_rows::holds;

@@ -1,3 +1,4 @@
+//! A journal on a disk in memory: its bytes, its faults, its crashes.
 ghost use Rattle.std.specs.Prelude.{◌≡◌, ◌<◌, ◌≤◌, ◌+◌, IfOk};
 ghost use Rattle.journal.specs.Journal.{end_of};
 

@@ -1,3 +1,4 @@
+//! Lines, cut from a source that gives a few bytes at a time.
 use line_reader::{LineReader, Next, bytes_have_one_list_of_lines};
 use ports::{Failed, MemSource, Source};
 use std::alloc::Global;

@@ -1,3 +1,4 @@
+//! When a submission is due.
 use pacing::{Pace, WaitUntil};
 use std::test::Fail;
 use test_rows::holds;

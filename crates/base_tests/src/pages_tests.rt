@@ -1,3 +1,4 @@
+//! Strings kept in pages of memory.
 use pages::Pages;
 use std::test::Fail;
 use test_rows::holds;

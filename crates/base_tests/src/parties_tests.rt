@@ -1,3 +1,4 @@
+//! Tax numbers and names: what is refused, and why.
 use parties::*;
 use std::alloc::Global;
 use std::test::Fail;

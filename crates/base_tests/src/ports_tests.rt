@@ -1,3 +1,4 @@
+//! Sources, sinks, clocks and sleepers in memory.
 use ports::{
     Clock, CountingClock, Failed, Gate, LeapSleeper, ListClock, MemSink, MemSource, OpenGate, Sink,
     Sleeper, Source, StdSink, StdSource, SystemClock, ThreadSleeper, reason_of,

@@ -1,3 +1,4 @@
+//! Numbers by series, and whose series a number is of.
 use series::*;
 use std::test::Fail;
 use test_rows::holds;

@@ -1,3 +1,4 @@
+//! The days of the change of clocks, the ranges of moments, and days counted from 1970.
 use jiff::Timestamp;
 use stamps::*;
 use std::test::Fail;

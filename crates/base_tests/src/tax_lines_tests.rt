@@ -1,3 +1,4 @@
+//! Codes of classes, what each tax permits, and lines made of a total.
 use amounts::Cents;
 use std::alloc::Global;
 use std::test::Fail;

@@ -1,3 +1,4 @@
+//! The value that a lock holds, and what a turn does to it.
 ghost use Rattle.std.specs.Prelude.{◌≡◌, List, length};
 ghost use Rattle.chain_lock.specs.Lists.{MayAdd};
 

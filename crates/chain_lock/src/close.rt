@@ -1,3 +1,4 @@
+//! The end of a lock: one pass that has all numbers gives the value back.
 ghost use Rattle.std.specs.Prelude.{◌≡◌, ◌≤◌, ◌<◌, ◌+◌, length, All, List, ℕ};
 ghost use Rattle.chain_lock.specs.Known.{Fits, holders, owners};
 ghost use Rattle.chain_lock.specs.Lists.{EachOf, StartsWith, placed, times, total};

@@ -1,3 +1,4 @@
+//! The lock: turns, one at a time, and glances, which wait for none.
 ghost use Rattle.std.specs.Prelude.{◌≡◌, ◌≤◌, ◌<◌, ◌^◌, ◌++◌, [], ◌∷◌, false, true, length, max, Some, None};
 ghost use Rattle.std.specs.Bool.{OnTrue, OnFalse};
 ghost use Rattle.chain_lock.specs.Known.{Turns, KnowsOfSeen};

@@ -1,3 +1,4 @@
+//! The start of a lock: a value goes in, and passes come out.
 ghost use Rattle.std.specs.Prelude.{◌≡◌, ◌≤◌, ◌<◌, [], ◌∷◌, false, length, All, IfOk, IfErr, Some, vec_len, vec_capacity, ℕ};
 ghost use Rattle.chain_lock.specs.Known.{IsNew, holders};
 ghost use Rattle.chain_lock.specs.Lists.{EachOf, times, total};

@@ -1,3 +1,4 @@
+//! A right to take turns, and the passes that are not out.
 ghost use Rattle.std.specs.Prelude.{◌≡◌, ◌<◌, ◌↔◌, [], ◌∷◌, ◌++◌, length, All, IsNone, IfSome, IfNone};
 ghost use Rattle.chain_lock.specs.Rule.{IsAtRest};
 

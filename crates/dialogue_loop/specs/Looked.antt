@@ -24,7 +24,7 @@ abbrev pub Rise : List Entry → List Look → List Entry → Type 0
 Rise start [] end = StartsWith end start
 Rise start (look ∷ looks) end = StartsWith look.history start × Rise look.history looks end
 
--- a record that is told by its receipt is one of so many
+-- a receipt is of one of the first records, by their count
 abbrev pub IsWithin : ℕ → Result Reply StoreFault → Type 0
 IsWithin records (Ok (Taken receipt)) = receipt.place ≤ records
 IsWithin records (Ok (Again receipt)) = receipt.place ≤ records
@@ -42,7 +42,7 @@ pub record AreLooked (start end : List Entry) (replies : Replies) (looks : List 
   pub rise : Rise start looks end
   pub told : AllByRecursion (SeesTold replies) looks
 
--- how many records stand among so many items of a list
+-- how many records are among the first items of a list, by their count
 abbrev pub records_in : ℕ → List Item → ℕ
 records_in n log = length (recs (entries_of (take n log)))
 

@@ -1,3 +1,4 @@
+//! Batches of records, the names of their Huellas, and the order of a chain.
 use crate::records::{batch, chain};
 use batches::{Batches, HuellaList, are_linked};
 use record_fields::Sealed;

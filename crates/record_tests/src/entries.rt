@@ -1,3 +1,4 @@
+//! Entries as bytes, each with the bytes that the format gives it.
 ghost use Rattle.record_fields.specs.declared.checks.TheConstants.{MAX_REFS};
 ghost use Rattle.std.specs.Prelude.{◌≤◌, length, IfOk};
 ghost use Rattle.record_codec.specs.Validity.{InRanges};

@@ -1,3 +1,4 @@
+//! What the agency answers to an alta and to an anulación.
 use crate::records as samples;
 use crate::records::{TEN, anulacion, id, issuer, moment, number};
 use agency_rules::{Delivered, Pairs, Past, PlannedVerdict, Verdict, Verdicts, judge};

@@ -1,3 +1,4 @@
+//! A shop without a disk: what each ask is answered.
 use crate::records::{TEN, draft_of, issuer, line};
 use huella::huella_text;
 use invoice_kinds::Kind;

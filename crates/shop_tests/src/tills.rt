@@ -1,3 +1,4 @@
+//! Tills that ask in turns and at the same time, and what they were told.
 ghost use Rattle.std.specs.Prelude.{◌≡◌, IfSome, IsTrue, None};
 ghost use Rattle.chain_disk.specs.OnDisk.{IsSettled};
 ghost use Rattle.chain_store.specs.Store.{Ready, journal_of};

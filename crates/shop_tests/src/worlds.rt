@@ -1,3 +1,4 @@
+//! A shop and what came of it at the agency, step by step.
 use agency_rules::Plan;
 use once_world::{Event, World, run_events};
 use parties::Nif;

@@ -1,3 +1,4 @@
+//! The lines that a till and an owner read.
 use agency_port::{Evidence, ReplyLine, Told, Turns};
 use amounts::Cents;
 use journal::StoreFault;

@@ -253,7 +253,7 @@ help_on_check =
     ++ codes "Says of scanned links whether the shop's chain has their invoices.\n"
     ++ codes "\n"
     ++ codes "Reads   links on standard input, one a line, to their end, and FILE. WORKERS is\n"
-    ++ codes "        1 to 16: so many work beside each other, with the same answers.\n"
+    ++ codes "        1 to 16: how many work at the same time, with the same answers.\n"
     ++ codes "Prints  for each link found PLACE, differs PLACE, cancelled PLACE, refused,\n"
     ++ codes "        unknown, other-issuer, or what is bad in it. It is the shop's own\n"
     ++ codes "        answer, and not the tax agency's.\n"

@@ -267,7 +267,7 @@ verifactu check FILE WORKERS
 Says of scanned links whether the shop's chain has their invoices.
 
 Reads   links on standard input, one a line, to their end, and FILE. WORKERS is
-        1 to 16: so many work beside each other, with the same answers.
+        1 to 16: how many work at the same time, with the same answers.
 Prints  for each link found PLACE, differs PLACE, cancelled PLACE, refused,
         unknown, other-issuer, or what is bad in it. It is the shop's own
         answer, and not the tax agency's.
