@@ -7,4 +7,5 @@ pub mod Agreeing
 pub mod Draining
 pub mod Lines
 pub mod TurnCalls
+pub mod DrainCalls
 pub mod Known

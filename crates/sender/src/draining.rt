@@ -1,16 +1,11 @@
 //! Turns until no record waits.
-ghost use Rattle.std.specs.Prelude.{◌≡◌, ◌<◌, ◌≤◌, ◌+◌, ◌-◌, ◌*◌, ◌^◌, ◌++◌, ℕ, length, List, IsTrue, IsErrOf, OnOk, OnErr};
-ghost use Rattle.agency_port.specs.declared.messages.Message.{Message as AnyMessage};
-ghost use Rattle.agency_port.specs.declared.turns.Evidence.{Evidence as AnyEvidence};
-ghost use Rattle.shop_core.specs.History.{recs, noted, waiting};
-ghost use Rattle.once_world.specs.Outbox.{history_of};
-ghost use Rattle.sender.specs.Agreeing.{InOneSession, KeepsReply, KeepsSession, AgreesTorn, AgreesIfTorn, Adds, AreNotesOrTorn};
-ghost use Rattle.sender.specs.Agreeing.{IsCareful};
+ghost use Rattle.std.specs.Prelude.{◌≡◌, ◌<◌, ◌≤◌, ◌++◌, length, OnOk, OnErr};
+ghost use Rattle.sender.specs.Agreeing.{Adds, AreNotesOrTorn};
+ghost use Rattle.sender.specs.DrainCalls.{this_drain, DrainsByTurns, AgreesThroughout, NeverRepeatsBlindly, TellsItsMessages};
+ghost use Rattle.sender.specs.DrainCalls.{DeliversOrGivesUp};
 ghost use Rattle.sender.specs.declared.draining.TheConstants.{MAX_LINK_FAULTS};
-ghost use Rattle.sender.specs.Lines.{DrainTells, SaysCalls};
 ghost use Rattle.sender.specs.Turning.{agency_kind_of, agency_state_from};
-ghost use Rattle.sender.specs.Draining.{told_in, told_list, moment_after, scene_of, LinksAfter, Made, Drained, IsBounded};
-ghost use Rattle.pacing.specs.declared.pace.TheConstants.{MAX_BATCH};
+ghost use Rattle.sender.specs.Draining.{told_in, told_list, moment_after, scene_of, LinksAfter, Made};
 
 use crate::laws::what_is_known;
 use crate::{DrainFault, SendFault, Sender, Turn};
@@ -139,64 +134,28 @@ impl Sender {
         sleeper: &mut Z,
         turns: &mut Turns,
     ) -> Result<(), DrainFault>
-        ensures drained { Drained (agency_kind_of G.tells G.keeps_rules) Z.tells
-            (scene_of (agency_state_from G.ledger G.faults agency.old) (O.sight outbox.old) self.old (Z.moment sleeper.old))
-            (scene_of (agency_state_from G.ledger G.faults agency.new) (O.sight outbox.new) self.new (Z.moment sleeper.new))
-            turns.old turns.new result }
-        ensures fixed { O.fixed outbox.new ≡ O.fixed outbox.old }
-
-        // The sleeper rests at no turn.
-        ensures no_rest { Z.without_rest sleeper.old sleeper.new }
-
-        // With an agency that keeps its rules, in whose session the earlier turns were, agreement stays, and it contradicts
-        // itself never.
-        ensures agreement { InOneSession G.keeps_rules (O.sight outbox.old) (O.sight outbox.new) (G.ledger agency.old)
-            self.old.said
-            (KeepsSession (O.sight outbox.old) (O.sight outbox.new) (G.ledger agency.old) (G.ledger agency.new) self.new.said) }
-        ensures no_contradiction { InOneSession G.keeps_rules (O.sight outbox.old) (O.sight outbox.new) (G.ledger agency.old)
-            self.old.said ((evidence : AnyEvidence) → IsErrOf result (DrainFault.Contradiction evidence) → ⊥) }
-
-        // Where the disk failed amid its notes, the shop agrees with them too.
-        ensures torn { InOneSession G.keeps_rules (O.sight outbox.old) (O.sight outbox.new) (G.ledger agency.old) self.old.said
-            (IsErrOf result (DrainFault.Store StoreFault.DiskFault) →
-            AgreesTorn (O.sight outbox.new) (G.ledger agency.new)) }
-
-        // The same by what its own notes added, whatever is answered: notes, or the stop over them.
-        ensures adds { Adds AreNotesOrTorn (O.sight outbox.old) (O.sight outbox.new) }
-        ensures if_torn { InOneSession G.keeps_rules (O.sight outbox.old) (O.sight outbox.new) (G.ledger agency.old) self.old.said
-            (AgreesIfTorn (O.sight outbox.old) (O.sight outbox.new) (G.ledger agency.new)) }
-
+        // Its turns, the lines that are told of them, and how the last one ends it.
+        ensures drained { DrainsByTurns (this_drain G.Agency Z.Sleeper agency.old agency.new (O.sight outbox.old)
+            (O.sight outbox.new) self.old self.new sleeper.old sleeper.new turns.old turns.new result) }
+        // With an agency that keeps its rules, in whose session the earlier turns were, agreement stays.
+        ensures agreement { AgreesThroughout (this_drain G.Agency Z.Sleeper agency.old agency.new (O.sight outbox.old)
+            (O.sight outbox.new) self.old self.new sleeper.old sleeper.new turns.old turns.new result) }
         // No record is handed over again unless a consultation since has answered that it didn't come.
-        ensures careful { IsTrue G.tells → (past : List AnyMessage) →
-            IsCareful past (O.sight outbox.old) (G.ledger agency.old).messages self.old →
-            IsCareful past (O.sight outbox.new) (G.ledger agency.new).messages self.new }
-
-        // It keeps the last reply of its session that named its batch, until a consultation answers.
-        ensures kept { IsTrue G.tells → (past : List AnyMessage) →
-            KeepsReply past (G.ledger agency.old).messages self.old.said →
-            KeepsReply past (G.ledger agency.new).messages self.new.said }
-
+        ensures no_blind_repeat { NeverRepeatsBlindly (this_drain G.Agency Z.Sleeper agency.old agency.new (O.sight outbox.old)
+            (O.sight outbox.new) self.old self.new sleeper.old sleeper.new turns.old turns.new result) }
         // What is told are the lines of its messages to the agency, in order.
-        ensures told { IsTrue G.tells →
-            DrainTells (G.ledger agency.old).messages (G.ledger agency.new).messages turns.old turns.new result }
-        ensures says { IsTrue G.tells → SaysCalls (G.ledger agency.old).messages (G.ledger agency.new).messages }
-
-        // Eight turns with a link fault are eight faults of the agency.
-        ensures undelivered { (n records : ℕ) → IsErrOf result (DrainFault.Undelivered n records) →
-            G.faults agency.new < 2 ^ 64 - 1 → G.faults agency.old + MAX_LINK_FAULTS ≤ G.faults agency.new }
-
-        // At Ok all is noted.
-        ensures delivered { OnOk result
-            (length (noted (history_of (O.sight outbox.new))) ≡ length (recs (history_of (O.sight outbox.new)))) }
-
+        ensures messages { TellsItsMessages (this_drain G.Agency Z.Sleeper agency.old agency.new (O.sight outbox.old)
+            (O.sight outbox.new) self.old self.new sleeper.old sleeper.new turns.old turns.new result) }
+        // At Ok all is noted; it gives up after eight faults of the agency; its turns are bounded.
+        ensures ends { DeliversOrGivesUp (this_drain G.Agency Z.Sleeper agency.old agency.new (O.sight outbox.old)
+            (O.sight outbox.new) self.old self.new sleeper.old sleeper.new turns.old turns.new result) }
+        // Its own notes added notes, or the stop over them.
+        ensures adds { Adds AreNotesOrTorn (O.sight outbox.old) (O.sight outbox.new) }
+        ensures fixed { O.fixed outbox.new ≡ O.fixed outbox.old }
         // The last look shows as many items as the outbox knew of at first.
         ensures covers { OnOk result (O.least outbox.old ≤ length (O.sight outbox.new).items) }
-
-        // Where no record comes in between, the turns are bounded by the batches that waited and by the link faults.
-        ensures bound { InOneSession G.keeps_rules (O.sight outbox.old) (O.sight outbox.new) (G.ledger agency.old) self.old.said
-            (length (recs (history_of (O.sight outbox.new))) ≤ length (recs (history_of (O.sight outbox.old))) →
-            (batches : ℕ) → length (waiting (history_of (O.sight outbox.old))) ≤ MAX_BATCH * batches →
-            IsBounded batches turns.old turns.new) }
+        // The sleeper rests at no turn.
+        ensures no_rest { Z.without_rest sleeper.old sleeper.new }
     {
         legal_is_chained();
         what_is_known();
@@ -214,10 +173,8 @@ impl Sender {
         sleeper: &mut Z,
         turns: &mut Turns,
     ) -> Result<(), DrainFault>
-        ensures drained { Drained (agency_kind_of G.tells G.keeps_rules) Z.tells
-            (scene_of (agency_state_from G.ledger G.faults agency.old) (O.sight outbox.old) self.old (Z.moment sleeper.old))
-            (scene_of (agency_state_from G.ledger G.faults agency.new) (O.sight outbox.new) self.new (Z.moment sleeper.new))
-            turns.old turns.new result }
+        ensures drained { DrainsByTurns (this_drain G.Agency Z.Sleeper agency.old agency.new (O.sight outbox.old)
+            (O.sight outbox.new) self.old self.new sleeper.old sleeper.new turns.old turns.new result) }
         ensures fixed { O.fixed outbox.new ≡ O.fixed outbox.old }
         ensures covers { OnOk result (O.least outbox.old ≤ length (O.sight outbox.new).items) }
         ensures no_rest { Z.without_rest sleeper.old sleeper.new }

@@ -66,12 +66,12 @@ says g c = at_sights _ _ _ _ _ _ _ _ _ _ _ _ _ (seen_at_first g c) (seen_at_last
     (of_new _ _ _ _ _ _ _ _ _ _ _ c.new-sender.result c.new-turns.result c.new-sender.ensures c.new-turns.ensures (record {
       drained = c.drain-answer.ensures.drained;
       adds = c.drain-answer.ensures.adds;
-      agreement = c.drain-answer.ensures.agreement;
-      no_contradiction = c.drain-answer.ensures.no_contradiction;
-      if_torn = c.drain-answer.ensures.if_torn;
-      careful = c.drain-answer.ensures.careful;
-      delivered = c.drain-answer.ensures.delivered;
-      bound = c.drain-answer.ensures.bound;
+      agreement = c.drain-answer.ensures.agreement.keeps;
+      no_contradiction = c.drain-answer.ensures.agreement.no_contradiction;
+      if_torn = c.drain-answer.ensures.agreement.if_torn;
+      careful = c.drain-answer.ensures.no_blind_repeat.careful;
+      delivered = c.drain-answer.ensures.ends.delivered;
+      bound = c.drain-answer.ensures.ends.bound;
     }))
 
 closed : (g : Over) (c : goal.Joined-sender g) →
