@@ -62,8 +62,8 @@ module _ {D C : Type 0} (tells : Bool) (on_disk : D → OnDisk) (faults : D → 
       let own = gains base (items_in p) root tills seat then h in
       let in_it : InSession (sight_by seat) old.ledger fresh.said = session (sight_by seat) old.ledger
       (agree_new base root seat old.ledger.processed old.ledger.sent h.fresh is agree) in
-      let k = sends.session keeps in_it own in
-      let t = sends.torn keeps in_it own in
+      let k = sends.shop.session keeps in_it own in
+      let t = sends.shop.torn keeps in_it own in
       record {
         whole = agreed base (items_in p) root tills seat then h root.history p.state.entries p.stopped p.torn kept records
             new.ledger k.session.agree;
@@ -71,7 +71,7 @@ module _ {D C : Type 0} (tells : Bool) (on_disk : D → OnDisk) (faults : D → 
             p.torn)
             (agreed_torn base (items_in p) root tills seat then h root.history p.state.entries p.stopped p.torn kept records
             new.ledger k.session.agree t);
-        no_contradiction = sends.no_contradiction keeps in_it own;
+        no_contradiction = sends.shop.no_contradiction keeps in_it own;
       }
 
   careful_then : BeginsCareful → IsTrue kind.tells → AreOfChain root.history old.ledger.messages →
@@ -82,7 +82,7 @@ module _ {D C : Type 0} (tells : Bool) (on_disk : D → OnDisk) (faults : D → 
       (subst (λ (es : List Entry). Legal root.version root.issuer es) (sym begun) legal) in
       let start = careful old.ledger.messages (sight_by seat) there
       (subst (λ (es : List Entry). AreOfChain es old.ledger.messages) (sym begun) runs) in
-      sends.careful says old.ledger.messages start
+      sends.messages.careful says old.ledger.messages start
 
   nothing_blindly : BeginsCareful → IsTrue kind.tells → AreOfChain root.history old.ledger.messages →
       SaysNothingBlindly old.ledger.messages new.ledger.messages
@@ -123,11 +123,11 @@ module _ {D C : Type 0} (tells : Bool) (on_disk : D → OnDisk) (faults : D → 
 
   only_shown : IsTrue kind.tells → (evidence : Evidence) → IsErrOf answer (drain.Contradiction evidence) →
       ShowsLast p.state.entries old.ledger.messages new.ledger.messages evidence
-  only_shown says evidence is = at_end evidence (sends.contrary says old.ledger.messages begins evidence is)
+  only_shown says evidence is = at_end evidence (sends.messages.contrary says old.ledger.messages begins evidence is)
 
   each_shown : IsTrue kind.tells → (evidence : Evidence) → ShowsLast p.state.entries old.ledger.messages new.ledger.messages
       evidence → IsErrOf answer (drain.Contradiction evidence) ⊎ (answer ≡ Err drain.NoMemory)
-  each_shown says evidence s = elim (sends.shown says old.ledger.messages begins (none_yet old.ledger.messages) p.state.entries
+  each_shown says evidence s = elim (sends.messages.shown says old.ledger.messages begins (none_yet old.ledger.messages) p.state.entries
       evidence s) [
         | inl c ↦ inl (subst (λ (e : Evidence). IsErrOf answer (drain.Contradiction e)) (one_shown p.state.entries
             old.ledger.messages new.ledger.messages c.0 evidence (only_shown says c.0 c.1) s) c.1)
@@ -137,7 +137,7 @@ module _ {D C : Type 0} (tells : Bool) (on_disk : D → OnDisk) (faults : D → 
   -- the counts of the last sight, with the records that came after it
   counts_within : (n r : ℕ) → IsErrOf answer (drain.Undelivered n r) → CountsWithin p.state.entries n r
   counts_within n r is =
-      let c = sends.counts n r is in
+      let c = sends.ends.counts n r is in
       let waits = still_waits base (items_in p) root tills seat then h root.history p.state.entries p.stopped p.torn kept in
       let seen = history_of (sight_by then) in
       let lines : length (noted p.state.entries) ≡ length (noted seen) = ap (λ (ls : List Line). length ls) waits.0 in
@@ -157,24 +157,24 @@ module _ {D C : Type 0} (tells : Bool) (on_disk : D → OnDisk) (faults : D → 
       p.state.entries p.stopped p.torn kept).0 in
       at_end_noted root.history seen p.state.entries old.ledger.messages new.ledger.messages answer more.0 more.1 lines
       (subst (λ (es : List Entry). NotesSaid es seen old.ledger.messages new.ledger.messages answer) begun
-      (sends.lines says (gains base (items_in p) root tills seat then h)))
+      (sends.messages.lines says (gains base (items_in p) root tills seat then h)))
 
   pub sends_beside : RecordsKeepAgreement → BeginsInSession → BeginsCareful → SendsBeside day
   sends_beside records session careful = record {
     agreement = still records session;
     careful = nothing_blindly careful;
     runs = still_runs careful;
-    says = sends.says;
+    says = sends.messages.says;
     contrary = only_shown;
     shown = each_shown;
-    none_before = λ says. sends.none_before says old.ledger.messages begins (none_yet old.ledger.messages)
+    none_before = λ says. sends.messages.none_before says old.ledger.messages begins (none_yet old.ledger.messages)
         (nothing_before old.ledger.messages);
     lines = all_said;
     torn_lines = λ says. torn_said base (items_in p) root tills seat then h root.history p.state.entries p.stopped p.torn kept
-        new.ledger.messages (sends.torn_lines says);
-    later = sends.later;
+        new.ledger.messages (sends.messages.torn_lines says);
+    later = sends.ends.later;
     counts = counts_within;
-    undelivered = sends.undelivered;
-    gives_up = sends.gives_up;
-    gave_up = sends.gave_up;
+    undelivered = sends.ends.undelivered;
+    gives_up = sends.ends.gives_up;
+    gave_up = sends.ends.gave_up;
   }

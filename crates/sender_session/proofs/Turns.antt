@@ -34,8 +34,8 @@ use Rattle.sender.proofs.Adding.{adds_none, adds_then, has_front}
 use Rattle.sender.proofs.Causes.{turn_later}
 use Rattle.sender.proofs.Growing.{Growth, all_contained, gains_each}
 use Rattle.sender.proofs.Lists.{all_both, all_change}
-use Rattle.sender_session.specs.Session.{AnsweredByDrain, DrainsTo, EndsStopped, FailsAtNotes, IsUndelivered, SendsOn}
-use Rattle.sender_session.specs.Session.{sending_end, IsDiskAnswer}
+use Rattle.sender_session.specs.Session.{AddsOwnNotes, AnsweredByDrain, DrainsTo, EndsStopped, FailsAtNotes, GivesUpForCause}
+use Rattle.sender_session.specs.Session.{IsDiskAnswer, IsUndelivered, SaysByTurns, SendsOn, sending_end}
 use Rattle.sender_session.proofs.Contrary.{shows_nothing}
 use Rattle.sender_session.proofs.GivingUp.{gives_up_behind}
 use Rattle.sender_session.proofs.NotingTurns.{grown_records, notes_none, notes_then}
@@ -66,29 +66,35 @@ nothing_more own = ap (λ (xs : List ℕ). drop (length own) xs) (sym (append-ni
 -- nothing yet
 pub sends_none : (kind : AgencyKind) (a : Sight) (k : AgencyState) (said : Sending) → SendsOn kind a a k k said said (Ok tt)
 sends_none kind a k said = record {
-  adds = adds_none AreNotesOrTorn a;
-  notes = inl (adds_none AreNotes a);
-  stopped = λ disk. absurd disk;
-  session = λ keeps in_it gains. record {
-    session = in_it;
-    begins = record { rest = []; is = sym (append-nil k.ledger.processed) };
+  shop = record {
+    adds = adds_none AreNotesOrTorn a;
+    notes = inl (adds_none AreNotes a);
+    stopped = λ disk. absurd disk;
+    session = λ keeps in_it gains. record {
+      session = in_it;
+      begins = record { rest = []; is = sym (append-nil k.ledger.processed) };
+    };
+    no_contradiction = λ keeps in_it gains evidence is. absurd cc;
+    torn = λ keeps in_it gains items faults torn is own. absurd
+        (none_there (length items) (subst (λ (ps : List ℕ). Contains ps (length items)) (nothing_more a.own) own));
   };
-  no_contradiction = λ keeps in_it gains evidence is. absurd cc;
-  torn = λ keeps in_it gains items faults torn is own. absurd
-      (none_there (length items) (subst (λ (ps : List ℕ). Contains ps (length items)) (nothing_more a.own) own));
-  careful = λ tells past h. h;
-  says = λ tells. record { session = []; is = sym (append-nil k.ledger.messages); calls = tt };
-  kept = λ tells past r. r;
-  contrary = λ tells past r evidence is. absurd cc;
-  shown = λ tells past r none entries evidence s. absurd (none entries evidence s);
-  none_before = λ tells past r none before. before;
-  lines = λ tells gains. notes_none (history_of a) k.ledger.messages;
-  torn_lines = λ tells. tears_none a a k.ledger.messages refl;
-  later = omega arith;
-  counts = λ n r is. absurd cc;
-  undelivered = λ n r is. absurd cc;
-  gives_up = λ tells n r is. absurd cc;
-  gave_up = λ is. absurd (let e = is.2 in cc);
+  messages = record {
+    careful = λ tells past h. h;
+    says = λ tells. record { session = []; is = sym (append-nil k.ledger.messages); calls = tt };
+    kept = λ tells past r. r;
+    contrary = λ tells past r evidence is. absurd cc;
+    shown = λ tells past r none entries evidence s. absurd (none entries evidence s);
+    none_before = λ tells past r none before. before;
+    lines = λ tells gains. notes_none (history_of a) k.ledger.messages;
+    torn_lines = λ tells. tears_none a a k.ledger.messages refl;
+  };
+  ends = record {
+    later = omega arith;
+    counts = λ n r is. absurd cc;
+    undelivered = λ n r is. absurd cc;
+    gives_up = λ tells n r is. absurd cc;
+    gave_up = λ is. absurd (let e = is.2 in cc);
+  };
 }
 
 -- a drain after turns that were before it
@@ -114,88 +120,105 @@ no_fault : (answer : Result (Unit {0}) DrainFault) (kind : AgencyKind) (k l : Ag
 no_fault answer kind k l well (inl is) = let e = sym well ∙ is in absurd cc
 no_fault answer kind k l well (inr f) = let e = sym well ∙ f.0 in absurd cc
 
--- after turns that go on, more of them
-pub sends_then : (kind : AgencyKind) (a b c : Sight) (k l m : AgencyState) (said mid then : Sending) (answer : Result (Unit {0}) DrainFault) →
-    SendsOn kind a b k l said mid (Ok tt) → SendsOn kind b c l m mid then answer → SendsOn kind a c k m said then answer
-sends_then kind a b c k l m said mid then answer x y = record {
-  adds = adds_then AreNotesOrTorn a b c x.adds y.adds;
-  notes = elim y.notes [
-    | inl added ↦ inl (adds_then AreNotes a b c notes added)
-    | inr fails ↦ inr (fails_later kind k l m answer x.later fails)
-  ];
-  stopped = y.stopped;
-  session = λ keeps in_it gains.
-      let each = both gains in
-      let first = x.session keeps in_it each.0 in
-      let next = y.session keeps first.session each.1 in
-      record {
-        session = next.session;
-        begins = record {
-          rest = first.begins.rest ++ next.begins.rest;
-          is = next.begins.is ∙
-              ap (λ (t : List (Sealed × Line)). t ++ next.begins.rest) first.begins.is ∙ append_assoc k.ledger.processed
-              first.begins.rest next.begins.rest;
+-- Turns that go on, and more of them.
+module _ (kind : AgencyKind) (a b c : Sight) (k l m : AgencyState) (said mid then : Sending)
+    (answer : Result (Unit {0}) DrainFault) (x : SendsOn kind a b k l said mid (Ok tt))
+    (y : SendsOn kind b c l m mid then answer) where
+  notes : Adds AreNotes a b
+  notes = elim x.shop.notes [ inl added ↦ added | inr fails ↦ absurd (no_fault (Ok tt) kind k l refl fails) ]
+
+  both : GainsOwnNotes a c → GainsOwnNotes a b × GainsOwnNotes b c
+  both gains = gains_each a b c (growth_of AreNotesOrTorn a b x.shop.adds) (growth_of AreNotesOrTorn b c y.shop.adds) gains
+
+  torn_by_part : IsTrue kind.keeps_rules → InSession b l.ledger mid.said → GainsOwnNotes b c → (items : List Item) (faults : ℕ)
+      (torn : Entry) → c.items ≡ items ++ item.Stop faults torn ∷ [] → drop (length b.own) c.own ≡ y.shop.adds.own →
+      Contains notes.own (length items) ⊎ Contains y.shop.adds.own (length items) → Agree (history_of c ++ torn ∷ [])
+      m.ledger.processed m.ledger.sent
+  torn_by_part keeps first gains items faults torn is later (inl early) =
+      let h = has_front AreNotes b.items y.shop.adds.items (length items) (all_contained (HasAt AreNotes b.items) notes.own
+      (length items) notes.are early) in
+      let e : Some h.0 ≡ Some (item.Stop faults torn) = sym (subst (λ (xs : List Item). slice_get xs (length items) ≡ Some h.0)
+      (sym y.shop.adds.items_is) h.1) ∙ ap (λ (xs : List Item). slice_get xs (length items)) is ∙
+      get_seam items (item.Stop faults torn) in
+      let f : h.0 ≡ item.Stop faults torn = (let g = e in cc) in
+      absurd (subst AreNotes f h.2)
+  torn_by_part keeps first gains items faults torn is later (inr late) =
+      y.shop.torn keeps first gains items faults torn is (subst (λ (ps : List ℕ). Contains ps (length items)) (sym later) late)
+
+  shop_then : AddsOwnNotes kind a c k m said then answer
+  shop_then = record {
+    adds = adds_then AreNotesOrTorn a b c x.shop.adds y.shop.adds;
+    notes = elim y.shop.notes [
+      | inl added ↦ inl (adds_then AreNotes a b c notes added)
+      | inr fails ↦ inr (fails_later kind k l m answer x.ends.later fails)
+    ];
+    stopped = y.shop.stopped;
+    session = λ keeps in_it gains.
+        let each = both gains in
+        let first = x.shop.session keeps in_it each.0 in
+        let next = y.shop.session keeps first.session each.1 in
+        record {
+          session = next.session;
+          begins = record {
+            rest = first.begins.rest ++ next.begins.rest;
+            is = next.begins.is ∙
+                ap (λ (t : List (Sealed × Line)). t ++ next.begins.rest) first.begins.is ∙ append_assoc k.ledger.processed
+                first.begins.rest next.begins.rest;
+          };
         };
-      };
-  no_contradiction = λ keeps in_it gains. let each = both gains in y.no_contradiction keeps (x.session keeps in_it each.0).session
-      each.1;
-  torn = λ keeps in_it gains items faults torn is own.
-      let each = both gains in
-      let first = x.session keeps in_it each.0 in
-      let whole : c.own ≡ a.own ++ (notes.own ++ y.adds.own) = y.adds.own_is ∙ ap (λ (ps : List ℕ). ps ++ y.adds.own) notes.own_is
-      ∙ append_assoc a.own notes.own y.adds.own in
-      let gained : drop (length a.own) c.own ≡ notes.own ++ y.adds.own = ap (λ (ps : List ℕ). drop (length a.own) ps) whole ∙
-      drop-append_seam a.own (notes.own ++ y.adds.own) in
-      let later : drop (length b.own) c.own ≡ y.adds.own = ap (λ (ps : List ℕ). drop (length b.own) ps) y.adds.own_is ∙
-      drop-append_seam b.own y.adds.own in
-      by_part keeps first.session each.1 items faults torn is later (Contains-append_cases notes.own y.adds.own (length items)
-      (subst (λ (ps : List ℕ). Contains ps (length items)) gained own));
-  careful = λ tells past h. y.careful tells past (x.careful tells past h);
-  says = λ tells. (let f = x.says tells in let s = y.says tells in record {
-    session = f.session ++ s.session;
-    is = s.is ∙ ap (λ (ms : List Message). ms ++ s.session) f.is ∙ append_assoc k.ledger.messages f.session s.session;
-    calls = all_both IsCall f.session s.session f.calls s.calls;
-  });
-  kept = λ tells past r. y.kept tells past (x.kept tells past r);
-  contrary = λ tells past r. y.contrary tells past (x.kept tells past r);
-  shown = λ tells past r none. y.shown tells past (x.kept tells past r) (shows_nothing past l.ledger.messages
-      (x.shown tells past r none));
-  none_before = λ tells past r none before. y.none_before tells past (x.kept tells past r)
-      (shows_nothing past l.ledger.messages (x.shown tells past r none)) (x.none_before tells past r none before);
-  lines = λ tells gains.
-      let each = both gains in
-      notes_then (history_of a) (history_of b) (history_of c) k.ledger.messages l.ledger.messages m.ledger.messages answer
-      (recs (entries_of y.adds.items)) (grown_records b c y.adds.items y.adds.items_is) (x.lines tells each.0)
-      (y.lines tells each.1);
-  torn_lines = λ tells. tears_then a b c m.ledger.messages notes (growth_of AreNotesOrTorn b c y.adds) (y.torn_lines tells);
-  later = let e = x.later in let f = y.later in omega (arith, e, f);
-  counts = y.counts;
-  undelivered = λ n r is below. (let w = y.undelivered n r is below in let e = x.later in omega (arith, w, e));
-  gives_up = λ tells n r is. (let f = x.says tells in
-      gives_up_behind k.ledger.messages l.ledger.messages m.ledger.messages f.session f.is (y.gives_up tells n r is));
-  gave_up = λ is. drain_later kind k l m answer x.later (y.gave_up is);
-}
-  where
-    notes : Adds AreNotes a b
-    notes = elim x.notes [ inl added ↦ added | inr fails ↦ absurd (no_fault (Ok tt) kind k l refl fails) ]
+    no_contradiction = λ keeps in_it gains. let each = both gains in
+        y.shop.no_contradiction keeps (x.shop.session keeps in_it each.0).session each.1;
+    torn = λ keeps in_it gains items faults torn is own.
+        let each = both gains in
+        let first = x.shop.session keeps in_it each.0 in
+        let added = y.shop.adds in
+        let whole : c.own ≡ a.own ++ (notes.own ++ added.own) = added.own_is ∙ ap (λ (ps : List ℕ). ps ++ added.own) notes.own_is
+        ∙ append_assoc a.own notes.own added.own in
+        let gained : drop (length a.own) c.own ≡ notes.own ++ added.own = ap (λ (ps : List ℕ). drop (length a.own) ps) whole ∙
+        drop-append_seam a.own (notes.own ++ added.own) in
+        let later : drop (length b.own) c.own ≡ added.own = ap (λ (ps : List ℕ). drop (length b.own) ps) added.own_is ∙
+        drop-append_seam b.own added.own in
+        torn_by_part keeps first.session each.1 items faults torn is later (Contains-append_cases notes.own added.own
+        (length items) (subst (λ (ps : List ℕ). Contains ps (length items)) gained own));
+  }
 
-    both : GainsOwnNotes a c → GainsOwnNotes a b × GainsOwnNotes b c
-    both gains = gains_each a b c (growth_of AreNotesOrTorn a b x.adds) (growth_of AreNotesOrTorn b c y.adds) gains
+  messages_then : SaysByTurns kind a c k m said then answer
+  messages_then = record {
+    careful = λ tells past h. y.messages.careful tells past (x.messages.careful tells past h);
+    says = λ tells. (let f = x.messages.says tells in let s = y.messages.says tells in record {
+      session = f.session ++ s.session;
+      is = s.is ∙ ap (λ (ms : List Message). ms ++ s.session) f.is ∙ append_assoc k.ledger.messages f.session s.session;
+      calls = all_both IsCall f.session s.session f.calls s.calls;
+    });
+    kept = λ tells past r. y.messages.kept tells past (x.messages.kept tells past r);
+    contrary = λ tells past r. y.messages.contrary tells past (x.messages.kept tells past r);
+    shown = λ tells past r none. y.messages.shown tells past (x.messages.kept tells past r)
+        (shows_nothing past l.ledger.messages (x.messages.shown tells past r none));
+    none_before = λ tells past r none before. y.messages.none_before tells past (x.messages.kept tells past r)
+        (shows_nothing past l.ledger.messages (x.messages.shown tells past r none))
+        (x.messages.none_before tells past r none before);
+    lines = λ tells gains.
+        let each = both gains in
+        let added = y.shop.adds in
+        notes_then (history_of a) (history_of b) (history_of c) k.ledger.messages l.ledger.messages m.ledger.messages answer
+        (recs (entries_of added.items)) (grown_records b c added.items added.items_is) (x.messages.lines tells each.0)
+        (y.messages.lines tells each.1);
+    torn_lines = λ tells. tears_then a b c m.ledger.messages notes (growth_of AreNotesOrTorn b c y.shop.adds)
+        (y.messages.torn_lines tells);
+  }
 
-    by_part : IsTrue kind.keeps_rules → InSession b l.ledger mid.said → GainsOwnNotes b c → (items : List Item) (faults : ℕ)
-        (torn : Entry) → c.items ≡ items ++ item.Stop faults torn ∷ [] → drop (length b.own) c.own ≡ y.adds.own →
-        Contains notes.own (length items) ⊎ Contains y.adds.own (length items) → Agree (history_of c ++ torn ∷ [])
-        m.ledger.processed m.ledger.sent
-    by_part keeps first gains items faults torn is later (inl early) =
-        let h = has_front AreNotes b.items y.adds.items (length items) (all_contained (HasAt AreNotes b.items) notes.own
-        (length items) notes.are early) in
-        let e : Some h.0 ≡ Some (item.Stop faults torn) = sym (subst (λ (xs : List Item). slice_get xs (length items) ≡ Some h.0)
-        (sym y.adds.items_is) h.1) ∙ ap (λ (xs : List Item). slice_get xs (length items)) is ∙
-        get_seam items (item.Stop faults torn) in
-        let f : h.0 ≡ item.Stop faults torn = (let g = e in cc) in
-        absurd (subst AreNotes f h.2)
-    by_part keeps first gains items faults torn is later (inr late) =
-        y.torn keeps first gains items faults torn is (subst (λ (ps : List ℕ). Contains ps (length items)) (sym later) late)
+  ends_then : GivesUpForCause kind c k m answer
+  ends_then = record {
+    later = let e = x.ends.later in let f = y.ends.later in omega (arith, e, f);
+    counts = y.ends.counts;
+    undelivered = λ n r is below. (let w = y.ends.undelivered n r is below in let e = x.ends.later in omega (arith, w, e));
+    gives_up = λ tells n r is. (let f = x.messages.says tells in
+        gives_up_behind k.ledger.messages l.ledger.messages m.ledger.messages f.session f.is (y.ends.gives_up tells n r is));
+    gave_up = λ is. drain_later kind k l m answer x.ends.later (y.ends.gave_up is);
+  }
+
+  pub sends_then : SendsOn kind a c k m said then answer
+  sends_then = record { shop = shop_then; messages = messages_then; ends = ends_then }
 
 -- a turn's note whose fault is the disk's ends the turns so
 pub notes_end : (kind : AgencyKind) (old new : AgencyState) (answer : Result Turn SendFault) → answer ≡ Err (send.Store store.DiskFault) →

@@ -122,10 +122,9 @@ TearsSaid before after messages = (items : List Item) (faults : ℕ) (torn : Ent
     after.items ≡ items ++ item.Stop faults torn ∷ [] → Contains (drop (length before.own) after.own) (length items) →
     TornSaid (history_of after) messages torn
 
--- Turns of one sender with one agency, between two sights of a shop to which others add too. What they added is their own
--- notes, or the stop over them. In a session in which the agency keeps its rules and agreed, and no other notes came, it still
--- agrees, also with what may be torn, and doesn't contradict itself.
-pub record SendsOn (kind : AgencyKind) (before after : Sight) (old new : AgencyState) (sending sending_then : Sending)
+-- What turns of one sender add to its shop are its own notes, or the stop over them; in a session in which the agency keeps its
+-- rules and agreed, and no other notes came, it still agrees, also with what may be torn, and doesn't contradict itself.
+pub record AddsOwnNotes (kind : AgencyKind) (before after : Sight) (old new : AgencyState) (sending sending_then : Sending)
     (answer : Result (Unit {0}) DrainFault) : Type 0 where
   pub adds : Adds AreNotesOrTorn before after
   pub notes : Adds AreNotes before after ⊎ FailsAtNotes kind old new answer
@@ -136,6 +135,10 @@ pub record SendsOn (kind : AgencyKind) (before after : Sight) (old new : AgencyS
       (evidence : Evidence) → IsErrOf answer (drain.Contradiction evidence) → ⊥
   pub torn : IsTrue kind.keeps_rules → InSession before old.ledger sending.said → GainsOwnNotes before after →
       AgreesIfTorn before after new.ledger
+
+-- What turns of one sender say to an agency that tells its messages, and what is noted and answered by these.
+pub record SaysByTurns (kind : AgencyKind) (before after : Sight) (old new : AgencyState) (sending sending_then : Sending)
+    (answer : Result (Unit {0}) DrainFault) : Type 0 where
   -- no record is handed over blindly
   pub careful : IsTrue kind.tells → (past : List Message) → IsCareful past before old.ledger.messages sending →
       IsCareful past after new.ledger.messages sending_then
@@ -157,6 +160,10 @@ pub record SendsOn (kind : AgencyKind) (before after : Sight) (old new : AgencyS
   pub lines : IsTrue kind.tells → GainsOwnNotes before after →
       NotesSaid (history_of before) (history_of after) old.ledger.messages new.ledger.messages answer
   pub torn_lines : IsTrue kind.tells → TearsSaid before after new.ledger.messages
+
+-- How turns of one sender end: the agency's count of faults never falls, and only a drain gives up, after eight faults of the link.
+pub record GivesUpForCause (kind : AgencyKind) (after : Sight) (old new : AgencyState)
+    (answer : Result (Unit {0}) DrainFault) : Type 0 where
   pub later : old.faults ≤ new.faults
   -- the drain gives up with the counts of the last sight, in which some record waits
   pub counts : (noted_count records_count : ℕ) → IsErrOf answer (drain.Undelivered noted_count records_count) →
@@ -167,3 +174,11 @@ pub record SendsOn (kind : AgencyKind) (before after : Sight) (old new : AgencyS
       IsErrOf answer (drain.Undelivered noted_count records_count) → GivesUp old.ledger.messages new.ledger.messages
   -- and it was the eighth of that drain's turns that is answered with a fault of the link
   pub gave_up : IsUndelivered answer → AnsweredByDrain kind old new answer
+
+-- Turns of one sender with one agency, between two sights of a shop to which others add too: what the shop gained by them and
+-- that it still agrees, what was said to the agency, and how they ended.
+pub record SendsOn (kind : AgencyKind) (before after : Sight) (old new : AgencyState) (sending sending_then : Sending)
+    (answer : Result (Unit {0}) DrainFault) : Type 0 where
+  pub shop : AddsOwnNotes kind before after old new sending sending_then answer
+  pub messages : SaysByTurns kind before after old new sending sending_then answer
+  pub ends : GivesUpForCause kind after old new answer

@@ -54,32 +54,38 @@ returns-clause-sends g c = λ before agency_state sending x.
     let last : Scene = scene_of new b c.drain-answer.new.self (g.Z.Sleeper.moment c.drain-answer.new.sleeper) in
     let drains : DrainsTo kind g.Z.Sleeper.tells first last answer = drains_from _ _ _ _ _ _ _ c.new-turns.ensures e.drained in
     let drained : SendsOn kind a b mid new c.args.sent.sender c.drain-answer.new.self answer = record {
-      adds = e.adds;
-      notes = drained_notes_or kind g.Z.Sleeper.tells first last mid new answer drains refl refl;
-      stopped = drained_stopped _ _ _ _ _ _ _ e.drained;
-      session = e.agreement.keeps;
-      no_contradiction = e.agreement.no_contradiction;
-      torn = e.agreement.if_torn;
-      careful = e.no_blind_repeat.careful;
-      says = e.messages.says;
-      kept = e.no_blind_repeat.kept;
-      contrary = drained_shows _ _ _ _ _ _ _ e.drained;
-      shown = drained_answers _ _ _ _ _ _ _ e.drained;
-      none_before = drained_before _ _ _ _ _ _ _ e.drained;
-      lines = λ tells. drained_notes c.what_came_beside_is_records.ensures.quiet c.what_came_beside_is_records.ensures.own kind _
-          tells _ _ _ _ _ e.drained;
-      torn_lines = drained_tears _ _ _ _ _ _ _ e.drained;
-      later = drained_later _ _ _ _ _ _ _ e.drained;
-      counts = drained_counts _ _ _ _ _ _ _ e.drained;
-      undelivered = e.ends.undelivered;
-      gives_up = drained_gives_up _ _ _ _ _ _ _ e.drained;
-      gave_up = λ is. record {
-        exact = g.Z.Sleeper.tells;
-        before = first;
-        after = last;
-        drains = drains;
-        agency_state = refl;
-        later = omega arith;
+      shop = record {
+        adds = e.adds;
+        notes = drained_notes_or kind g.Z.Sleeper.tells first last mid new answer drains refl refl;
+        stopped = drained_stopped _ _ _ _ _ _ _ e.drained;
+        session = e.agreement.keeps;
+        no_contradiction = e.agreement.no_contradiction;
+        torn = e.agreement.if_torn;
+      };
+      messages = record {
+        careful = e.no_blind_repeat.careful;
+        says = e.messages.says;
+        kept = e.no_blind_repeat.kept;
+        contrary = drained_shows _ _ _ _ _ _ _ e.drained;
+        shown = drained_answers _ _ _ _ _ _ _ e.drained;
+        none_before = drained_before _ _ _ _ _ _ _ e.drained;
+        lines = λ tells. drained_notes c.what_came_beside_is_records.ensures.quiet c.what_came_beside_is_records.ensures.own kind
+            _ tells _ _ _ _ _ e.drained;
+        torn_lines = drained_tears _ _ _ _ _ _ _ e.drained;
+      };
+      ends = record {
+        later = drained_later _ _ _ _ _ _ _ e.drained;
+        counts = drained_counts _ _ _ _ _ _ _ e.drained;
+        undelivered = e.ends.undelivered;
+        gives_up = drained_gives_up _ _ _ _ _ _ _ e.drained;
+        gave_up = λ is. record {
+          exact = g.Z.Sleeper.tells;
+          before = first;
+          after = last;
+          drains = drains;
+          agency_state = refl;
+          later = omega arith;
+        };
       };
     } in
     let into : SendsOn kind (sight_by (seat_knows c.args.sent.seat)) (sight_by (seat_knows c.into_seat.result)) mid new

@@ -24,30 +24,39 @@ returns-clause-sends g c =
     let e = c.turn-answer.ensures in
     subst (λ (r : Result (Unit {0}) DrainFault). SendsOn kind before after old new c.args.sender.now c.turn-answer.new.self r)
     (sym c.going_on.ensures) (record {
-      adds = e.above.adds;
-      notes = elim (is_disk_fault answer) [
-        | inl is ↦ inr (notes_end kind old new answer is)
-        | inr never ↦ inl (e.above.notes never)
-      ];
-      stopped = stopped_end kind old new before after c.args.sender.now c.turn-answer.new.self c.now-now.result answer e.turned;
-      session = λ keeps in_it gains. let k = e.agreement.keeps keeps in_it gains in record { session = k.session; begins = k.begins };
-      no_contradiction = λ keeps in_it gains. never_end answer before after old new c.turn-answer.new.self
-          (e.agreement.keeps keeps in_it gains);
-      torn = e.agreement.torn;
-      careful = e.no_blind_repeat.careful;
-      says = e.above.says;
-      kept = e.no_blind_repeat.kept;
-      contrary = turn_shows kind old new before after c.args.sender.now c.turn-answer.new.self c.now-now.result answer e.turned;
-      shown = turn_answers kind old new before after c.args.sender.now c.turn-answer.new.self c.now-now.result answer e.turned;
-      none_before = turn_before kind old new before after c.args.sender.now c.turn-answer.new.self c.now-now.result answer e.turned;
-      lines = turn_notes c.what_came_beside_is_records.ensures.quiet c.what_came_beside_is_records.ensures.own kind old new before
-          after c.args.sender.now c.turn-answer.new.self c.now-now.result answer e.turned;
-      torn_lines = turn_tears kind old new before after c.args.sender.now c.turn-answer.new.self c.now-now.result answer e.turned;
-      later = e.link_fault.later;
-      counts = λ n r is. absurd (never_gives_up answer n r is);
-      undelivered = λ n r is. absurd (never_gives_up answer n r is);
-      gives_up = λ tells n r is. absurd (never_gives_up answer n r is);
-      gave_up = λ is. absurd (never_gives_up answer is.0 is.1 is.2);
+      shop = record {
+        adds = e.above.adds;
+        notes = elim (is_disk_fault answer) [
+          | inl is ↦ inr (notes_end kind old new answer is)
+          | inr never ↦ inl (e.above.notes never)
+        ];
+        stopped = stopped_end kind old new before after c.args.sender.now c.turn-answer.new.self c.now-now.result answer e.turned;
+        session = λ keeps in_it gains. let k = e.agreement.keeps keeps in_it gains in
+            record { session = k.session; begins = k.begins };
+        no_contradiction = λ keeps in_it gains. never_end answer before after old new c.turn-answer.new.self
+            (e.agreement.keeps keeps in_it gains);
+        torn = e.agreement.torn;
+      };
+      messages = record {
+        careful = e.no_blind_repeat.careful;
+        says = e.above.says;
+        kept = e.no_blind_repeat.kept;
+        contrary = turn_shows kind old new before after c.args.sender.now c.turn-answer.new.self c.now-now.result answer e.turned;
+        shown = turn_answers kind old new before after c.args.sender.now c.turn-answer.new.self c.now-now.result answer e.turned;
+        none_before = turn_before kind old new before after c.args.sender.now c.turn-answer.new.self c.now-now.result answer
+            e.turned;
+        lines = turn_notes c.what_came_beside_is_records.ensures.quiet c.what_came_beside_is_records.ensures.own kind old new
+            before after c.args.sender.now c.turn-answer.new.self c.now-now.result answer e.turned;
+        torn_lines = turn_tears kind old new before after c.args.sender.now c.turn-answer.new.self c.now-now.result answer
+            e.turned;
+      };
+      ends = record {
+        later = e.link_fault.later;
+        counts = λ n r is. absurd (never_gives_up answer n r is);
+        undelivered = λ n r is. absurd (never_gives_up answer n r is);
+        gives_up = λ tells n r is. absurd (never_gives_up answer n r is);
+        gave_up = λ is. absurd (never_gives_up answer is.0 is.1 is.2);
+      };
     })
 
 pub returns-clause-never : goal.returns-clause-never

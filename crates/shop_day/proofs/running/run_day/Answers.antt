@@ -79,19 +79,19 @@ returns-clause-day g c =
     let h = shared g.D.Disk.tells g.D.Disk.on_disk g.D.Disk.faults g.C.Clock.coming c.args.asks.now p (shop_root shop)
     (first_items shop) (tills_in c.args.room.days.items) told (tills_know c.args.begun.started.tills)
     (tills_know c.hand_in.new.tills) seat then ran c.requires.begun.new
-    c.a_till_owns_records_and_stops.ensures c.close.ensures.each c.close.ensures.begins c.close.ensures.since sends.adds in
+    c.a_till_owns_records_and_stops.ensures c.close.ensures.each c.close.ensures.begins c.close.ensures.since sends.shop.adds in
     ended g.D.Disk.tells g.D.Disk.on_disk g.D.Disk.faults g.C.Clock.coming c.args.asks.now p (shop_root shop) (first_items shop)
     (tills_in c.args.room.days.items) told (tills_know c.args.begun.started.tills) (tills_know c.hand_in.new.tills) seat then
     ran c.requires.begun.new kind opened after true answer
     c.a_till_adds_for_no_other.ensures c.a_till_adds_what_is_taken.ensures
     (ap (λ (l : List Item). length l) c.requires.begun.base ∙ length-map (shop_root shop).history (λ (e : Entry). item.Entry e))
-    (distinct_of (λ (d : TillDay). d.till) c.args.room.days.items c.requires.distinct) h sends.notes
+    (distinct_of (λ (d : TillDay). d.till) c.args.room.days.items c.requires.distinct) h sends.shop.notes
     (λ disk. is_stopped (first_items shop) (items_in p) (shop_root shop) (tills_know c.hand_in.new.tills) seat then h
     (shop_root shop).history p.state.entries p.stopped p.torn (record {
       base_is = c.requires.begun.base;
       log_is = refl;
       begins = c.close.ensures.sound.begins;
-    }) (sends.stopped disk))
+    }) (sends.shop.stopped disk))
     c.close.ensures.sound
     (λ is. counts g.D.Disk.tells g.D.Disk.on_disk g.D.Disk.faults g.C.Clock.coming c.args.asks.now p (shop_root shop) (first_items shop)
     (tills_in c.args.room.days.items) told (tills_know c.args.begun.started.tills) (tills_know c.hand_in.new.tills) seat then
@@ -117,5 +117,5 @@ returns-clause-behind g c =
     shown_behind {S = Sent g.row.D.Denot g.row.C.Denot g.row.G.Denot g.row.Z.Denot g.D.Disk g.C.Clock}
     (λ x. scene_in (agency_state_of g.G.Agency) g.Z.Sleeper.moment x) (λ x. x.answer) (agency_kind g.G.Agency) g.Z.Sleeper.tells
     true (agency_state_of g.G.Agency c.args.begun.agency) (agency_state_of g.G.Agency c.drain_rest-rest.result.agency) _ _ _ _
-    c.of-met.ensures c.of-left.ensures beside.sends.says beside.sends.later beside.never c.drain_rest-rest.ensures.failed
+    c.of-met.ensures c.of-left.ensures beside.sends.messages.says beside.sends.ends.later beside.never c.drain_rest-rest.ensures.failed
     (λ is. c.drain_rest-rest.ensures.turns) (λ none. absurd (let x = none in cc)) refl

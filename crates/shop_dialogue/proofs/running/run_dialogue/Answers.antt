@@ -99,19 +99,19 @@ returns-clause-run g c = λ left faults first later cause.
     (first_items shop) (range_with_len 1 64) told (tills_know c.args.begun.started.tills)
     row.backs seat then ran c.requires.begun.new
     c.a_till_owns_records_and_stops.ensures (all_fit_behind (items_in p) row.backs back then behind c.close.ensures.each)
-    c.close.ensures.begins (λ n a b. owners_behind n row.backs back then behind ∙ c.close.ensures.since n a b) sends.adds in
+    c.close.ensures.begins (λ n a b. owners_behind n row.backs back then behind ∙ c.close.ensures.since n a b) sends.shop.adds in
     let run = ended g.D.Disk.tells g.D.Disk.on_disk g.D.Disk.faults g.C.Clock.coming spoken.said.asks p (shop_root shop) (first_items shop)
     (range_with_len 1 64) told (tills_know c.args.begun.started.tills) row.backs seat then
     ran c.requires.begun.new kind opened after drains answer
     c.a_till_adds_for_no_other.ensures c.a_till_adds_what_is_taken.ensures
     (ap (λ (l : List Item). length l) c.requires.begun.base ∙ length-map (shop_root shop).history (λ (e : Entry). item.Entry e))
-    (all_distinct 1 64) h sends.notes
+    (all_distinct 1 64) h sends.shop.notes
     (λ disk. is_stopped (first_items shop) (items_in p) (shop_root shop) row.backs seat then h
     (shop_root shop).history p.state.entries p.stopped p.torn (record {
       base_is = c.requires.begun.base;
       log_is = refl;
       begins = c.close.ensures.sound.begins;
-    }) (sends.stopped disk))
+    }) (sends.shop.stopped disk))
     c.close.ensures.sound
     (λ is. counts g.D.Disk.tells g.D.Disk.on_disk g.D.Disk.faults g.C.Clock.coming spoken.said.asks p (shop_root shop) (first_items shop)
     (range_with_len 1 64) told (tills_know c.args.begun.started.tills) row.backs seat then
@@ -155,6 +155,6 @@ returns-clause-behind g c =
     (λ x. scene_in (agency_state_of g.G.Agency) g.Z.Sleeper.moment x) (λ x. x.answer) (agency_kind g.G.Agency) g.Z.Sleeper.tells
     (drains_after c.answer_lines_with_sender-sent.new.how) (agency_state_of g.G.Agency c.args.begun.agency)
     (agency_state_of g.G.Agency c.drain_if-rest.result.agency) _ _ _ _
-    c.of-met.ensures c.of-left.ensures beside.sends.says beside.sends.later beside.never c.drain_if-rest.ensures.failed
+    c.of-met.ensures c.of-left.ensures beside.sends.messages.says beside.sends.ends.later beside.never c.drain_if-rest.ensures.failed
     (λ is. c.drain_if-rest.ensures.turns (c.drains_after.ensures ∙ is))
     (λ none. c.drain_if-rest.ensures.ends (c.drains_after.ensures ∙ none)) refl
