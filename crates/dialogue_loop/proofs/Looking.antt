@@ -1,4 +1,4 @@
--- A counter's looks, one turn further.
+-- A dialogue's looks, one turn further.
 use Rattle.std.proofs.Common.{◌≡◌, ◌∙◌, ℕ, zero, suc, ◌+◌, ◌-◌, ◌<◌, ◌≤◌, List, [], ◌∷◌, ◌++◌, length, map, refl, ap, sym, subst, arith}
 use Rattle.std.proofs.Common.{Bool, true, false, Option, Some, None, Result, Ok, Err, append-nil, append_assoc, length-append, take, drop}
 use Rattle.std.proofs.Common.{All, get_or, slice_get}
@@ -423,7 +423,7 @@ module _ {C : Type 0} (coming : C → ℕ → Option ℕ) (ask : Asked) where
           within_more (records_in new.least log) (records_in k.least log) told (records_more new.least k.least log more)
           (asked_within told old new log t fits)
 
--- the counter at its start, and at its end
+-- the dialogue at its start, and at its end
 module _ {C : Type 0} where
   pub none_looked : (news : List (Known Item (Root C))) → LookedOn [] [] news
   none_looked news = λ first at. record { rise = λ root list is starts begins. begins; told = λ log fit. tt; within = λ log fit. tt }

@@ -1,4 +1,4 @@
--- The histories at which a counter's questions are answered.
+-- The histories at which a dialogue's questions are answered.
 use Rattle.std.specs.Prelude.{◌≡◌, ◌≤◌, ◌∷◌, ℕ, List, [], ◌++◌, length, take, Some, Result, Ok, Err, slice_get, slice_set}
 use Rattle.std.specs.List.{AllByRecursion}
 use Rattle.chain_lock.specs.Known.{Fits, Known}
@@ -36,7 +36,7 @@ pub record SeesTold (replies : Replies) (look : Look) : Type 0 where
   pub before : look.after ≤ length replies
   pub within : AllByRecursion (IsWithin (length (recs look.history))) (take look.after replies)
 
--- The questions of a counter were answered at histories from that at the start on to that at the end, in their order, and at none
+-- The questions of a dialogue were answered at histories from that at the start on to that at the end, in their order, and at none
 -- that lacks a record which was told before.
 pub record AreLooked (start end : List Entry) (replies : Replies) (looks : List Look) : Type 0 where
   pub rise : Rise start looks end
@@ -47,7 +47,7 @@ abbrev pub records_in : ℕ → List Item → ℕ
 records_in n log = length (recs (entries_of (take n log)))
 
 module _ {C : Type 0} where
-  -- The looks so far, by what the counter's first till knows and what all do: that till has seen the history of each, and knows of
+  -- The looks so far, by what the first till knows and what all do: that till has seen the history of each, and knows of
   -- each record that was told.
   pub record FirstLooked (replies : Replies) (looks : List Look) (news : List (Known Item (Root C))) (first : Known Item (Root C)) :
       Type 0 where
@@ -67,7 +67,7 @@ module _ {C : Type 0} where
       LookedOn replies (looks ++ record { after = length replies; history = history } ∷ []) news)
   LookedFor asked (Err e) olds news = (replies : Replies) (looks : List Look) → LookedOn replies looks olds → LookedOn replies looks news
 
-  -- what was answered at a counter whose tills are of one shop, by any list that goes on from what they know at the end
+  -- what was answered in a dialogue whose tills are of one shop, by any list that goes on from what they know at the end
   abbrev pub AreLookedAt : List (Known Item (Root C)) → List (Known Item (Root C)) → Replies → List Look → Type 0
   AreLookedAt olds news replies looks = (root : Root C) (log : List Item) →
       AllByRecursion (λ (k : Known Item (Root C)). k.root ≡ Some root) olds → AllByRecursion (Fits log) news →

@@ -1,4 +1,4 @@
-//! The counter of a shop: all its tills, held by one thread, are asked line by line, and each line is answered at once.
+//! A dialogue with the tills of a shop: one thread holds them all, asks them line by line, and answers each line at once.
 #![tactic(auto)]
 
 mod held;
@@ -7,4 +7,4 @@ mod speaking;
 
 pub use held::{all_numbers, give_back, hold_all};
 pub use listener::Listener;
-pub use speaking::{Counter, SpeechEnd, SpeechMeans, answer, answer_lines};
+pub use speaking::{SpeechEnd, SpeechMeans, SpeechState, answer, answer_lines};

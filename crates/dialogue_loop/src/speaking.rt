@@ -48,9 +48,9 @@ pub struct SpeechMeans<'a, R, T> {
     pub stop: &'a AtomicBool,
 }
 
-/// A shop's counter: the tills, and what was heard so far.
+/// How far a dialogue has come: the tills, and what was heard so far.
 #[derive(Drop)]
-pub struct Counter<D: Disk, C: Clock> {
+pub struct SpeechState<D: Disk, C: Clock> {
     pub listener: Listener,
     /// All tills, the last one first.
     pub held: Vec<Till<D, C>>,
@@ -133,17 +133,17 @@ fn answer_reply<K: Sink>(
 fn carry_out<K: Sink, D: Disk, C: Clock, T: Gate, R: Wait>(
     means: SpeechMeans<'_, R, T>,
     shop: &Shop<D, C>,
-    counter: &mut Counter<D, C>,
+    speech: &mut SpeechState<D, C>,
     sink: &mut K,
     action: &Action,
 ) -> Option<SpeechEnd>
-    requires own { All (λ t. till_shop t ≡ shop_id shop.now) counter.old.held.items }
-    requires numbers { reverse (map till_number counter.old.held.items) ≡ range_with_len 1 LAST_TILL }
-    ensures own { All (λ t. till_shop t ≡ shop_id shop.now) counter.new.held.items }
-    ensures numbers { map till_number counter.new.held.items ≡ map till_number counter.old.held.items }
-    ensures listener { counter.new.listener ≡ counter.old.listener }
-    ensures carries_out { CarriesOut C.coming action.now (this_sink K.taken K.faults sink.old sink.new) counter.old.lacked counter.new.lacked
-        (map till_knows counter.old.held.items) (map till_knows counter.new.held.items) result }
+    requires own { All (λ t. till_shop t ≡ shop_id shop.now) speech.old.held.items }
+    requires numbers { reverse (map till_number speech.old.held.items) ≡ range_with_len 1 LAST_TILL }
+    ensures own { All (λ t. till_shop t ≡ shop_id shop.now) speech.new.held.items }
+    ensures numbers { map till_number speech.new.held.items ≡ map till_number speech.old.held.items }
+    ensures listener { speech.new.listener ≡ speech.old.listener }
+    ensures carries_out { CarriesOut C.coming action.now (this_sink K.taken K.faults sink.old sink.new) speech.old.lacked speech.new.lacked
+        (map till_knows speech.old.held.items) (map till_knows speech.new.held.items) result }
     ensures later { K.faults sink.old ≤ K.faults sink.new }
 {
     match action {
@@ -159,15 +159,15 @@ fn carry_out<K: Sink, D: Disk, C: Clock, T: Gate, R: Wait>(
                 means.alloc,
                 means.gate,
                 shop,
-                &mut counter.held,
+                &mut speech.held,
                 ask,
             );
-            counter.lacked = counter.lacked || is_no_memory(&told);
+            speech.lacked = speech.lacked || is_no_memory(&told);
             stop_at_fault(means.stop, &told);
             answer_reply(means.alloc, ask, &told, sink)
         }
         Action::Look(question) => {
-            match look_held(means.rt, means.alloc, shop, &mut counter.held, question) {
+            match look_held(means.rt, means.alloc, shop, &mut speech.held, question) {
                 Err(_) => Some(SpeechEnd::NoMemory),
                 Ok(text) => answer(sink, text.as_slice()),
             }
@@ -179,24 +179,24 @@ fn carry_out<K: Sink, D: Disk, C: Clock, T: Gate, R: Wait>(
 fn one_line<S: Source, K: Sink, D: Disk, C: Clock, T: Gate, R: Wait>(
     means: SpeechMeans<'_, R, T>,
     shop: &Shop<D, C>,
-    counter: &mut Counter<D, C>,
+    speech: &mut SpeechState<D, C>,
     source: &mut S,
     sink: &mut K,
 ) -> Option<SpeechEnd>
-    requires own { All (λ t. till_shop t ≡ shop_id shop.now) counter.old.held.items }
-    requires numbers { reverse (map till_number counter.old.held.items) ≡ range_with_len 1 LAST_TILL }
-    ensures own { All (λ t. till_shop t ≡ shop_id shop.now) counter.new.held.items }
-    ensures numbers { map till_number counter.new.held.items ≡ map till_number counter.old.held.items }
+    requires own { All (λ t. till_shop t ≡ shop_id shop.now) speech.old.held.items }
+    requires numbers { reverse (map till_number speech.old.held.items) ≡ range_with_len 1 LAST_TILL }
+    ensures own { All (λ t. till_shop t ≡ shop_id shop.now) speech.new.held.items }
+    ensures numbers { map till_number speech.new.held.items ≡ map till_number speech.old.held.items }
     ensures goes { (clock : Option (ℕ × ℕ)) (from : _) (olds : List (Known Item (Root C))) → length olds ≡ LAST_TILL →
-        HasAnswered counter.old.listener →
-        DialogueSoFar C.coming clock from (moment_of S.left S.faults K.taken K.faults source.old sink.old) counter.old.listener
-        counter.old.lacked olds (map till_knows counter.old.held.items) →
-        Goes C.coming clock from (moment_of S.left S.faults K.taken K.faults source.new sink.new) counter.new.listener
-        counter.new.lacked olds (map till_knows counter.new.held.items) result }
+        HasAnswered speech.old.listener →
+        DialogueSoFar C.coming clock from (moment_of S.left S.faults K.taken K.faults source.old sink.old) speech.old.listener
+        speech.old.lacked olds (map till_knows speech.old.held.items) →
+        Goes C.coming clock from (moment_of S.left S.faults K.taken K.faults source.new sink.new) speech.new.listener
+        speech.new.lacked olds (map till_knows speech.new.held.items) result }
 {
-    match counter.listener.next_action(means.rt, means.alloc, source) {
+    match speech.listener.next_action(means.rt, means.alloc, source) {
         Err(end) => Some(end),
-        Ok(action) => carry_out(means, shop, counter, sink, &action),
+        Ok(action) => carry_out(means, shop, speech, sink, &action),
     }
 }
 
@@ -205,23 +205,23 @@ fn one_line<S: Source, K: Sink, D: Disk, C: Clock, T: Gate, R: Wait>(
 pub fn speak<S: Source, K: Sink, D: Disk, C: Clock, T: Gate, R: Wait>(
     means: SpeechMeans<'_, R, T>,
     shop: &Shop<D, C>,
-    counter: &mut Counter<D, C>,
+    speech: &mut SpeechState<D, C>,
     source: &mut S,
     sink: &mut K,
 ) -> SpeechEnd
-    requires own { All (λ t. till_shop t ≡ shop_id shop.now) counter.old.held.items }
-    requires numbers { reverse (map till_number counter.old.held.items) ≡ range_with_len 1 LAST_TILL }
-    ensures own { All (λ t. till_shop t ≡ shop_id shop.now) counter.new.held.items }
-    ensures numbers { map till_number counter.new.held.items ≡ map till_number counter.old.held.items }
+    requires own { All (λ t. till_shop t ≡ shop_id shop.now) speech.old.held.items }
+    requires numbers { reverse (map till_number speech.old.held.items) ≡ range_with_len 1 LAST_TILL }
+    ensures own { All (λ t. till_shop t ≡ shop_id shop.now) speech.new.held.items }
+    ensures numbers { map till_number speech.new.held.items ≡ map till_number speech.old.held.items }
     ensures spoken { (clock : Option (ℕ × ℕ)) (from : _) (olds : List (Known Item (Root C))) → length olds ≡ LAST_TILL →
-        HasAnswered counter.old.listener →
-        DialogueSoFar C.coming clock from (moment_of S.left S.faults K.taken K.faults source.old sink.old) counter.old.listener
-        counter.old.lacked olds (map till_knows counter.old.held.items) →
+        HasAnswered speech.old.listener →
+        DialogueSoFar C.coming clock from (moment_of S.left S.faults K.taken K.faults source.old sink.old) speech.old.listener
+        speech.old.lacked olds (map till_knows speech.old.held.items) →
         Spoken C.coming clock from (moment_of S.left S.faults K.taken K.faults source.new sink.new)
-        counter.new.lacked olds (map till_knows counter.new.held.items) result }
+        speech.new.lacked olds (map till_knows speech.new.held.items) result }
 {
     for _ in means.rt.forever() {
-        match one_line(means, shop, counter, source, sink) {
+        match one_line(means, shop, speech, source, sink) {
             Some(end) => return end,
             None => {}
         }
@@ -233,27 +233,27 @@ pub fn speak<S: Source, K: Sink, D: Disk, C: Clock, T: Gate, R: Wait>(
 pub fn answer_lines<S: Source, K: Sink, D: Disk, C: Clock, T: Gate, R: Wait>(
     means: SpeechMeans<'_, R, T>,
     shop: &Shop<D, C>,
-    counter: &mut Counter<D, C>,
+    speech: &mut SpeechState<D, C>,
     first: &Result<Action, SpeechEnd>,
     source: &mut S,
     sink: &mut K,
 ) -> SpeechEnd
-    requires own { All (λ t. till_shop t ≡ shop_id shop.now) counter.old.held.items }
-    requires numbers { reverse (map till_number counter.old.held.items) ≡ range_with_len 1 LAST_TILL }
-    requires lacked { counter.old.lacked ≡ false }
-    ensures own { All (λ t. till_shop t ≡ shop_id shop.now) counter.new.held.items }
-    ensures numbers { map till_number counter.new.held.items ≡ map till_number counter.old.held.items }
-    ensures spoken { (left : Option (List ℕ)) (faults : ℕ) → ComesFirst left (S.left source.old) counter.old.listener first.now →
+    requires own { All (λ t. till_shop t ≡ shop_id shop.now) speech.old.held.items }
+    requires numbers { reverse (map till_number speech.old.held.items) ≡ range_with_len 1 LAST_TILL }
+    requires lacked { speech.old.lacked ≡ false }
+    ensures own { All (λ t. till_shop t ≡ shop_id shop.now) speech.new.held.items }
+    ensures numbers { map till_number speech.new.held.items ≡ map till_number speech.old.held.items }
+    ensures spoken { (left : Option (List ℕ)) (faults : ℕ) → ComesFirst left (S.left source.old) speech.old.listener first.now →
         faults ≤ S.faults source.old → IsCause faults (S.faults source.old) first.now →
         Spoken C.coming (clock_first first.now) (moment_since left faults (K.taken sink.old) (K.faults sink.old))
-        (moment_of S.left S.faults K.taken K.faults source.new sink.new) counter.new.lacked
-        (map till_knows counter.old.held.items) (map till_knows counter.new.held.items) result }
+        (moment_of S.left S.faults K.taken K.faults source.new sink.new) speech.new.lacked
+        (map till_knows speech.old.held.items) (map till_knows speech.new.held.items) result }
 {
     match first {
         Err(end) => *end,
-        Ok(action) => match carry_out(means, shop, counter, sink, action) {
+        Ok(action) => match carry_out(means, shop, speech, sink, action) {
             Some(end) => end,
-            None => speak(means, shop, counter, source, sink),
+            None => speak(means, shop, speech, source, sink),
         },
     }
 }

@@ -47,7 +47,7 @@ use Rattle.shop_commands.specs.Drain.{NothingRose}
 use Rattle.sender_session.specs.Session.{IsDiskAnswer}
 use Rattle.shop_commands.specs.Serve.{Closes, FileServe, ServeEnds, ServeWays, SpeechEnds, SpeechServed, day_said, printed}
 use Rattle.shop_commands.specs.Serve.{source_since}
-use Rattle.shop_dialogue.specs.Dialogues.{CounterRun, IsSpeech, Speech, drains_after}
+use Rattle.shop_dialogue.specs.Dialogues.{DialogueRun, IsSpeech, Speech, drains_after}
 use Rattle.shop_commands.specs.Serve.SpeechEnds.{done, read_fault, write_fault, undelivered, contradiction, disk_fault}
 use Rattle.shop_commands.specs.Serve.SpeechEnds.{no_memory}
 use Rattle.sender_beside.specs.Tills.{DayRun, has_asks, own_of}
@@ -200,7 +200,7 @@ module _ {D C Z G : Type 0} (h : StoreKind D C) (issuer : List ℕ) (disk : D) (
 
   module _ (agency_state : AgencyState) (opens : OpensSession a.kind a.begun plain first a.before agency_state) (answer : Result (Unit {0}) DrainFault)
       (lacked : Bool) (how : SpeechEnd) (from now : Moment)
-      (run : CounterRun h (root_of h.on_disk h.faults old) new clock from now a.kind agency_state a.after answer lacked how)
+      (run : DialogueRun h (root_of h.on_disk h.faults old) new clock from now a.kind agency_state a.after answer lacked how)
       (behind : DrainsBehind a.kind (drains_after how) agency_state a.after answer)
       (linked : Linked old.state.issuer (recs new.state.entries)) (rising : (till : ℕ) → SerialsRise new.state.entries till) where
     abbrev lines : ℕ

@@ -221,7 +221,7 @@ module _ {C : Type 0} (coming : C → ℕ → Option ℕ) (asks : List Asked) (r
             (each_reverse (λ (x : Row C). x.part.replies ≡ replies_of x.part.till asks replies) r.rows r.told);
       }
 
--- the looks at the counter of a shop that was closed
+-- the looks of a dialogue with a shop that was closed
 pub looked_closed : {D C : Type 0} (p : Parts D C) (base : List Item) (root : Root C) (replies : Replies) (looks : List Look)
     (olds news : List (Known Item (Root C))) (old_tills new_tills : List (Known Item (Root C))) (seat then : Known Item (Root C)) →
     reverse olds ≡ old_tills → new_tills ≡ reverse news → All (IsNew base root) (old_tills ++ seat ∷ []) →

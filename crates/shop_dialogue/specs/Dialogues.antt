@@ -1,4 +1,4 @@
--- What is said at a shop's counter, and what it makes of the shop.
+-- What is said in a dialogue with a shop, and what it makes of the shop.
 use Rattle.std.specs.Prelude.{◌≡◌, ◌≤◌, ℕ, Bool, true, false, List, length, map, Option, Result}
 use Rattle.std.specs.List.{AllByRecursion, list_any, range_with_len}
 use Rattle.chain_lock.specs.Known.{Known}
@@ -23,7 +23,7 @@ use Rattle.sender_beside.specs.Days.{TillReplies, shop_day}
 use Rattle.sender_session.specs.Kinds.{StoreKind}
 use Rattle.sender_beside.specs.Tills.{DayRun}
 
--- What was said at a shop's counter, and how it ended.
+-- What was said in a dialogue, and how it ended.
 pub record Speech : Type 0 where
   pub said : Transcript
   pub how : SpeechEnd
@@ -69,8 +69,8 @@ drains_after speech.WriteFault = true
 drains_after speech.NoMemory = true
 drains_after speech.Stopped = false
 
--- A dialogue at the counter of a shop, which was this at its start, and of its sender: what was said, and what it made of the shop.
-pub record CounterRun {D C : Type 0} (h : StoreKind D C) (root : Root C) (new : Parts D C) (clock : Option (ℕ × ℕ))
+-- A dialogue with a shop, which was this at its start, while its sender sends: what was said, and what it made of the shop.
+pub record DialogueRun {D C : Type 0} (h : StoreKind D C) (root : Root C) (new : Parts D C) (clock : Option (ℕ × ℕ))
     (from now : Moment) (kind : AgencyKind) (opened after : AgencyState) (answer : Result (Unit {0}) DrainFault) (lacked : Bool)
     (how : SpeechEnd) : Type 0 where
   pub speech : Speech

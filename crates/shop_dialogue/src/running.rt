@@ -1,4 +1,4 @@
-//! A dialogue at the counter of a shop, and a sender at the same time.
+//! A dialogue with the tills of a shop, and a sender at the same time.
 ghost use Rattle.std.specs.Prelude.{◌≡◌, ◌≤◌, [], ℕ, List, Option, false, map, reverse, All, vec_capacity};
 ghost use Rattle.std.specs.List.{range_with_len};
 ghost use Rattle.dialogue_loop.specs.Speech.{ComesFirst, IsCause, clock_first, moment_of, moment_since};
@@ -12,14 +12,16 @@ ghost use Rattle.sender_session.specs.Session.{IsUndelivered, SendsOn};
 ghost use Rattle.sender_session.specs.Kinds.{agency_state_of, agency_kind, store_kind};
 ghost use Rattle.sender_beside.specs.Behind.{SendsBehind, scene_in};
 ghost use Rattle.shop_dialogue.specs.Dialogues as spec;
-ghost use Rattle.shop_dialogue.specs.Dialogues.{CounterRun, HasCome, SpeaksOn};
+ghost use Rattle.shop_dialogue.specs.Dialogues.{DialogueRun, HasCome, SpeaksOn};
 ghost use Rattle.shop_drain.specs.Started.{IsStarted};
 
 use agency_port::Agency;
 use chain_disk::Disk;
 use chain_lock::who_sees_all_that_is_owned_sees_all;
 use dialogue::Action;
-use dialogue_loop::{Counter, Listener, SpeechEnd, SpeechMeans, answer_lines, give_back, hold_all};
+use dialogue_loop::{
+    Listener, SpeechEnd, SpeechMeans, SpeechState, answer_lines, give_back, hold_all,
+};
 use once_world::agreement_is_kept;
 use ports::{Clock, Gate, Sink, Sleeper, Source};
 use sender::{DrainFault, a_session_begins};
@@ -63,22 +65,22 @@ fn drains_after(how: SpeechEnd) -> bool
 fn converse_to<S: Source, K: Sink, D: Disk, C: Clock, T: Gate, R: Wait>(
     means: Means<'_, R, T>,
     shop: &Shop<D, C>,
-    counter: &mut Counter<D, C>,
+    speech: &mut SpeechState<D, C>,
     first: &Result<Action, SpeechEnd>,
     source: &mut S,
     sink: &mut K,
     how: &mut SpeechEnd,
     stop: &AtomicBool,
 )
-    requires own { All (λ t. till_shop t ≡ shop_id shop.now) counter.old.held.items }
-    requires numbers { reverse (map till_number counter.old.held.items) ≡ range_with_len 1 LAST_TILL }
-    requires lacked { counter.old.lacked ≡ false }
-    ensures own { All (λ t. till_shop t ≡ shop_id shop.now) counter.new.held.items }
-    ensures numbers { map till_number counter.new.held.items ≡ map till_number counter.old.held.items }
-    ensures spoken { SpeaksOn C.coming counter.old.listener first.now
+    requires own { All (λ t. till_shop t ≡ shop_id shop.now) speech.old.held.items }
+    requires numbers { reverse (map till_number speech.old.held.items) ≡ range_with_len 1 LAST_TILL }
+    requires lacked { speech.old.lacked ≡ false }
+    ensures own { All (λ t. till_shop t ≡ shop_id shop.now) speech.new.held.items }
+    ensures numbers { map till_number speech.new.held.items ≡ map till_number speech.old.held.items }
+    ensures spoken { SpeaksOn C.coming speech.old.listener first.now
         (moment_of S.left S.faults K.taken K.faults source.old sink.old)
-        (moment_of S.left S.faults K.taken K.faults source.new sink.new) counter.new.lacked
-        (map till_knows counter.old.held.items) (map till_knows counter.new.held.items) how.new }
+        (moment_of S.left S.faults K.taken K.faults source.new sink.new) speech.new.lacked
+        (map till_knows speech.old.held.items) (map till_knows speech.new.held.items) how.new }
 {
     let by = SpeechMeans {
         rt: means.rt,
@@ -86,14 +88,14 @@ fn converse_to<S: Source, K: Sink, D: Disk, C: Clock, T: Gate, R: Wait>(
         gate: means.gate,
         stop,
     };
-    *how = answer_lines(by, shop, counter, first, source, sink);
+    *how = answer_lines(by, shop, speech, first, source, sink);
 }
 
 // Answers line by line, and sends at the same time, until the dialogue has ended or the disk failed.
 fn answer_lines_with_sender<S, K, D, C, Z, G, T, R>(
     means: Means<'_, R, T>,
     shop: &Shop<D, C>,
-    counter: &mut Counter<D, C>,
+    speech: &mut SpeechState<D, C>,
     first: &Result<Action, SpeechEnd>,
     source: &mut S,
     sink: &mut K,
@@ -111,16 +113,16 @@ where
     G: Agency + Send + Drop,
     T: Gate + Sync,
     R: Threads + Wait + Sync,
-    requires own { All (λ t. till_shop t ≡ shop_id shop.now) counter.old.held.items }
-    requires numbers { reverse (map till_number counter.old.held.items) ≡ range_with_len 1 LAST_TILL }
-    requires lacked { counter.old.lacked ≡ false }
+    requires own { All (λ t. till_shop t ≡ shop_id shop.now) speech.old.held.items }
+    requires numbers { reverse (map till_number speech.old.held.items) ≡ range_with_len 1 LAST_TILL }
+    requires lacked { speech.old.lacked ≡ false }
     requires seat { seat_shop seat ≡ shop_id shop.now }
-    ensures own { All (λ t. till_shop t ≡ shop_id shop.now) counter.new.held.items }
-    ensures numbers { map till_number counter.new.held.items ≡ map till_number counter.old.held.items }
-    ensures spoken { SpeaksOn C.coming counter.old.listener first.now
+    ensures own { All (λ t. till_shop t ≡ shop_id shop.now) speech.new.held.items }
+    ensures numbers { map till_number speech.new.held.items ≡ map till_number speech.old.held.items }
+    ensures spoken { SpeaksOn C.coming speech.old.listener first.now
         (moment_of S.left S.faults K.taken K.faults source.old sink.old)
-        (moment_of S.left S.faults K.taken K.faults source.new sink.new) counter.new.lacked
-        (map till_knows counter.old.held.items) (map till_knows counter.new.held.items) how.new }
+        (moment_of S.left S.faults K.taken K.faults source.new sink.new) speech.new.lacked
+        (map till_knows speech.old.held.items) (map till_knows speech.new.held.items) how.new }
     ensures mark { mark_by (seat_shop result.seat) (seat_knows result.seat) ≡ mark_by (seat_shop seat) (seat_knows seat) }
     ensures sends { SendsOn (agency_kind G.Agency) (sight_by (seat_knows seat)) (sight_by (seat_knows result.seat))
         (agency_state_of G.Agency agency) (agency_state_of G.Agency result.agency) fresh result.sender result.answer }
@@ -136,16 +138,16 @@ where
         sleeper,
         told,
         &mut move ||
-            requires { All (λ t. till_shop t ≡ shop_id shop.now) counter.now.held.items
-                × (reverse (map till_number counter.now.held.items) ≡ range_with_len 1 LAST_TILL)
-                × (counter.now.lacked ≡ false) }
-            ensures { All (λ t. till_shop t ≡ shop_id shop.entry.now) counter.exit.now.held.items
-                × (map till_number counter.exit.now.held.items ≡ map till_number counter.entry.now.held.items)
-                × SpeaksOn C.coming counter.entry.now.listener first.entry.now
+            requires { All (λ t. till_shop t ≡ shop_id shop.now) speech.now.held.items
+                × (reverse (map till_number speech.now.held.items) ≡ range_with_len 1 LAST_TILL)
+                × (speech.now.lacked ≡ false) }
+            ensures { All (λ t. till_shop t ≡ shop_id shop.entry.now) speech.exit.now.held.items
+                × (map till_number speech.exit.now.held.items ≡ map till_number speech.entry.now.held.items)
+                × SpeaksOn C.coming speech.entry.now.listener first.entry.now
                 (moment_of S.left S.faults K.taken K.faults source.entry.now sink.entry.now)
-                (moment_of S.left S.faults K.taken K.faults source.exit.now sink.exit.now) counter.exit.now.lacked
-                (map till_knows counter.entry.now.held.items) (map till_knows counter.exit.now.held.items) how.exit.now }
-        { converse_to(means, shop, counter, first, source, sink, how, told) },
+                (moment_of S.left S.faults K.taken K.faults source.exit.now sink.exit.now) speech.exit.now.lacked
+                (map till_knows speech.entry.now.held.items) (map till_knows speech.exit.now.held.items) how.exit.now }
+        { converse_to(means, shop, speech, first, source, sink, how, told) },
     )
 }
 
@@ -177,7 +179,7 @@ pub fn run_dialogue<
     requires first { HasCome (S.left source.old) (S.faults source.old) listener first.now }
     ensures run { (left : Option (List ℕ)) (faults : ℕ) → ComesFirst left (S.left source.old) listener first.now →
         faults ≤ S.faults source.old → IsCause faults (S.faults source.old) first.now →
-        CounterRun (store_kind D.Disk C.Clock) (shop_root begun.started.shop) (parts_of result.opened.store)
+        DialogueRun (store_kind D.Disk C.Clock) (shop_root begun.started.shop) (parts_of result.opened.store)
         (clock_first first.now) (moment_since left faults (K.taken sink.old) (K.faults sink.old))
         (moment_of S.left S.faults K.taken K.faults source.new sink.new) (agency_kind G.Agency)
         (agency_state_of G.Agency begun.agency) (agency_state_of G.Agency result.opened.agency) result.answer result.lacked result.how }
@@ -206,7 +208,7 @@ pub fn run_dialogue<
         seat,
     } = started;
     hold_all(&mut tills, &mut held);
-    let mut counter = Counter {
+    let mut speech = SpeechState {
         listener,
         held,
         lacked: false,
@@ -215,7 +217,7 @@ pub fn run_dialogue<
     let mut sent = answer_lines_with_sender(
         means,
         &shop,
-        &mut counter,
+        &mut speech,
         first,
         source,
         sink,
@@ -224,11 +226,11 @@ pub fn run_dialogue<
         agency,
         sleeper,
     );
-    let Counter {
+    let SpeechState {
         listener: _,
         held,
         lacked,
-    } = counter;
+    } = speech;
     give_back(&shop, &mut tills, held, &mut sent.seat);
     let met = Snapshot::of(&sent);
     let rest = drain_if(drains_after(how), means, &shop, sent);

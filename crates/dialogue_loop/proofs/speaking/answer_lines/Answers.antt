@@ -11,32 +11,32 @@ pub returns-in-Err-clause-spoken : goal.returns-in-Err-clause-spoken
 returns-in-Err-clause-spoken g c = λ left faults first later cause.
     ended_first g.C.Clock.coming (moment_since left faults (g.K.Sink.taken c.args.sink.now) (g.K.Sink.faults c.args.sink.now))
     (moment_of g.S.Source.left g.S.Source.faults g.K.Sink.taken g.K.Sink.faults c.args.source.now c.args.sink.now)
-    c.args.counter.now.listener (map till_knows c.args.counter.now.held.items) (map till_knows c.args.counter.now.held.items)
-    c.args.counter.now.lacked c.args.first.now c.in-Err.end c.in-Err.is c.requires.lacked first refl (omega arith) cause
+    c.args.speech.now.listener (map till_knows c.args.speech.now.held.items) (map till_knows c.args.speech.now.held.items)
+    c.args.speech.now.lacked c.args.first.now c.in-Err.end c.in-Err.is c.requires.lacked first refl (omega arith) cause
 
 pub returns-in-Some-clause-spoken : goal.returns-in-Some-clause-spoken
 returns-in-Some-clause-spoken g c = λ left faults first later cause.
-    let items = c.args.counter.now.held.items in
+    let items = c.args.speech.now.held.items in
     let size : length (map till_knows items) ≡ 64 =
     (let a = row_size (map till_number items) c.requires.numbers in let e = length-map items till_number in
     let f = length-map items till_knows in omega (arith, a, e, f)) in
     began_first g.C.Clock.coming (moment_since left faults (g.K.Sink.taken c.args.sink.now) (g.K.Sink.faults c.args.sink.now))
     (moment_of g.S.Source.left g.S.Source.faults g.K.Sink.taken g.K.Sink.faults c.args.source.now c.carry_out.new.sink)
-    c.args.counter.now.listener (map till_knows items) (map till_knows c.carry_out.new.counter.held.items)
-    c.args.counter.now.lacked c.carry_out.new.counter.lacked c.args.first.now c.in-Ok.action _ c.in-Ok.is c.requires.lacked size first later
+    c.args.speech.now.listener (map till_knows items) (map till_knows c.carry_out.new.speech.held.items)
+    c.args.speech.now.lacked c.carry_out.new.speech.lacked c.args.first.now c.in-Ok.action _ c.in-Ok.is c.requires.lacked size first later
     c.carry_out.ensures.later c.in-Some.ensures.carries_out
 
 pub returns-in-None-clause-spoken : goal.returns-in-None-clause-spoken
 returns-in-None-clause-spoken g c = λ left faults first later cause.
-    let items = c.args.counter.now.held.items in
+    let items = c.args.speech.now.held.items in
     let size : length (map till_knows items) ≡ 64 =
     (let a = row_size (map till_number items) c.requires.numbers in let e = length-map items till_number in
     let f = length-map items till_knows in omega (arith, a, e, f)) in
     let from = moment_since left faults (g.K.Sink.taken c.args.sink.now) (g.K.Sink.faults c.args.sink.now) in
     let now = moment_of g.S.Source.left g.S.Source.faults g.K.Sink.taken g.K.Sink.faults c.args.source.now c.carry_out.new.sink in
-    let begun = began_first g.C.Clock.coming from now c.args.counter.now.listener (map till_knows items)
-    (map till_knows c.carry_out.new.counter.held.items) c.args.counter.now.lacked c.carry_out.new.counter.lacked c.args.first.now c.in-Ok.action
+    let begun = began_first g.C.Clock.coming from now c.args.speech.now.listener (map till_knows items)
+    (map till_knows c.carry_out.new.speech.held.items) c.args.speech.now.lacked c.carry_out.new.speech.lacked c.args.first.now c.in-Ok.action
     None c.in-Ok.is c.requires.lacked size first later c.carry_out.ensures.later c.in-None.ensures.carries_out in
-    let on = subst (λ (l : Listener). Goes g.C.Clock.coming (clock_first c.args.first.now) from now l c.carry_out.new.counter.lacked
-    (map till_knows items) (map till_knows c.carry_out.new.counter.held.items) None) (sym c.carry_out.ensures.listener) begun in
+    let on = subst (λ (l : Listener). Goes g.C.Clock.coming (clock_first c.args.first.now) from now l c.carry_out.new.speech.lacked
+    (map till_knows items) (map till_knows c.carry_out.new.speech.held.items) None) (sym c.carry_out.ensures.listener) begun in
     c.speak.ensures.spoken (clock_first c.args.first.now) from (map till_knows items) size on.1 on.0

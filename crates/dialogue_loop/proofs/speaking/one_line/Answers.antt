@@ -9,20 +9,20 @@ pub returns-in-Err-clause-goes : goal.returns-in-Err-clause-goes
 returns-in-Err-clause-goes g c = λ clock from olds size later said.
     let came = c.in-Err.ensures.line_read from.left said.said said.heard in
     ended_early g.C.Clock.coming clock from (moment_of g.S.Source.left g.S.Source.faults g.K.Sink.taken g.K.Sink.faults c.args.source.now
-    c.args.sink.now) (g.S.Source.left c.next_action.new.source) (g.S.Source.faults c.next_action.new.source) c.args.counter.now.listener
-    c.args.counter.now.lacked olds (map till_knows c.args.counter.now.held.items) said c.in-Err.end size came.0 came.1
+    c.args.sink.now) (g.S.Source.left c.next_action.new.source) (g.S.Source.faults c.next_action.new.source) c.args.speech.now.listener
+    c.args.speech.now.lacked olds (map till_knows c.args.speech.now.held.items) said c.in-Err.end size came.0 came.1
     (fault_told (moment_of g.S.Source.left g.S.Source.faults g.K.Sink.taken g.K.Sink.faults c.args.source.now c.args.sink.now)
     (g.S.Source.left c.next_action.new.source) (g.S.Source.faults c.next_action.new.source) c.in-Err.end c.in-Err.ensures.cause)
 
 pub returns-in-Ok-clause-goes : goal.returns-in-Ok-clause-goes
 returns-in-Ok-clause-goes g c = λ clock from olds size later said.
     subst (λ (l : Listener). Goes g.C.Clock.coming clock from (moment_of g.S.Source.left g.S.Source.faults g.K.Sink.taken g.K.Sink.faults
-    c.next_action.new.source c.carry_out.new.sink) l c.carry_out.new.counter.lacked olds (map till_knows c.carry_out.new.counter.held.items) c.carry_out.result)
+    c.next_action.new.source c.carry_out.new.sink) l c.carry_out.new.speech.lacked olds (map till_knows c.carry_out.new.speech.held.items) c.carry_out.result)
     (sym c.carry_out.ensures.listener)
     (carried_out g.C.Clock.coming clock from (moment_of g.S.Source.left g.S.Source.faults g.K.Sink.taken g.K.Sink.faults c.args.source.now
     c.args.sink.now) (moment_of g.S.Source.left g.S.Source.faults g.K.Sink.taken g.K.Sink.faults c.next_action.new.source
-    c.carry_out.new.sink) c.args.counter.now.listener c.next_action.new.self c.args.counter.now.lacked c.carry_out.new.counter.lacked olds
-    (map till_knows c.args.counter.now.held.items) (map till_knows c.carry_out.new.counter.held.items) said size c.in-Ok.action c.carry_out.result
+    c.carry_out.new.sink) c.args.speech.now.listener c.next_action.new.self c.args.speech.now.lacked c.carry_out.new.speech.lacked olds
+    (map till_knows c.args.speech.now.held.items) (map till_knows c.carry_out.new.speech.held.items) said size c.in-Ok.action c.carry_out.result
     c.next_action.ensures.later c.carry_out.ensures.later later
     (c.in-Ok.ensures.line_read from.left said.said said.heard)
     c.carry_out.ensures.carries_out)

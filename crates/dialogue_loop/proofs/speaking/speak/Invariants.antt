@@ -10,12 +10,12 @@ abbrev pub invariant-loop : goal.invariant-loop
 invariant-loop g l = record {
   next : (goal.iterator-loop g).can_next l.iterator';
   finite : (goal.iterator-loop g).is_finite l.iterator';
-  numbers : map till_number l.counter.held.items ≡ map till_number l.fn.counter.held.items;
-  own : All (λ t. till_shop t ≡ shop_id l.fn.shop) l.counter.held.items;
+  numbers : map till_number l.speech.held.items ≡ map till_number l.fn.speech.held.items;
+  own : All (λ t. till_shop t ≡ shop_id l.fn.shop) l.speech.held.items;
   said : (clock : Option (ℕ × ℕ)) (from : Moment) (olds : List (Known Item (Root g.row.C.Denot))) → length olds ≡ 64 →
-      HasAnswered l.fn.counter.listener →
+      HasAnswered l.fn.speech.listener →
       DialogueSoFar g.C.Clock.coming clock from (moment_of g.S.Source.left g.S.Source.faults g.K.Sink.taken g.K.Sink.faults l.fn.source l.fn.sink)
-      l.fn.counter.listener l.fn.counter.lacked olds (map till_knows l.fn.counter.held.items) →
+      l.fn.speech.listener l.fn.speech.lacked olds (map till_knows l.fn.speech.held.items) →
       DialogueSoFar g.C.Clock.coming clock from (moment_of g.S.Source.left g.S.Source.faults g.K.Sink.taken g.K.Sink.faults l.source l.sink)
-      l.counter.listener l.counter.lacked olds (map till_knows l.counter.held.items) × HasAnswered l.counter.listener;
+      l.speech.listener l.speech.lacked olds (map till_knows l.speech.held.items) × HasAnswered l.speech.listener;
 }

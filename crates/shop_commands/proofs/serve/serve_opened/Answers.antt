@@ -19,7 +19,7 @@ use Rattle.shop_drain.specs.Devices.{agency_in, sleeper_in}
 use Rattle.shop_drain.specs.Draining.{OpensSession}
 use Rattle.sender_beside.specs.Behind.{DrainsBehind, scene_in}
 use Rattle.shop_commands.specs.Serve.{Closes, SpeechEnds, post_with, printed, source_since}
-use Rattle.shop_dialogue.specs.Dialogues.{CounterRun, drains_after}
+use Rattle.shop_dialogue.specs.Dialogues.{DialogueRun, drains_after}
 use Rattle.shop_dialogue.proofs.AllTills.{all_within}
 use Rattle.shop_commands.proofs.ServeEnding.{came_read, not_begun, talked}
 use Rattle.shop_commands.proofs.SpeechTexts.{closed_drains}
@@ -107,7 +107,7 @@ returns-in-Ok-begin g c = λ issuer disk left faults is_opened comes later cause
     let now = moment_of g.S.Source.left g.S.Source.faults g.K.Sink.taken g.K.Sink.faults c.run_dialogue-opened.new.source
     c.run_dialogue-opened.new.sink in
     let h = store_kind g.D.Disk g.C.Clock in
-    let run = subst (λ (r : Root g.row.C.Denot). CounterRun h r then clock from now kind agency_state after t.answer t.lacked t.how)
+    let run = subst (λ (r : Root g.row.C.Denot). DialogueRun h r then clock from now kind agency_state after t.answer t.lacked t.how)
     begun.shop.root (c.run_dialogue-opened.ensures.run left faults comes later cause) in
     let opens = subst (λ (q : Plan). OpensSession kind g.G.Agency.begun q p.state.entries (agency_state_of g.G.Agency o.agency) agency_state)
     c.plain.ensures begun.session in

@@ -34,7 +34,7 @@ give_back-requires-clause-room g c =
     let f = length-reverse (map till_number c.hold_all.new.held.items) in
     let h = ap (λ (l : List ℕ). length l) (c.hold_all.ensures.numbers ∙ c.requires.numbers) in
     let k = length-range_with_len 1 64 in
-    let a = length-map c.answer_lines_with_sender-sent.new.counter.held.items till_number in
+    let a = length-map c.answer_lines_with_sender-sent.new.speech.held.items till_number in
     let b = ap (λ (l : List ℕ). length l) c.answer_lines_with_sender-sent.ensures.numbers in
     let m = c.requires.made in
     let s = c.hold_all.ensures.same.1 in
@@ -45,7 +45,7 @@ close-requires-clause-whole g c = λ n l.
     let f = c.requires.first in
     let spoken = c.answer_lines_with_sender-sent.ensures.spoken f.left f.faults f.comes f.later f.cause in
     let olds = map till_knows c.hold_all.new.held.items in
-    let news = map till_knows c.answer_lines_with_sender-sent.new.counter.held.items in
+    let news = map till_knows c.answer_lines_with_sender-sent.new.speech.held.items in
     let row = ran_in_a_row g.C.Clock.coming spoken.said.asks spoken.said.replies olds news spoken.ran in
     let ran : Ran g.C.Clock.coming spoken.said.asks (range_with_len 1 (length olds)) (tills_know c.args.begun.started.tills) row.parts
     row.backs = ran_as g.C.Clock.coming spoken.said.asks _ _ _ _ _ _ _ _ refl c.hold_all.ensures.knows refl refl row.ran in
@@ -68,7 +68,7 @@ pub returns-clause-run : goal.returns-clause-run
 returns-clause-run g c = λ left faults first later cause.
     let spoken = c.answer_lines_with_sender-sent.ensures.spoken left faults first later cause in
     let olds = map till_knows c.hold_all.new.held.items in
-    let news = map till_knows c.answer_lines_with_sender-sent.new.counter.held.items in
+    let news = map till_knows c.answer_lines_with_sender-sent.new.speech.held.items in
     let size : length olds ≡ 64 =
     (let e = length-map c.hold_all.new.held.items till_number in let i = length-map c.hold_all.new.held.items till_knows in
     let f = length-reverse (map till_number c.hold_all.new.held.items) in
