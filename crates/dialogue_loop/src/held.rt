@@ -14,6 +14,7 @@ ghost use Rattle.dialogue_loop.specs.InARow.{AllRanOn, IsOfTill};
 ghost use Rattle.dialogue_loop.specs.Looked.{FirstInformed, LookedFor, LookedOn};
 ghost use Rattle.dialogue_loop.specs.Speech.{KeepsRuns};
 
+use crate::speaking::SpeechMeans;
 use chain_disk::Disk;
 use journal::StoreFault;
 use ports::{Clock, Gate, NoMemory};
@@ -73,9 +74,7 @@ fn inform_first<D: Disk, C: Clock>(shop: &Shop<D, C>, held: &mut Vec<Till<D, C>>
 
 /// Asks for one more, at the till of its number, which then tells the first one of how many items it knows.
 pub fn ask_held<D: Disk, C: Clock, T: Gate, R: Wait>(
-    rt: &R,
-    alloc: Global,
-    gate: &T,
+    means: SpeechMeans<'_, R, T>,
     shop: &Shop<D, C>,
     held: &mut Vec<Till<D, C>>,
     ask: &Ask,
@@ -94,12 +93,12 @@ pub fn ask_held<D: Disk, C: Clock, T: Gate, R: Wait>(
     an_ask_goes_on_from_what_was_known_before::<C>();
     who_sees_on_twice_sees_on::<C>();
     a_list_fits_what_was_known_before::<C>();
-    gate.before(rt, ask.till, ask.serial);
+    means.gate.before(means.rt, ask.till, ask.serial);
     let place = usize::from(LAST_TILL - ask.till);
     let till = &mut held[place];
-    let reply = shop.ask(rt, alloc, till, ask.serial, &ask.request);
+    let reply = shop.ask(means.rt, means.alloc, till, ask.serial, &ask.request);
     inform_first(shop, held, place);
-    gate.after(rt, ask.till, ask.serial);
+    means.gate.after(means.rt, ask.till, ask.serial);
     reply
 }
 

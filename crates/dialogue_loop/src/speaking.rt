@@ -3,14 +3,13 @@ ghost use Rattle.std.specs.Prelude.{◌≡◌, ◌≤◌, ℕ, false, List, leng
 ghost use Rattle.std.specs.List.{range_with_len};
 ghost use Rattle.chain_lock.specs.Known.{Known};
 ghost use Rattle.chain_store.specs.Replies as spec;
-ghost use Rattle.ports.specs.Causes.{HasCause};
 ghost use Rattle.ports.specs.Sinks.{OutputIs, this_sink};
 ghost use Rattle.record_codec.specs.declared.entry.TheConstants.{LAST_TILL};
 ghost use Rattle.shop_core.specs.declared.items.Item.{Item};
 ghost use Rattle.till_calls.specs.Root.{Root};
 ghost use Rattle.till_calls.specs.Shop.{shop_id, till_knows, till_number, till_shop};
-ghost use Rattle.dialogue_loop.specs.Speech.{AsksOne, ComesFirst, Goes, HasAnswered, IsAnswered, IsCause, IsReplied, CarriesOut, DialogueSoFar, Spoken};
-ghost use Rattle.dialogue_loop.specs.Speech.{clock_first, moment_of, moment_since};
+ghost use Rattle.dialogue_loop.specs.Speech.{CarriesOut, ComesFirst, DialogueSoFar, Goes, HasAnswered, IsAnswered, IsCause};
+ghost use Rattle.dialogue_loop.specs.Speech.{IsReplied, Spoken, clock_first, moment_of, moment_since};
 ghost use Rattle.dialogue.specs.Protocol.{reply_text};
 
 use crate::held::{ask_held, look_held};
@@ -142,8 +141,8 @@ fn carry_out<K: Sink, D: Disk, C: Clock, T: Gate, R: Wait>(
     ensures own { All (λ t. till_shop t ≡ shop_id shop.now) speech.new.held.items }
     ensures numbers { map till_number speech.new.held.items ≡ map till_number speech.old.held.items }
     ensures listener { speech.new.listener ≡ speech.old.listener }
-    ensures carries_out { CarriesOut C.coming action.now (this_sink K.taken K.faults sink.old sink.new) speech.old.lacked speech.new.lacked
-        (map till_knows speech.old.held.items) (map till_knows speech.new.held.items) result }
+    ensures carries_out { CarriesOut C.coming action.now (this_sink K.taken K.faults sink.old sink.new) speech.old.lacked
+        speech.new.lacked (map till_knows speech.old.held.items) (map till_knows speech.new.held.items) result }
     ensures later { K.faults sink.old ≤ K.faults sink.new }
 {
     match action {
@@ -154,14 +153,7 @@ fn carry_out<K: Sink, D: Disk, C: Clock, T: Gate, R: Wait>(
             text,
         } => answer(sink, text.as_slice()),
         Action::Ask(ask) => {
-            let told = ask_held(
-                means.rt,
-                means.alloc,
-                means.gate,
-                shop,
-                &mut speech.held,
-                ask,
-            );
+            let told = ask_held(means, shop, &mut speech.held, ask);
             speech.lacked = speech.lacked || is_no_memory(&told);
             stop_at_fault(means.stop, &told);
             answer_reply(means.alloc, ask, &told, sink)
