@@ -1,17 +1,23 @@
 -- How `serve` ends.
-use Rattle.std.specs.Prelude.{◌≡◌, ◌⊎◌, ℕ, true, false, List, [], ◌∷◌, ◌++◌, length, IsTrue, Option, Result, Ok, Err}
+use Rattle.std.specs.Prelude.{◌≡◌, ◌⊎◌, ◌≤◌, ℕ, true, false, List, [], ◌∷◌, ◌++◌, length, IsTrue, Option, Result, Ok, Err}
 use Rattle.std.specs.Io.KnownBytes.{Consumes}
 use Rattle.std.specs.List.{list_any, range_with_len}
 use Rattle.agency_port.specs.declared.turns.Evidence.{Evidence}
+use Rattle.agency_port.specs.declared.agency.Agency as agency
 use Rattle.agency_rules.specs.Plans.{plain}
 use Rattle.chain_disk.specs.Disks.{DiskRose}
+use Rattle.chain_disk.specs.declared.disk.Disk as disk
 use Rattle.chain_store.specs.Replies.{AllReplied, Replies, is_disk_fault, is_no_memory}
-use Rattle.dialogue_loop.specs.Speech.{FailedAtLast, TookToLast}
+use Rattle.dialogue_loop.specs.Speech.{ComesFirst, FailedAtLast, IsCause, TookToLast, clock_first}
+use Rattle.dialogue_loop.specs.declared.listener.Listener.{Listener}
 use Rattle.dialogue_loop.specs.declared.speaking.SpeechEnd.{SpeechEnd}
 use Rattle.dialogue_loop.specs.declared.speaking.SpeechEnd.TheVariants as speech
 use Rattle.dialogue.specs.Protocol.{written_for}
+use Rattle.dialogue.specs.declared.speaker.Action.{Action}
 use Rattle.ports.specs.Sinks.{Sinks, Wrote}
 use Rattle.ports.specs.Sources.{SourceRose, Sources}
+use Rattle.ports.specs.declared.Clock as clock
+use Rattle.ports.specs.declared.sleeper.Sleeper as sleeper
 use Rattle.record_codec.specs.declared.entry.TheConstants.{LAST_TILL}
 use Rattle.report.specs.Pieces.{chain_line}
 use Rattle.report.specs.declared.status.Detail.{Detail}
@@ -19,18 +25,20 @@ use Rattle.report.specs.declared.status.Detail.TheVariants as detail
 use Rattle.sender.specs.declared.answers.DrainFault.{DrainFault}
 use Rattle.sender.specs.declared.answers.DrainFault.TheVariants as drain
 use Rattle.shop_core.specs.History.{noted, recs}
-use Rattle.till_calls.specs.Root.{Parts}
+use Rattle.till_calls.specs.Root.{Parts, parts_of}
 use Rattle.shop_commands.specs.SenderEnds.{sender_end}
 use Rattle.command_ends.specs.DrainEnds.{sender_lacks_memory}
 use Rattle.shop_commands.specs.Day.{EachCrash, EachTillOf, HistoryGoesOn, ItsAgency, NotServed, Outcome, TellsOfSender}
 use Rattle.shop_commands.specs.Day.{day_with}
 use Rattle.sender_beside.specs.Days.{Day}
-use Rattle.shop_drain.specs.Devices.{AllDevices, Around, LeftAll, ReadNothing, around}
+use Rattle.shop_drain.specs.Devices.{AllDevices, Around, LeftAll, ReadNothing, around, around_in}
 use Rattle.shop_drain.specs.Draining.{AgreesAtStart}
 use Rattle.shop_commands.specs.Drain.{AllLeft, LeavesTime, NothingRose}
+use Rattle.sender_session.specs.Kinds.{store_kind}
 use Rattle.sender_session.specs.Session.{IsDiskAnswer}
-use Rattle.shop_drain.specs.Opening.{NotOpened}
+use Rattle.shop_drain.specs.Opening.{IsOpened, NotOpened}
 use Rattle.shop_dialogue.specs.Dialogues.{IsSpeech, Speech, drains_after}
+use Rattle.shop_drain.specs.declared.opening.Opened.{Opened}
 use Rattle.shop_drain.specs.declared.posts.Post.{Post}
 
 -- what is printed: the answers, one after another, and the chain line after a source that was read to its end
@@ -158,3 +166,14 @@ sink_to taken faults taken_after faults_after = record {
   faults = faults;
   faults_after = faults_after;
 }
+
+-- What `serve` does with an opened file whose clock and sleeper this clock line replaced, from its first answered line on, or an end
+-- ahead of it: whatever disk the file was opened on, and whatever its source had to give ahead of that line.
+abbrev pub ServesOn : {D C Z G : Type 0} (d : disk.Ghosts D) → clock.Ghosts C → sleeper.Ghosts Z → agency.Ghosts G →
+    Option (ℕ × ℕ) → Listener → Result Action SpeechEnd → Sources → Sinks → Opened D C Z G d → Opened D C Z G d → Detail → Type 0
+ServesOn {D} d c z g line listener first s k old new end = (issuer : List ℕ) (disk : D) (left : Option (List ℕ)) (faults : ℕ) →
+    IsOpened issuer (store_kind d c) disk (parts_of old.store).clock (parts_of old.store) →
+    ComesFirst left s.left listener first → faults ≤ s.faults → IsCause faults s.faults first →
+    FileServe issuer line (clock_first first) (source_since left faults s.left_after s.faults_after)
+    (around_in k d c z g (post_with disk (parts_of old.store) old.sleeper old.agency)
+    (post_with (parts_of new.store).disk (parts_of new.store) new.sleeper new.agency)) end

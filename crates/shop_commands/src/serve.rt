@@ -4,7 +4,7 @@ ghost use Rattle.std.specs.Prelude.{◌≡◌, ◌≤◌, ◌∷◌, ◌++◌, [
 ghost use Rattle.std.specs.List.{list_any};
 ghost use Rattle.chain_store.specs.Replies.{Replies, is_no_memory};
 ghost use Rattle.chain_store.specs.Store.{Ready, journal_of};
-ghost use Rattle.dialogue_loop.specs.Speech.{AreRepliesOf, ComesFirst, IsCause, IsWritten, clock_first};
+ghost use Rattle.dialogue_loop.specs.Speech.{AreRepliesOf, IsWritten, clock_first};
 ghost use Rattle.dialogue_loop.specs.declared.speaking.SpeechEnd.TheVariants as speech;
 ghost use Rattle.dialogue.specs.Protocol.{written_for};
 ghost use Rattle.journal.specs.Journal.{stopped_of};
@@ -14,12 +14,9 @@ ghost use Rattle.report.specs.Pieces.{chain_line};
 ghost use Rattle.report.specs.Status.{status_of};
 ghost use Rattle.shop_core.specs.Answer.Requests.{Asked};
 ghost use Rattle.shop_core.specs.History.{noted, recs};
-ghost use Rattle.till_calls.specs.Root.{parts_of};
-ghost use Rattle.shop_drain.specs.Devices.{around_in, this_call};
-ghost use Rattle.sender_session.specs.Kinds.{store_kind};
-ghost use Rattle.shop_drain.specs.Opening.{IsOpened};
+ghost use Rattle.shop_drain.specs.Devices.{this_call};
 ghost use Rattle.shop_commands.specs.Serve as spec;
-ghost use Rattle.shop_commands.specs.Serve.{Closes, FileServe, ServeEnds, SpeechEnds, post_with, sink_to, source_since};
+ghost use Rattle.shop_commands.specs.Serve.{Closes, ServeEnds, ServesOn, SpeechEnds, sink_to};
 ghost use Rattle.shop_dialogue.specs.Dialogues.{HasCome, drains_after};
 
 use crate::day::sender_end;
@@ -147,14 +144,9 @@ where
     requires going_on { stopped_of (journal_of opened.store) ≡ None }
     requires ready { Ready D.tells D.on_disk opened.store }
     requires first { HasCome (S.left source.old) (S.faults source.old) listener first.now }
-    ensures { (issuer : List ℕ) (disk : D) (left : Option (List ℕ)) (faults : ℕ) →
-        IsOpened issuer (store_kind D.Disk C.Clock) disk (parts_of opened.store).clock (parts_of opened.store) →
-        ComesFirst left (S.left source.old) listener first.now → faults ≤ S.faults source.old →
-        IsCause faults (S.faults source.old) first.now →
-        FileServe issuer (clock_first first.now) (clock_first first.now) (source_since left faults (S.left source.new)
-        (S.faults source.new)) (around_in (this_sink K.taken K.faults sink.old sink.new) D.Disk C.Clock Z.Sleeper G.Agency
-        (post_with disk (parts_of opened.store) opened.sleeper opened.agency)
-        (post_with (parts_of result.1.store).disk (parts_of result.1.store) result.1.sleeper result.1.agency)) result.0 }
+    ensures { ServesOn D.Disk C.Clock Z.Sleeper G.Agency (clock_first first.now) listener first.now
+        (this_source S.left S.faults source.old source.new) (this_sink K.taken K.faults sink.old sink.new) opened
+        result.1 result.0 }
 {
     let Some((start, step)) = clock_line(first) else {
         return serve_opened(means, listener, first, source, sink, opened);
@@ -185,14 +177,9 @@ where
     requires going_on { stopped_of (journal_of opened.store) ≡ None }
     requires ready { Ready D.tells D.on_disk opened.store }
     requires first { HasCome (S.left source.old) (S.faults source.old) listener first.now }
-    ensures { (issuer : List ℕ) (disk : D) (left : Option (List ℕ)) (faults : ℕ) →
-        IsOpened issuer (store_kind D.Disk C.Clock) disk (parts_of opened.store).clock (parts_of opened.store) →
-        ComesFirst left (S.left source.old) listener first.now → faults ≤ S.faults source.old →
-        IsCause faults (S.faults source.old) first.now →
-        FileServe issuer None (clock_first first.now) (source_since left faults (S.left source.new) (S.faults source.new))
-        (around_in (this_sink K.taken K.faults sink.old sink.new) D.Disk C.Clock Z.Sleeper G.Agency
-        (post_with disk (parts_of opened.store) opened.sleeper opened.agency)
-        (post_with (parts_of result.1.store).disk (parts_of result.1.store) result.1.sleeper result.1.agency)) result.0 }
+    ensures { ServesOn D.Disk C.Clock Z.Sleeper G.Agency None listener first.now
+        (this_source S.left S.faults source.old source.new) (this_sink K.taken K.faults sink.old sink.new) opened
+        result.1 result.0 }
 {
     what_a_disk_reads_is_an_image::<D>();
     who_keeps_the_rules_tells::<G>();
