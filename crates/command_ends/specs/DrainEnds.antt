@@ -16,12 +16,13 @@ sender_lacks_memory (Err (drain.Store store.NoMemory)) = true
 sender_lacks_memory (Err drain.NoMemory) = true
 sender_lacks_memory _ = false
 
--- the end of a drain that failed so, where its text was written
+-- the end of a command whose store failed so
 abbrev pub store_end : StoreFault → Detail
 store_end store.DiskFault = detail.DiskFault
 store_end (store.Stopped faults) = detail.DiskFault
 store_end store.NoMemory = detail.NoMemory
 
+-- the end of a drain that failed so, where its text was written
 abbrev pub fault_end : DrainFault → Detail
 fault_end (drain.Undelivered noted_count records_count) = detail.Undelivered noted_count records_count
 fault_end (drain.Contradiction evidence) = detail.Contradiction evidence

@@ -9,8 +9,8 @@ use ports::Failed;
 use report::Detail;
 use sender::DrainFault;
 
-// The end of a drain whose store failed so.
-fn store_end(fault: StoreFault) -> Detail
+/// The end of a command whose store failed so.
+pub fn store_end(fault: StoreFault) -> Detail
     ensures { result ≡ spec.store_end fault }
 {
     match fault {

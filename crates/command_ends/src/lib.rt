@@ -7,7 +7,7 @@ mod ending;
 mod printed;
 mod scripts;
 
-pub use drains::{end_by, fault_end, sender_lacks_memory};
+pub use drains::{end_by, fault_end, sender_lacks_memory, store_end};
 pub use ending::{lacks_disk, lacks_memory, run_end};
 pub use printed::{RunText, told_of};
 pub use scripts::{NoScript, read_source};

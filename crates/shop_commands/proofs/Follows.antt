@@ -27,8 +27,9 @@ use Rattle.standby.specs.declared.causes.StandbyCause.TheVariants as cause
 use Rattle.standby.specs.Catching.{CatchesUp, IsFirstApart}
 use Rattle.standby.specs.Chains.{ChainOnDisk}
 use Rattle.standby.specs.Following.{IsFollowing}
+use Rattle.command_ends.specs.DrainEnds.{store_end}
 use Rattle.shop_commands.specs.Follow.{BesideNothing, BringsUp, CountsPrinted, FollowEnds, HasNoEntry, IsFollowImage}
-use Rattle.shop_commands.specs.Follow.{LeftOrFollowed, OnlyFollowed, fault_end, load_end, start_end}
+use Rattle.shop_commands.specs.Follow.{LeftOrFollowed, OnlyFollowed, load_end, start_end}
 use Rattle.shop_commands.specs.Follow.FollowEnds.{copy_damaged, disk_fault, file_damaged, followed, no_memory, nothing, parted}
 use Rattle.shop_commands.specs.Follow.IsFollowImage.{as_before, front, not_begun}
 use Rattle.shop_commands.specs.Follow.IsParted.{at_entry, of_nothing, of_other}
@@ -207,7 +208,7 @@ module _ {D : Type 0} (tells : Bool) (on_disk : D → OnDisk) (faults : D → �
   -- what became of a copy that was brought up, once its disk was given back
   pub brings_err : (old new : ChainOnDisk D) (disk : D) (fault : StoreFault) → disk ≡ new.disk →
       CatchesUp faults old new history (Err fault) →
-      BringsUp tells on_disk faults version issuer history old disk (Err (fault_end fault))
+      BringsUp tells on_disk faults version issuer history old disk (Err (store_end fault))
   brings_err old new disk store.DiskFault same c =
       inr (inl (refl, subst (λ (d : D). Rose (faults old.disk) (faults d)) (sym same) c.0))
   brings_err old new disk (store.Stopped count) same c = absurd c

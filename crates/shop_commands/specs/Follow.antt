@@ -6,8 +6,6 @@ use Rattle.chain_store.specs.Crashes.{StandsBetween}
 use Rattle.chain_store.specs.Opening.{IsFound}
 use Rattle.chain_store.specs.declared.causes.LoadFault.{LoadFault}
 use Rattle.chain_store.specs.declared.causes.LoadFault.TheVariants as load
-use Rattle.journal.specs.declared.faults.StoreFault.{StoreFault}
-use Rattle.journal.specs.declared.faults.StoreFault.TheVariants.{NoMemory as NoRoom}
 use Rattle.standby.specs.declared.causes.StandbyCause.{StandbyCause}
 use Rattle.standby.specs.declared.causes.StandbyCause.TheVariants as cause
 use Rattle.standby.specs.Chains.{ChainOnDisk}
@@ -41,11 +39,6 @@ start_end (cause.Damaged at) = detail.Damaged at
 start_end (cause.OtherIssuer held) = detail.Parted 0
 start_end (cause.OtherVersion held) = detail.Parted 0
 start_end cause.NoMemory = detail.NoMemory
-
--- the end that a copy comes to whose disk fails, or for which memory runs out
-abbrev pub fault_end : StoreFault → Detail
-fault_end NoRoom = detail.NoMemory
-fault_end other = detail.DiskFault
 
 -- the line of these counts was printed, or there was no memory for it
 abbrev pub CountsPrinted : ℕ → ℕ → Sinks → Detail → Type 0

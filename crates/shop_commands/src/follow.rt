@@ -11,8 +11,8 @@ ghost use Rattle.shop_commands.specs.Follow as spec;
 
 use chain_disk::Disk;
 use chain_store::{LoadFault, Loaded, load};
+use command_ends::store_end;
 use file_commands::print;
-use journal::StoreFault;
 use ports::Sink;
 use report::{Detail, Ended, followed_text};
 use shop_core::{State, a_file_has_one_meaning};
@@ -77,16 +77,6 @@ pub fn start_end(cause: StandbyCause) -> Detail
             Detail::Parted { entry: 0 }
         }
         StandbyCause::NoMemory => Detail::NoMemory,
-    }
-}
-
-// Why a copy can't go on, as an end.
-pub fn fault_end(fault: StoreFault) -> Detail
-    ensures { result ≡ spec.fault_end fault }
-{
-    match fault {
-        StoreFault::NoMemory => Detail::NoMemory,
-        StoreFault::DiskFault | StoreFault::Stopped { .. } => Detail::DiskFault,
     }
 }
 
@@ -169,7 +159,7 @@ fn bring_up<D: Disk>(alloc: Global, state: &State, standby: Standby<D>) -> (Resu
         ),
         Ok(None) => match catch_up(alloc, state, &mut standby) {
             Ok(kept) => (Ok(kept), standby.into_disk()),
-            Err(fault) => (Err(fault_end(fault)), standby.into_disk()),
+            Err(fault) => (Err(store_end(fault)), standby.into_disk()),
         },
     }
 }

@@ -15,12 +15,12 @@ ghost use Rattle.shop_commands.specs.Guard.{FileGuardEnds, GuardEnds, GuardRan, 
 ghost use Rattle.shop_commands.specs.Guard.{guard_text};
 ghost use Rattle.shop_drain.specs.Guarding.{held_by};
 
-use crate::follow::{fault_end, start_end};
+use crate::follow::start_end;
 use crate::outside::{Outside, put_further, take_further};
 use agency_port::Agency;
 use agency_rules::Plan;
 use chain_disk::Disk;
-use command_ends::{end_by, read_source};
+use command_ends::{end_by, read_source, store_end};
 use file_commands::write_texts;
 use parties::Nif;
 use ports::{Clock, Sink, Sleeper, Source};
@@ -76,7 +76,7 @@ fn bring_copy<D: Disk>(
         Ok(Some(index)) => Err(give_back(Detail::Parted { entry: index + 1 }, standby)),
         Ok(None) => match catch_up(alloc, state, &mut standby) {
             Ok(_) => Ok(standby),
-            Err(fault) => Err(give_back(fault_end(fault), standby)),
+            Err(fault) => Err(give_back(store_end(fault), standby)),
         },
     }
 }

@@ -26,7 +26,7 @@ pub returns-in-Err-catch_up-clause-brings : goal.returns-in-Err-catch_up-clause-
 returns-in-Err-catch_up-clause-brings g c =
     let s = c.args.state.now in
     subst (λ (e : Detail). BringsUp g.D.Disk.tells g.D.Disk.on_disk g.D.Disk.faults s.version s.issuer s.entries c.args.standby
-    c.into_disk-in-Err-catch_up.result (Err e)) (sym c.fault_end.ensures)
+    c.into_disk-in-Err-catch_up.result (Err e)) (sym c.store_end.ensures)
     (brings_err g.D.Disk.tells g.D.Disk.on_disk g.D.Disk.faults s.version s.issuer s.entries c.args.standby c.catch_up.new.standby
     c.into_disk-in-Err-catch_up.result c.in-Err-catch_up.fault c.into_disk-in-Err-catch_up.ensures.disk
     c.in-Err-catch_up.ensures.caught)
