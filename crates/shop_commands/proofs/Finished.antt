@@ -2,13 +2,11 @@
 use Rattle.std.proofs.Common.{◌≡◌, ◌∙◌, ◌⊎◌, inl, inr, refl, sym, subst, arith, ℕ, ◌+◌, ◌-◌, ◌^◌, ◌<◌, ◌≤◌, List, Bool, true}
 use Rattle.std.proofs.Common.{IsTrue, Option, Some, None}
 use Rattle.ports.specs.Sinks.{Sinks}
-use Rattle.journal.specs.declared.faults.StoreFault.TheVariants as store
 use Rattle.chain_disk.specs.Disks.{DiskRose, Disks}
 use Rattle.chain_disk.specs.OnDisk.{OnDisk, LeavesOnly, synced}
 use Rattle.record_fields.specs.declared.versions.Version.{Version}
 use Rattle.record_codec.specs.declared.entry.Entry.{Entry}
 use Rattle.agency_rules.specs.declared.plans.Plan.{Plan}
-use Rattle.sender.specs.declared.answers.DrainFault.TheVariants as drain
 use Rattle.sender.specs.declared.draining.TheConstants.{MAX_LINK_FAULTS}
 use Rattle.recovery.specs.Opening.{IsFound}
 use Rattle.script.specs.declared.scripts.Script.{Script}
@@ -34,7 +32,7 @@ module _ {D G : Type 0} (version : Version) (issuer : List ℕ) (plan : Plan) (e
   abbrev Failing : ℕ → ℕ → Type 0
   Failing n r = (n < r) × (a.after.faults < 2 ^ 64 - 1 → a.before.faults + MAX_LINK_FAULTS ≤ a.after.faults)
 
-  eight_failed : (end : Detail) → DrainRunEnds o.answer (drain_text o) s end → (n r : ℕ) → end ≡ detail.Undelivered n r →
+  eight_failed : (end : Detail) → DrainRunEnds o.answer (drain_text o.turns o.end) s end → (n r : ℕ) → end ≡ detail.Undelivered n r →
       Failing n r
   eight_failed end (undelivered m q e w) n r is =
       let first : m ≡ n = cc in
@@ -44,7 +42,7 @@ module _ {D G : Type 0} (version : Version) (issuer : List ℕ) (plan : Plan) (e
       subst (λ (x : ℕ). Failing x r) first (subst (λ (y : ℕ). Failing m y) second u)
   eight_failed end _ n r is = absurd cc
 
-  completed : (end : Detail) → DrainRunEnds o.answer (drain_text o) s end → NothingRose s k a → IsTrue a.kind.keeps_rules →
+  completed : (end : Detail) → DrainRunEnds o.answer (drain_text o.turns o.end) s end → NothingRose s k a → IsTrue a.kind.keeps_rules →
       AgreesAtStart a start → (end ≡ detail.Done) ⊎ (end ≡ detail.NoMemory)
   completed end (done e w) none keeps agree = inl refl
   completed end (no_memory w) none keeps agree = inr refl
@@ -59,7 +57,7 @@ module _ {D G : Type 0} (version : Version) (issuer : List ℕ) (plan : Plan) (e
   completed end (disk_fault e w) none keeps agree = absurd (none.disk (h.risen e))
 
   pub file_drained : (end : Detail) → (IsTrue k.tells → IsFound version issuer start (k.on_disk k.disk).content) →
-      DrainRunEnds o.answer (drain_text o) s end → FileDrained issuer plan exact moment s k a end
+      DrainRunEnds o.answer (drain_text o.turns o.end) s end → FileDrained issuer plan exact moment s k a end
   file_drained end found ends = record {
     version = version;
     start = start;
@@ -73,7 +71,7 @@ module _ {D G : Type 0} (version : Version) (issuer : List ℕ) (plan : Plan) (e
 
 disk_failed : {D G : Type 0} (issuer : List ℕ) (plan : Plan) (exact : Bool) (moment : ℕ) (s : Sinks) (k : Disks D)
     (a : Agencies G) (end : Detail) (f : FileDrained issuer plan exact moment s k a end) → DrainRunEnds f.outcome.answer
-    (drain_text f.outcome) s end → end ≡ detail.DiskFault → DiskRose k
+    (drain_text f.outcome.turns f.outcome.end) s end → end ≡ detail.DiskFault → DiskRose k
 disk_failed issuer plan exact moment s k a end f (disk_fault e w) is = f.drains.risen e
 disk_failed issuer plan exact moment s k a end f _ is = absurd cc
 

@@ -26,13 +26,13 @@ use Rattle.shop_drain.specs.Crashes.{IsFoundSince, StandsSince}
 use Rattle.shop_drain.specs.Devices.{Agencies, LeftSleeper, Sleepers, first_moment, tells_moment}
 use Rattle.sender_session.specs.Kinds.{StoreKind}
 use Rattle.shop_drain.specs.Draining.{AgreesAtStart, AddsNotesAlone, DiskSpan, Outcome, Span, spanning}
-use Rattle.shop_commands.specs.Drain.{NothingRose, file_span}
+use Rattle.shop_commands.specs.Drain.{NothingRose, drain_text, file_span}
 use Rattle.command_ends.specs.DrainEnds.{DrainRunEnds}
 use Rattle.command_ends.specs.DrainEnds.DrainRunEnds.{done, write_fault, undelivered, contradiction, disk_fault, no_memory}
 use Rattle.shop_commands.specs.Follow.{IsFollowImage}
 use Rattle.shop_commands.specs.Follow.IsFollowImage.{as_before, not_begun, front as image_front}
 use Rattle.shop_commands.specs.Guard.{FileGuardEnds, FileGuarded, GuardsFile, IsCopied, IsUncopied, LeftUncopied, NotCopied}
-use Rattle.shop_commands.specs.Guard.{GuardImage, ScriptGuardEnds, guard_text, whole_span}
+use Rattle.shop_commands.specs.Guard.{GuardImage, ScriptGuardEnds, whole_span}
 use Rattle.shop_commands.specs.Guard.IsUncopied.{disk_fault as copy_fault}
 use Rattle.shop_drain.specs.Guarding.{ChainDrained, GuardDrains, Held}
 use Rattle.shop_drain.specs.Opening.{IsOpened}
@@ -104,7 +104,7 @@ module _ {D G : Type 0} (issuer : List ℕ) (version : Version) (plan : Plan) (e
   abbrev Failing : ℕ → ℕ → Type 0
   Failing n r = (n < r) × (a.after.faults < 2 ^ 64 - 1 → a.before.faults + MAX_LINK_FAULTS ≤ a.after.faults)
 
-  eight_failed : Drains → (end : Detail) → DrainRunEnds o.answer (guard_text o.turns file) s end → (n r : ℕ) →
+  eight_failed : Drains → (end : Detail) → DrainRunEnds o.answer (drain_text o.turns file.entries) s end → (n r : ℕ) →
       end ≡ detail.Undelivered n r → Failing n r
   eight_failed h end (undelivered m q e w) n r is =
       let first : m ≡ n = cc in
@@ -113,7 +113,7 @@ module _ {D G : Type 0} (issuer : List ℕ) (version : Version) (plan : Plan) (e
       subst (λ (x : ℕ). Failing x r) first (subst (λ (y : ℕ). Failing m y) second u)
   eight_failed h end _ n r is = absurd cc
 
-  completed : Drains → (end : Detail) → DrainRunEnds o.answer (guard_text o.turns file) s end → NothingRose s k a →
+  completed : Drains → (end : Detail) → DrainRunEnds o.answer (drain_text o.turns file.entries) s end → NothingRose s k a →
       (DiskRose l → ⊥) → IsTrue a.kind.keeps_rules → AgreesAtStart a start → (end ≡ detail.Done) ⊎ (end ≡ detail.NoMemory)
   completed h end (done e w) none other keeps agree = inl refl
   completed h end (no_memory w) none other keeps agree = inr refl
@@ -130,7 +130,7 @@ module _ {D G : Type 0} (issuer : List ℕ) (version : Version) (plan : Plan) (e
 
   file_guarded : Drains → (end : Detail) → (IsTrue k.tells → IsFound version issuer start (k.on_disk k.disk).content) →
       (IsTrue l.tells → IsCopyFound version version issuer copy (l.on_disk l.disk).content) → IsPrefix copy start →
-      DrainRunEnds o.answer (guard_text o.turns file) s end → FileGuarded issuer plan exact moment s k l a end
+      DrainRunEnds o.answer (drain_text o.turns file.entries) s end → FileGuarded issuer plan exact moment s k l a end
   file_guarded h end found copied front ends = record {
     version = version;
     start = start;
@@ -183,7 +183,7 @@ module _ {D G : Type 0} (issuer : List ℕ) (version : Version) (plan : Plan) (e
         (IsTrue l.tells → LeavesOnly (l.on_disk l.disk) since_copy (IsFollowImage version issuer start (l.on_disk l.disk))) →
         l.faults l.disk ≤ between_copy →
         GuardDrains (StandsUpTo version issuer) (StandsUpTo version issuer) a.begun plan version issuer file_now copy_now span file
-        own → DrainRunEnds o.answer (guard_text o.turns file) s end → FileGuarded issuer plan exact moment s k l a end
+        own → DrainRunEnds o.answer (drain_text o.turns file.entries) s end → FileGuarded issuer plan exact moment s k l a end
     opened_guarded end found any later copied front copy_any copy_later h ends =
         file_guarded (record {
           session = h.session;
@@ -235,7 +235,7 @@ module _ {D C G : Type 0} (issuer : List ℕ) (plan : Plan) (exact : Bool) (mome
       GuardDrains (StandsUpTo p.state.version p.state.issuer) (StandsUpTo p.state.version p.state.issuer) a.begun plan
       p.state.version p.state.issuer (span_from p.disk after) (span_from standby.disk copy_after)
       (spanning p.state.entries a.kind a.before a.after exact moment o) file own →
-      DrainRunEnds o.answer (guard_text o.turns file) s end →
+      DrainRunEnds o.answer (drain_text o.turns file.entries) s end →
       FileGuarded issuer plan exact moment s file_in copy_in a end
   guarded_file standby copied o file own drains ends =
       let found = subst (λ (n : List ℕ). IsTrue kind.tells → IsFound p.state.version n p.state.entries (kind.on_disk disk).content)
@@ -271,7 +271,7 @@ module _ {D C G : Type 0} (issuer : List ℕ) (plan : Plan) (exact : Bool) (mome
 -- a disk failed where that is the end
 drained_rose : {D G : Type 0} (issuer : List ℕ) (plan : Plan) (exact : Bool) (moment : ℕ) (s : Sinks) (k l : Disks D)
     (a : Agencies G) (end : Detail) (f : FileGuarded issuer plan exact moment s k l a end) →
-    DrainRunEnds f.outcome.answer (guard_text f.outcome.turns f.file_held) s end → end ≡ detail.DiskFault → DiskRose k ⊎ DiskRose l
+    DrainRunEnds f.outcome.answer (drain_text f.outcome.turns f.file_held.entries) s end → end ≡ detail.DiskFault → DiskRose k ⊎ DiskRose l
 drained_rose issuer plan exact moment s k l a end f (disk_fault e w) is = f.drains.risen e
 drained_rose issuer plan exact moment s k l a end f _ is = absurd cc
 

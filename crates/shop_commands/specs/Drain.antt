@@ -1,10 +1,10 @@
 -- What a drain leaves of an opened store and of its agency.
-use Rattle.std.specs.Prelude.{ℕ, List, [], length, Bool, ⊤, ◌≡◌, ◌⊎◌, ◌+◌, ◌<◌, ◌≤◌, IsTrue, Option, Some, None}
+use Rattle.std.specs.Prelude.{ℕ, List, length, Bool, ◌≡◌, ◌⊎◌, ◌+◌, ◌<◌, ◌≤◌, IsTrue, Option, Some, None}
 use Rattle.record_fields.specs.declared.versions.Version.{Version}
 use Rattle.ports.specs.Sinks.{Sinks}
 use Rattle.record_codec.specs.declared.entry.Entry.{Entry}
-use Rattle.journal.specs.declared.faults.StoreFault.TheVariants as store
 use Rattle.shop_core.specs.History.{recs, noted}
+use Rattle.agency_port.specs.declared.turns.Told.{Told as TurnLine}
 use Rattle.agency_rules.specs.declared.plans.Plan.{Plan}
 use Rattle.sender.specs.Turning.{AgencyKind, AgencyState}
 use Rattle.report.specs.Turns.{turns_text}
@@ -29,16 +29,16 @@ use Rattle.shop_drain.specs.Opening.{NotOpened}
 use Rattle.command_ends.specs.Scripts.{ScriptedEnds}
 use Rattle.ports.specs.Causes.{greatest_u64}
 
--- its text: the lines of its turns and the chain line
-abbrev pub drain_text : Outcome → List ℕ
-drain_text o = turns_text o.turns (length (recs o.end)) (length (noted o.end))
+-- the text: the lines of the turns, and the chain line of what the file has
+abbrev pub drain_text : List TurnLine → List Entry → List ℕ
+drain_text turns entries = turns_text turns (length (recs entries)) (length (noted entries))
 
 -- an opened store with this history was drained, and this is how that ended
 abbrev pub StoreDrainEnds : Beginning → Plan → Version → List ℕ → List Entry → DiskSpan → AgencyKind → AgencyState → AgencyState → Bool → ℕ →
     Sinks → Detail → Type 0
 StoreDrainEnds begun plan version issuer start k kind old new exact moment s end = (o : Outcome)
     × StoreDrains (StandsUpTo version issuer) begun plan version issuer k (spanning start kind old new exact moment o)
-    × DrainRunEnds o.answer (drain_text o) s end
+    × DrainRunEnds o.answer (drain_text o.turns o.end) s end
 
 -- the file from the sync at its opening on
 abbrev pub file_span : {D : Type 0} → Disks D → DiskSpan
@@ -67,7 +67,7 @@ pub record FileDrained {D G : Type 0} (issuer : List ℕ) (plan : Plan) (exact :
   pub drains : StoreDrains (StandsSince (k.on_disk k.disk).content version issuer) a.begun plan version issuer (file_span k)
       (spanning start a.kind a.before a.after exact moment outcome)
   -- the text, and the end by the answer and the sink
-  pub ends : DrainRunEnds outcome.answer (drain_text outcome) s end
+  pub ends : DrainRunEnds outcome.answer (drain_text outcome.turns outcome.end) s end
   -- it is undelivered only where lines are missing and the agency failed eight times
   pub undelivered : (noted_count records_count : ℕ) → end ≡ detail.Undelivered noted_count records_count →
       (noted_count < records_count) × (a.after.faults < greatest_u64 →

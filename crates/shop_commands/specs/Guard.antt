@@ -1,6 +1,5 @@
 -- How `guard` ends, and what it leaves of the file and of its copy.
-use Rattle.std.specs.Prelude.{◌≡◌, ◌⊎◌, ℕ, ◌+◌, ◌<◌, ◌≤◌, ◌++◌, List, length, Bool, IsTrue, IsSome, None}
-use Rattle.agency_port.specs.declared.turns.Told.{Told as TurnLine}
+use Rattle.std.specs.Prelude.{◌≡◌, ◌⊎◌, ℕ, ◌+◌, ◌<◌, ◌≤◌, ◌++◌, List, Bool, IsTrue, IsSome, None}
 use Rattle.agency_rules.specs.declared.plans.Plan.{Plan}
 use Rattle.chain_disk.specs.Disks.{DiskRose, Disks, LeftDisk}
 use Rattle.chain_disk.specs.OnDisk.{LeavesNow, LeavesOnly, OnDisk, synced}
@@ -10,14 +9,12 @@ use Rattle.ports.specs.Sinks.{Sinks, WroteNothing}
 use Rattle.record_codec.specs.declared.entry.Entry.{Entry}
 use Rattle.record_fields.specs.declared.versions.Version.{Version}
 use Rattle.recovery.specs.Opening.{IsFound}
-use Rattle.report.specs.Turns.{turns_text}
 use Rattle.report.specs.declared.status.Detail.{Detail}
 use Rattle.report.specs.declared.status.Detail.TheVariants as detail
 use Rattle.script.specs.declared.forms.Form.TheVariants.{NoCommands}
 use Rattle.script.specs.declared.scripts.Script.{Script}
 use Rattle.sender.specs.declared.draining.TheConstants.{MAX_LINK_FAULTS}
 use Rattle.shop_core.specs.File.Files.{IsDamagedFile, StandsFor}
-use Rattle.shop_core.specs.History.{noted, recs}
 use Rattle.shop_core.specs.Prefix.{IsPrefix}
 use Rattle.standby.specs.Catching.{IsFirstApart}
 use Rattle.standby.specs.Chains.{ChainOnDisk}
@@ -25,7 +22,7 @@ use Rattle.shop_drain.specs.Crashes.{IsFoundSince, StandsSince}
 use Rattle.shop_drain.specs.Devices.{Agencies, AllDevices, LeftAll, LeftSleeper, Sleepers, around, first_moment, tells_moment}
 use Rattle.shop_commands.specs.Further.{Further}
 use Rattle.shop_drain.specs.Draining.{AgreesAtStart, DiskSpan, Outcome, spanning}
-use Rattle.shop_commands.specs.Drain.{AllLeft, NothingRose, file_span}
+use Rattle.shop_commands.specs.Drain.{AllLeft, NothingRose, drain_text, file_span}
 use Rattle.command_ends.specs.DrainEnds.{DrainRunEnds}
 use Rattle.shop_commands.specs.Follow.{IsFollowImage, IsSyncedAtMost}
 use Rattle.shop_drain.specs.Guarding.{GuardDrains, Held}
@@ -106,10 +103,6 @@ pub record NotCopied {D : Type 0} (issuer : List ℕ) (left : Type 0) (s : Sinks
   pub wrote : WroteNothing s
   pub rest : left
 
--- the text: the lines of the turns, and the chain line of what the file has
-abbrev pub guard_text : List TurnLine → Held → List ℕ
-guard_text turns file = turns_text turns (length (recs file.entries)) (length (noted file.entries))
-
 -- The file was opened, its copy brought up to it, and both were drained, from the history that the file stood for.
 pub record FileGuarded {D G : Type 0} (issuer : List ℕ) (plan : Plan) (exact : Bool) (moment : ℕ) (s : Sinks) (k l : Disks D)
     (a : Agencies G) (end : Detail) : Type 0 where
@@ -129,7 +122,7 @@ pub record FileGuarded {D G : Type 0} (issuer : List ℕ) (plan : Plan) (exact :
       a.begun plan version issuer
       (file_span k) (whole_span l) (spanning start a.kind a.before a.after exact moment outcome) file_held copy_held
   -- the text, and the end by the answer and the sink
-  pub ends : DrainRunEnds outcome.answer (guard_text outcome.turns file_held) s end
+  pub ends : DrainRunEnds outcome.answer (drain_text outcome.turns file_held.entries) s end
   -- it is undelivered only where lines are missing and the agency failed eight times
   pub undelivered : (noted_count records_count : ℕ) → end ≡ detail.Undelivered noted_count records_count →
       (noted_count < records_count) × (a.after.faults < greatest_u64 → a.before.faults + MAX_LINK_FAULTS ≤ a.after.faults)

@@ -8,9 +8,8 @@ ghost use Rattle.shop_drain.specs.Devices.{agency_in, clock_in, disk_in, sleeper
 ghost use Rattle.shop_commands.specs.Drain.{DrainEnds, FileDrainEnds, ScriptDrainEnds};
 ghost use Rattle.command_ends.specs.DrainEnds.{DrainRunEnds};
 ghost use Rattle.shop_commands.specs.Drain.{drain_text};
-ghost use Rattle.shop_drain.specs.Outcomes.{outcome_of};
 
-use agency_port::Agency;
+use agency_port::{Agency, Turns};
 use agency_rules::Plan;
 use chain_disk::Disk;
 use command_ends::{end_by, read_source};
@@ -19,23 +18,26 @@ use parties::Nif;
 use ports::{Clock, Sink, Sleeper, Source};
 use report::{Detail, Ended, turns_text};
 use script::{Form, Script};
+use sender::DrainFault;
+use shop_core::State;
 use shop_drain::{DrainEnd, Post, close, drain_opened, open, opening_end};
 use std::alloc::Global;
 use std::sync::Wait;
 
-// Prints the lines of the turns and the chain line.
-fn print_turns<K: Sink, D: Disk, C: Clock, Z, G>(
+/// Prints the lines of a drain's turns, and the chain line of the history that the file has.
+pub(crate) fn print_turns<K: Sink>(
     alloc: Global,
-    end: &DrainEnd<D, C, Z, G>,
+    answer: &Result<(), DrainFault>,
+    turns: &Turns,
+    state: &State,
     sink: &mut K,
 ) -> Detail
-    ensures { DrainRunEnds end.now.answer (drain_text (outcome_of end.now))
+    ensures { DrainRunEnds answer.now (drain_text turns.now state.now.entries)
         (this_sink K.taken K.faults sink.old sink.new) result }
 {
-    let state = end.opened.store.state();
-    match turns_text(alloc, &end.turns, state.records(), state.noted()) {
+    match turns_text(alloc, turns, state.records(), state.noted()) {
         Err(_) => Detail::NoMemory,
-        Ok(text) => end_by(&end.answer, write_texts(sink, text.as_slice(), b"")),
+        Ok(text) => end_by(answer, write_texts(sink, text.as_slice(), b"")),
     }
 }
 
@@ -62,9 +64,12 @@ where
     match open(alloc, issuer, post) {
         Err(unopened) => (opening_end(&unopened.why), unopened.post),
         Ok(opened) => {
-            let end = drain_opened(rt, alloc, plan, opened);
-            let detail = print_turns(alloc, &end, sink);
-            let DrainEnd { opened, .. } = end;
+            let DrainEnd {
+                answer,
+                turns,
+                opened,
+            } = drain_opened(rt, alloc, plan, opened);
+            let detail = print_turns(alloc, &answer, &turns, opened.store.state(), sink);
             (detail, close(opened))
         }
     }

@@ -5,26 +5,22 @@ ghost use Rattle.ports.specs.Sinks.{this_sink};
 ghost use Rattle.ports.specs.Sources.{this_source};
 ghost use Rattle.report.specs.Status.{status_of};
 ghost use Rattle.shop_core.specs.Prefix.{IsPrefix};
-ghost use Rattle.standby.specs.Chains.{chain_of};
 ghost use Rattle.standby.specs.Following.{IsFollowing};
 ghost use Rattle.shop_drain.specs.Devices.{agency_in, clock_in, disk_in, sleeper_in, this_call};
 ghost use Rattle.shop_commands.specs.Further.{further, own_post};
-ghost use Rattle.command_ends.specs.DrainEnds.{DrainRunEnds};
 ghost use Rattle.shop_commands.specs.Follow.{BringsUp, LeftOrFollowed};
 ghost use Rattle.shop_commands.specs.Guard.{FileGuardEnds, GuardEnds, GuardRan, IsCopied, LeftUncopied, ScriptGuardEnds};
-ghost use Rattle.shop_commands.specs.Guard.{guard_text};
-ghost use Rattle.shop_drain.specs.Guarding.{held_by};
 
+use crate::drain::print_turns;
 use crate::follow::start_end;
 use crate::outside::{Outside, put_further, take_further};
 use agency_port::Agency;
 use agency_rules::Plan;
 use chain_disk::Disk;
-use command_ends::{end_by, read_source, store_end};
-use file_commands::write_texts;
+use command_ends::{read_source, store_end};
 use parties::Nif;
 use ports::{Clock, Sink, Sleeper, Source};
-use report::{Detail, Ended, turns_text};
+use report::{Detail, Ended};
 use script::{Form, Script};
 use shop_core::{State, a_file_has_one_meaning};
 use shop_drain::{GuardEnd, Post, close, guard_opened, open, opening_end};
@@ -98,22 +94,6 @@ fn copy_of<D: Disk>(alloc: Global, state: &State, disk: D) -> Result<Standby<D>,
     }
 }
 
-// Prints the lines of the turns and the chain line of what the file has.
-fn print_guarded<K: Sink, D: Disk, C: Clock, M: Disk, Z, G>(
-    alloc: Global,
-    end: &GuardEnd<D, C, M, Z, G>,
-    sink: &mut K,
-) -> Detail
-    ensures { DrainRunEnds end.now.answer (guard_text end.now.turns (held_by (chain_of end.now.opened.store)))
-        (this_sink K.taken K.faults sink.old sink.new) result }
-{
-    let state = end.opened.store.state();
-    match turns_text(alloc, &end.turns, state.records(), state.noted()) {
-        Err(_) => Detail::NoMemory,
-        Ok(text) => end_by(&end.answer, write_texts(sink, text.as_slice(), b"")),
-    }
-}
-
 // Opens the file, brings its copy up to it and drains both. All parts come back.
 fn guard_file<K, D, C, Z, G, R>(
     rt: &R,
@@ -140,13 +120,13 @@ where
         Ok(opened) => match copy_of(alloc, opened.store.state(), copy) {
             Err(Uncopied { end, disk }) => (end, close(opened), disk),
             Ok(standby) => {
-                let end = guard_opened(rt, alloc, plan, opened, standby);
-                let detail = print_guarded(alloc, &end, sink);
                 let GuardEnd {
+                    answer,
+                    turns,
                     opened,
                     standby,
-                    ..
-                } = end;
+                } = guard_opened(rt, alloc, plan, opened, standby);
+                let detail = print_turns(alloc, &answer, &turns, opened.store.state(), sink);
                 (detail, close(opened), standby.into_disk())
             }
         },

@@ -11,6 +11,8 @@ use Rattle.till_calls.specs.Root.{parts_of}
 use Rattle.sender_session.specs.Kinds.{agency_state_of, agency_kind, store_kind}
 use Rattle.shop_drain.specs.Devices.{agency_in}
 use Rattle.shop_drain.specs.Draining.{disk_span, spanning}
+use Rattle.command_ends.specs.DrainEnds.{DrainRunEnds}
+use Rattle.shop_commands.specs.Drain.{drain_text}
 use Rattle.shop_commands.specs.Guard.{IsCopied, LeftUncopied}
 use Rattle.shop_drain.specs.Guarding.{GuardDrains, held_by}
 use Rattle.shop_drain.specs.Outcomes.{guard_outcome}
@@ -67,7 +69,7 @@ returns-in-Ok-copy_of g c =
     let standby = c.in-Ok-copy_of.standby in
     let copied = subst (λ (h : History). IsCopied g.D.Disk.tells g.D.Disk.on_disk g.D.Disk.faults h.version h.issuer h.entries
     c.args.copy standby) c.state.ensures c.in-Ok-copy_of.ensures.copied in
-    let end = c.guard_opened-end.result in
+    let end = c.guard_opened-answer.result in
     let then = c.close-in-Ok-copy_of.result in
     let store = o.store in
     let issuer = (state_of store).issuer in
@@ -86,12 +88,14 @@ returns-in-Ok-copy_of g c =
     (subst (λ (x : g.row.G.Denot). Drains (disk_of (journal_of end.opened.store)) end.standby.disk x end.opened.agency
     out.sleeper) k.kept.1
     (subst (λ (z : g.row.Z.Denot). Drains (disk_of (journal_of end.opened.store)) end.standby.disk o.agency end.opened.agency z)
-    k.kept.0 c.guard_opened-end.ensures.drains)))) in
+    k.kept.0 c.guard_opened-answer.ensures.drains)))) in
+    let sink = this_sink g.K.Sink.taken g.K.Sink.faults c.args.sink.now c.print_turns-detail.new.sink in
+    let ended = subst (λ (h : History). DrainRunEnds end.answer (drain_text end.turns h.entries) sink c.print_turns-detail.result)
+    c.state-in-Ok-copy_of.ensures c.print_turns-detail.ensures in
     record {
       ends = inr (inr (guarded_file c.args.issuer.now c.args.plan.now g.Z.Sleeper.tells (g.Z.Sleeper.moment out.sleeper)
-          (this_sink g.K.Sink.taken g.K.Sink.faults c.args.sink.now c.print_guarded-detail.new.sink)
-          (store_kind g.D.Disk g.C.Clock) out.disk then.disk c.args.copy c.into_disk.result (agency_in g.G.Agency out then)
-          c.print_guarded-detail.result out.clock (parts_of store) h standby copied (guard_outcome end)
-          (held_by (chain_of end.opened.store)) (held_by end.standby) drains c.print_guarded-detail.ensures));
-      clock = c.close-in-Ok-copy_of.ensures.clock ∙ c.guard_opened-end.ensures.clock ∙ h.clock_is;
+          sink (store_kind g.D.Disk g.C.Clock) out.disk then.disk c.args.copy c.into_disk.result (agency_in g.G.Agency out then)
+          c.print_turns-detail.result out.clock (parts_of store) h standby copied (guard_outcome end)
+          (held_by (chain_of end.opened.store)) (held_by end.standby) drains ended));
+      clock = c.close-in-Ok-copy_of.ensures.clock ∙ c.guard_opened-answer.ensures.clock ∙ h.clock_is;
     }
