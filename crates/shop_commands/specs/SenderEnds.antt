@@ -1,8 +1,7 @@
 -- How a day ends by its tills' replies and by the answer of its sender.
-use Rattle.std.specs.Prelude.{◌≡◌, ◌⊎◌, ℕ, ◌-◌, List, [], true, false, Result, Ok, Err}
+use Rattle.std.specs.Prelude.{◌≡◌, ◌⊎◌, ℕ, List, true, false, Result, Ok, Err}
 use Rattle.std.specs.List.{list_any}
 use Rattle.ports.specs.Sinks.{Sinks, Wrote, FailedIn, WrotePart}
-use Rattle.shop_core.specs.History.{noted}
 use Rattle.agency_port.specs.declared.turns.Evidence.{Evidence}
 use Rattle.sender.specs.declared.answers.DrainFault.{DrainFault}
 use Rattle.sender.specs.declared.answers.DrainFault.TheVariants as drain
