@@ -61,26 +61,39 @@ fn drains_after(how: SpeechEnd) -> bool
     }
 }
 
-// Answers line by line, and tells how it ended. A fault of the disk stops the sender before it is answered.
-fn converse_to<S: Source, K: Sink, D: Disk, C: Clock, T: Gate, R: Wait>(
+// A dialogue under way: how far it has come, and how it ended once it has.
+#[derive(Drop)]
+struct Talk<D: Disk, C: Clock> {
+    speech: SpeechState<D, C>,
+    how: SpeechEnd,
+}
+
+// What a sender sends by.
+struct SenderParts<D: Disk, C: Clock, Z, G> {
+    seat: SenderSeat<D, C>,
+    sleeper: Z,
+    agency: G,
+}
+
+// Answers line by line to the end, and notes how it ended. A fault of the disk stops the sender before it is answered.
+fn answer_to_end<S: Source, K: Sink, D: Disk, C: Clock, T: Gate, R: Wait>(
     means: Means<'_, R, T>,
     shop: &Shop<D, C>,
-    speech: &mut SpeechState<D, C>,
+    talk: &mut Talk<D, C>,
     first: &Result<Action, SpeechEnd>,
     source: &mut S,
     sink: &mut K,
-    how: &mut SpeechEnd,
     stop: &AtomicBool,
 )
-    requires own { All (λ t. till_shop t ≡ shop_id shop.now) speech.old.held.items }
-    requires numbers { reverse (map till_number speech.old.held.items) ≡ range_with_len 1 LAST_TILL }
-    requires lacked { speech.old.lacked ≡ false }
-    ensures own { All (λ t. till_shop t ≡ shop_id shop.now) speech.new.held.items }
-    ensures numbers { map till_number speech.new.held.items ≡ map till_number speech.old.held.items }
-    ensures spoken { SpeaksOn C.coming speech.old.listener first.now
+    requires own { All (λ t. till_shop t ≡ shop_id shop.now) talk.old.speech.held.items }
+    requires numbers { reverse (map till_number talk.old.speech.held.items) ≡ range_with_len 1 LAST_TILL }
+    requires lacked { talk.old.speech.lacked ≡ false }
+    ensures own { All (λ t. till_shop t ≡ shop_id shop.now) talk.new.speech.held.items }
+    ensures numbers { map till_number talk.new.speech.held.items ≡ map till_number talk.old.speech.held.items }
+    ensures spoken { SpeaksOn C.coming talk.old.speech.listener first.now
         (moment_of S.left S.faults K.taken K.faults source.old sink.old)
-        (moment_of S.left S.faults K.taken K.faults source.new sink.new) speech.new.lacked
-        (map till_knows speech.old.held.items) (map till_knows speech.new.held.items) how.new }
+        (moment_of S.left S.faults K.taken K.faults source.new sink.new) talk.new.speech.lacked
+        (map till_knows talk.old.speech.held.items) (map till_knows talk.new.speech.held.items) talk.new.how }
 {
     let by = SpeechMeans {
         rt: means.rt,
@@ -88,21 +101,18 @@ fn converse_to<S: Source, K: Sink, D: Disk, C: Clock, T: Gate, R: Wait>(
         gate: means.gate,
         stop,
     };
-    *how = answer_lines(by, shop, speech, first, source, sink);
+    talk.how = answer_lines(by, shop, &mut talk.speech, first, source, sink);
 }
 
 // Answers line by line, and sends at the same time, until the dialogue has ended or the disk failed.
 fn answer_lines_with_sender<S, K, D, C, Z, G, T, R>(
     means: Means<'_, R, T>,
     shop: &Shop<D, C>,
-    speech: &mut SpeechState<D, C>,
+    talk: &mut Talk<D, C>,
     first: &Result<Action, SpeechEnd>,
     source: &mut S,
     sink: &mut K,
-    how: &mut SpeechEnd,
-    seat: SenderSeat<D, C>,
-    agency: G,
-    sleeper: Z,
+    sender: SenderParts<D, C, Z, G>,
 ) -> Sent<D, C, G, Z>
 where
     S: Source,
@@ -113,21 +123,27 @@ where
     G: Agency + Send + Drop,
     T: Gate + Sync,
     R: Threads + Wait + Sync,
-    requires own { All (λ t. till_shop t ≡ shop_id shop.now) speech.old.held.items }
-    requires numbers { reverse (map till_number speech.old.held.items) ≡ range_with_len 1 LAST_TILL }
-    requires lacked { speech.old.lacked ≡ false }
-    requires seat { seat_shop seat ≡ shop_id shop.now }
-    ensures own { All (λ t. till_shop t ≡ shop_id shop.now) speech.new.held.items }
-    ensures numbers { map till_number speech.new.held.items ≡ map till_number speech.old.held.items }
-    ensures spoken { SpeaksOn C.coming speech.old.listener first.now
+    requires own { All (λ t. till_shop t ≡ shop_id shop.now) talk.old.speech.held.items }
+    requires numbers { reverse (map till_number talk.old.speech.held.items) ≡ range_with_len 1 LAST_TILL }
+    requires lacked { talk.old.speech.lacked ≡ false }
+    requires seat { seat_shop sender.seat ≡ shop_id shop.now }
+    ensures own { All (λ t. till_shop t ≡ shop_id shop.now) talk.new.speech.held.items }
+    ensures numbers { map till_number talk.new.speech.held.items ≡ map till_number talk.old.speech.held.items }
+    ensures spoken { SpeaksOn C.coming talk.old.speech.listener first.now
         (moment_of S.left S.faults K.taken K.faults source.old sink.old)
-        (moment_of S.left S.faults K.taken K.faults source.new sink.new) speech.new.lacked
-        (map till_knows speech.old.held.items) (map till_knows speech.new.held.items) how.new }
-    ensures mark { mark_by (seat_shop result.seat) (seat_knows result.seat) ≡ mark_by (seat_shop seat) (seat_knows seat) }
-    ensures sends { SendsOn (agency_kind G.Agency) (sight_by (seat_knows seat)) (sight_by (seat_knows result.seat))
-        (agency_state_of G.Agency agency) (agency_state_of G.Agency result.agency) fresh result.sender result.answer }
+        (moment_of S.left S.faults K.taken K.faults source.new sink.new) talk.new.speech.lacked
+        (map till_knows talk.old.speech.held.items) (map till_knows talk.new.speech.held.items) talk.new.how }
+    ensures mark { mark_by (seat_shop result.seat) (seat_knows result.seat)
+        ≡ mark_by (seat_shop sender.seat) (seat_knows sender.seat) }
+    ensures sends { SendsOn (agency_kind G.Agency) (sight_by (seat_knows sender.seat)) (sight_by (seat_knows result.seat))
+        (agency_state_of G.Agency sender.agency) (agency_state_of G.Agency result.agency) fresh result.sender result.answer }
     ensures never { IsUndelivered result.answer → ⊥ }
 {
+    let SenderParts {
+        seat,
+        sleeper,
+        agency,
+    } = sender;
     let stop = AtomicBool::new(false);
     let told = &stop;
     with_sender(
@@ -138,16 +154,17 @@ where
         sleeper,
         told,
         &mut move ||
-            requires { All (λ t. till_shop t ≡ shop_id shop.now) speech.now.held.items
-                × (reverse (map till_number speech.now.held.items) ≡ range_with_len 1 LAST_TILL)
-                × (speech.now.lacked ≡ false) }
-            ensures { All (λ t. till_shop t ≡ shop_id shop.entry.now) speech.exit.now.held.items
-                × (map till_number speech.exit.now.held.items ≡ map till_number speech.entry.now.held.items)
-                × SpeaksOn C.coming speech.entry.now.listener first.entry.now
+            requires { All (λ t. till_shop t ≡ shop_id shop.now) talk.now.speech.held.items
+                × (reverse (map till_number talk.now.speech.held.items) ≡ range_with_len 1 LAST_TILL)
+                × (talk.now.speech.lacked ≡ false) }
+            ensures { All (λ t. till_shop t ≡ shop_id shop.entry.now) talk.exit.now.speech.held.items
+                × (map till_number talk.exit.now.speech.held.items ≡ map till_number talk.entry.now.speech.held.items)
+                × SpeaksOn C.coming talk.entry.now.speech.listener first.entry.now
                 (moment_of S.left S.faults K.taken K.faults source.entry.now sink.entry.now)
-                (moment_of S.left S.faults K.taken K.faults source.exit.now sink.exit.now) speech.exit.now.lacked
-                (map till_knows speech.entry.now.held.items) (map till_knows speech.exit.now.held.items) how.exit.now }
-        { converse_to(means, shop, speech, first, source, sink, how, told) },
+                (moment_of S.left S.faults K.taken K.faults source.exit.now sink.exit.now)
+                talk.exit.now.speech.lacked (map till_knows talk.entry.now.speech.held.items)
+                (map till_knows talk.exit.now.speech.held.items) talk.exit.now.how }
+        { answer_to_end(means, shop, talk, first, source, sink, told) },
     )
 }
 
@@ -208,30 +225,22 @@ pub fn run_dialogue<
         seat,
     } = started;
     hold_all(&mut tills, &mut held);
-    let mut speech = SpeechState {
-        listener,
-        held,
-        lacked: false,
+    let mut talk = Talk {
+        speech: SpeechState {
+            listener,
+            held,
+            lacked: false,
+        },
+        how: SpeechEnd::Ended,
     };
-    let mut how = SpeechEnd::Ended;
-    let mut sent = answer_lines_with_sender(
-        means,
-        &shop,
-        &mut speech,
-        first,
-        source,
-        sink,
-        &mut how,
+    let sender = SenderParts {
         seat,
-        agency,
         sleeper,
-    );
-    let SpeechState {
-        listener: _,
-        held,
-        lacked,
-    } = speech;
-    give_back(&shop, &mut tills, held, &mut sent.seat);
+        agency,
+    };
+    let mut sent = answer_lines_with_sender(means, &shop, &mut talk, first, source, sink, sender);
+    let Talk { speech, how } = talk;
+    give_back(&shop, &mut tills, speech.held, &mut sent.seat);
     let met = Snapshot::of(&sent);
     let rest = drain_if(drains_after(how), means, &shop, sent);
     let left = Snapshot::of(&rest);
@@ -249,7 +258,7 @@ pub fn run_dialogue<
             agency,
         },
         how,
-        lacked,
+        lacked: speech.lacked,
         answer,
         met,
         left,

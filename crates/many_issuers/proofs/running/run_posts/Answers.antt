@@ -83,7 +83,7 @@ pub returns : goal.returns
 returns g c =
     let o = c.open_all-installation.ensures.opened in
     let r = rows_of g.D.Disk g.C.Clock g.Z.Sleeper g.G.Agency c.a_history_notes_its_records.ensures c.who_keeps_the_rules_tells.ensures
-    (λ x. g.met.C.Clock.unread x) o.starts
+    (λ x. (g.met.C.Clock g.world.𝓛 g.world.𝓜 g.world.𝓡 ((λ s y. y), (λ y. y), (λ y. y), λ y. y)).unread x) o.starts
     c.serve_installation-jobs.result.items c.work_all-jobs.result.items (c.serve_installation-jobs.ensures.tasked o.starts o.opened)
     c.work_all-jobs.ensures in
     let dones = c.dones_of-dones.result.items in

@@ -34,7 +34,7 @@ give_back-requires-clause-room g c =
     let f = length-reverse (map till_number c.hold_all.new.held.items) in
     let h = ap (λ (l : List ℕ). length l) (c.hold_all.ensures.numbers ∙ c.requires.numbers) in
     let k = length-range_with_len 1 64 in
-    let a = length-map c.answer_lines_with_sender-sent.new.speech.held.items till_number in
+    let a = length-map c.answer_lines_with_sender-sent.new.talk.speech.held.items till_number in
     let b = ap (λ (l : List ℕ). length l) c.answer_lines_with_sender-sent.ensures.numbers in
     let m = c.requires.made in
     let s = c.hold_all.ensures.same.1 in
@@ -45,7 +45,7 @@ close-requires-clause-whole g c = λ n l.
     let f = c.requires.first in
     let spoken = c.answer_lines_with_sender-sent.ensures.spoken f.left f.faults f.comes f.later f.cause in
     let olds = map till_knows c.hold_all.new.held.items in
-    let news = map till_knows c.answer_lines_with_sender-sent.new.speech.held.items in
+    let news = map till_knows c.answer_lines_with_sender-sent.new.talk.speech.held.items in
     let row = ran_in_a_row g.C.Clock.coming spoken.said.asks spoken.said.replies olds news spoken.ran in
     let ran : Ran g.C.Clock.coming spoken.said.asks (range_with_len 1 (length olds)) (tills_know c.args.begun.started.tills) row.parts
     row.backs = ran_as g.C.Clock.coming spoken.said.asks _ _ _ _ _ _ _ _ refl c.hold_all.ensures.knows refl refl row.ran in
@@ -68,7 +68,7 @@ pub returns-clause-run : goal.returns-clause-run
 returns-clause-run g c = λ left faults first later cause.
     let spoken = c.answer_lines_with_sender-sent.ensures.spoken left faults first later cause in
     let olds = map till_knows c.hold_all.new.held.items in
-    let news = map till_knows c.answer_lines_with_sender-sent.new.speech.held.items in
+    let news = map till_knows c.answer_lines_with_sender-sent.new.talk.speech.held.items in
     let size : length olds ≡ 64 =
     (let e = length-map c.hold_all.new.held.items till_number in let i = length-map c.hold_all.new.held.items till_knows in
     let f = length-reverse (map till_number c.hold_all.new.held.items) in
@@ -89,7 +89,7 @@ returns-clause-run g c = λ left faults first later cause.
     let opened = agency_state_of g.G.Agency c.args.begun.agency in
     let after = agency_state_of g.G.Agency c.drain_if-rest.result.agency in
     let answer = c.drain_if-rest.result.answer in
-    let drains = drains_after c.answer_lines_with_sender-sent.new.how in
+    let drains = drains_after c.answer_lines_with_sender-sent.new.talk.how in
     let told_drains : drains ≡ true → c.drains_after.result ≡ true = λ is. c.drains_after.ensures ∙ is in
     let sends = c.drain_if-rest.ensures.sends _ _ _ (subst (λ (s : Sight). SendsOn kind (sight_by seat) s opened
     (agency_state_of g.G.Agency c.answer_lines_with_sender-sent.result.agency) fresh c.answer_lines_with_sender-sent.result.sender
@@ -124,7 +124,7 @@ returns-clause-run g c = λ left faults first later cause.
     told kind opened after drains c.drain_if-rest.result.sender answer sends c.agreement_is_kept.ensures.records
     c.a_session_begins.ensures.session c.a_session_begins.ensures.careful) in
     record {
-      speech = record { said = spoken.said; how = c.answer_lines_with_sender-sent.new.how };
+      speech = record { said = spoken.said; how = c.answer_lines_with_sender-sent.new.talk.how };
       tills = told;
       how_is = refl;
       spoken = record {
@@ -138,7 +138,7 @@ returns-clause-run g c = λ left faults first later cause.
             c.close.ensures.each c.close.ensures.sound.begins spoken.looked;
         read = spoken.read;
         replies_are = spoken.replies_are;
-        read_fault = read_failed c.answer_lines_with_sender-sent.new.how _ _ spoken.read_fault;
+        read_fault = read_failed c.answer_lines_with_sender-sent.new.talk.how _ _ spoken.read_fault;
       };
       are = same_tills g.C.Clock.coming spoken.said.asks (range_with_len 1 64) told (tills_know c.args.begun.started.tills)
           row.backs ran;
@@ -153,7 +153,7 @@ returns-clause-behind g c =
     let beside = c.answer_lines_with_sender-sent.ensures in
     shown_behind {S = Sent g.row.D.Denot g.row.C.Denot g.row.G.Denot g.row.Z.Denot g.D.Disk g.C.Clock}
     (λ x. scene_in (agency_state_of g.G.Agency) g.Z.Sleeper.moment x) (λ x. x.answer) (agency_kind g.G.Agency) g.Z.Sleeper.tells
-    (drains_after c.answer_lines_with_sender-sent.new.how) (agency_state_of g.G.Agency c.args.begun.agency)
+    (drains_after c.answer_lines_with_sender-sent.new.talk.how) (agency_state_of g.G.Agency c.args.begun.agency)
     (agency_state_of g.G.Agency c.drain_if-rest.result.agency) _ _ _ _
     c.of-met.ensures c.of-left.ensures beside.sends.messages.says beside.sends.ends.later beside.never c.drain_if-rest.ensures.failed
     (λ is. c.drain_if-rest.ensures.turns (c.drains_after.ensures ∙ is))
