@@ -5,7 +5,6 @@ use Rattle.std.specs.List.{list_any}
 use Rattle.record_fields.specs.declared.versions.Version.{Version}
 use Rattle.chain_disk.specs.OnDisk.{OnDisk, LeavesOnly, synced}
 use Rattle.journal.specs.declared.faults.StoreFault.{StoreFault}
-use Rattle.journal.specs.declared.faults.StoreFault.TheVariants.{DiskFault}
 use Rattle.ports.specs.Causes.{Rose}
 use Rattle.ports.specs.Readings.{IsTold}
 use Rattle.record_codec.specs.declared.entry.Entry.{Entry}
