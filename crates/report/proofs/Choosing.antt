@@ -43,7 +43,7 @@ among_first choice entries p ps =
     among (is_chosen choice entries) (λ (p : ℕ × Sealed). record_line p.0 p.1 (line_at entries p.0)) (is_chosen choice entries p) p
     ps refl
 
--- a last one behind one more stays the last
+-- a last one after one more stays the last
 last_behind : {A : Type 0} (x y : A) (ys : List A) → last_of ys ≡ Some y → last_of (x ∷ ys) ≡ Some y
 last_behind x y [] e = absurd cc
 last_behind x y (z ∷ ys) e =
@@ -97,7 +97,7 @@ module _ (test : Sealed → Bool) where
   last_own : ℕ → List Sealed → Option ℕ
   last_own n xs = option_map (λ (p : ℕ × Sealed). p.0) (last_of (own n xs))
 
-  -- there is one behind the first
+  -- there is one after the first
   goes_on : (n : ℕ) (x : Sealed) (xs : List Sealed) → HasOwn (n + 1) xs → last_own n (x ∷ xs) ≡ last_own (n + 1) xs
   unfolding own last_own
   goes_on n x xs rest = elim (cases_Bool (test x)) [
