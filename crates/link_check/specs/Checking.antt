@@ -33,7 +33,7 @@ abbrev pub has_total : ℤ → Record → Bool
 has_total cents (record_of.Alta a) = int_eq (total a.draft.lines) cents
 has_total cents (record_of.Anulacion a) = false
 
--- the link's total beside that of the invoice's alta
+-- the link's total compared with that of the invoice's alta
 abbrev pub compared : ℤ → ℕ × Sealed → Checked
 compared cents p = if has_total cents p.1.body then Found p.0 else Differs p.0
 

@@ -66,7 +66,7 @@ fn answer(alloc: Global, state: &State, parts: &LinkParts) -> Result<Checked, No
     Ok(beside(place, &sealed, parts.total))
 }
 
-// The invoice's last accepted record, beside the total of a link.
+// The invoice's last accepted record, with its total compared with a link's.
 fn beside(place: u32, sealed: &Sealed, total: Cents) -> Checked
     ensures { result ≡ settled total (place, sealed.now) }
 {
