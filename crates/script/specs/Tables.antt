@@ -1,4 +1,4 @@
--- The tables beside the lists of what is planned.
+-- The tables of what is planned, next to its lists.
 use Rattle.std.specs.Prelude.{◌≡◌, ℕ, List, Bool, is_some, nat_eq, bytes_eq, ◌&&◌}
 use Rattle.std.specs.HashSet.{HashSet, contains}
 use Rattle.agency_rules.specs.Judging.{verdict_for}

@@ -10,7 +10,7 @@ use crate::scripts::SoFar;
 use ports::NoMemory;
 use std::alloc::Global;
 
-/// What lines that are said one by one leave behind: a clock, customers and plans. A command leaves nothing.
+/// What lines that are said one by one leave: a clock, customers and plans. A command leaves nothing.
 #[derive(Drop)]
 pub struct Heard {
     read: SoFar,

@@ -1,4 +1,4 @@
-//! What the lines plan for the practice agency. A table beside each list tells whether a line stands above.
+//! What the lines plan for the practice agency. A table for each list tells whether a line stands above.
 ghost use Rattle.std.specs.Prelude.{◌≡◌, ◌++◌, ◌∷◌, [], OnOk, is_some};
 ghost use Rattle.agency_rules.specs.Judging.{verdict_for};
 ghost use Rattle.agency_rules.specs.Plans.{fate_at};
