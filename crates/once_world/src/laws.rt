@@ -48,7 +48,7 @@ pub fn what_came_is_seen()
     ensures stays { law.SeenStays }
 {}
 
-/// What came to a shop that gained no notes but its outbox's own: records, beside what the outbox added.
+/// What came to a shop that gained no notes but its outbox's own: records, apart from what the outbox added.
 pub fn what_came_beside_is_records()
     ensures quiet { law.CameQuietly }
     ensures own { law.CameBesideOwn }
