@@ -31,7 +31,7 @@ id_in sealed = record { invoice = id_of sealed.body; sort = sort_of sealed.body 
 abbrev pub ids_of : List Sealed → List RecordId
 ids_of records = map id_in records
 
--- what a consultation asks for: Huellas, and beside each which record it is of
+-- what a consultation asks for: Huellas, and with each which record it is of
 pub record Named : Type 0 where
   pub huellas : List (List ℕ)
   pub ids : List RecordId

@@ -52,7 +52,7 @@ fn ids_in(alloc: Global, records: &[Sealed]) -> Result<Vec<RecordId>, NoMemory>
     Ok(ids)
 }
 
-/// The Huellas of records, in order, and beside each which record it is of.
+/// The Huellas of records, in order, and with each which record it is of.
 #[derive(Drop)]
 pub struct Huellas {
     list: HuellaList,
