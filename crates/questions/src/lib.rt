@@ -1,4 +1,4 @@
-//! What a till may ask beside its commands: a question is a line, and so is its answer, which is that of a history. Nothing is
+//! What a till may ask besides its commands: a question is a line, and so is its answer, which is that of a history. Nothing is
 //! added, and no answer walks the history.
 #![tactic(auto)]
 
