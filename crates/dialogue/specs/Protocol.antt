@@ -124,7 +124,7 @@ pub record Look : Type 0 where
   pub after : ℕ
   pub history : List Entry
 
--- What was said: the lines, what may come after them, what they leave behind, the commands among them, the replies to these, the
+-- What was said: the lines, what may come after them, what they leave, the commands among them, the replies to these, the
 -- looks of the questions among them, and what was written for each line.
 pub record Transcript : Type 0 where
   pub lines : List InputLine
