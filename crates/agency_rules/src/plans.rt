@@ -9,7 +9,7 @@ use series::NumSerie;
 use std::alloc::Global;
 use std::marker::Model;
 
-/// What the agency says of a record beside the rules of its register, with its code: from 1 to 65535 in a script that was read.
+/// What the agency says of a record apart from its register's rules, with its code: from 1 to 65535 in a script that was read.
 #[derive(Clone, Copy, Debug, PartialEq, Eq)]
 pub enum Verdict {
     /// It is refused.
@@ -150,7 +150,7 @@ impl Fates {
     }
 }
 
-/// What the practice agency does beside its rules. `wait` is the pause in seconds that it asks for after each answer: at most
+/// What the practice agency does apart from its rules. `wait` is the pause in seconds that it asks for after each answer: at most
 /// 86400 in a script that was read.
 #[derive(Drop)]
 pub struct Plan {

@@ -35,7 +35,7 @@ impl From<TryLockError> for Reason {
     }
 }
 
-/// The file at a path. A file that isn't there reads as one of length 0, and reading leaves nothing behind: it is made,
+/// The file at a path. A file that isn't there reads as one of length 0, and reading makes no file: it is made,
 /// and opened for writing, at its first write or sync, for its owner alone to read and write (mode 0600). The first sync
 /// also syncs the folder, so that the entry of a file made new lasts. Each error raises the count of faults.
 ///

@@ -40,7 +40,7 @@ lists_stay series old new list more there items updates q = elim (cases_Bool (by
   | inr e ↦ let n : new q ≡ old q = updates q ∙ rw e refl in ap items_of n
 ]
 
--- a number that is entered beside the lists
+-- a number that is entered apart from the lists
 module _ (old new listed : List ℕ → Option Standing) (num : List ℕ) (absent : is_some (option_or (old num) (listed num)) ≡ false)
     (updates : (q : List ℕ) → new q ≡ cond (bytes_eq num q) (Some nothing) (old q)) where
   none_of : (o : Option Standing) → is_some o ≡ false → unwrap_or o nothing ≡ nothing

@@ -30,7 +30,7 @@ const NOTHING: Standing = Standing {
 };
 
 /// The standing of each number, that of nothing where it was entered alone. The numbers of a series stand in a list of
-/// its own while they are entered in their order; the others stand beside.
+/// its own while they are entered in their order; the others stand in another list.
 #[derive(Drop)]
 pub(crate) struct ByNumber {
     alloc: Global,
