@@ -1,5 +1,5 @@
 #!/usr/bin/env python3
-"""Tries the wrong bodies that the gate doesn't try, those of crates/NAME/wrong-bodies: the prover must refuse each.
+r"""Tries the wrong bodies that the gate doesn't try, those of crates/NAME/wrong-bodies: the prover must refuse each.
 
 usage: tools/wrong_bodies.py [NAME ..]      of these crates; without names of each crate that has some
        tools/wrong_bodies.py --lacking      of each crate that has no record of its files as they stand
@@ -7,11 +7,13 @@ usage: tools/wrong_bodies.py [NAME ..]      of these crates; without names of ea
 
 A line for each body, and status 1 where one isn't refused or can't be applied; standard error says what is at work. Where all of a crate's
 are refused the file crates/NAME/wrong-bodies/refused says so, and else it goes: the day, what `rt version` printed, and a sum over all
-that the crate is made of, so that a change of it shows. The sum is SHA-256 of the lines that sha256sum prints for these files, in the order
-of their names' bytes:
+that the crate is made of, so that a change of it shows; but for lines that are comments alone, of which no proof knows. The sum is SHA-256
+of such lines as sha256sum prints, for these files in the order of their names' bytes:
 
-    cd crates/NAME; find src specs proofs must-fail wrong-bodies -type f ! -path wrong-bodies/refused 2>/dev/null |
-    LC_ALL=C sort | xargs sha256sum | sha256sum
+    cd crates/NAME; find src specs proofs must-fail wrong-bodies -type f ! -path wrong-bodies/refused 2>/dev/null | LC_ALL=C sort |
+    while read -r it; do
+      echo "$(sed -E '/^[ \t]*(\/\/|--)/d' "$it" | sha256sum | cut -c 1-64)  $it"
+    done | sha256sum
 
 They are tried on a copy of the sources below the user's cache folder, which takes over the libraries that were built here; what is lacking is
 proved there. The crate is checked once as it stands, then each of its bodies in its place. The copy goes once all were refused.
@@ -34,6 +36,8 @@ RECORD = os.path.join("wrong-bodies", "refused")
 # The names that rt takes, and its words for a body that wasn't refused, can't be applied or read, or wasn't tried.
 EDIT = re.compile(r"[A-Za-z0-9_-][A-Za-z0-9_.-]*\.edit")
 FAILS = ("NOT REFUSED", "BAD EDIT", "NOT TRIED")
+# A line that is a comment alone.
+COMMENT = re.compile(rb"^[ \t]*(?://|--).*\n?", re.M)
 
 
 def say(text: str) -> None:
@@ -63,7 +67,7 @@ def sum_of(crate: str) -> str:
     whole = hashlib.sha256()
     for name in sorted(map(os.fsencode, names)):
         if name != os.fsencode(RECORD):
-            text = text_of(os.path.join(os.fsencode(folder), name)) or b""
+            text = COMMENT.sub(b"", text_of(os.path.join(os.fsencode(folder), name)) or b"")
             whole.update(hashlib.sha256(text).hexdigest().encode() + b"  " + name + b"\n")
     return whole.hexdigest()
 
