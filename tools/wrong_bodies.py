@@ -7,12 +7,12 @@ usage: tools/wrong_bodies.py [NAME ..]      of these crates; without names of ea
 
 A line for each body, and status 1 where one isn't refused or can't be applied; standard error says what is at work. Where all of a crate's
 are refused the file crates/NAME/wrong-bodies/refused says so, and else it goes: the day, what `rt version` printed, and a sum over all
-that the crate is made of, so that a change of it shows; but for lines that are comments alone, of which no proof knows. The sum is SHA-256
-of such lines as sha256sum prints, for these files in the order of their names' bytes:
+that the crate is made of, so that a change of it shows; but for lines that are comments alone, and those that name a body's clause, of which
+no proof knows. The sum is SHA-256 of such lines as sha256sum prints, for these files in the order of their names' bytes:
 
     cd crates/NAME; find src specs proofs must-fail wrong-bodies -type f ! -path wrong-bodies/refused 2>/dev/null | LC_ALL=C sort |
     while read -r it; do
-      echo "$(sed -E '/^[ \t]*(\/\/|--)/d' "$it" | sha256sum | cut -c 1-64)  $it"
+      echo "$(sed -E '/^([ \t]*(\/\/|--)|clause: )/d' "$it" | sha256sum | cut -c 1-64)  $it"
     done | sha256sum
 
 They are tried on a copy of the sources below the user's cache folder, which takes over the libraries that were built here; what is lacking is
@@ -36,8 +36,8 @@ RECORD = os.path.join("wrong-bodies", "refused")
 # The names that rt takes, and its words for a body that wasn't refused, can't be applied or read, or wasn't tried.
 EDIT = re.compile(r"[A-Za-z0-9_-][A-Za-z0-9_.-]*\.edit")
 FAILS = ("NOT REFUSED", "BAD EDIT", "NOT TRIED")
-# A line that is a comment alone.
-COMMENT = re.compile(rb"^[ \t]*(?://|--).*\n?", re.M)
+# A line that is a comment alone, or names the clause that a wrong body is refused by.
+COMMENT = re.compile(rb"^(?:[ \t]*(?://|--)|clause: ).*\n?", re.M)
 
 
 def say(text: str) -> None:

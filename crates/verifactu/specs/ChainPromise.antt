@@ -45,20 +45,38 @@ pub record AppendsOnly (version : Version) (issuer : List ℕ) (start : List Ent
 -- at the start, and otherwise since the first sync. Once the disk was synced each crash from now on leaves the whole history. The
 -- file is append-only.
 pub record ChainGoesOn {D : Type 0} (version : Version) (issuer : List ℕ) (start end torn : List Entry) (k : Disks D) : Type 0 where
+  --= The chain that the file stood for is the beginning of the chain that it stands for afterwards.
+  --= No body: an entry is added by `Journal::append` alone, whose clauses refuse those that lose one
   pub begins : IsPrefix start end
+  --= The chain is legal: each entry continues those before it, by the rules of its version.
+  --= No body: a record is made by `plan` alone, whose clauses refuse those that make another
   pub legal : Legal version issuer end
+  --= Each record names the record before it by number, date and Huella.
+  --= No body: the link is made by `plan` and sealed by `seal`, whose clauses refuse other ones
   pub linked : Linked issuer (recs end)
   pub at_most_one : length torn ≤ 1
+  --= Only where the disk failed during a write may one entry more stand at the end.
+  --= No body: it is of `Journal::append`, which stops for good at a fault
   pub by_a_fault : (torn ≡ []) ⊎ DiskRose k
+  --= The file stands for the chain at the end, or for that with the one entry whose writing was under way.
+  --= No body: it is of `Journal::append` and of `open_journal`
   pub file : IsEither version issuer end torn (k.on_disk k.disk_after).content
+  --= Where nothing was pending at the start, a crash at any moment of the run leaves a front of that chain, no shorter
+  --= than what the run found.
   pub each_crash : IsSettled (k.on_disk k.disk) → (m : ℕ) (c : List ℕ) → moment (k.on_disk k.disk) ≤ m →
       IsLeft (k.on_disk k.disk_after) m c → StandsSince (k.on_disk k.disk).content version issuer start end torn c
+  --= From the first sync on a crash leaves such a front, and once the run is over the whole chain.
+  --= No body: it is of `Journal::append` and of `open_journal`
   pub crashes : Crashes (StandsSince (k.on_disk k.disk).content version issuer start end torn) (IsEither version issuer end torn)
       (k.on_disk k.disk) (k.on_disk k.disk_after)
+  --= The file is append-only: the bytes before the closing gate that it had at the start are the first bytes of the
+  --= file at the end, and of each that a crash leaves.
   pub append_only : AppendsOnly version issuer start (k.on_disk k.disk) (k.on_disk k.disk_after)
 
 -- What a run left is found again: the history that the next run finds begins with the one at the end, whether the torn entry
 -- lasted or not, and is of its version. Both the file and each file that a crash leaves from now on are such.
+--= The next run finds a chain that begins with the one that this run left, with a crash between them or not.
+--= No body: a law over definitions, which has no body
 abbrev pub IsFoundAgain : Type 0
 IsFoundAgain = (version another : Version) (issuer : List ℕ) (end torn next : List Entry) (file : List ℕ) →
     IsEither version issuer end torn file → IsFound another issuer next file → (another ≡ version) × IsPrefix end next

@@ -52,20 +52,33 @@ pub record Grows {D C Z G : Type 0} (version : Version) (issuer : List ℕ) (sta
 -- Every other file is as it was, a damaged one too; so is one of another issuer, and each file where the run may write for
 -- nobody, which then calls no agency either.
 pub record FileKept {D C Z G : Type 0} (writes : Option (List ℕ)) (a : AllDevices D C Z G) : Type 0 where
+  --= Whatever legal chain the file stood for, whatever ran has taken it further or left it.
+  --= No body: it is made of the parts below, each with its own
   pub sound : IsTrue a.devices.disk.tells → (version : Version) (issuer : List ℕ) (start : List Entry) →
       StandsFor version issuer start (a.devices.disk.on_disk a.devices.disk.disk).content → Grows version issuer start a
+  --= A file that is not begun is the empty chain of the issuer that the words name.
+  --= No body: as for a file that is begun
   pub fresh : IsTrue a.devices.disk.tells → (issuer : List ℕ) → writes ≡ Some issuer →
       IsNotBegun (a.devices.disk.on_disk a.devices.disk.disk).content → Grows Two issuer [] a
+  --= Every other file stays as it was, synced at most: a damaged one and another issuer's among them.
+  --= No body: it is of `open_journal`, whose clause `left` refuses a write
   pub others : IsTrue a.devices.disk.tells → (IsOwn writes (a.devices.disk.on_disk a.devices.disk.disk).content → ⊥) →
       IsUnwritten (a.devices.disk.on_disk a.devices.disk.disk) (a.devices.disk.on_disk a.devices.disk.disk_after)
+  --= A command that names no issuer, and a faulty command line, leaves all that the disk tells, and calls neither
+  --= sleeper nor agency.
+  --= No body: it is of each command that reads, whose own bodies are in `file_commands`
   pub reads : writes ≡ None →
       (a.devices.disk.on_disk a.devices.disk.disk_after ≡ a.devices.disk.on_disk a.devices.disk.disk) × NobodyCalled a
 
 -- a damaged file may be written for nobody
+--= A damaged file may be written for nobody.
+--= No body: a law over definitions, which has no body
 abbrev pub DamagedIsNotOwn : Type 0
 DamagedIsNotOwn = (writes : Option (List ℕ)) (file : List ℕ) (at : ℕ) → IsDamagedFile file at → IsOwn writes file → ⊥
 
 -- nor one of another issuer for this one
+--= A file of another issuer may not be written.
+--= No body: a law over definitions, which has no body
 abbrev pub ForeignIsNotOwn : Type 0
 ForeignIsNotOwn = (version : Version) (issuer held : List ℕ) (entries : List Entry) (file : List ℕ) →
     StandsFor version held entries file → (held ≡ issuer → ⊥) → IsOwn (Some issuer) file → ⊥

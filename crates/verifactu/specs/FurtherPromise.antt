@@ -28,6 +28,8 @@ pub record CopyGoesOn {D : Type 0} (version : Version) (issuer : List ℕ) (star
   pub end : List Entry
   pub torn : List Entry
   pub chain : ChainGoesOn version issuer start end torn k
+  --= A copy that `guard` writes stays a front of the file's chain, whatever crash comes.
+  --= No body: it is of `pair` and of `catch_up`, whose clauses refuse other pieces
   pub images : IsTrue l.tells →
       LeavesOnly (l.on_disk l.disk) (l.on_disk l.disk_after) (IsFollowImage version issuer (end ++ torn) (l.on_disk l.disk))
 
@@ -36,6 +38,8 @@ pub record CopyGoesOn {D : Type 0} (version : Version) (issuer : List ℕ) (star
 pub record OnlyGuarded {D : Type 0} (issuer : List ℕ) (k l : Disks D) : Type 0 where
   pub own : IsTrue k.tells → (version : Version) (start : List Entry) → IsFound version issuer start (k.on_disk k.disk).content →
       CopyGoesOn version issuer start k l
+  --= Where the file is not the issuer's own, the copy is not touched.
+  --= No body: it is of `guard_cmd`
   pub others : IsTrue k.tells → (IsOwn (Some issuer) (k.on_disk k.disk).content → ⊥) → LeftDisk l
 
 -- `guard` writes the one further file, as a copy
@@ -47,6 +51,8 @@ pub record OnlyGuards {D C Z G : Type 0} (issuer : List ℕ) (k : Disks D) (f : 
 
 -- A copy is append-only as well: where nothing was pending on it at the start, each file that following or guarding may leave of
 -- one that stood for a history begins with the bytes of that before its closing gate.
+--= A copy is append-only as well.
+--= No body: a law over definitions, which has no body
 abbrev pub CopyAppends : Type 0
 CopyAppends =
     (version another : Version) (issuer other : List ℕ) (copy history : List Entry) (start : OnDisk) (file : List ℕ) →
@@ -55,6 +61,8 @@ CopyAppends =
 -- over a disk, a clock, a sleeper and an agency of any kind
 module _ {D C Z G : Type 0} (d : disk.Ghosts D) (c : clock.Ghosts C) (z : sleeper.Ghosts Z) (g : agency.Ghosts G) where
   -- a file for each of these issuers, and what goes with it, each by its own devices alone
+  --= Each file of `many` is kept so for its own issuer, by its own devices alone.
+  --= No body: it is of `many_cmd`, whose clauses refuse the parts of another
   abbrev pub AreKept : List (List ℕ) → Sources → Sinks → List (Post D C Z G) → List (Post D C Z G) → Type 0
   AreKept [] source s [] [] = Unit {0}
   AreKept (issuer ∷ issuers) source s (post ∷ posts) (after ∷ afters) =
@@ -70,6 +78,8 @@ module _ {D C Z G : Type 0} (d : disk.Ghosts D) (c : clock.Ghosts C) (z : sleepe
   -- before; or, where it wasn't begun then or was an unfinished migration, is such a one, or stands for the history of the file that
   -- is moved, which is only read. One that it can't be moved onto is synced at most.
   -- `follow` and `guard` write a copy. Those of `many` are the files of the issuers after the first one.
+  --= Only `migrate`, `follow`, `guard` and `many` touch a further file, and of it each crash leaves what they may
+  --= leave.
   abbrev pub FurtherKept : Option Command → AllDevices D C Z G → Further D C Z G → Type 0
   FurtherKept (Some Migrate) a f = OnlyMoves a.devices.disk f
   FurtherKept (Some Follow) a f = OnlyFollows a.devices.disk f

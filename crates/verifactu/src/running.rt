@@ -64,9 +64,12 @@ where
     T: Gate + Sync,
     R: Threads + Wait + Sync,
     requires { length outside.more ≡ posts_needed (map string_bytes words.now) }
+    //= Each command ends with its status by its cause, and leaves, prints and sends what its own definition says.
     ensures ends { EndsAs D.Disk C.Clock Z.Sleeper G.Agency (map string_bytes words.now) (this_call (this_source S.left S.faults source.old source.new)
         (this_sink K.taken K.faults sink.old sink.new) D.Disk C.Clock Z.Sleeper G.Agency (own_post outside) (own_post result.1))
         (further outside result.1) result.0 }
+    //= Every run keeps of the file, of its tills, of the agency and of further files what the promise says, whatever
+    //= it ran and however it ended.
     ensures promise { Promise D.Disk C.Clock Z.Sleeper G.Agency (map string_bytes words.now) (this_call (this_source S.left S.faults source.old source.new)
         (this_sink K.taken K.faults sink.old sink.new) D.Disk C.Clock Z.Sleeper G.Agency (own_post outside) (own_post result.1))
         (further outside result.1) }
