@@ -501,5 +501,5 @@ help_on Generate = help_on_generate
 -- the program, and the toolchain under which the repository's gate last passed whole
 abbrev pub version_text : List ℕ
 version_text =
-    codes "verifactu 0.1.0\n"
+    codes "verifactu 0.2.0\n"
     ++ codes "rattle-kit-13f logic dac8208d650f15bf\n"

@@ -30,7 +30,7 @@ is sent to the tax agency: a practice agency answers. OPERATING.md says more.
 ";
 
 // The second line is the toolchain's own, of the last run in which the repository's gate passed whole.
-const VERSION: &[u8] = b"verifactu 0.1.0\nrattle-kit-13f logic dac8208d650f15bf\n";
+const VERSION: &[u8] = b"verifactu 0.2.0\nrattle-kit-13f logic dac8208d650f15bf\n";
 
 /// The commands, and where the rest stands.
 pub fn help_text() -> &'static [u8]
