@@ -1,4 +1,4 @@
-"""What the owner asks: the shop's state, and the sums of a month or a day.
+"""What the owner asks: the shop's state, and the sums of a month or a day; and which invoices are cancelled.
 
 Records are asked over the pipe; `list` and `statement` run beside the program, at nice 10, and only read the file. Nothing is added up here.
 """
@@ -6,13 +6,66 @@ from __future__ import annotations
 
 import asyncio
 import os
-from typing import Any, List, Optional
+from typing import Any, Dict, List, Optional
 
-from hub_forms import BadRequest, Values, read_listing, read_statement, record_line
-from hub_limits import BETWEEN_LISTS, NEWEST, NICE, OLD_LIST_AFTER
-from hub_pipe import Counts, Shop, Unavailable, tell
+from hub_forms import REFUSED, BadRequest, Values, read_listing, read_row, read_statement, record_line
+from hub_limits import BETWEEN_LISTS, MOST_RECORDS_ASKED, NEWEST, NICE, OLD_LIST_AFTER, PART_OF_A_LIST
+from hub_pipe import Counts, Shop, Unavailable, read_counts, tell
 
 STATUS_USAGE = 2
+
+
+class Cancellations:
+    """Where each invoice was cancelled last: read from the file's listing once, and from then on from the records that came since."""
+
+    def __init__(self, shop: Shop, program: str, file: str) -> None:
+        self.shop = shop
+        self.program = program
+        self.file = file
+        self.places: Dict[str, int] = {}
+        self.seen: Optional[int] = None  # records that were looked at
+        self.one = asyncio.Lock()
+
+    async def find(self, num: str, alta: int) -> Optional[int]:
+        """The place of the record that cancels an invoice, whose last alta is this one. One that the agency refused cancels nothing."""
+        async with self.one:
+            await self._catch_up()
+        place = self.places.get(num, 0)
+        row = await self.shop.ask(record_line(place)) if place > alta else None
+        return place if row and row["state"] not in REFUSED else None
+
+    async def _catch_up(self) -> None:
+        records = (await self.shop.counts()).records
+        if self.seen is None or not 0 <= records - self.seen <= MOST_RECORDS_ASKED:
+            await self._list()
+            return
+        rows = await asyncio.gather(*(self.shop.ask(record_line(place)) for place in range(self.seen + 1, records + 1)))
+        for row in rows:
+            self._keep(row)
+        self.seen = records
+
+    def _keep(self, row: Optional[Values]) -> None:
+        if row and row["record"] == "anulacion":
+            self.places[row["num"]] = row["place"]
+
+    async def _list(self) -> None:
+        """Reads the listing as it comes, since it may be long."""
+        self.places, rest, last = {}, b"", ""
+        run = await _begin_beside(self.program, "list", self.file, "all")
+        assert run.stdout is not None
+        try:
+            while part := await run.stdout.read(PART_OF_A_LIST):
+                *lines, rest = (rest + part).split(b"\n")
+                for line in lines:
+                    if b" anulacion " in line:
+                        self._keep(read_row(line.decode()))
+                last = lines[-1].decode() if lines else last
+            counts = read_counts(last) if await run.wait() == 0 else None
+        finally:
+            _kill(run)
+        if counts is None:
+            raise Unavailable("the file's records couldn't be listed")
+        self.seen = counts.records
 
 
 class Books:
@@ -24,6 +77,7 @@ class Books:
         self.file = file
         self.issuer = issuer
         self.practice = practice
+        self.cancellations = Cancellations(shop, program, file)
         self.refused: Optional[List[Values]] = None
         self.listed_noted = -1  # how many lines were noted when the refused ones were listed
         self.listed_at = float("-inf")
@@ -102,15 +156,23 @@ async def list_refused(program: str, file: str, name: str) -> Optional[List[Valu
 
 async def _beside(program: str, *words: str) -> Any:
     """Runs a command that only reads: its status and what it printed. It is killed where nobody waits for it any more."""
-    run = await asyncio.create_subprocess_exec(
-        program, *words, stdin=asyncio.subprocess.DEVNULL, stdout=asyncio.subprocess.PIPE, stderr=asyncio.subprocess.DEVNULL,
-        start_new_session=True, preexec_fn=_be_nice)
+    run = await _begin_beside(program, *words)
     try:
         text, _ = await run.communicate()
         return run.returncode, text.decode("utf-8", "replace")
     finally:
-        if run.returncode is None:
-            run.kill()
+        _kill(run)
+
+
+async def _begin_beside(program: str, *words: str) -> asyncio.subprocess.Process:
+    return await asyncio.create_subprocess_exec(
+        program, *words, stdin=asyncio.subprocess.DEVNULL, stdout=asyncio.subprocess.PIPE, stderr=asyncio.subprocess.DEVNULL,
+        start_new_session=True, preexec_fn=_be_nice)
+
+
+def _kill(run: asyncio.subprocess.Process) -> None:
+    if run.returncode is None:
+        run.kill()
 
 
 def _be_nice() -> None:

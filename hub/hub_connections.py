@@ -23,7 +23,8 @@ class Connection(web.RequestHandler):
     def __init__(self, door: "Connections", **words: Any) -> None:
         super().__init__(door, **words)
         self.door = door
-        self.head = 0  # bytes that came since the last request began
+        self.head = 0  # bytes that came since the last answer
+        self.is_asking = False  # a request's head has arrived, and its answer isn't made
 
     def connection_made(self, transport: asyncio.BaseTransport) -> None:
         super().connection_made(transport)
@@ -36,14 +37,14 @@ class Connection(web.RequestHandler):
     def data_received(self, data: bytes) -> None:
         super().data_received(data)
         self.head += len(data)
-        if self in self.door.owing and self._current_request is None and not self._messages:
+        if not self.is_asking and not self._messages:
             if self.head > MOST_HEAD:
                 self.drop()
         elif len(self._messages) > MOST_PIPELINED:
             self.drop()
 
     def log_access(self, request: web.BaseRequest, response: web.StreamResponse, time: Optional[float]) -> None:
-        self.head = 0
+        self.head, self.is_asking = 0, False
         if self.transport is not None:
             self.door.owes(self)
         self.door.answered(request, response)
@@ -85,6 +86,7 @@ class Connections(web.Server):
         return Connection(self, loop=self.loop, **self._kwargs)
 
     def _request(self, message: Any, payload: Any, protocol: Any, writer: Any, task: Any) -> web.BaseRequest:
+        protocol.is_asking = True
         return web.BaseRequest(message, payload, protocol, writer, task, self.loop, client_max_size=self.most_body + 1)
 
     def owes(self, connection: Connection) -> None:

@@ -192,6 +192,17 @@ class Command:
         tail = self.options + "".join(f" {base}" for base in bases)
         return Line(head, receipt_reader(till, self.serial), tail, self.customer)
 
+    def makes(self, row: Values) -> bool:
+        """Whether a record, as a row of the listing, is one that this command makes. Amounts and customers are the till's to compare."""
+        if self.verb == "cancel":
+            return row["record"] == "anulacion" and row["num"] == self.subject
+        if row["record"] != "alta" or row["kind"] != self.kind:
+            return False
+        series, _, count = row["num"].rpartition("-")
+        if self.verb == "fix":
+            return row["subsanacion"] == "S" and row["num"] == self.subject
+        return row["subsanacion"] == "N" and series == self.subject and count.isdecimal()
+
 
 SUBJECTS = {"sale": "series", "fix": "num", "cancel": "num"}
 OPTIONAL: Dict[str, Reader] = {"customer": _read_customer, "rect": read_rect, "refs": read_list(_read_ref)}
@@ -267,6 +278,7 @@ def _state(word: str, code: Optional[str]) -> Values:
     return {"state": word, **({"code": int(code)} if code else {})}
 
 
+REFUSED = ("vet", "held", "not-held", "gone")  # states of records that the agency didn't take
 UNKNOWN: Values = {}  # what a question about something that isn't in the chain is answered
 
 

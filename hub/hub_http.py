@@ -18,10 +18,10 @@ from hub_books import Books
 from hub_connections import Connection, Connections
 from hub_forms import (
     BadRequest, Command, NoMemory, Receipt, Refused, Values, last_line, parting_line, read_command, read_day, read_month,
-    read_word, ticket_line,
+    read_word, record_line, ticket_line,
 )
 from hub_hosting import NOT_SERVED, Many
-from hub_limits import ANSWER_WITHIN, LONGEST_SHOP, MOST_BODY, MOST_LINES, MOST_UNDER_WAY
+from hub_limits import ANSWER_WITHIN, LONGEST_SHOP, MOST_BODY, MOST_LINES, MOST_PASSED_OVER, MOST_UNDER_WAY
 from hub_pipe import BadLine, Shop, Unavailable, tell
 from hub_served import One, Queue, Served
 from hub_tokens import Asker, Tokens
@@ -47,6 +47,7 @@ PROBLEMS: Dict[str, Tuple[int, str]] = {
     "not-found": (404, "Nothing there"),
     "method": (405, "No such method here"),
     "refused": (409, "Refused"),
+    "serial-used": (409, "The serial has another record"),
     "too-large": (413, "Too large"),
     "too-many": (429, "Too many requests under way"),
     "unavailable": (503, "Not answered: ask the same again"),
@@ -216,6 +217,8 @@ class Hub:
         except Exception:
             traceback.print_exc()
             response = Problem("unavailable", "the hub failed").response()
+        if not await _pass_over(request) or response.status == PROBLEMS["too-large"][0]:
+            response.force_close()
         self._finish(request, response)
         return response
 
@@ -411,9 +414,15 @@ class Hub:
             raise Unavailable("the program is out of memory")
         assert isinstance(answer, Receipt)
         self._count(answer.answer)
-        values: Values = {"answer": answer.answer, "place": answer.place, "num": answer.num, "huella": answer.huella}
-        if verb != "cancel":
-            values["ticket"] = await _ticket(asking, answer.num)
+        questions = [record_line(answer.place)] + ([] if verb == "cancel" else [ticket_line(answer.num, _host(asking))])
+        record, *tickets = await asyncio.gather(*map(shop.ask, questions))
+        if not record or not all(tickets):
+            raise Unavailable("the program lacks the record or the ticket of what it answered")
+        if not command.makes(record):
+            raise Problem("serial-used", "another command of this till has this serial: what was asked now isn't registered", {"record": record})
+        values: Values = {"answer": answer.answer, "place": answer.place, "num": answer.num, "huella": answer.huella, "record": record}
+        if tickets:
+            values["ticket"] = tickets[0]
         if answer.answer == "again":
             return answer_json(values)
         return answer_json(values, 201, {"Location": f"{asking.place.prefix}/v1/invoices?num={quote(answer.num, safe='')}"})
@@ -434,7 +443,8 @@ class Hub:
         ticket = await _books(asking).shop.ask(ticket_line(num, _host(asking)))
         if not ticket:
             raise Problem("not-found", "the chain has no invoice of this number")
-        return answer_json(ticket)
+        cancelled = await _books(asking).cancellations.find(num, ticket["place"])
+        return answer_json({**ticket, "cancelled": cancelled} if cancelled else ticket)
 
     # ---- what the owner and anybody asks
 
@@ -515,13 +525,6 @@ async def _bases(shop: Shop, command: Command) -> List[str]:
     return bases
 
 
-async def _ticket(asking: Asking, num: str) -> Values:
-    ticket = await _books(asking).shop.ask(ticket_line(num, _host(asking)))
-    if not ticket:
-        raise Unavailable("the program has no ticket of what it took")
-    return ticket
-
-
 def _till(asking: Asking) -> int:
     assert asking.asker is not None and asking.asker.till is not None
     return asking.asker.till
@@ -532,11 +535,27 @@ def _no_query(asking: Asking) -> None:
         raise BadRequest("the path has no query")
 
 
+def _waits_with_its_body(request: web.BaseRequest) -> bool:
+    return request.headers.get("Expect", "").lower() == "100-continue" and "went_on" not in request
+
+
 async def _expect(request: web.BaseRequest) -> None:
     """Tells a client that waits with its body to go on."""
-    if request.headers.get("Expect", "").lower() == "100-continue":
+    if _waits_with_its_body(request):
+        request["went_on"] = True
         await request.writer.write(b"HTTP/1.1 100 Continue\r\n\r\n")
         request.writer.output_size = 0
+
+
+async def _pass_over(request: web.BaseRequest) -> bool:
+    """Reads what is left of a body, so that no reset takes the answer from who still sends; False where not all of it was read."""
+    left = 0 if _waits_with_its_body(request) else MOST_PASSED_OVER
+    try:
+        while left > 0 and not request.content.is_eof():
+            left -= len(await request.content.readany())
+    except Exception:
+        return False
+    return request.content.is_eof()
 
 
 def _faulty(status: int) -> web.Response:

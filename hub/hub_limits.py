@@ -2,6 +2,7 @@
 
 # requests
 MOST_BODY = 65_536  # bytes
+MOST_PASSED_OVER = 8_388_608  # bytes of a body that is too large: so many are read ahead of the answer, so that it isn't lost by a reset
 MOST_FIELD = 8_192  # bytes of a header field, and of the request's first line
 MOST_HEAD = 65_536  # bytes of a request's head
 ANSWER_WITHIN = 30  # seconds from a whole request to its answer
@@ -50,6 +51,10 @@ FAULT_STANDS = 60  # seconds for which a program that no restart mends isn't tri
 ROUND_AGAIN = 600  # seconds from one try to send what waits at a shop that nobody asks to the next, at least
 DEAF = 60  # seconds after its start from which on an idle program that doesn't answer is killed
 ENDING = 2  # seconds for which a program whose pipe was closed counts as one that will make room
+
+# cancelled invoices
+MOST_RECORDS_ASKED = 1_000  # one by one since the last look; of more the file is listed anew
+PART_OF_A_LIST = 65_536  # bytes that are read at once
 
 # the owner
 NEWEST = 20  # records

@@ -74,6 +74,17 @@ def parted(name, total):
     return []
 
 
+def is_nif(text):
+    """Whether its last character is the control of the others."""
+    if re.fullmatch(r"[XYZ\d]\d{7}[A-Z]", text, re.ASCII):
+        return text[8] == "TRWAGMYFPDXBNJZSQVHLCKE"[int(text[:8].translate(str.maketrans("XYZ", "012"))) % 23]
+    if not re.fullmatch(r"[ABCDEFGHJNPQRSUVW]\d{7}[A-J\d]", text, re.ASCII):
+        return False
+    digits = [int(digit) for digit in text[1:8]]
+    control = -(sum(digits[1::2]) + sum(sum(divmod(2 * digit, 10)) for digit in digits[::2])) % 10
+    return text[8] in (str(control), "JABCDEFGHI"[control])
+
+
 def euros(cents):
     return f"{'-' if cents < 0 else ''}{abs(cents) // 100}.{abs(cents) % 100:02d}"
 
@@ -195,9 +206,9 @@ class Serve:
         key, nif, name = rest[0], rest[1], " ".join(rest[2:])
         if not re.fullmatch(r"[A-Za-z0-9]{1,20}", key):
             raise Wrong("Customer")
-        if not re.fullmatch(r"[A-Z0-9]\d{7}[A-Z0-9]", nif):
+        if not is_nif(nif):
             raise Wrong("Nif")
-        if name != name.strip(" ") or not 1 <= len(name) <= 120:
+        if name != name.strip(" ") or not 1 <= len(name.encode()) <= 120:
             raise Wrong("Name")
         if key in self.customers:
             raise Wrong("Twice")
