@@ -1,16 +1,19 @@
 #!/bin/sh
-# A till that speaks with `verifactu serve`, line by line. It sells twice at a shelf price, and prints each ticket with its link. Amid the
-# second sale it has the program killed, and asks the same again. What it asks stands in till.chain.till, on its own disk, before it is
-# asked: where it was ended amid a sale it asks that one again first, and where that file is lost it goes on with the serial that the chain
-# has. The talk is shown on standard error, `>` for what is asked and `<` for what is answered. With CLOCK="START STEP" it is tried by a
-# clock that leaps, so that the end doesn't sit out the agency's pause.
-# usage: examples/till.sh till.chain 89890001K
+# A till that speaks with `verifactu serve`, line by line. It makes SALES sales (2) at a shelf price, and prints each ticket with its link.
+# Amid the second sale it has the program killed, and asks the same again. What it asks stands in till.chain.till, on its own disk, before it
+# is asked: where it was ended amid a sale it asks that one again first, and where that file is lost it goes on with the serial that the chain
+# has. Before the first sale of a day it looks whether the chain has all of its sales: over an older copy it sells nothing. The talk is shown
+# on standard error, `>` for what is asked and `<` for what is answered. With CLOCK="START STEP" it is tried by a clock that leaps, so that
+# the end doesn't sit out the agency's pause.
+# usage: examples/till.sh till.chain 89890001K [SALES]
 set -eu
 : "${VERIFACTU:=$(dirname -- "$0")/../verifactu}"
 chain=$1
 issuer=$2
+sales=${3-2}
 kept=$chain.till
 pause=0
+line= taken=0 word=settled checked=
 pipes=$(mktemp -d)
 mkfifo "$pipes/to" "$pipes/from"
 trap 'rm -r "$pipes"' EXIT
@@ -62,51 +65,85 @@ close() {
     wait "$program" || status=$?
 }
 
-# Writes to the till's own disk, whole or not at all, that a command is `open` or `settled`.
+# Writes to the till's own disk, whole or not at all, that its command is `open` or `settled`, and the greatest serial that has a record.
 keep() {
-    printf '%s\n' "$1 $2" >"$kept.new"
+    printf '%s\n' "$1 $taken $line" >"$kept.new"
     sync "$kept.new"
     mv "$kept.new" "$kept"
     sync "$(dirname -- "$kept")"
 }
 
+# Whether a record, as the listing's line, is one that this command makes. What a TOTAL has beside its CUOTA are the bases.
+makes() {
+    printf '%s\n' "$1" "$2" | awk '
+        NR == 1 { count = split($0, asked, " "); next }
+        asked[1] == "cancel" { exit !($2 == "anulacion" && $3 == asked[4]) }
+        {
+            for (at = 6; at <= count; at++) if (asked[at] !~ /=/) { sub(/.*:/, "", asked[at]); bases += asked[at] }
+            sub(/[.]/, "", $6)
+            sub(/[.]/, "", $7)
+            series = $3
+            sub(/-[0-9]+$/, "", series)
+            named = asked[1] == "fix" ? $8 == "S" && $3 == asked[4] : $8 == "N" && series == asked[4]
+            exit !(named && $2 == "alta" && $5 == asked[5] && $7 - $6 == bases)
+        }'
+}
+
 # Asks a command and prints its ticket.
 settle() {
-    keep open "$1"
+    line=$1
+    keep open
     ask "$@"
     case $answer in
-        "till "*" serial "*" taken "* | "till "*" serial "*" again "*)
-            ask "ticket $(echo "$answer" | cut -d ' ' -f 7) test"
-            echo "$answer" | cut -d ' ' -f 3,4,7
-            echo "$answer" | cut -d ' ' -f 10
-            ;;
+        "till "*" serial "*" taken "* | "till "*" serial "*" again "*) finish "$answer" && taken=$(echo "$line" | cut -d ' ' -f 3) ;;
         *) echo "not registered: $answer" ;;
     esac
-    keep settled "$1"
+    keep settled
 }
 
-# The serial that this till used last. A command that is still open is settled first.
-last_serial() {
-    if [ -e "$kept" ]; then
-        IFS=' ' read -r word line <"$kept"
-        [ "$word" = settled ] || settle "$line"
-        serial=$(echo "$line" | cut -d ' ' -f 3)
-    else
-        ask "last 1"
-        serial=$(echo "$answer" | cut -d ' ' -f 3)
+# Prints the ticket of what was answered. A record that is another command's is none.
+finish() {
+    case $1 in
+        *" again "*)
+            ask "record $(echo "$1" | cut -d ' ' -f 6)"
+            makes "$line" "$answer" || { echo "not registered, the serial has another record: $answer"; return; }
+            ;;
+    esac
+    ask "ticket $(echo "$1" | cut -d ' ' -f 7) test"
+    echo "$answer" | cut -d ' ' -f 3,4,7
+    echo "$answer" | cut -d ' ' -f 10
+}
+
+# Before the first sale of a day: a chain that lacks a record of this till is an older copy, over which nothing may be sold.
+check() {
+    ask "last 1"
+    last=${answer##* }
+    if [ "$last" -lt "$taken" ]; then
+        close >/dev/null
+        echo "the chain is an older copy: it has serial $last, and $taken was sold. Nothing is sold" >&2
+        exit 1
     fi
+    [ -n "$line" ] || taken=$last
+    checked=$(date +%F)
 }
 
-# A sale at a shelf price.
+# A sale at a shelf price, under the next serial.
 sell() {
+    [ "$checked" = "$(date +%F)" ] || check
+    if [ -n "$line" ]; then serial=$(echo "$line" | cut -d ' ' -f 3); else serial=$taken; fi
     ask "lines 21 $1"
-    serial=$((serial + 1))
-    settle "sale 1 $serial A F2 ${answer#lines }" "${2-}"
+    settle "sale 1 $((serial + 1)) A F2 ${answer#lines }" "${2-}"
 }
 
+[ ! -e "$kept" ] || IFS=' ' read -r word taken line <"$kept"
 start
-last_serial
-sell 1000
-sell 250 killed
+check
+[ "$word" = settled ] || settle "$line"
+made=0
+while [ "$made" -lt "$sales" ]; do
+    made=$((made + 1))
+    [ $((made % 2)) = 0 ] && price=250 || price=1000
+    sell "$price" "$([ "$made" != 2 ] || echo killed)"
+done
 close
 exit "$status"

@@ -75,7 +75,7 @@ class SellingTest(OverAHub):
         self.assertEqual((fixed.status, fixed.json["num"], fixed.json["ticket"]["total"]), (201, "A-1", 1100))
         self.assertNotEqual(fixed.json["huella"], first["huella"])
         cancelled = self.post("/v1/cancellations", {"serial": 3, "num": "A-1"})
-        self.assertEqual((cancelled.status, sorted(cancelled.json)), (201, ["answer", "huella", "num", "place"]))
+        self.assertEqual((cancelled.status, sorted(cancelled.json)), (201, ["answer", "huella", "num", "place", "record"]))
         self.assertEqual((cancelled.json["answer"], cancelled.json["place"]), ("taken", 3))
         ticket = self.hub.ask("GET", "/v1/invoices?num=A-1", self.place.owner).json
         self.assertEqual((ticket["place"], ticket["huella"]), (2, fixed.json["huella"]))
