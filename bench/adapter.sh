@@ -85,27 +85,40 @@ done
 
 # The practice adapter, whose agency shows by invoice the last accepted record alone. A call to the service is lost, late, or answered twice or
 # by the reply to another call: it had a refused record before accepted ones, and a sale whose fix and one whose cancellation wait behind it.
+# In the last rows the refused record is the last one of its call, which the agency calls a duplicate when it comes again.
 {
     sales 1 5
     echo "fix 1 6 A-4 F2 21:2000"
     echo "cancel 1 7 A-5"
 } >"$work/lost"
-for fates in "2 lost" "2 taken" "2 taken, 3 lost, 4 taken" "2 late 1" "2 late 2" "2 late 3" "2 stale, 4 late 2" "2 twice" "2 again"; do
+while read -r refused wanted recalls fates; do
     rm -rf "$work/shop.chain" "$work/register"
     mkdir "$work/register"
     "$VERIFACTU" chain "$work/shop.chain" $nif <"$work/lost" >/dev/null
-    start "" python3 "$root/examples/agency/agency.py" --register --journal "$work/register/journal" --state "$work/register/state" \
-        --log "$work/register/log" --plan "$fates" --verdicts "A-2 1 vet 3000"
+    [ "$recalls" = - ] && recalls=
+    start "" python3 "$root/examples/agency/agency.py" --register $recalls --journal "$work/register/journal" --state "$work/register/state" \
+        --log "$work/register/log" --plan "$fates" --verdicts "$refused 1 vet 4000"
     run "by invoice, $fates" "$work/empty" drain "$work/shop.chain" $nif
     # The next run finds no contradiction either.
     sales 8 8 | "$VERIFACTU" chain "$work/shop.chain" $nif >/dev/null
     run "by invoice, $fates, one more" "$work/empty" drain "$work/shop.chain" $nif
     stop
-    case $fates in *taken* | *late\ 1* | *stale*) code=0 ;; *) code=3000 ;; esac
-    grep -q " A-2 .* vet $code\$" "$work/listing" || { echo "$fates: A-2 isn't noted as refused by $code" >&2; exit 1; }
-    printf '%s: ' "by invoice, $fates"
+    grep -q " $refused .* vet $wanted\$" "$work/listing" || { echo "$fates: $refused isn't noted as refused by $wanted" >&2; exit 1; }
+    printf '%s: ' "by invoice, ${recalls:+refused ones kept, }$fates"
     python3 "$root/bench/kill_adapter.py" judge "$work/register" "$work/listing"
-done
+done <<END
+A-2 4000 - 2 lost
+A-2 0 - 2 taken
+A-2 0 - 2 taken, 3 lost, 4 taken
+A-2 0 - 2 late 1
+A-2 4000 - 2 late 2
+A-2 4000 - 2 late 3
+A-2 0 - 2 stale, 4 late 2
+A-2 4000 - 2 twice
+A-2 4000 - 2 again
+A-5 4000 --recalls 2 taken
+A-5 4000 - 2 taken
+END
 
 # An adapter that a shell restarts at once, and that ends amid an answer. The shell holds the files.
 waiting 1020

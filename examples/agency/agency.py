@@ -12,18 +12,24 @@ What befalls its calls is planned, submissions and consultations counted togethe
   slow S    the answer comes S seconds later   twice     the answer is given twice
   half      half the answer is given, and the adapter ends
 --verdicts "A-1 1 vet 3000, A-2 1 warn 200": what it finds wrong with the n-th record of an invoice.
---state FILE keeps what was processed and handed over, so that it can be ended and started again.
+--state FILE keeps what was processed and handed over, so that it can be ended and started again. A second one with the same FILE, journal or
+FROM refuses to start.
 --log FILE is told what comes and what is answered, a line of JSON each, for bench/kill_adapter.py.
 --register: the agency shows no record by its Huella, but of an invoice the last accepted record alone, as a real service does. The
 adapter then goes by a journal of its own (--journal FILE), and calls the service with one record of an invoice at most. What a plan says
-of a submission but again, twice and half befalls the first such call of it; a reply to another call is known by its records.
+of a submission but again, twice and half befalls the first such call of it; a reply to another call is known by its records. With --recalls it
+keeps the records that it refused, too, and calls one that comes again a duplicate.
 """
 import argparse
 import json
 import sys
 import time
 
-from skeleton import Adapter, Fault, MOST_RECORDS, invoice_of, kept_rows, message_in
+from skeleton import ANOTHER, Adapter, Fault, MOST_RECORDS, invoice_of, kept_rows, message_in, open_kept, run
+
+
+# The code by which it refuses a record that came before.
+DUPLICATE = 3000
 
 
 def rows(text):
@@ -31,8 +37,10 @@ def rows(text):
 
 
 class Practice(Adapter):
+    hello = {"name": "practice agency", "practice": True, "t": "hello"}
+
     def __init__(self, options):
-        super().__init__(options.journal)
+        super().__init__(options.journal, longest=0)
         self.options = options
         self.fates = {int(row[0]): row[1:] for row in rows(options.plan)}
         self.verdicts = {(row[0], int(row[1])): (row[2], int(row[3])) for row in rows(options.verdicts)}
@@ -42,21 +50,22 @@ class Practice(Adapter):
         self.sent, self.late = [], []  # the batches that were handed over, and those on their way with the calls that they wait for
         self.calls, self.fate, self.last_lines, self.last_reply, self.due = 0, ["none"], [], [], 0.0
         self.log = open(options.log, "ab", buffering=0) if options.log else None
+        self.state = open_kept(options.state) if options.state else None
         self.load()
 
     # ---- what was processed
 
     def load(self):
-        for sort, content, line in kept_rows(self.options.state) if self.options.state else []:
+        for sort, content, line in kept_rows(self.state, self.options.state) if self.state else []:
             if sort == "processed":
                 self.keep(content, line)
             else:
                 self.sent.append(content)
 
     def save(self, sort, content, line=None):
-        if self.options.state:
-            with open(self.options.state, "a", encoding="utf-8") as state:
-                state.write(json.dumps([sort, content, line]) + "\n")
+        if self.state:
+            self.state.write(json.dumps([sort, content, line]).encode() + b"\n")
+            self.state.flush()
 
     def note(self, row):
         """After an LF of its own: a run that is killed leaves half a line."""
@@ -91,10 +100,12 @@ class Practice(Adapter):
         return ["con-errores", code] if verdict == "warn" else ["correcto", 0]
 
     def line_again(self, line):
-        """The line of a record that came before. A real service keeps nothing of a refused one: it refuses it again."""
-        if line[0] in ("correcto", "con-errores"):
-            return ["duplicado-" + line[0], 0]
-        return line if self.options.register else ["duplicado-incorrecto", 0]
+        """The line of a record that came before. By invoice it is refused as a duplicate, and the state of the first one is told; of a refused
+        one nothing is kept, so it is refused again, unless the agency recalls it."""
+        accepted = line[0] in ("correcto", "con-errores")
+        if self.options.register:
+            return ["vet", DUPLICATE, line] if accepted or self.options.recalls else line
+        return ["duplicado-" + (line[0] if accepted else "incorrecto"), 0]
 
     def deliver(self, batch):
         """All records of a batch, in order; an item for each."""
@@ -160,9 +171,12 @@ class Practice(Adapter):
             raise Fault("a reply to another call")
         return [line for _, line in reply], self.options.wait
 
-    def shown(self, record):
-        is_shown = self.register.get(invoice_of(record)) == record["huella"]
-        return self.lines[record["huella"]] if is_shown else None
+    def shown(self, records):
+        return [self.shown_one(record) for record in records]
+
+    def shown_one(self, record):
+        huella = self.register.get(invoice_of(record))
+        return self.lines[huella] if huella == record["huella"] else huella and ANOTHER
 
     # ---- what the program asks
 
@@ -223,6 +237,7 @@ def main():
     parser.add_argument("--log", default="", help="the file that is told what comes and what is answered")
     parser.add_argument("--register", action="store_true", help="shows of an invoice the last accepted record alone")
     parser.add_argument("--journal", default="", help="the file of the adapter's own journal, for --register")
+    parser.add_argument("--recalls", action="store_true", help="calls a refused record that comes again a duplicate, for --register")
     parser.add_argument("--wait", type=int, default=0, help="the seconds between submissions")
     parser.add_argument("--strict", action="store_true", help="refuses a submission of fewer than 1000 that comes too soon")
     parser.add_argument("--once", action="store_true", help="ends when the program closes TO, and serves no further run")
@@ -231,4 +246,4 @@ def main():
 
 
 if __name__ == "__main__":
-    main()
+    run(main)
