@@ -150,9 +150,25 @@ class Case:
         self.came = b""
         self.hear_hello()
 
-    def close(self):
+    def holds_to(self):
+        """Whether one of the adapter's processes has TO open."""
+        mine = os.stat(self.path("to"))
+        for pid in filter(str.isdigit, os.listdir("/proc")):
+            try:
+                if os.getpgid(int(pid)) == self.run.pid:
+                    folder = "/proc/%s/fd" % pid
+                    if any(os.path.samestat(mine, os.stat(os.path.join(folder, name))) for name in os.listdir(folder)):
+                        return True
+            except OSError:
+                pass  # it has ended, or closed it
+        return False
+
+    def leave(self):
+        """Closes both, and opens them anew once the adapter has let TO go."""
         os.close(self.to)
         os.close(self.from_)
+        self.wait_until("it doesn't close TO", lambda: None if self.holds_to() else True)
+        self.open()
 
     def some(self):
         """A line without its LF, if one has come whole."""
@@ -245,8 +261,7 @@ class Case:
             os.remove(self.path("dies"))
             self.again()
         elif step.get("answer") == "gone":
-            self.close()
-            self.open()
+            self.leave()
         else:
             self.expect(self.hear(), step["answer"], self.n + 1)
         self.n += 2
@@ -278,8 +293,7 @@ class Case:
         elif "raw" in step:
             self.write(step["raw"])
         elif "leave" in step:
-            self.close()
-            self.open()
+            self.leave()
         elif "kill" in step:
             self.again()
         else:
