@@ -6,17 +6,19 @@
 # words; without it, it is the practice adapter. It is begun anew for each run, and must hold nothing of the issuer 89890001K then.
 set -eu
 
-root=$(CDPATH= cd -- "$(dirname -- "$0")/.." && pwd)
-. "$root/bench/files.sh"
+here=$(CDPATH= cd -- "$(dirname -- "$0")" && pwd)
+agency=$here/../examples/agency/agency.py
+. "$here/files.sh"
 records=${1:-10000}
 [ $# -eq 0 ] || shift
-[ $# -gt 0 ] || set -- python3 "$root/examples/agency/agency.py"
+[ $# -gt 0 ] || set -- python3 "$agency"
 work=$(mktemp -d /dev/shm/adapter.XXXXXX)
 nif=89890001K
 started=
 trap 'stop; rm -rf "$work"' EXIT
 
-: "${VERIFACTU:=$root/verifactu}"
+[ -n "${VERIFACTU-}" ] || VERIFACTU=$here/../verifactu
+[ -x "$VERIFACTU" ] || VERIFACTU=verifactu
 "$VERIFACTU" --version >/dev/null
 
 stop() {
@@ -33,7 +35,7 @@ start() {
     if [ -n "$plan" ]; then
         "$@" "$work/adapter_to" "$work/adapter_from" &
         started=$!
-        python3 "$root/bench/adapter.py" relay "$work/to" "$work/from" "$work/adapter_to" "$work/adapter_from" "$work/log" "$plan" &
+        python3 "$here/adapter.py" relay "$work/to" "$work/from" "$work/adapter_to" "$work/adapter_from" "$work/log" "$plan" &
     else
         "$@" "$work/to" "$work/from" &
     fi
@@ -51,7 +53,7 @@ run() {
     "$VERIFACTU" chain "$work/shop.chain" $nif </dev/null >"$work/listing"
     if [ -f "$work/log" ]; then
         printf '%s: ' "$name"
-        python3 "$root/bench/adapter.py" check "$work/log" "$work/listing"
+        python3 "$here/adapter.py" check "$work/log" "$work/listing"
     fi
 }
 
@@ -96,7 +98,7 @@ while read -r refused wanted recalls fates; do
     mkdir "$work/register"
     "$VERIFACTU" chain "$work/shop.chain" $nif <"$work/lost" >/dev/null
     [ "$recalls" = - ] && recalls=
-    start "" python3 "$root/examples/agency/agency.py" --register $recalls --journal "$work/register/journal" --state "$work/register/state" \
+    start "" python3 "$agency" --register $recalls --journal "$work/register/journal" --state "$work/register/state" \
         --log "$work/register/log" --plan "$fates" --verdicts "$refused 1 vet 4000"
     run "by invoice, $fates" "$work/empty" drain "$work/shop.chain" $nif
     # The next run finds no contradiction either.
@@ -105,7 +107,7 @@ while read -r refused wanted recalls fates; do
     stop
     grep -q " $refused .* vet $wanted\$" "$work/listing" || { echo "$fates: $refused isn't noted as refused by $wanted" >&2; exit 1; }
     printf '%s: ' "by invoice, ${recalls:+refused ones kept, }$fates"
-    python3 "$root/bench/kill_adapter.py" judge "$work/register" "$work/listing"
+    python3 "$here/kill_adapter.py" judge "$work/register" "$work/listing"
 done <<END
 A-2 4000 - 2 lost
 A-2 0 - 2 taken
@@ -124,7 +126,7 @@ END
 waiting 1020
 start "" sh -c 'exec 3<"$2" 4>"$3"; trap "kill \$adapter; exit" TERM
     while :; do python3 "$0" --state "$1" --plan "2 half" /dev/fd/3 /dev/fd/4 & adapter=$!; wait $adapter; done' \
-    "$root/examples/agency/agency.py" "$work/state"
+    "$agency" "$work/state"
 run "restarted at once" "$work/empty" drain "$work/shop.chain" $nif
 stop
 

@@ -32,8 +32,9 @@ import tempfile
 import time
 
 ROOT = os.path.dirname(os.path.dirname(os.path.abspath(__file__)))
+BUILT = os.path.join(ROOT, "verifactu")
 NIF = "89890001K"
-PROGRAM = os.path.abspath(os.environ.get("VERIFACTU", os.path.join(ROOT, "verifactu")))
+PROGRAM = os.path.abspath(os.environ.get("VERIFACTU") or (BUILT if os.access(BUILT, os.X_OK) else shutil.which("verifactu") or BUILT))
 PRACTICE = [sys.executable, os.path.join(ROOT, "examples", "agency", "agency.py"), "--register", "--journal", "{}/journal", "--state", "{}/state",
             "--log", "{}/log", "--verdicts", "T1-7 1 vet 3000, T2-40 1 vet 3000, T3-41 1 warn 200, T4-600 1 vet 3000, T1-601 1 warn 200"]
 TILLS, COMMANDS = 4, 750

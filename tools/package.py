@@ -30,6 +30,8 @@ PROGRAM = os.path.join(ROOT, "crates", "program", "out", "program")
 PLACE = os.path.join(ROOT, "out", "package")
 PARTS = os.path.join(ROOT, "package")
 DOC, UNITS = "share/doc/verifactu", "lib/systemd/system"
+# What tries an adapter, beside each other: it finds the practice adapter in the examples, and the program on PATH.
+TRY = ("examples/agency/try_adapter.py", "examples/agency/try_service.py", "bench/adapter.sh", "bench/adapter.py", "bench/kill_adapter.py", "bench/files.sh")
 # The packages of Debian that have the libraries which a program names.
 LIBRARIES = {"libc": "libc6", "libm": "libc6", "libpthread": "libc6", "libdl": "libc6", "librt": "libc6", "libgcc_s": "libgcc-s1"}
 CONTROL = """Package: verifactu
@@ -133,6 +135,12 @@ def files_of(folder: str) -> Iterator[str]:
             yield os.path.relpath(path, folder)
 
 
+def file_of(path: str, may_run: bool = True) -> tuple[bytes, int]:
+    """The bytes and the mode of a file of the repository."""
+    path = os.path.join(ROOT, path)
+    return text_of(path), 0o755 if may_run and os.access(path, os.X_OK) else 0o644
+
+
 def tree(version: str, date: int) -> dict[str, tuple[bytes, int]]:
     """The bytes and the mode of each file that stands below /usr."""
     made = {
@@ -147,8 +155,13 @@ def tree(version: str, date: int) -> dict[str, tuple[bytes, int]]:
         for name in files_of(folder):
             if to == UNITS and name.startswith(("verifactu-hub", "verifactu-hosting")):  # of the hub's own package
                 continue
-            path = os.path.join(ROOT, folder, name)
-            made[f"{to}/{name}"] = (text_of(path), 0o755 if os.access(path, os.X_OK) and to != UNITS else 0o644)
+            if "cases/" in name or os.path.basename(name).startswith("try_"):  # of try-adapter
+                continue
+            made[f"{to}/{name}"] = file_of(os.path.join(folder, name), to != UNITS)
+    for name in TRY:
+        made[f"{DOC}/try-adapter/{os.path.basename(name)}"] = file_of(name)
+    for name in files_of("examples/agency/cases"):
+        made[f"{DOC}/try-adapter/cases/{name}"] = file_of(os.path.join("examples/agency/cases", name))
     return made
 
 
