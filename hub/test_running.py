@@ -343,6 +343,12 @@ class ReadyTest(Running):
             told.settimeout(PATIENCE)
             hub = self.hub(environment={"NOTIFY_SOCKET": path})
             self.assertEqual(told.recv(100), b"READY=1")
+            for is_sound in (True, False):
+                if not is_sound:
+                    os.chmod(self.place.tokens, 0o644)
+                hub.process.send_signal(signal.SIGHUP)
+                self.assertEqual([told.recv(100), told.recv(100)], [b"RELOADING=1", b"READY=1"])
+                until(lambda: hub.logged("read again: tokens" if is_sound else "the old ones stay"), "the log says so")
             hub.process.send_signal(signal.SIGTERM)
             self.assertEqual(told.recv(100), b"STOPPING=1")
             self.assertEqual(hub.wait(), 0)

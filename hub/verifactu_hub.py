@@ -217,6 +217,7 @@ class Service:
         if isinstance(self.shops, Many):
             self.hub.figures = _figures(self.shops)
         self.stopped = asyncio.Event()
+        self.is_ready = False  # whether systemd was told
 
     async def run(self) -> int:
         """Serves until the program has ended for good, and gives its status."""
@@ -250,6 +251,7 @@ class Service:
         """Tells systemd once the program has answered, or at once where it is one of many."""
         try:
             await self.shops.wait_until_ready()
+            self.is_ready = True
             notify("READY=1")
         except (Unavailable, BadLine) as fault:
             tell(f"the program didn't answer at the beginning: {fault}")
@@ -263,7 +265,15 @@ class Service:
             self.stopped.set()
 
     def read_again(self) -> None:
-        """SIGHUP: tokens, shops and certificate anew. Where one of them can't be read nothing changes."""
+        """SIGHUP: tokens, shops and certificate anew, and systemd is told when that begins and ends."""
+        if self.is_ready:
+            notify("RELOADING=1")
+        self.take_again()
+        if self.is_ready:
+            notify("READY=1")
+
+    def take_again(self) -> None:
+        """Reads them. Where one of them can't be read nothing changes."""
         try:
             tokens = read_tokens(self.settings.tokens, self.settings.one is None)
             lines = read_shops(self.settings.shops, self.settings.host != "") if isinstance(self.shops, Many) else {}

@@ -153,7 +153,7 @@ def tree(version: str, date: int) -> dict[str, tuple[bytes, int]]:
     folders = {"docs": f"{DOC}/docs", "examples": f"{DOC}/examples", "examples/agency": "share/verifactu/agency", "examples/systemd": UNITS}
     for folder, to in folders.items():
         for name in files_of(folder):
-            if to == UNITS and name.startswith(("verifactu-hub", "verifactu-hosting")):  # of the hub's own package
+            if to == UNITS and name.startswith(("verifactu-hub", "verifactu-hosting", "verifactu-group")):  # of the hub's own package
                 continue
             if "cases/" in name or os.path.basename(name).startswith("try_"):  # of try-adapter
                 continue

@@ -19,10 +19,11 @@ from lanes import ROOT
 from package import DOC, PLACE, UNITS, Refused, output, put, set_dates, text_of
 
 SHARE = "share/verifactu-hub"
-UNITS_OF_HUB = ("verifactu-hub@.service", "verifactu-hosting.service")
+UNITS_OF_HUB = ("verifactu-hub@.service", "verifactu-hosting.service", "verifactu-group@.service", "verifactu-group-agency@.service")
 PARTS = ("verifactu_hub.py", "hub_books.py", "hub_connections.py", "hub_forms.py", "hub_hosting.py", "hub_http.py", "hub_limits.py", "hub_metrics.py",
          "hub_pipe.py", "hub_served.py", "hub_shops.py", "hub_tokens.py", "openapi.json", "page.html", "page.css", "page.js")
 PAGES = ("HUB.md", "HOSTING.md")
+CLUSTER = ("corosync.conf", "cluster.crm", "group.crm", "group-drbd.crm", "g1.res", "nginx.conf")
 LAUNCHER = b"""#!/bin/sh
 exec "$(dirname "$(readlink -f "$0")")/../share/verifactu-hub/verifactu_hub.py" "$@"
 """
@@ -61,6 +62,7 @@ def tree() -> dict[str, tuple[bytes, int]]:
     made = {f"{SHARE}/{name}": text_of(os.path.join(ROOT, "hub", name)) for name in PARTS}
     made.update({f"{DOC}-hub/clients/{name}": text_of(os.path.join(ROOT, "hub", "clients", name)) for name in CLIENTS})
     made.update({f"{DOC}-hub/{name}": text_of(os.path.join(ROOT, "docs", name)) for name in PAGES})
+    made.update({f"{DOC}-hub/cluster/{name}": text_of(os.path.join(ROOT, "examples", "cluster", name)) for name in CLUSTER})
     made.update({f"{UNITS}/{name}": text_of(os.path.join(ROOT, "examples", "systemd", name)) for name in UNITS_OF_HUB})
     made["bin/verifactu-hub"] = LAUNCHER
     return {name: (text, 0o755 if name.endswith(("/verifactu_hub.py", "/verifactu-hub")) else 0o644) for name, text in made.items()}
