@@ -80,7 +80,9 @@ def apt_source() -> str:
 
 
 class Place:
-    """The folder with all of it, and the three machines."""
+    """The folder with all of it, and the three machines, each of which `script` makes and ends."""
+
+    script = HOST
 
     def __init__(self, path: str, program: str) -> None:
         self.path, self.program = path, program
@@ -151,7 +153,7 @@ class Place:
 
     def configuration(self) -> str:
         """The cluster's, from examples/cluster: its groups' storage is a folder that all machines have, and not a device."""
-        group_text = text_of(f"{CLUSTER}/group.crm").replace("device=/dev/drbd1", "device=/shared/g1").replace("fstype=ext4 options=noatime", "fstype=none options=bind")
+        group_text = text_of(f"{CLUSTER}/group.crm").replace("/dev/drbd1", "/shared/g1").replace("fstype=ext4 options=noatime", "fstype=none options=bind")
         made = text_of(f"{CLUSTER}/cluster.crm").replace("property ", BUSY)
         for group in GROUPS:
             text = group_text.replace("10.0.0.101", f"10.0.0.10{group}").replace("50: n1", f"50: n{(group - 1) % 3 + 1}")
@@ -163,46 +165,48 @@ class Place:
     # ---- the machines
 
     def host(self, number: int, *words: str, seconds: float = 60) -> "subprocess.CompletedProcess[str]":
-        """A word of cluster_host.sh."""
-        return subprocess.run([HOST, str(number), *words], stdin=subprocess.DEVNULL, stdout=subprocess.PIPE, stderr=subprocess.STDOUT, text=True,
+        """A word of the script."""
+        return subprocess.run([self.script, str(number), *words], stdin=subprocess.DEVNULL, stdout=subprocess.PIPE, stderr=subprocess.STDOUT, text=True,
                               timeout=seconds, check=False)
 
-    def begin(self) -> None:
-        """A network, three boxes, three machines with empty disks, and the cluster's configuration."""
+    def begin_network(self) -> None:
+        """A network, on which the tills are, and three boxes that switch power."""
         for words in (["link", "set", "lo", "up"], ["link", "add", "vfcbr", "type", "bridge"], ["link", "set", "vfcbr", "up"],
                       *(["addr", "add", f"{address}/24", "dev", "vfcbr"] for address in (SIDE, *(f"10.0.0.2{n}" for n in MACHINES)))):
             subprocess.run(["ip", *words], check=True)
+        self.put("power", "", below=self.path)
+        for number in MACHINES:
+            self.begin_box(number)
+
+    def begin(self) -> None:
+        """Three machines with empty disks, and the cluster's configuration."""
+        self.begin_network()
         for number in MACHINES:
             self.host(number, "off")
             shutil.rmtree(f"{self.path}/n{number}", ignore_errors=True)
-            self.begin_box(number)
-        self.put("power", "", below=self.path)
         self.put("quick", "", below=self.shared)
         for number in MACHINES:
             self.host(number, "on")
         self.put("cluster.crm", self.configuration(), below=self.shared)
-        self.wait_for_line(r"Online: \[ n1 n2 n3 \]", 120)
-        loaded = self.host(1, "in", "crm", "configure", "load", "update", "/shared/cluster.crm", seconds=300)
-        if loaded.returncode or "ERROR" in loaded.stdout:
-            raise AssertionError(f"the configuration isn't taken: {loaded.stdout}")
+        self.load("/shared/cluster.crm", 120)
         os.remove(f"{self.shared}/quick")
 
-    def wait_for_line(self, pattern: str, seconds: float) -> None:
-        """Until crm_mon of the first machine has such a line."""
+    def load(self, path: str, seconds: float) -> None:
+        """The first machine loads a configuration once it sees all three."""
         end = time.time() + seconds
-        told = ""
-        while time.time() < end:
-            told = self.host(1, "in", "crm_mon", "-1r").stdout
-            if re.search(pattern, told):
-                return
+        while "Online: [ n1 n2 n3 ]" not in self.host(1, "in", "crm_mon", "-1r", seconds=seconds).stdout:
+            if time.time() > end:
+                raise AssertionError(f"the machines don't see each other within {seconds} s")
             time.sleep(1)
-        raise AssertionError(f"not within {seconds} s: {pattern}\n{told}")
+        loaded = self.host(1, "in", "crm", "configure", "load", "update", path, seconds=600)
+        if loaded.returncode or "ERROR" in loaded.stdout:
+            raise AssertionError(f"the configuration isn't taken: {loaded.stdout}")
 
     def begin_box(self, number: int) -> None:
         """What switches a machine's power: Debian's ipmi_sim, asked by fence_ipmilan over the network."""
         at = f"{self.path}/box{number}"
         os.makedirs(f"{at}/state", exist_ok=True)
-        self.put("lan.conf", BOX.format(n=number, host=HOST), below=at)
+        self.put("lan.conf", BOX.format(n=number, host=self.script), below=at)
         self.put("commands", COMMANDS_OF_BOX, below=at)
         with open(f"{at}/log", "w", encoding="utf-8") as log:
             self.boxes[number] = subprocess.Popen(["ipmi_sim", "-n", "-s", f"{at}/state", "-c", f"{at}/lan.conf", "-f", f"{at}/commands"],

@@ -27,12 +27,13 @@ import json
 import os
 import random
 import re
+import shutil
 import subprocess
 import sys
 import time
 from typing import Any, Dict, List, Optional, Tuple
 
-from cluster_place import CLUSTER, GROUPS, HERE, MACHINES, NIF, ROOT, SIDE, WITH_ADAPTER, Place, shops_of, text_of
+from cluster_place import CLUSTER, GROUPS, HERE, MACHINES, ROOT, SIDE, WITH_ADAPTER, Place, shops_of, text_of
 from tills import Till
 
 FAULTS = ("kill", "cut", "freeze", "thaw", "silent", "hub", "standby")
@@ -203,9 +204,7 @@ class Trial:
         of_lost = [(till, seconds or 999.0) for till, seconds in again.items() if till.group in lost]
         result["sells after"] = round(max(seconds for till, seconds in of_lost if till.number == 1), 1)
         result["over the proxy"] = round(max(seconds for till, seconds in of_lost if till.number == 2), 1)
-        hubs = [at - since for at, seen in watch.seen if at > since and all(len(seen[group]) == 1 for group in lost)]
         result["samples"], result["sales"] = len(watch.seen), sum(len(till.moments) for till in self.tills)
-        result["hubs there after"] = round(hubs[0], 1) if hubs else None
         result["asked again"] = sum(till.repeats for till in self.tills)
         power = [line.split() for line in text_of(f"{self.place.path}/power").splitlines()]
         offs = [float(words[0]) - since for words in power if float(words[0]) > since and words[2:4] == ["power", "0"]]
@@ -254,7 +253,8 @@ def sales_wrong(shop: str, records: List[Any], tills: List[ClusterTill]) -> List
     for till in tills:
         mine = [(place, record["num"], record["huella"]) for place, record in enumerate(records, 1) if record["num"].startswith(f"T{till.number}-")]
         answered = [till.sold[serial] for serial in sorted(till.sold)]
-        if mine[:len(answered)] != answered or len(mine) > len(answered) + 1 or [num for _, num, _ in mine] != [f"T{till.number}-{n}" for n in range(1, len(mine) + 1)]:
+        in_order = [num for _, num, _ in mine] == [f"T{till.number}-{serial}" for serial in range(1, len(mine) + 1)]
+        if not in_order or mine[:len(answered)] != answered or len(mine) > len(answered) + 1:
             wrong.append(f"{shop} till {till.number}: {len(mine)} records, {len(answered)} answered, or other ones")
     return wrong
 
@@ -269,7 +269,8 @@ def begin_proxy(place: Place) -> "subprocess.Popen[bytes]":
     fourth = "upstream g4 { server 10.0.0.104:8730 max_fails=0; keepalive 64; }\n"
     at = f"{place.path}/proxy"
     place.put("verifactu-groups", "".join(f"{shop} g{group};\n" for group in GROUPS for shop in shops_of(group)), below=at)
-    place.put("nginx.conf", f"daemon off;\nworker_processes 1;\npid {at}/pid;\nerror_log {at}/error.log;\nevents {{}}\nhttp {{\naccess_log off;\n{example}{fourth}}}\n", below=at)
+    head = f"daemon off;\nworker_processes 1;\npid {at}/pid;\nerror_log {at}/error.log;\nevents {{}}\n"
+    place.put("nginx.conf", f"{head}http {{\naccess_log off;\n{example}{fourth}}}\n", below=at)
     os.chmod(place.path, 0o755)
     return subprocess.Popen(["nginx", "-c", f"{at}/nginx.conf", "-e", f"{at}/error.log"])
 
@@ -279,7 +280,8 @@ def begin_proxy(place: Place) -> "subprocess.Popen[bytes]":
 
 def run_over() -> List[str]:
     """The files that a run rests on."""
-    hub = [f"hub/{name}" for name in sorted(os.listdir(HERE)) if re.fullmatch(r"(hub_\w+|verifactu_hub|cluster_place|test_cluster|tills)\.py|cluster_host\.sh", name)]
+    ours = re.compile(r"(hub_\w+|verifactu_hub|cluster_place|test_cluster|tills)\.py|cluster_host\.sh")
+    hub = [f"hub/{name}" for name in sorted(os.listdir(HERE)) if ours.fullmatch(name)]
     units = [f"examples/systemd/{name}" for name in ("verifactu-group@.service", "verifactu-group-agency@.service")]
     return hub + units + [f"examples/cluster/{name}" for name in sorted(os.listdir(CLUSTER))] + ["examples/agency/agency.py", "examples/agency/skeleton.py"]
 
@@ -319,8 +321,6 @@ def recorded() -> int:
 
 def have_commands() -> None:
     """Installs what is missing."""
-    import shutil
-
     missing = [package for command, package in COMMANDS.items() if shutil.which(command) is None]
     if missing:
         quiet = {"stdin": subprocess.DEVNULL, "stdout": subprocess.DEVNULL, "env": {**os.environ, "DEBIAN_FRONTEND": "noninteractive"}}
@@ -328,14 +328,16 @@ def have_commands() -> None:
             subprocess.run(["apt-get", *words], check=True, **quiet)  # type: ignore[call-overload]
 
 
-async def rounds(trial: Trial, faults: List[str], count: int) -> List[Seen]:
-    """So many rounds of each fault, told as they end."""
-    results = []
-    for number in range(1, count + 1):
+async def rounds(trial: Trial, faults: List[str], options: argparse.Namespace) -> List[Seen]:
+    """So many rounds of each fault, told as they end; recorded after one of each."""
+    results: List[Seen] = []
+    for number in range(1, options.rounds + 1):
         for fault in faults:
             result = await trial.round(fault, number)
             print(json.dumps(result), flush=True)
             results.append(result)
+        if options.record and not any(result["wrong"] for result in results):
+            write_record(results, trial.place.program)
     return results
 
 
@@ -344,9 +346,11 @@ def run(options: argparse.Namespace) -> int:
     place = Place(options.place, os.path.realpath(options.program))
     place.make_files()
     place.make_groups()
-    proxy = begin_proxy(place) if not place.begin() else None
+    proxy = None
     try:
-        results = asyncio.run(rounds(Trial(place), options.faults or list(FAULTS), options.rounds))
+        place.begin()
+        proxy = begin_proxy(place)
+        results = asyncio.run(rounds(Trial(place), options.faults or list(FAULTS), options))
     finally:
         if proxy is not None:
             proxy.terminate()
@@ -354,8 +358,6 @@ def run(options: argparse.Namespace) -> int:
         place.end()
     wrong = [f"{result['fault']} {result['round']}: {fault}" for result in results for fault in result["wrong"]]
     print("\n".join(wrong) if wrong else f"{len(results)} rounds, {sum(result['sales'] for result in results)} sales: nothing wrong")
-    if options.record and not wrong:
-        write_record(results, place.program)
     return 1 if wrong else 0
 
 
@@ -367,8 +369,10 @@ def main() -> int:
     parser.add_argument("--rounds", type=int, default=1)
     parser.add_argument("--record", action="store_true")
     parser.add_argument("--recorded", action="store_true")
-    parser.add_argument("faults", nargs="*", metavar="FAULT", choices=[[], *FAULTS])
+    parser.add_argument("faults", nargs="*", metavar="FAULT")
     options = parser.parse_args()
+    if not set(options.faults) <= set(FAULTS):
+        parser.error(f"FAULT is one of {', '.join(FAULTS)}")
     if options.recorded:
         return recorded()
     if INSIDE in os.environ:
