@@ -292,11 +292,11 @@ def sum_of(name: str) -> str:
         return hashlib.sha256(file.read()).hexdigest()
 
 
-def write_record(results: List[Seen], program: str) -> None:
-    """What was run, over which files."""
+def write_record(over: Dict[str, str], results: List[Seen], program: str) -> None:
+    """What was run, over which files as they were when it began."""
     version = subprocess.run([program, "--version"], stdout=subprocess.PIPE, text=True, check=True).stdout.splitlines()
     lines = [f"# hub/test_cluster.py --record wrote this on {datetime.date.today()}: what it was run over, and what was seen (seconds from the fault)."]
-    lines += [f"over {sum_of(name)} {name}" for name in run_over()] + [f"program {sum_of(program)} {' '.join(version)}"]
+    lines += [f"over {over[name]} {name}" for name in over] + [f"program {sum_of(program)} {' '.join(version)}"]
     lines += ["seen " + json.dumps(result) for result in results]
     with open(RECORD, "w", encoding="utf-8") as file:
         file.write("\n".join(lines) + "\n")
@@ -319,9 +319,9 @@ def recorded() -> int:
 # ---- the run
 
 
-def have_commands() -> None:
-    """Installs what is missing."""
-    missing = [package for command, package in COMMANDS.items() if shutil.which(command) is None]
+def have_commands(commands: Dict[str, str]) -> None:
+    """Installs what is missing of these commands' packages."""
+    missing = [package for command, package in commands.items() if shutil.which(command) is None]
     if missing:
         quiet = {"stdin": subprocess.DEVNULL, "stdout": subprocess.DEVNULL, "env": {**os.environ, "DEBIAN_FRONTEND": "noninteractive"}}
         for words in (["update"], ["install", "-y", "--no-install-recommends", *missing]):
@@ -331,14 +331,21 @@ def have_commands() -> None:
 async def rounds(trial: Trial, faults: List[str], options: argparse.Namespace) -> List[Seen]:
     """So many rounds of each fault, told as they end; recorded after one of each."""
     results: List[Seen] = []
+    over = {name: sum_of(name) for name in run_over()}
     for number in range(1, options.rounds + 1):
         for fault in faults:
             result = await trial.round(fault, number)
             print(json.dumps(result), flush=True)
             results.append(result)
         if options.record and not any(result["wrong"] for result in results):
-            write_record(results, trial.place.program)
+            write_record(over, results, trial.place.program)
     return results
+
+
+def in_namespaces(script: str) -> int:
+    """Runs a script of these tests again, with a network, mounts and processes of its own, which end with it."""
+    words = ["unshare", "--net", "--mount", "--propagation", "private", "--pid", "--fork", "--kill-child", "--mount-proc", "bash", "-c", '"$@"; exit $?', "bash"]
+    return subprocess.run([*words, sys.executable, os.path.realpath(script), *sys.argv[1:]], env={**os.environ, INSIDE: "1"}, check=False).returncode
 
 
 def run(options: argparse.Namespace) -> int:
@@ -380,11 +387,10 @@ def main() -> int:
     if os.geteuid():
         print("hub/test_cluster.py is for root")
         return 1
-    have_commands()
+    have_commands(COMMANDS)
     os.makedirs(options.place, exist_ok=True)
     Place(options.place, options.program).make_tree()
-    words = ["unshare", "--net", "--mount", "--propagation", "private", "--pid", "--fork", "--kill-child", "--mount-proc", "bash", "-c", '"$@"; exit $?', "bash"]
-    return subprocess.run([*words, sys.executable, os.path.realpath(__file__), *sys.argv[1:]], env={**os.environ, INSIDE: "1"}, check=False).returncode
+    return in_namespaces(__file__)
 
 
 if __name__ == "__main__":

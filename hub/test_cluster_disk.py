@@ -1,0 +1,315 @@
+#!/usr/bin/python3
+"""A group of shops on DRBD under Pacemaker, in three guests of qemu with Debian's kernel: two with a half of the disk, and a third vote.
+
+    hub/test_cluster_disk.py [--program PATH] [--place FOLDER] [FAULT ..]
+
+FAULTs (all, once each), of the guest that has the group: `kill` (its process is killed), `stop` (it stands still until it is fenced), `pause` (it
+stands still for 45 s, longer than the token, and goes on), `cut` (its network). Four tills of two shops sell meanwhile. It asserts: each sale
+that was answered stands once in the survivor's file, as answered; files audit as sound; the halves never parted, and are the same bytes once
+they are joined again. There is no limit of seconds but one for hangs: the guests have no help of the processor, so the token is 30 s long,
+and each start and stop may take four times what the example says. Root alone can run it; FOLDER is that of hub/test_cluster.py, and takes 3 GB.
+"""
+from __future__ import annotations
+
+import argparse
+import asyncio
+import glob
+import json
+import os
+import re
+import shutil
+import subprocess
+import sys
+import time
+from typing import Any, Dict, List
+
+from cluster_place import CLUSTER, HERE, MACHINES, Place, shops_of, text_of
+from test_cluster import COMMANDS, INSIDE, ClusterTill, in_namespaces, have_commands, sales_wrong
+
+FAULTS = ("kill", "stop", "pause", "cut")
+PATIENCE = 1_800  # seconds after which a guest is taken to hang
+PAUSE = 45
+OF_GUESTS = {"qemu-system-x86_64": "qemu-system-x86", "qemu-img": "qemu-utils", "ssh": "openssh-client", "busybox": "busybox-static", "mke2fs": "e2fsprogs"}
+MODULES = ("virtio_pci", "virtio_blk", "virtio_net", "crc32c_generic", "ext4", "drbd")
+HALF = 63 << 20  # bytes of a disk that are the group's: the rest has DRBD's own
+INIT = """#!/bin/busybox sh
+/bin/busybox --install -s /bin
+mkdir -p /proc /sys /dev /root
+mount -t proc proc /proc; mount -t sysfs sysfs /sys; mount -t devtmpfs devtmpfs /dev
+for module in $(cat /modules/order); do insmod /modules/$module.ko; done
+for word in $(cat /proc/cmdline); do case $word in n=*) n=${word#n=} ;; esac; done
+while [ ! -e /dev/vda ] || ! ip link show eth0 >/dev/null 2>&1; do sleep 1; done
+mount -t ext4 /dev/vda /root; echo n$n >/root/etc/hostname
+ip link set lo up; ip addr add 10.0.0.1$n/24 dev eth0; ip link set eth0 up; ip route add default via 10.0.0.254
+mount --move /dev /root/dev; mount --move /proc /root/proc; mount --move /sys /root/sys
+exec switch_root /root /lib/systemd/systemd
+"""
+# What makes the group's disk, as docs/HOSTING.md says: MAKE at both machines, then FIRST at one of them.
+MAKE = "modprobe drbd; drbdadm create-md --force g1 && drbdadm up g1"
+FIRST = "drbdadm primary --force g1 && mkfs.ext4 -q /dev/drbd1 && mount /dev/drbd1 /srv/groups/g1 && tar xp -C /srv/groups/g1"
+
+
+class Guests(Place):
+    """Three guests of qemu."""
+
+    script = os.path.join(HERE, "cluster_guest.sh")
+
+    def make_kernel(self) -> None:
+        """Debian's kernel, and a first file system with the modules that a guest needs."""
+        at = f"{self.path}/kernel"
+        if not os.path.isdir(at):
+            depends = subprocess.run(["apt-cache", "depends", "linux-image-amd64"], stdout=subprocess.PIPE, text=True, check=True).stdout
+            found = re.search(r"Depends: (linux-image-\S+)", depends)
+            assert found is not None, depends
+            os.makedirs(f"{self.path}/package", exist_ok=True)
+            subprocess.run(["apt-get", "download", found[1]], cwd=f"{self.path}/package", check=True)
+            subprocess.run(["dpkg", "-x", glob.glob(f"{self.path}/package/{found[1]}_*.deb")[0], at], check=True)
+        shutil.copy(glob.glob(f"{at}/boot/vmlinuz-*")[0], f"{self.path}/vmlinuz")
+        first = f"{self.path}/first"
+        shutil.rmtree(first, ignore_errors=True)
+        os.makedirs(f"{first}/bin")
+        shutil.copy(shutil.which("busybox") or "", f"{first}/bin/busybox")
+        self.put("init", INIT, 0o755, first)
+        order: List[str] = []
+        for name in MODULES:
+            self.add_module(name, order)
+        self.put("modules/order", " ".join(order), below=first)
+        subprocess.run(f"cd {first} && find . | busybox cpio -o -H newc | gzip >{self.path}/initrd", shell=True, check=True, stderr=subprocess.DEVNULL)
+
+    def module(self, name: str) -> str:
+        """The path of a module of the kernel."""
+        return glob.glob(f"{self.path}/kernel/lib/modules/*/kernel/**/{name}.ko", recursive=True)[0]
+
+    def add_module(self, name: str, order: List[str]) -> None:
+        """A module, after those that it depends on."""
+        if name in order:
+            return
+        told = subprocess.run(["chroot", self.tree, "modinfo", "-F", "depends", "/dev/stdin"], stdin=open(self.module(name), "rb"), stdout=subprocess.PIPE,
+                              text=True, check=True).stdout.strip()
+        for before in filter(None, told.split(",")):
+            self.add_module(before, order)
+        os.makedirs(f"{self.path}/first/modules", exist_ok=True)
+        shutil.copy(self.module(name), f"{self.path}/first/modules/{name}.ko")
+        order.append(name)
+
+    def make_image(self) -> None:
+        """The file system of the guests: the tree with a way in (ssh), and what the packages and the example bring."""
+        way_in, joined, work = (f"{self.path}/{name}" for name in ("way-in", "joined", "work"))
+        for folder in (way_in, joined, work):
+            os.makedirs(folder, exist_ok=True)
+        if not os.path.exists(f"{way_in}/usr/sbin/sshd"):
+            subprocess.run(["mount", "-t", "overlay", "overlay", "-o", f"lowerdir={self.tree},upperdir={way_in},workdir={work}", joined], check=True)
+            apt = "apt-get update && apt-get install -y --no-install-recommends openssh-server && apt-get clean && rm -rf /var/lib/apt/lists/*"
+            subprocess.run(["chroot", joined, "env", "DEBIAN_FRONTEND=noninteractive", "sh", "-c", apt], check=True, stdin=subprocess.DEVNULL)
+            subprocess.run(["umount", joined], check=True)
+        subprocess.run(["mount", "-t", "overlay", "overlay", "-o", f"lowerdir={self.files}:{way_in}:{self.tree}", joined], check=True)
+        os.makedirs(f"{self.path}/empty", exist_ok=True)
+        for folder in ("usr/share/doc", "usr/share/locale", "usr/share/man", "var/cache", "var/lib/apt"):
+            subprocess.run(["mount", "--bind", f"{self.path}/empty", f"{joined}/{folder}"], check=True)
+        with open(f"{self.path}/guest.img", "wb") as image:
+            image.truncate(1500 << 20)
+        subprocess.run(["mke2fs", "-q", "-t", "ext4", "-F", "-d", joined, f"{self.path}/guest.img"], check=True)
+        subprocess.run(["umount", "-R", joined], check=True)
+
+    def make_files(self) -> None:
+        """As of the other machines, with the DRBD resource, and the modules where they are looked for."""
+        super().make_files()
+        for name in ("verifactu-group@.service.d/machine.conf", "corosync.service.d/late.conf"):
+            os.remove(f"{self.files}/etc/systemd/system/{name}")
+        self.put("etc/corosync/corosync.conf", text_of(f"{CLUSTER}/corosync.conf").replace("token: 3000", "token: 30000"))
+        resource = text_of(f"{CLUSTER}/g1.res").replace("/dev/vg/g1", "/dev/vdb")
+        self.put("etc/drbd.d/g1.res", resource.replace("net {", "net {\n        timeout 200;\n        ping-int 30;\n        ping-timeout 100;\n        connect-int 30;"))
+        for name in ("drbd", "lru_cache", "libcrc32c"):
+            to = self.module(name).replace(f"{self.path}/kernel", self.files)
+            os.makedirs(os.path.dirname(to), exist_ok=True)
+            shutil.copy(self.module(name), to)
+        if not os.path.exists(f"{self.path}/key"):
+            subprocess.run(["ssh-keygen", "-q", "-t", "ed25519", "-N", "", "-f", f"{self.path}/key"], check=True)
+        self.put("root/.ssh/authorized_keys", text_of(f"{self.path}/key.pub"), 0o600)
+        os.chmod(f"{self.files}/root", 0o700)
+
+    def configuration(self) -> str:
+        """Of one group without adapters, on DRBD; all takes longer here."""
+        group = re.sub(r"primitive g1-agency .*\n(?:  .*\n)*", "", text_of(f"{CLUSTER}/group.crm")).replace("g1-disk g1-agency", "g1-disk")
+        made = text_of(f"{CLUSTER}/cluster.crm") + group + text_of(f"{CLUSTER}/group-drbd.crm")
+        made = made.replace("power_wait=1", "power_wait=1 power_timeout=120 shell_timeout=60 login_timeout=60")
+        return re.sub(r"(timeout|interval)=(\d+)s", lambda found: f"{found[1]}={4 * int(found[2])}s", made)
+
+    def begin(self) -> None:
+        """The guests with empty disks, the group's disk, and the cluster's configuration."""
+        self.begin_network()
+        for number in MACHINES:
+            shutil.rmtree(f"{self.path}/guest{number}", ignore_errors=True)
+            self.host(number, "on")
+        for number in MACHINES:
+            self.wait_for("it is up", lambda n=number: self.host(n, "in", "true").returncode == 0)  # type: ignore[misc]
+        for number in (1, 2):
+            self.do(number, MAKE)
+        with open(f"{self.path}/shop.tar", "wb") as file:
+            subprocess.run(["tar", "c", "-C", f"{self.shared}/g1", "."], stdout=file, check=True)
+        with open(f"{self.path}/shop.tar", "rb") as file:
+            self.do(1, FIRST, file)
+        self.do(1, "umount /srv/groups/g1 && drbdadm secondary g1")
+        with open(f"{self.shared}/cluster.crm", "w", encoding="utf-8") as text:
+            text.write(self.configuration())
+        with open(f"{self.shared}/cluster.crm", "rb") as file:
+            self.do(1, "cat >/root/cluster.crm", file)
+        self.load("/root/cluster.crm", PATIENCE)
+
+    def do(self, number: int, line: str, given: Any = subprocess.DEVNULL) -> str:
+        """A line of shell at a guest, which has to end well."""
+        done = subprocess.run([self.script, str(number), "in", line], stdin=given, stdout=subprocess.PIPE, stderr=subprocess.STDOUT, text=True, check=False,
+                              timeout=PATIENCE)
+        if done.returncode:
+            raise AssertionError(f"n{number}: {line}: {done.returncode}: {done.stdout}")
+        return done.stdout
+
+    def wait_for(self, what: str, true: Any) -> None:
+        """Until something is so."""
+        end = time.time() + PATIENCE
+        while time.time() < end:
+            try:
+                if true():
+                    return
+            except subprocess.TimeoutExpired:
+                pass
+            time.sleep(2)
+        raise AssertionError(f"not within {PATIENCE} s: {what}")
+
+    def owner(self) -> int:
+        """The guest that has the whole group, where all is as it should be; else 0."""
+        for number in MACHINES:
+            told = self.host(number, "in", "crm_mon -1r; drbdadm dstate g1; drbdadm cstate g1", seconds=300).stdout if self.host(number, "status").returncode == 0 else ""
+            hub = re.search(r"g1-hub\s.*Started n(\d)", told)
+            if hub is not None and "Online: [ n1 n2 n3 ]" in told and re.search(r"Unpromoted: \[ n\d \]", told) and (
+                    number == 3 or "UpToDate/UpToDate" in told and "Connected" in told):
+                return int(hub[1])
+        return 0
+
+    def end(self) -> None:
+        """Ends all guests and boxes."""
+        for number in MACHINES:
+            self.host(number, "off")
+        for box in self.boxes.values():
+            box.kill()
+            box.wait()
+
+
+class Disks:
+    """Rounds of faults over the guests."""
+
+    def __init__(self, place: Guests) -> None:
+        self.place = place
+        self.tills: List[ClusterTill] = []
+        for line in text_of(f"{place.shared}/g1/tokens").splitlines():
+            _, shop, number, token = line.split()
+            till = ClusterTill(1, shop, int(number), token)
+            till.address, till.port, till.patience = "10.0.0.101", 8730, 40
+            self.tills.append(till)
+
+    async def until(self, true: Any) -> bool:
+        """Waits for something of the tills; False where that doesn't come."""
+        end = time.time() + PATIENCE
+        while time.time() < end and not all(map(true, self.tills)):
+            await asyncio.sleep(0.5)
+        return all(map(true, self.tills))
+
+    async def round(self, fault: str) -> Dict[str, Any]:
+        """One fault of the guest that has the group; `wrong` has to be empty."""
+        loop = asyncio.get_running_loop()
+        victim = await loop.run_in_executor(None, self.whole)
+        selling = [loop.create_task(till.sell_on()) for till in self.tills]
+        wrong = [] if await self.until(lambda till: len(till.moments) >= 5) else ["the tills don't sell before"]
+        moment = time.time()
+        if fault == "pause":
+            await loop.run_in_executor(None, self.place.host, victim, "freeze")
+            await asyncio.sleep(PAUSE)
+            await loop.run_in_executor(None, self.place.host, victim, "thaw")
+        else:
+            await loop.run_in_executor(None, self.place.host, victim, {"kill": "off", "stop": "freeze", "cut": "cut"}[fault])
+        if not await self.until(lambda till: till.again_after(moment) is not None):
+            wrong.append("the tills don't sell again")
+        after = max(till.again_after(moment) or 0 for till in self.tills)
+        at = await loop.run_in_executor(None, self.whole)
+        for till in self.tills:
+            till.stopped = True
+        await asyncio.wait(selling, timeout=120)
+        wrong += [str(task.exception()) for task in selling if task.done() and task.exception()]
+        wrong += await loop.run_in_executor(None, self.wrong_at, at)
+        return {"fault": fault, "victim": f"n{victim}", "afterwards at": f"n{at}", "sells after": round(after), "whole after": round(time.time() - moment),
+                "sales": sum(len(till.sold) for till in self.tills), "load": round(os.getloadavg()[0], 1), "wrong": wrong}
+
+    def whole(self) -> int:
+        """The guest that has the group, once both halves are joined."""
+        found: List[int] = []
+        self.place.wait_for("the cluster is whole", lambda: found.append(self.place.owner()) or found[-1])
+        return found[-1]
+
+    def wrong_at(self, owner: int) -> List[str]:
+        """What is wrong with the files at this guest, and with the halves."""
+        wrong: List[str] = []
+        for shop in shops_of(1):
+            file = f"/srv/groups/g1/{shop}.chain"
+            audit = self.place.host(owner, "in", f"verifactu audit {file}", seconds=PATIENCE).stdout
+            if not audit.startswith("sound "):
+                wrong.append(f"{shop}: {audit}")
+            records = [json.loads(line) for line in self.place.do(owner, f"verifactu export {file}").splitlines()][1:]
+            wrong += sales_wrong(shop, records, [till for till in self.tills if till.shop == shop])
+        for number in (1, 2):
+            if "Split-Brain" in self.place.do(number, "dmesg"):
+                wrong.append(f"n{number}: the halves parted")
+        self.place.do(owner, "sync -f /srv/groups/g1")
+        if self.half(1) != self.half(2):
+            wrong.append("the halves differ")
+        return wrong
+
+    def half(self, number: int) -> bytes:
+        """The group's bytes of a half."""
+        with open(f"{self.place.path}/guest{number}/data", "rb") as file:
+            return file.read(HALF)
+
+
+async def rounds(disks: Disks, faults: List[str]) -> List[Dict[str, Any]]:
+    """A round of each fault, told as it ends."""
+    results = []
+    for fault in faults:
+        results.append(await disks.round(fault))
+        print(json.dumps(results[-1]), flush=True)
+    return results
+
+
+def run(options: argparse.Namespace) -> int:
+    """All of it, in namespaces of its own."""
+    place = Guests(options.place, os.path.realpath(options.program))
+    place.make_groups()
+    try:
+        place.begin()
+        results = asyncio.run(rounds(Disks(place), options.faults or list(FAULTS)))
+    finally:
+        place.end()
+    return 1 if any(result["wrong"] for result in results) else 0
+
+
+def main() -> int:
+    """0 where nothing is wrong."""
+    parser = argparse.ArgumentParser(description="A group of shops on DRBD under Pacemaker, in guests.")
+    parser.add_argument("--program", default=os.environ.get("VERIFACTU", "/usr/bin/verifactu"))
+    parser.add_argument("--place", default="/var/tmp/verifactu-cluster")
+    parser.add_argument("faults", nargs="*", metavar="FAULT")
+    options = parser.parse_args()
+    if not set(options.faults) <= set(FAULTS):
+        parser.error(f"FAULT is one of {', '.join(FAULTS)}")
+    if INSIDE in os.environ:
+        return run(options)
+    have_commands({**COMMANDS, **OF_GUESTS})
+    os.makedirs(options.place, exist_ok=True)
+    place = Guests(options.place, os.path.realpath(options.program))
+    place.make_tree()
+    place.make_kernel()
+    place.make_files()
+    place.make_image()
+    return in_namespaces(__file__)
+
+
+if __name__ == "__main__":
+    sys.exit(main())
