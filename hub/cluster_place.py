@@ -87,7 +87,8 @@ class Place:
     def __init__(self, path: str, program: str) -> None:
         self.path, self.program = path, program
         self.tree, self.files, self.shared = (os.path.join(path, name) for name in ("tree", "files", "shared"))
-        self.cgroup = os.path.join(next(line.split()[1] for line in open("/proc/mounts", encoding="utf-8") if line.split()[2] == "cgroup2"), "verifactu-cluster")
+        at = next(line.split()[1] for line in text_of("/proc/mounts").splitlines() if line.split()[2] == "cgroup2")
+        self.cgroup = os.path.join(at, "verifactu-cluster" + path.replace("/", "-"))
         self.boxes: Dict[int, "subprocess.Popen[bytes]"] = {}
         os.environ.update({"PLACE": path, "CG": self.cgroup})
 

@@ -22,6 +22,7 @@ from __future__ import annotations
 import argparse
 import asyncio
 import datetime
+import fcntl
 import hashlib
 import json
 import os
@@ -389,6 +390,8 @@ def main() -> int:
         return 1
     have_commands(COMMANDS)
     os.makedirs(options.place, exist_ok=True)
+    alone = open(f"{options.place}/lock", "w", encoding="utf-8")
+    fcntl.flock(alone, fcntl.LOCK_EX | fcntl.LOCK_NB)
     Place(options.place, options.program).make_tree()
     return in_namespaces(__file__)
 

@@ -84,9 +84,10 @@ class Guests(Place):
         """A module, after those that it depends on."""
         if name in order:
             return
-        told = subprocess.run(["chroot", self.tree, "modinfo", "-F", "depends", "/dev/stdin"], stdin=open(self.module(name), "rb"), stdout=subprocess.PIPE,
-                              text=True, check=True).stdout.strip()
-        for before in filter(None, told.split(",")):
+        with open(self.module(name), "rb") as file:
+            found = re.search(rb"\0depends=([a-z0-9_,]*)\0", file.read())
+        assert found is not None, name
+        for before in filter(None, found[1].decode().split(",")):
             self.add_module(before, order)
         os.makedirs(f"{self.path}/first/modules", exist_ok=True)
         shutil.copy(self.module(name), f"{self.path}/first/modules/{name}.ko")
@@ -118,7 +119,7 @@ class Guests(Place):
             os.remove(f"{self.files}/etc/systemd/system/{name}")
         self.put("etc/corosync/corosync.conf", text_of(f"{CLUSTER}/corosync.conf").replace("token: 3000", "token: 30000"))
         resource = text_of(f"{CLUSTER}/g1.res").replace("/dev/vg/g1", "/dev/vdb")
-        self.put("etc/drbd.d/g1.res", resource.replace("net {", "net {\n        timeout 200;\n        ping-int 30;\n        ping-timeout 100;\n        connect-int 30;"))
+        self.put("etc/drbd.d/g1.res", resource.replace("net {", "net { timeout 200; ping-int 30; ping-timeout 100; connect-int 30;"))
         for name in ("drbd", "lru_cache", "libcrc32c"):
             to = self.module(name).replace(f"{self.path}/kernel", self.files)
             os.makedirs(os.path.dirname(to), exist_ok=True)
@@ -179,7 +180,9 @@ class Guests(Place):
     def owner(self) -> int:
         """The guest that has the whole group, where all is as it should be; else 0."""
         for number in MACHINES:
-            told = self.host(number, "in", "crm_mon -1r; drbdadm dstate g1; drbdadm cstate g1", seconds=300).stdout if self.host(number, "status").returncode == 0 else ""
+            if self.host(number, "status").returncode:
+                continue
+            told = self.host(number, "in", "crm_mon -1r; drbdadm dstate g1; drbdadm cstate g1", seconds=300).stdout
             hub = re.search(r"g1-hub\s.*Started n(\d)", told)
             if hub is not None and "Online: [ n1 n2 n3 ]" in told and re.search(r"Unpromoted: \[ n\d \]", told) and (
                     number == 3 or "UpToDate/UpToDate" in told and "Connected" in told):
