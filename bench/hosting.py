@@ -7,7 +7,8 @@
 - `beside`: sales a second over 64 shops of one till, and over one shop of 64 tills, in turns, the fastest of three counts. Wanted: no fewer.
 - `idle`: a shop of 10,000 records whose program was ended: seconds of the first request. Wanted: within 0.2.
 - `memory`: what a resting shop takes in the hub, with 3 tills and an owner, of 10,000; what a running one takes in the hub, and its program,
-  at 10 records and at 10,010. Wanted: under 10 KB; under 4 MB beside the hub.
+  at 10 records and at 10,010, over an adapter that all shops share and in a trial; and one adapter process for 1,000 pairs of FIFOs, each of
+  which has been spoken to. Wanted: under 10 KB; under 4 MB beside the hub; under 100 MB.
 - `kills`: 16 shops that sell beside one whose program is killed every second, and beside the same one in peace. Wanted: no shop's slowest
   hundredth of sales more than doubles.
 
@@ -22,13 +23,13 @@ import subprocess
 import sys
 import threading
 import time
-from typing import Any, Callable, Dict, List, Tuple
+from typing import Any, Callable, Dict, List, Sequence, Tuple
 
 HERE = os.path.dirname(os.path.realpath(__file__))
 sys.path.insert(0, os.path.join(HERE, "..", "hub"))
 
 import tills  # noqa: E402
-from trying import NIF, STAND_IN, Hub, Options, Street, run_program, until  # noqa: E402
+from trying import ADAPTER, NIF, PYTHON, STAND_IN, Hub, Options, Street, run_program, until  # noqa: E402
 
 PROCESSES = 4
 Seller = Tuple[str, int]  # a shop's name, and a till's number
@@ -149,11 +150,11 @@ def beside() -> None:
           f"{best['64 shops'] / best['64 tills of one']:.2f} times (wanted: 1)", flush=True)
 
 
-def file_of(path: str, count: int) -> None:
-    """A file of so many records, all noted."""
+def file_of(path: str, count: int, agency: Sequence[str] = ()) -> None:
+    """A file of so many records, all noted by the practice agency, or over an adapter."""
     script = "clock 1735722000 1\n" + "".join(f"sale 1 {serial} T1 F2 21:1000\n" for serial in range(1, count + 1))
-    for text, command in ((script, "chain"), ("clock 1767258000 60\n", "drain")):
-        subprocess.run([Options.program, command, path, NIF], input=text, stdout=subprocess.DEVNULL, stderr=subprocess.DEVNULL, text=True, check=True)
+    for text, words in ((script, ["chain"]), ("clock 1767258000 60\n", [*agency, "drain"])):
+        subprocess.run([Options.program, *words, path, NIF], input=text, stdout=subprocess.DEVNULL, stderr=subprocess.DEVNULL, text=True, check=True)
 
 
 def idle() -> None:
@@ -199,17 +200,57 @@ def memory() -> None:
     many = over(Street([f"shop-{number}" for number in range(10_001)], 3), rested)
     print(f"memory: a resting shop with 3 tills and an owner {(many - few) / 10_000:.2f} KB (wanted: under 10); a hub of one such {few / 1000:.0f} MB, of 10,001 "
           f"{many / 1000:.0f} MB", flush=True)
-    running(100, 0)
-    if Options.program != STAND_IN:
-        running(8, 10_000)
+    if Options.program == STAND_IN:
+        running(100, 0, False)
+        return
+    for is_trial in (False, True):
+        running(100, 0, is_trial)
+        running(8, 10_000, is_trial)
+    adapter_of_many(1_000)
 
 
-def running(count: int, records: int) -> None:
-    """So many running programs, of files with so many records."""
+class Pairs:
+    """A practice adapter in one process for all shops of a street, whose lines name its FIFOs from now on."""
+
+    def __init__(self, street: Street, names: List[str]) -> None:
+        self.at = {name: (f"{street.path}/{name}.to", f"{street.path}/{name}.from") for name in names}
+        with open(f"{street.path}/pairs", "w", encoding="utf-8") as file:
+            for name, (to, from_) in self.at.items():
+                os.mkfifo(to, 0o600)
+                os.mkfifo(from_, 0o600)
+                street.lines[name] += f" {to} {from_}"
+                file.write(f"{to} {from_} {street.path}/{name}.journal\n")
+        street.write()
+        self.process = subprocess.Popen([PYTHON, ADAPTER, "--pairs", f"{street.path}/pairs"])
+
+    def end(self) -> None:
+        """Ends it."""
+        self.process.kill()
+        self.process.wait()
+
+
+def adapter_of_many(count: int) -> None:
+    """What one adapter process takes for so many pairs."""
+    street = Street([f"shop-{number}" for number in range(count)])
+    adapter = Pairs(street, list(street.lines))
+    talks = []
+    for to, from_ in adapter.at.values():
+        message, answer = open(to, "wb", buffering=0), open(from_, "rb")
+        message.write(b'\n{"issuer":"%s","n":1,"noted":0,"protocol":2,"t":"begin"}\n' % NIF.encode())
+        until(lambda answer=answer: b"begun" in answer.readline(), "the adapter answers")  # type: ignore[misc]
+        talks.append((message, answer))
+    print(f"memory: one adapter process for {count} pairs of FIFOs {own_memory(adapter.process.pid) / 1000:.0f} MB (wanted: under 100)", flush=True)
+    adapter.end()
+    street.remove()
+
+
+def running(count: int, records: int, is_trial: bool) -> None:
+    """So many running programs, of files with so many records, over an adapter that they share or over the program's practice agency."""
     names = [f"shop-{number}" for number in range(count)]
     street = Street(names)
+    adapter = None if is_trial else Pairs(street, names)
     for name in names if records else []:
-        file_of(street.file(name), records)
+        file_of(street.file(name), records, [] if adapter is None else ["--agency", *adapter.at[name]])
     if records:
         print(f"memory: on the disk {os.path.getsize(street.file(names[0])) / records:.0f} bytes a record with its note", flush=True)
 
@@ -220,10 +261,13 @@ def running(count: int, records: int) -> None:
         shares = [own_memory(process) for process in programs]
         whole = [memory_of(process) for process in programs]
         grown = (memory_of(hub.process.pid) - before) / len(programs)
-        print(f"memory: of {len(programs)} running programs with {records + 10} records each {sum(shares) / len(shares) / 1000:.2f} MB by its share, the greatest "
-              f"{max(shares) / 1000:.2f} ({max(whole) / 1000:.2f} with what all share; wanted: under 4); the hub {grown:.0f} KB more for each", flush=True)
+        print(f"memory: {'in a trial' if is_trial else 'over an adapter'}, of {len(programs)} running programs with {records + 10} records each "
+              f"{sum(shares) / len(shares) / 1000:.2f} MB by its share, the greatest {max(shares) / 1000:.2f} ({max(whole) / 1000:.2f} with what all share; "
+              f"wanted: under 4); the hub {grown:.0f} KB more for each", flush=True)
+        if adapter is not None:
+            adapter.end()
 
-    over(street, work)
+    over(street, work, *([] if is_trial else ["--host", "test"]))
 
 
 def kill_each_second(hub: Hub, stop: threading.Event, killed: List[int]) -> None:

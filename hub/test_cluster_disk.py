@@ -117,11 +117,12 @@ class Guests(Place):
         super().make_files()
         for name in ("verifactu-group@.service.d/machine.conf", "corosync.service.d/late.conf"):
             os.remove(f"{self.files}/etc/systemd/system/{name}")
+        self.put("etc/passwd", text_of(f"{self.files}/etc/passwd") + "sshd:x:110:65534::/run/sshd:/usr/sbin/nologin\n")
         self.put("etc/corosync/corosync.conf", text_of(f"{CLUSTER}/corosync.conf").replace("token: 3000", "token: 30000"))
         resource = text_of(f"{CLUSTER}/g1.res").replace("/dev/vg/g1", "/dev/vdb")
         self.put("etc/drbd.d/g1.res", resource.replace("net {", "net { timeout 200; ping-int 30; ping-timeout 100; connect-int 30;"))
         for name in ("drbd", "lru_cache", "libcrc32c"):
-            to = self.module(name).replace(f"{self.path}/kernel", self.files)
+            to = self.module(name).replace(f"{self.path}/kernel", f"{self.files}/usr")
             os.makedirs(os.path.dirname(to), exist_ok=True)
             shutil.copy(self.module(name), to)
         if not os.path.exists(f"{self.path}/key"):
