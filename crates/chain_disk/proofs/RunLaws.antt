@@ -34,7 +34,7 @@ call_is_a_run t content now = (
   λ c. (λ since. either c since.0 since.1 since.2, back c),
 )
   where
-    before : (m : ℕ) (c : List ℕ) → m < moment t → IsLeft (moved content now t) m c → IsLeft t m c
+    before : (m : ℕ) (c : List ℕ) → m ≤ moment t → IsLeft (moved content now t) m c → IsLeft t m c
     before m c was (inl newest) = absurd (omega (arith, newest.0))
     before m c was (inr older) = older
 
@@ -58,7 +58,7 @@ runs_follow t u v first second = (
   where
     either : (c : List ℕ) (m : ℕ) → moment t ≤ m → IsLeft v m c → IsLeftSince t u c ⊎ IsLeftSince u v c
     either c m since left = elim (cases_lt m (moment u)) [
-      | inl early ↦ inl (m, since, second.before m c early left)
+      | inl early ↦ inl (m, since, second.before m c (omega (arith, early)) left)
       | inr late ↦ inr (m, late, left)
     ]
 

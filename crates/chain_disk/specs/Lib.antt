@@ -1,5 +1,6 @@
 pub mod OnDisk
 pub mod Runs
+pub mod Stays
 pub mod Laws
 pub mod Memory
 pub mod MemoryReads

@@ -97,21 +97,35 @@ pub record IsRead (content : List ℕ) (at n : ℕ) (old new : List ℕ) : Type 
   pub count : n ≡ min (length old) (length content - at)
   pub bytes : new ≡ take n (drop at content) ++ drop n old
 
--- Each crash at a moment since old was told leaves a list of bytes with P. The tests of the moments before are as they were.
+-- Each crash at a moment since old was told leaves a list of bytes with P. The tests of the moments up to that one are as they
+-- were.
 pub record LeavesOnly (old new : OnDisk) (P : List ℕ → Type 0) : Type 0 where
   pub later : moment old ≤ moment new
   pub each : (m : ℕ) (c : List ℕ) → moment old ≤ m → IsLeft new m c → P c
-  pub before : (m : ℕ) (c : List ℕ) → m < moment old → IsLeft new m c → IsLeft old m c
+  pub before : (m : ℕ) (c : List ℕ) → m ≤ moment old → IsLeft new m c → IsLeft old m c
   pub stays : (m : ℕ) (c : List ℕ) → m ≤ moment old → IsLeft old m c → IsLeft new m c
 
 -- each crash at this moment leaves a list of bytes with P
-abbrev pub LeavesNow : OnDisk → (List ℕ → Type 0) → Type 0
-LeavesNow t P = (c : List ℕ) → IsLeft t (moment t) c → P c
+abbrev pub LeavesAt : OnDisk → ℕ → (List ℕ → Type 0) → Type 0
+LeavesAt t m P = (c : List ℕ) → IsLeft t m c → P c
 
--- Calls led from old to new: the tests of the moments before the first of them are as they were.
+-- and so does each crash now
+abbrev pub LeavesNow : OnDisk → (List ℕ → Type 0) → Type 0
+LeavesNow t P = LeavesAt t (moment t) P
+
+-- Where P holds of all that crashes at one moment of a run may leave, it holds of all that crashes at a later one may leave.
+abbrev pub StillLeaves : OnDisk → OnDisk → (List ℕ → Type 0) → Type 0
+StillLeaves old new P =
+    (m later : ℕ) → moment old ≤ m → m ≤ later → later ≤ moment new → LeavesAt new m P → LeavesAt new later P
+
+-- at each moment of a run before its last a crash may leave a list of bytes with P
+abbrev pub MayLeave : OnDisk → OnDisk → (List ℕ → Type 0) → Type 0
+MayLeave old new P = (m : ℕ) → moment old ≤ m → m < moment new → (c : List ℕ) × IsLeft new m c × P c
+
+-- Calls led from old to new: the tests of the moments up to the first of them are as they were.
 pub record IsRun (old new : OnDisk) : Type 0 where
   pub later : moment old ≤ moment new
-  pub before : (m : ℕ) (c : List ℕ) → m < moment old → IsLeft new m c → IsLeft old m c
+  pub before : (m : ℕ) (c : List ℕ) → m ≤ moment old → IsLeft new m c → IsLeft old m c
   pub stays : (m : ℕ) (c : List ℕ) → m ≤ moment old → IsLeft old m c → IsLeft new m c
 
 -- a crash at some moment since old was told may leave these bytes

@@ -61,7 +61,7 @@ goes_on t u content now P so_far here = record {
     each m c since (inl newest) = here c newest.1
     each m c since (inr older) = so_far.each m c since older
 
-    before : (m : ℕ) (c : List ℕ) → m < moment t → IsLeft (moved content now u) m c → IsLeft t m c
+    before : (m : ℕ) (c : List ℕ) → m ≤ moment t → IsLeft (moved content now u) m c → IsLeft t m c
     before m c was (inl newest) = absurd (omega (arith, newest.0, so_far.later))
     before m c was (inr older) = so_far.before m c was older
 
@@ -71,7 +71,7 @@ pub follows : (t u v : OnDisk) (P Q R : List ℕ → Type 0) → LeavesOnly t u 
 follows t u v P Q R first second p q = record {
   later = omega (arith, first.later, second.later);
   each = λ m c since left. elim (cases_lt m (moment u)) [
-    | inl early ↦ p c (first.each m c since (second.before m c early left))
+    | inl early ↦ p c (first.each m c since (second.before m c (omega (arith, early)) left))
     | inr late ↦ q c (second.each m c late left)
   ];
   before = λ m c was left. first.before m c was (second.before m c (omega (arith, was, first.later)) left);

@@ -1,5 +1,6 @@
 //! Laws of what a disk tells: what a crash may leave while calls follow one another.
 ghost use Rattle.chain_disk.specs.Laws.{SettledLeaves, NoCallIsARun, CallIsARun, RunsFollow};
+ghost use Rattle.chain_disk.specs.Laws.{NoCallStillPasses, RunsStillPass, CallStillPasses, SyncStillPasses};
 
 /// Where nothing is pending, a crash leaves the content and nothing else.
 pub fn a_settled_disk_leaves_its_content()
@@ -19,4 +20,13 @@ pub fn a_call_is_a_run()
 /// Two runs are one, and a crash in it is a crash in one of the two.
 pub fn runs_follow()
     ensures { RunsFollow }
+{}
+
+/// Where what each crash at a moment leaves passes a test, what each crash at a later one leaves passes it too: where no call is
+/// made, in two runs, in a call that takes a moment, and in a sync.
+pub fn what_crashes_leave_stays()
+    ensures none { NoCallStillPasses }
+    ensures follow { RunsStillPass }
+    ensures call { CallStillPasses }
+    ensures sync { SyncStillPasses }
 {}

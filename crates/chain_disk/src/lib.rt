@@ -14,6 +14,9 @@ mod range;
 pub use disk::Disk;
 pub use file::FileDisk;
 pub use image::Fill;
-pub use laws::{a_call_is_a_run, a_settled_disk_leaves_its_content, no_call_is_a_run, runs_follow};
+pub use laws::{
+    a_call_is_a_run, a_settled_disk_leaves_its_content, no_call_is_a_run, runs_follow,
+    what_crashes_leave_stays,
+};
 pub use memory::MemDisk;
 pub use range::Range;

@@ -2,10 +2,12 @@
 use Rattle.std.proofs.Common.{◌≡◌, ◌<◌, ◌≤◌, ◌+◌, ℕ, List, [], ◌∷◌, ◌++◌, length, take, drop, refl, sym, ◌∙◌, ap, subst, arith}
 use Rattle.std.proofs.Common.{length-append, length-drop}
 use Rattle.std.proofs.lemmas.List.{length-take}
-use Rattle.chain_disk.specs.OnDisk.{OnDisk, IsImage, IsSettled, moment, written, synced, pasted, settled, wider}
+use Rattle.chain_disk.specs.OnDisk.{OnDisk, IsImage, IsSettled, IsSyncFailed, IsWriteFailed, MayLeave, Pending, moment}
+use Rattle.chain_disk.specs.OnDisk.{written, synced, pasted, settled, wider}
+use Rattle.chain_disk.specs.Stays.{seen_none, seen_sync, seen_sync_failed, seen_write, seen_write_failed}
 use Rattle.chain_disk.specs.Runs.{Reached, started, on_write, on_sync}
-use Rattle.journal.specs.Commit.{IsCommitImage, IsCommitted, gated}
-use Rattle.journal.proofs.Images.{start_image, behind_image, staged_image, gate_image, opened_image, opened_is}
+use Rattle.journal.specs.Commit.{IsCommitImage, IsCommitted, IsUpToGate, gated}
+use Rattle.journal.proofs.Images.{start_image, behind_image, staged_image, gate_image, opened_image, opened_is, up_start, up_staged}
 
 module _ (t : OnDisk) (gate : ℕ) (bytes : List ℕ) (within : gate < length t.content) (quiet : IsSettled t) where
   abbrev pub Image : List ℕ → Type 0
@@ -47,6 +49,60 @@ module _ (t : OnDisk) (gate : ℕ) (bytes : List ℕ) (within : gate < length t.
     nothing_pending = r.now_is ∙
         ap (λ (l : List ℕ). settled l) (sym r.content_is);
   }
+
+-- what was synced last before each call is as it was up to the gate
+module _ (t : OnDisk) (gate : ℕ) (bytes : List ℕ) (within : gate < length t.content) (quiet : IsSettled t) where
+  abbrev Up : List ℕ → Type 0
+  Up = IsUpToGate t.content gate bytes
+
+  synced_by : (u : OnDisk) (s : List ℕ) (p : Pending) → u.now ≡ p → p.synced ≡ s → Up s → Up u.now.synced
+  synced_by u s p now is up = subst Up (sym (ap (λ (q : Pending). q.synced) now ∙ is)) up
+
+  up_first : Up t.now.synced
+  up_first = synced_by t t.content (settled t.content) quiet refl (up_start t.content bytes gate)
+
+  pub seen_write_lost : (u : OnDisk) → IsWriteFailed (gate + 1) (length bytes) t u → MayLeave t u Up
+  seen_write_lost u err = seen_write_failed t t u Up (gate + 1) (length bytes) (seen_none t Up) up_first err
+
+  seen_written : (u : OnDisk) → u ≡ written (gate + 1) bytes t → MayLeave t u Up
+  seen_written u ok = seen_write t t u Up (gate + 1) bytes (seen_none t Up) up_first ok
+
+  up_second : (u : OnDisk) → u ≡ written (gate + 1) bytes t → Up u.now.synced
+  up_second u ok =
+      let r = after_write t gate bytes within quiet u ok in
+      synced_by u t.content (wider (gate + 1) (length bytes) (settled t.content)) r.now_is refl (up_start t.content bytes gate)
+
+  pub seen_sync_lost : (u v : OnDisk) → u ≡ written (gate + 1) bytes t → IsSyncFailed u v → MayLeave t v Up
+  seen_sync_lost u v ok err = seen_sync_failed t u v Up (seen_written u ok) (up_second u ok) err
+
+  seen_synced : (u v : OnDisk) → u ≡ written (gate + 1) bytes t → v ≡ synced u → MayLeave t v Up
+  seen_synced u v ok ok1 = seen_sync t u v Up (seen_written u ok) (up_second u ok) ok1
+
+  up_third : (u v : OnDisk) → u ≡ written (gate + 1) bytes t → v ≡ synced u → Up v.now.synced
+  up_third u v ok ok1 =
+      let r = after_sync t gate bytes within quiet u v ok ok1 in
+      let staged_now : List ℕ = pasted (gate + 1) bytes t.content in
+      synced_by v staged_now (settled staged_now) r.now_is refl (up_staged t.content bytes gate within)
+
+  pub seen_gate_lost : (u v w : OnDisk) → u ≡ written (gate + 1) bytes t → v ≡ synced u → IsWriteFailed gate 1 v w → MayLeave t w Up
+  seen_gate_lost u v w ok ok1 err = seen_write_failed t v w Up gate 1 (seen_synced u v ok ok1) (up_third u v ok ok1) err
+
+  seen_opened : (u v w : OnDisk) → u ≡ written (gate + 1) bytes t → v ≡ synced u → w ≡ written gate (1 ∷ []) v → MayLeave t w Up
+  seen_opened u v w ok ok1 ok2 = seen_write t v w Up gate (1 ∷ []) (seen_synced u v ok ok1) (up_third u v ok ok1) ok2
+
+  up_fourth : (u v w : OnDisk) → u ≡ written (gate + 1) bytes t → v ≡ synced u → w ≡ written gate (1 ∷ []) v → Up w.now.synced
+  up_fourth u v w ok ok1 ok2 =
+      let r = after_gate t gate bytes within quiet u v w ok ok1 ok2 in
+      let staged_now : List ℕ = pasted (gate + 1) bytes t.content in
+      synced_by w staged_now (wider gate 1 (settled staged_now)) r.now_is refl (up_staged t.content bytes gate within)
+
+  pub seen_last_lost : (u v w x : OnDisk) → u ≡ written (gate + 1) bytes t → v ≡ synced u → w ≡ written gate (1 ∷ []) v →
+      IsSyncFailed w x → MayLeave t x Up
+  seen_last_lost u v w x ok ok1 ok2 err = seen_sync_failed t w x Up (seen_opened u v w ok ok1 ok2) (up_fourth u v w ok ok1 ok2) err
+
+  pub seen_all : (u v w x : OnDisk) → u ≡ written (gate + 1) bytes t → v ≡ synced u → w ≡ written gate (1 ∷ []) v → x ≡ synced w →
+      MayLeave t x Up
+  seen_all u v w x ok ok1 ok2 ok3 = seen_sync t w x Up (seen_opened u v w ok ok1 ok2) (up_fourth u v w ok ok1 ok2) ok3
 
 -- each of the four calls takes a moment
 pub four_moments : (t u v w x : OnDisk) (at place : ℕ) (bytes others : List ℕ) → u ≡ written at bytes t → v ≡ synced u →

@@ -26,14 +26,19 @@ bytes_before version issuer bodies rest nif =
     ap (λ (l : List ℕ). take (closing_gate bodies) l) (sym (append_assoc first (framed bodies) rest))
     ∙ take_at (first ++ framed bodies) rest (closing_gate bodies) long
 
+-- and so in a file of more bodies
+pub front_is : (version : Version) (issuer : List ℕ) (bodies more : List (List ℕ)) (file : List ℕ) →
+    IsFile version issuer (bodies ++ more) file → take (closing_gate bodies) file ≡ (1 ∷ header version issuer) ++ framed bodies
+front_is version issuer bodies more file is =
+    let after : List ℕ = is.gate ∷ is.rest in
+    let parts : file ≡ (1 ∷ header version issuer) ++ (framed bodies ++ (framed more ++ after)) =
+    is.parts ∙ ap (λ (l : List ℕ). (1 ∷ header version issuer) ++ l) (framed-append bodies more after) in
+    ap (λ (l : List ℕ). take (closing_gate bodies) l) parts ∙ bytes_before version issuer bodies (framed more ++ after) is.nif
+
 -- a file of more bodies has those of a file of the first ones
 pub front_of_more : (version : Version) (issuer : List ℕ) (bodies more : List (List ℕ)) (held file : List ℕ) →
     IsFile version issuer bodies held → IsFile version issuer (bodies ++ more) file → KeepsFront (closing_gate bodies) held file
 front_of_more version issuer bodies more held file from to =
-    let after : List ℕ = to.gate ∷ to.rest in
-    let parts : file ≡ (1 ∷ header version issuer) ++ (framed bodies ++ (framed more ++ after)) =
-    to.parts ∙ ap (λ (l : List ℕ). (1 ∷ header version issuer) ++ l) (framed-append bodies more after) in
-    ap (λ (l : List ℕ). take (closing_gate bodies) l) parts
-    ∙ bytes_before version issuer bodies (framed more ++ after) to.nif
+    front_is version issuer bodies more file to
     ∙ sym (ap (λ (l : List ℕ). take (closing_gate bodies) l) from.parts
     ∙ bytes_before version issuer bodies (from.gate ∷ from.rest) from.nif)

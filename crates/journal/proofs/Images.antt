@@ -1,10 +1,10 @@
 -- What a crash leaves of a file between two syncs.
-use Rattle.std.proofs.Common.{◌≡◌, ◌<◌, ◌+◌, inl, inr, ℕ, List, [], ◌∷◌, ◌++◌, length, get_or, take, drop, sym, ◌∙◌, ap, subst}
-use Rattle.std.proofs.Common.{arith, append_assoc, length-append, take-append-drop}
+use Rattle.std.proofs.Common.{◌≡◌, ◌<◌, ◌+◌, inl, inr, ℕ, List, [], ◌∷◌, ◌++◌, length, get_or, take, drop, refl, sym, ◌∙◌, ap, subst}
+use Rattle.std.proofs.Common.{arith, append_assoc, length-append, length-drop, take-append-drop}
 use Rattle.std.proofs.lemmas.List.{length-take-le, drop_more, take_more, take_at, drop_at}
 use Rattle.chain_disk.specs.OnDisk.{IsImage, pasted, settled, wider}
 use Rattle.chain_disk.specs.Runs.{settled_image, range_image}
-use Rattle.journal.specs.Commit.{IsCommitImage, gated}
+use Rattle.journal.specs.Commit.{IsCommitImage, IsUpToGate, gated}
 
 -- the first write, after the gate
 pub behind_image : (content c bytes : List ℕ) (gate : ℕ) → gate < length content →
@@ -17,6 +17,28 @@ pub start_image : (content c bytes : List ℕ) (gate : ℕ) → IsImage (settled
 start_image content c bytes gate image =
     let same = settled_image content c image in
     inl (record { same = ap (λ (l : List ℕ). take (gate + 1) l) same; no_longer = omega (arith, ap length same) })
+
+-- what is as it was, and what has the bytes after the gate, is as it was up to the gate
+pub up_start : (content bytes : List ℕ) (gate : ℕ) → IsUpToGate content gate bytes content
+up_start content bytes gate = record { same = refl; no_longer = omega arith }
+
+pub up_staged : (content bytes : List ℕ) (gate : ℕ) → gate < length content →
+    IsUpToGate content gate bytes (pasted (gate + 1) bytes content)
+up_staged content bytes gate within =
+    let front : List ℕ = take (gate + 1) content in
+    let rest : List ℕ = drop (gate + 1 + length bytes) content in
+    let long : length front ≡ gate + 1 = length-take-le (gate + 1) content (omega (arith, within)) in
+    record {
+      same = ap (λ (l : List ℕ). take (gate + 1) l) (append_assoc front bytes rest) ∙ take_at front (bytes ++ rest) (gate + 1) long;
+      no_longer = omega (
+        arith,
+        long,
+        within,
+        length-append (front ++ bytes) rest,
+        length-append front bytes,
+        length-drop (gate + 1 + length bytes) content,
+      );
+    }
 
 -- the gate as it was, and the bytes after it
 pub staged_is : (content bytes : List ℕ) (gate : ℕ) → gate < length content → pasted (gate + 1) bytes content ≡ gated content gate

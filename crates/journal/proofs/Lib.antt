@@ -3,6 +3,7 @@ pub mod Commits
 pub mod Fronts
 pub mod Files
 pub mod Appends
+pub mod Losing
 pub mod Creations
 pub mod Windows
 pub mod Headers

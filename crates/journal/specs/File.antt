@@ -1,6 +1,6 @@
 -- What a file stands for, at the level of its frames.
-use Rattle.std.specs.Prelude.{◌≡◌, ◌⊎◌, ◌≤◌, ◌+◌, ℕ, List, [], ◌∷◌, ◌++◌, length, codes}
-use Rattle.chain_disk.specs.OnDisk.{OnDisk, IsSettled}
+use Rattle.std.specs.Prelude.{◌≡◌, ◌⊎◌, ◌≤◌, ◌+◌, ℕ, List, [], ◌∷◌, ◌++◌, length, take, codes}
+use Rattle.chain_disk.specs.OnDisk.{OnDisk, IsSettled, StillLeaves}
 use Rattle.frames.specs.Frames.{length_bytes, IsBody}
 use Rattle.parties.specs.Nif.{IsNif}
 use Rattle.record_fields.specs.declared.versions.Version.{Version}
@@ -46,6 +46,18 @@ IsNotBegunOrEmpty version issuer file = IsNotBegun file ⊎ IsFile version issue
 -- the place of the closing gate
 abbrev pub closing_gate : List (List ℕ) → ℕ
 closing_gate bodies = HEADER + length (framed bodies)
+
+-- a file of this version and issuer whose bodies begin with these, and whose bytes before the closing gate of these are those
+pub record FileOn (version : Version) (issuer : List ℕ) (bodies : List (List ℕ)) (bytes file : List ℕ) : Type 0 where
+  pub more : List (List ℕ)
+  pub file_is : IsFile version issuer (bodies ++ more) file
+  pub front : take (closing_gate bodies) file ≡ bytes
+
+-- What the calls of a run made sure of, no later one of them loses: where the files that crashes at one moment may leave begin with
+-- these bodies and bytes, so do those that crashes at a later moment may leave.
+abbrev pub NeverLosesFrames : OnDisk → OnDisk → Type 0
+NeverLosesFrames old new = (version : Version) (issuer : List ℕ) (bodies : List (List ℕ)) (bytes : List ℕ) →
+    StillLeaves old new (FileOn version issuer bodies bytes)
 
 -- the disk reads as such a file, nothing is pending, and the closing gate is at this place
 pub record IsAt (version : Version) (issuer : List ℕ) (bodies : List (List ℕ)) (gate : ℕ) (t : OnDisk) : Type 0 where

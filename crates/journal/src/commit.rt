@@ -1,8 +1,8 @@
 //! Bytes after a gate, and then the gate.
 ghost use Rattle.std.specs.Prelude.{◌≡◌, ◌<◌, ◌+◌, ◌^◌, length, OnOk, IsTrue};
 ghost use Rattle.ports.specs.Causes.{HasCause};
-ghost use Rattle.chain_disk.specs.OnDisk.{LeavesOnly, IsSettled, moment};
-ghost use Rattle.journal.specs.Commit.{IsCommitImage, IsCommitted, gated};
+ghost use Rattle.chain_disk.specs.OnDisk.{LeavesOnly, MayLeave, IsSettled, moment};
+ghost use Rattle.journal.specs.Commit.{IsCommitImage, IsCommitted, IsUpToGate, gated};
 
 use chain_disk::Disk;
 use ports::Failed;
@@ -19,6 +19,8 @@ pub(crate) fn commit<D: Disk>(disk: &mut D, gate: u64, bytes: &[u8]) -> Result<(
     ensures any_moment { IsTrue D.tells → IsSettled (D.on_disk disk.old) →
         LeavesOnly (D.on_disk disk.old) (D.on_disk disk.new)
         (IsCommitImage (D.on_disk disk.old).content gate bytes.now) }
+    ensures before_the_last { IsTrue D.tells → IsSettled (D.on_disk disk.old) →
+        MayLeave (D.on_disk disk.old) (D.on_disk disk.new) (IsUpToGate (D.on_disk disk.old).content gate bytes.now) }
     ensures cause { HasCause (D.faults disk.old) (D.faults disk.new) result }
 {
     disk.write_at(gate + 1, bytes)?;

@@ -1,11 +1,11 @@
 //! The creation of a file.
 ghost use Rattle.std.specs.Prelude.{◌≡◌, ◌<◌, ◌≤◌, ◌+◌, ◌^◌, ◌++◌, [], ◌∷◌, length, OnOk, IsTrue};
 ghost use Rattle.ports.specs.Causes.{HasCause};
-ghost use Rattle.chain_disk.specs.OnDisk.{LeavesOnly, IsSettled, moment};
+ghost use Rattle.chain_disk.specs.OnDisk.{LeavesOnly, MayLeave, IsSettled, moment};
 ghost use Rattle.parties.specs.Nif.{IsNif};
 ghost use Rattle.journal.specs.Commit.{IsShut};
 ghost use Rattle.journal.specs.declared.TheConstants.{HEADER};
-ghost use Rattle.journal.specs.File.{header, IsNotBegun, IsNotBegunOrEmpty, IsAt};
+ghost use Rattle.journal.specs.File.{header, IsNotBegun, IsNotBegunOrEmpty, IsAt, NeverLosesFrames};
 ghost use Rattle.journal.specs.Written.{empty_file, CreationTakes};
 
 use crate::HEADER;
@@ -36,6 +36,7 @@ fn shut_first<D: Disk>(disk: &mut D) -> Result<(), Failed>
     ensures leaves { OnOk result (IsTrue D.tells → 1 < length (D.on_disk disk.old).content →
         moment (D.on_disk disk.new) ≡ moment (D.on_disk disk.old)) }
     ensures any_moment { IsTrue D.tells → LeavesOnly (D.on_disk disk.old) (D.on_disk disk.new) IsNotBegun }
+    ensures before_the_last { IsTrue D.tells → MayLeave (D.on_disk disk.old) (D.on_disk disk.new) IsNotBegun }
     ensures cause { HasCause (D.faults disk.old) (D.faults disk.new) result }
 {
     if disk.len()? > 1 {
@@ -53,6 +54,7 @@ pub(crate) fn set_up<D: Disk>(disk: &mut D, issuer: &Nif, version: Version) -> R
     ensures moments { OnOk result (IsTrue D.tells → CreationTakes (D.on_disk disk.old) (D.on_disk disk.new)) }
     ensures any_moment { IsTrue D.tells →
         LeavesOnly (D.on_disk disk.old) (D.on_disk disk.new) (IsNotBegunOrEmpty version issuer.now) }
+    ensures never_loses { IsTrue D.tells → NeverLosesFrames (D.on_disk disk.old) (D.on_disk disk.new) }
     ensures cause { HasCause (D.faults disk.old) (D.faults disk.new) result }
 {
     shut_first(disk)?;

@@ -5,7 +5,7 @@ ghost use Rattle.ports.specs.Causes.{Rose};
 ghost use Rattle.chain_disk.specs.OnDisk.{LeavesOnly, LeavesNow, IsSettled, moment};
 ghost use Rattle.frames.specs.Frames.{IsBody, frame};
 ghost use Rattle.record_fields.specs.declared.versions.Version.{Version as AnyVersion};
-ghost use Rattle.journal.specs.File.{IsAt, IsAtSome, IsFile, IsBeforeOrAfter, IsNotBegun, IsNotBegunOrEmpty};
+ghost use Rattle.journal.specs.File.{IsAt, IsAtSome, IsFile, IsBeforeOrAfter, IsNotBegun, IsNotBegunOrEmpty, NeverLosesFrames};
 ghost use Rattle.journal.specs.Written.{AppendsFrom, with_frame, empty_file, CreationTakes};
 
 use crate::HEADER;
@@ -70,6 +70,12 @@ impl<D: Disk> Journal<D> {
             LeavesOnly (D.on_disk disk) (D.on_disk lost.disk) (IsNotBegunOrEmpty version issuer.now)) }
         ensures content_err { IfErr result (λ lost. IsTrue D.tells →
             IsNotBegunOrEmpty version issuer.now (D.on_disk lost.disk).content) }
+
+        // What the disk had made sure of at any moment of the call stays.
+        ensures never_loses { IfOk result (λ journal. IsTrue D.tells →
+            NeverLosesFrames (D.on_disk disk) (D.on_disk (disk_of journal))) }
+        ensures never_loses_err { IfErr result (λ lost. IsTrue D.tells →
+            NeverLosesFrames (D.on_disk disk) (D.on_disk lost.disk)) }
 
         ensures lost { IfErr result (λ lost. Rose (D.faults disk) (D.faults lost.disk)) }
         ensures later { IfOk result (λ journal. D.faults disk ≤ D.faults (disk_of journal)) }
@@ -149,6 +155,12 @@ impl<D: Disk> Journal<D> {
             IsAt version issuer bodies (end_of self.old) (D.on_disk (disk_of self.old)) →
             LeavesOnly (D.on_disk (disk_of self.old)) (D.on_disk (disk_of self.new))
             (IsBeforeOrAfter version issuer bodies body.now) }
+
+        // What was made sure of at one moment of the call is there after every crash at a later one.
+        ensures never_loses { stopped_of self.old ≡ None → IsTrue D.tells →
+            (version : AnyVersion) (issuer : List ℕ) (bodies : List (List ℕ)) →
+            IsAt version issuer bodies (end_of self.old) (D.on_disk (disk_of self.old)) →
+            NeverLosesFrames (D.on_disk (disk_of self.old)) (D.on_disk (disk_of self.new)) }
 
         // The bytes before the closing gate stay, in the file and in each that a crash leaves.
         ensures appended { stopped_of self.old ≡ None → IsTrue D.tells →

@@ -2,6 +2,7 @@ use Rattle.std.proofs.Common.{length, ◌+◌, arith}
 use Rattle.chain_disk.specs.Runs.{on_write_failed, on_sync_failed}
 use Rattle.journal.proofs.Images.{behind_image, gate_image}
 use Rattle.journal.proofs.Commits.{at_start, after_write, after_sync, after_gate, after_all, committed, not_shorter, four_moments, both_written}
+use Rattle.journal.proofs.Commits.{seen_write_lost, seen_sync_lost, seen_gate_lost, seen_last_lost, seen_all}
 use Rattle.journal.proofs.commit.commit.Goals as goal
 
 pub returns-clause-moments : goal.returns-clause-moments
@@ -67,3 +68,30 @@ returns-clause-any_moment g c = λ tells quiet.
     let all = after_all t c.args.gate c.args.bytes.now within quiet _ _ _ _ (c.in_ok-write_at.ensures.ok tells)
     (c.in_ok-sync.ensures.ok tells) (c.in_ok-write_at-2.ensures.ok tells) (c.in_ok-sync-2.ensures.ok tells) in
     all.so_far
+
+pub returns-in_err-write_at-clause-before_the_last : goal.returns-in_err-write_at-clause-before_the_last
+returns-in_err-write_at-clause-before_the_last g c = λ tells quiet.
+    seen_write_lost (g.D.Disk.on_disk c.args.disk.now) c.args.gate c.args.bytes.now (c.requires.within tells) quiet _
+    (c.in_err-write_at.ensures.err tells)
+
+pub returns-in_err-sync-clause-before_the_last : goal.returns-in_err-sync-clause-before_the_last
+returns-in_err-sync-clause-before_the_last g c = λ tells quiet.
+    seen_sync_lost (g.D.Disk.on_disk c.args.disk.now) c.args.gate c.args.bytes.now (c.requires.within tells) quiet _ _
+    (c.in_ok-write_at.ensures.ok tells) (c.in_err-sync.ensures.err tells)
+
+pub returns-in_err-write_at-2-clause-before_the_last : goal.returns-in_err-write_at-2-clause-before_the_last
+returns-in_err-write_at-2-clause-before_the_last g c = λ tells quiet.
+    seen_gate_lost (g.D.Disk.on_disk c.args.disk.now) c.args.gate c.args.bytes.now (c.requires.within tells) quiet _ _ _
+    (c.in_ok-write_at.ensures.ok tells) (c.in_ok-sync.ensures.ok tells) (c.in_err-write_at-2.ensures.err tells)
+
+pub returns-in_err-sync-2-clause-before_the_last : goal.returns-in_err-sync-2-clause-before_the_last
+returns-in_err-sync-2-clause-before_the_last g c = λ tells quiet.
+    seen_last_lost (g.D.Disk.on_disk c.args.disk.now) c.args.gate c.args.bytes.now (c.requires.within tells) quiet _ _ _ _
+    (c.in_ok-write_at.ensures.ok tells) (c.in_ok-sync.ensures.ok tells) (c.in_ok-write_at-2.ensures.ok tells)
+    (c.in_err-sync-2.ensures.err tells)
+
+pub returns-clause-before_the_last : goal.returns-clause-before_the_last
+returns-clause-before_the_last g c = λ tells quiet.
+    seen_all (g.D.Disk.on_disk c.args.disk.now) c.args.gate c.args.bytes.now (c.requires.within tells) quiet _ _ _ _
+    (c.in_ok-write_at.ensures.ok tells) (c.in_ok-sync.ensures.ok tells) (c.in_ok-write_at-2.ensures.ok tells)
+    (c.in_ok-sync-2.ensures.ok tells)
