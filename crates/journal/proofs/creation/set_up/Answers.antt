@@ -1,4 +1,4 @@
-use Rattle.journal.proofs.Creations.{creating, created, empty_content, creation_takes}
+use Rattle.journal.proofs.Creations.{creating, created, empty_content, creation_takes, creation_never_loses, shutting_never_loses}
 use Rattle.journal.proofs.creation.set_up.Goals as goal
 
 pub returns-in_err-commit-clause-any_moment : goal.returns-in_err-commit-clause-any_moment
@@ -36,3 +36,26 @@ pub returns-clause-moments : goal.returns-clause-moments
 returns-clause-moments g c = λ tells.
     creation_takes (g.D.Disk.on_disk c.args.disk.now) (g.D.Disk.on_disk c.shut_first.new.disk) (g.D.Disk.on_disk c.commit.new.disk)
     (c.in_ok-shut_first.ensures.writes tells) (c.in_ok-shut_first.ensures.leaves tells) (c.in_ok-commit.ensures.moments tells)
+
+pub returns-in_err-shut_first-clause-never_loses : goal.returns-in_err-shut_first-clause-never_loses
+returns-in_err-shut_first-clause-never_loses g c = λ tells.
+    shutting_never_loses (g.D.Disk.on_disk c.args.disk.now) (g.D.Disk.on_disk c.shut_first.new.disk)
+    (c.shut_first.ensures.any_moment tells) (c.shut_first.ensures.before_the_last tells)
+
+pub returns-in_err-commit-clause-never_loses : goal.returns-in_err-commit-clause-never_loses
+returns-in_err-commit-clause-never_loses g c = λ tells.
+    let shut = c.in_ok-shut_first.ensures.ok tells in
+    creation_never_loses c.args.version c.args.issuer.now c.header_bytes-bytes.result c.header_bytes-bytes.ensures.nif
+    c.header_bytes-bytes.ensures.bytes
+    (g.D.Disk.on_disk c.args.disk.now) (g.D.Disk.on_disk c.shut_first.new.disk) (g.D.Disk.on_disk c.commit.new.disk)
+    (c.shut_first.ensures.any_moment tells) (c.shut_first.ensures.before_the_last tells) shut
+    (c.commit.ensures.any_moment tells shut.nothing_pending) (c.commit.ensures.before_the_last tells shut.nothing_pending)
+
+pub returns-clause-never_loses : goal.returns-clause-never_loses
+returns-clause-never_loses g c = λ tells.
+    let shut = c.in_ok-shut_first.ensures.ok tells in
+    creation_never_loses c.args.version c.args.issuer.now c.header_bytes-bytes.result c.header_bytes-bytes.ensures.nif
+    c.header_bytes-bytes.ensures.bytes
+    (g.D.Disk.on_disk c.args.disk.now) (g.D.Disk.on_disk c.shut_first.new.disk) (g.D.Disk.on_disk c.commit.new.disk)
+    (c.shut_first.ensures.any_moment tells) (c.shut_first.ensures.before_the_last tells) shut
+    (c.commit.ensures.any_moment tells shut.nothing_pending) (c.commit.ensures.before_the_last tells shut.nothing_pending)

@@ -2,6 +2,7 @@ use Rattle.std.proofs.Common.{◌∙◌, ℕ, List, ap}
 use Rattle.journal.specs.Commit.{gated}
 use Rattle.journal.proofs.Appends.{appends}
 use Rattle.journal.proofs.Files.{acknowledged, any_moment, ready_after, within}
+use Rattle.journal.proofs.Losing.{append_never_loses}
 use Rattle.journal.proofs.journal.Journal.append.Goals as goal
 
 pub returns-in-Ok-clause-content : goal.returns-in-Ok-clause-content
@@ -54,3 +55,15 @@ pub returns-in-Err-clause-appended : goal.returns-in-Err-clause-appended
 returns-in-Err-clause-appended g c = λ going tells.
     appends c.args.self.now.end (g.D.Disk.on_disk c.args.self.now.disk) (g.D.Disk.on_disk c.commit.new.disk) c.as_slice.result.now
     (c.args.self.now.ready going tells) (c.commit.ensures.any_moment tells) (g.met.D.Disk.reads_an_image c.commit.new.disk tells)
+
+pub returns-in-Ok-clause-never_loses : goal.returns-in-Ok-clause-never_loses
+returns-in-Ok-clause-never_loses g c = λ going tells version issuer bodies at.
+    append_never_loses (g.D.Disk.on_disk c.args.self.now.disk) (g.D.Disk.on_disk c.commit.new.disk) version issuer bodies
+    c.args.body.now c.as_slice.result.now c.args.self.now.end c.requires.size at (c.as_slice.ensures.value ∙ c.frame_bytes.ensures)
+    (c.commit.ensures.any_moment tells at.nothing_pending) (c.commit.ensures.before_the_last tells at.nothing_pending)
+
+pub returns-in-Err-clause-never_loses : goal.returns-in-Err-clause-never_loses
+returns-in-Err-clause-never_loses g c = λ going tells version issuer bodies at.
+    append_never_loses (g.D.Disk.on_disk c.args.self.now.disk) (g.D.Disk.on_disk c.commit.new.disk) version issuer bodies
+    c.args.body.now c.as_slice.result.now c.args.self.now.end c.requires.size at (c.as_slice.ensures.value ∙ c.frame_bytes.ensures)
+    (c.commit.ensures.any_moment tells at.nothing_pending) (c.commit.ensures.before_the_last tells at.nothing_pending)
