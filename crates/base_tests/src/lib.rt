@@ -1,5 +1,5 @@
-//! Tests of the lowest crates, a module each: values, devices, frames, the disk, the journal and the lock. What lines and links are made
-//! of is shown by `examples/rows/values.row`. There is nothing here that a program calls.
+//! Tests of the lowest crates, a module each: values, devices, frames, the disk and its mirror, the journal and the lock. What lines
+//! and links are made of is shown by `examples/rows/values.row`. There is nothing here that a program calls.
 #![tactic(auto)]
 
 #[cfg(test)]
@@ -14,6 +14,8 @@ mod frames_tests;
 mod journal_tests;
 #[cfg(test)]
 mod line_reader_tests;
+#[cfg(test)]
+mod mirror_disk_tests;
 #[cfg(test)]
 mod pacing_tests;
 #[cfg(test)]
