@@ -14,7 +14,7 @@ use Rattle.line_reader.specs.declared.parts.Stage.{Stage}
 use Rattle.line_reader.specs.declared.parts.Stage.TheVariants.{Whole, Part, Dropping}
 use Rattle.line_reader.specs.declared.reader.LineReader.{LineReader}
 use Rattle.line_reader.specs.declared.reader.Next.{Next}
-use Rattle.line_reader.specs.declared.reader.Next.TheVariants.{Line, Unended, TooLong, End}
+use Rattle.line_reader.specs.declared.reader.Next.TheVariants.{Line, Unended, End}
 
 pub clean_both : (a b : List ℕ) → has_lf a ≡ false → has_lf b ≡ false → has_lf (a ++ b) ≡ false
 clean_both a b p q = list_any-append (λ x. x == 10) a b ∙ ap (λ v. v || has_lf b) p ∙ q

@@ -38,8 +38,8 @@ pub struct LineReader {
 }
 
 impl LineReader {
-    ghost use Rattle.std.specs.Prelude.{◌≡◌, ◌<◌, ℕ, [], List, Option, true, false, length, IfOk};
-    ghost use Rattle.ports.specs.Causes.{HasCause};
+    ghost use Rattle.std.specs.Prelude.{◌≡◌, ◌<◌, ℕ, [], List, Option, true, false, length, IfOk, IsTrue};
+    ghost use Rattle.ports.specs.Causes.{HasCause, IsCounted};
     ghost use Rattle.ports.specs.Sources.{this_source};
     ghost use Rattle.line_reader.specs.Reading.{has_lf, IsUnderway};
     ghost use Rattle.line_reader.specs.Lines.{AtEnd, AtLf, Begins, NextIs, TakesPart, Wholes, is_over, kept_of, line_of};
@@ -133,6 +133,7 @@ impl LineReader {
         ensures unread { has_lf (kept_of self.old) ≡ true → source.new ≡ source.old }
         ensures over { is_over self.old ≡ true → source.new ≡ source.old }
         ensures cause { HasCause (S.faults source.old) (S.faults source.new) result }
+        ensures once { IsTrue S.counts → IsCounted (S.faults source.old) (S.faults source.new) result }
     {
         self.begin();
         for _ in rt.forever() {
@@ -154,8 +155,8 @@ impl LineReader {
         unreachable!()
     }
 
-    /// The next line. The source is asked for more only while no whole line is at hand. After an `Err` the reader is where it was in
-    /// the line, and goes on there. Once the source had no more to give it isn't asked again.
+    /// The next line. The source is asked for more only while no whole line is at hand. A failed read is told at once: the reader is
+    /// then where it was in the line, and goes on there. Once the source had no more to give it isn't asked again.
     pub fn next_line<S: Source, R: Wait>(&mut self, rt: &R, source: &mut S) -> Result<Next, Failed>
         ensures next { NextIs (this_source S.left S.faults source.old source.new) self.old self.new result }
         ensures read { (left : Option (List ℕ)) (lines : List InputLine) → HasRead left (S.left source.old) self.old lines →
@@ -163,6 +164,7 @@ impl LineReader {
         ensures unread { has_lf (kept_of self.old) ≡ true → source.new ≡ source.old }
         ensures over { is_over self.old ≡ true → source.new ≡ source.old }
         ensures cause { HasCause (S.faults source.old) (S.faults source.new) result }
+        ensures once { IsTrue S.counts → IsCounted (S.faults source.old) (S.faults source.new) result }
     {
         self.advance(rt, source)
     }

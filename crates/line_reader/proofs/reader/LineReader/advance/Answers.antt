@@ -30,6 +30,7 @@ loop-init g c =
       rests = λ h. refl;
       asleep = λ h. refl;
       later = omega arith;
+      once = λ counts. refl;
     }
 
 pub loop-preserved : goal.loop-preserved
@@ -55,6 +56,7 @@ loop-preserved g c =
       rests = λ h. absurd (other_way _ c.if-self.false (c.take_part.ensures.over ∙ inv.over ∙ h));
       asleep = λ h. absurd (other_way _ c.if-self.false (c.take_part.ensures.over ∙ inv.over ∙ h));
       later = let more = c.in-Ok.ensures.cause.later in let before = inv.later in omega arith;
+      once = λ counts. c.in-Ok.ensures.once counts ∙ inv.once counts;
     }
 
 pub returns-then-take_part-clause-next : goal.returns-then-take_part-clause-next

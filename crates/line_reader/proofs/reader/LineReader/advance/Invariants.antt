@@ -1,4 +1,4 @@
-use Rattle.std.proofs.Common.{◌≡◌, ◌≤◌, List, [], ℕ, true}
+use Rattle.std.proofs.Common.{◌≡◌, ◌≤◌, List, [], ℕ, true, IsTrue}
 use Rattle.std.specs.Io.KnownBytes.{Consumes}
 use Rattle.line_reader.specs.Lines.{IsAskedFor, is_dropping, kept_of, last_read}
 use Rattle.line_reader.specs.Reading.{has_lf}
@@ -19,4 +19,5 @@ invariant-loop g l = record {
   rests : l.fn.self.over ≡ true → taken ≡ [];
   asleep : l.fn.self.over ≡ true → l.source ≡ l.fn.source;
   later : g.S.Source.faults l.fn.source ≤ g.S.Source.faults l.source;
+  once : IsTrue g.S.Source.counts → g.S.Source.faults l.source ≡ g.S.Source.faults l.fn.source;
 }
