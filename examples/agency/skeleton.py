@@ -461,8 +461,6 @@ class CommandAdapter(Adapter):
 
     def send(self, records):
         reply = service_says(self.command, "send", [dict(record, ref=reference_of(record)) for record in records])
-        if len(reply["rows"]) != len(records):
-            raise Fault("%d rows in the reply, for %d records" % (len(reply["rows"]), len(records)))
         return [line_in(record, row) for record, row in zip(records, reply["rows"])], reply["wait"]
 
     def shown(self, records):

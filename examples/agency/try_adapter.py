@@ -2,7 +2,7 @@
 """Tries an adapter over the cases in cases/, without the program: `try_adapter.py [--only NAME].. [--lost WORDS] ADAPTER ..`
 
 ADAPTER is the adapter's command, which gets TO and FROM behind its own words; in each word {} is the case's folder. Set it so that its issuer
-is 89890001K, its journal is {}/journal, in the form of docs/ADAPTER.md, a call is no more on its way one second after it went out, and it calls
+is 89890001K, its journal is {}/journal, in the form of docs/ADAPTER.md, a call is no more on its way three seconds after it went out, and it calls
 the service by `{}/service send` and `{}/service shown` (try_service.py says what they read and print). WORDS are the further words by which
 it is told that its journal was lost, and that the first record of the chain has its line; without them those cases are left out.
 
