@@ -339,7 +339,7 @@ class Adapter:
         return ["vet", code], ["vet", code]
 
     def call(self, records):
-        """One call: the item of each record, and the seconds to wait. Before it goes on all its lines are in the journal."""
+        """One call: the item of each record, the seconds to wait, and whether one came before. All its lines are in the journal then."""
         self.journal.out(records)
         lines, wait = self.send(records)
         if len(lines) != len(records):
@@ -347,18 +347,18 @@ class Adapter:
         pairs = [self.came_before(record, line) if len(line) > 2 else (line, line) for record, line in zip(records, lines)]
         names = [[record["huella"]] for record in records]
         self.journal.back([name + line for name, (_, line) in zip(names, pairs)], wait)
-        return [name + item for name, (item, _) in zip(names, pairs)], wait
+        return [name + item for name, (item, _) in zip(names, pairs)], wait, any(len(line) > 2 for line in lines)
 
     def submit(self, records):
         """Hands a checked batch over: an item [huella, word, code] for each record in order, and the seconds to wait. No further call goes
         out after one that says of a record that it came before, or that leaves one without its line."""
         self.check_fresh(records)
-        items, wait = [], 0
+        items, wait, again = [], 0, False
         for call in calls_of(records):
-            if any(item[1].startswith("duplicado-") for item in items):
+            if again:
                 raise Fault("a record came before")
             self.pause(len(call))
-            came, wait = self.call(call)
+            came, wait, again = self.call(call)
             items += came
         return items, wait
 

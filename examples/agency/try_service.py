@@ -80,19 +80,12 @@ class Service:
     # ---- the calls
 
     def check(self, records):
-        """What an adapter mustn't ask for, or hasn't journalled."""
-        huellas = [record["huella"] for record in records]
+        """What an adapter mustn't ask for."""
         if any(dict(record, ref=0) != dict(self.records[record["huella"]], ref=0) for record in records):
             self.broken.append("a record went out with other fields than it came with")
         invoices = {(record["num"], record["day"]) for record in records}
         if len(invoices) < len(records):
             self.broken.append("two records of an invoice went out in one call")
-        outs = []
-        if os.path.exists(self.path("journal")):
-            with open(self.path("journal"), encoding="utf-8") as rows:
-                outs = [[record["huella"] for record in row["out"]] for row in map(json.loads, rows) if "out" in row]
-        if outs[-1:] != [huellas]:
-            self.broken.append("a call went out that isn't the last in the journal")
 
     def send(self, records):
         """What is printed; None where no reply comes."""
