@@ -151,7 +151,7 @@ class Journal:
 
     def take(self, row):
         if "out" in row:
-            self.at, self.open = row["at"], row
+            self.at, self.open = row.setdefault("at", 0), row  # (an older journal has no moments)
             self.first = self.first or row["out"][0]["huella"]
             for record in row["out"]:
                 self.calls[record["huella"]] = row
