@@ -29,6 +29,7 @@ from lanes import ROOT, crates
 PROGRAM = os.path.join(ROOT, "crates", "program", "out", "program")
 PLACE = os.path.join(ROOT, "out", "package")
 PARTS = os.path.join(ROOT, "package")
+OWNER = os.path.join(PARTS, "owner")
 DOC, UNITS = "share/doc/verifactu", "lib/systemd/system"
 # What tries an adapter, beside each other: it finds the practice adapter in the examples, and the program on PATH.
 TRY = ("examples/agency/try_adapter.py", "examples/agency/try_service.py", "bench/adapter.sh", "bench/adapter.py", "bench/kill_adapter.py", "bench/files.sh")
@@ -37,7 +38,7 @@ LIBRARIES = {"libc": "libc6", "libm": "libc6", "libpthread": "libc6", "libdl": "
 CONTROL = """Package: verifactu
 Version: {version}
 Architecture: amd64
-Maintainer: The verifactu authors <root@localhost>
+Maintainer: {maintainer}
 Installed-Size: {size}
 Depends: {depends}
 Suggests: python3
@@ -114,6 +115,25 @@ def text_of(path: str) -> bytes:
         return file.read()
 
 
+def owner(line: str) -> str:
+    """What a line of package/owner says."""
+    found = re.search(rf"^{line}: (.+)$", text_of(OWNER).decode(), re.MULTILINE)
+    if found is None:
+        raise Refused(f"package/owner has no line {line}")
+    return found[1]
+
+
+def rights() -> bytes:
+    """Debian's file of who made a package and how it may be handed on."""
+    return f"""Format: https://www.debian.org/doc/packaging-manuals/copyright-format/1.0/
+Upstream-Contact: {owner("Maintainer")}
+
+Files: *
+Copyright: {owner("Maintainer")}
+License: {owner("License")}
+""".encode()
+
+
 def packed(text: bytes) -> bytes:
     """The text, compressed, with no date and no name in it."""
     made = io.BytesIO()
@@ -148,6 +168,7 @@ def tree(version: str, date: int) -> dict[str, tuple[bytes, int]]:
         "share/man/man1/verifactu.1.gz": (packed(man_page(version, date)), 0o644),
         "share/bash-completion/completions/verifactu": (text_of(os.path.join(PARTS, "verifactu.bash")), 0o644),
     }
+    made[f"{DOC}/copyright"] = (rights(), 0o644)
     for page in ("README.md", "LEEME.md", "CHANGELOG.md"):
         made[f"{DOC}/{page}"] = (text_of(os.path.join(ROOT, page)), 0o644)
     folders = {"docs": f"{DOC}/docs", "examples": f"{DOC}/examples", "examples/agency": "share/verifactu/agency", "examples/systemd": UNITS}
@@ -228,7 +249,7 @@ def package() -> list[str]:
     deb, tar = f"verifactu_{version}_amd64.deb", f"verifactu-{version}-x86_64-linux.tar.gz"
     make_tar({**made, **hub_files()}, f"verifactu-{version}", date, os.path.join(PLACE, tar))
     size = sum(len(text) for text, _ in made.values()) // 1024 + 1
-    make_deb(made, CONTROL.format(version=version, size=size, depends=", ".join(depends), kit=kit), date, os.path.join(PLACE, deb))
+    make_deb(made, CONTROL.format(version=version, maintainer=owner("Maintainer"), size=size, depends=", ".join(depends), kit=kit), date, os.path.join(PLACE, deb))
     with open(os.path.join(PLACE, "SHA256SUMS"), "w", encoding="ascii") as sums:
         for name in (deb, tar):
             sums.write(f"{hashlib.sha256(text_of(os.path.join(PLACE, name))).hexdigest()}  {name}\n")

@@ -16,7 +16,7 @@ import sys
 import tempfile
 
 from lanes import ROOT
-from package import DOC, PLACE, UNITS, Refused, output, put, set_dates, text_of
+from package import DOC, PLACE, UNITS, Refused, output, owner, put, rights, set_dates, text_of
 
 SHARE = "share/verifactu-hub"
 UNITS_OF_HUB = ("verifactu-hub@.service", "verifactu-hosting.service", "verifactu-group@.service", "verifactu-group-agency@.service")
@@ -36,7 +36,7 @@ SCRIPTS = {
 CONTROL = """Package: verifactu-hub
 Version: {version}
 Architecture: all
-Maintainer: The verifactu authors <root@localhost>
+Maintainer: {maintainer}
 Installed-Size: {size}
 Depends: verifactu, python3 (>= 3.9), python3-aiohttp (>= 3.8)
 Recommends: python3-prometheus-client
@@ -65,6 +65,7 @@ def tree() -> dict[str, tuple[bytes, int]]:
     made.update({f"{DOC}-hub/cluster/{name}": text_of(os.path.join(ROOT, "examples", "cluster", name)) for name in CLUSTER})
     made.update({f"{UNITS}/{name}": text_of(os.path.join(ROOT, "examples", "systemd", name)) for name in UNITS_OF_HUB})
     made["bin/verifactu-hub"] = LAUNCHER
+    made[f"{DOC}-hub/copyright"] = rights()
     return {name: (text, 0o755 if name.endswith(("/verifactu_hub.py", "/verifactu-hub")) else 0o644) for name, text in made.items()}
 
 
@@ -74,7 +75,7 @@ def make(made: dict[str, tuple[bytes, int]], date: int, to: str) -> None:
         for name, (text, mode) in made.items():
             put(root, f"usr/{name}", text, mode)
         size = sum(len(text) for text, _ in made.values()) // 1024 + 1
-        put(root, "DEBIAN/control", CONTROL.format(version=version(), size=size).encode(), 0o644)
+        put(root, "DEBIAN/control", CONTROL.format(version=version(), maintainer=owner("Maintainer"), size=size).encode(), 0o644)
         sums = "".join(f"{hashlib.md5(text).hexdigest()}  usr/{name}\n" for name, (text, _) in sorted(made.items()))
         put(root, "DEBIAN/md5sums", sums.encode(), 0o644)
         for name, script in SCRIPTS.items():

@@ -15,7 +15,7 @@ import java.util.regex.Pattern;
 public class Till {
     static String hub, token, path, sale;
     static long pause, serial, taken; // milliseconds; the last sale's serial, and the greatest serial whose record stands
-    static final HttpClient CLIENT = HttpClient.newHttpClient();
+    static final HttpClient CLIENT = HttpClient.newBuilder().version(HttpClient.Version.HTTP_1_1).build(); // (an offer of HTTP/2 loses the body in older hubs)
 
     // Writes what it keeps, whole or not at all.
     static void keep(boolean isOpen) throws IOException {
