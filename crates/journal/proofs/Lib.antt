@@ -4,6 +4,7 @@ pub mod Fronts
 pub mod Files
 pub mod Appends
 pub mod Losing
+mod Behind
 pub mod Creations
 pub mod Windows
 pub mod Headers

@@ -9,3 +9,4 @@ pub mod Laws
 pub mod Journal
 pub mod Faults
 pub mod Ahead
+pub mod Tails

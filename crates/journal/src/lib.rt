@@ -21,6 +21,7 @@ mod faults;
 mod journal;
 mod laws;
 mod reading;
+mod tails;
 
 pub use ahead::ReadAhead;
 pub use faults::StoreFault;
@@ -30,3 +31,4 @@ pub use laws::{
     a_file_stands_for_one_chain, walks_over_a_file_agree,
 };
 pub use reading::{Header, Step, read_header, scan, scan_ahead};
+pub use tails::{TailFault, make_tails_equal};
