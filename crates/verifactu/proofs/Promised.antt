@@ -93,7 +93,7 @@ plainly Since Now old new (unwritten (inr e)) here quiet m c since left =
     subst Since (sym (later_left old m c quiet since (subst (λ (t : OnDisk). IsLeft t m c) e left))) here
 plainly Since Now old new (since_sync only now) here quiet m c since left =
     elim (cases_lt m (moment (synced old))) [
-      | inl early ↦ at_start (only.before m c early left) early
+      | inl early ↦ at_start (only.before m c (omega (arith, early)) left) early
       | inr late ↦ only.each m c late left
     ]
   where
