@@ -1,5 +1,6 @@
 #!/usr/bin/env python3
-"""A practice adapter: an agency in memory, spoken to over two FIFOs, `agency.py TO FROM`. Standard library alone.
+"""A practice adapter: an agency in memory, spoken to over two FIFOs, `agency.py TO FROM`, or over many pairs of them, `agency.py --pairs FILE`
+with lines TO FROM JOURNAL: an agency each, whose --journal is JOURNAL and whose --state is JOURNAL.state. Standard library alone.
 
 It keeps the agency's rules: a batch is processed whole and in order, a record that came before is a duplicate with the state of
 its line and changes nothing, and a consultation tells what was processed. It refuses a batch that isn't linked, and a record whose
@@ -25,7 +26,7 @@ import json
 import sys
 import time
 
-from skeleton import ANOTHER, Adapter, Fault, MOST_RECORDS, invoice_of, kept_rows, message_in, open_kept, run
+from skeleton import ANOTHER, Adapter, Fault, MOST_RECORDS, invoice_of, kept_rows, message_in, open_kept, run, serve_pairs
 
 
 # The code by which it refuses a record that came before.
@@ -229,8 +230,8 @@ class Practice(Adapter):
 
 def main():
     parser = argparse.ArgumentParser(description="A practice adapter for verifactu's --agency TO FROM.")
-    parser.add_argument("to")
-    parser.add_argument("from_", metavar="from")
+    parser.add_argument("files", nargs="*", metavar="TO FROM")
+    parser.add_argument("--pairs", default="", help="in place of TO and FROM: a file of many, TO FROM JOURNAL a line")
     parser.add_argument("--plan", default="", help="what befalls the calls, as '2 lost, 3 late 2'")
     parser.add_argument("--verdicts", default="", help="as 'A-1 1 vet 3000'")
     parser.add_argument("--state", default="", help="the file that keeps what was processed")
@@ -242,7 +243,13 @@ def main():
     parser.add_argument("--strict", action="store_true", help="refuses a submission of fewer than 1000 that comes too soon")
     parser.add_argument("--once", action="store_true", help="ends when the program closes TO, and serves no further run")
     options = parser.parse_args()
-    Practice(options).serve(options.to, options.from_, options.once)
+    if len(options.files) != (0 if options.pairs else 2):
+        parser.error("TO and FROM, or --pairs FILE")
+    if options.pairs:
+        kept = vars(options)
+        serve_pairs(options.pairs, lambda journal: Practice(argparse.Namespace(**{**kept, "journal": journal, "state": journal + ".state"})))
+    else:
+        Practice(options).serve(*options.files, options.once)
 
 
 if __name__ == "__main__":

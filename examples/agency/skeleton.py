@@ -3,10 +3,12 @@
 yours makes. docs/ADAPTER.md has the messages, and what an adapter must do.
 
     skeleton.py --journal FILE --service COMMAND [--issuer NIF] [--longest SECONDS] [--lost N] TO FROM
+    skeleton.py --pairs PAIRS --service COMMAND [--longest SECONDS]
 
-TO and FROM are FIFOs (`mkfifo`), FILE is its own journal. It runs `COMMAND send` and `COMMAND shown`, with a line of JSON on standard input
-and one on standard output; one that prints something else, or ends with another status than 0, had no reply. In Python a class that has
-`send` and `shown` of its own will do, as that of agency.py. Standard library alone.
+TO and FROM are FIFOs (`mkfifo`), FILE is its own journal. It runs `COMMAND send` and `COMMAND shown`, with a line of JSON on standard input,
+one on standard output, and the issuer's NIF in the environment as ISSUER; one that prints something else, or ends with another status than 0,
+had no reply. In Python a class that has `send` and `shown` of its own will do, as that of agency.py. With PAIRS one process serves many pairs
+of FIFOs, a line TO FROM JOURNAL each. Standard library alone.
 """
 import argparse
 import datetime
@@ -17,6 +19,7 @@ import os
 import stat
 import subprocess
 import sys
+import threading
 import time
 
 MOST_RECORDS = 1000
@@ -209,9 +212,10 @@ def reference_of(record):
     return record["huella"][:60]
 
 
-def service_says(command, what, given):
+def service_says(command, what, given, issuer):
+    settings = {"input": json.dumps(given) + "\n", "stdout": subprocess.PIPE, "env": {**os.environ, "ISSUER": issuer}}
     try:
-        run = subprocess.run([*command, what], input=json.dumps(given) + "\n", stdout=subprocess.PIPE, text=True, check=True)
+        run = subprocess.run([*command, what], text=True, check=True, **settings)
         return json.loads(run.stdout)
     except (OSError, ValueError, subprocess.CalledProcessError):
         raise Fault("no reply of the service") from None
@@ -460,26 +464,61 @@ class CommandAdapter(Adapter):
         self.command = command
 
     def send(self, records):
-        reply = service_says(self.command, "send", [dict(record, ref=reference_of(record)) for record in records])
+        reply = service_says(self.command, "send", [dict(record, ref=reference_of(record)) for record in records], self.issuer)
         return [line_in(record, row) for record, row in zip(records, reply["rows"])], reply["wait"]
 
     def shown(self, records):
-        rows = service_says(self.command, "shown", [invoice_of(record) for record in records])
+        rows = service_says(self.command, "shown", [invoice_of(record) for record in records], self.issuer)
         return [shown_as(record, row) for record, row in zip(records, rows, strict=True)]
+
+
+# ---- many pairs of FIFOs
+
+
+def pairs_in(path):
+    """The lines TO FROM JOURNAL of a file; empty ones and those that begin with # are passed over."""
+    with open(path, encoding="utf-8") as file:
+        rows = [line.split() for line in file if line.strip() and not line.startswith("#")]
+    if any(len(row) != 3 for row in rows):
+        raise Refused("%s has a line that isn't TO FROM JOURNAL" % path)
+    return rows
+
+
+def serve_pair(adapter_of, to, from_, journal):
+    """One pair, for ever: where its adapter ends it begins again, and no other pair is held up."""
+    while True:
+        try:
+            adapter_of(journal).serve(to, from_)
+        except (Exception, SystemExit) as why:
+            print("%s: %s %s" % (to, type(why).__name__, why), file=sys.stderr, flush=True)
+        time.sleep(5)
+
+
+def serve_pairs(path, adapter_of):
+    """A thread for each pair, with an adapter of its own."""
+    threading.stack_size(262_144)
+    for row in pairs_in(path):
+        threading.Thread(target=serve_pair, args=[adapter_of, *row]).start()
 
 
 def main():
     parser = argparse.ArgumentParser(description="An adapter for verifactu's --agency TO FROM, whose service is a command.")
-    parser.add_argument("to")
-    parser.add_argument("from_", metavar="from")
-    parser.add_argument("--journal", required=True, help="the file of its journal")
+    parser.add_argument("files", nargs="*", metavar="TO FROM")
+    parser.add_argument("--pairs", help="in place of TO, FROM and --journal: a file of many, TO FROM JOURNAL a line")
+    parser.add_argument("--journal", help="the file of its journal")
     parser.add_argument("--service", required=True, help="the command that calls the service, with its words")
     parser.add_argument("--issuer", help="the NIF of the certificate; without it, that of the first begin")
     parser.add_argument("--longest", type=float, default=60, help="so many seconds after it went out a call can't be on its way any more")
     parser.add_argument("--lost", type=int, help="the journal was lost, and so many of the chain's first records have their lines")
     it = parser.parse_args()
-    settings = {"journal": it.journal, "issuer": it.issuer, "longest": it.longest, "lost": it.lost}
-    CommandAdapter(it.service.split(), **settings).serve(it.to, it.from_)
+    of_one = [*it.files, *filter(None, [it.journal, it.issuer])] + ([] if it.lost is None else ["--lost"])
+    if of_one if it.pairs else len(it.files) != 2 or not it.journal:
+        parser.error("TO and FROM with --journal FILE, or --pairs PAIRS, which takes no --journal, --issuer and --lost")
+    command = it.service.split()
+    if it.pairs:
+        serve_pairs(it.pairs, lambda journal: CommandAdapter(command, journal=journal, longest=it.longest))
+    else:
+        CommandAdapter(command, journal=it.journal, issuer=it.issuer, longest=it.longest, lost=it.lost).serve(*it.files)
 
 
 def run(main):
