@@ -246,7 +246,7 @@ class Place:
         return int(text_of(f"{self.cgroup}/n{number}/system.slice/system-verifactu\\x2dgroup.slice/verifactu-group@g{group}.service/cgroup.procs").split()[0])
 
     def end(self) -> None:
-        """Ends all machines and boxes, and removes what they wrote; the tree stays for the next time."""
+        """Ends all machines and boxes. What they wrote stays to be looked at until the next time, and the tree for all times."""
         for number in MACHINES:
             self.host(number, "off")
         for box in self.boxes.values():

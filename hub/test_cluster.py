@@ -13,7 +13,7 @@ FOLDER (/var/tmp/verifactu-cluster, 1 GB) is made once, within ten minutes; a ro
 
 It asserts of each round: each sale that was answered stands once in its shop's export, as answered, in its till's order; files audit as
 sound; no two machines have a process of one group's hub or adapter at a sampled moment; each till sells again within 120 s of the fault, and
-behind a silent device of its end, and nobody took over before. Of the shops with an adapter the agency has each record once, in order.
+behind a silent device of its end, and nobody took over before; no sale waits longer. Of the shops with an adapter the agency has each record once, in order.
 
 --record writes hub/cluster.record: the files that this was run over, and what was seen. --recorded says which have changed since.
 """
@@ -84,6 +84,10 @@ class ClusterTill(Till):
     def again_after(self, moment: float) -> Optional[float]:
         """Seconds from a moment to the first answer to a sale that was first asked after it."""
         return next((ended - moment for began, ended in self.moments if began > moment), None)
+
+    def longest_wait(self, moment: float) -> float:
+        """The longest that a sale waited for its answer, of those that were answered after a moment."""
+        return max((ended - began for began, ended in self.moments if ended > moment), default=0.0)
 
 
 class Watch:
@@ -198,10 +202,14 @@ class Trial:
     def judge(self, result: Seen, since: float, lost: List[int], watch: Watch, selling: List["asyncio.Task[None]"]) -> None:
         """What the tills and the samples show."""
         again = {till: till.again_after(since) for till in self.tills}
+        most_wait = LIMIT + (SILENCE if result["fault"] == "silent" else 0)
         wrong = result["wrong"]
         wrong += [f"{till.shop} till {till.number} doesn't sell again within {LIMIT} s" for till, seconds in again.items() if seconds is None or seconds > LIMIT]
         wrong += [f"{till.shop} till {till.number}: {task.exception()}" for till, task in zip(self.tills, selling) if task.done() and task.exception()]
         wrong += sorted(set(watch.overlaps)) + ([] if result["whole again"] else ["the cluster isn't whole afterwards"])
+        waits = {till: till.longest_wait(since) for till in self.tills}
+        wrong += [f"{till.shop} till {till.number}: a sale waits {wait:.0f} s" for till, wait in waits.items() if wait > most_wait]
+        result["longest wait"] = round(max(wait for till, wait in waits.items() if till.group in lost), 1)
         of_lost = [(till, seconds or 999.0) for till, seconds in again.items() if till.group in lost]
         result["sells after"] = round(max(seconds for till, seconds in of_lost if till.number == 1), 1)
         result["over the proxy"] = round(max(seconds for till, seconds in of_lost if till.number == 2), 1)

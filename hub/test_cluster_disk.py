@@ -144,7 +144,7 @@ class Guests(Place):
             shutil.rmtree(f"{self.path}/guest{number}", ignore_errors=True)
             self.host(number, "on")
         for number in MACHINES:
-            self.wait_for("it is up", lambda n=number: self.host(n, "in", "true").returncode == 0)  # type: ignore[misc]
+            self.wait_for("it is up", lambda n=number: self.host(n, "on").returncode == self.host(n, "in", "true").returncode == 0)  # type: ignore[misc]
         for number in (1, 2):
             self.do(number, MAKE)
         with open(f"{self.path}/shop.tar", "wb") as file:
