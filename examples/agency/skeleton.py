@@ -213,7 +213,7 @@ def reference_of(record):
 
 
 def service_says(command, what, given, issuer):
-    settings = {"input": json.dumps(given) + "\n", "stdout": subprocess.PIPE, "env": {**os.environ, "ISSUER": issuer}}
+    settings = {"input": json.dumps(given) + "\n", "stdout": subprocess.PIPE, "env": {**os.environ, "ISSUER": issuer or ""}}
     try:
         run = subprocess.run([*command, what], text=True, check=True, **settings)
         return json.loads(run.stdout)
