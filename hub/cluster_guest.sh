@@ -1,6 +1,6 @@
 #!/bin/bash
 # A machine of hub/test_cluster_disk.py: a guest of qemu, without the processor's help, with Debian's kernel and drbd. Its words are those of
-# cluster_host.sh. PLACE has the kernel, the first file system, and the image that each guest's own lies over.
+# cluster_host.sh but `in`. PLACE has the kernel, the first file system, and the image that each guest's own lies over.
 n=$1 what=$2
 shift 2
 dir=$PLACE/guest$n
@@ -37,7 +37,6 @@ case $what in
   join) ip link set "vfc$n" up ;;
   freeze) kill -STOP "$(qemu)" ;;
   thaw) kill -CONT "$(qemu)" ;;
-  in) exec ssh -i "$PLACE/key" -o StrictHostKeyChecking=no -o UserKnownHostsFile=/dev/null -o LogLevel=ERROR -o ConnectTimeout=20 "root@10.0.0.1$n" "$@" ;;
   get)
     for word in "$@"; do
       [ "$word" = power ] && { is_on && echo power:1 || echo power:0; } || echo "$word:0"

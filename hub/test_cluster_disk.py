@@ -18,6 +18,7 @@ import json
 import os
 import re
 import shutil
+import socket
 import subprocess
 import sys
 import time
@@ -29,7 +30,7 @@ from test_cluster import COMMANDS, INSIDE, ClusterTill, in_namespaces, have_comm
 FAULTS = ("kill", "stop", "pause", "cut")
 PATIENCE = 1_800  # seconds after which a guest is taken to hang
 PAUSE = 45
-OF_GUESTS = {"qemu-system-x86_64": "qemu-system-x86", "qemu-img": "qemu-utils", "ssh": "openssh-client", "busybox": "busybox-static", "mke2fs": "e2fsprogs"}
+OF_GUESTS = {"qemu-system-x86_64": "qemu-system-x86", "qemu-img": "qemu-utils", "busybox": "busybox-static", "mke2fs": "e2fsprogs"}
 MODULES = ("virtio_pci", "virtio_blk", "virtio_net", "crc32c_generic", "ext4", "drbd")
 HALF = 63 << 20  # bytes of a disk that are the group's: the rest has DRBD's own
 INIT = """#!/bin/busybox sh
@@ -44,6 +45,9 @@ ip link set lo up; ip addr add 10.0.0.1$n/24 dev eth0; ip link set eth0 up; ip r
 mount --move /dev /root/dev; mount --move /proc /root/proc; mount --move /sys /root/sys
 exec switch_root /root /lib/systemd/systemd
 """
+# A shell for the test, on a network that nobody else reaches; without ssh, whose keys take these guests a minute.
+SHELL = {"sockets.target.wants/shell.socket": "[Socket]\nListenStream=7000\nAccept=yes\n",
+         "shell@.service": "[Service]\nExecStart=/bin/bash\nStandardInput=socket\nStandardError=inherit\nEnvironment=HOME=/root\n"}
 # What makes the group's disk, as docs/HOSTING.md says: MAKE at both machines, then FIRST at one of them.
 MAKE = "modprobe drbd; drbdadm create-md --force g1 && drbdadm up g1"
 FIRST = "drbdadm primary --force g1 && mkfs.ext4 -q /dev/drbd1 && mount /dev/drbd1 /srv/groups/g1 && tar xp -C /srv/groups/g1"
@@ -94,19 +98,13 @@ class Guests(Place):
         order.append(name)
 
     def make_image(self) -> None:
-        """The file system of the guests: the tree with a way in (ssh), and what the packages and the example bring."""
-        way_in, joined, work = (f"{self.path}/{name}" for name in ("way-in", "joined", "work"))
-        for folder in (way_in, joined, work):
+        """The file system of the guests: the tree, and over it what the packages and the example bring."""
+        joined, empty = f"{self.path}/joined", f"{self.path}/empty"
+        for folder in (joined, empty):
             os.makedirs(folder, exist_ok=True)
-        if not os.path.exists(f"{way_in}/usr/sbin/sshd"):
-            subprocess.run(["mount", "-t", "overlay", "overlay", "-o", f"lowerdir={self.tree},upperdir={way_in},workdir={work}", joined], check=True)
-            apt = "apt-get update && apt-get install -y --no-install-recommends openssh-server && apt-get clean && rm -rf /var/lib/apt/lists/*"
-            subprocess.run(["chroot", joined, "env", "DEBIAN_FRONTEND=noninteractive", "sh", "-c", apt], check=True, stdin=subprocess.DEVNULL)
-            subprocess.run(["umount", joined], check=True)
-        subprocess.run(["mount", "-t", "overlay", "overlay", "-o", f"lowerdir={self.files}:{way_in}:{self.tree}", joined], check=True)
-        os.makedirs(f"{self.path}/empty", exist_ok=True)
+        subprocess.run(["mount", "-t", "overlay", "overlay", "-o", f"lowerdir={self.files}:{self.tree}", joined], check=True)
         for folder in ("usr/share/doc", "usr/share/locale", "usr/share/man", "var/cache", "var/lib/apt"):
-            subprocess.run(["mount", "--bind", f"{self.path}/empty", f"{joined}/{folder}"], check=True)
+            subprocess.run(["mount", "--bind", empty, f"{joined}/{folder}"], check=True)
         with open(f"{self.path}/guest.img", "wb") as image:
             image.truncate(1500 << 20)
         subprocess.run(["mke2fs", "-q", "-t", "ext4", "-F", "-d", joined, f"{self.path}/guest.img"], check=True)
@@ -117,7 +115,8 @@ class Guests(Place):
         super().make_files()
         for name in ("verifactu-group@.service.d/machine.conf", "corosync.service.d/late.conf"):
             os.remove(f"{self.files}/etc/systemd/system/{name}")
-        self.put("etc/passwd", text_of(f"{self.files}/etc/passwd") + "sshd:x:110:65534::/run/sshd:/usr/sbin/nologin\n")
+        for name, text in SHELL.items():
+            self.put(f"etc/systemd/system/{name}", text)
         self.put("etc/corosync/corosync.conf", text_of(f"{CLUSTER}/corosync.conf").replace("token: 3000", "token: 30000"))
         resource = text_of(f"{CLUSTER}/g1.res").replace("/dev/vg/g1", "/dev/vdb")
         self.put("etc/drbd.d/g1.res", resource.replace("net {", "net { timeout 200; ping-int 30; ping-timeout 100; connect-int 30;"))
@@ -125,10 +124,6 @@ class Guests(Place):
             to = self.module(name).replace(f"{self.path}/kernel", f"{self.files}/usr")
             os.makedirs(os.path.dirname(to), exist_ok=True)
             shutil.copy(self.module(name), to)
-        if not os.path.exists(f"{self.path}/key"):
-            subprocess.run(["ssh-keygen", "-q", "-t", "ed25519", "-N", "", "-f", f"{self.path}/key"], check=True)
-        self.put("root/.ssh/authorized_keys", text_of(f"{self.path}/key.pub"), 0o600)
-        os.chmod(f"{self.files}/root", 0o700)
 
     def configuration(self) -> str:
         """Of one group without adapters, on DRBD; all takes longer here."""
@@ -136,6 +131,33 @@ class Guests(Place):
         made = text_of(f"{CLUSTER}/cluster.crm") + group + text_of(f"{CLUSTER}/group-drbd.crm")
         made = made.replace("power_wait=1", "power_wait=1 power_timeout=120 shell_timeout=60 login_timeout=60")
         return re.sub(r"(timeout|interval)=(\d+)s", lambda found: f"{found[1]}={4 * int(found[2])}s", made)
+
+    def host(self, number: int, *words: str, seconds: float = 60) -> "subprocess.CompletedProcess[str]":
+        """A word of the script, or a command in a guest."""
+        if words[0] != "in":
+            return super().host(number, *words, seconds=seconds)
+        return self.talk(number, " ".join(words[1:]), b"", seconds)
+
+    def talk(self, number: int, line: str, given: bytes, seconds: float) -> "subprocess.CompletedProcess[str]":
+        """A line of shell at a guest, with standard input: its status, 255 where the guest doesn't answer, and what it printed."""
+        told = b""
+        try:
+            with socket.create_connection((f"10.0.0.1{number}", 7000), timeout=seconds) as shell:
+                shell.sendall(f"{{ {line}\n}} 2>&1; echo \"= $?\"; exit\n".encode() + given)
+                shell.shutdown(socket.SHUT_WR)
+                while part := shell.recv(65_536):
+                    told += part
+        except OSError:
+            pass
+        text, found, status = told.decode(errors="replace").rpartition("= ")
+        return subprocess.CompletedProcess(line, int(status) if found else 255, text, "")
+
+    def do(self, number: int, line: str, given: bytes = b"") -> str:
+        """A line of shell that has to end well."""
+        done = self.talk(number, line, given, PATIENCE)
+        if done.returncode:
+            raise AssertionError(f"n{number}: {line}: {done.returncode}: {done.stdout}")
+        return done.stdout
 
     def begin(self) -> None:
         """The guests with empty disks, the group's disk, and the cluster's configuration."""
@@ -147,34 +169,17 @@ class Guests(Place):
             self.wait_for("it is up", lambda n=number: self.host(n, "on").returncode == self.host(n, "in", "true").returncode == 0)  # type: ignore[misc]
         for number in (1, 2):
             self.do(number, MAKE)
-        with open(f"{self.path}/shop.tar", "wb") as file:
-            subprocess.run(["tar", "c", "-C", f"{self.shared}/g1", "."], stdout=file, check=True)
-        with open(f"{self.path}/shop.tar", "rb") as file:
-            self.do(1, FIRST, file)
+        self.do(1, FIRST, subprocess.run(["tar", "c", "-C", f"{self.shared}/g1", "."], stdout=subprocess.PIPE, check=True).stdout)
         self.do(1, "umount /srv/groups/g1 && drbdadm secondary g1")
-        with open(f"{self.shared}/cluster.crm", "w", encoding="utf-8") as text:
-            text.write(self.configuration())
-        with open(f"{self.shared}/cluster.crm", "rb") as file:
-            self.do(1, "cat >/root/cluster.crm", file)
+        self.do(1, "cat >/root/cluster.crm", self.configuration().encode())
         self.load("/root/cluster.crm", PATIENCE)
-
-    def do(self, number: int, line: str, given: Any = subprocess.DEVNULL) -> str:
-        """A line of shell at a guest, which has to end well."""
-        done = subprocess.run([self.script, str(number), "in", line], stdin=given, stdout=subprocess.PIPE, stderr=subprocess.STDOUT, text=True, check=False,
-                              timeout=PATIENCE)
-        if done.returncode:
-            raise AssertionError(f"n{number}: {line}: {done.returncode}: {done.stdout}")
-        return done.stdout
 
     def wait_for(self, what: str, true: Any) -> None:
         """Until something is so."""
         end = time.time() + PATIENCE
         while time.time() < end:
-            try:
-                if true():
-                    return
-            except subprocess.TimeoutExpired:
-                pass
+            if true():
+                return
             time.sleep(2)
         raise AssertionError(f"not within {PATIENCE} s: {what}")
 
