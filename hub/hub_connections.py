@@ -1,20 +1,41 @@
 """Connections: how many there may be, and until when each must have sent a whole request or taken its answer.
 
-aiohttp parses HTTP; what it has no limit for is here. A connection owes a whole request from its beginning and from the end of each
-answer on, silence between two requests included.
+aiohttp parses HTTP; what it has no limit for is here. A connection counts from the moment on in which it is accepted, so ahead of TLS's
+handshake too. It owes a whole request from its beginning and from the end of each answer on, silence between two requests included.
 """
 from __future__ import annotations
 
 import asyncio
+import socket
+import ssl
 from typing import Any, Awaitable, Callable, Dict, Optional
 
 from aiohttp import web
+from aiohttp.http_exceptions import BadHttpMessage
 
-from hub_limits import MOST_FIELD, MOST_HEAD, MOST_PIPELINED, WHOLE_ANSWER, WHOLE_REQUEST
+from hub_limits import FAILURES_APART, HANDSHAKE, MOST_FIELD, MOST_HEAD, MOST_PIPELINED, WHOLE_ANSWER, WHOLE_REQUEST
+from hub_pipe import tell
 
 NEVER_BY_AIOHTTP = 86_400.0  # aiohttp's own limit of silence, seconds: WHOLE_REQUEST comes first
 
 Handler = Callable[[web.BaseRequest], Awaitable[web.StreamResponse]]
+
+
+class Parser:
+    """aiohttp's parser. An address that can't be read (`http://[::1/`) is a faulty request to it as any other."""
+
+    def __init__(self, parser: Any) -> None:
+        self.parser = parser
+
+    def __getattr__(self, name: str) -> Any:
+        return getattr(self.parser, name)
+
+    def feed_data(self, data: bytes) -> Any:
+        """Parses what came."""
+        try:
+            return self.parser.feed_data(data)
+        except ValueError:
+            raise BadHttpMessage("the address can't be read") from None
 
 
 class Connection(web.RequestHandler):
@@ -22,6 +43,7 @@ class Connection(web.RequestHandler):
 
     def __init__(self, door: "Connections", **words: Any) -> None:
         super().__init__(door, **words)
+        self._request_parser: Any = Parser(self._request_parser)
         self.door = door
         self.head = 0  # bytes that came since the last answer
         self.is_asking = False  # a request's head has arrived, and its answer isn't made
@@ -79,11 +101,63 @@ class Connections(web.Server):
         self.answered = answered
         self.most = most
         self.most_body = most_body
+        self.beginning: "Dict[asyncio.Task[None], None]" = {}  # TLS's handshake is under way, the oldest first
         self.owing: Dict[Connection, float] = {}  # since when, the longest first
         self.answering: Dict[Connection, float] = {}
+        self.closed_early = 0  # connections that were too many, and not told yet
+        self.told_at = float("-inf")
 
     def __call__(self) -> web.RequestHandler:
         return Connection(self, loop=self.loop, **self._kwargs)
+
+    # ---- from the socket to a connection
+
+    async def accept_for_ever(self, listening: socket.socket, context: Optional[ssl.SSLContext]) -> None:
+        """Accepts connections, one a turn of the loop."""
+        listening.setblocking(False)
+        while True:
+            try:
+                accepted, _ = await self.loop.sock_accept(listening)
+            except OSError as fault:  # out of file handles, say
+                tell(f"a connection can't be accepted: {fault.strerror}")
+                self._make_room(0)
+                await asyncio.sleep(0.1)
+                continue
+            task = self.loop.create_task(self._begin(accepted, context))
+            self.beginning[task] = None
+            task.add_done_callback(lambda done: self.beginning.pop(done, None))
+            self._make_room(self.most)
+            await asyncio.sleep(0)
+
+    async def _begin(self, accepted: socket.socket, context: Optional[ssl.SSLContext]) -> None:
+        words: Any = {"ssl": context, "ssl_handshake_timeout": HANDSHAKE} if context else {}
+        try:
+            await self.loop.connect_accepted_socket(self, accepted, **words)
+        except (OSError, ValueError, asyncio.TimeoutError) as fault:  # an SSLError is an OSError
+            tell(f"TLS: {getattr(fault, 'reason', None) or str(fault) or type(fault).__name__}")
+        except asyncio.CancelledError:
+            accepted.close()
+            raise
+
+    def _make_room(self, most: int) -> None:
+        """Closes one that is too many: the oldest before its handshake's end, else the one that has owed a request for longest."""
+        if len(self.beginning) + len(self.owing) + len(self.answering) <= most:
+            return
+        waiting = next((task for task in self.beginning if not task.done()), None)
+        if waiting is not None and len(self.beginning) > 1:
+            self.beginning.pop(waiting)
+            waiting.cancel()
+            self.closed_early += 1
+        elif self.owing:
+            next(iter(self.owing)).drop()
+
+    def tell_closed(self) -> None:
+        """Says how many were closed before their handshake's end, every so often."""
+        if self.closed_early and self.loop.time() - self.told_at >= FAILURES_APART:
+            tell(f"TLS: {self.closed_early} connections were too many, and closed before the end of their handshake")
+            self.closed_early, self.told_at = 0, self.loop.time()
+
+    # ---- what a connection owes
 
     def _request(self, message: Any, payload: Any, protocol: Any, writer: Any, task: Any) -> web.BaseRequest:
         protocol.is_asking = True
@@ -93,8 +167,7 @@ class Connections(web.Server):
         """From now on it owes a whole request. Of too many the one that has owed for longest is closed."""
         self.forget(connection)
         self.owing[connection] = self.loop.time()
-        if len(self.owing) + len(self.answering) > self.most:
-            next(iter(self.owing)).drop()
+        self._make_room(self.most)
 
     def asked(self, connection: Connection) -> None:
         """Its request has arrived whole."""
@@ -110,6 +183,7 @@ class Connections(web.Server):
         """Closes connections that are past their time, for ever."""
         while True:
             await asyncio.sleep(1)
+            self.tell_closed()
             now = self.loop.time()
             for watched, most in ((self.owing, WHOLE_REQUEST), (self.answering, WHOLE_ANSWER)):
                 late = [connection for connection, since in watched.items() if now - since > most]

@@ -8,6 +8,7 @@ from __future__ import annotations
 
 import asyncio
 import os
+import sys
 import traceback
 from typing import Any, Dict, List, Optional
 
@@ -239,7 +240,7 @@ class Many:
                 if not await self._visit_next():
                     await asyncio.sleep(1)
             except Exception:
-                traceback.print_exc()  # the round goes on
+                sys.stderr.write(traceback.format_exc())  # the round goes on
                 await asyncio.sleep(1)
 
     async def _visit_next(self) -> bool:

@@ -201,8 +201,9 @@ class Hub:
     async def answer(self, request: web.BaseRequest) -> web.StreamResponse:
         """Answers a request: what is raised becomes a problem."""
         request["began"] = self.loop.time()
-        request["inner"] = self._inner(request.path)
+        request["inner"] = ""
         try:
+            request["inner"] = self._inner(request.path)
             response: web.Response = await self._answer(request)
         except Problem as problem:
             response = problem.response()
@@ -215,7 +216,7 @@ class Hub:
         except Unavailable as fault:
             response = Problem("unavailable", str(fault)).response()
         except Exception:
-            traceback.print_exc()
+            sys.stderr.write(traceback.format_exc())
             response = Problem("unavailable", "the hub failed").response()
         if not await _pass_over(request) or response.status == PROBLEMS["too-large"][0]:
             response.force_close()

@@ -22,6 +22,12 @@ HANDSHAKE = 15  # seconds of TLS's handshake
 BACKLOG = 256  # connections that wait to be accepted; so many may be accepted before the ones that are too many are closed
 SPARE_HANDLES = 64  # file handles beside one a connection
 
+FAILURES_APART = 10  # seconds from one line about connections that were too many to the next
+
+# the log
+MOST_LOG = 1_048_576  # bytes that wait for the reader of standard error
+LAST_LINES = 2  # seconds that they may take at the end
+
 # the program
 MOST_CUSTOMERS = 9_900  # said in one run; the program takes 10,000, and more may be on their way
 MOST_ANSWER = 65_536  # bytes of one answer

@@ -121,7 +121,7 @@ class Flying:
 
 
 class Faults:
-    """What a program says on its standard error: each line is told with the shop's name, and the last ones say why it ended."""
+    """What a program says on its standard error: each line is told, with the shop's name, and the last ones say why it ended."""
 
     def __init__(self, name: str) -> None:
         self.name = name
@@ -133,9 +133,12 @@ class Faults:
         *lines, self.rest = (self.rest + data).split(b"\n")
         self.rest = self.rest[:LONGEST_FAULT]
         for line in lines:
-            text = line[:LONGEST_FAULT].decode("utf-8", "replace")
-            text = text[len("verifactu: "):] if text.startswith("verifactu: ") else text
-            tell(text, self.name)
+            said = line[:LONGEST_FAULT].decode("utf-8", "replace")
+            text = said[len("verifactu: "):] if said.startswith("verifactu: ") else said
+            if self.name:
+                tell(text, self.name)
+            else:
+                sys.stderr.write(f"{said}\n")
             if not text.startswith(PRACTICE):
                 self.lines.append(text)
 
@@ -290,7 +293,7 @@ class Shop:
     """A program, its pipe, what waits for it, and when it is started again.
 
     `ended` is the status by which the hub has to end: of a program that no restart mends, or of the last one after `close` or `kill`. With a
-    name, that of one of many shops, what the program says on its standard error is told with it; else it goes to the hub's own.
+    name, that of one of many shops, what the program says on its standard error is told with it.
     """
 
     def __init__(self, words: Sequence[str], name: str = "") -> None:
@@ -371,7 +374,7 @@ class Shop:
         try:
             await self.loop.subprocess_exec(
                 lambda: Run(self), *self.words, stdin=asyncio.subprocess.PIPE, stdout=asyncio.subprocess.PIPE,
-                stderr=asyncio.subprocess.PIPE if self.name else None, start_new_session=True, preexec_fn=_die_with_the_hub)
+                stderr=asyncio.subprocess.PIPE, start_new_session=True, preexec_fn=_die_with_the_hub)
         except OSError as fault:
             self.reason = f"the program can't be started: {fault.strerror}"
             tell(f"{self.words[0]}: {fault.strerror}", self.name)

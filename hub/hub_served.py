@@ -75,8 +75,8 @@ class Served:
         if shop is not None:
             self.restarts += max(0, shop.starts - 1)
         self.books = None
-        if self.under_way == 0:
-            self.queues = None
+        kept = {till: queue for till, queue in (self.queues or {}).items() if queue.under_way or queue.turn.locked()}
+        self.queues = kept or None
 
     def see(self) -> None:
         """Takes over what its program said last."""

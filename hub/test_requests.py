@@ -2,8 +2,10 @@
 from __future__ import annotations
 
 import base64
+import http.client
 import json
 import os
+import random
 import re
 import secrets
 import signal
@@ -12,7 +14,8 @@ import ssl
 import subprocess
 import time
 import unittest
-from typing import Any, Dict, List, Optional
+from collections import Counter
+from typing import Any, Dict, Iterator, List, Optional
 
 import jsonschema  # type: ignore[import]
 
@@ -360,13 +363,14 @@ class WireTest(OverAHub):
         self.assertEqual([answer and answer.json["num"] for answer in answers], ["A-1", "A-2", "A-3"])
 
 
+def make_certificate(place: Place, name: str) -> None:
+    """Makes a certificate and a key."""
+    subprocess.run(["openssl", "req", "-x509", "-newkey", "ec", "-pkeyopt", "ec_paramgen_curve:P-256", "-nodes", "-days", "2", "-subj", f"/CN={name}",
+                    "-addext", f"subjectAltName=DNS:{name}", "-keyout", f"{place.path}/key", "-out", f"{place.path}/cert"], check=True, stderr=subprocess.DEVNULL)
+
+
 class TlsTest(unittest.TestCase):
     """TLS of the hub's own."""
-
-    def certificate(self, place: Place, name: str) -> None:
-        """Makes a certificate and a key."""
-        subprocess.run(["openssl", "req", "-x509", "-newkey", "ec", "-pkeyopt", "ec_paramgen_curve:P-256", "-nodes", "-days", "2", "-subj", f"/CN={name}",
-                        "-addext", f"subjectAltName=DNS:{name}", "-keyout", f"{place.path}/key", "-out", f"{place.path}/cert"], check=True, stderr=subprocess.DEVNULL)
 
     def name(self, hub: Hub) -> str:
         """The name of the certificate that the hub shows."""
@@ -377,7 +381,7 @@ class TlsTest(unittest.TestCase):
     def test_a_sale_over_tls_and_a_new_certificate_at_sighup(self) -> None:
         place = Place()
         self.addCleanup(place.remove)
-        self.certificate(place, "first")
+        make_certificate(place, "first")
         hub = Hub(place, "--tls", f"{place.path}/cert", f"{place.path}/key")
         self.addCleanup(hub.end)
         context = ssl.create_default_context(cafile=f"{place.path}/cert")
@@ -387,7 +391,7 @@ class TlsTest(unittest.TestCase):
             connection.sendall(head.encode() + body)
             answer = read_answer(connection)
         self.assertEqual(answer and answer.status, 201)
-        self.certificate(place, "second")
+        make_certificate(place, "second")
         hub.process.send_signal(signal.SIGHUP)
         until(lambda: self.name(hub) == "second", "the new certificate is shown")
         with open(f"{place.path}/key", "w", encoding="ascii") as key:
@@ -459,23 +463,9 @@ class DescriptionTest(OverAHub):
         with open(os.path.join(HERE, "openapi.json"), encoding="utf-8") as file:
             self.assertEqual(self.api, json.load(file))
 
-    def schema(self, schema: Any) -> Any:
-        """An OpenAPI 3.0 schema as JSON Schema: references resolved, `nullable` said by a type."""
-        if isinstance(schema, list):
-            return [self.schema(part) for part in schema]
-        if not isinstance(schema, dict):
-            return schema
-        if "$ref" in schema:
-            found = self.api
-            for key in schema["$ref"].split("/")[1:]:
-                found = found[key]
-            return self.schema(found)
-        parts = {key: self.schema(value) for key, value in schema.items() if key != "nullable"}
-        return {"anyOf": [parts, {"type": "null"}]} if schema.get("nullable") is True else parts
-
     def fits(self, value: Any, schema: Any) -> None:
         """Whether a value is of a schema."""
-        jsonschema.validate(value, self.schema(schema), cls=jsonschema.Draft7Validator)
+        self.assertIsNone(Description(self.api).misfit(schema, value))
 
     def test_each_path_and_method_is_described_and_there(self) -> None:
         owner: Dict[str, Any] = {"/v1/months/{month}": "/v1/months/2025-01", "/v1/days/{day}": "/v1/days/2025-01-31"}
@@ -514,6 +504,16 @@ class DescriptionTest(OverAHub):
                 self.assertEqual(answer.status, 200, answer.body)
                 self.fits(answer.json, content["schema"])
 
+    def test_what_may_be_null_says_of_which_type_it_is_else(self) -> None:
+        def parts(value: Any) -> Iterator[Any]:
+            yield value
+            for part in value.values() if isinstance(value, dict) else value if isinstance(value, list) else ():
+                yield from parts(part)
+
+        nullable = [part for part in parts(self.api) if isinstance(part, dict) and part.get("nullable") is True]
+        self.assertEqual([sorted(part) for part in nullable if "type" not in part], [])
+        self.assertEqual(len(nullable), 2)
+
     def fill(self, path: str, parameters: Any) -> "tuple[str, str]":
         """A path with its example parameters."""
         query = ""
@@ -526,6 +526,8 @@ class DescriptionTest(OverAHub):
     def test_each_example_of_an_answer_is_of_its_schema_and_each_problem_is_described(self) -> None:
         names = set()
         for response in self.api["components"]["responses"].values():
+            if "content" not in response:
+                continue  # an answer without a body
             content = response["content"]["application/problem+json"]
             for name, example in content["examples"].items():
                 names.add(name)
@@ -539,6 +541,112 @@ class DescriptionTest(OverAHub):
                     for content in response.get("content", {}).values():
                         for example in content.get("examples", {}).values():
                             self.fits(example["value"], content["schema"])
+
+
+class FuzzTest(OverAHub):
+    """Random requests: whatever is asked, the answer is one that the description has, and fits its schema."""
+
+    def setUp(self) -> None:
+        super().setUp()
+        self.description = Description(self.hub.ask("GET", "/v1/openapi.json").json)
+        self.paths = [path for path in self.description.paths if path != "/metrics"]  # which a hub of one shop hasn't
+
+    def test_every_answer_fits_its_schema(self) -> None:
+        random_ = random.Random(73)
+        seen: Counter[str] = Counter()
+        connection = http.client.HTTPConnection(self.hub.address, self.hub.port, timeout=60)
+        for number in range(5_000 if Options.is_whole() else 500):
+            method, path, body, headers = self.request(random_)
+            connection.request(method, path, body, headers)
+            answer = connection.getresponse()
+            told = Answer(answer.status, {name.lower(): value for name, value in answer.getheaders()}, answer.read())
+            fault = self.description.fault(method, path.partition("?")[0], told)
+            self.assertIsNone(fault, (number, method, path, body, told.status, told.body[:500]))
+            seen[str(told.status)] += 1
+        connection.close()
+        self.assertLessEqual({"200", "201", "400", "401", "403", "404", "405", "409", "413"}, set(seen), seen)
+        self.assertEqual(self.hub.state()["starts"], 1)
+
+    def request(self, random_: random.Random) -> Any:
+        """A request: of a path that is there, or of none; by somebody; with a body that is nearly right."""
+        path = random_.choice([*self.paths, "/v2", "/v1/months/", "/v1/sales/x"]).replace("{month}", random_.choice(["2025-01", "01-2025", "x"]))
+        path = path.replace("{day}", random_.choice(["2025-01-31", "2025-13-01", ""]))
+        if path in ("/v1/invoices", "/v1/records") or random_.random() < 0.1:
+            path += random_.choice(["?num=A-1", "?num=Z-9", "?num=", "?serial=1", "?serial=x", "?x=1", ""])
+        method = random_.choice(["POST"] * 5 + ["DELETE"] if "s" in path[-5:] and random_.random() < 0.8 else ["GET"] * 5 + ["HEAD", "POST", "PUT"])
+        token = random_.choice([self.place.till[1], self.place.till[2], self.place.owner, "x" * 40])
+        headers = {} if random_.random() < 0.1 else {"Authorization": f"Bearer {token}"}
+        body = None if method in ("GET", "HEAD") and random_.random() < 0.9 else self.body(random_)
+        return method, path, body, headers
+
+    def body(self, random_: random.Random) -> bytes:
+        """A sale, a fix or a cancellation with something wrong in it, or nothing."""
+        value: Dict[str, Any] = {"serial": random_.randrange(0, 60)}
+        value.update(random_.choice([{"series": "A"}, {"num": "A-1"}, {"num": "Q-1"}, {"series": "A", "num": "A-1"}]))
+        if random_.random() < 0.8:
+            line = {"class": random_.choice(["21", "10+", "99", "", 1]), random_.choice(["base", "total", "sum"]): random_.choice([1000, -5, 10**14, "1", None])}
+            value.update(kind=random_.choice(["F2", "F2", "F2", "F1", "F3", "R5", "F9", 2]), lines=[random_.choice([line, {"class": "21", "total": 1000}])])
+        if random_.random() < 0.2:
+            value[random_.choice(["customer", "rect", "refs", "more"])] = random_.choice([None, "S", [], {"nif": "B12345674", "name": "Bar"}, [{"num": "A-1", "date": "2025-01-01"}]])
+        text = json.dumps(value).encode()
+        return random_.choice([text] * 12 + [text[:-1], b"", b"null", b" " * 70_000, b"\xff" * 10])
+
+
+class Description:
+    """openapi.json, as a judge of answers."""
+
+    def __init__(self, api: Any) -> None:
+        self.api = api
+        self.paths: Dict[str, Any] = api["paths"]
+        self.judges: Dict[str, Any] = {}
+
+    def schema(self, schema: Any) -> Any:
+        """An OpenAPI 3.0 schema as JSON Schema: references resolved, `nullable` said by a type."""
+        if isinstance(schema, list):
+            return [self.schema(part) for part in schema]
+        if not isinstance(schema, dict):
+            return schema
+        if "$ref" in schema:
+            return self.schema(self.resolve(schema))
+        parts = {key: self.schema(value) for key, value in schema.items() if key != "nullable"}
+        return {"anyOf": [parts, {"type": "null"}]} if schema.get("nullable") is True else parts
+
+    def resolve(self, value: Any) -> Any:
+        """What a reference names, or the value itself."""
+        if "$ref" not in value:
+            return value
+        found = self.api
+        for key in value["$ref"].split("/")[1:]:
+            found = found[key]
+        return found
+
+    def pattern(self, path: str) -> str:
+        """The described path that a path is of, or none."""
+        parent = path.rpartition("/")[0]
+        found = {"/v1/months": "/v1/months/{month}", "/v1/days": "/v1/days/{day}"}.get(parent, path)
+        return found if found in self.paths else ""
+
+    def fault(self, method: str, path: str, answer: Answer) -> Optional[str]:
+        """What of an answer isn't described, None where all is."""
+        operations = self.paths.get(self.pattern(path), {})
+        operation = operations.get("get" if method == "HEAD" else method.lower())
+        problems = self.api["components"]["responses"]
+        elsewhere = {"405": problems["Method"]} if operations and not path.endswith("s/") else {"404": problems["NotFound"]}
+        responses = elsewhere if operation is None else operation["responses"]
+        if str(answer.status) not in responses:
+            return "the status isn't described"
+        content = self.resolve(responses[str(answer.status)]).get("content", {})
+        kind = answer.headers.get("content-type", "").partition(";")[0]
+        if kind not in content:
+            return f"the content {kind} isn't described"
+        return None if method == "HEAD" or "json" not in kind else self.misfit(content[kind]["schema"], answer.json)
+
+    def misfit(self, schema: Any, value: Any) -> Optional[str]:
+        """Why a value isn't of a schema."""
+        key = json.dumps(schema)
+        if key not in self.judges:
+            self.judges[key] = jsonschema.Draft7Validator(self.schema(schema))
+        return next((str(error.message) for error in self.judges[key].iter_errors(value)), None)
 
 
 if __name__ == "__main__":

@@ -15,20 +15,22 @@ import argparse
 import asyncio
 import ipaddress
 import os
+import re
 import resource
 import signal
 import socket
 import ssl
 import sys
 from dataclasses import dataclass
-from typing import Any, Dict, FrozenSet, List, NoReturn, Optional, Tuple, Union
+from typing import Any, Dict, FrozenSet, List, NamedTuple, NoReturn, Optional, Tuple, Union
 
 from hub_hosting import Many
 from hub_http import Hub
 from hub_limits import (
-    ANSWER_WITHIN, BACKLOG, HANDLES_OF_A_PROGRAM, HANDSHAKE, IDLE, LAST_ANSWERS, LONGEST_IDLE, MOST_CONNECTIONS, MOST_CONNECTIONS_OF_MANY,
+    ANSWER_WITHIN, BACKLOG, HANDLES_OF_A_PROGRAM, IDLE, LAST_ANSWERS, LAST_LINES, LONGEST_IDLE, MOST_CONNECTIONS, MOST_CONNECTIONS_OF_MANY,
     MOST_PROGRAMS, PROGRAMS, SPARE_HANDLES,
 )
+from hub_log import Log
 from hub_pipe import BadLine, Unavailable, tell
 from hub_served import One
 from hub_shops import ShopLine, ShopsFault, counted, read_shops
@@ -36,6 +38,10 @@ from hub_tokens import Tokens, TokensFault, read_tokens
 
 STATUS_USAGE = 2
 LISTEN = "127.0.0.1:8730"
+ORIGIN = re.compile(r"(https?)://(\[[0-9a-f:.]+\]|[a-z0-9.-]+)(?::([1-9][0-9]{0,4}))?", re.ASCII)
+LABEL = re.compile(r"[a-z0-9]([a-z0-9-]{0,61}[a-z0-9])?", re.ASCII)  # of a host's name
+PORTS = {"http": 80, "https": 443}
+CIPHERS = "ECDHE+AESGCM:ECDHE+CHACHA20"  # of TLS 1.2: those with forward secrecy, that nobody has broken
 PROGRAM = "/usr/bin/verifactu"
 
 
@@ -136,16 +142,27 @@ def _read_listen(text: str) -> Tuple[str, int]:
 
 
 def _read_origin(text: str) -> str:
-    scheme, _, rest = text.partition("://")
-    if scheme not in ("http", "https") or not rest or "/" in rest or not text.isascii() or not text.isprintable():
-        raise WordsFault(f"--origin {text} is no SCHEME://HOST or SCHEME://HOST:PORT")
+    """An origin as a browser sends it: in lower case, and without a port that is its scheme's own."""
+    found = ORIGIN.fullmatch(text)
+    if not found or not _is_host(found[2]) or found[3] is not None and (int(found[3]) > 65535 or int(found[3]) == PORTS[found[1]]):
+        raise WordsFault(f"--origin {text} is no SCHEME://HOST or SCHEME://HOST:PORT, as a browser sends it")
     return text
+
+
+def _is_host(text: str) -> bool:
+    if not text.startswith("["):
+        return all(LABEL.fullmatch(label) for label in text.split("."))
+    try:
+        return f"[{ipaddress.IPv6Address(text[1:-1])}]" == text
+    except ValueError:
+        return False
 
 
 def read_tls(tls: Tuple[str, str], into: Optional[ssl.SSLContext] = None) -> ssl.SSLContext:
     """Reads certificate and key; into a context that serves already only once a new one took them."""
     context = ssl.SSLContext(ssl.PROTOCOL_TLS_SERVER)
     context.minimum_version = ssl.TLSVersion.TLSv1_2
+    context.set_ciphers(CIPHERS)
     try:
         context.load_cert_chain(*tls)
         if into is not None:
@@ -218,19 +235,22 @@ class Service:
             self.hub.figures = _figures(self.shops)
         self.stopped = asyncio.Event()
         self.is_ready = False  # whether systemd was told
+        self.hung_up = asyncio.Event()  # a SIGHUP came
 
     async def run(self) -> int:
         """Serves until the program has ended for good, and gives its status."""
         loop = asyncio.get_running_loop()
         for number in (signal.SIGTERM, signal.SIGINT):
             loop.add_signal_handler(number, self.stop)
-        loop.add_signal_handler(signal.SIGHUP, self.read_again)
-        words: Any = {"ssl": self.context, "ssl_handshake_timeout": HANDSHAKE} if self.context else {}
-        server = await loop.create_server(self.hub.connections, sock=self.listening, backlog=BACKLOG, **words)
-        tasks = [loop.create_task(self.hub.connections.close_late()), loop.create_task(self.tell_ready())]
+        loop.add_signal_handler(signal.SIGHUP, self.hung_up.set)
+        if HungUp.came:
+            self.hung_up.set()
+        connections = self.hub.connections
+        tasks = [loop.create_task(work) for work in (connections.accept_for_ever(self.listening, self.context), connections.close_late(),
+                                                     self.read_for_ever(), self.tell_ready())]
         self.shops.start()
         await self.end()
-        server.close()
+        self.listening.close()
         for task in tasks:
             task.cancel()
         return self.shops.ended.result()
@@ -264,29 +284,35 @@ class Service:
             notify("STOPPING=1")
             self.stopped.set()
 
-    def read_again(self) -> None:
-        """SIGHUP: tokens, shops and certificate anew, and systemd is told when that begins and ends."""
-        if self.is_ready:
-            notify("RELOADING=1")
-        self.take_again()
-        if self.is_ready:
-            notify("READY=1")
+    async def read_for_ever(self) -> None:
+        """Reads all again at each SIGHUP, beside the loop: there may be very many shops. systemd is told when that begins and ends."""
+        while True:
+            await self.hung_up.wait()
+            self.hung_up.clear()
+            if self.is_ready:
+                notify("RELOADING=1")
+            try:
+                self.take(await asyncio.get_running_loop().run_in_executor(None, self.read_again))
+            except (TokensFault, ShopsFault, WordsFault) as fault:
+                tell(f"{fault}: the old ones stay")
+            if self.is_ready:
+                notify("READY=1")
 
-    def take_again(self) -> None:
-        """Reads them. Where one of them can't be read nothing changes."""
-        try:
-            tokens = read_tokens(self.settings.tokens, self.settings.one is None)
-            lines = read_shops(self.settings.shops, self.settings.host != "") if isinstance(self.shops, Many) else {}
-            if self.settings.tls and self.context:
-                read_tls(self.settings.tls, self.context)
-        except (TokensFault, ShopsFault, WordsFault) as fault:
-            tell(f"{fault}: the old ones stay")
-            return
-        self.hub.tokens = tokens
+    def read_again(self) -> "Again":
+        """Tokens, shops and certificate anew. Where one of them can't be read nothing changes."""
+        tokens = read_tokens(self.settings.tokens, self.settings.one is None)
+        lines = read_shops(self.settings.shops, self.settings.host != "") if isinstance(self.shops, Many) else {}
+        if self.settings.tls and self.context:
+            read_tls(self.settings.tls, self.context)
+        return Again(tokens, lines, unserved(tokens, lines))
+
+    def take(self, again: "Again") -> None:
+        """Serves by what was read."""
+        self.hub.tokens = again.tokens
         tell("read again: tokens" + (" and certificate" if self.context else ""))
         if isinstance(self.shops, Many):
-            tell("read again: " + self.shops.take(lines))
-            tell_unserved(tokens, lines)
+            tell("read again: " + self.shops.take(again.lines))
+            tell_unserved(again.unserved)
 
 
 def _figures(shops: Many) -> Any:
@@ -298,11 +324,34 @@ def _figures(shops: Many) -> Any:
     return figures
 
 
-def tell_unserved(tokens: Tokens, shops: Dict[str, ShopLine]) -> None:
-    """Says which shops have a token and aren't served here: they may be another hub's, or mistyped."""
-    names = sorted(tokens.shops() - set(shops))
+def unserved(tokens: Tokens, shops: Dict[str, ShopLine]) -> List[str]:
+    """The shops that have a token and aren't served here: they may be another hub's, or mistyped."""
+    return sorted(tokens.shops() - set(shops))
+
+
+def tell_unserved(names: List[str]) -> None:
+    """Says which these are."""
     if names:
         tell(f"tokens name {counted(len(names))} not served here: {', '.join(names[:5])}" + (", .." if names[5:] else ""))
+
+
+class HungUp:
+    """Whether a SIGHUP came before the hub could read its files again."""
+
+    came = False
+
+    @classmethod
+    def note(cls, *_: Any) -> None:
+        """What the signal does until then."""
+        cls.came = True
+
+
+class Again(NamedTuple):
+    """What was read at a SIGHUP."""
+
+    tokens: Tokens
+    lines: Dict[str, ShopLine]
+    unserved: List[str]
 
 
 @dataclass(frozen=True)
@@ -353,16 +402,25 @@ def tell_beginning(prepared: Prepared) -> None:
         return
     trials = sum(line.is_trial for line in prepared.shops.values())
     tell(f"{listening}, {counted(len(prepared.shops))}" + (f", trials among them: {trials}, practice agency" if trials else ""))
-    tell_unserved(prepared.tokens, prepared.shops)
+    tell_unserved(unserved(prepared.tokens, prepared.shops))
 
 
 def main() -> int:
     """The hub's status."""
+    signal.signal(signal.SIGHUP, HungUp.note)
+    log = sys.stderr = Log(sys.stderr.fileno())  # type: ignore[assignment]
     try:
-        prepared = prepare(sys.argv[1:])
+        return begin(sys.argv[1:])
     except (WordsFault, TokensFault, ShopsFault) as fault:
         tell(str(fault))
         return STATUS_USAGE
+    finally:
+        log.finish(LAST_LINES)
+
+
+def begin(words: List[str]) -> int:
+    """Serves by these words, and gives the status; or says by a fault why it can't begin."""
+    prepared = prepare(words)
     settings = prepared.settings
     if settings.tls is None and not ipaddress.ip_address(settings.address).is_loopback:
         tell(f"warning: {settings.address} is no loopback and there is no --tls: tokens and sales go over the network in clear")
