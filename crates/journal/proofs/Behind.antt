@@ -1,21 +1,25 @@
 -- Writes from a place on leave what stands before it.
-use Rattle.std.proofs.Common.{◌≡◌, ◌⊎◌, ◌<◌, ◌≤◌, ◌+◌, inl, inr, ℕ, min, max, List, length, take, drop, ◌++◌, refl, sym, ◌∙◌, ap, subst, arith}
+use Rattle.std.proofs.Common.{◌≡◌, ◌<◌, ◌≤◌, ◌+◌, inl, inr, ℕ, max, List, [], ◌∷◌, length, take, drop, ◌++◌, refl, sym, ◌∙◌, ap, subst, arith}
 use Rattle.std.proofs.Common.{append_assoc, length-append, take-append-drop, true, Result, Ok, Err}
 use Rattle.std.specs.Prelude.{OnErr, OnOk}
 use Rattle.std.proofs.Math.Logic.{∥∥₁_elim}
 use Rattle.std.proofs.Math.Seq.{take-append-add}
 use Rattle.std.proofs.Props.{props}
-use Rattle.std.proofs.lemmas.List.{ext_get_or, get_or-take, length-take, length-take-le, length-drop, take-append-le, take-take, take_all, take_at, take_more_same}
+use Rattle.std.proofs.lemmas.List.{ext_get_or, get_or-take, length-take, length-drop, take-append-le, take-take, take_all, take_at, take_more_same}
+use Rattle.std.proofs.lemmas.Bool.{cases_lt}
 use Rattle.std.proofs.lemmas.Option.{get_or_from_slice_get, slice_get_within}
-use Rattle.chain_disk.specs.OnDisk.{OnDisk, Pending, IsCovered, IsImage, IsSettled, IsSyncFailed, IsTorn, IsWriteFailed, LeavesOnly}
+use Rattle.chain_disk.specs.OnDisk.{OnDisk, Pending, IsCovered, IsImage, IsSettled, IsLeftOf, IsSyncFailed, IsTorn, IsWriteFailed, LeavesOnly, MayLeave}
 use Rattle.chain_disk.specs.OnDisk.{moved, pasted, ranged, settled, synced, wider, written}
-use Rattle.chain_disk.specs.Runs.{goes_on, started_settled, weaker}
+use Rattle.chain_disk.specs.Runs.{started_settled, weaker}
+use Rattle.chain_disk.specs.Runs.{goes_on as moment_more}
+use Rattle.chain_disk.specs.Stays.{still_by, synced_image}
 use Rattle.record_fields.specs.declared.versions.Version.{Version}
-use Rattle.journal.specs.File.{IsAt, IsAtSome, IsFile}
+use Rattle.journal.specs.File.{FileOn, IsAt, IsAtSome, IsFile}
 use Rattle.journal.specs.Tails.{HasGate, HaveOneByte, KeepsGate, StaysAt, WritesFrom}
 use Rattle.journal.specs.Written.{AppendsFrom, KeepsFront}
 use Rattle.journal.proofs.Appends.{appends_none}
 use Rattle.journal.proofs.Files.{same_front, within}
+use Rattle.journal.proofs.Losing.{goes_on}
 
 -- what is before the ranges stays in each image
 front_of_image : (place : ℕ) (p : Pending) (c : List ℕ) → place ≤ length p.synced →
@@ -76,7 +80,7 @@ go_on place t u content now w inside long file sure behind = record {
   file = file;
   sure = sure;
   behind = behind;
-  each_crash = goes_on t u content now (KeepsFront place t.content) w.each_crash
+  each_crash = moment_more t u content now (KeepsFront place t.content) w.each_crash
       (λ c image. front_of_image place now c long behind image ∙ sure);
 }
 
@@ -120,14 +124,37 @@ appends_from place t u w = record { file = w.file; each_crash = w.each_crash }
 pub settles : (u v : OnDisk) → v ≡ synced u → IsSettled v
 settles u v ok = subst IsSettled (sym ok) refl
 
+-- at each moment a crash may leave something
+some_left : (pending : Pending) (past : List Pending) (m : ℕ) → m ≤ length past → (c : List ℕ) × IsLeftOf (pending ∷ past) m c
+some_left pending [] m within = (pending.synced, inl (omega (arith, within), synced_image pending))
+some_left pending (p ∷ past) m within = elim (cases_lt m (length (p ∷ past))) [
+  | inl before ↦ (let there = some_left p past m (omega (arith, before)) in (there.0, inr there.1))
+  | inr last ↦ (pending.synced, inl (omega (arith, last, within), synced_image pending))
+]
+
+-- where each crash leaves what has W, some may leave it at each moment
+seen_all : (t u : OnDisk) (W : List ℕ → Type 0) → LeavesOnly t u W → MayLeave t u W
+seen_all t u W only m since before =
+    let there = some_left u.now u.past m (omega (arith, before)) in
+    (there.0, there.1, only.each m there.0 since there.1)
+
 -- the bytes up to the gate, and the gate, stand for the bodies
 pub keeps_gate : (gate : ℕ) (t u : OnDisk) → AppendsFrom (gate + 1) t u → KeepsGate gate t u
 keeps_gate gate t u front = record {
   front = front;
-  any_moment = λ version issuer bodies at. weaker t u (KeepsFront (gate + 1) t.content) (IsFile version issuer bodies)
-      front.each_crash (λ c same. same_front version issuer bodies t.content at.file c
-      (subst (λ (g : ℕ). take (g + 1) c ≡ take (g + 1) t.content) at.place same));
+  any_moment = any_moment;
+  never_loses = λ version issuer bodies at another other begins bytes.
+      let only = any_moment version issuer bodies at in
+      still_by t u (FileOn another other begins bytes) (IsFile version issuer bodies) (IsFile version issuer bodies) only
+      (seen_all t u (IsFile version issuer bodies) only)
+      (λ c d is on then. goes_on version another issuer other bodies begins [] bytes c d is on (inl then));
 }
+  where
+    any_moment : (version : Version) (issuer : List ℕ) (bodies : List (List ℕ)) → IsAt version issuer bodies gate t →
+        LeavesOnly t u (IsFile version issuer bodies)
+    any_moment version issuer bodies at = weaker t u (KeepsFront (gate + 1) t.content) (IsFile version issuer bodies)
+        front.each_crash (λ c same. same_front version issuer bodies t.content at.file c
+        (subst (λ (g : ℕ). take (g + 1) c ≡ take (g + 1) t.content) at.place same))
 
 pub stays_at : (gate : ℕ) (t u : OnDisk) → AppendsFrom (gate + 1) t u → IsSettled u → StaysAt gate t u
 stays_at gate t u front quiet version issuer bodies at = record {

@@ -150,9 +150,12 @@ module _ (version : Version) (issuer bytes : List ℕ) (nif : IsNif issuer) (sam
   creation_never_loses t u v first seen shut second seen_second =
       none_to_lose t v (IsNotBegunOrEmpty version issuer) IsNotBegun (creating t u v first shut second)
       (seen_follows t u v IsNotBegun IsNotBegun (run_of second) seen (λ m since before.
-      let at = seen_second m since before in
-      (at.0, at.1, up_to u.content at.0 shut.gate shut.rest shut.content shut.shut at.2.same
-      (omega (arith, at.2.no_longer, ap length shut.content, shut.short, long)))) (λ c not. not))
+      let at = seen_second m since before in (
+        at.0,
+        at.1,
+        up_to u.content at.0 shut.gate shut.rest shut.content shut.shut at.2.same
+            (omega (arith, at.2.no_longer, ap length shut.content, shut.short, long)),
+      )) (λ c not. not))
       (λ other_version other bodies c not is. not_begun_no_chain other_version other bodies c not is)
 
 -- a disk of which a crash may leave a file that isn't begun at each moment but the last

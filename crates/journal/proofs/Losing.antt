@@ -5,7 +5,7 @@ use Rattle.chain_disk.specs.Stays.{seen_weaker, still_by}
 use Rattle.frames.specs.Frames.{IsBody, frame}
 use Rattle.record_fields.specs.declared.versions.Version.{Version}
 use Rattle.journal.specs.Commit.{IsCommitImage, IsUpToGate}
-use Rattle.journal.specs.File.{FileOn, IsAt, IsBeforeOrAfter, IsFile, IsNotBegun, NeverLosesFrames, closing_gate, framed, header}
+use Rattle.journal.specs.File.{FileOn, IsAt, IsBeforeOrAfter, IsFile, IsNotBegun, NeverLosesFrames, framed, header}
 use Rattle.journal.proofs.Files.{any_moment, same_front}
 use Rattle.journal.proofs.Fronts.{front_is, header_long}
 use Rattle.journal.proofs.Unique.{one_chain}
@@ -20,7 +20,7 @@ more_on version issuer bodies more bytes c d on is = record {
 }
 
 -- of a file of these bodies, what begins with some of them: so does a file of these, and one with a body more
-goes_on : (version another : Version) (issuer other : List ℕ) (bodies front : List (List ℕ)) (body bytes c d : List ℕ) →
+pub goes_on : (version another : Version) (issuer other : List ℕ) (bodies front : List (List ℕ)) (body bytes c d : List ℕ) →
     IsFile version issuer bodies c → FileOn another other front bytes c → IsBeforeOrAfter version issuer bodies body d →
     FileOn another other front bytes d
 goes_on version another issuer other bodies front body bytes c d is on (inl before) =

@@ -3,7 +3,7 @@ use Rattle.std.specs.Prelude.{◌≡◌, ◌<◌, ◌≤◌, ◌+◌, ℕ, Bool,
 use Rattle.chain_disk.specs.Disks.{Disks, DiskRose}
 use Rattle.chain_disk.specs.OnDisk.{OnDisk, IsCovered, IsSettled, LeavesOnly, written}
 use Rattle.record_fields.specs.declared.versions.Version.{Version}
-use Rattle.journal.specs.File.{IsAt, IsFile}
+use Rattle.journal.specs.File.{IsAt, IsFile, NeverLosesFrames}
 use Rattle.journal.specs.Written.{AppendsFrom, KeepsFront}
 use Rattle.journal.specs.declared.tails.TailFault.{TailFault}
 use Rattle.journal.specs.declared.tails.TailFault.TheVariants.{First, Second, OtherGate}
@@ -23,11 +23,14 @@ pub record WritesFrom (place : ℕ) (old new : OnDisk) : Type 0 where
   pub behind : (i : ℕ) → i < place → IsCovered new.now.ranges i → ⊥
   pub each_crash : LeavesOnly old new (KeepsFront place old.content)
 
--- Only bytes behind this gate were written. So each file that a crash leaves since stands for the same bodies.
+-- Only bytes behind this gate were written. So each file that a crash leaves since stands for the same bodies, and what was made sure of
+-- stays.
 pub record KeepsGate (gate : ℕ) (old new : OnDisk) : Type 0 where
   pub front : AppendsFrom (gate + 1) old new
   pub any_moment : (version : Version) (issuer : List ℕ) (bodies : List (List ℕ)) → IsAt version issuer bodies gate old →
       LeavesOnly old new (IsFile version issuer bodies)
+  pub never_loses : (version : Version) (issuer : List ℕ) (bodies : List (List ℕ)) → IsAt version issuer bodies gate old →
+      NeverLosesFrames old new
 
 -- the disk still reads as that file, with nothing pending
 abbrev pub StaysAt : ℕ → OnDisk → OnDisk → Type 0

@@ -1,4 +1,4 @@
-use Rattle.std.proofs.Common.{◌≡◌, ◌≤◌, ◌+◌, length, ap, sym, subst, arith}
+use Rattle.std.proofs.Common.{◌+◌, length, ap, sym, subst, arith}
 use Rattle.chain_disk.specs.OnDisk.{OnDisk}
 use Rattle.journal.specs.Tails.{WritesFrom}
 use Rattle.journal.proofs.Behind.{appends_from, begins, by_answer, on_sync, on_sync_failed, on_write, on_write_failed, reaches}

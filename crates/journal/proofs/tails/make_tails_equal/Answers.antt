@@ -1,6 +1,6 @@
-use Rattle.std.proofs.Common.{◌≡◌, ◌+◌, true, subst, sym, ap, ◌∙◌, IsTrue, Bool, take}
+use Rattle.std.proofs.Common.{◌+◌, true, subst, sym, ap, ◌∙◌, Bool, take}
 use Rattle.chain_disk.specs.OnDisk.{OnDisk}
-use Rattle.journal.specs.Tails.{HasGate, HaveOneByte, KeepsGate, StaysAt}
+use Rattle.journal.specs.Tails.{HasGate, HaveOneByte}
 use Rattle.journal.specs.Written.{AppendsFrom, KeepsFront}
 use Rattle.journal.proofs.Behind.{fronts_with_gates, has_gate, keeps_gate, keeps_same, on_ok, stays_at}
 use Rattle.journal.proofs.tails.make_tails_equal.Goals as goal
