@@ -46,7 +46,7 @@ mount --move /dev /root/dev; mount --move /proc /root/proc; mount --move /sys /r
 exec switch_root /root /lib/systemd/systemd
 """
 # A shell for the test, on a network that nobody else reaches; without ssh, whose keys take these guests a minute.
-SHELL = {"sockets.target.wants/shell.socket": "[Socket]\nListenStream=7000\nAccept=yes\n",
+SHELL = {"shell.socket": "[Socket]\nListenStream=7000\nAccept=yes\n",
          "shell@.service": "[Service]\nExecStart=/bin/bash\nStandardInput=socket\nStandardError=inherit\nEnvironment=HOME=/root\n"}
 # What makes the group's disk, as docs/HOSTING.md says: MAKE at both machines, then FIRST at one of them.
 MAKE = "modprobe drbd; drbdadm create-md --force g1 && drbdadm up g1"
@@ -117,6 +117,8 @@ class Guests(Place):
             os.remove(f"{self.files}/etc/systemd/system/{name}")
         for name, text in SHELL.items():
             self.put(f"etc/systemd/system/{name}", text)
+        os.makedirs(f"{self.files}/etc/systemd/system/sockets.target.wants")
+        os.symlink("../shell.socket", f"{self.files}/etc/systemd/system/sockets.target.wants/shell.socket")
         self.put("etc/corosync/corosync.conf", text_of(f"{CLUSTER}/corosync.conf").replace("token: 3000", "token: 30000"))
         resource = text_of(f"{CLUSTER}/g1.res").replace("/dev/vg/g1", "/dev/vdb")
         self.put("etc/drbd.d/g1.res", resource.replace("net {", "net { timeout 200; ping-int 30; ping-timeout 100; connect-int 30;"))
