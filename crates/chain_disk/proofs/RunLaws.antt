@@ -1,8 +1,9 @@
 -- The laws of what a disk tells.
-use Rattle.std.proofs.Common.{◌⊎◌, ◌<◌, ◌≤◌, ◌+◌, inl, inr, ℕ, List, refl, sym, subst, arith}
+use Rattle.std.proofs.Common.{◌⊎◌, ◌≤◌, ◌+◌, inl, inr, ℕ, List, refl, sym, subst, arith}
 use Rattle.std.proofs.lemmas.Bool.{cases_lt}
 use Rattle.chain_disk.specs.OnDisk.{OnDisk, Pending, IsImage, IsLeft, moment, IsLeftSince, moved, settled}
 use Rattle.chain_disk.specs.Runs.{left_before, settled_now}
+use Rattle.chain_disk.specs.Stays.{call_run, no_run, run_follows}
 use Rattle.chain_disk.specs.Laws.{SettledLeaves, NoCallIsARun, CallIsARun, RunsFollow}
 
 whole : (s : List ℕ) → IsImage (settled s) s
@@ -24,20 +25,16 @@ no_call t c m since (inr past) = absurd (omega (arith, left_before t.past m c pa
 
 pub no_call_is_a_run : NoCallIsARun
 no_call_is_a_run t = (
-  record { later = omega arith; before = λ m c was left. left; stays = λ m c was left. left },
+  no_run t,
   λ c. (λ since. no_call t c since.0 since.1 since.2, λ image. (moment t, omega arith, inl (refl, image))),
 )
 
 pub call_is_a_run : CallIsARun
 call_is_a_run t content now = (
-  record { later = omega arith; before = before; stays = λ m c was left. inr left },
+  call_run t content now,
   λ c. (λ since. either c since.0 since.1 since.2, back c),
 )
   where
-    before : (m : ℕ) (c : List ℕ) → m ≤ moment t → IsLeft (moved content now t) m c → IsLeft t m c
-    before m c was (inl newest) = absurd (omega (arith, newest.0))
-    before m c was (inr older) = older
-
     either : (c : List ℕ) (m : ℕ) → moment t ≤ m → IsLeft (moved content now t) m c → IsImage t.now c ⊎ IsImage now c
     either c m since (inl newest) = inr newest.1
     either c m since (inr older) = inl (no_call t c m since older)
@@ -48,11 +45,7 @@ call_is_a_run t content now = (
 
 pub runs_follow : RunsFollow
 runs_follow t u v first second = (
-  record {
-    later = omega (arith, first.later, second.later);
-    before = λ m c was left. first.before m c was (second.before m c (omega (arith, was, first.later)) left);
-    stays = λ m c was left. second.stays m c (omega (arith, was, first.later)) (first.stays m c was left);
-  },
+  run_follows t u v first second,
   λ c. (λ since. either c since.0 since.1 since.2, back c),
 )
   where

@@ -1,9 +1,9 @@
 -- What each crash at a moment leaves stays so at the later ones. Each lemma holds for every fact P on images.
-use Rattle.std.specs.Prelude.{◌≡◌, ◌<◌, ◌≤◌, ◌+◌, ℕ, List, length, refl}
+use Rattle.std.specs.Prelude.{◌≡◌, ◌<◌, ◌≤◌, ℕ, List, [], ◌∷◌, length, refl}
 use Rattle.std.proofs.Common.{inl, inr, sym, subst, arith}
 use Rattle.std.proofs.lemmas.Bool.{cases_lt}
-use Rattle.chain_disk.specs.OnDisk.{OnDisk, Pending, IsImage, IsLeft, LeavesAt, LeavesOnly, MayLeave, StillLeaves, moment}
-use Rattle.chain_disk.specs.OnDisk.{IsRun, IsSyncFailed, IsWriteFailed, later, moved, pasted, settled, synced, wider, written}
+use Rattle.chain_disk.specs.OnDisk.{OnDisk, Pending, IsImage, IsLeft, IsLeftOf, LeavesAt, LeavesOnly, MayLeave, StillLeaves, moment}
+use Rattle.chain_disk.specs.OnDisk.{IsRun, IsSyncFailed, IsWriteFailed, moved, pasted, settled, synced, wider, written}
 use Rattle.chain_disk.specs.Runs.{left_now, settled_image}
 use Rattle.chain_disk.specs.MemoryReads.{furthest_least}
 
@@ -14,6 +14,40 @@ synced_image p = record {
   no_longer = furthest_least (length p.synced) p.ranges;
   kept = λ i within free. refl;
 }
+
+left_of : (past : List Pending) (m : ℕ) → m < length past → (c : List ℕ) × IsLeftOf past m c
+left_of [] m none = absurd (omega (arith, none))
+left_of (p ∷ older) m within = elim (cases_lt m (length older)) [
+  | inl early ↦ (let at = left_of older m early in (at.0, inr at.1))
+  | inr here ↦ (p.synced, inl (omega (arith, here, within), synced_image p))
+]
+
+-- at each moment a crash leaves something
+pub some_left : (t : OnDisk) (m : ℕ) → m ≤ moment t → (c : List ℕ) × IsLeft t m c
+some_left t m within = left_of (t.now ∷ t.past) m (omega (arith, within))
+
+-- no call is a run, and two runs are one
+pub no_run : (t : OnDisk) → IsRun t t
+no_run t = record { later = omega arith; before = λ m c was left. left; stays = λ m c was left. left }
+
+pub run_follows : (t u v : OnDisk) → IsRun t u → IsRun u v → IsRun t v
+run_follows t u v first second = record {
+  later = omega (arith, first.later, second.later);
+  before = λ m c was left. first.before m c was (second.before m c (omega (arith, was, first.later)) left);
+  stays = λ m c was left. second.stays m c (omega (arith, was, first.later)) (first.stays m c was left);
+}
+
+-- a call that takes a moment is a run
+pub call_run : (t : OnDisk) (content : List ℕ) (now : Pending) → IsRun t (moved content now t)
+call_run t content now = record { later = omega arith; before = before; stays = λ m c was left. inr left }
+  where
+    before : (m : ℕ) (c : List ℕ) → m ≤ moment t → IsLeft (moved content now t) m c → IsLeft t m c
+    before m c was (inl newest) = absurd (omega (arith, newest.0))
+    before m c was (inr older) = older
+
+pub sync_failed_run : (t u : OnDisk) → IsSyncFailed t u → IsRun t u
+sync_failed_run t u (inl same) = subst (λ (d : OnDisk). IsRun t d) (sym same) (no_run t)
+sync_failed_run t u (inr late) = subst (λ (d : OnDisk). IsRun t d) (sym late) (call_run t t.content t.now)
 
 -- a run of which something is said is a run
 pub run_of : {t u : OnDisk} {P : List ℕ → Type 0} → LeavesOnly t u P → IsRun t u
