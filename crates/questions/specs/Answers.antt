@@ -8,7 +8,9 @@ use Rattle.record_fields.specs.declared.records.Record.TheVariants as body
 use Rattle.record_fields.specs.declared.records.Sealed.{Sealed}
 use Rattle.report.specs.Listing.{record_line}
 use Rattle.report.specs.Pieces.{chain_line}
-use Rattle.report.specs.Questions.{last_text, no_record_text, no_ticket_text, ticket_text, total_lines_text}
+use Rattle.report.specs.Questions.{last_text, no_record_text, no_serial_text, no_ticket_text, ticket_text, total_lines_text}
+use Rattle.shop_core.specs.Answer.Plans.{kept}
+use Rattle.shop_core.specs.declared.answer.receipts.Receipt.{Receipt}
 use Rattle.shop_core.specs.History.{last_serial, line_at, noted, recs, sealed_at}
 use Rattle.shop_core.specs.Standing.{last_alta}
 use Rattle.tax_lines.specs.Keys.{Key}
@@ -49,6 +51,14 @@ record_of entries place (Some sealed) = record_line place sealed (line_at entrie
 abbrev pub record_answer : List Entry → ℕ → List ℕ
 record_answer entries place = record_of entries place (sealed_at entries place)
 
+-- that of the record whose receipt is kept for a till and serial
+abbrev pub kept_answer : List Entry → ℕ → ℕ → Option Receipt → List ℕ
+kept_answer entries till serial None = no_serial_text till serial
+kept_answer entries till serial (Some receipt) = record_answer entries receipt.place
+
+abbrev pub serial_answer : List Entry → ℕ → ℕ → List ℕ
+serial_answer entries till serial = kept_answer entries till serial (kept entries till serial)
+
 -- the lines of a key that have a total
 abbrev pub AreLinesAnswer : Key → ℤ → List ℕ → Type 0
 AreLinesAnswer key total text = (found : Option TotalLines) × AreLinesOf key total found × (text ≡ total_lines_text found)
@@ -57,6 +67,7 @@ AreLinesAnswer key total text = (found : Option TotalLines) × AreLinesOf key to
 abbrev pub IsAnswer : TillQuestion → List Entry → List ℕ → Type 0
 IsAnswer (question.Ticket num host) entries text = text ≡ ticket_answer num host (ticket_of entries num)
 IsAnswer (question.Record place) entries text = text ≡ record_answer entries place
+IsAnswer (question.Serial till serial) entries text = text ≡ serial_answer entries till serial
 IsAnswer (question.Last till) entries text = text ≡ last_text till (last_serial entries till)
 IsAnswer (question.Lines key total) entries text = AreLinesAnswer key total text
 IsAnswer question.Chain entries text = text ≡ chain_line (length (recs entries)) (length (noted entries))

@@ -16,7 +16,7 @@ use Rattle.verify_link.specs.declared.parts.Host.TheVariants.{Real, Practice}
 use Rattle.questions.specs.declared.faults.QuestionFault.{QuestionFault}
 use Rattle.questions.specs.declared.faults.QuestionFault.TheVariants as fault
 use Rattle.questions.specs.declared.questions.TillQuestion.{TillQuestion}
-use Rattle.questions.specs.declared.questions.TillQuestion.TheVariants.{Ticket, Record, Last, Lines, Chain}
+use Rattle.questions.specs.declared.questions.TillQuestion.TheVariants.{Ticket, Record, Serial, Last, Lines, Chain}
 use Rattle.questions.specs.declared.reading.Verb.{Verb}
 use Rattle.questions.specs.declared.reading.Verb.TheVariants as verb
 
@@ -61,6 +61,12 @@ abbrev pub record_said : List (List ℕ) → Said
 record_said fields =
     then_on (worded (field_at 0 fields (number_in 1 4_294_967_295) word.Number)) (λ (place : ℕ). alone 1 fields (Record place))
 
+-- `serial TILL SERIAL`
+abbrev pub serial_said : List (List ℕ) → Said
+serial_said fields =
+    then_on (worded (field_at 0 fields (number_in 1 LAST_TILL) word.Till)) (λ (till : ℕ).
+    then_on (worded (field_at 1 fields (number_in 1 4_294_967_295) word.Number)) (λ (serial : ℕ). alone 2 fields (Serial till serial)))
+
 -- `last TILL`
 abbrev pub last_said : List (List ℕ) → Said
 last_said fields =
@@ -80,12 +86,13 @@ chain_said fields = alone 0 fields Chain
 abbrev pub verb_in : List ℕ → Option Verb
 verb_in text = first_of (
     when (bytes_eq text (codes "ticket")) verb.Ticket ∷ when (bytes_eq text (codes "record")) verb.Record
-    ∷ when (bytes_eq text (codes "last")) verb.Last ∷ when (bytes_eq text (codes "lines")) verb.Lines
-    ∷ when (bytes_eq text (codes "chain")) verb.Chain ∷ [])
+    ∷ when (bytes_eq text (codes "serial")) verb.Serial ∷ when (bytes_eq text (codes "last")) verb.Last
+    ∷ when (bytes_eq text (codes "lines")) verb.Lines ∷ when (bytes_eq text (codes "chain")) verb.Chain ∷ [])
 
 abbrev pub said_by : Verb → List (List ℕ) → Said
 said_by verb.Ticket fields = ticket_said fields
 said_by verb.Record fields = record_said fields
+said_by verb.Serial fields = serial_said fields
 said_by verb.Last fields = last_said fields
 said_by verb.Lines fields = lines_said fields
 said_by verb.Chain fields = chain_said fields

@@ -8,8 +8,8 @@ use amounts::Cents;
 use ports::NoMemory;
 use record_fields::{Record, Text};
 use report::{
-    chain_text, last_text, no_record_text, no_ticket_text, record_text, ticket_text,
-    total_lines_text,
+    chain_text, last_text, no_record_text, no_serial_text, no_ticket_text, record_text,
+    ticket_text, total_lines_text,
 };
 use series::NumSerie;
 use shop_core::State;
@@ -47,6 +47,15 @@ fn record(alloc: Global, state: &State, place: u32) -> Result<Text, NoMemory>
     }
 }
 
+fn serial(alloc: Global, state: &State, till: u8, serial: u32) -> Result<Text, NoMemory>
+    ensures { IfOk result (λ text. text ≡ spec.serial_answer state.now.entries till serial) }
+{
+    match state.kept(till, serial) {
+        Some(receipt) => record(alloc, state, receipt.place),
+        None => no_serial_text(alloc, till, serial),
+    }
+}
+
 /// The answer to the question for lines, which needs no history.
 pub fn lines_answer(alloc: Global, key: LineKey, total: Cents) -> Result<Text, NoMemory>
     ensures { IfOk result (AreLinesAnswer key total) }
@@ -64,6 +73,7 @@ impl TillQuestion {
         match self {
             TillQuestion::Ticket { num, host } => ticket(alloc, state, num, *host),
             TillQuestion::Record { place } => record(alloc, state, *place),
+            TillQuestion::Serial { till, serial: number } => serial(alloc, state, *till, *number),
             TillQuestion::Last { till } => last_text(alloc, *till, state.last_serial(*till)),
             TillQuestion::Lines { key, total } => lines_answer(alloc, *key, *total),
             TillQuestion::Chain => chain_text(alloc, state.records(), state.noted()),

@@ -11,6 +11,8 @@ pub enum TillQuestion {
     Ticket { num: NumSerie, host: Host },
     /// The listing's line of the record at this place, from 1.
     Record { place: u32 },
+    /// The listing's line of the record under this till and serial.
+    Serial { till: u8, serial: u32 },
     /// The greatest serial of a till.
     Last { till: u8 },
     /// Lines of this key that have this total, tax and surcharge included.

@@ -14,6 +14,7 @@ use verify_link::Host;
 enum Verb {
     Ticket,
     Record,
+    Serial,
     Last,
     Lines,
     Chain,
@@ -25,6 +26,7 @@ fn verb_of(text: &str) -> Option<Verb>
     match text {
         "ticket" => Some(Verb::Ticket),
         "record" => Some(Verb::Record),
+        "serial" => Some(Verb::Serial),
         "last" => Some(Verb::Last),
         "lines" => Some(Verb::Lines),
         "chain" => Some(Verb::Chain),
@@ -74,6 +76,19 @@ fn record(fields: &mut Fields) -> Result<TillQuestion, QuestionFault>
     })
 }
 
+// `TILL SERIAL`
+fn serial(fields: &mut Fields) -> Result<TillQuestion, QuestionFault>
+    ensures { result ≡ spec.serial_said fields.old }
+{
+    let till = number(fields, 1, u64::from(LAST_TILL), Word::Till)?;
+    let serial = number(fields, 1, 4_294_967_295, Word::Number)?;
+    fields.end()?;
+    Ok(TillQuestion::Serial {
+        till: till as u8,
+        serial: serial as u32,
+    })
+}
+
 // `TILL`
 fn last(fields: &mut Fields) -> Result<TillQuestion, QuestionFault>
     ensures { result ≡ spec.last_said fields.old }
@@ -107,6 +122,7 @@ fn said_by(verb: Verb, fields: &mut Fields) -> Result<TillQuestion, QuestionFaul
     match verb {
         Verb::Ticket => ticket(fields),
         Verb::Record => record(fields),
+        Verb::Serial => serial(fields),
         Verb::Last => last(fields),
         Verb::Lines => lines(fields),
         Verb::Chain => chain(fields),

@@ -32,6 +32,10 @@ no_ticket_text num = codes "ticket " ++ num ++ codes " unknown\n"
 abbrev pub no_record_text : ℕ → List ℕ
 no_record_text place = codes "record " ++ decimal place ++ codes " unknown\n"
 
+-- serial TILL SERIAL unknown
+abbrev pub no_serial_text : ℕ → ℕ → List ℕ
+no_serial_text till serial = codes "serial " ++ decimal till ++ codes " " ++ decimal serial ++ codes " unknown\n"
+
 -- last TILL SERIAL
 abbrev pub last_text : ℕ → ℕ → List ℕ
 last_text till serial = codes "last " ++ decimal till ++ codes " " ++ decimal serial ++ codes "\n"

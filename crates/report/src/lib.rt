@@ -29,8 +29,8 @@ pub use matching::matches_text;
 pub use moves::migrated_text;
 pub use posts::{Closed, closed_text, ended_text, issuer_text};
 pub use questions::{
-    chain_text, last_text, no_record_text, no_ticket_text, record_text, ticket_text,
-    total_lines_text,
+    chain_text, last_text, no_record_text, no_serial_text, no_ticket_text, record_text,
+    ticket_text, total_lines_text,
 };
 pub use statements::{StatementLine, statement_text};
 pub use status::{Detail, Ended, status_of};

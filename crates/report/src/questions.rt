@@ -89,6 +89,17 @@ pub fn no_record_text(alloc: Global, place: u32) -> Result<Text, NoMemory>
     Ok(Text::of(text))
 }
 
+/// That the chain has no record under this till and serial.
+pub fn no_serial_text(alloc: Global, till: u8, serial: u32) -> Result<Text, NoMemory>
+    ensures { IfOk result (λ text. text ≡ spec.no_serial_text till serial) }
+{
+    let mut text = Vec::new(alloc);
+    put_counted(&mut text, b"serial ", u64::from(till))?;
+    put_counted(&mut text, b" ", u64::from(serial))?;
+    put(&mut text, b" unknown\n")?;
+    Ok(Text::of(text))
+}
+
 /// The greatest serial of a till.
 pub fn last_text(alloc: Global, till: u8, serial: u32) -> Result<Text, NoMemory>
     ensures { IfOk result (λ text. text ≡ spec.last_text till serial) }

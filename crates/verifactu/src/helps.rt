@@ -104,8 +104,8 @@ starts and speaks to.
 Reads   a line on standard input, and the next one once it is answered; FILE,
         the shop's chain. The lines are a script's (verifactu help chain), but
         for vet, warn, wait and link, and questions: ticket NUM HOST, record
-        PLACE, last TILL, lines CLASS TOTAL and chain. NIF is the issuer's tax
-        number.
+        PLACE, serial TILL SERIAL, last TILL, lines CLASS TOTAL and chain. NIF
+        is the issuer's tax number.
 Prints  an answer for each line, for one that it can't read its number and what
         is wrong; at the end the line chain RECORDS noted NOTED.
 Writes  FILE, which is begun where it isn't there: each record is on the disk
