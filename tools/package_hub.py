@@ -28,8 +28,15 @@ LAUNCHER = b"""#!/bin/sh
 exec "$(dirname "$(readlink -f "$0")")/../share/verifactu-hub/verifactu_hub.py" "$@"
 """
 CLIENTS = ("till.py", "till.php", "till.js", "Till.java")
+# An upgrade stops the hubs that run, and starts those that are enabled.
+ENABLED = """[ -d /run/systemd/system ] || exit 0
+systemctl daemon-reload || true
+[ -n "$2" ] || exit 0
+for unit in /etc/systemd/system/multi-user.target.wants/verifactu-hub@*.service /etc/systemd/system/multi-user.target.wants/verifactu-hosting.service; do
+    [ ! -L "$unit" ] || systemctl start --no-block "${unit##*/}" || true
+done"""
 SCRIPTS = {
-    "postinst": "[ ! -d /run/systemd/system ] || systemctl daemon-reload || true",
+    "postinst": ENABLED,
     "prerm": "[ ! -d /run/systemd/system ] || systemctl stop 'verifactu-hub@*.service' verifactu-hosting.service || true\nrm -rf /usr/share/verifactu-hub/__pycache__",
     "postrm": "[ ! -d /run/systemd/system ] || systemctl daemon-reload || true",
 }
