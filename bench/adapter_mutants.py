@@ -13,7 +13,7 @@ sys.dont_write_bytecode = True
 sys.path.insert(0, AGENCY)
 import try_adapter
 
-try_adapter.LONGEST = 15.0
+try_adapter.LONGEST = 40.0
 WORDS = ["--journal", "{}/journal", "--service", "{}/service", "--longest", "3"]
 # The cases that fail, what the skeleton says, and what the mutant says in its place.
 MUTANTS = [

@@ -66,6 +66,7 @@ class Case:
         self.case, self.words = case, words
         self.folder = tempfile.mkdtemp(prefix="try.", dir="/dev/shm" if os.path.isdir("/dev/shm") else None)
         self.n, self.run, self.to, self.from_, self.came, self.others = 1735722000000000, None, None, None, b"", []
+        self.said_at = 0.0
         self.service = dict({"has": {}, "fates": [], "verdicts": {}, "wait": 0}, **case.get("service", {}))
 
     def path(self, name):
@@ -255,6 +256,7 @@ class Case:
         self.n = step.get("n", self.n)
         if step.get("begin", True):
             self.begin(step.get("begin", {}) if isinstance(step.get("begin"), dict) else {}, "begun")
+        self.said_at = time.time()
         self.say(self.message_of(step))
         if step.get("answer") == "dies":
             self.wait_until("the service isn't called", lambda: os.path.exists(self.path("dies")) or None)
@@ -322,9 +324,8 @@ class Case:
         sent, wanted = [named(call["sent"]) for call in calls], self.case.get("sent", [])
         if sent != wanted:
             raise Wrong("the calls that went out are %s, and not %s" % (sent, wanted))
-        for before, call in zip(calls, calls[1:]):
-            if call["at"] < before["at"] + self.case.get("apart", 0):
-                raise Wrong("a call went out %.2f seconds after the one before" % (call["at"] - before["at"]))
+        if "pause" in self.case and calls[-1]["at"] < self.said_at + self.case["pause"]:
+            raise Wrong("the last call went out %.2f seconds after the message came" % (calls[-1]["at"] - self.said_at))
         lines, wanted = self.journal_lines(), {huella: [word, code] for huella, word, code in items_of(self.case.get("after", {}))}
         if lines != wanted:
             raise Wrong("the journal's lines are %s, and not %s" % (named(lines), named(wanted)))
