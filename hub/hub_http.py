@@ -27,6 +27,7 @@ from hub_served import One, Queue, Served
 from hub_tokens import Asker, Tokens
 
 if TYPE_CHECKING:
+    from hub_faults import Faults
     from hub_metrics import Figures
 
 PREFIX = re.compile(r"(/shops/([a-z0-9-]{1,%d}))(/.*)?" % LONGEST_SHOP, re.DOTALL)  # of a path that names one of many shops
@@ -130,6 +131,7 @@ class Place:
 class Asking:
     """A request that arrived whole, who asks, and at which shop. `books` are there where its program is asked."""
 
+    request: web.BaseRequest
     asker: Optional[Asker]
     served: Optional[Served]
     body: bytes
@@ -162,8 +164,10 @@ class Route:
 class Hub:
     """One shop over HTTP, or many."""
 
-    def __init__(self, shops: Union[One, Many], tokens: Tokens, origins: FrozenSet[str], most_connections: int) -> None:
+    def __init__(self, shops: Union[One, Many], tokens: Tokens, origins: FrozenSet[str], most_connections: int,
+                 faults: "Optional[Faults]" = None) -> None:
         self.shops = shops
+        self.faults = faults
         self.tokens = tokens
         self.origins = origins
         self.loop = asyncio.get_running_loop()
@@ -189,9 +193,12 @@ class Hub:
             "/v1/openapi.json": {"GET": Route(self._describe)},
             "/health": {"GET": Route(self._health)},
             "/metrics": {"GET": Route(self._metrics, host=True)},
+            "/v1/faults": {"GET": Route(self._faults, owner=True)},
         }
         if not self.shops.are_many:
             del routes["/metrics"]
+        if self.faults is None:
+            del routes["/v1/faults"]
         for path in PAGE:
             routes[path] = {"GET": Route(self._page_of(path), owner=True)}
         return routes
@@ -218,6 +225,8 @@ class Hub:
         except Exception:
             sys.stderr.write(traceback.format_exc())
             response = Problem("unavailable", "the hub failed").response()
+        if self.faults is not None:
+            response = await self.faults.deliver(request, response)
         if not await _pass_over(request) or response.status == PROBLEMS["too-large"][0]:
             response.force_close()
         self._finish(request, response)
@@ -319,7 +328,7 @@ class Hub:
 
     async def _ask(self, request: web.BaseRequest, route: Route, asker: Optional[Asker], served: Optional[Served], place: Place) -> web.Response:
         body = await self._whole(request)
-        asking = Asking(asker, served, body, tuple(request.rel_url.query.items()), place)
+        asking = Asking(request, asker, served, body, tuple(request.rel_url.query.items()), place)
         self._refuse_while_stopping()
         self.under_way += 1
         if served is not None and asker is not None:
@@ -406,6 +415,8 @@ class Hub:
     async def _command(self, asking: Asking, verb: str) -> web.Response:
         _no_query(asking)
         shop = _books(asking).shop
+        if self.faults is not None and not self.faults.meet(asking.request, _till(asking), verb, asking.body, shop):
+            raise Unavailable("by --faults")
         command = read_command(verb, asking.body)
         answer = await shop.ask(command.line(_till(asking), await _bases(shop, command)))
         if isinstance(answer, Refused):
@@ -421,6 +432,8 @@ class Hub:
             raise Unavailable("the program lacks the record or the ticket of what it answered")
         if not command.makes(record):
             raise Problem("serial-used", "another command of this till has this serial: what was asked now isn't registered", {"record": record})
+        if self.faults is not None:
+            await self.faults.copy(answer.place)
         values: Values = {"answer": answer.answer, "place": answer.place, "num": answer.num, "huella": answer.huella, "record": record}
         if tickets:
             values["ticket"] = tickets[0]
@@ -474,6 +487,11 @@ class Hub:
         if served.shop is None or not await served.shop.is_alive():
             raise Unavailable("the program doesn't answer")
         return answer_json({"status": "ok"})
+
+    async def _faults(self, asking: Asking) -> web.Response:
+        _no_query(asking)
+        assert self.faults is not None
+        return answer_json(self.faults.values())
 
     # ---- what the host asks
 

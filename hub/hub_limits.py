@@ -62,6 +62,9 @@ ENDING = 2  # seconds for which a program whose pipe was closed counts as one th
 MOST_RECORDS_ASKED = 1_000  # one by one since the last look; of more the file is listed anew
 PART_OF_A_LIST = 65_536  # bytes that are read at once
 
+# trials of tills
+MOST_SEED = 10**9
+
 # the owner
 NEWEST = 20  # records
 BETWEEN_LISTS = 30  # seconds from one `list FILE refused` to the next, at least

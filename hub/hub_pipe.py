@@ -316,6 +316,7 @@ class Shop:
         self.timer: Optional[asyncio.TimerHandle] = None
         self.starting: Optional["asyncio.Task[None]"] = None
         self.ping: Optional["asyncio.Future[Counts]"] = None
+        self.before_start: Optional[Callable[[], None]] = None  # what is done once, while no program runs
 
     @property
     def has_answered(self) -> bool:
@@ -371,6 +372,9 @@ class Shop:
 
     async def _start(self) -> None:
         self.starts += 1
+        if self.before_start is not None:
+            self.before_start()
+            self.before_start = None
         try:
             await self.loop.subprocess_exec(
                 lambda: Run(self), *self.words, stdin=asyncio.subprocess.PIPE, stdout=asyncio.subprocess.PIPE,

@@ -22,9 +22,9 @@ from typing import Any, Iterator, Tuple
 # how each run of tests ends
 ENDED = re.compile(r"the hub's tests: (\d+) run, (\d+) not run")
 NEEDED = ("aiohttp", "jsonschema", "prometheus_client")
-MODULES = ["test_parts", "test_requests", "test_told", "test_attacks", "test_running", "test_machines", "test_nginx", "test_clients", "test_hosting"]
+MODULES = ["test_parts", "test_requests", "test_told", "test_attacks", "test_running", "test_machines", "test_nginx", "test_clients", "test_faults", "test_hosting"]
 # each of these in a process of its own, beside the others; the first two wait for 75 and 30 seconds
-BESIDE = ["test_running.SlowTest.test_a_request_must_have_arrived_within_75_seconds", "test_running.LimitTest", "test_requests", "test_clients", "test_hosting"]
+BESIDE = ["test_running.SlowTest.test_a_request_must_have_arrived_within_75_seconds", "test_running.LimitTest", "test_requests", "test_clients", "test_faults", "test_hosting"]
 
 
 def main() -> int:

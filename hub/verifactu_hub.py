@@ -3,7 +3,7 @@
 used, docs/HOSTING.md how for many shops.
 
     verifactu-hub FILE NIF --tokens TOKENS [--agency TO FROM] [--host real|test] [--listen ADDRESS:PORT] [--tls CERT KEY]
-                  [--origin ORIGIN].. [--program PATH]
+                  [--origin ORIGIN].. [--program PATH] [--faults SEED]
     verifactu-hub --shops SHOPS --tokens TOKENS [--host real|test] [--idle SECONDS] [--programs N] [--listen ADDRESS:PORT] [--tls CERT KEY]
                   [--origin ORIGIN].. [--program PATH]
 
@@ -24,14 +24,15 @@ import sys
 from dataclasses import dataclass
 from typing import Any, Dict, FrozenSet, List, NamedTuple, NoReturn, Optional, Tuple, Union
 
+from hub_faults import Faults
 from hub_hosting import Many
 from hub_http import Hub
 from hub_limits import (
     ANSWER_WITHIN, BACKLOG, HANDLES_OF_A_PROGRAM, IDLE, LAST_ANSWERS, LAST_LINES, LONGEST_IDLE, MOST_CONNECTIONS, MOST_CONNECTIONS_OF_MANY,
-    MOST_PROGRAMS, PROGRAMS, SPARE_HANDLES,
+    MOST_PROGRAMS, MOST_SEED, PROGRAMS, SPARE_HANDLES,
 )
 from hub_log import Log
-from hub_pipe import BadLine, Unavailable, tell
+from hub_pipe import BadLine, Shop, Unavailable, tell
 from hub_served import One
 from hub_shops import ShopLine, ShopsFault, counted, read_shops
 from hub_tokens import Tokens, TokensFault, read_tokens
@@ -71,6 +72,7 @@ class Settings:
     tls: Optional[Tuple[str, str]]
     origins: FrozenSet[str]
     program: str
+    faults: Optional[int]  # the seed of a hub on which tills are tried
 
     @property
     def most_connections(self) -> int:
@@ -85,9 +87,11 @@ def read_words(words: List[str]) -> Settings:
     one = None if are_many else _read_one(found)
     if are_many and found.agency:
         raise WordsFault("--shops takes no --agency: the lines of SHOPS have TO and FROM")
+    if found.faults is not None and (are_many or found.agency):
+        raise WordsFault("--faults is for a trial of one shop: it takes neither --agency nor --shops")
     address, port = _read_listen(found.listen)
     return Settings(one, found.shops or "", found.idle or IDLE, found.programs or PROGRAMS, found.tokens, found.host or "", address, port,
-                    _pair(found.tls), frozenset(map(_read_origin, found.origin)), found.program)
+                    _pair(found.tls), frozenset(map(_read_origin, found.origin)), found.program, found.faults)
 
 
 def _parser(are_many: bool) -> Words:
@@ -105,6 +109,7 @@ def _parser(are_many: bool) -> Words:
     parser.add_argument("--tls", nargs=2, metavar=("CERT", "KEY"))
     parser.add_argument("--origin", action="append", default=[], metavar="ORIGIN")
     parser.add_argument("--program", default=PROGRAM, metavar="PATH")
+    parser.add_argument("--faults", type=_whole(MOST_SEED), metavar="SEED", help="tries tills: loses answers on purpose, and says what each did wrong")
     return parser
 
 
@@ -230,7 +235,8 @@ class Service:
         else:
             self.shops = Many(prepared.shops, settings.host, settings.program, settings.idle, settings.programs)
         handles = raise_handles(settings.most_connections, 0 if settings.one else settings.programs)
-        self.hub = Hub(self.shops, prepared.tokens, settings.origins, handles)
+        self.faults = Faults(settings.faults, settings.one.file) if settings.faults is not None and settings.one is not None else None
+        self.hub = Hub(self.shops, prepared.tokens, settings.origins, handles, self.faults)
         if isinstance(self.shops, Many):
             self.hub.figures = _figures(self.shops)
         self.stopped = asyncio.Event()
@@ -266,6 +272,8 @@ class Service:
         self.shops.close()
         await asyncio.wait({self.shops.ended})
         await self.hub.wait_until_answered(LAST_ANSWERS)
+        if self.faults is not None:
+            self.faults.tell_all()
 
     async def tell_ready(self) -> None:
         """Tells systemd once the program has answered, or at once where it is one of many."""
@@ -277,12 +285,21 @@ class Service:
             tell(f"the program didn't answer at the beginning: {fault}")
 
     def stop(self) -> None:
-        """The first signal stops it in order, a second one kills the program."""
-        if self.stopped.is_set():
+        """The first signal stops it in order, a second one kills the program. Where tills are tried one ahead puts the older copy in place."""
+        if self.faults is not None and self.faults.has_older and isinstance(self.shops, One):
+            self.trying = asyncio.get_running_loop().create_task(self.put_older_back(self.faults, self.shops.shop))
+        elif self.stopped.is_set():
             self.shops.kill()
         else:
             notify("STOPPING=1")
             self.stopped.set()
+
+    async def put_older_back(self, faults: Faults, shop: Shop) -> None:
+        """Has tills tried over an older copy of the chain; what is under way is answered before."""
+        faults.is_older, self.hub.stopping = True, True
+        await self.hub.wait_until_answered(ANSWER_WITHIN + LAST_ANSWERS)
+        await faults.put_back(shop)
+        self.hub.stopping = False
 
     async def read_for_ever(self) -> None:
         """Reads all again at each SIGHUP, beside the loop: there may be very many shops. systemd is told when that begins and ends."""
@@ -398,7 +415,8 @@ def tell_beginning(prepared: Prepared) -> None:
     settings, port = prepared.settings, prepared.listening.getsockname()[1]
     listening = f"listening at {settings.address}:{port}"
     if settings.one:
-        tell(listening + (", a trial: practice agency" if settings.one.is_trial else ""))
+        trial = ", a trial: practice agency" if settings.one.is_trial else ""
+        tell(listening + trial + ("" if settings.faults is None else f", and faults by the seed {settings.faults}"))
         return
     trials = sum(line.is_trial for line in prepared.shops.values())
     tell(f"{listening}, {counted(len(prepared.shops))}" + (f", trials among them: {trials}, practice agency" if trials else ""))
