@@ -1,6 +1,6 @@
 -- A history as JSON: an object for the file's issuer and version, and one for each entry. The keys are in the order of their bytes.
 -- The objects are this project's own.
-use Rattle.std.specs.Prelude.{ℕ, List, [], ◌∷◌, map, codes, Option, None, Some}
+use Rattle.std.specs.Prelude.{ℕ, List, [], ◌∷◌, ◌&&◌, Bool, bytes_eq, filter, map, not, codes, Option, None, Some}
 use Rattle.serde_json.specs.Data.{Data, null, boolean, number, string, array, object, unsigned, no_items, item, Members, no_members, member}
 use Rattle.serde_json.specs.Find.{of_integer}
 use Rattle.serde_json.specs.View.{items_of}
@@ -167,6 +167,15 @@ anulacion_fields till serial anulacion huella =
 abbrev pub body_object : ℕ → ℕ → Record → List ℕ → Data
 body_object till serial (record_of.Alta alta) huella = object_from (alta_fields till serial alta huella)
 body_object till serial (record_of.Anulacion anulacion) huella = object_from (anulacion_fields till serial anulacion huella)
+
+-- the key of neither a till nor a serial
+abbrev pub is_of_record : List ℕ × Data → Bool
+is_of_record field = not (bytes_eq field.0 (codes "serial")) && not (bytes_eq field.0 (codes "till"))
+
+-- what a record's object has, its till and serial aside
+abbrev pub record_fields_of : Record → List ℕ → List (List ℕ × Data)
+record_fields_of (record_of.Alta alta) huella = filter is_of_record (alta_fields 0 0 alta huella)
+record_fields_of (record_of.Anulacion anulacion) huella = filter is_of_record (anulacion_fields 0 0 anulacion huella)
 
 -- how many lines were noted before, and the lines
 abbrev pub notes_fields : ℕ → List Line → List (List ℕ × Data)

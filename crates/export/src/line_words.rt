@@ -1,5 +1,5 @@
 //! The words of the agency's lines, with their codes.
-ghost use Rattle.std.specs.Prelude.{◌≡◌, Some};
+ghost use Rattle.std.specs.Prelude.{◌≡◌, IfSome, Some};
 ghost use Rattle.record_fields.specs.declared.lines.Line.{Line as AnyLine};
 ghost use Rattle.export.specs.Objects as spec;
 
@@ -37,9 +37,9 @@ pub fn line_code(line: Line) -> u16
     }
 }
 
-/// The only line that may have this word and this code.
-pub fn line_named(word: &str, code: u16) -> Option<Line>
-    ensures { (line : AnyLine) → word.now ≡ spec.line_word line → code ≡ spec.line_code line → result ≡ Some line }
+fn line_with(word: &str, code: u16) -> Option<Line>
+    ensures found { (line : AnyLine) → word.now ≡ spec.line_word line → code ≡ spec.line_code line → result ≡ Some line }
+    ensures word { IfSome result (λ line. word.now ≡ spec.line_word line) }
 {
     match word {
         "correcto" => Some(Line::Correcto),
@@ -48,6 +48,17 @@ pub fn line_named(word: &str, code: u16) -> Option<Line>
         "held" => Some(Line::Incorrecto(Cause::Held)),
         "not-held" => Some(Line::Incorrecto(Cause::NotHeld)),
         "gone" => Some(Line::Incorrecto(Cause::Gone)),
+        _ => None,
+    }
+}
+
+/// The line that has this word and this code; None exactly where none has.
+pub fn line_named(word: &str, code: u16) -> Option<Line>
+    ensures found { (line : AnyLine) → word.now ≡ spec.line_word line → code ≡ spec.line_code line → result ≡ Some line }
+    ensures only { IfSome result (λ line. (word.now ≡ spec.line_word line) × (code ≡ spec.line_code line)) }
+{
+    match line_with(word, code) {
+        Some(line) if line_code(line) == code => Some(line),
         _ => None,
     }
 }

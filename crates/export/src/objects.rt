@@ -110,7 +110,8 @@ fn put_body(
 
 /// The members of a record's object, without its till and serial.
 pub fn sealed_members(alloc: Global, sealed: &Sealed) -> Result<Map<String, Value>, AllocError>
-    ensures { IfOk result (λ members. members_view members.entries ≡ building.sealed_members sealed.now) }
+    ensures { IfOk result (λ members. members_view members.entries
+        ≡ spec.members_from (spec.record_fields_of sealed.now.body sealed.now.huella)) }
 {
     let mut members = Map::new(alloc);
     put_sealed(&mut members, alloc, sealed)?;
