@@ -39,7 +39,8 @@ setsid unshare --net --mount --propagation private bash -c '
             systemd.unified_cgroup_hierarchy=1 --show-status=false --log-target=journal"' >"$work/console" 2>&1 </dev/null &
 first=
 for _ in {1..300}; do
-    for process in $(find "$cgroup" -name cgroup.procs -exec cat {} + 2>/dev/null); do
+    mapfile -t processes < <(find "$cgroup" -name cgroup.procs -exec cat {} + 2>/dev/null)
+    for process in "${processes[@]}"; do
         [ "$(awk '/^NSpid/ { print NF ":" $NF }' "/proc/$process/status" 2>/dev/null)" = 3:1 ] && grep -q systemd "/proc/$process/comm" && first=$process
     done
     [ -z "$first" ] || break
@@ -75,7 +76,11 @@ before=$(inside verifactu --version | head -n 1)
 token=$(printf 't%.0s' {1..40})
 owner=$(printf 'o%.0s' {1..40})
 inside sh -c "install -d -m 0755 /etc/verifactu && umask 077 && printf 'till 1 %s\nowner %s\n' $token $owner >/etc/verifactu/$nif.tokens &&
-    chown verifactu /etc/verifactu/$nif.tokens && systemctl -q enable --now verifactu-hub@$nif.service && systemctl -q enable verifactu-follow@$nif.timer"
+    chown verifactu /etc/verifactu/$nif.tokens && systemctl -q enable verifactu-follow@$nif.timer"
+# (devices of its own can't be had where /dev is made of bind mounts)
+inside sh -c 'install -d /etc/systemd/system/verifactu-hub@.service.d && printf "[Service]\nPrivateDevices=no\n" >/etc/systemd/system/verifactu-hub@.service.d/bind.conf'
+inside systemctl -q daemon-reload
+inside systemctl -q enable --now "verifactu-hub@$nif.service" || fail "the old hub doesn't run: $(inside journalctl -n 10 --no-pager)"
 is "a sale of the old version" "$(ask /v1/sales "$token" "$(sale 1)")" '201 taken A-1 1'
 old_files=$(kept)
 old_chain=$(inside verifactu export "/var/lib/verifactu/$nif.chain" | head -n 1)
