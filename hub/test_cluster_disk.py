@@ -48,6 +48,9 @@ exec switch_root /root /lib/systemd/systemd
 # A shell for the test, on a network that nobody else reaches; without ssh, whose keys take these guests a minute.
 SHELL = {"shell.socket": "[Socket]\nListenStream=7000\nAccept=yes\n",
          "shell@.service": "[Service]\nExecStart=/bin/bash\nStandardInput=socket\nStandardError=inherit\nEnvironment=HOME=/root\n"}
+# Beside other work a guest may get a twentieth of a processor: nothing of systemd's own gives up meanwhile.
+PATIENT = {"system.conf.d/patient.conf": "[Manager]\nDefaultTimeoutStartSec=1h\nDefaultTimeoutStopSec=1h\n",
+           "system/systemd-journald.service.d/patient.conf": "[Service]\nTimeoutStartSec=1h\nWatchdogSec=0\n"}
 # What makes the group's disk, as docs/HOSTING.md says: MAKE at both machines, then FIRST at one of them.
 MAKE = "modprobe drbd; drbdadm create-md --force g1 && drbdadm up g1"
 FIRST = "drbdadm primary --force g1 && mkfs.ext4 -q /dev/drbd1 && mount /dev/drbd1 /srv/groups/g1 && tar xp -C /srv/groups/g1"
@@ -117,6 +120,8 @@ class Guests(Place):
             os.remove(f"{self.files}/etc/systemd/system/{name}")
         for name, text in SHELL.items():
             self.put(f"etc/systemd/system/{name}", text)
+        for name, text in PATIENT.items():
+            self.put(f"etc/systemd/{name}", text)
         os.makedirs(f"{self.files}/etc/systemd/system/sockets.target.wants")
         os.symlink("../shell.socket", f"{self.files}/etc/systemd/system/sockets.target.wants/shell.socket")
         self.put("etc/corosync/corosync.conf", text_of(f"{CLUSTER}/corosync.conf").replace("token: 3000", "token: 30000"))
