@@ -52,7 +52,7 @@ wait_for() {
     local what=$1
     shift
     for _ in {1..1200}; do ! inside "$@" >/dev/null 2>&1 || return 0; sleep 0.1; done
-    fail "$what"
+    fail "$what: $(inside journalctl -n 20 --no-pager)"
 }
 # Asks the hub, and says its status and the parts of its answer.
 ask() {
