@@ -85,7 +85,7 @@ MUTANTS = [
     ("8-noted 8-shown 8-hole", "        return self.lost + len(self.lines)\n", "        return len(self.lines)\n"),
     ("8-shown", "        self.journal.back([[name[\"huella\"]] + line for name, line in zip(unknown, lines)])\n", ""),
     ("8-hole", '            raise Fault("%s isn\'t shown, and a later record is" % unknown[lines.index(None)]["num"])\n', '            lines = [line or ["vet", 0] for line in lines]\n'),
-    ("9-amounts", "dict(record, ref=reference_of(record)) for record in records])", "recomputed(dict(record, ref=reference_of(record))) for record in records])"),
+    ("9-amounts", "dict(record, ref=reference_of(record)) for record in records]", "recomputed(dict(record, ref=reference_of(record))) for record in records]"),
 ]
 RECOMPUTED = '''
 
