@@ -298,6 +298,8 @@ def run(options: argparse.Namespace) -> int:
     """All of it, in namespaces of its own."""
     place = Guests(options.place, os.path.realpath(options.program))
     place.make_groups()
+    place.make_files()
+    place.make_image()
     try:
         place.begin()
         results = asyncio.run(rounds(Disks(place), options.faults or list(FAULTS)))
@@ -322,8 +324,6 @@ def main() -> int:
     place = Guests(options.place, os.path.realpath(options.program))
     place.make_tree()
     place.make_kernel()
-    place.make_files()
-    place.make_image()
     return in_namespaces(__file__)
 
 
