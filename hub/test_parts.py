@@ -288,6 +288,19 @@ class FormsTest(unittest.TestCase):
         self.assertIsNone(hub_forms.read_listing(f"{alta}\n"))
 
 
+class PackageTest(unittest.TestCase):
+    """What the package has."""
+
+    def test_each_part_of_the_hub_is_in_its_package(self) -> None:
+        here = os.path.dirname(os.path.realpath(__file__))
+        with open(os.path.join(here, "..", "tools", "package_hub.py"), encoding="utf-8") as tool:
+            text = tool.read()
+        parts = [name for name in os.listdir(here) if name.startswith("hub_") and name.endswith(".py")]
+        self.assertIn("hub_http.py", parts)
+        self.assertEqual([name for name in parts if f'"{name}"' not in text], [])
+        self.assertEqual([name for name in os.listdir(os.path.join(here, "clients")) if f'"{name}"' not in text], [])
+
+
 class TokensTest(unittest.TestCase):
     """The file of tokens."""
 

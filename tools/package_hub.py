@@ -20,8 +20,8 @@ from package import DOC, PLACE, UNITS, Refused, output, owner, put, rights, set_
 
 SHARE = "share/verifactu-hub"
 UNITS_OF_HUB = ("verifactu-hub@.service", "verifactu-hosting.service", "verifactu-group@.service", "verifactu-group-agency@.service")
-PARTS = ("verifactu_hub.py", "hub_books.py", "hub_connections.py", "hub_forms.py", "hub_hosting.py", "hub_http.py", "hub_limits.py", "hub_metrics.py",
-         "hub_pipe.py", "hub_served.py", "hub_shops.py", "hub_tokens.py", "openapi.json", "page.html", "page.css", "page.js")
+PARTS = ("verifactu_hub.py", "hub_books.py", "hub_connections.py", "hub_faults.py", "hub_forms.py", "hub_hosting.py", "hub_http.py", "hub_limits.py",
+         "hub_log.py", "hub_metrics.py", "hub_pipe.py", "hub_served.py", "hub_shops.py", "hub_tokens.py", "openapi.json", "page.html", "page.css", "page.js")
 PAGES = ("HUB.md", "HOSTING.md")
 CLUSTER = ("corosync.conf", "cluster.crm", "group.crm", "group-drbd.crm", "g1.res", "nginx.conf")
 LAUNCHER = b"""#!/bin/sh
