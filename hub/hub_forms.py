@@ -18,6 +18,8 @@ Reader = Callable[[Any, str], Any]
 
 WORD = re.compile(r"[!-<>-~]{1,%d}" % LONGEST_WORD)
 DAY = re.compile(r"(\d{4})-(\d{2})-(\d{2})", re.ASCII)
+SERIAL = re.compile(r"[1-9]\d{0,9}", re.ASCII)
+LAST_SERIAL = 4_294_967_295
 MONTH = re.compile(r"(\d{4})-(\d{2})", re.ASCII)
 HUELLA = r"([0-9A-F]{64})"
 EUROS = r"(-?\d+\.\d\d)"
@@ -132,6 +134,13 @@ def read_day(value: Any, name: str) -> str:
     if not found:
         raise BadRequest(f"{name} is no day YYYY-MM-DD")
     return "-".join(reversed(found.groups()))
+
+
+def read_serial(text: str, name: str) -> int:
+    """A serial of a query, in digits."""
+    if not SERIAL.fullmatch(text) or int(text) > LAST_SERIAL:
+        raise BadRequest(f"{name} is no whole number from 1 to {LAST_SERIAL}")
+    return int(text)
 
 
 def read_month(value: str, name: str) -> str:
@@ -323,6 +332,15 @@ def record_line(place: int) -> Line[Values]:
         return row if row and row["place"] == place else None
 
     return Line(f"record {place}", read)
+
+
+def serial_line(till: int, serial: int) -> Line[Values]:
+    """Asks the listing's line of the record under a till's serial."""
+
+    def read(answer: str) -> Optional[Values]:
+        return UNKNOWN if answer == f"serial {till} {serial} unknown" else read_row(answer)
+
+    return Line(f"serial {till} {serial}", read)
 
 
 def last_line(till: int) -> Line[int]:

@@ -18,7 +18,7 @@ from hub_books import Books
 from hub_connections import Connection, Connections
 from hub_forms import (
     BadRequest, Command, NoMemory, Receipt, Refused, Values, last_line, parting_line, read_command, read_day, read_month,
-    read_word, record_line, ticket_line,
+    read_serial, read_word, record_line, serial_line, ticket_line,
 )
 from hub_hosting import NOT_SERVED, Many
 from hub_limits import ANSWER_WITHIN, LONGEST_SHOP, MOST_BODY, MOST_LINES, MOST_PASSED_OVER, MOST_UNDER_WAY
@@ -187,6 +187,7 @@ class Hub:
             "/v1/cancellations": {"POST": Route(self._cancel, tills=True)},
             "/v1/last": {"GET": Route(self._last, tills=True)},
             "/v1/invoices": {"GET": Route(self._invoice, tills=True, owner=True)},
+            "/v1/records": {"GET": Route(self._record, tills=True)},
             "/v1/state": {"GET": Route(self._state, owner=True)},
             "/v1/months/{month}": {"GET": Route(self._month, owner=True)},
             "/v1/days/{day}": {"GET": Route(self._day, owner=True)},
@@ -459,6 +460,15 @@ class Hub:
             raise Problem("not-found", "the chain has no invoice of this number")
         cancelled = await _books(asking).cancellations.find(num, ticket["place"])
         return answer_json({**ticket, "cancelled": cancelled} if cancelled else ticket)
+
+    async def _record(self, asking: Asking) -> web.Response:
+        if [name for name, _ in asking.query] != ["serial"]:
+            raise BadRequest("the query isn't serial alone, once")
+        serial = read_serial(asking.query[0][1], "serial")
+        row = await _books(asking).shop.ask(serial_line(_till(asking), serial))
+        if not row:
+            raise Problem("not-found", "this till has no record under this serial")
+        return answer_json(row)
 
     # ---- what the owner and anybody asks
 

@@ -191,7 +191,7 @@ class Serve:
         verb, *rest = fields
         if verb in ("sale", "fix", "cancel"):
             return self.command(verb, rest)
-        counts = {"ticket": 2, "record": 1, "last": 1, "lines": 2, "chain": 0}
+        counts = {"ticket": 2, "record": 1, "serial": 2, "last": 1, "lines": 2, "chain": 0}
         if verb == "customer":
             return self.customer(rest)
         if verb not in counts:
@@ -328,6 +328,11 @@ class Serve:
     def record(self, place):
         asked = number(place, "Number", 2**32 - 1, 1)
         return self.chain.listing(asked) if asked <= len(self.chain.records) else f"record {asked} unknown"
+
+    def serial(self, till, serial):
+        asked = number(till, "Till", 64, 1), number(serial, "Number", 2**32 - 1, 1)
+        place = self.chain.kept.get(asked)
+        return self.chain.listing(place) if place else f"serial {asked[0]} {asked[1]} unknown"
 
     def last(self, till):
         asked = number(till, "Till", 64, 1)

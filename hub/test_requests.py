@@ -502,7 +502,7 @@ class DescriptionTest(OverAHub):
             content = methods.get("get", {}).get("responses", {}).get("200", {}).get("content", {}).get("application/json")
             if content and path not in ELSEWHERE:
                 filled, query = self.fill(path, methods["get"].get("parameters", []))
-                token = self.place.till[3] if path == "/v1/last" else self.place.owner
+                token = self.place.till[3] if path in ("/v1/last", "/v1/records") else self.place.owner
                 answer = self.hub.ask("GET", filled + query, token)
                 self.assertEqual(answer.status, 200, answer.body)
                 self.fits(answer.json, content["schema"])

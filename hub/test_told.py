@@ -52,6 +52,23 @@ class AgainTest(OverAHub):
         self.assertEqual((again.status, again.json["record"]["total"]), (200, 1000))
 
 
+class RecordTest(OverAHub):
+    """The record under a serial of a till's own."""
+
+    def test_a_till_is_told_its_own_records_by_their_serials(self) -> None:
+        self.assertEqual(self.post("/v1/sales", {**SALE, "serial": 5}).status, 201)
+        self.assertEqual(self.post("/v1/fixes", {**FIX, "serial": 7}).status, 201)
+        self.assertEqual(self.post("/v1/cancellations", {"num": "A-1", "serial": 4294967295}, till=2).status, 201)
+        for till, serial, wanted in ((1, 5, (1, "alta", "N")), (1, 7, (2, "alta", "S")), (2, 4294967295, (3, "anulacion", None))):
+            row = self.hub.ask("GET", f"/v1/records?serial={serial}", self.place.till[till]).json
+            self.assertEqual((row["place"], row["record"], row.get("subsanacion"), row["num"]), (*wanted, "A-1"))
+        for till, serial in ((1, 6), (1, 4294967295), (2, 5), (3, 1)):
+            self.is_problem(self.hub.ask("GET", f"/v1/records?serial={serial}", self.place.till[till]), 404, "not-found")
+        for query in ("", "?serial=", "?serial=0", "?serial=-1", "?serial=1x", "?serial=01", "?serial=4294967296", "?serial=1&serial=1", "?num=A-1", "?serial=1&x=1"):
+            self.is_problem(self.hub.ask("GET", f"/v1/records{query}", self.place.till[1]), 400, "bad-request")
+        self.is_problem(self.hub.ask("GET", "/v1/records?serial=5", self.place.owner), 403, "forbidden")
+
+
 class CancelledTest(OverAHub):
     """An invoice that was cancelled."""
 
