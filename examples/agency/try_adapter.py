@@ -27,7 +27,7 @@ import time
 HERE = os.path.dirname(os.path.abspath(__file__))
 CASES = os.path.join(HERE, "cases")
 ISSUER = "89890001K"
-LONGEST = 30.0
+LONGEST = 60.0
 with open(os.path.join(CASES, "records.json"), encoding="utf-8") as records_file:
     RECORDS = json.load(records_file)
 NAMES = {record["huella"]: name for name, record in RECORDS.items()}
