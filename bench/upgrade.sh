@@ -37,6 +37,7 @@ setsid unshare --net --mount --propagation private bash -c '
         pivot_root . place; umount -l /place; mount --make-rshared /
         exec env -i container=namespaces PATH=/usr/sbin:/usr/bin:/sbin:/bin /lib/systemd/systemd --system \
             systemd.unified_cgroup_hierarchy=1 --show-status=false --log-target=journal"' >"$work/console" 2>&1 </dev/null &
+disown
 first=
 for _ in {1..300}; do
     mapfile -t processes < <(find "$cgroup" -name cgroup.procs -exec cat {} + 2>/dev/null)
