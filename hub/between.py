@@ -4,7 +4,7 @@ from __future__ import annotations
 import http.client
 import threading
 from http.server import BaseHTTPRequestHandler, ThreadingHTTPServer
-from typing import Any, List, NamedTuple, Optional
+from typing import Any, List, NamedTuple, Optional, Tuple
 
 
 class Lie(NamedTuple):
@@ -33,54 +33,60 @@ LIES = [
 ]
 
 
-class Between:
-    """A proxy in front of a port. The next sales that are asked are answered by `lies`, one after another; all else is the hub's."""
+class Handler(BaseHTTPRequestHandler):
+    """One connection."""
 
-    def __init__(self, port: int, lies: Optional[List[Lie]] = None) -> None:
+    protocol_version = "HTTP/1.1"
+
+    def do_GET(self) -> None:
+        self._pass(None)
+
+    def do_POST(self) -> None:
+        self._pass(self.rfile.read(int(self.headers.get("Content-Length", 0))))
+
+    def _pass(self, body: Optional[bytes]) -> None:
+        between: Between = self.server.between  # type: ignore[attr-defined]
+        between.paths.append(self.path)
+        lie = between.lies.pop(0) if body is not None and between.lies else None
+        if lie is None or lie.is_done:
+            told = self._ask(between.hub, body)
+        if lie is not None:
+            told = lie.status, lie.kind, lie.text.encode()
+        self._answer(*told)
+
+    def _ask(self, hub: int, body: Optional[bytes]) -> Tuple[int, str, bytes]:
+        connection = http.client.HTTPConnection("127.0.0.1", hub, timeout=60)
+        connection.request(self.command, self.path, body, {"Authorization": self.headers.get("Authorization", "")})
+        answer = connection.getresponse()
+        told = answer.status, answer.getheader("Content-Type") or "", answer.read()
+        connection.close()
+        return told
+
+    def _answer(self, status: int, kind: str, text: bytes) -> None:
+        try:
+            self.send_response(status)
+            self.send_header("Content-Type", kind)
+            self.send_header("Content-Length", str(len(text)))
+            if status == 302:
+                self.send_header("Location", "/sign-in")
+            self.end_headers()
+            self.wfile.write(text)
+        except OSError:
+            pass  # the till has hung up
+
+    def log_message(self, format: str, *args: Any) -> None:
+        """Nothing is logged."""
+
+
+class Between:
+    """A proxy in front of a hub's port. The next sales that are asked are answered by `lies`, one after another; all else is the hub's."""
+
+    def __init__(self, hub: int, lies: Optional[List[Lie]] = None) -> None:
+        self.hub = hub
         self.lies = list(lies or [])
         self.paths: List[str] = []
-        between = self
-
-        class Handler(BaseHTTPRequestHandler):
-            """One connection."""
-
-            protocol_version = "HTTP/1.1"
-
-            def do_GET(self) -> None:
-                self._pass(None)
-
-            def do_POST(self) -> None:
-                self._pass(self.rfile.read(int(self.headers.get("Content-Length", 0))))
-
-            def _pass(self, body: Optional[bytes]) -> None:
-                between.paths.append(self.path)
-                lie = between.lies.pop(0) if body is not None and between.lies else None
-                if lie is None or lie.is_done:
-                    connection = http.client.HTTPConnection("127.0.0.1", port, timeout=60)
-                    connection.request(self.command, self.path, body, {"Authorization": self.headers.get("Authorization", "")})
-                    answer = connection.getresponse()
-                    told = answer.status, answer.getheader("Content-Type") or "", answer.read()
-                    connection.close()
-                if lie is not None:
-                    told = lie.status, lie.kind, lie.text.encode()
-                self._answer(*told)
-
-            def _answer(self, status: int, kind: str, text: bytes) -> None:
-                try:
-                    self.send_response(status)
-                    self.send_header("Content-Type", kind)
-                    self.send_header("Content-Length", str(len(text)))
-                    if status == 302:
-                        self.send_header("Location", "/sign-in")
-                    self.end_headers()
-                    self.wfile.write(text)
-                except OSError:
-                    pass  # the till has hung up
-
-            def log_message(self, format: str, *args: Any) -> None:
-                """Nothing is logged."""
-
         self.server = ThreadingHTTPServer(("127.0.0.1", 0), Handler)
+        self.server.between = self  # type: ignore[attr-defined]
         self.port = int(self.server.server_address[1])
         threading.Thread(target=self.server.serve_forever, daemon=True).start()
 

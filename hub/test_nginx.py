@@ -87,15 +87,15 @@ class NginxTest(unittest.TestCase):
         except OSError:
             return False
 
-    def start_hub_page(self, port: int) -> None:
-        """The example of docs/HUB.md over a hub at this port."""
-        self.start("HUB.md", {"127.0.0.1:8730": f"127.0.0.1:{port}", "proxy_read_timeout 40s": "proxy_read_timeout 1s"})
+    def start_hub_page(self, port: int, seconds: int = 1) -> None:
+        """The example of docs/HUB.md over a hub at this port, for whose answer nginx waits so long."""
+        self.start("HUB.md", {"127.0.0.1:8730": f"127.0.0.1:{port}", "proxy_read_timeout 40s": f"proxy_read_timeout {seconds}s"})
 
-    def start_hosting_page(self, port: int) -> None:
+    def start_hosting_page(self, port: int, seconds: int = 1) -> None:
         """The example of docs/HOSTING.md over one machine at this port."""
         with open(f"{self.path}/machines", "w", encoding="ascii") as file:
             file.write("bar-sol a;\n")
-        self.start("HOSTING.md", {"10.0.0.11:8730": f"127.0.0.1:{port}", "10.0.0.12:8730": f"127.0.0.1:{port}", "proxy_read_timeout 40s": "proxy_read_timeout 1s",
+        self.start("HOSTING.md", {"10.0.0.11:8730": f"127.0.0.1:{port}", "10.0.0.12:8730": f"127.0.0.1:{port}", "proxy_read_timeout 40s": f"proxy_read_timeout {seconds}s",
                                   "/etc/nginx/verifactu-machines": f"{self.path}/machines"})
 
     def ask(self, method: str, path: str, body: Optional[bytes] = None, headers: Optional[Dict[str, str]] = None) -> Answer:
@@ -143,7 +143,7 @@ class NginxTest(unittest.TestCase):
         text = b'{"till":1,"serial":0}'
         machine = Machine(0.8, b"HTTP/1.1 200 OK\r\nContent-Type: application/json\r\nConnection: close\r\nContent-Length: %d\r\n\r\n%s" % (len(text), text))
         self.addCleanup(machine.server.close)
-        start(machine.port)
+        start(machine.port, 40)
         answers: List[Tuple[int, Any]] = []
 
         def ask() -> None:
@@ -154,7 +154,7 @@ class NginxTest(unittest.TestCase):
         for thread in threads:
             thread.start()
         for thread in threads:
-            thread.join(30)
+            thread.join(60)
         self.assertEqual({status for status, _ in answers}, {200}, json.dumps(answers))
         self.assertEqual(len(answers), 70)
 
