@@ -101,7 +101,7 @@ class Connections(web.Server):
         self.answered = answered
         self.most = most
         self.most_body = most_body
-        self.beginning: "Dict[asyncio.Task[None], None]" = {}  # TLS's handshake is under way, the oldest first
+        self.beginning: "Dict[socket.socket, asyncio.Task[None]]" = {}  # TLS's handshake is under way, the oldest first
         self.owing: Dict[Connection, float] = {}  # since when, the longest first
         self.answering: Dict[Connection, float] = {}
         self.closed_early = 0  # connections that were too many, and not told yet
@@ -123,9 +123,7 @@ class Connections(web.Server):
                 self._make_room(0)
                 await asyncio.sleep(0.1)
                 continue
-            task = self.loop.create_task(self._begin(accepted, context))
-            self.beginning[task] = None
-            task.add_done_callback(lambda done: self.beginning.pop(done, None))
+            self.beginning[accepted] = self.loop.create_task(self._begin(accepted, context))
             self._make_room(self.most)
             await asyncio.sleep(0)
 
@@ -134,22 +132,28 @@ class Connections(web.Server):
         try:
             await self.loop.connect_accepted_socket(self, accepted, **words)
         except (OSError, ValueError, asyncio.TimeoutError) as fault:  # an SSLError is an OSError
-            tell(f"TLS: {getattr(fault, 'reason', None) or str(fault) or type(fault).__name__}")
-        except asyncio.CancelledError:
-            accepted.close()
-            raise
+            if accepted in self.beginning:
+                tell(f"TLS: {getattr(fault, 'reason', None) or str(fault) or type(fault).__name__}")
+        finally:
+            self.beginning.pop(accepted, None)
 
     def _make_room(self, most: int) -> None:
         """Closes one that is too many: the oldest before its handshake's end, else the one that has owed a request for longest."""
         if len(self.beginning) + len(self.owing) + len(self.answering) <= most:
             return
-        waiting = next((task for task in self.beginning if not task.done()), None)
-        if waiting is not None and len(self.beginning) > 1:
-            self.beginning.pop(waiting)
-            waiting.cancel()
-            self.closed_early += 1
+        if len(self.beginning) > 1:
+            self._end_early(next(iter(self.beginning)))
         elif self.owing:
             next(iter(self.owing)).drop()
+
+    def _end_early(self, accepted: socket.socket) -> None:
+        """Ends a handshake. The socket is closed by its transport: another connection must not get its number before."""
+        del self.beginning[accepted]
+        self.closed_early += 1
+        try:
+            accepted.shutdown(socket.SHUT_RDWR)
+        except OSError:
+            pass  # the other side has gone
 
     def tell_closed(self) -> None:
         """Says how many were closed before their handshake's end, every so often."""

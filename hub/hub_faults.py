@@ -97,6 +97,13 @@ class TillNotes:
         return sorted([*self.wrong, *left])
 
 
+class Copy(NamedTuple):
+    """The chain as it was, and the greatest serial of each till that had been answered: one more may have its record."""
+
+    chain: bytes
+    taken: Dict[int, int]
+
+
 class Met(NamedTuple):
     """A command that has met its fate."""
 
@@ -120,7 +127,8 @@ class Faults:
         self.random = random.Random(seed)
         self.tills: Dict[int, TillNotes] = {}
         self.drawn = {fate.name: 0 for fate in (*FATES, PLAIN)}
-        self.copies: List[bytes] = []  # of the chain, each of at least twice as many records as the one before
+        self.copies: List[Copy] = []  # of the chain, each of at least twice as many records as the one before
+        self.older = b""  # the one that is put back
         self.copied = 0  # records of the last one
         self.is_older = False  # it is put in place of the chain
 
@@ -172,7 +180,8 @@ class Faults:
         """Keeps a copy whenever the chain has become twice as long. A file that is written meanwhile is read as one of a moment before."""
         if records >= 2 * self.copied and not self.is_older:
             self.copied = records
-            self.copies = [*self.copies[-1:], await asyncio.get_running_loop().run_in_executor(None, self._read)]
+            taken = {till: notes.taken for till, notes in self.tills.items()}
+            self.copies.append(Copy(await asyncio.get_running_loop().run_in_executor(None, self._read), taken))
 
     def _read(self) -> bytes:
         with open(self.file, "rb") as file:
@@ -181,10 +190,12 @@ class Faults:
     @property
     def has_older(self) -> bool:
         """Whether there is a copy that lacks something, and it wasn't put back yet."""
-        return len(self.copies) == 2 and not self.is_older
+        return len(self.copies) > 1 and not self.is_older
 
     async def put_back(self, shop: Shop) -> None:
-        """Puts the older copy in place of the chain, under a program that is killed for it."""
+        """Puts an older copy in place of the chain, under a program that is killed for it: the newest that lacks a record of each till."""
+        lacking = [copy for copy in self.copies if all(notes.taken > copy.taken.get(till, 0) + 1 for till, notes in self.tills.items())]
+        self.older = (lacking or self.copies[:1])[-1].chain
         shop.before_start = self._write_older
         if shop.run is not None:
             shop.run.kill()
@@ -196,7 +207,7 @@ class Faults:
     def _write_older(self) -> None:
         with open(self.file, "r+b") as file:
             file.truncate(0)
-            file.write(self.copies[0])
+            file.write(self.older)
 
     # ---- what is told
 

@@ -108,7 +108,7 @@ class HandshakeTest(unittest.TestCase):
         self.sells(hub, 21)
         self.assertNotIn("Traceback", "\n".join(hub.log))
         told = [line for line in hub.log if "TLS" in line]
-        self.assertLess(len(told), 620, Counter(told).most_common(5))  # one for each of those that stood at the end
+        self.assertLess(len(told), len(lines) + 10, Counter(told).most_common(5))  # at most one each
         self.assertFalse([line for line in told if line.endswith("TLS: ")])
 
     def test_only_what_has_forward_secrecy_is_spoken(self) -> None:

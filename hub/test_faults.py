@@ -146,7 +146,7 @@ class BadTest(Trial):
         told = []
         for _ in range(2):
             self.begin(12)
-            told.append([self.sell(1, serial) for serial in range(1, 40)])
+            told.append([self.sell(1, serial) // 100 for serial in range(1, 40)])  # of a kill the answer may be 200 or 201
             self.hub.end()
         self.assertEqual(told[0], told[1])
         self.assertGreater(told[0].count(0), 3)
