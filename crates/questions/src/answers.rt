@@ -73,7 +73,10 @@ impl TillQuestion {
         match self {
             TillQuestion::Ticket { num, host } => ticket(alloc, state, num, *host),
             TillQuestion::Record { place } => record(alloc, state, *place),
-            TillQuestion::Serial { till, serial: number } => serial(alloc, state, *till, *number),
+            TillQuestion::Serial {
+                till,
+                serial: number,
+            } => serial(alloc, state, *till, *number),
             TillQuestion::Last { till } => last_text(alloc, *till, state.last_serial(*till)),
             TillQuestion::Lines { key, total } => lines_answer(alloc, *key, *total),
             TillQuestion::Chain => chain_text(alloc, state.records(), state.noted()),
