@@ -112,6 +112,12 @@ still_by t u P Q W only seen gives m next since on within leaves = elim (cases_l
   | inr same ↦ same_moment u P m next (omega (arith, on, same)) leaves
 ]
 
+-- what each crash leaves some crash may leave
+pub seen_of : (t u : OnDisk) (P : List ℕ → Type 0) → LeavesOnly t u P → MayLeave t u P
+seen_of t u P only m since before =
+    let at = some_left u m (omega (arith, before)) in
+    (at.0, at.1, only.each m at.0 since at.1)
+
 -- no moment before the last
 pub seen_none : (t : OnDisk) (W : List ℕ → Type 0) → MayLeave t t W
 seen_none t W m since before = absurd (omega (arith, since, before))

@@ -3,9 +3,9 @@ use Rattle.std.proofs.Common.{◌≡◌, ◌<◌, ◌≤◌, ◌+◌, inl, inr, 
 use Rattle.std.proofs.Common.{arith, length-append}
 use Rattle.std.proofs.lemmas.List.{append-nil, drop_all}
 use Rattle.std.proofs.lemmas.Bool.{cases_eq}
-use Rattle.chain_disk.specs.OnDisk.{OnDisk, LeavesOnly, MayLeave, IsImage, IsSyncFailed, IsWriteFailed, moment, IsSettled}
+use Rattle.chain_disk.specs.OnDisk.{OnDisk, LeavesOnly, MayLeave, IsImage, moment, IsSettled}
 use Rattle.chain_disk.specs.OnDisk.{settled, pasted, written, synced, wider}
-use Rattle.chain_disk.specs.Stays.{run_of, seen_follows, seen_none, seen_sync, seen_sync_failed, seen_write, seen_write_failed}
+use Rattle.chain_disk.specs.Stays.{run_of, seen_follows, seen_of}
 use Rattle.chain_disk.specs.Runs.{Reached, started, on_write, on_sync, follows, settled_image, range_image}
 use Rattle.parties.specs.Nif.{IsNif}
 use Rattle.record_fields.specs.declared.versions.Version.{Version}
@@ -61,31 +61,6 @@ module _ (t : OnDisk) (not : IsNotBegun t.content) (quiet : IsSettled t) where
   after_sync short u v w is ok ok1 = on_sync (after_write short u v is ok) ok1
       (λ c image. subst IsNotBegun (sym (settled_image _ c image ∙ pasted_first t.content short)) (inl refl))
 
-  -- before each call a crash may leave a file that isn't begun
-  no_chain : (u : OnDisk) → u.now.synced ≡ t.content → IsNotBegun u.now.synced
-  no_chain u is = subst IsNotBegun (sym is) not
-
-  pub seen_same : (u : OnDisk) → u ≡ t → MayLeave t u IsNotBegun
-  seen_same u is = subst (λ (d : OnDisk). MayLeave t d IsNotBegun) (sym is) (seen_none t IsNotBegun)
-
-  first_sure : (u : OnDisk) → u ≡ t → IsNotBegun u.now.synced
-  first_sure u is = no_chain u (ap (λ (d : OnDisk). d.now.synced) is ∙ ap (λ p. p.synced) quiet)
-
-  pub seen_shut_lost : (u v : OnDisk) → u ≡ t → IsWriteFailed 0 1 u v → MayLeave t v IsNotBegun
-  seen_shut_lost u v is err = seen_write_failed t u v IsNotBegun 0 1 (seen_same u is) (first_sure u is) err
-
-  seen_shut : (u v : OnDisk) → u ≡ t → v ≡ written 0 (0 ∷ []) u → MayLeave t v IsNotBegun
-  seen_shut u v is ok = seen_write t u v IsNotBegun 0 (0 ∷ []) (seen_same u is) (first_sure u is) ok
-
-  second_sure : (u v : OnDisk) → u ≡ t → v ≡ written 0 (0 ∷ []) u → IsNotBegun v.now.synced
-  second_sure u v is ok = subst IsNotBegun (sym (ap (λ (d : OnDisk). d.now.synced) ok)) (first_sure u is)
-
-  pub seen_shut_sync_lost : (u v w : OnDisk) → u ≡ t → v ≡ written 0 (0 ∷ []) u → IsSyncFailed v w → MayLeave t w IsNotBegun
-  seen_shut_sync_lost u v w is ok err = seen_sync_failed t v w IsNotBegun (seen_shut u v is ok) (second_sure u v is ok) err
-
-  pub seen_shut_synced : (u v w : OnDisk) → u ≡ t → v ≡ written 0 (0 ∷ []) u → w ≡ synced v → MayLeave t w IsNotBegun
-  seen_shut_synced u v w is ok ok1 = seen_sync t v w IsNotBegun (seen_shut u v is ok) (second_sure u v is ok) ok1
-
   pub shut_now : (short : length t.content ≤ 1) (w : OnDisk) → Reached t IsNotBegun w (pasted 0 (0 ∷ []) t.content)
       (settled (pasted 0 (0 ∷ []) t.content)) → IsShut w
   shut_now short w r = record {
@@ -97,6 +72,15 @@ module _ (t : OnDisk) (not : IsNotBegun t.content) (quiet : IsSettled t) where
     nothing_pending = r.now_is ∙ ap (λ (l : List ℕ). settled l)
         (sym r.content_is);
   }
+
+-- a short file with a closed first byte isn't begun
+pub up_to : (content c : List ℕ) (gate : ℕ) (rest : List ℕ) → content ≡ gate ∷ rest → (gate ≡ 1 → ⊥) → take 1 c ≡ take 1 content →
+    length c ≤ 20 → IsNotBegun c
+up_to content [] gate rest is shut front short = tt
+up_to content (x ∷ c) gate rest is shut front short =
+    let fronts : x ∷ [] ≡ gate ∷ [] = front ∙ ap (λ (l : List ℕ). take 1 l) is in
+    let first : x ≡ gate = cc fronts in
+    inr ((λ one. shut (sym first ∙ one)), omega arith)
 
 module _ (version : Version) (issuer bytes : List ℕ) (nif : IsNif issuer) (same : bytes ≡ header version issuer ++ 0 ∷ []) where
   long : length bytes ≡ 19
@@ -115,14 +99,6 @@ module _ (version : Version) (issuer bytes : List ℕ) (nif : IsNif issuer) (sam
     | inl is ↦ inr (subst (λ (y : ℕ). IsFile version issuer [] (y ∷ (header version issuer ++ 0 ∷ []))) (sym is) is_empty)
     | inr other ↦ inl (inr (other, omega (arith, ap length same, long)))
   ]
-
-  up_to : (content c : List ℕ) (gate : ℕ) (rest : List ℕ) → content ≡ gate ∷ rest → (gate ≡ 1 → ⊥) → take 1 c ≡ take 1 content →
-      length c ≤ 20 → IsNotBegun c
-  up_to content [] gate rest is shut front short = tt
-  up_to content (x ∷ c) gate rest is shut front short =
-      let fronts : x ∷ [] ≡ gate ∷ [] = front ∙ ap (λ (l : List ℕ). take 1 l) is in
-      let first : x ≡ gate = cc fronts in
-      inr ((λ one. shut (sym first ∙ one)), omega arith)
 
   pub image : (t : OnDisk) (c : List ℕ) → IsShut t → IsCommitImage t.content 0 bytes c → IsNotBegunOrEmpty version issuer c
   image t c shut (inl up) = inl (up_to t.content c shut.gate shut.rest shut.content shut.shut up.same
@@ -145,23 +121,17 @@ module _ (version : Version) (issuer bytes : List ℕ) (nif : IsNif issuer) (sam
       (λ c left. image u c shut left)
 
   -- up to the last moment a crash may leave a file that isn't begun
-  pub creation_never_loses : (t u v : OnDisk) → LeavesOnly t u IsNotBegun → MayLeave t u IsNotBegun → IsShut u →
+  pub creation_never_loses : (t u v : OnDisk) → LeavesOnly t u IsNotBegun → IsShut u →
       LeavesOnly u v (IsCommitImage u.content 0 bytes) → MayLeave u v (IsUpToGate u.content 0 bytes) → NeverLosesFrames t v
-  creation_never_loses t u v first seen shut second seen_second =
+  creation_never_loses t u v first shut second seen =
       none_to_lose t v (IsNotBegunOrEmpty version issuer) IsNotBegun (creating t u v first shut second)
-      (seen_follows t u v IsNotBegun IsNotBegun (run_of second) seen (λ m since before.
-      let at = seen_second m since before in (
+      (seen_follows t u v IsNotBegun IsNotBegun (run_of second) (seen_of t u IsNotBegun first) (λ m since before.
+      let at = seen m since before in (
         at.0,
         at.1,
         up_to u.content at.0 shut.gate shut.rest shut.content shut.shut at.2.same
             (omega (arith, at.2.no_longer, ap length shut.content, shut.short, long)),
-      )) (λ c not. not))
-      (λ other_version other bodies c not is. not_begun_no_chain other_version other bodies c not is)
-
--- a disk of which a crash may leave a file that isn't begun at each moment but the last
-pub shutting_never_loses : (t u : OnDisk) → LeavesOnly t u IsNotBegun → MayLeave t u IsNotBegun → NeverLosesFrames t u
-shutting_never_loses t u only seen = none_to_lose t u IsNotBegun IsNotBegun only seen
-    (λ version issuer bodies c not is. not_begun_no_chain version issuer bodies c not is)
+      )) (λ c not. not)) (λ other_version other bodies c not is. not_begun_no_chain other_version other bodies c not is)
 
 -- what is there is closed first, or is closed already, and then committed after
 pub creation_takes : (t u v : OnDisk) → (length t.content ≤ 1 → moment u ≡ moment t + 2) → (1 < length t.content → moment u ≡

@@ -11,3 +11,5 @@ pub mod Headers
 pub mod Unique
 pub mod Walks
 pub mod OneHeader
+pub mod Shut
+pub mod Wholes

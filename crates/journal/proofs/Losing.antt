@@ -1,11 +1,13 @@
 -- What was made sure of stays: a file's bodies and the bytes before their closing gate.
+use Rattle.std.specs.Prelude.{slice_index}
 use Rattle.std.proofs.Common.{◌≡◌, ◌+◌, inl, inr, ℕ, List, [], ◌∷◌, ◌++◌, length, take, sym, ◌∙◌, ap, subst, subst₂, arith, append_assoc, length-append}
-use Rattle.chain_disk.specs.OnDisk.{LeavesOnly, MayLeave, OnDisk}
-use Rattle.chain_disk.specs.Stays.{seen_weaker, still_by}
+use Rattle.chain_disk.specs.OnDisk.{IsRun, LeavesOnly, MayLeave, OnDisk}
+use Rattle.chain_disk.specs.Stays.{none_still, runs_still, seen_of, seen_weaker, still_by}
 use Rattle.frames.specs.Frames.{IsBody, frame}
 use Rattle.record_fields.specs.declared.versions.Version.{Version}
 use Rattle.journal.specs.Commit.{IsCommitImage, IsUpToGate}
 use Rattle.journal.specs.File.{FileOn, IsAt, IsBeforeOrAfter, IsFile, IsNotBegun, NeverLosesFrames, framed, header}
+use Rattle.journal.specs.Whole.{IsHeldShut}
 use Rattle.journal.proofs.Files.{any_moment, same_front}
 use Rattle.journal.proofs.Fronts.{front_is, header_long}
 use Rattle.journal.proofs.Unique.{one_chain}
@@ -65,3 +67,34 @@ pub none_to_lose : (t u : OnDisk) (P W : List ℕ → Type 0) → LeavesOnly t u
 none_to_lose t u P W only seen none version issuer bodies bytes =
     still_by t u (FileOn version issuer bodies bytes) P W only seen
     (λ c d has on. absurd (none version issuer (bodies ++ on.more) c has on.file_is))
+
+pub no_chain_to_lose : (t u : OnDisk) (P : List ℕ → Type 0) → LeavesOnly t u P →
+    ((version : Version) (issuer : List ℕ) (bodies : List (List ℕ)) (c : List ℕ) → P c → IsFile version issuer bodies c → ⊥) →
+    NeverLosesFrames t u
+no_chain_to_lose t u P only none = none_to_lose t u P P only (seen_of t u P only) none
+
+-- two runs that lose nothing are one
+pub frames_follow : (t u v : OnDisk) → IsRun t u → IsRun u v → NeverLosesFrames t u → NeverLosesFrames u v → NeverLosesFrames t v
+frames_follow t u v first second in_first in_second version issuer bodies bytes =
+    runs_still t u v (FileOn version issuer bodies bytes) first second (in_first version issuer bodies bytes)
+    (in_second version issuer bodies bytes)
+
+-- a file that is held shut is none
+pub shut_no_chain : (own : Version) (nif : List ℕ) (version : Version) (issuer : List ℕ) (bodies : List (List ℕ)) (c : List ℕ) →
+    IsHeldShut own nif c → IsFile version issuer bodies c → ⊥
+shut_no_chain own nif version issuer bodies c (inl not) is = not_begun_no_chain version issuer bodies c not is
+shut_no_chain own nif version issuer bodies c (inr part) is = part.shut (ap (λ (l : List ℕ). slice_index l 0) is.parts)
+
+-- where no call was made nothing is lost
+pub same_loses_none : (t u : OnDisk) → u ≡ t → NeverLosesFrames t u
+same_loses_none t u same = subst (λ (d : OnDisk). NeverLosesFrames t d) (sym same)
+    (λ version issuer bodies bytes. none_still t (FileOn version issuer bodies bytes))
+
+-- while a file that isn't begun is given its header nothing is lost
+pub header_loses_none : (t u v : OnDisk) → u ≡ t → LeavesOnly u v IsNotBegun → NeverLosesFrames t v
+header_loses_none t u v same only = subst (λ (d : OnDisk). NeverLosesFrames d v) same
+    (no_chain_to_lose u v IsNotBegun only not_begun_no_chain)
+
+-- nor while it is held shut
+pub shut_loses_none : (own : Version) (nif : List ℕ) (t u : OnDisk) → LeavesOnly t u (IsHeldShut own nif) → NeverLosesFrames t u
+shut_loses_none own nif t u only = no_chain_to_lose t u (IsHeldShut own nif) only (shut_no_chain own nif)

@@ -10,3 +10,5 @@ pub mod Journal
 pub mod Faults
 pub mod Ahead
 pub mod Tails
+pub mod Whole
+pub mod Looking

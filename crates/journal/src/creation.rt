@@ -1,7 +1,7 @@
 //! The creation of a file.
 ghost use Rattle.std.specs.Prelude.{◌≡◌, ◌<◌, ◌≤◌, ◌+◌, ◌^◌, ◌++◌, [], ◌∷◌, length, OnOk, IsTrue};
 ghost use Rattle.ports.specs.Causes.{HasCause};
-ghost use Rattle.chain_disk.specs.OnDisk.{LeavesOnly, MayLeave, IsSettled, moment};
+ghost use Rattle.chain_disk.specs.OnDisk.{LeavesOnly, IsSettled, moment};
 ghost use Rattle.parties.specs.Nif.{IsNif};
 ghost use Rattle.journal.specs.Commit.{IsShut};
 ghost use Rattle.journal.specs.declared.TheConstants.{HEADER};
@@ -16,7 +16,7 @@ use ports::Failed;
 use record_fields::Version;
 
 // The header and a closed gate.
-fn header_bytes(issuer: &Nif, version: Version) -> [u8; HEADER]
+pub(crate) fn header_bytes(issuer: &Nif, version: Version) -> [u8; HEADER]
     ensures bytes { result ≡ header version issuer.now ++ 0 ∷ [] }
     ensures nif { IsNif issuer.now }
 {
@@ -28,7 +28,7 @@ fn header_bytes(issuer: &Nif, version: Version) -> [u8; HEADER]
 }
 
 // Writes a closed first byte where the file has at most one.
-fn shut_first<D: Disk>(disk: &mut D) -> Result<(), Failed>
+pub(crate) fn shut_first<D: Disk>(disk: &mut D) -> Result<(), Failed>
     requires { IsTrue D.tells → IsNotBegun (D.on_disk disk.old).content × IsSettled (D.on_disk disk.old) }
     ensures ok { OnOk result (IsTrue D.tells → IsShut (D.on_disk disk.new)) }
     ensures writes { OnOk result (IsTrue D.tells → length (D.on_disk disk.old).content ≤ 1 →
@@ -36,7 +36,6 @@ fn shut_first<D: Disk>(disk: &mut D) -> Result<(), Failed>
     ensures leaves { OnOk result (IsTrue D.tells → 1 < length (D.on_disk disk.old).content →
         moment (D.on_disk disk.new) ≡ moment (D.on_disk disk.old)) }
     ensures any_moment { IsTrue D.tells → LeavesOnly (D.on_disk disk.old) (D.on_disk disk.new) IsNotBegun }
-    ensures before_the_last { IsTrue D.tells → MayLeave (D.on_disk disk.old) (D.on_disk disk.new) IsNotBegun }
     ensures cause { HasCause (D.faults disk.old) (D.faults disk.new) result }
 {
     if disk.len()? > 1 {

@@ -119,6 +119,13 @@ impl<D: Disk> Journal<D> {
         disk
     }
 
+    /// The place of its closing gate.
+    pub fn end(&self) -> u64
+        ensures { result ≡ end_of self.now }
+    {
+        self.end
+    }
+
     /// The disk's count of faults when an append failed. None where the journal goes on.
     pub fn stopped(&self) -> Option<u64>
         ensures { result ≡ stopped_of self.now }

@@ -22,6 +22,7 @@ mod journal;
 mod laws;
 mod reading;
 mod tails;
+mod whole;
 
 pub use ahead::ReadAhead;
 pub use faults::StoreFault;
@@ -32,3 +33,4 @@ pub use laws::{
 };
 pub use reading::{Header, Step, read_header, scan, scan_ahead};
 pub use tails::{TailFault, make_tails_equal};
+pub use whole::{ShutFault, add_shut, begin_shut, open_shut};

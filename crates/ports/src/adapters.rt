@@ -105,7 +105,7 @@ impl<R: SystemTimeSource> SystemClock<R> {
 }
 
 // The seconds of the system's clock since 1970, 0 where it can't be read or stands before.
-pub(crate) fn seconds_of<R: SystemTimeSource>(rt: &R) -> u64 {
+fn seconds_of<R: SystemTimeSource>(rt: &R) -> u64 {
     match SystemTime::now(rt) {
         Ok(now) => match now.duration_since(UNIX_EPOCH) {
             Ok(since) => since.as_secs(),

@@ -1,7 +1,6 @@
 //! A clock that waits, in memory and over the system's.
 ghost use Rattle.std.specs.Prelude.{◌≡◌, ◌≤◌, ℕ, Bool, IsTrue, max};
 
-use crate::adapters::seconds_of;
 use std::rt::Clock as SystemTimeSource;
 use std::sync::Wait;
 use std::thread;
@@ -83,12 +82,32 @@ impl Sleeper for LeapSleeper {
     fn rest<R: Wait>(&mut self, _rt: &R) {}
 }
 
-/// The system's clock, and waiting that sleeps. It answers no second below one for which it has waited, and 0 where
-/// the clock can't be read.
+// What the system's two clocks told at one moment.
+#[derive(Clone, Copy)]
+struct Begun {
+    second: u64,
+    at: Duration,
+}
+
+// What both clocks tell now, `None` where one can't be read.
+fn both_clocks<R: SystemTimeSource>(rt: &R) -> Option<Begun> {
+    match (rt.since_1970(), rt.monotonic()) {
+        (Ok(since), Ok(at)) => Some(Begun {
+            second: since.as_secs(),
+            at,
+        }),
+        _ => None,
+    }
+}
+
+/// Waiting that sleeps. It begins at the system's wall clock and goes on by the clock that only goes forward, so that a
+/// wall clock that is set back lengthens no wait. It answers no second below one for which it has waited, and 0 where a
+/// clock can't be read.
 #[derive(Drop)]
 pub struct ThreadSleeper<R> {
     rt: R,
     reached: u64,
+    begun: Option<Begun>,
 }
 
 impl<R: SystemTimeSource> ThreadSleeper<R> {
@@ -96,7 +115,31 @@ impl<R: SystemTimeSource> ThreadSleeper<R> {
     pub fn new(rt: R) -> Self
         ensures { ⟦<ThreadSleeper<R> as Sleeper>⟧.moment result ≡ 0 }
     {
-        ThreadSleeper { rt, reached: 0 }
+        ThreadSleeper {
+            rt,
+            reached: 0,
+            begun: None,
+        }
+    }
+
+    // The second of its own clock, which begins at the first call.
+    fn second(&mut self) -> u64
+        ensures { self.new.reached ≡ self.old.reached }
+    {
+        let begun = match self.begun {
+            Some(begun) => begun,
+            None => match both_clocks(&self.rt) {
+                Some(begun) => begun,
+                None => return 0,
+            },
+        };
+        self.begun = Some(begun);
+        match self.rt.monotonic() {
+            Ok(now) => begun
+                .second
+                .saturating_add(now.saturating_sub(begun.at).as_secs()),
+            Err(_) => 0,
+        }
     }
 }
 
@@ -114,11 +157,11 @@ impl<R: SystemTimeSource> Sleeper for ThreadSleeper<R> {
     ghost no_rest_goes_on = { λ _ _ _ _ _. tt };
 
     fn now(&mut self) -> u64 {
-        seconds_of(&self.rt).max(self.reached)
+        self.second().max(self.reached)
     }
 
     fn wait_until<W: Wait>(&mut self, _rt: &W, at: u64) {
-        let left = at.saturating_sub(seconds_of(&self.rt));
+        let left = at.saturating_sub(self.second());
         thread::sleep(&self.rt, Duration::from_secs(left));
         self.reached = self.reached.max(at);
     }

@@ -1,4 +1,6 @@
-use Rattle.journal.proofs.Creations.{creating, created, empty_content, creation_takes, creation_never_loses, shutting_never_loses}
+use Rattle.journal.specs.File.{IsNotBegun}
+use Rattle.journal.proofs.Losing.{no_chain_to_lose, not_begun_no_chain}
+use Rattle.journal.proofs.Creations.{creating, created, empty_content, creation_takes, creation_never_loses}
 use Rattle.journal.proofs.creation.set_up.Goals as goal
 
 pub returns-in_err-commit-clause-any_moment : goal.returns-in_err-commit-clause-any_moment
@@ -39,8 +41,8 @@ returns-clause-moments g c = λ tells.
 
 pub returns-in_err-shut_first-clause-never_loses : goal.returns-in_err-shut_first-clause-never_loses
 returns-in_err-shut_first-clause-never_loses g c = λ tells.
-    shutting_never_loses (g.D.Disk.on_disk c.args.disk.now) (g.D.Disk.on_disk c.shut_first.new.disk)
-    (c.shut_first.ensures.any_moment tells) (c.shut_first.ensures.before_the_last tells)
+    no_chain_to_lose (g.D.Disk.on_disk c.args.disk.now) (g.D.Disk.on_disk c.shut_first.new.disk) IsNotBegun
+    (c.shut_first.ensures.any_moment tells) not_begun_no_chain
 
 pub returns-in_err-commit-clause-never_loses : goal.returns-in_err-commit-clause-never_loses
 returns-in_err-commit-clause-never_loses g c = λ tells.
@@ -48,7 +50,7 @@ returns-in_err-commit-clause-never_loses g c = λ tells.
     creation_never_loses c.args.version c.args.issuer.now c.header_bytes-bytes.result c.header_bytes-bytes.ensures.nif
     c.header_bytes-bytes.ensures.bytes
     (g.D.Disk.on_disk c.args.disk.now) (g.D.Disk.on_disk c.shut_first.new.disk) (g.D.Disk.on_disk c.commit.new.disk)
-    (c.shut_first.ensures.any_moment tells) (c.shut_first.ensures.before_the_last tells) shut
+    (c.shut_first.ensures.any_moment tells) shut
     (c.commit.ensures.any_moment tells shut.nothing_pending) (c.commit.ensures.before_the_last tells shut.nothing_pending)
 
 pub returns-clause-never_loses : goal.returns-clause-never_loses
@@ -57,5 +59,5 @@ returns-clause-never_loses g c = λ tells.
     creation_never_loses c.args.version c.args.issuer.now c.header_bytes-bytes.result c.header_bytes-bytes.ensures.nif
     c.header_bytes-bytes.ensures.bytes
     (g.D.Disk.on_disk c.args.disk.now) (g.D.Disk.on_disk c.shut_first.new.disk) (g.D.Disk.on_disk c.commit.new.disk)
-    (c.shut_first.ensures.any_moment tells) (c.shut_first.ensures.before_the_last tells) shut
+    (c.shut_first.ensures.any_moment tells) shut
     (c.commit.ensures.any_moment tells shut.nothing_pending) (c.commit.ensures.before_the_last tells shut.nothing_pending)

@@ -3,7 +3,6 @@ use Rattle.std.proofs.Common.{subst, sym, ap, [], ◌∷◌}
 use Rattle.chain_disk.specs.OnDisk.{OnDisk, moment}
 use Rattle.journal.specs.Commit.{IsShut}
 use Rattle.chain_disk.specs.Runs.{on_write_failed, on_sync_failed}
-use Rattle.journal.proofs.Creations.{seen_same, seen_shut_lost, seen_shut_sync_lost, seen_shut_synced}
 use Rattle.journal.proofs.Creations.{at_start, after_write, after_sync, shut_now, shut_already, first_image, first_moments}
 use Rattle.journal.proofs.creation.shut_first.Goals as goal
 
@@ -69,30 +68,3 @@ returns-clause-any_moment g c = λ tells.
     let short : length t.content ≤ 1 = omega (arith, c.in_ok-len.ensures.length tells) in
     (after_sync t now.0 now.1 short _ _ _ c.len.ensures.same (c.in_ok-write_at.ensures.ok tells)
     (c.in_ok-sync.ensures.ok tells)).so_far
-
-pub returns-in_err-len-clause-before_the_last : goal.returns-in_err-len-clause-before_the_last
-returns-in_err-len-clause-before_the_last g c = λ tells.
-    let now = c.requires tells in
-    seen_same (g.D.Disk.on_disk c.args.disk.now) now.0 now.1 _ c.len.ensures.same
-
-pub returns-then-branch-gt1-clause-before_the_last : goal.returns-then-branch-gt1-clause-before_the_last
-returns-then-branch-gt1-clause-before_the_last g c = λ tells.
-    let now = c.requires tells in
-    seen_same (g.D.Disk.on_disk c.args.disk.now) now.0 now.1 _ c.len.ensures.same
-
-pub returns-in_err-write_at-clause-before_the_last : goal.returns-in_err-write_at-clause-before_the_last
-returns-in_err-write_at-clause-before_the_last g c = λ tells.
-    let now = c.requires tells in
-    seen_shut_lost (g.D.Disk.on_disk c.args.disk.now) now.0 now.1 _ _ c.len.ensures.same (c.in_err-write_at.ensures.err tells)
-
-pub returns-in_err-sync-clause-before_the_last : goal.returns-in_err-sync-clause-before_the_last
-returns-in_err-sync-clause-before_the_last g c = λ tells.
-    let now = c.requires tells in
-    seen_shut_sync_lost (g.D.Disk.on_disk c.args.disk.now) now.0 now.1 _ _ _ c.len.ensures.same (c.in_ok-write_at.ensures.ok tells)
-    (c.in_err-sync.ensures.err tells)
-
-pub returns-clause-before_the_last : goal.returns-clause-before_the_last
-returns-clause-before_the_last g c = λ tells.
-    let now = c.requires tells in
-    seen_shut_synced (g.D.Disk.on_disk c.args.disk.now) now.0 now.1 _ _ _ c.len.ensures.same (c.in_ok-write_at.ensures.ok tells)
-    (c.in_ok-sync.ensures.ok tells)
