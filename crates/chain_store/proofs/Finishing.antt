@@ -19,6 +19,7 @@ use Rattle.shop_core.specs.Answer.Replies.ChainRun.{begun}
 use Rattle.shop_core.specs.declared.answer.Reply.{Reply}
 use Rattle.shop_core.specs.Prefix.{IsPrefix}
 use Rattle.chain_store.specs.Crashes.{IsCutOff, KeptByRun, StandsUpTo, StandsForEnd}
+use Rattle.chain_store.specs.Losing.{none_lost_by}
 use Rattle.chain_store.specs.Readings.{IsComing}
 use Rattle.chain_store.specs.Replies.{AllGoOn, IsGoingOn, StopsByFault, StopsOnce}
 use Rattle.chain_store.specs.Progress.{Origin, Point, Progress, SoFar}
@@ -64,6 +65,7 @@ begins o p replies gate none issuer version start since faults going next legal 
       moved = λ k. let e : k ≡ 0 + k = omega arith in next k ∙ ap o.coming e;
       begins = whole;
       later = omega (arith, faults);
+      never_loses = λ tells. none_lost_by o.since p.now since;
       progress = subst (λ (x : Option ℕ). Progress o [] [] p x) (sym going) progress;
     })
 

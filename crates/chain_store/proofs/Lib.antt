@@ -3,6 +3,7 @@ mod Opens
 mod Readies
 mod Stores
 pub mod Fronts
+pub mod Losing
 mod Taking
 mod EachElement
 mod Stepping

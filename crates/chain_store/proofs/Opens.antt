@@ -1,5 +1,5 @@
 -- A file that was opened.
-use Rattle.std.proofs.Common.{◌≡◌, ℕ, List, [], refl, sym, ◌∙◌, subst, inl, inr, Result, Ok, Err, IfOk}
+use Rattle.std.proofs.Common.{◌≡◌, ℕ, List, [], refl, sym, ◌∙◌, subst, inl, inr, Result, Ok, Err, IfErr, IfOk}
 use Rattle.record_fields.specs.declared.versions.Version.{Version}
 use Rattle.chain_store.specs.Opening.{IsFound}
 use Rattle.chain_disk.specs.OnDisk.{OnDisk, IsSettled, LeavesNow, LeavesOnly, synced}
@@ -62,3 +62,7 @@ loaded_settled t u v loaded ok same is = (
 pub if_ok : {A E : Type 0} (P Q : A → Type 0) (r : Result A E) → IfOk r P → ((x : A) → P x → Q x) → IfOk r Q
 if_ok P Q (Ok x) h f = f x h
 if_ok P Q (Err e) h f = tt
+
+pub if_err : {A E : Type 0} (P Q : E → Type 0) (r : Result A E) → IfErr r P → ((x : E) → P x → Q x) → IfErr r Q
+if_err P Q (Ok x) h f = tt
+if_err P Q (Err e) h f = f e h

@@ -26,6 +26,7 @@ use Rattle.shop_core.specs.declared.answer.Planned.TheVariants.{Again, Refused, 
 use Rattle.shop_core.specs.declared.answer.Reply.{Reply}
 use Rattle.shop_core.specs.Prefix.{IsPrefix}
 use Rattle.chain_store.specs.Crashes.{IsCutOff, StandsUpTo, StandsForEnd}
+use Rattle.chain_store.specs.Losing.{none_lost_in_both}
 use Rattle.chain_store.specs.Readings.{IsComing, has_read, readings}
 use Rattle.chain_store.specs.Replies.{IsGoingOn, IsStopped, StopsByFault}
 use Rattle.chain_store.proofs.EachElement.{each_weaker}
@@ -367,6 +368,7 @@ step_on o asks replies p q ask told none h s =
           t.moved);
       begins = prefix_more o.start p.history.entries t.gained q.history.entries t.entries h.begins;
       later = omega (arith, h.later, s.later);
+      never_loses = λ tells. none_lost_in_both o.since p.now q.now (h.never_loses tells) (s.never_loses tells);
       progress = progress_on o asks replies p q ask told h g none t s;
     }
 
@@ -415,6 +417,7 @@ step_stopped o asks replies p ask count some h =
       moved = subst (λ (n : ℕ). MovedBy n o.coming p.next) (sym (readings_stopped replies count)) h.moved;
       begins = h.begins;
       later = h.later;
+      never_loses = h.never_loses;
       progress = subst (λ (x : Option ℕ). Progress o (asks ++ ask ∷ []) (replies ++ told ∷ []) p x) (sym some) here;
     }
 

@@ -127,6 +127,7 @@ module _ {D C : Type 0} (d : disk.Ghosts D) (c : clock.Ghosts C) where
         stops = took.stopped;
         untouched = λ is. ap (λ s. point_of d.on_disk d.faults c.coming s) (took.untouched is);
         later = took.later;
+        never_loses = took.never_loses;
       } in
       record {
         goes = record {
@@ -227,6 +228,7 @@ module _ {D C : Type 0} (d : disk.Ghosts D) (c : clock.Ghosts C) where
         fails = fails_in first now asks replies own run (fails_by (stopped_of (journal_of now)) first now asks replies refl run);
         kept = λ says. kept o asks replies p (end_of (journal_of now)) so_far own (λ going told. ready.holds going told)
             (image says) says;
+        never_loses = so_far.never_loses;
         asked = record { moved = so_far.moved; untouched = run.goes.unread };
       }
   ends_by (Some count) first now asks replies run ready own chained image = record {

@@ -1,5 +1,6 @@
 pub mod Loading
 pub mod Ready
+pub mod Losing
 pub mod Keeping
 pub mod Opening
 pub mod Store

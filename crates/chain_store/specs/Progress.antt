@@ -19,6 +19,7 @@ use Rattle.shop_core.specs.Answer.Replies.{ChainRun}
 use Rattle.shop_core.specs.declared.answer.Reply.{Reply}
 use Rattle.shop_core.specs.Prefix.{IsPrefix}
 use Rattle.chain_store.specs.Crashes.{IsCutOff, StandsUpTo, StandsForEnd}
+use Rattle.chain_store.specs.Losing.{NeverLoses}
 use Rattle.chain_store.specs.Readings.{IsComing, readings}
 use Rattle.chain_store.specs.Replies.{AllGoOn, StopsByFault}
 
@@ -84,6 +85,7 @@ pub record SoFar (o : Origin) (asks : List Asked) (replies : List (Result Reply 
   pub moved : MovedBy (readings replies) o.coming p.next
   pub begins : IsPrefix o.start p.history.entries
   pub later : o.at_faults ≤ p.faults
+  pub never_loses : IsTrue o.tells → NeverLoses o.since p.now
   pub progress : Progress o asks replies p p.stopped
 
 -- one ask more
@@ -96,6 +98,7 @@ pub record Step (tells : Bool) (p : Point) (ask : Asked) (replied : Result Reply
   pub stops : (count : ℕ) → (replied ≡ Err (Stopped count)) ↔ (p.stopped ≡ Some count)
   pub untouched : IsSome p.stopped → q ≡ p
   pub later : p.faults ≤ q.faults
+  pub never_loses : IsTrue tells → NeverLoses p.now q.now
 
 abbrev pub origin_of : {D C : Type 0} {g : Ghosts D} → Bool → (D → OnDisk) → (D → ℕ) → (C → ℕ → Option ℕ) → Store D C g → Origin
 origin_of tells on_disk faults coming store = record {

@@ -17,6 +17,7 @@ use Rattle.chain_store.specs.declared.store.Store.{Store}
 use Rattle.shop_core.specs.Prefix.{IsPrefix}
 use Rattle.chain_store.specs.Crashes.{FailsIn, IsCutOff, KeptByRun, StandsUpTo}
 use Rattle.chain_store.specs.Clocks.{Clocks, this_clock}
+use Rattle.chain_store.specs.Losing.{NeverLoses}
 use Rattle.chain_store.specs.Readings.{IsComing, IsAsked, readings}
 use Rattle.chain_store.specs.Replies.{AllGoOn, Replies, StopsOnce}
 
@@ -65,4 +66,6 @@ pub record Answers {D C : Type 0} (asks : List Asked) (replies : Replies) (s : S
       KeptByRun (StandsUpTo s.version s.issuer s.start s.end)
       (IsCutOff s.version s.issuer (IsComing (s.clock.coming s.clock.clock)) asks s.end replies) s.version s.issuer s.end
       replies s.since s.now
+  -- what was made sure of at any moment of the run stays
+  pub never_loses : IsTrue s.tells → NeverLoses s.since s.now
   pub asked : IsAsked s.clock (readings replies)

@@ -11,6 +11,7 @@ use Rattle.journal.specs.declared.faults.StoreFault.{StoreFault}
 use Rattle.journal.specs.declared.journal.Journal.{Journal}
 use Rattle.journal.specs.Journal.{disk_of, end_of, stopped_of}
 use Rattle.journal.specs.Written.{AppendsFrom}
+use Rattle.chain_store.specs.Losing.{NeverLoses}
 use Rattle.chain_store.specs.Ready.{IsReady, StoreCall, WritesEntry}
 use Rattle.chain_store.specs.declared.store.Store.{Store}
 
@@ -59,6 +60,11 @@ abbrev pub IsAppended : {D C : Type 0} {g : Ghosts D} → Bool → (D → OnDisk
 IsAppended tells on_disk old new = stopped_of old.journal ≡ None → IsTrue tells →
     AppendsFrom (end_of old.journal) (on_disk (disk_of old.journal)) (on_disk (disk_of new.journal))
 
+-- where its disk tells what it holds, nothing that was made sure of is lost
+abbrev pub LosesNothing : {D C : Type 0} {g : Ghosts D} → Bool → (D → OnDisk) → Store D C g → Store D C g → Type 0
+LosesNothing tells on_disk old new = IsTrue tells →
+    NeverLoses (on_disk (disk_of old.journal)) (on_disk (disk_of new.journal))
+
 -- where its disk tells what it holds, a frame of this entry's bytes is all that was written
 abbrev pub Writes : {D C : Type 0} {g : Ghosts D} → Bool → (D → OnDisk) → Store D C g → Store D C g → Entry → Type 0
 Writes tells on_disk old new entry = IsTrue tells →
@@ -89,6 +95,7 @@ pub record Adds {D C X : Type 0} {g : Ghosts D} (tells : Bool) (on_disk : D → 
   pub same : OnErr result (new.state.entries ≡ old.state.entries)
   pub any_moment : IsTrue tells → LeavesOnly (on_disk (disk_of old.journal)) (on_disk (disk_of new.journal))
       (StandsBeforeOrWith old.state.version old.state.issuer old.state.entries entry)
+  pub never_loses : LosesNothing tells on_disk old new
   pub appended : IsAppended tells on_disk old new
   pub content : OnOk result (Writes tells on_disk old new entry)
   pub acknowledged : OnOk result (Acknowledged tells on_disk new)

@@ -9,7 +9,7 @@ use Rattle.record_codec.specs.declared.entry.Entry.{Entry}
 use Rattle.shop_core.specs.Answer.Requests.{Asked}
 use Rattle.shop_core.specs.declared.answer.Reply.{Reply}
 use Rattle.chain_store.specs.Ready.{IfNothingTaken, Takes, Tears}
-use Rattle.chain_store.specs.Store.{Acknowledged, GoesOn, IsAppended, IsLater, IsStoppedByFault, Ready, Writes}
+use Rattle.chain_store.specs.Store.{Acknowledged, GoesOn, IsAppended, IsLater, IsStoppedByFault, LosesNothing, Ready, Writes}
 use Rattle.chain_store.specs.Store.{clock_of, journal_of, state_of, this_call, torn_of}
 use Rattle.chain_store.specs.declared.store.Store.{Store}
 
@@ -18,6 +18,8 @@ pub record Took {D C : Type 0} (d : disk.Ghosts D) (c : clock.Ghosts C) (old new
     (replied : Result Reply StoreFault) : Type 0 where
   pub ready : Ready d.tells d.on_disk new
   pub takes : stopped_of (journal_of old) ≡ None → Takes (this_call d.tells d.on_disk c.coming old new) ask replied
+  -- what was made sure of at any moment of the call stays
+  pub never_loses : LosesNothing d.tells d.on_disk old new
   -- the bytes before the closing gate stay, and the frame of an entry that the history gained is all that was written
   pub appended : IsAppended d.tells d.on_disk old new
   pub content : (entry : Entry) → (state_of new).entries ≡ (state_of old).entries ++ entry ∷ [] →

@@ -7,9 +7,9 @@ ghost use Rattle.chain_store.specs.Keeping.{Keeps};
 ghost use Rattle.chain_store.specs.Ready.{IsReady};
 
 use chain_disk::Disk;
-use journal::{Journal, JournalFault};
+use journal::{Journal, JournalFault, a_file_stands_for_one_chain};
 use ports::{Failed, NoMemory};
-use record_codec::{Entry, an_encoding_is_a_body, encode, fields_are_valid};
+use record_codec::{Entry, an_encoding_is_a_body, encode, encodings_are_apart, fields_are_valid};
 use record_fields::Bytes;
 use shop_core::{State, a_legal_history_goes_on, what_continues_fits_its_bytes};
 use std::alloc::Global;
@@ -52,6 +52,8 @@ pub fn keep<D: Disk>(
     a_legal_history_goes_on();
     what_continues_fits_its_bytes();
     an_encoding_is_a_body();
+    encodings_are_apart();
+    a_file_stands_for_one_chain();
     fields_are_valid(state.version(), &entry);
     let _few = state.entries();
     state.is_legal();

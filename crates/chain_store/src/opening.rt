@@ -6,6 +6,7 @@ ghost use Rattle.journal.specs.File.{IsNotBegun};
 ghost use Rattle.journal.specs.Journal.{disk_of, end_of, stopped_of};
 ghost use Rattle.shop_core.specs.File.Files.{StandsFor, furthest_gate};
 ghost use Rattle.chain_store.specs.Loading.{IsLoaded};
+ghost use Rattle.chain_store.specs.Losing.{NeverLoses};
 ghost use Rattle.chain_store.specs.Opening.{IsAtMostSynced, IsBegunInPart, IsCreation, IsFound, IsLeftUnopened, IsOnlySynced};
 ghost use Rattle.chain_store.specs.Ready.{IsReady};
 ghost use Rattle.chain_store.specs.declared.causes.OpenCause.TheVariants as cause;
@@ -14,9 +15,9 @@ ghost use Rattle.chain_store.specs.declared.loading.Loaded.TheVariants.{Begun};
 use crate::causes::OpenCause;
 use crate::loading::{Loaded, load};
 use chain_disk::Disk;
-use journal::{Journal, Lost, a_file_not_begun_is_no_chain};
+use journal::{Journal, Lost, a_file_not_begun_is_no_chain, a_file_stands_for_one_chain};
 use parties::Nif;
-use record_codec::Version;
+use record_codec::{Version, encodings_are_apart};
 use shop_core::State;
 use std::alloc::Global;
 
@@ -55,6 +56,11 @@ pub fn open_journal<D: Disk>(
     ensures any_moment { IfOk result (λ opened. IsTrue D.tells →
         LeavesOnly (synced (D.on_disk disk)) (D.on_disk (disk_of opened.journal))
         (IsFound created opened.state.version issuer.now opened.state.entries)) }
+
+    // What was made sure of at any moment of the call stays, also as the disk was handed in.
+    ensures never_loses { IfOk result (λ opened. IsTrue D.tells →
+        NeverLoses (D.on_disk disk) (D.on_disk (disk_of opened.journal))) }
+    ensures never_loses_err { IfErr result (λ fault. IsTrue D.tells → NeverLoses (D.on_disk disk) (D.on_disk fault.disk)) }
 
     // Nothing is written but a file's creation: of a file that is begun already the sync is all that is told.
     ensures unwritten { IfOk result (λ opened. IsTrue D.tells →
@@ -143,6 +149,9 @@ fn begin<D: Disk>(
     ensures any_moment { IfOk result (λ opened. IsTrue D.tells →
         LeavesOnly (D.on_disk disk) (D.on_disk (disk_of opened.journal))
         (IsFound created opened.state.version issuer.now opened.state.entries)) }
+    ensures never_loses { IfOk result (λ opened. IsTrue D.tells →
+        NeverLoses (D.on_disk disk) (D.on_disk (disk_of opened.journal))) }
+    ensures never_loses_err { IfErr result (λ fault. IsTrue D.tells → NeverLoses (D.on_disk disk) (D.on_disk fault.disk)) }
     ensures created { IfOk result (λ opened. IsTrue D.tells →
         IsCreation created issuer.now (D.on_disk disk) (D.on_disk (disk_of opened.journal))) }
     ensures in_part { IfErr result (λ fault. IsTrue D.tells →
@@ -151,6 +160,9 @@ fn begin<D: Disk>(
     ensures later { IfOk result (λ opened. D.faults disk ≤ D.faults (disk_of opened.journal)) }
     ensures later_err { IfErr result (λ fault. D.faults disk ≤ D.faults fault.disk) }
 {
+    a_file_stands_for_one_chain();
+    a_file_not_begun_is_no_chain();
+    encodings_are_apart();
     let state = State::empty(alloc, issuer, created);
     state.is_legal();
     match Journal::create(disk, issuer, created) {

@@ -36,7 +36,8 @@ pub struct Store<D: Disk, C: Clock> {
 impl<D: Disk, C: Clock> Store<D, C> {
     ghost use Rattle.journal.specs.Journal.{disk_of, end_of, stopped_of};
     ghost use Rattle.chain_store.specs.Took.{Took};
-    ghost use Rattle.chain_store.specs.Store.{Acknowledged, Adds, GoesOn, IsAppended, IsLater, IsStoppedByFault, Ready, Writes};
+    ghost use Rattle.chain_store.specs.Store.{Acknowledged, Adds, GoesOn, IsAppended, IsLater, IsStoppedByFault, LosesNothing, Ready};
+    ghost use Rattle.chain_store.specs.Store.{Writes};
     ghost use Rattle.chain_store.specs.Store.{clock_of, journal_of, state_of, this_call, torn_of};
 
     /// The store of a journal that goes on and keeps this history.
@@ -165,6 +166,9 @@ impl<D: Disk, C: Clock> Store<D, C> {
             LeavesOnly (D.on_disk (disk_of self.old.journal)) (D.on_disk (disk_of self.new.journal))
             (StandsBeforeOrWith self.old.state.version self.old.state.issuer self.old.state.entries
             (noted_next self.old.state.entries lines.now)) }
+
+        // What was made sure of at any moment of the call stays.
+        ensures never_loses { LosesNothing D.tells D.on_disk self.old self.new }
 
         // The bytes before the closing gate stay, and the frame of these lines is all that is written.
         ensures appended { IsAppended D.tells D.on_disk self.old self.new }

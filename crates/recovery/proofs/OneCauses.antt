@@ -4,9 +4,9 @@ use Rattle.record_fields.specs.declared.versions.Version.TheVariants.{One, Two}
 use Rattle.record_codec.specs.declared.entry.Entry.{Entry}
 use Rattle.shop_core.specs.File.Files.{IsDamagedFile, StandsFor}
 use Rattle.shop_core.specs.File.Laws.{NotBegunIsNeither, OneDamage, OneHistory, SoundOrDamaged}
-use Rattle.recovery.specs.Causes.{IsNotOld, IsOccupied, NoCause, OneCause}
+use Rattle.recovery.specs.Causes.{IsNotOld, NoCause, OneCause}
 use Rattle.recovery.specs.Causes.IsNotOld.{not_begun, newer}
-use Rattle.recovery.specs.Moving.{IsHeldShut, IsUnfinished}
+use Rattle.recovery.specs.Moving.{IsHeldShut, IsOccupied, IsUnfinished}
 use Rattle.recovery.specs.declared.moving.MoveCause.TheVariants.{Damaged, NotOld, Occupied, OldFault, NewFault, NoMemory}
 
 -- a file has one meaning

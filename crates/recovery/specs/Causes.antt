@@ -1,12 +1,12 @@
 -- Why a migration ends early.
-use Rattle.std.specs.Prelude.{◌≡◌, ℕ, List, length, IsTrue}
+use Rattle.std.specs.Prelude.{◌≡◌, ℕ, List, IsTrue}
 use Rattle.chain_disk.specs.Disks.{Disks, DiskRose, LeftDisk, OnlyRead}
 use Rattle.chain_disk.specs.OnDisk.{synced}
 use Rattle.journal.specs.File.{IsNotBegun}
 use Rattle.record_fields.specs.declared.versions.Version.TheVariants.{One, Two}
 use Rattle.record_codec.specs.declared.entry.Entry.{Entry}
 use Rattle.shop_core.specs.File.Files.{IsDamagedFile, StandsFor}
-use Rattle.recovery.specs.Moving.{IsUnfinished, MayBeMoved}
+use Rattle.recovery.specs.Moving.{IsOccupied, MayBeMoved}
 use Rattle.recovery.specs.declared.moving.MoveCause.{MoveCause}
 use Rattle.recovery.specs.declared.moving.MoveCause.TheVariants.{Damaged, NotOld, Occupied, OldFault, NewFault, NoMemory}
 
@@ -14,12 +14,6 @@ use Rattle.recovery.specs.declared.moving.MoveCause.TheVariants.{Damaged, NotOld
 pub data IsNotOld (file : List ℕ) : ℕ → Type 0 where
   not_begun : IsNotBegun file → IsNotOld file 0
   newer : (issuer : List ℕ) (entries : List Entry) → StandsFor Two issuer entries file → IsNotOld file 2
-
--- a file of this length that is neither not begun nor an unfinished migration of this issuer
-pub record IsOccupied (issuer file : List ℕ) (size : ℕ) : Type 0 where
-  pub size_is : size ≡ length file
-  pub begun : IsNotBegun file → ⊥
-  pub other : IsUnfinished issuer file → ⊥
 
 -- the old file stands for a history of version One, and the new one is occupied by something else than its migration
 pub record IsOccupiedOf (old new : List ℕ) (size : ℕ) : Type 0 where

@@ -1,4 +1,3 @@
 pub mod Opening
 pub mod Moving
 pub mod Causes
-pub mod Held

@@ -1,49 +1,33 @@
 -- A history of version One that is written into a second file in version Two: what a crash leaves of that file while it is.
-use Rattle.std.specs.Prelude.{◌≡◌, ◌⊎◌, ◌<◌, ◌≤◌, ◌+◌, ℕ, List, [], ◌∷◌, ◌++◌, length, take, slice_index, slice_range}
-use Rattle.chain_disk.specs.OnDisk.{OnDisk, IsImage, IsSyncFailed, LeavesOnly, synced}
-use Rattle.chain_disk.specs.declared.range.Range.{Range}
-use Rattle.parties.specs.Nif.{IsNif}
-use Rattle.journal.specs.File.{header, IsFile, IsNotBegun}
-use Rattle.journal.specs.declared.TheConstants.{HEADER}
+use Rattle.std.specs.Prelude.{◌≡◌, ◌≤◌, ◌⊎◌, ℕ, IsTrue, List, length}
+use Rattle.chain_disk.specs.Disks.{Disks}
+use Rattle.chain_disk.specs.OnDisk.{OnDisk, IsImage, IsSyncFailed, LeavesNow, LeavesOnly, synced}
+use Rattle.journal.specs.File.{IsNotBegun}
+use Rattle.journal.specs.Whole as whole_file
 use Rattle.record_fields.specs.declared.versions.Version.TheVariants.{One, Two}
 use Rattle.record_codec.specs.declared.entry.Entry.{Entry}
 use Rattle.shop_core.specs.File.Files.{StandsFor}
 use Rattle.shop_core.specs.History.{noted, recs}
 
--- an unfinished migration of this issuer: byte 0 isn't 1, there are more than 20 bytes, and bytes 1 to 18 are its header of
--- version Two
-pub record IsUnfinished (issuer file : List ℕ) : Type 0 where
-  pub long : HEADER + 1 < length file
-  pub shut : slice_index file 0 ≡ 1 → ⊥
-  pub header_is : slice_range file 1 HEADER ≡ header Two issuer
+-- what a file holds, or a crash leaves of it, while a history is written into it in version Two: an unfinished migration of this
+-- issuer, one held shut, and so on
+abbrev pub IsUnfinished : List ℕ → List ℕ → Type 0
+IsUnfinished issuer file = whole_file.IsUnfinished Two issuer file
 
--- what a crash leaves while byte 0 is held closed
 abbrev pub IsHeldShut : List ℕ → List ℕ → Type 0
-IsHeldShut issuer file = IsNotBegun file ⊎ IsUnfinished issuer file
+IsHeldShut issuer file = whole_file.IsHeldShut Two issuer file
 
--- the same, or the file of these bodies
 abbrev pub IsShutOrWhole : List ℕ → List (List ℕ) → List ℕ → Type 0
-IsShutOrWhole issuer bodies file = IsHeldShut issuer file ⊎ IsFile Two issuer bodies file
+IsShutOrWhole issuer bodies file = whole_file.IsShutOrWhole Two issuer bodies file
 
--- each of these ranges begins at this place or after it
-abbrev pub BeginPast : ℕ → List Range → Type 0
-BeginPast n [] = Unit {0}
-BeginPast n (r ∷ ranges) = (n ≤ r.at) × BeginPast n ranges
+abbrev pub IsWriting : List ℕ → List ℕ → ℕ → OnDisk → Type 0
+IsWriting issuer bytes at t = whole_file.IsWriting Two issuer bytes at t
 
--- Frames are being written after a closed byte 0. It and the header are made sure of, no write since begins before byte 19,
--- and a read gives them with these bytes after, up to this place.
-pub record IsWriting (issuer bytes : List ℕ) (at : ℕ) (t : OnDisk) : Type 0 where
-  pub first : ℕ
-  pub shut : first ≡ 1 → ⊥
-  pub nif : IsNif issuer
-  pub place : at ≡ HEADER + length bytes
-  pub sure : take HEADER t.now.synced ≡ first ∷ header Two issuer
-  pub past : BeginPast HEADER t.now.ranges
-  pub front : take at t.content ≡ (first ∷ header Two issuer) ++ bytes
-
--- the content from before; or, where that was held shut, what a crash leaves while byte 0 is held closed
 abbrev pub IsSameOrShut : List ℕ → List ℕ → List ℕ → Type 0
-IsSameOrShut issuer content file = (file ≡ content) ⊎ (IsHeldShut issuer content × IsHeldShut issuer file)
+IsSameOrShut issuer content file = whole_file.IsSameOrShut Two issuer content file
+
+abbrev pub IsOccupied : List ℕ → List ℕ → ℕ → Type 0
+IsOccupied issuer file size = whole_file.IsOccupied Two issuer file size
 
 -- What a crash at a moment of a migration leaves of the new file: an image of the start; or, where the file was held shut at the
 -- start, a file not begun, an unfinished migration of this issuer, or the file of the whole history.
@@ -85,3 +69,23 @@ KeptUnlessShut issuer start end = (IsHeldShut issuer start.content → ⊥) → 
 -- nothing is written of a file that the old one may not be moved onto
 abbrev pub KeptUnlessFree : List ℕ → OnDisk → OnDisk → Type 0
 KeptUnlessFree old start end = (MayBeMoved old start.content → ⊥) → (end ≡ synced start) ⊎ IsSyncFailed start end
+
+-- The history of the one disk was moved onto the other: that was free for it, each crash in the call left it as it was, not begun, an
+-- unfinished migration or the whole history, each crash from now on leaves the whole, and it reads as that.
+pub record MovedOnto {D M : Type 0} (old : Disks D) (new : Disks M) : Type 0 where
+  pub free : IsTrue old.tells → IsTrue new.tells → MayBeMoved (old.on_disk old.disk).content (new.on_disk new.disk).content
+  pub any_moment : IsTrue old.tells → IsTrue new.tells →
+      Moves (old.on_disk old.disk).content (new.on_disk new.disk) (new.on_disk new.disk_after)
+  pub every_crash : IsTrue old.tells → IsTrue new.tells →
+      LeavesNow (new.on_disk new.disk_after) (IsMoved (old.on_disk old.disk).content)
+  pub reads : IsTrue old.tells → IsTrue new.tells →
+      IsMoved (old.on_disk old.disk).content (new.on_disk new.disk_after).content
+  pub later : new.faults new.disk ≤ new.faults new.disk_after
+
+-- A migration ended early: each crash left one of these as well, and where the other disk isn't free for it nothing was written there.
+pub record NotMovedOnto {D M : Type 0} (old : Disks D) (new : Disks M) : Type 0 where
+  pub any_moment : IsTrue old.tells → IsTrue new.tells →
+      Moves (old.on_disk old.disk).content (new.on_disk new.disk) (new.on_disk new.disk_after)
+  pub kept : IsTrue old.tells → IsTrue new.tells →
+      KeptUnlessFree (old.on_disk old.disk).content (new.on_disk new.disk) (new.on_disk new.disk_after)
+  pub later : new.faults new.disk ≤ new.faults new.disk_after

@@ -2,7 +2,6 @@
 //! of a file of version One to a second disk, in version Two.
 #![tactic(auto)]
 
-mod looking;
 mod moving;
 mod opening;
 mod rewriting;

@@ -7,14 +7,14 @@ ghost use Rattle.record_fields.specs.declared.versions.Version.TheVariants.{One,
 ghost use Rattle.shop_core.specs.File.Files.{StandsFor, bodies_of};
 ghost use Rattle.recovery.specs.Causes.{IsMoveCause, IsMoveStateCause, IsPrepareCause, IsReadCause, IsWriteCause};
 ghost use Rattle.recovery.specs.Causes.{NoCause, OneCause};
-ghost use Rattle.recovery.specs.Moving.{HasCounts, IsHeldShut, IsMoved, IsMoveImage, IsSameOrShut, IsShutOrWhole, IsWriting};
-ghost use Rattle.recovery.specs.Moving.{KeptUnlessFree, KeptUnlessShut, MayBeMoved, Moves};
+ghost use Rattle.recovery.specs.Moving.{HasCounts, IsHeldShut, IsMoveImage, IsSameOrShut, IsShutOrWhole, IsWriting, KeptUnlessShut};
+ghost use Rattle.recovery.specs.Moving.{MovedOnto, NotMovedOnto};
 ghost use Rattle.recovery.specs.declared.moving.MoveCause.TheVariants as cause_of;
 
-use crate::looking::{Held, look};
-use crate::rewriting::{begin_shut, open_up, write_entries};
+use crate::rewriting::write_entries;
 use chain_disk::Disk;
 use chain_store::{LoadFault, Loaded, load};
+use journal::{ShutFault, begin_shut, open_shut};
 use parties::Nif;
 use ports::{Failed, NoMemory};
 use record_codec::{Version, an_encoding_is_a_body};
@@ -86,15 +86,10 @@ fn prepare<M: Disk>(disk: &mut M, issuer: &Nif) -> Result<(), MoveCause>
     ensures cause { IfErr result (IsPrepareCause issuer.now (this_disk M.tells M.on_disk M.faults disk.old disk.new)) }
     ensures later { M.faults disk.old ≤ M.faults disk.new }
 {
-    let _nine = issuer.bytes();
-    let held = look(disk, issuer)?;
-    match held {
-        Held::Other { length } => Err(MoveCause::Occupied { length }),
-        Held::Unfinished => Ok(()),
-        Held::NotBegun => {
-            begin_shut(disk, issuer)?;
-            Ok(())
-        }
+    match begin_shut(disk, issuer, Version::Two) {
+        Ok(()) => Ok(()),
+        Err(ShutFault::DiskFault) => Err(MoveCause::NewFault),
+        Err(ShutFault::Occupied { length }) => Err(MoveCause::Occupied { length }),
     }
 }
 
@@ -109,7 +104,7 @@ fn rewrite<M: Disk>(alloc: Global, state: &State, disk: &mut M) -> Result<(), Mo
     ensures later { M.faults disk.old ≤ M.faults disk.new }
 {
     let at = write_entries(alloc, state, disk)?;
-    open_up(disk, at)?;
+    open_shut(disk, at)?;
     Ok(())
 }
 
@@ -156,29 +151,16 @@ pub fn migrate_counted<D: Disk, M: Disk>(
     old: &mut D,
     new: M,
 ) -> Result<Moved<M>, MoveFault<M>>
-    // A crash at any moment leaves the new file as it was; or, where it was free, not begun, an unfinished migration, or the whole
-    // history.
-    ensures any_moment { IfOk result (λ moved. IsTrue D.tells → IsTrue M.tells →
-        Moves (D.on_disk old.old).content (M.on_disk new) (M.on_disk moved.new)) }
-    ensures any_moment_err { IfErr result (λ fault. IsTrue D.tells → IsTrue M.tells →
-        Moves (D.on_disk old.old).content (M.on_disk new) (M.on_disk fault.new)) }
-    ensures every_crash { IfOk result (λ moved. IsTrue D.tells → IsTrue M.tells →
-        LeavesNow (M.on_disk moved.new) (IsMoved (D.on_disk old.old).content)) }
-    ensures reads { IfOk result (λ moved. IsTrue D.tells → IsTrue M.tells →
-        IsMoved (D.on_disk old.old).content (M.on_disk moved.new).content) }
+    ensures moved { IfOk result (λ moved. MovedOnto (this_disk D.tells D.on_disk D.faults old.old old.new)
+        (this_disk M.tells M.on_disk M.faults new moved.new)) }
+    ensures not_moved { IfErr result (λ fault. NotMovedOnto (this_disk D.tells D.on_disk D.faults old.old old.new)
+        (this_disk M.tells M.on_disk M.faults new fault.new)) }
 
-    // Only such files are moved, and nothing is written of others. What keeps one from being moved is the cause, unless a disk
-    // failed or memory ran out.
-    ensures free { IfOk result (λ moved. IsTrue D.tells → IsTrue M.tells →
-        MayBeMoved (D.on_disk old.old).content (M.on_disk new).content) }
-    ensures kept { IfErr result (λ fault. IsTrue D.tells → IsTrue M.tells →
-        KeptUnlessFree (D.on_disk old.old).content (M.on_disk new) (M.on_disk fault.new)) }
+    // What keeps a file from being moved is the cause, unless a disk failed or memory ran out.
     ensures cause { IfErr result (λ fault. IsMoveCause (this_disk D.tells D.on_disk D.faults old.old old.new)
         (this_disk M.tells M.on_disk M.faults new fault.new) fault.cause) }
     ensures same { D.on_disk old.new ≡ D.on_disk old.old }
     ensures later { D.faults old.old ≤ D.faults old.new }
-    ensures new_later { IfOk result (λ moved. M.faults new ≤ M.faults moved.new) }
-    ensures new_later_err { IfErr result (λ fault. M.faults new ≤ M.faults fault.new) }
     ensures counts { IfOk result (λ moved. IsTrue D.tells → HasCounts (D.on_disk old.old).content moved.records moved.noted) }
 {
     let mut new = new;
@@ -197,29 +179,16 @@ pub fn migrate_counted<D: Disk, M: Disk>(
 
 /// Moves a file as `migrate_counted` does, and gives the new disk alone.
 pub fn migrate<D: Disk, M: Disk>(alloc: Global, old: &mut D, new: M) -> Result<M, MoveFault<M>>
-    // A crash at any moment leaves the new file as it was; or, where it was free, not begun, an unfinished migration, or the whole
-    // history.
-    ensures any_moment { IfOk result (λ disk. IsTrue D.tells → IsTrue M.tells →
-        Moves (D.on_disk old.old).content (M.on_disk new) (M.on_disk disk)) }
-    ensures any_moment_err { IfErr result (λ fault. IsTrue D.tells → IsTrue M.tells →
-        Moves (D.on_disk old.old).content (M.on_disk new) (M.on_disk fault.new)) }
-    ensures every_crash { IfOk result (λ disk. IsTrue D.tells → IsTrue M.tells →
-        LeavesNow (M.on_disk disk) (IsMoved (D.on_disk old.old).content)) }
-    ensures reads { IfOk result (λ disk. IsTrue D.tells → IsTrue M.tells →
-        IsMoved (D.on_disk old.old).content (M.on_disk disk).content) }
+    ensures moved { IfOk result (λ disk. MovedOnto (this_disk D.tells D.on_disk D.faults old.old old.new)
+        (this_disk M.tells M.on_disk M.faults new disk)) }
+    ensures not_moved { IfErr result (λ fault. NotMovedOnto (this_disk D.tells D.on_disk D.faults old.old old.new)
+        (this_disk M.tells M.on_disk M.faults new fault.new)) }
 
-    // Only such files are moved, and nothing is written of others. What keeps one from being moved is the cause, unless a disk
-    // failed or memory ran out.
-    ensures free { IfOk result (λ disk. IsTrue D.tells → IsTrue M.tells →
-        MayBeMoved (D.on_disk old.old).content (M.on_disk new).content) }
-    ensures kept { IfErr result (λ fault. IsTrue D.tells → IsTrue M.tells →
-        KeptUnlessFree (D.on_disk old.old).content (M.on_disk new) (M.on_disk fault.new)) }
+    // What keeps a file from being moved is the cause, unless a disk failed or memory ran out.
     ensures cause { IfErr result (λ fault. IsMoveCause (this_disk D.tells D.on_disk D.faults old.old old.new)
         (this_disk M.tells M.on_disk M.faults new fault.new) fault.cause) }
     ensures same { D.on_disk old.new ≡ D.on_disk old.old }
     ensures later { D.faults old.old ≤ D.faults old.new }
-    ensures new_later { IfOk result (λ disk. M.faults new ≤ M.faults disk) }
-    ensures new_later_err { IfErr result (λ fault. M.faults new ≤ M.faults fault.new) }
 {
     match migrate_counted(alloc, old, new) {
         Ok(Moved { new, .. }) => Ok(new),

@@ -1,8 +1,8 @@
 mod Appended
-mod CaughtUp
+pub mod CaughtUp
 mod Chained
 mod Followed
-mod Fronts
+pub mod Fronts
 mod Pairing
 mod Receiving
 mod Sights

@@ -3,7 +3,7 @@ ghost use Rattle.std.specs.Prelude.{◌≡◌, ◌≤◌, ◌≢◌, ◌↔◌, 
 ghost use Rattle.ports.specs.Causes.{Rose};
 ghost use Rattle.huella.specs.Linked.{Linked};
 ghost use Rattle.chain_disk.specs.OnDisk.{LeavesNow, LeavesOnly, synced};
-ghost use Rattle.chain_store.specs.Opening.{IsAtMostSynced, IsCreation, IsFound, IsOnlySynced};
+ghost use Rattle.chain_store.specs.Opening.{IsAtMostSynced, IsCreation, IsFound, IsLeftUnopened, IsOnlySynced};
 ghost use Rattle.chain_store.specs.Ready.{IsReady};
 ghost use Rattle.chain_store.specs.Store.{Ready, clock_of, journal_of, state_of, torn_of};
 ghost use Rattle.journal.specs.File.{IsNotBegun};
@@ -16,6 +16,7 @@ ghost use Rattle.standby.specs.Arriving.{AddsEntry, Arrives, KeepsEntry, Receive
 ghost use Rattle.standby.specs.Chains.{ChainOnDisk, GoesTo, IsAppended, IsSoundChain, chain_of};
 ghost use Rattle.standby.specs.Following.{Follows};
 ghost use Rattle.standby.specs.Starting.{IsLeftUnstarted};
+ghost use Rattle.chain_store.specs.declared.causes.OpenCause.TheVariants as opening;
 ghost use Rattle.standby.specs.declared.causes.StandbyCause.TheVariants as cause;
 
 use crate::arriving::{Arrived, Looked, kept_by, look};
@@ -110,6 +111,38 @@ impl<D: Disk> Standby<D> {
         Ok(standby)
     }
 
+    /// Opens a disk of this issuer's chain, of either version, and begins it in this one where it isn't begun. First it is synced, so
+    /// that a crash leaves what is read. A damaged file and one of another issuer are left as they are.
+    pub fn open(
+        alloc: Global,
+        disk: D,
+        issuer: &Nif,
+        created: Version,
+    ) -> Result<Standby<D>, NotOpened<D>>
+        ensures sound { IfOk result (λ standby. IsSoundChain D.tells D.on_disk D.faults standby) }
+        ensures going_on { IfOk result (λ standby. standby.stopped ≡ None) }
+        ensures issuer { IfOk result (λ standby. standby.history.issuer ≡ issuer.now) }
+        ensures found { IfOk result (λ standby. IsTrue D.tells →
+            IsFound created standby.history.version issuer.now standby.history.entries (D.on_disk disk).content) }
+
+        // From its first sync on, a crash at any moment of the call leaves what was found.
+        ensures any_moment { IfOk result (λ standby. IsTrue D.tells →
+            LeavesOnly (synced (D.on_disk disk)) (D.on_disk standby.disk)
+            (IsFound created standby.history.version issuer.now standby.history.entries)) }
+        ensures unwritten { IfOk result (λ standby. IsTrue D.tells → IsOnlySynced (D.on_disk disk) (D.on_disk standby.disk)) }
+        ensures unwritten_err { IfErr result (λ fault. IsTrue D.tells → IsAtMostSynced (D.on_disk disk) (D.on_disk fault.disk)) }
+        ensures later { IfOk result (λ standby. D.faults disk ≤ D.faults standby.disk) }
+        ensures left { IfErr result (λ fault. IsTrue D.tells →
+            IsLeftUnopened created issuer.now fault.cause (D.on_disk disk) (D.on_disk fault.disk)) }
+        ensures disk_fault { IfErr result (λ fault. fault.cause ≡ opening.DiskFault → Rose (D.faults disk) (D.faults fault.disk)) }
+        ensures later_err { IfErr result (λ fault. D.faults disk ≤ D.faults fault.disk) }
+    {
+        let Opened { state, journal } = open_journal(alloc, disk, issuer, created)?;
+        let standby = Standby::of(state, journal);
+        standby.is_sound();
+        Ok(standby)
+    }
+
     /// Opens the standby's disk for this issuer and version, and begins it where it isn't begun. First it is synced, so that a
     /// crash leaves what is read. A damaged file, one of another issuer and one of another version are left as they are.
     pub fn start(
@@ -166,6 +199,13 @@ impl<D: Disk> Standby<D> {
         ensures { result.now ≡ self.now.history }
     {
         &self.state
+    }
+
+    /// The place of its file's closing gate.
+    pub fn gate(&self) -> u64
+        ensures { result ≡ self.now.gate }
+    {
+        self.journal.end()
     }
 
     /// The disk's count of faults when it stopped. None where it goes on.

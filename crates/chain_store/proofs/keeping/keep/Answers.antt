@@ -9,6 +9,7 @@ use Rattle.shop_core.specs.History.{History}
 use Rattle.shop_core.specs.Legal.{Legal}
 use Rattle.chain_store.specs.Ready.{IsReady}
 use Rattle.chain_store.proofs.Stores.{adding, appended, gate_more, holds_more, leaves_its_history}
+use Rattle.chain_store.proofs.Losing.{append_loses_none}
 use Rattle.chain_store.proofs.keeping.keep.Goals as goal
 
 pub unreachable-requires : goal.unreachable-requires
@@ -53,6 +54,12 @@ returns-in-Ok g c =
       same = search rules;
       any_moment = λ tells. appended (around tells) is
           (c.append.ensures.any_moment c.requires.going_on tells s.version s.issuer _ (c.requires.ready.holds refl tells).file);
+      never_loses = λ tells.
+          let holds = c.requires.ready.holds refl tells in
+          append_loses_none c.encodings_are_apart.ensures c.a_file_stands_for_one_chain.ensures s.version s.issuer s.entries entry
+          (g.D.Disk.on_disk (disk_of c.args.journal.now)) (g.D.Disk.on_disk (disk_of c.append.new.self))
+          (appended (around tells) is (c.append.ensures.any_moment c.requires.going_on tells s.version s.issuer _ holds.file))
+          (c.append.ensures.never_loses c.requires.going_on tells s.version s.issuer _ holds.file);
       appended = c.append.ensures.appended c.requires.going_on;
       content = λ tells. c.in-Ok.ensures.content tells ∙
           ap (λ (b : List ℕ). with_frame (g.D.Disk.on_disk (disk_of c.args.journal.now)).content (end_of c.args.journal.now) b) is;
@@ -80,6 +87,17 @@ returns-in-Err-DiskFault g c =
           (subst (λ (v : Version). AreFields v c.args.entry) c.version.ensures c.fields_are_valid.ensures) in
           appended a c.requires.encoding
           (c.append.ensures.any_moment c.requires.going_on tells s.version s.issuer _ holds.file);
+      never_loses = λ tells.
+          let holds = c.requires.ready.holds refl tells in
+          let a =
+          adding s (end_of c.args.journal.now) (g.D.Disk.on_disk (disk_of c.args.journal.now)) c.args.entry
+          c.what_continues_fits_its_bytes.ensures c.a_legal_history_goes_on.ensures holds
+          c.is_legal.ensures c.requires.continues
+          (subst (λ (v : Version). AreFields v c.args.entry) c.version.ensures c.fields_are_valid.ensures) in
+          append_loses_none c.encodings_are_apart.ensures c.a_file_stands_for_one_chain.ensures s.version s.issuer s.entries
+          c.args.entry (g.D.Disk.on_disk (disk_of c.args.journal.now)) (g.D.Disk.on_disk (disk_of c.append.new.self))
+          (appended a c.requires.encoding (c.append.ensures.any_moment c.requires.going_on tells s.version s.issuer _ holds.file))
+          (c.append.ensures.never_loses c.requires.going_on tells s.version s.issuer _ holds.file);
       appended = c.append.ensures.appended c.requires.going_on;
       content = search rules;
       acknowledged = search rules;

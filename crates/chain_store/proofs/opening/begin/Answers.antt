@@ -6,6 +6,7 @@ use Rattle.shop_core.specs.Legal.{Legal}
 use Rattle.shop_core.specs.File.Files.{StandsFor}
 use Rattle.chain_store.specs.Opening.{IsFound}
 use Rattle.chain_store.proofs.Opens.{begun, begins}
+use Rattle.chain_store.proofs.Losing.{creation_loses_none}
 use Rattle.chain_store.proofs.Readies.{ready_empty}
 use Rattle.chain_store.proofs.opening.begin.Goals as goal
 
@@ -35,3 +36,23 @@ returns-in-Ok-clause-ready g c = ready_empty g.D.Disk.tells c.args.created c.arg
 
 pub returns-in-Ok-clause-created : goal.returns-in-Ok-clause-created
 returns-in-Ok-clause-created g c tells = record { content = c.in-Ok.ensures.content tells; takes = c.in-Ok.ensures.moments tells }
+
+pub returns-in-Ok-clause-never_loses : goal.returns-in-Ok-clause-never_loses
+returns-in-Ok-clause-never_loses g c tells =
+    let issuer = c.args.issuer.now in
+    let created = c.args.created in
+    let legal : Legal created issuer [] =
+    subst (λ (h : History). Legal h.version h.issuer h.entries) c.empty-state.ensures c.is_legal.ensures in
+    creation_loses_none c.encodings_are_apart.ensures c.a_file_stands_for_one_chain.ensures c.a_file_not_begun_is_no_chain.ensures
+    created issuer legal (g.D.Disk.on_disk c.args.disk) (g.D.Disk.on_disk (disk_of c.in-Ok.journal))
+    (c.in-Ok.ensures.any_moment tells) (c.in-Ok.ensures.never_loses tells)
+
+pub returns-in-Err-clause-never_loses_err : goal.returns-in-Err-clause-never_loses_err
+returns-in-Err-clause-never_loses_err g c tells =
+    let issuer = c.args.issuer.now in
+    let created = c.args.created in
+    let legal : Legal created issuer [] =
+    subst (λ (h : History). Legal h.version h.issuer h.entries) c.empty-state.ensures c.is_legal.ensures in
+    creation_loses_none c.encodings_are_apart.ensures c.a_file_stands_for_one_chain.ensures c.a_file_not_begun_is_no_chain.ensures
+    created issuer legal (g.D.Disk.on_disk c.args.disk) _
+    (c.in-Err.ensures.any_moment_err tells) (c.in-Err.ensures.never_loses_err tells)

@@ -1,46 +1,24 @@
-use Rattle.std.proofs.Common.{◌∙◌, sym, ap, subst}
-use Rattle.chain_disk.specs.OnDisk.{OnDisk, LeavesOnly}
-use Rattle.record_fields.specs.declared.versions.Version.TheVariants.{Two}
-use Rattle.chain_store.specs.declared.loading.Loaded.TheVariants.{Begun}
-use Rattle.chain_store.specs.Opening.{IsCreation}
-use Rattle.chain_store.specs.Store.{journal_of, state_of}
-use Rattle.journal.specs.File.{IsNotBegun}
+use Rattle.std.proofs.Common.{subst, sym}
+use Rattle.chain_disk.specs.OnDisk.{LeavesNow, LeavesOnly, synced}
 use Rattle.journal.specs.Journal.{disk_of}
+use Rattle.shop_core.specs.File.Files.{StandsFor}
+use Rattle.shop_core.specs.History.{History}
 use Rattle.recovery.specs.Opening.{IsFound}
-use Rattle.recovery.proofs.Opens.{if_ok, loaded_settled}
 use Rattle.recovery.proofs.opening.open_store.Goals as goal
 
-pub returns-in-Ok-Begun-clause-unwritten : goal.returns-in-Ok-Begun-clause-unwritten
-returns-in-Ok-Begun-clause-unwritten g c =
-    if_ok _ _ c.open_held.result c.open_held.ensures.same (λ store h tells begun.
-    ap (λ d. g.D.Disk.on_disk d) h.3 ∙ c.load.ensures.same ∙ c.in-Ok.ensures.ok tells)
+pub returns-in-Ok-clause-every_crash : goal.returns-in-Ok-clause-every_crash
+returns-in-Ok-clause-every_crash g c = λ tells.
+    let parts = c.of.ensures.parts in
+    subst (λ (j : _). LeavesNow (g.D.Disk.on_disk (disk_of j))
+    (StandsFor c.of.result.state.version c.args.issuer.now c.of.result.state.entries)) (sym parts.1)
+    (subst (λ (s : History). LeavesNow (g.D.Disk.on_disk (disk_of c.in-Ok.field-0.journal))
+    (StandsFor s.version c.args.issuer.now s.entries)) (sym parts.0) (c.in-Ok.ensures.every_crash tells))
 
-pub open_held-requires-clause-holds : goal.open_held-requires-clause-holds
-open_held-requires-clause-holds g c tells = loaded_settled _ _ _ (Begun c.in-Ok-Begun.state c.in-Ok-Begun.end) (c.in-Ok.ensures.ok tells) c.load.ensures.same
-    (rw c.in-Ok-Begun.field-0-is at (c.in-Ok-Begun.ensures.content tells))
-
-pub returns-in-Ok-Begun-clause-any_moment : goal.returns-in-Ok-Begun-clause-any_moment
-returns-in-Ok-Begun-clause-any_moment g c =
-    if_ok _ _ c.open_held.result c.open_held.ensures.any_moment (λ store h tells.
-    subst (λ (t : OnDisk). LeavesOnly t (g.D.Disk.on_disk (disk_of (journal_of store))) (IsFound (state_of store).version
-    c.args.issuer.now (state_of store).entries)) (c.load.ensures.same ∙ c.in-Ok.ensures.ok tells) (h tells))
-
-pub returns-in-Ok-Begun-clause-created : goal.returns-in-Ok-Begun-clause-created
-returns-in-Ok-Begun-clause-created g c =
-    if_ok _ _ c.open_held.result c.open_held.ensures.same (λ store h tells not.
-    let loaded = rw c.in-Ok-Begun.field-0-is at (c.in-Ok-Begun.ensures.content tells) in
-    let content = ap (λ (t : OnDisk). t.content) (c.in-Ok.ensures.ok tells) in
-    absurd (c.a_file_not_begun_is_no_chain.ensures _ _ _ _ (subst IsNotBegun (sym content) not) loaded.0.frames))
-
-pub returns-in-Ok-NotBegun-clause-unwritten : goal.returns-in-Ok-NotBegun-clause-unwritten
-returns-in-Ok-NotBegun-clause-unwritten g c =
-    if_ok _ _ c.begin.result c.begin.ensures.created (λ store h tells begun.
-    let not = rw c.in-Ok-NotBegun.field-0-is at (c.in-Ok-NotBegun.ensures.content tells) in
-    let content = ap (λ (t : OnDisk). t.content) (c.in-Ok.ensures.ok tells) in
-    absurd (begun (subst IsNotBegun content not)))
-
-pub returns-in-Ok-NotBegun-clause-created : goal.returns-in-Ok-NotBegun-clause-created
-returns-in-Ok-NotBegun-clause-created g c =
-    if_ok _ _ c.begin.result c.begin.ensures.created (λ store h tells not.
-    subst (λ (t : OnDisk). IsCreation Two c.args.issuer.now t (g.D.Disk.on_disk (disk_of (journal_of store))))
-    (c.load.ensures.same ∙ c.in-Ok.ensures.ok tells) (h tells))
+pub returns-in-Ok-clause-any_moment : goal.returns-in-Ok-clause-any_moment
+returns-in-Ok-clause-any_moment g c = λ tells.
+    let parts = c.of.ensures.parts in
+    let old = synced (g.D.Disk.on_disk c.args.disk) in
+    subst (λ (j : _). LeavesOnly old (g.D.Disk.on_disk (disk_of j))
+    (IsFound c.of.result.state.version c.args.issuer.now c.of.result.state.entries)) (sym parts.1)
+    (subst (λ (s : History). LeavesOnly old (g.D.Disk.on_disk (disk_of c.in-Ok.field-0.journal))
+    (IsFound s.version c.args.issuer.now s.entries)) (sym parts.0) (c.in-Ok.ensures.any_moment tells))

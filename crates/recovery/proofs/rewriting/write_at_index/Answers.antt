@@ -4,14 +4,14 @@ use Rattle.journal.specs.File.{framed}
 use Rattle.record_fields.specs.declared.versions.Version.TheVariants.{Two}
 use Rattle.shop_core.specs.File.Files.{bodies_of}
 use Rattle.recovery.specs.Moving.{IsHeldShut, IsWriting}
-use Rattle.recovery.proofs.Fronts.{writing_now}
+use Rattle.journal.proofs.Shut.{writing_now}
 use Rattle.recovery.proofs.Entries.{next_bodies}
 use Rattle.recovery.proofs.rewriting.write_at_index.Goals as goal
 
 pub returns-in_err-entry-clause-any_moment : goal.returns-in_err-entry-clause-any_moment
 returns-in_err-entry-clause-any_moment g c = λ tells.
     started (g.M.Disk.on_disk c.args.disk.now) (IsHeldShut c.args.state.now.issuer)
-    (writing_now c.args.state.now.issuer _ c.args.at (g.M.Disk.on_disk c.args.disk.now) (c.requires.within tells))
+    (writing_now Two c.args.state.now.issuer _ c.args.at (g.M.Disk.on_disk c.args.disk.now) (c.requires.within tells))
 
 pub returns-clause-ok : goal.returns-clause-ok
 returns-clause-ok g c = λ tells.

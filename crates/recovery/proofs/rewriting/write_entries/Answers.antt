@@ -6,7 +6,7 @@ use Rattle.record_codec.specs.declared.entry.Entry.{Entry}
 use Rattle.record_fields.specs.declared.versions.Version.TheVariants.{Two}
 use Rattle.shop_core.specs.File.Files.{bodies_of}
 use Rattle.recovery.specs.Moving.{IsHeldShut, IsWriting}
-use Rattle.recovery.proofs.Fronts.{writing_now}
+use Rattle.journal.proofs.Shut.{writing_now}
 use Rattle.recovery.proofs.rewriting.write_entries.Goals as goal
 
 pub loop-index-init : goal.loop-index-init
@@ -15,7 +15,7 @@ loop-index-init g c = record {
   writing = λ tells. c.requires tells;
   any_moment = λ tells.
       started (g.M.Disk.on_disk c.args.disk.now) (IsHeldShut c.args.state.now.issuer)
-      (writing_now c.args.state.now.issuer _ 19 (g.M.Disk.on_disk c.args.disk.now) (c.requires tells));
+      (writing_now Two c.args.state.now.issuer _ 19 (g.M.Disk.on_disk c.args.disk.now) (c.requires tells));
   later = omega arith;
 }
 

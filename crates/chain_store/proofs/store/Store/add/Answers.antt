@@ -5,6 +5,7 @@ use Rattle.journal.specs.Journal.{disk_of, end_of}
 use Rattle.journal.specs.Written.{AppendsFrom}
 use Rattle.shop_core.specs.File.Files.{StandsBeforeOrWith}
 use Rattle.shop_core.specs.History.{History}
+use Rattle.chain_store.specs.Losing.{none_lost_by}
 use Rattle.chain_store.proofs.Stores.{untouched_around}
 use Rattle.chain_store.proofs.store.Store.add.Goals as goal
 
@@ -22,6 +23,8 @@ returns-in_default g c =
       any_moment = λ tells. subst (λ (j : _). LeavesOnly (g.D.Disk.on_disk (disk_of c.args.self.now.journal))
           (g.D.Disk.on_disk (disk_of j)) (StandsBeforeOrWith s.version s.issuer s.entries c.args.entry)) (sym same.0)
           (untouched_around s _ _ c.args.entry (c.requires.ready.holds refl tells) c.is_legal.ensures);
+      never_loses = λ tells. none_lost_by (g.D.Disk.on_disk (disk_of c.args.self.now.journal)) _
+          (ap (λ (j : _). g.D.Disk.on_disk (disk_of j)) same.0);
       appended = λ going tells. subst (λ (j : _). AppendsFrom (end_of c.args.self.now.journal)
           (g.D.Disk.on_disk (disk_of c.args.self.now.journal)) (g.D.Disk.on_disk (disk_of j))) (sym same.0)
           (appends_none (end_of c.args.self.now.journal) (g.D.Disk.on_disk (disk_of c.args.self.now.journal))

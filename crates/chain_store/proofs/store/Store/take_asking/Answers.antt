@@ -1,7 +1,8 @@
 use Rattle.std.proofs.lemmas.Result.{on_ok_weaker}
 use Rattle.std.proofs.Common.{rules, refl, sym, ◌∙◌, subst, Ok, Err}
 use Rattle.journal.proofs.Appends.{appends_none}
-use Rattle.journal.specs.Journal.{end_of}
+use Rattle.journal.specs.Journal.{disk_of, end_of}
+use Rattle.chain_store.specs.Losing.{none_lost}
 use Rattle.journal.specs.declared.faults.StoreFault.{StoreFault}
 use Rattle.ports.specs.Readings.{MovedBy}
 use Rattle.record_codec.specs.declared.entry.Entry.{Entry}
@@ -17,6 +18,7 @@ returns-in-Some g c =
     record {
       ready = search rules;
       takes = search rules;
+      never_loses = λ tells. none_lost (g.D.Disk.on_disk (disk_of c.args.self.now.journal));
       appended = search rules;
       content = λ entry gained. absurd (none_gained c.args.self.now.state.entries entry gained);
       acknowledged = search rules;
@@ -40,6 +42,7 @@ returns-in-Err g c =
           c.now-seconds.ensures.told c.now-seconds.ensures.moved refl
           (λ tells. untouched c.args.self.now.state (end_of c.args.self.now.journal) _ (c.requires.holds going_on tells)
           c.is_legal.ensures);
+      never_loses = λ tells. none_lost (g.D.Disk.on_disk (disk_of c.args.self.now.journal));
       appended = λ going_on tells. appends_none (end_of c.args.self.now.journal) _
           (c.requires.holds going_on tells).file.nothing_pending;
       content = λ entry gained. absurd (none_gained c.args.self.now.state.entries entry gained);
@@ -66,6 +69,7 @@ returns-in-Ok-Again g c =
           c.now-seconds.ensures.told c.now-seconds.ensures.moved
           (told_again s.issuer s.entries planned c.in-Ok-Again.receipt (sym c.in-Ok-Again.ensures.answer ∙ c.in-Ok-Again.field-0-is))
           (λ tells. untouched s (end_of c.args.self.now.journal) _ (c.requires.holds going_on tells) c.is_legal.ensures);
+      never_loses = λ tells. none_lost (g.D.Disk.on_disk (disk_of c.args.self.now.journal));
       appended = λ going_on tells. appends_none (end_of c.args.self.now.journal) _
           (c.requires.holds going_on tells).file.nothing_pending;
       content = λ entry gained. absurd (none_gained c.args.self.now.state.entries entry gained);
@@ -95,6 +99,7 @@ returns-in-Ok-Refused g c =
           (told_refused s.issuer s.entries planned c.in-Ok-Refused.why (sym c.in-Ok-Refused.ensures.answer ∙
           c.in-Ok-Refused.field-0-is))
           (λ tells. untouched s (end_of c.args.self.now.journal) _ (c.requires.holds going_on tells) c.is_legal.ensures);
+      never_loses = λ tells. none_lost (g.D.Disk.on_disk (disk_of c.args.self.now.journal));
       appended = λ going_on tells. appends_none (end_of c.args.self.now.journal) _
           (c.requires.holds going_on tells).file.nothing_pending;
       content = λ entry gained. absurd (none_gained c.args.self.now.state.entries entry gained);
@@ -126,6 +131,7 @@ returns-in-Ok-Made g c =
           c.now-seconds.ensures.moved)
           t.issuer t.version (sym c.in-Ok-Made.ensures.answer ∙ c.in-Ok-Made.field-0-is) c.take_made.ensures.reply
           (on_ok_weaker c.take_made.result (λ both. both.1) t.added) t.same t.any_moment;
+      never_loses = c.take_made.ensures.adds.never_loses;
       appended = c.take_made.ensures.adds.appended;
       content = λ gained is.
           let s = c.args.self.now in
