@@ -1,0 +1,6 @@
+mod Blames
+mod Brought
+mod Left
+mod Levelled
+mod Mirrored
+mod Ups
