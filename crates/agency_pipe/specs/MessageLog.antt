@@ -11,7 +11,7 @@ use Rattle.agency_pipe.specs.declared.message_log.MessageLog.{MessageLog}
 abbrev pub message_of : Asked → Message
 message_of (Begun plan pairs) = message.Begun plan.value pairs
 message_of (Submitted batch answer) = message.Submitted batch.value answer.value
-message_of (Consulted asked answer) = message.Consulted asked.value.huellas answer.value
+message_of (Consulted asked answer) = message.Consulted asked.value answer.value
 
 -- all messages, in order
 abbrev pub said_in : MessageLog → List Message

@@ -56,7 +56,7 @@ impl MessageLog {
     }
 
     pub fn consulted(&mut self, huellas: &Huellas, answer: &Result<SeenList, AgencyFault>)
-        ensures { said_in self.new ≡ said_in self.old ++ message.Consulted huellas.now.huellas answer.now ∷ [] }
+        ensures { said_in self.new ≡ said_in self.old ++ message.Consulted huellas.now answer.now ∷ [] }
     {
         self.log = self.log.and(&Asked::Consulted(Snapshot::of(huellas), Snapshot::of(answer)));
     }

@@ -8,6 +8,7 @@ use Rattle.record_fields.specs.declared.records.Sealed.{Sealed}
 use Rattle.agency_rules.specs.Pairs.{delivered_all, line_of}
 use Rattle.agency_rules.specs.declared.plans.Plan.{Plan}
 use Rattle.agency_port.specs.Answers.{looked, seen_of}
+use Rattle.batches.specs.Batches.{Named}
 use Rattle.agency_port.specs.Ledger.{counted, HasCause, IsAsked, Consults, Begins}
 use Rattle.agency_port.specs.Rules.{ConsultKeeps}
 use Rattle.agency_port.specs.Practice.{Practice, messages_of, sent_in, ledger_of, fate_of, is_faulty, processed_before}
@@ -40,81 +41,81 @@ seen_is : (a : Practice) (huellas : List (List ℕ)) (seen : List Seen) → Ok s
     seen ≡ looked (processed_before a) huellas
 seen_is a huellas seen e = ok_by (is_faulty (fate_of a)) seen (looked (processed_before a) huellas) e
 
-faults_are : (a new : Practice) (huellas : List (List ℕ)) → new ≡ consulted a huellas → new.faults ≡ faults_by (fate_of a)
+faults_are : (a new : Practice) (asked : Named) → new ≡ consulted a asked → new.faults ≡ faults_by (fate_of a)
     a.faults
-faults_are a new huellas is = ap (λ (x : Practice). x.faults) is
+faults_are a new asked is = ap (λ (x : Practice). x.faults) is
 
-later_count : (a new : Practice) (huellas : List (List ℕ)) → new ≡ consulted a huellas → counted a.faults ≤ counted new.faults
-later_count a new huellas is = subst (λ (m : ℕ). counted a.faults ≤ counted m) (sym (faults_are a new huellas is))
+later_count : (a new : Practice) (asked : Named) → new ≡ consulted a asked → counted a.faults ≤ counted new.faults
+later_count a new asked is = subst (λ (m : ℕ). counted a.faults ≤ counted m) (sym (faults_are a new asked is))
     (faults_later (fate_of a) a.faults)
 
-pub consult_cause : (a : Practice) (huellas : List (List ℕ)) (r : Result (List Seen) AgencyFault) (new : Practice) →
-    IsRow r (consultation_answer a huellas) a new (consulted a huellas) → HasCause (counted a.faults) (counted new.faults) r
-consult_cause a huellas (Ok seen) new row = record {
-  later = later_count a new huellas row.1;
+pub consult_cause : (a : Practice) (asked : Named) (r : Result (List Seen) AgencyFault) (new : Practice) →
+    IsRow r (consultation_answer a asked.huellas) a new (consulted a asked) → HasCause (counted a.faults) (counted new.faults) r
+consult_cause a asked (Ok seen) new row = record {
+  later = later_count a new asked row.1;
   failed = tt;
   no_memory = λ none. absurd cc;
 }
-consult_cause a huellas (Err Failed) new row = record {
-  later = later_count a new huellas row.1;
-  failed = subst (λ (m : ℕ). Rose (counted a.faults) (counted m)) (sym (faults_are a new huellas row.1))
-      (faults_rose (fate_of a) a.faults (failed_by (is_faulty (fate_of a)) (looked (processed_before a) huellas) row.0));
+consult_cause a asked (Err Failed) new row = record {
+  later = later_count a new asked row.1;
+  failed = subst (λ (m : ℕ). Rose (counted a.faults) (counted m)) (sym (faults_are a new asked row.1))
+      (faults_rose (fate_of a) a.faults (failed_by (is_faulty (fate_of a)) (looked (processed_before a) asked.huellas) row.0));
   no_memory = λ none. absurd cc;
 }
-consult_cause a huellas (Err NoMemory) new row = record {
+consult_cause a asked (Err NoMemory) new row = record {
   later = (let e : counted new.faults ≡ counted a.faults =
       ap (λ (x : Practice). counted x.faults) row in omega arith);
   failed = tt;
   no_memory = λ none. ap (λ (x : Practice). counted x.faults) row;
 }
 
-pub consult_count : (a : Practice) (huellas : List (List ℕ)) (r : Result (List Seen) AgencyFault) (new : Practice) →
-    IsRow r (consultation_answer a huellas) a new (consulted a huellas) →
-    IfOk r (λ (seen : List Seen). length seen ≡ length huellas)
-consult_count a huellas (Ok seen) new row = ap length (seen_is a huellas seen row.0) ∙ length-map huellas
+pub consult_count : (a : Practice) (asked : Named) (r : Result (List Seen) AgencyFault) (new : Practice) →
+    IsRow r (consultation_answer a asked.huellas) a new (consulted a asked) →
+    IfOk r (λ (seen : List Seen). length seen ≡ length asked.huellas)
+consult_count a asked (Ok seen) new row = ap length (seen_is a asked.huellas seen row.0) ∙ length-map asked.huellas
     (λ (h : List ℕ). seen_of (line_of (processed_before a) h))
-consult_count a huellas (Err why) new row = tt
+consult_count a asked (Err why) new row = tt
 
-asked : (a new : Practice) (huellas : List (List ℕ)) (r : Result (List Seen) AgencyFault) → r ≡ consultation_answer a huellas →
-    new ≡ consulted a huellas → IsAsked (ledger_of a) (ledger_of new) huellas r
-asked a new huellas r e is =
-    let entry : Logged = record { message = Consulted huellas (consultation_answer a huellas); comes = None } in
+is_asked : (a new : Practice) (asked : Named) (r : Result (List Seen) AgencyFault) → r ≡ consultation_answer a asked.huellas →
+    new ≡ consulted a asked → IsAsked (ledger_of a) (ledger_of new) asked r
+is_asked a new asked r e is =
+    let entry : Logged = record { message = Consulted asked (consultation_answer a asked.huellas); comes = None } in
     record {
       sent = ap (λ (x : Practice). sent_in x.log) is ∙ sent-append a.log (entry ∷ []) ∙ append-nil (sent_in a.log);
       messages = ap (λ (x : Practice). messages_of x.log) is ∙ messages-append a.log (entry ∷ [])
-          ∙ ap (λ (answer : Result (List Seen) AgencyFault). messages_of a.log ++ Consulted huellas answer ∷ []) (sym e);
+          ∙ ap (λ (answer : Result (List Seen) AgencyFault). messages_of a.log ++ Consulted asked answer ∷ []) (sym e);
     }
 
-pub consult_lists : (a : Practice) (huellas : List (List ℕ)) (r : Result (List Seen) AgencyFault) (new : Practice) →
-    IsRow r (consultation_answer a huellas) a new (consulted a huellas) → Consults (ledger_of a) (ledger_of new) huellas r
-consult_lists a huellas (Ok seen) new row = asked a new huellas (Ok seen) row.0 row.1
-consult_lists a huellas (Err Failed) new row = asked a new huellas (Err Failed) row.0 row.1
-consult_lists a huellas (Err NoMemory) new row = ap ledger_of row
+pub consult_lists : (a : Practice) (asked : Named) (r : Result (List Seen) AgencyFault) (new : Practice) →
+    IsRow r (consultation_answer a asked.huellas) a new (consulted a asked) → Consults (ledger_of a) (ledger_of new) asked r
+consult_lists a asked (Ok seen) new row = is_asked a new asked (Ok seen) row.0 row.1
+consult_lists a asked (Err Failed) new row = is_asked a new asked (Err Failed) row.0 row.1
+consult_lists a asked (Err NoMemory) new row = ap ledger_of row
 
-processed_is : (a new : Practice) (huellas : List (List ℕ)) → new ≡ consulted a huellas → new.processed ≡ delivered_all
+processed_is : (a new : Practice) (asked : Named) → new ≡ consulted a asked → new.processed ≡ delivered_all
     a.plan.verdicts a.processed (before_of a)
-processed_is a new huellas is = ap (λ (x : Practice). x.processed) is ∙ before_is a
+processed_is a new asked is = ap (λ (x : Practice). x.processed) is ∙ before_is a
 
-pub consult_rules : (a : Practice) (huellas : List (List ℕ)) (r : Result (List Seen) AgencyFault) (new : Practice) →
-    IsRow r (consultation_answer a huellas) a new (consulted a huellas) → ConsultKeeps (ledger_of a) (ledger_of new) huellas r
-consult_rules a huellas (Ok seen) new row = record {
+pub consult_rules : (a : Practice) (asked : Named) (r : Result (List Seen) AgencyFault) (new : Practice) →
+    IsRow r (consultation_answer a asked.huellas) a new (consulted a asked) → ConsultKeeps (ledger_of a) (ledger_of new) asked.huellas r
+consult_rules a asked (Ok seen) new row = record {
   verdicts = ap (λ (x : Practice). x.plan.verdicts) row.1;
-  delivers = record { batches = before_of a; among = before_among a; is = processed_is a new huellas row.1 };
+  delivers = record { batches = before_of a; among = before_among a; is = processed_is a new asked row.1 };
   answered = record {
     before = before_of a;
     after = [];
     among_before = before_among a;
     among_after = tt;
-    is = processed_is a new huellas row.1 ∙ ap (delivered_all a.plan.verdicts a.processed) (sym (append-nil (before_of a)));
-    said = seen_is a huellas seen row.0 ∙ ap (λ (ps : List (Sealed × Line)). looked ps huellas) (before_is a);
+    is = processed_is a new asked row.1 ∙ ap (delivered_all a.plan.verdicts a.processed) (sym (append-nil (before_of a)));
+    said = seen_is a asked.huellas seen row.0 ∙ ap (λ (ps : List (Sealed × Line)). looked ps asked.huellas) (before_is a);
   };
 }
-consult_rules a huellas (Err Failed) new row = record {
+consult_rules a asked (Err Failed) new row = record {
   verdicts = ap (λ (x : Practice). x.plan.verdicts) row.1;
-  delivers = record { batches = before_of a; among = before_among a; is = processed_is a new huellas row.1 };
+  delivers = record { batches = before_of a; among = before_among a; is = processed_is a new asked row.1 };
   answered = tt;
 }
-consult_rules a huellas (Err NoMemory) new row = record {
+consult_rules a asked (Err NoMemory) new row = record {
   verdicts = ap (λ (x : Practice). x.plan.verdicts) row;
   delivers = record { batches = []; among = tt; is = ap (λ (x : Practice). x.processed) row };
   answered = tt;

@@ -67,7 +67,7 @@ later : (huella : List ℕ) (m : Message) (messages : List Message) → Answered
     AnsweredSince huella (m ∷ messages)
 later huella m messages a = record {
   before = m ∷ a.before;
-  huellas = a.huellas;
+  asked = a.asked;
   seen = a.seen;
   after = a.after;
   is = ap (λ (ms : List Message). m ∷ ms) a.is;
@@ -87,25 +87,25 @@ light_goes huella b (Submitted batch answer ∷ messages) e = elim (light_goes h
   | inl p ↦ (let q = or_false (names batch huella) b p.0 in inl (q.1, (q.0, p.1)))
   | inr a ↦ inr (later huella (Submitted batch answer) messages a)
 ]
-light_goes huella b (Consulted huellas (Ok seen) ∷ messages) e =
-    elim (light_goes huella (b && not (says_unseen huellas seen huella)) messages e) [
-      | inl p ↦ elim (cases_Bool (says_unseen huellas seen huella)) [
+light_goes huella b (Consulted asked (Ok seen) ∷ messages) e =
+    elim (light_goes huella (b && not (says_unseen asked.huellas seen huella)) messages e) [
+      | inl p ↦ elim (cases_Bool (says_unseen asked.huellas seen huella)) [
         | inl there ↦ inr (record {
           before = [];
-          huellas = huellas;
+          asked = asked;
           seen = seen;
           after = messages;
           is = refl;
           unseen = there;
           since = p.1;
         })
-        | inr none ↦ inl (unanswered b (says_unseen huellas seen huella) none p.0, (refl, p.1))
+        | inr none ↦ inl (unanswered b (says_unseen asked.huellas seen huella) none p.0, (refl, p.1))
       ]
-      | inr a ↦ inr (later huella (Consulted huellas (Ok seen)) messages a)
+      | inr a ↦ inr (later huella (Consulted asked (Ok seen)) messages a)
     ]
-light_goes huella b (Consulted huellas (Err why) ∷ messages) e = elim (light_goes huella b messages e) [
+light_goes huella b (Consulted asked (Err why) ∷ messages) e = elim (light_goes huella b messages e) [
   | inl p ↦ inl (p.0, (refl, p.1))
-  | inr a ↦ inr (later huella (Consulted huellas (Err why)) messages a)
+  | inr a ↦ inr (later huella (Consulted asked (Err why)) messages a)
 ]
 
 -- what isn't handed over stays out of the dark
@@ -117,8 +117,8 @@ stays_light : (huella : List ℕ) (messages : List Message) → AllByRecursion (
 stays_light huella [] none = refl
 stays_light huella (Begun plan pairs ∷ messages) none = stays_light huella messages none.1
 stays_light huella (Submitted batch answer ∷ messages) none = rw none.0 (stays_light huella messages none.1)
-stays_light huella (Consulted huellas (Ok seen) ∷ messages) none = stays_light huella messages none.1
-stays_light huella (Consulted huellas (Err why) ∷ messages) none = stays_light huella messages none.1
+stays_light huella (Consulted asked (Ok seen) ∷ messages) none = stays_light huella messages none.1
+stays_light huella (Consulted asked (Err why) ∷ messages) none = stays_light huella messages none.1
 
 dark_past : (huella : List ℕ) (b : Bool) (before messages : List Message) → dark_from huella b (before ++ messages) ≡ dark_from
     huella (dark_from huella b before) messages
@@ -134,9 +134,9 @@ goes_light : (huella : List ℕ) (messages : List Message) → MayGo huella mess
 goes_light huella messages (inl never) = stays_light huella messages never
 goes_light huella messages (inr a) =
     let before = dark_from huella false a.before in
-    ap (λ (ms : List Message). dark_from huella false ms) a.is ∙ dark_past huella false a.before (Consulted a.huellas (Ok a.seen)
+    ap (λ (ms : List Message). dark_from huella false ms) a.is ∙ dark_past huella false a.before (Consulted a.asked (Ok a.seen)
     ∷ a.after)
-    ∙ ap (λ (b : Bool). dark_from huella b a.after) (answered before (says_unseen a.huellas a.seen huella) a.unseen) ∙
+    ∙ ap (λ (b : Bool). dark_from huella b a.after) (answered before (says_unseen a.asked.huellas a.seen huella) a.unseen) ∙
     stays_light huella a.after a.since
 
 pub may_go_unless_dark : MayGoUnlessDark

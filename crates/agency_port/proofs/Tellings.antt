@@ -8,6 +8,7 @@ use Rattle.record_fields.specs.declared.records.Sealed.{Sealed}
 use Rattle.agency_rules.specs.declared.plans.Plan.{Plan}
 use Rattle.agency_port.specs.Reply.{Replied}
 use Rattle.agency_port.specs.Messages.{batch_in, batches_in}
+use Rattle.batches.specs.Batches.{Named}
 use Rattle.agency_port.specs.Ledger.{counted, HasCause, StaleShows, Names, HandsOver, Submits, IsAsked, Consults, Begins}
 use Rattle.agency_port.specs.Practice.{is_reply_to, IsRow}
 use Rattle.agency_port.specs.Telling.{Telling, ledger_of, submission_answer, consultation_answer, faults_after, submitted}
@@ -113,40 +114,40 @@ submit_lists a batch (Err NoMemory) new row = inl (record {
   messages = ap (λ (x : Telling). x.messages) row;
 })
 
-pub consult_cause : (a : Telling) (huellas : List (List ℕ)) (r : Result (List Seen) AgencyFault) (new : Telling) →
-    IsRow r (consultation_answer a.answers huellas) a new (consulted a huellas) → HasCause (counted a.faults) (counted new.faults)
+pub consult_cause : (a : Telling) (asked : Named) (r : Result (List Seen) AgencyFault) (new : Telling) →
+    IsRow r (consultation_answer a.answers asked.huellas) a new (consulted a asked) → HasCause (counted a.faults) (counted new.faults)
     r
-consult_cause a huellas (Ok seen) new row = count_cause (Ok seen) (consultation_answer a.answers huellas) a.faults new.faults
+consult_cause a asked (Ok seen) new row = count_cause (Ok seen) (consultation_answer a.answers asked.huellas) a.faults new.faults
     row.0 (ap (λ (x : Telling). x.faults) row.1) (λ none. cc)
-consult_cause a huellas (Err Failed) new row = count_cause (Err Failed) (consultation_answer a.answers huellas) a.faults
+consult_cause a asked (Err Failed) new row = count_cause (Err Failed) (consultation_answer a.answers asked.huellas) a.faults
     new.faults row.0 (ap (λ (x : Telling). x.faults) row.1) (λ none. cc)
-consult_cause a huellas (Err NoMemory) new row = record {
+consult_cause a asked (Err NoMemory) new row = record {
   later = (let e : counted new.faults ≡ counted a.faults =
       ap (λ (x : Telling). counted x.faults) row in omega arith);
   failed = tt;
   no_memory = λ none. ap (λ (x : Telling). counted x.faults) row;
 }
 
-pub consult_count : (a : Telling) (huellas : List (List ℕ)) (r : Result (List Seen) AgencyFault) (new : Telling) →
-    IsRow r (consultation_answer a.answers huellas) a new (consulted a huellas) →
-    IfOk r (λ (seen : List Seen). length seen ≡ length huellas)
-consult_count a huellas (Ok seen) new row = ok_counted a.answers huellas seen row.0
-consult_count a huellas (Err why) new row = tt
+pub consult_count : (a : Telling) (asked : Named) (r : Result (List Seen) AgencyFault) (new : Telling) →
+    IsRow r (consultation_answer a.answers asked.huellas) a new (consulted a asked) →
+    IfOk r (λ (seen : List Seen). length seen ≡ length asked.huellas)
+consult_count a asked (Ok seen) new row = ok_counted a.answers asked.huellas seen row.0
+consult_count a asked (Err why) new row = tt
 
-asked : (a new : Telling) (huellas : List (List ℕ)) (r : Result (List Seen) AgencyFault) → r ≡ consultation_answer a.answers
-    huellas → new ≡ consulted a huellas → IsAsked (ledger_of a) (ledger_of new) huellas r
-asked a new huellas r e is = record {
+is_asked : (a new : Telling) (asked : Named) (r : Result (List Seen) AgencyFault) → r ≡ consultation_answer a.answers
+    asked.huellas → new ≡ consulted a asked → IsAsked (ledger_of a) (ledger_of new) asked r
+is_asked a new asked r e is = record {
   sent = ap (λ (x : Telling). batches_in x.messages) is ∙ sent_then a.messages
-      (Consulted huellas (consultation_answer a.answers huellas)) ∙ append-nil (batches_in a.messages);
+      (Consulted asked (consultation_answer a.answers asked.huellas)) ∙ append-nil (batches_in a.messages);
   messages = ap (λ (x : Telling). x.messages) is ∙ ap (λ (answer : Result (List Seen) AgencyFault). a.messages ++ Consulted
-      huellas answer ∷ []) (sym e);
+      asked answer ∷ []) (sym e);
 }
 
-pub consult_lists : (a : Telling) (huellas : List (List ℕ)) (r : Result (List Seen) AgencyFault) (new : Telling) →
-    IsRow r (consultation_answer a.answers huellas) a new (consulted a huellas) → Consults (ledger_of a) (ledger_of new) huellas r
-consult_lists a huellas (Ok seen) new row = asked a new huellas (Ok seen) row.0 row.1
-consult_lists a huellas (Err Failed) new row = asked a new huellas (Err Failed) row.0 row.1
-consult_lists a huellas (Err NoMemory) new row = ap ledger_of row
+pub consult_lists : (a : Telling) (asked : Named) (r : Result (List Seen) AgencyFault) (new : Telling) →
+    IsRow r (consultation_answer a.answers asked.huellas) a new (consulted a asked) → Consults (ledger_of a) (ledger_of new) asked r
+consult_lists a asked (Ok seen) new row = is_asked a new asked (Ok seen) row.0 row.1
+consult_lists a asked (Err Failed) new row = is_asked a new asked (Err Failed) row.0 row.1
+consult_lists a asked (Err NoMemory) new row = ap ledger_of row
 
 pub begin_lists : (a new : Telling) (plan : Plan) (pairs : ℕ) → new ≡ opened a plan pairs → Begins (ledger_of a) (ledger_of new)
     plan pairs

@@ -5,7 +5,7 @@ use Rattle.record_fields.specs.declared.records.Sealed.{Sealed}
 use Rattle.record_fields.specs.declared.lines.Line.{Line}
 use Rattle.agency_rules.specs.declared.plans.Plan.{Plan}
 use Rattle.agency_rules.specs.declared.plans.PlannedVerdict.{PlannedVerdict}
-use Rattle.batches.specs.Batches.{huellas_of}
+use Rattle.batches.specs.Batches.{Named, huellas_of}
 use Rattle.agency_port.specs.Reply.{Replied}
 use Rattle.agency_port.specs.declared.answers.Seen.{Seen}
 use Rattle.agency_port.specs.declared.answers.AgencyFault.{AgencyFault}
@@ -65,13 +65,13 @@ Submits old new batch (Ok reply) = HandsOver old new batch (Ok reply)
 Submits old new batch (Err Failed) = HandsOver old new batch (Err Failed)
 Submits old new batch (Err NoMemory) = IsSilent old new ⊎ HandsOver old new batch (Err NoMemory)
 
--- it was asked for these Huellas, and answered so
-pub record IsAsked (old new : Ledger) (huellas : List (List ℕ)) (answer : Result (List Seen) AgencyFault) : Type 0 where
+-- it was asked for these Huellas, each by its record's id, and answered so
+pub record IsAsked (old new : Ledger) (asked : Named) (answer : Result (List Seen) AgencyFault) : Type 0 where
   pub sent : new.sent ≡ old.sent
-  pub messages : new.messages ≡ old.messages ++ Consulted huellas answer ∷ []
+  pub messages : new.messages ≡ old.messages ++ Consulted asked answer ∷ []
 
 -- a consultation for which memory ran out changes nothing
-abbrev pub Consults : Ledger → Ledger → List (List ℕ) → Result (List Seen) AgencyFault → Type 0
-Consults old new huellas (Ok seen) = IsAsked old new huellas (Ok seen)
-Consults old new huellas (Err Failed) = IsAsked old new huellas (Err Failed)
-Consults old new huellas (Err NoMemory) = new ≡ old
+abbrev pub Consults : Ledger → Ledger → Named → Result (List Seen) AgencyFault → Type 0
+Consults old new asked (Ok seen) = IsAsked old new asked (Ok seen)
+Consults old new asked (Err Failed) = IsAsked old new asked (Err Failed)
+Consults old new asked (Err NoMemory) = new ≡ old

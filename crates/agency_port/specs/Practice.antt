@@ -13,7 +13,7 @@ use Rattle.agency_rules.specs.Pairs.{delivered_all}
 use Rattle.agency_rules.specs.declared.plans.Plan.{Plan}
 use Rattle.agency_rules.specs.declared.plans.Fate.{Fate}
 use Rattle.agency_rules.specs.declared.plans.Fate.TheVariants.{Lost, Stale, Again, Late}
-use Rattle.batches.specs.Batches.{huellas_of}
+use Rattle.batches.specs.Batches.{Named, huellas_of}
 use Rattle.agency_port.specs.Reply.{Replied}
 use Rattle.agency_port.specs.Answers.{answers, looked}
 use Rattle.agency_port.specs.Messages.{batch_in, batches_in}
@@ -172,11 +172,11 @@ seen_by fate processed huellas = if is_faulty fate then Err Failed else Ok (look
 abbrev pub consultation_answer : Practice → List (List ℕ) → Result (List Seen) AgencyFault
 consultation_answer a huellas = seen_by (fate_of a) (processed_before a) huellas
 
-abbrev pub consulted : Practice → List (List ℕ) → Practice
-consulted a huellas = record {
+abbrev pub consulted : Practice → Named → Practice
+consulted a asked = record {
   plan = a.plan;
   processed = processed_before a;
-  log = a.log ++ record { message = Consulted huellas (consultation_answer a huellas); comes = None } ∷ [];
+  log = a.log ++ record { message = Consulted asked (consultation_answer a asked.huellas); comes = None } ∷ [];
   faults = faults_by (fate_of a) a.faults;
 }
 

@@ -5,6 +5,7 @@ use Rattle.std.specs.List.{AllByRecursion, list_any, zip}
 use Rattle.record_fields.specs.Picks.{last_of, when}
 use Rattle.record_fields.specs.declared.records.Sealed.{Sealed}
 use Rattle.agency_rules.specs.Pairs.{names}
+use Rattle.batches.specs.Batches.{Named}
 use Rattle.agency_port.specs.Reply.{Replied}
 use Rattle.agency_port.specs.Ledger.{Names}
 use Rattle.agency_port.specs.Practice.{is_reply_to}
@@ -40,11 +41,11 @@ says_unseen huellas seen huella =
 -- a consultation after the last submission that named the Huella answered NotSeen for it
 pub record AnsweredSince (huella : List ℕ) (messages : List Message) : Type 0 where
   pub before : List Message
-  pub huellas : List (List ℕ)
+  pub asked : Named
   pub seen : List Seen
   pub after : List Message
-  pub is : messages ≡ before ++ Consulted huellas (Ok seen) ∷ after
-  pub unseen : says_unseen huellas seen huella ≡ true
+  pub is : messages ≡ before ++ Consulted asked (Ok seen) ∷ after
+  pub unseen : says_unseen asked.huellas seen huella ≡ true
   pub since : AllByRecursion (λ (m : Message). hands_over huella m ≡ false) after
 
 -- a record with this Huella may be handed over: it never was, or was answered for since
@@ -54,7 +55,7 @@ MayGo huella messages = AllByRecursion (λ (m : Message). hands_over huella m �
 -- whether the Huella is in the dark after a message, by whether it was before: handed over, and not answered for since
 abbrev pub dark_after : List ℕ → Bool → Message → Bool
 dark_after huella before (Submitted batch answer) = names batch huella || before
-dark_after huella before (Consulted huellas (Ok seen)) = before && not (says_unseen huellas seen huella)
+dark_after huella before (Consulted asked (Ok seen)) = before && not (says_unseen asked.huellas seen huella)
 dark_after huella before other = before
 
 abbrev pub dark_from : List ℕ → Bool → List Message → Bool
@@ -73,7 +74,7 @@ named_reply batch (Err why) = None
 -- answers leaves none
 abbrev pub keeps : Message → Option (Option Replied)
 keeps (Submitted batch answer) = option_map Some (named_reply batch answer)
-keeps (Consulted huellas (Ok seen)) = Some None
+keeps (Consulted asked (Ok seen)) = Some None
 keeps other = None
 
 -- the last reply that named its batch, until a consultation answers

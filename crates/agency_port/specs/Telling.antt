@@ -2,6 +2,7 @@
 use Rattle.std.specs.Prelude.{ℕ, List, [], ◌∷◌, ◌++◌, drop, length, Result, Ok, Err, ◌==◌, if◌then◌else◌}
 use Rattle.ports.specs.Memory.{counted_up}
 use Rattle.record_fields.specs.declared.records.Sealed.{Sealed}
+use Rattle.batches.specs.Batches.{Named}
 use Rattle.agency_rules.specs.declared.plans.Plan.{Plan}
 use Rattle.agency_port.specs.Reply.{Replied}
 use Rattle.agency_port.specs.Messages.{batches_in}
@@ -55,11 +56,11 @@ submitted a batch = record {
   faults = faults_after (submission_answer a.answers batch) a.faults;
 }
 
-abbrev pub consulted : Telling → List (List ℕ) → Telling
-consulted a huellas = record {
+abbrev pub consulted : Telling → Named → Telling
+consulted a asked = record {
   answers = drop 1 a.answers;
-  messages = a.messages ++ Consulted huellas (consultation_answer a.answers huellas) ∷ [];
-  faults = faults_after (consultation_answer a.answers huellas) a.faults;
+  messages = a.messages ++ Consulted asked (consultation_answer a.answers asked.huellas) ∷ [];
+  faults = faults_after (consultation_answer a.answers asked.huellas) a.faults;
 }
 
 abbrev pub opened : Telling → Plan → ℕ → Telling

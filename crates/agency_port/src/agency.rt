@@ -78,7 +78,7 @@ pub trait Agency {
         requires few { length huellas.now.huellas ≤ MAX_CONSULTED }
         ensures count { IfOk result (λ seen. length seen ≡ length huellas.now.huellas) }
         ensures cause { HasCause (faults self.old) (faults self.new) result }
-        ensures lists { IsTrue tells → Consults (ledger self.old) (ledger self.new) huellas.now.huellas result }
+        ensures lists { IsTrue tells → Consults (ledger self.old) (ledger self.new) huellas.now result }
         ensures rules { IsTrue keeps_rules → ConsultKeeps (ledger self.old) (ledger self.new) huellas.now.huellas result }
         ensures row { consultation self.old self.new huellas.now result };
 

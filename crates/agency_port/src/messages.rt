@@ -1,7 +1,7 @@
 //! What was said to an agency, and what it answered.
 use crate::{AgencyFault, Reply, SeenList};
 use agency_rules::Plan;
-use batches::{Batch, HuellaList};
+use batches::{Batch, Huellas};
 
 /// A message to the agency and its answer.
 #[derive(Drop)]
@@ -16,9 +16,9 @@ pub enum Message {
         batch: Batch,
         answer: Result<Reply, AgencyFault>,
     },
-    /// It was asked for these Huellas.
+    /// It was asked what stands under these Huellas, each of this record.
     Consulted {
-        huellas: HuellaList,
+        asked: Huellas,
         answer: Result<SeenList, AgencyFault>,
     },
 }

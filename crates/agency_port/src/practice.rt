@@ -10,7 +10,7 @@ use crate::fates::{
 };
 use crate::{Agency, AgencyFault, Logged, Message, Reply, SeenList};
 use agency_rules::{Pairs, Plan};
-use batches::{Batch, HuellaList, Huellas};
+use batches::{Batch, Huellas};
 use ports::NoMemory;
 use record_fields::{Line, Sealed};
 use std::alloc::Global;
@@ -160,17 +160,17 @@ impl PracticeAgency {
     fn try_consultation(
         &mut self,
         alloc: Global,
-        huellas: &HuellaList,
+        huellas: &Huellas,
     ) -> Result<Result<SeenList, AgencyFault>, NoMemory>
-        ensures said { IfOk result (λ answer. answer ≡ consultation_answer self.old huellas.now) }
+        ensures said { IfOk result (λ answer. answer ≡ consultation_answer self.old huellas.now.huellas) }
         ensures ok { OnOk result (self.new ≡ consulted self.old huellas.now) }
         ensures err { OnErr result (IsCutShort self.old self.new) }
     {
         let call = self.calls + 1;
         let fate = fate_before(alloc, &self.plan, &mut self.pairs, &self.entries, call)?;
-        let answer = seen_by(alloc, &self.pairs, fate, huellas)?;
+        let answer = seen_by(alloc, &self.pairs, fate, huellas.list())?;
         let message = Message::Consulted {
-            huellas: huellas.copied(alloc)?,
+            asked: huellas.copied(alloc)?,
             answer: copied_seen(alloc, &answer)?,
         };
         self.entries.push(Logged {
@@ -182,8 +182,8 @@ impl PracticeAgency {
         Ok(answer)
     }
 
-    fn consultation(&mut self, alloc: Global, huellas: &HuellaList) -> Result<SeenList, AgencyFault>
-        ensures { IsRow result (consultation_answer self.old huellas.now) self.old self.new (consulted self.old huellas.now) }
+    fn consultation(&mut self, alloc: Global, huellas: &Huellas) -> Result<SeenList, AgencyFault>
+        ensures { IsRow result (consultation_answer self.old huellas.now.huellas) self.old self.new (consulted self.old huellas.now) }
     {
         let count = self.processed_count();
         match self.try_consultation(alloc, huellas) {
@@ -215,7 +215,7 @@ impl Agency for PracticeAgency {
     ghost submission = { λ old new batch result. IsRow result (submission_answer old batch) old new (submitted old batch) };
 
     ghost consultation = { λ old new huellas result.
-        IsRow result (consultation_answer old huellas.huellas) old new (consulted old huellas.huellas) };
+        IsRow result (consultation_answer old huellas.huellas) old new (consulted old huellas) };
 
     ghost keeps_and_tells = { λ keeps. keeps };
 
@@ -238,6 +238,6 @@ impl Agency for PracticeAgency {
     }
 
     fn consult(&mut self, alloc: Global, huellas: &Huellas) -> Result<SeenList, AgencyFault> {
-        self.consultation(alloc, huellas.list())
+        self.consultation(alloc, huellas)
     }
 }

@@ -8,7 +8,7 @@ use crate::fates::{copied_reply, copied_seen};
 use crate::telling::{faults_after, next_reply, next_seen};
 use crate::{Agency, AgencyFault, Message, Reply, SeenList};
 use agency_rules::Plan;
-use batches::{Batch, HuellaList, Huellas};
+use batches::{Batch, Huellas};
 use ports::NoMemory;
 use record_fields::{Line, Sealed};
 use std::alloc::Global;
@@ -127,13 +127,13 @@ impl ToldAgency {
         answer
     }
 
-    fn consultation(&mut self, alloc: Global, huellas: &HuellaList) -> Result<SeenList, AgencyFault>
-        ensures { IsRow result (telling.consultation_answer self.old.answers huellas.now) self.old self.new
+    fn consultation(&mut self, alloc: Global, huellas: &Huellas) -> Result<SeenList, AgencyFault>
+        ensures { IsRow result (telling.consultation_answer self.old.answers huellas.now.huellas) self.old self.new
             (telling.consulted self.old huellas.now) }
     {
-        let answer = next_seen(alloc, &self.answers.as_slice()[self.at..], huellas)?;
+        let answer = next_seen(alloc, &self.answers.as_slice()[self.at..], huellas.list())?;
         let message = Message::Consulted {
-            huellas: huellas.copied(alloc)?,
+            asked: huellas.copied(alloc)?,
             answer: copied_seen(alloc, &answer)?,
         };
         self.say(message)?;
@@ -172,7 +172,7 @@ impl Agency for ToldAgency {
         IsRow result (telling.submission_answer old.answers batch) old new (telling.submitted old batch) };
 
     ghost consultation = { λ old new huellas result.
-        IsRow result (telling.consultation_answer old.answers huellas.huellas) old new (telling.consulted old huellas.huellas) };
+        IsRow result (telling.consultation_answer old.answers huellas.huellas) old new (telling.consulted old huellas) };
 
     ghost keeps_and_tells = { λ keeps. refl };
 
@@ -197,6 +197,6 @@ impl Agency for ToldAgency {
     }
 
     fn consult(&mut self, alloc: Global, huellas: &Huellas) -> Result<SeenList, AgencyFault> {
-        self.consultation(alloc, huellas.list())
+        self.consultation(alloc, huellas)
     }
 }

@@ -35,3 +35,7 @@ ids_of records = map id_in records
 pub record Named : Type 0 where
   pub huellas : List (List ℕ)
   pub ids : List RecordId
+
+-- that of these records
+abbrev pub named_of : List Sealed → Named
+named_of records = record { huellas = huellas_of records; ids = ids_of records }

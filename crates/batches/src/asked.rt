@@ -1,6 +1,6 @@
 //! What a consultation asks for.
 ghost use Rattle.std.specs.Prelude.{◌≡◌, IfOk};
-ghost use Rattle.batches.specs.Batches.{huellas_of, id_in, ids_of, sort_of};
+ghost use Rattle.batches.specs.Batches.{id_in, ids_of, named_of, sort_of};
 
 use crate::HuellaList;
 use ports::NoMemory;
@@ -70,8 +70,7 @@ impl Model for Huellas {
 impl Huellas {
     /// Those of these records.
     pub fn of(alloc: Global, records: &[Sealed]) -> Result<Huellas, NoMemory>
-        ensures huellas { IfOk result (λ huellas. huellas.huellas ≡ huellas_of records.now) }
-        ensures ids { IfOk result (λ huellas. huellas.ids ≡ ids_of records.now) }
+        ensures { IfOk result (λ huellas. huellas ≡ named_of records.now) }
     {
         Ok(Huellas {
             list: HuellaList::of(alloc, records)?,
@@ -98,5 +97,15 @@ impl Huellas {
         ensures { result.now ≡ self.now.ids }
     {
         &self.names
+    }
+
+    /// The same, in memory of its own.
+    pub fn copied(&self, alloc: Global) -> Result<Huellas, NoMemory>
+        ensures { IfOk result (λ huellas. huellas ≡ self.now) }
+    {
+        Ok(Huellas {
+            list: self.list.copied(alloc)?,
+            names: Vec::from_slice(alloc, &self.names)?,
+        })
     }
 }

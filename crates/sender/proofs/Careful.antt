@@ -16,7 +16,7 @@ use Rattle.shop_core.specs.declared.items.Item.{Item}
 use Rattle.shop_core.specs.declared.items.Item.TheVariants as recorded
 use Rattle.shop_core.specs.Legal.{Legal}
 use Rattle.shop_core.specs.declared.waiting.Waiting.{Waiting}
-use Rattle.batches.specs.Batches.{huellas_of}
+use Rattle.batches.specs.Batches.{Named, huellas_of, named_of}
 use Rattle.agency_port.specs.Reply.{Replied}
 use Rattle.agency_port.specs.Messages.{batch_in, batches_in}
 use Rattle.agency_port.specs.Ledger.{Ledger}
@@ -131,25 +131,25 @@ at_look linked past before look messages old g care = record {
 }
 
 -- one message more, which hands nothing over
-runs_asked : (look : Sight) (messages : List Message) (huellas : List (List ℕ)) (answer : Result (List Seen) AgencyFault) →
-    AreRunsAt look messages → AreRunsAt look (messages ++ Consulted huellas answer ∷ [])
-runs_asked look messages huellas answer runs =
+runs_asked : (look : Sight) (messages : List Message) (asked : Named) (answer : Result (List Seen) AgencyFault) →
+    AreRunsAt look messages → AreRunsAt look (messages ++ Consulted asked answer ∷ [])
+runs_asked look messages asked answer runs =
     subst (λ (bs : List (List Sealed)). AreRunsBy (recs (history_of look)) (length (noted (history_of look)) + 1000) bs)
-    (sym (filter_map-append batch_in messages (Consulted huellas answer ∷ []) ∙ append-nil (batches_in messages))) runs
+    (sym (filter_map-append batch_in messages (Consulted asked answer ∷ []) ∙ append-nil (batches_in messages))) runs
 
 one_more : (past messages session : List Message) (m : Message) → messages ≡ past ++ session → messages ++ m ∷ [] ≡ past ++
     (session ++ m ∷ [])
 one_more past messages session m is = ap (λ (ms : List Message). ms ++ m ∷ []) is ∙ append_assoc past session (m ∷ [])
 
 asked_after : AreLinked → (past : List Message) (look after : Sight) (messages : List Message) (old new : Sending)
-    (huellas : List (List ℕ)) (answer : Result (List Seen) AgencyFault) (j : ℕ) → AtLook past look messages old →
+    (asked : Named) (answer : Result (List Seen) AgencyFault) (j : ℕ) → AtLook past look messages old →
     Grows look after →
-    (new.doubt ≡ false → (j ≤ length (noted (history_of after))) × AreLight (messages ++ Consulted huellas answer ∷ [])
-    (drop j (recs (history_of look)))) → IsCareful past after (messages ++ Consulted huellas answer ∷ []) new
-asked_after linked past look after messages old new huellas answer j a g light =
-    careful_after linked past look after (messages ++ Consulted huellas answer ∷ []) new (a.session ++ Consulted huellas answer ∷
-    []) j (one_more past messages a.session (Consulted huellas answer) a.is)
-    (none_more past a.session (Consulted huellas answer) a.never tt) (runs_asked look messages huellas answer a.runs) g light
+    (new.doubt ≡ false → (j ≤ length (noted (history_of after))) × AreLight (messages ++ Consulted asked answer ∷ [])
+    (drop j (recs (history_of look)))) → IsCareful past after (messages ++ Consulted asked answer ∷ []) new
+asked_after linked past look after messages old new asked answer j a g light =
+    careful_after linked past look after (messages ++ Consulted asked answer ∷ []) new (a.session ++ Consulted asked answer ∷
+    []) j (one_more past messages a.session (Consulted asked answer) a.is)
+    (none_more past a.session (Consulted asked answer) a.never tt) (runs_asked look messages asked answer a.runs) g light
 
 silent_after : AreLinked → (past : List Message) (look after : Sight) (messages : List Message) (old new : Sending) →
     AtLook past look messages old → Grows look after → new.doubt ≡ true → IsCareful past after messages new
@@ -181,7 +181,7 @@ looked_light : AreLinked → (look : Sight) (shown : Waiting) (messages : List M
     Legal look.version look.issuer (history_of look) → ShowsWaiting look 1000 shown → AreRunsAt look messages →
     length seen ≡ length shown.list
     → IsFront seen lines →
-    AreLight (messages ++ Consulted (huellas_of shown.list) (Ok seen) ∷ [])
+    AreLight (messages ++ Consulted (named_of shown.list) (Ok seen) ∷ [])
     (drop (length (noted (history_of look)) + length lines) (recs (history_of look)))
 looked_light linked look shown messages seen lines legal shows runs count front =
     let records = recs (history_of look) in
@@ -201,19 +201,19 @@ looked_light linked look shown messages seen lines legal shows runs count front 
     )) in
     let l = light_looked records k 1000 messages lines front.rest (distinct linked look.version look.issuer
     (history_of look) legal) runs e in
-    subst (λ (xs : List Sealed). AreLight (messages ++ Consulted (huellas_of xs) (Ok seen) ∷ [])
+    subst (λ (xs : List Sealed). AreLight (messages ++ Consulted (named_of xs) (Ok seen) ∷ [])
     (drop (k + length lines) records)) (sym shows.first)
-    (subst (λ (xs : List Seen). AreLight (messages ++ Consulted (huellas_of first) (Ok xs) ∷ [])
+    (subst (λ (xs : List Seen). AreLight (messages ++ Consulted (named_of first) (Ok xs) ∷ [])
     (drop (k + length lines) records)) (sym front.is) l)
 
 seen_after : AreLinked → (past : List Message) (look after : Sight) (shown : Waiting) (messages : List Message)
     (old new : Sending) (said : Option Replied) (seen : List Seen) (result : Result Turn SendFault) →
     Legal look.version look.issuer (history_of look) → ShowsWaiting look 1000 shown → AtLook past look messages old →
     length seen ≡ length shown.list → SeenEnds said shown seen look after result new.doubt →
-    IsCareful past after (messages ++ Consulted (huellas_of shown.list) (Ok seen) ∷ []) new
+    IsCareful past after (messages ++ Consulted (named_of shown.list) (Ok seen) ∷ []) new
 seen_after linked past look after shown messages old new said seen (Ok (Noted n)) legal shows a count ends =
     let notes = ends.0 in
-    asked_after linked past look after messages old new (huellas_of shown.list) (Ok seen) (length (noted (history_of look)) +
+    asked_after linked past look after messages old new (named_of shown.list) (Ok seen) (length (noted (history_of look)) +
     length notes.lines) a notes.grows
     (λ e. (
       noted_by look after notes.lines notes.noted,
@@ -223,17 +223,17 @@ seen_after linked past look after shown messages old new said seen (Ok (Noted n)
 seen_after linked past look after shown messages old new said seen (Ok Cleared) legal shows a count ends =
     let h : history_of after ≡ history_of look = ap history_of ends.1 in
     let n = ap (λ (es : List Entry). length (noted es)) h in
-    asked_after linked past look after messages old new (huellas_of shown.list) (Ok seen) (length (noted (history_of look)) +
+    asked_after linked past look after messages old new (named_of shown.list) (Ok seen) (length (noted (history_of look)) +
     length {A = Line} []) a (stays look after legal ends.1)
     (λ e. (omega (arith, n), looked_light linked look shown messages seen [] legal shows a.runs count ends.0.0))
 seen_after linked past look after shown messages old new said seen (Err (Contradiction evidence)) legal shows a count ends =
-    asked_after linked past look after messages old new (huellas_of shown.list) (Ok seen) zero a (stays look after legal ends.1)
+    asked_after linked past look after messages old new (named_of shown.list) (Ok seen) zero a (stays look after legal ends.1)
     (λ e. in_doubt new.doubt ends.2 e)
 seen_after linked past look after shown messages old new said seen (Err (Store fault)) legal shows a count ends =
-    asked_after linked past look after messages old new (huellas_of shown.list) (Ok seen) zero a ends.0.1.grows
+    asked_after linked past look after messages old new (named_of shown.list) (Ok seen) zero a ends.0.1.grows
     (λ e. in_doubt new.doubt ends.1 e)
 seen_after linked past look after shown messages old new said seen (Err NoMemory) legal shows a count ends =
-    asked_after linked past look after messages old new (huellas_of shown.list) (Ok seen) zero a (stays look after legal ends.0)
+    asked_after linked past look after messages old new (named_of shown.list) (Ok seen) zero a (stays look after legal ends.0)
     (λ e. in_doubt new.doubt ends.1 e)
 seen_after linked past look after shown messages old new said seen _ legal shows a count ends = absurd ends
 
@@ -331,7 +331,7 @@ deed_careful linked past kind agency_state agency_state_then before look after s
     ends =
     let a = at_look linked past before look agency_state.ledger.messages old g care in
     let e = ends.2 in
-    with_messages past after (agency_state.ledger.messages ++ Consulted (huellas_of shown.list) (Ok seen) ∷ []) agency_state_then.ledger.messages
+    with_messages past after (agency_state.ledger.messages ++ Consulted (named_of shown.list) (Ok seen) ∷ []) agency_state_then.ledger.messages
     new (dealt.1 tells).messages
     (seen_after linked past look after shown agency_state.ledger.messages old new old.said seen result g.legal shows a e.0 e.3)
 deed_careful linked past kind agency_state agency_state_then before look after shown old new now result (Asked (Err agency.Failed)) tells g shows
@@ -339,9 +339,9 @@ deed_careful linked past kind agency_state agency_state_then before look after s
     let a = at_look linked past before look agency_state.ledger.messages old g care in
     let e = ends.2 in
     let doubt : new.doubt ≡ true = ap (λ (s : Sending). s.doubt) e.1 ∙ ends.1 in
-    with_messages past after (agency_state.ledger.messages ++ Consulted (huellas_of shown.list) (Err agency.Failed) ∷ [])
+    with_messages past after (agency_state.ledger.messages ++ Consulted (named_of shown.list) (Err agency.Failed) ∷ [])
     agency_state_then.ledger.messages new (dealt.1 tells).messages
-    (asked_after linked past look after agency_state.ledger.messages old new (huellas_of shown.list) (Err agency.Failed) zero a
+    (asked_after linked past look after agency_state.ledger.messages old new (named_of shown.list) (Err agency.Failed) zero a
     (stays look after g.legal e.2) (λ f. in_doubt new.doubt doubt f))
 deed_careful linked past kind agency_state agency_state_then before look after shown old new now result (Asked (Err agency.NoMemory)) tells g
     shows care dealt ends =

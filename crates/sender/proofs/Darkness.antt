@@ -12,7 +12,7 @@ use Rattle.agency_port.specs.declared.messages.Message.{Message}
 use Rattle.agency_port.specs.declared.messages.Message.TheVariants.{Begun, Submitted, Consulted}
 use Rattle.agency_port.specs.Messages.{batches_in}
 use Rattle.agency_port.specs.Reply.{Replied}
-use Rattle.batches.specs.Batches.{huellas_of}
+use Rattle.batches.specs.Batches.{Named, huellas_of, named_of}
 use Rattle.record_fields.specs.declared.lines.Line.{Line}
 use Rattle.agency_port.specs.declared.answers.Seen.{Seen}
 use Rattle.agency_port.specs.declared.answers.Seen.TheVariants.{NotSeen, Was}
@@ -97,8 +97,8 @@ never_dark : (huella : List ℕ) (messages : List Message) → AllByRecursion (�
 never_dark huella [] none = refl
 never_dark huella (Begun plan pairs ∷ messages) none = never_dark huella messages none
 never_dark huella (Submitted batch answer ∷ messages) none = rw none.0 (never_dark huella messages none.1)
-never_dark huella (Consulted huellas (Ok seen) ∷ messages) none = never_dark huella messages none
-never_dark huella (Consulted huellas (Err why) ∷ messages) none = never_dark huella messages none
+never_dark huella (Consulted asked (Ok seen) ∷ messages) none = never_dark huella messages none
+never_dark huella (Consulted asked (Err why) ∷ messages) none = never_dark huella messages none
 
 -- past where all batches end none is in the dark
 pub light_past : (records : List Sealed) (to : ℕ) (messages : List Message) → AreDistinct records →
@@ -178,27 +178,27 @@ and_false : (a b : Bool) → a ≡ false → (a && b) ≡ false
 and_false true b h = absurd cc
 and_false false b h = refl
 
-pub light_stays : (records : List Sealed) (messages : List Message) (huellas : List (List ℕ)) (seen : List Seen) →
-    AreLight messages records → AreLight (messages ++ Consulted huellas (Ok seen) ∷ []) records
-light_stays records messages huellas seen light =
-    all_change (λ (s : Sealed). dark messages s.huella ≡ false) (λ (s : Sealed). dark (messages ++ Consulted huellas (Ok seen) ∷
+pub light_stays : (records : List Sealed) (messages : List Message) (asked : Named) (seen : List Seen) →
+    AreLight messages records → AreLight (messages ++ Consulted asked (Ok seen) ∷ []) records
+light_stays records messages asked seen light =
+    all_change (λ (s : Sealed). dark messages s.huella ≡ false) (λ (s : Sealed). dark (messages ++ Consulted asked (Ok seen) ∷
     []) s.huella ≡ false)
-    (λ s a. dark_more s.huella false messages (Consulted huellas (Ok seen)) ∙ and_false (dark messages s.huella)
-    (not (says_unseen huellas seen s.huella)) a) records light
+    (λ s a. dark_more s.huella false messages (Consulted asked (Ok seen)) ∙ and_false (dark messages s.huella)
+    (not (says_unseen asked.huellas seen s.huella)) a) records light
 
 and_not : (a b : Bool) → b ≡ true → (a && not b) ≡ false
 and_not true true h = refl
 and_not true false h = absurd cc
 and_not false b h = refl
 
-light_unseen : (records : List Sealed) (messages : List Message) (huellas : List (List ℕ)) (seen : List Seen) →
-    AllByRecursion (λ (s : Sealed). says_unseen huellas seen s.huella ≡ true) records →
-    AreLight (messages ++ Consulted huellas (Ok seen) ∷ []) records
-light_unseen records messages huellas seen all =
-    all_change (λ (s : Sealed). says_unseen huellas seen s.huella ≡ true)
-    (λ (s : Sealed). dark (messages ++ Consulted huellas (Ok seen) ∷ []) s.huella ≡ false)
-    (λ s a. dark_more s.huella false messages (Consulted huellas (Ok seen)) ∙ and_not (dark messages s.huella)
-    (says_unseen huellas seen s.huella) a) records all
+light_unseen : (records : List Sealed) (messages : List Message) (asked : Named) (seen : List Seen) →
+    AllByRecursion (λ (s : Sealed). says_unseen asked.huellas seen s.huella ≡ true) records →
+    AreLight (messages ++ Consulted asked (Ok seen) ∷ []) records
+light_unseen records messages asked seen all =
+    all_change (λ (s : Sealed). says_unseen asked.huellas seen s.huella ≡ true)
+    (λ (s : Sealed). dark (messages ++ Consulted asked (Ok seen) ∷ []) s.huella ≡ false)
+    (λ s a. dark_more s.huella false messages (Consulted asked (Ok seen)) ∙ and_not (dark messages s.huella)
+    (says_unseen asked.huellas seen s.huella) a) records all
 
 or_right : (a b : Bool) → b ≡ true → (a || b) ≡ true
 or_right true b h = refl
@@ -231,16 +231,16 @@ unseen_behind (s ∷ records) (line ∷ lines) rest e = unseen_behind records li
 pub light_looked : (records : List Sealed) (k few : ℕ) (messages : List Message) (lines : List Line) (rest : ℕ) →
     AreDistinct records → AreRunsBy records (k + few) (batches_in messages) →
     length (take few (drop k records)) ≡ length lines + rest →
-    AreLight (messages ++ Consulted (huellas_of (take few (drop k records))) (Ok (map Was lines ++ replicate rest NotSeen)) ∷ [])
+    AreLight (messages ++ Consulted (named_of (take few (drop k records))) (Ok (map Was lines ++ replicate rest NotSeen)) ∷ [])
     (drop (k + length lines) records)
 light_looked records k few messages lines rest distinct runs e =
     let first : List Sealed = take few (drop k records) in
-    let huellas = huellas_of first in
+    let asked = named_of first in
     let seen : List Seen = map Was lines ++ replicate rest NotSeen in
-    let then : List Message = messages ++ Consulted huellas (Ok seen) ∷ [] in
-    let a : AreLight then (drop (length lines) first) = light_unseen (drop (length lines) first) messages huellas seen
+    let then : List Message = messages ++ Consulted asked (Ok seen) ∷ [] in
+    let a : AreLight then (drop (length lines) first) = light_unseen (drop (length lines) first) messages asked seen
     (unseen_behind first lines rest e) in
-    let b : AreLight then (drop (k + few) records) = light_stays (drop (k + few) records) messages huellas seen
+    let b : AreLight then (drop (k + few) records) = light_stays (drop (k + few) records) messages asked seen
     (light_past records (k + few) messages distinct runs) in
     let c : AreLight then (drop few (drop k records)) = subst (λ (xs : List Sealed). AreLight then xs)
     (sym (drop-drop few k records)) b in

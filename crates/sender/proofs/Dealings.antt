@@ -12,7 +12,7 @@ use Rattle.shop_core.specs.History.{noted, waiting}
 use Rattle.shop_core.specs.Legal.{Legal}
 use Rattle.agency_rules.specs.Pairs.{line_of, delivered, delivered_all}
 use Rattle.agency_rules.specs.declared.plans.PlannedVerdict.{PlannedVerdict}
-use Rattle.batches.specs.Batches.{huellas_of}
+use Rattle.batches.specs.Batches.{Named, huellas_of}
 use Rattle.agency_port.specs.Reply.{Replied}
 use Rattle.agency_port.specs.Answers.{looked}
 use Rattle.agency_port.specs.Ledger.{Ledger, Names, Submits, Consults}
@@ -51,11 +51,11 @@ pub record Dealing (entries : List Entry) (old new : Ledger) : Type 0 where
   pub delivers : Delivers old.verdicts new.sent old.processed new.processed
   pub verdicts : new.verdicts ≡ old.verdicts
 
-pub consult_sent : (old new : Ledger) (huellas : List (List ℕ)) (answer : Result (List Seen) AgencyFault) →
-    Consults old new huellas answer → new.sent ≡ old.sent
-consult_sent old new huellas (Ok seen) c = c.sent
-consult_sent old new huellas (Err agency.Failed) c = c.sent
-consult_sent old new huellas (Err agency.NoMemory) c = ap (λ (l : Ledger). l.sent) c
+pub consult_sent : (old new : Ledger) (asked : Named) (answer : Result (List Seen) AgencyFault) →
+    Consults old new asked answer → new.sent ≡ old.sent
+consult_sent old new asked (Ok seen) c = c.sent
+consult_sent old new asked (Err agency.Failed) c = c.sent
+consult_sent old new asked (Err agency.NoMemory) c = ap (λ (l : Ledger). l.sent) c
 
 pub nothing_said : (entries : List Entry) (old new : Ledger) → new ≡ old → DeliveriesOnlyAdd → Agree entries old.processed
     old.sent → Dealing entries old new
@@ -66,12 +66,12 @@ nothing_said entries old new e adds agree = subst (λ (l : Ledger). Dealing entr
   verdicts = refl;
 })
 
-pub consulted : Known → (version : Version) (issuer : List ℕ) (entries : List Entry) (old new : Ledger) (huellas : List (List ℕ))
+pub consulted : Known → (version : Version) (issuer : List ℕ) (entries : List Entry) (old new : Ledger) (asked : Named)
     (answer : Result (List Seen) AgencyFault) → Legal version issuer entries →
-    Agree entries old.processed old.sent → Consults old new huellas answer → ConsultKeeps old new huellas answer →
+    Agree entries old.processed old.sent → Consults old new asked answer → ConsultKeeps old new asked.huellas answer →
     Dealing entries old new
-consulted known version issuer entries old new huellas answer legal agree consults keeps =
-    let sent : new.sent ≡ old.sent = consult_sent old new huellas answer consults in
+consulted known version issuer entries old new asked answer legal agree consults keeps =
+    let sent : new.sent ≡ old.sent = consult_sent old new asked answer consults in
     let d = keeps.delivers in
     let then : Agree entries (delivered_all old.verdicts old.processed d.batches) old.sent =
     known.deliveries version issuer old.verdicts

@@ -11,7 +11,7 @@ use Rattle.record_fields.specs.declared.lines.Line.{Line}
 use Rattle.pacing.specs.Pace.{is_due}
 use Rattle.pacing.specs.declared.pace.Pace.{Pace}
 use Rattle.shop_core.specs.declared.waiting.Waiting.{Waiting}
-use Rattle.batches.specs.Batches.{huellas_of}
+use Rattle.batches.specs.Batches.{Named, huellas_of, named_of}
 use Rattle.agency_port.specs.Reply.{Replied}
 use Rattle.agency_port.specs.Ledger.{HasCause, Names, StaleShows, Submits, Consults}
 use Rattle.agency_port.specs.Rules.{SubmitKeeps, ConsultKeeps}
@@ -30,23 +30,23 @@ use Rattle.sender.specs.Turning.{Asked, Handed, AgencyKind, AgencyState, NotesEn
 use Rattle.sender.specs.Turning.{IsLook, Deals, Replies, IsStale, unanswered, first_place, count_waiting, turn_call}
 
 pub asked_deal : (kind : AgencyKind) (agency_state agency_state_then : AgencyState) (look after : Sight) (shown : Waiting) (old new : Sending) (now : ℕ)
-    (result : Result Turn SendFault) (huellas : List (List ℕ)) (got answer : Result (List Seen) AgencyFault) →
-    IsLook look shown → old.doubt ≡ true → huellas ≡ huellas_of shown.list → got ≡ answer → HasCause agency_state.faults agency_state_then.faults
+    (result : Result Turn SendFault) (asked : Named) (got answer : Result (List Seen) AgencyFault) →
+    IsLook look shown → old.doubt ≡ true → asked ≡ named_of shown.list → got ≡ answer → HasCause agency_state.faults agency_state_then.faults
     got →
-    (IsTrue kind.tells → Consults agency_state.ledger agency_state_then.ledger huellas got) →
-    (IsTrue kind.keeps_rules → ConsultKeeps agency_state.ledger agency_state_then.ledger huellas got) →
+    (IsTrue kind.tells → Consults agency_state.ledger agency_state_then.ledger asked got) →
+    (IsTrue kind.keeps_rules → ConsultKeeps agency_state.ledger agency_state_then.ledger asked.huellas got) →
     AskedEnds old shown look after answer result new → Deals (turn_call kind agency_state agency_state_then look after old new now result) shown
-asked_deal kind agency_state agency_state_then look after shown old new now result huellas got answer is_look doubt hs is cause lists rules ends =
+asked_deal kind agency_state agency_state_then look after shown old new now result asked got answer is_look doubt hs is cause lists rules ends =
     record {
       deed = Asked answer;
       dealt = (
         subst (λ (r : Result (List Seen) AgencyFault). HasCause agency_state.faults agency_state_then.faults r) is cause,
-        λ tells. subst (λ (r : Result (List Seen) AgencyFault). Consults agency_state.ledger agency_state_then.ledger (huellas_of shown.list) r)
+        λ tells. subst (λ (r : Result (List Seen) AgencyFault). Consults agency_state.ledger agency_state_then.ledger (named_of shown.list) r)
             is
-            (subst (λ (h : List (List ℕ)). Consults agency_state.ledger agency_state_then.ledger h got) hs (lists tells)),
+            (subst (λ (h : Named). Consults agency_state.ledger agency_state_then.ledger h got) hs (lists tells)),
         λ keeps. subst (λ (r : Result (List Seen) AgencyFault). ConsultKeeps agency_state.ledger agency_state_then.ledger (huellas_of shown.list)
             r)
-            is (subst (λ (h : List (List ℕ)). ConsultKeeps agency_state.ledger agency_state_then.ledger h got) hs (rules keeps)),
+            is (subst (λ (h : Named). ConsultKeeps agency_state.ledger agency_state_then.ledger h.huellas got) hs (rules keeps)),
       );
       ends = (is_look.some, doubt, ends);
     }

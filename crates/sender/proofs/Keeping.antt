@@ -14,7 +14,7 @@ use Rattle.shop_core.specs.declared.items.Item.{Item}
 use Rattle.shop_core.specs.declared.items.Item.TheVariants as recorded
 use Rattle.shop_core.specs.Legal.{Legal}
 use Rattle.shop_core.specs.declared.waiting.Waiting.{Waiting}
-use Rattle.batches.specs.Batches.{huellas_of}
+use Rattle.batches.specs.Batches.{huellas_of, named_of}
 use Rattle.agency_port.specs.Reply.{Replied}
 use Rattle.agency_port.specs.Ledger.{Ledger, Submits, Consults}
 use Rattle.agency_port.specs.Rules.{SubmitKeeps, ConsultKeeps}
@@ -252,11 +252,11 @@ start known before look g shown old shows agree are = record {
 -- the agency was asked
 asked : Known → (before look : Sight) (g : Grows before look) (shown : Waiting) (old new : Ledger)
     (answer : Result (List Seen) AgencyFault) → Start before look g shown old →
-    Consults old new (huellas_of shown.list) answer → ConsultKeeps old new (huellas_of shown.list) answer →
+    Consults old new (named_of shown.list) answer → ConsultKeeps old new (huellas_of shown.list) answer →
     Dealing (at_look before look g) old new
 asked known before look g shown old new answer s consults keeps =
     consulted known look.version look.issuer (at_look before look g) old new
-    (huellas_of shown.list) answer s.legal s.agree consults keeps
+    (named_of shown.list) answer s.legal s.agree consults keeps
 
 pub looked_there : Known → (before look : Sight) (g : Grows before look) (shown : Waiting) (old new : Ledger)
     (said : Option Replied) (seen : List Seen) → Start before look g shown old → AreSeen old.processed said →
@@ -272,14 +272,14 @@ looked_there known before look g shown old new said seen s there keeps =
 asked_quiet : Known → (before look : Sight) (g : Grows before look) (shown : Waiting) (old new : Ledger)
     (said said_then : Option Replied) (answer : Result (List Seen) AgencyFault) → ShowsWaiting look 1000 shown →
     Agree (history_of before) old.processed old.sent → AreSeen old.processed said → (said_then ≡ said) ⊎ (said_then ≡ None) →
-    Consults old new (huellas_of shown.list) answer → ConsultKeeps old new (huellas_of shown.list) answer →
+    Consults old new (named_of shown.list) answer → ConsultKeeps old new (huellas_of shown.list) answer →
     AreRecords (entries_of g.items.rest) → Quiet (at_look before look g) old new said_then
 asked_quiet known before look g shown old new said said_then answer shows agree there same consults keeps are =
     let s = start known before look g shown old shows agree are in
     let d = asked known before look g shown old new answer s consults keeps in
     record {
       dealing = d;
-      sent = inl (consult_sent old new (huellas_of shown.list) answer consults);
+      sent = inl (consult_sent old new (named_of shown.list) answer consults);
       seen = elim same [
         | inl e ↦ subst (λ (o : Option Replied). AreSeen new.processed o) (sym e) (seen_later known old new said keeps there)
         | inr e ↦ subst (λ (o : Option Replied). AreSeen new.processed o) (sym e) tt
@@ -317,7 +317,7 @@ notes_keep known P before look after g old new said _ doubt own gains quiet run 
 seen_ends : Known → (before look after : Sight) (g : Grows before look) (shown : Waiting) (old new : Ledger)
     (said : Option Replied) (seen : List Seen) (result : Result Turn SendFault) (doubt : Bool) → look.own ≡ before.own →
     ShowsWaiting look 1000 shown →
-    Agree (history_of before) old.processed old.sent → AreSeen old.processed said → Consults old new (huellas_of shown.list)
+    Agree (history_of before) old.processed old.sent → AreSeen old.processed said → Consults old new (named_of shown.list)
     (Ok seen) → ConsultKeeps old new (huellas_of shown.list) (Ok seen) →
     GainsOwnNotes before after → SeenEnds said shown seen look after result doubt → KeepsAgreement before after old new None
     result

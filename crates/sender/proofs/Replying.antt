@@ -3,7 +3,7 @@ use Rattle.std.proofs.Common.{◌≡◌, inl, inr, ℕ, List, [], ◌∷◌, ◌
 use Rattle.std.proofs.Common.{Option, Some, Result, Ok, Err, Bool, true, false, IsTrue}
 use Rattle.record_fields.specs.Picks.{when}
 use Rattle.shop_core.specs.declared.waiting.Waiting.{Waiting}
-use Rattle.batches.specs.Batches.{huellas_of}
+use Rattle.batches.specs.Batches.{named_of}
 use Rattle.agency_port.specs.Reply.{Replied}
 use Rattle.agency_port.specs.Ledger.{Ledger}
 use Rattle.agency_port.specs.Laws.{KeptByOneMore}
@@ -54,10 +54,10 @@ deed_keeps_reply law past kind agency_state agency_state_then look after shown o
     as_before past agency_state.ledger.messages agency_state_then.ledger.messages old.said new.said (ap (λ (d : AgencyState). d.ledger.messages) dealt)
     (ap (λ (s : Sending). s.said) ends.1) k
 deed_keeps_reply law past kind agency_state agency_state_then look after shown old new now result (Asked (Ok seen)) tells dealt ends k =
-    one_more law past agency_state.ledger.messages agency_state_then.ledger.messages (Consulted (huellas_of shown.list) (Ok seen)) old.said
+    one_more law past agency_state.ledger.messages agency_state_then.ledger.messages (Consulted (named_of shown.list) (Ok seen)) old.said
     new.said (dealt.1 tells).messages ends.2.2 k
 deed_keeps_reply law past kind agency_state agency_state_then look after shown old new now result (Asked (Err agency.Failed)) tells dealt ends k =
-    one_more law past agency_state.ledger.messages agency_state_then.ledger.messages (Consulted (huellas_of shown.list) (Err agency.Failed))
+    one_more law past agency_state.ledger.messages agency_state_then.ledger.messages (Consulted (named_of shown.list) (Err agency.Failed))
     old.said new.said (dealt.1 tells).messages (ap (λ (s : Sending). s.said) ends.2.1) k
 deed_keeps_reply law past kind agency_state agency_state_then look after shown old new now result (Asked (Err agency.NoMemory)) tells dealt ends k
     =

@@ -13,7 +13,7 @@ use Rattle.sender.proofs.Lists.{all_both}
 line_call : (message : Message) (line : Told) → IsLineOf message line → IsCall message
 line_call (Begun plan pairs) printed h = absurd h
 line_call (Submitted batch answer) printed h = tt
-line_call (Consulted huellas answer) printed h = tt
+line_call (Consulted asked answer) printed h = tt
 
 pub turn_says : (old new : List Message) (answer : Result Turn SendFault) → TellsOf old new answer → SaysCalls old new
 turn_says old new answer (inl q) = record { session = []; is = q.0 ∙ sym (append-nil old); calls = tt }

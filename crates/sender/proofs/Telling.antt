@@ -3,7 +3,7 @@ use Rattle.std.proofs.Common.{◌≡◌, inl, inr, ℕ, List, length, refl, sym,
 use Rattle.std.proofs.Common.{IsTrue}
 use Rattle.journal.specs.declared.faults.StoreFault.TheVariants as store
 use Rattle.shop_core.specs.declared.waiting.Waiting.{Waiting}
-use Rattle.batches.specs.Batches.{huellas_of}
+use Rattle.batches.specs.Batches.{huellas_of, named_of}
 use Rattle.agency_port.specs.Reply.{Replied}
 use Rattle.agency_port.specs.Ledger.{Ledger}
 use Rattle.agency_port.specs.declared.answers.Seen.{Seen}
@@ -110,7 +110,7 @@ deed_tells kind agency_state agency_state_then look after shown old new now resu
 deed_tells kind agency_state agency_state_then look after shown old new now result (Asked (Ok seen)) tells dealt ends =
     let l = seen_line old.said shown seen look after result new.doubt ends.2.3 in
     inr (record {
-      message = Consulted (huellas_of shown.list) (Ok seen);
+      message = Consulted (named_of shown.list) (Ok seen);
       line = l.line;
       said = (dealt.1 tells).messages;
       told = l.told;
@@ -118,7 +118,7 @@ deed_tells kind agency_state agency_state_then look after shown old new now resu
     })
 deed_tells kind agency_state agency_state_then look after shown old new now result (Asked (Err agency.Failed)) tells dealt ends =
     inr (record {
-      message = Consulted (huellas_of shown.list) (Err agency.Failed);
+      message = Consulted (named_of shown.list) (Err agency.Failed);
       line = told.Link;
       said = (dealt.1 tells).messages;
       told = ap told_in ends.2.0;

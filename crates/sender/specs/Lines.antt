@@ -53,9 +53,9 @@ IsLineOf (Begun plan pairs) printed = ⊥
 IsLineOf (Submitted batch (Ok reply)) printed = ReplyLineOf batch reply printed
 IsLineOf (Submitted batch (Err agency.Failed)) printed = printed ≡ told.Link
 IsLineOf (Submitted batch (Err agency.NoMemory)) printed = printed ≡ told.Memory
-IsLineOf (Consulted huellas (Ok seen)) printed = SeenLineOf huellas seen printed
-IsLineOf (Consulted huellas (Err agency.Failed)) printed = printed ≡ told.Link
-IsLineOf (Consulted huellas (Err agency.NoMemory)) printed = printed ≡ told.Memory
+IsLineOf (Consulted asked (Ok seen)) printed = SeenLineOf asked.huellas seen printed
+IsLineOf (Consulted asked (Err agency.Failed)) printed = printed ≡ told.Link
+IsLineOf (Consulted asked (Err agency.NoMemory)) printed = printed ≡ told.Memory
 
 -- nothing was said to the agency
 abbrev pub IsQuiet : Option Told → Type 0

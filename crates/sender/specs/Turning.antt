@@ -5,7 +5,7 @@ use Rattle.record_fields.specs.declared.lines.Line.{Line}
 use Rattle.pacing.specs.declared.pace.TheConstants.{MAX_BATCH}
 use Rattle.record_codec.specs.declared.entry.TheConstants.{MAX_NOTES}
 use Rattle.pacing.specs.Pace.{is_due, due_at}
-use Rattle.batches.specs.Batches.{huellas_of}
+use Rattle.batches.specs.Batches.{huellas_of, named_of}
 use Rattle.agency_port.specs.declared.agency.Agency as agency
 use Rattle.agency_port.specs.Reply.{Replied}
 use Rattle.agency_port.specs.Ledger.{Ledger, HasCause, Names, StaleShows, Submits, Consults}
@@ -150,7 +150,7 @@ abbrev pub Dealt : AgencyKind → AgencyState → AgencyState → Waiting → De
 Dealt kind old new shown Nothing = new ≡ old
 Dealt kind old new shown (Asked answer) =
     HasCause old.faults new.faults answer
-    × (IsTrue kind.tells → Consults old.ledger new.ledger (huellas_of shown.list) answer)
+    × (IsTrue kind.tells → Consults old.ledger new.ledger (named_of shown.list) answer)
     × (IsTrue kind.keeps_rules → ConsultKeeps old.ledger new.ledger (huellas_of shown.list) answer)
 Dealt kind old new shown (Handed answer) =
     HasCause old.faults new.faults answer

@@ -27,7 +27,7 @@ module _ {S : Type 0} (scene : S → Scene) (told : S → Result (Unit {0}) Drai
   abbrev Behind : S → S → Type 0
   Behind met left = SendsBehind kind exact drains opened after (scene met) (scene left) (told met) (told rest)
 
-  behind : (IsTrue kind.tells → SaysCalls opened.ledger.messages (scene sent).agency_state.ledger.messages) →
+  pub behind : (IsTrue kind.tells → SaysCalls opened.ledger.messages (scene sent).agency_state.ledger.messages) →
       opened.faults ≤ (scene sent).agency_state.faults → (IsUndelivered (told sent) → ⊥) → OnErr (told sent) (rest ≡ sent) →
       (drains ≡ true → OnOk (told sent) (DrainsTo kind exact (scene sent) (scene rest) (told rest))) →
       (drains ≡ false → rest ≡ sent) → (scene rest).agency_state ≡ after → Behind sent rest

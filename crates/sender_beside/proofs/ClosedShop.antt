@@ -263,6 +263,14 @@ module _ {C : Type 0} (base log : List Item) (root : Root C) (tills : List (Know
     seen_entries s = sym (entries_in es stopped torn) ∙ ap entries_of (sym s.log_is ∙ rest_is h) ∙ entries_both then.seen
         (rest_of h)
 
+    -- what it has seen is a beginning of all, which has no further notes
+    pub seen_first : GivenStore → IsPrefix (entries_of then.seen) es × (length (noted es) ≡ length (noted (entries_of then.seen)))
+    seen_first s = (
+      record { rest = entries_of (rest_of h); is = seen_entries s },
+      ap (λ (ls : List Line). length ls) (ap noted (seen_entries s) ∙ noted_same (entries_of then.seen) (entries_of (rest_of h))
+          (records_of_tills (rest_of h) (rest_theirs h))),
+    )
+
     -- what waited at the last sight still does, in front, and no line came
     pub still_waits : GivenStore → (noted es ≡ noted (entries_of then.seen)) × IsPrefix (waiting (entries_of then.seen)) (waiting es)
     still_waits s =

@@ -1,7 +1,7 @@
 -- What a sender that ran with tills leaves, once its shop is closed.
 use Rattle.std.proofs.Common.{◌≡◌, ◌∙◌, ◌⊎◌, inl, inr, ℕ, ◌+◌, ◌-◌, List, [], length, map, sym, ap, subst, refl, append-nil}
-use Rattle.std.proofs.Common.{Bool, IsTrue, Option, Result, Err, length-append, length-drop, arith}
-use Rattle.std.specs.Prelude.{IsErrOf}
+use Rattle.std.proofs.Common.{Bool, true, IsTrue, Option, Result, Err, length-append, length-drop, arith}
+use Rattle.std.specs.Prelude.{IsErrOf, OnOk}
 use Rattle.record_fields.specs.declared.lines.Line.{Line}
 use Rattle.record_fields.specs.declared.records.Sealed.{Sealed}
 use Rattle.chain_disk.specs.OnDisk.{OnDisk}
@@ -15,18 +15,23 @@ use Rattle.agency_port.specs.Messages.{batches_in}
 use Rattle.agency_port.specs.Sessions.{kept_reply}
 use Rattle.agency_port.specs.declared.turns.Evidence.{Evidence}
 use Rattle.once_world.specs.Agreement.{Agree}
-use Rattle.once_world.specs.Laws.{RecordsKeepAgreement}
-use Rattle.once_world.specs.Outbox.{Sight, history_of}
+use Rattle.once_world.specs.Laws.{CameBesideOwn, CameQuietly, RecordsKeepAgreement}
+use Rattle.once_world.specs.Outbox.{GainsOwnNotes, Sight, history_of}
 use Rattle.till_calls.specs.Mark.{sight_by}
 use Rattle.till_calls.specs.Root.{Parts, Root, items_in}
 use Rattle.till_calls.specs.Sound.{IsSound}
 use Rattle.sender.specs.Agreeing.{BeginsCareful, BeginsInSession, InSession, IsCareful, KeepsReply}
+use Rattle.sender.specs.Draining.{Scene, scene_of}
 use Rattle.sender.specs.Evidence.{Shows}
+use Rattle.sender.proofs.Growing.{Growth}
+use Rattle.shop_core.specs.Prefix.{IsPrefix}
 use Rattle.sender.specs.Sending.{Sending, fresh}
 use Rattle.sender.specs.Turning.{AgencyState, AgencyKind}
 use Rattle.sender.specs.declared.answers.DrainFault.{DrainFault}
 use Rattle.sender.specs.declared.answers.DrainFault.TheVariants as drain
 use Rattle.shop_core.specs.Answer.Requests.{Asked}
+use Rattle.sender_session.specs.Sessions.{SessionSteps, StepsBeside}
+use Rattle.sender_beside.specs.Behind.{SendsBehind}
 use Rattle.sender_beside.specs.Beside.{CountsWithin, SendsBeside, StaysAgreed}
 use Rattle.sender_session.specs.Session.{SendsOn, AreOfChain, SaysNothingBlindly}
 use Rattle.sender_session.specs.Contradictions.{ShowsLast}
@@ -38,7 +43,9 @@ use Rattle.sender_session.proofs.Batches.{runs_more}
 use Rattle.sender_session.proofs.Clear.{nothing_before}
 use Rattle.sender_session.proofs.Contrary.{asked_of_more, none_yet, one_shown}
 use Rattle.sender_session.proofs.NotingTurns.{at_end_noted}
-use Rattle.sender_beside.proofs.ClosedShop.{GivenStore, Shared, agreed, agreed_torn, gains, more_records, still_waits, torn_said}
+use Rattle.sender_beside.proofs.ClosedShop.{GivenStore, Shared, agreed, agreed_torn, gains, more_records, seen_first, still_waits}
+use Rattle.sender_beside.proofs.ClosedShop.{torn_said}
+use Rattle.sender_beside.proofs.Sessions.{session_steps}
 
 module _ {D C : Type 0} (tells : Bool) (on_disk : D → OnDisk) (faults : D → ℕ) (coming : C → ℕ → Option ℕ) (p : Parts D C)
     (root : Root C) (base : List Item) (tills : List (Known Item (Root C))) (seat then : Known Item (Root C))
@@ -113,11 +120,11 @@ module _ {D C : Type 0} (tells : Bool) (on_disk : D → OnDisk) (faults : D → 
       let waits = still_waits base (items_in p) root tills seat then h root.history p.state.entries p.stopped p.torn kept in
       record {
         before = s.before;
-        huellas = s.huellas;
+        named = s.named;
         seen = s.seen;
         is = s.is;
-        asked = asked_of_more s.huellas (waiting (history_of (sight_by then))) (waiting p.state.entries) s.asked waits.1;
-        shows = subst (λ (ls : List Line). Shows (kept_reply s.before) (length ls + 1) s.huellas s.seen (Err evidence))
+        asked = asked_of_more s.named.huellas (waiting (history_of (sight_by then))) (waiting p.state.entries) s.asked waits.1;
+        shows = subst (λ (ls : List Line). Shows (kept_reply s.before) (length ls + 1) s.named.huellas s.seen (Err evidence))
             (sym waits.0) s.shows;
       }
 
@@ -178,3 +185,18 @@ module _ {D C : Type 0} (tells : Bool) (on_disk : D → OnDisk) (faults : D → 
     gives_up = sends.ends.gives_up;
     gave_up = sends.ends.gave_up;
   }
+
+  -- the session by its steps, from the scene at the tills' end and that at its own
+  pub whole_session : CameQuietly → CameBesideOwn → (exact : Bool) (moment : ℕ) (met left : Scene)
+      (beside : Result (Unit {0}) DrainFault) → SendsBehind kind exact drains old new met left beside answer →
+      StepsBeside kind exact (scene_of old (sight_by seat) fresh moment) met beside → Growth (sight_by seat) met.sight →
+      left.sight ≡ sight_by then →
+      (drains ≡ true → OnOk answer (length (noted (history_of left.sight)) ≡ length (recs (history_of left.sight)))) →
+      SessionSteps kind.tells exact drains moment root.history p.state.entries old new answer
+  whole_session quiet own_law exact moment met left beside behind steps to_met same delivered =
+      let first = seen_first base (items_in p) root tills seat then h root.history p.state.entries p.stopped p.torn kept in
+      subst (λ (es : List Entry). SessionSteps kind.tells exact drains moment es p.state.entries old new answer) begun
+      (session_steps quiet own_law kind exact met left answer drains moment (sight_by seat) p.state.entries old new beside behind steps
+      to_met (subst (λ (s : Sight). GainsOwnNotes (sight_by seat) s) (sym same) (gains base (items_in p) root tills seat then h)) delivered
+      (subst (λ (s : Sight). IsPrefix (history_of s) p.state.entries) (sym same) first.0)
+      (first.1 ∙ ap (λ (s : Sight). length (noted (history_of s))) (sym same)))

@@ -6,6 +6,7 @@ pub mod ClosedShop
 pub mod Rows
 pub mod SeenAll
 pub mod DayRuns
+pub mod Sessions
 pub mod Joined
 pub mod SenderSent
 pub mod Behind

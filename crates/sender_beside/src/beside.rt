@@ -1,10 +1,13 @@
 //! The tills of a shop and their sender, at the same time.
 ghost use Rattle.std.specs.Prelude.{◌≡◌};
+ghost use Rattle.sender.specs.Draining.{scene_of};
 ghost use Rattle.sender.specs.Sending.{fresh};
 ghost use Rattle.till_calls.specs.Mark.{mark_by, sight_by};
 ghost use Rattle.till_calls.specs.Shop.{seat_knows, seat_shop, shop_id};
 ghost use Rattle.sender_session.specs.Kinds.{agency_state_of, agency_kind};
 ghost use Rattle.sender_session.specs.Session.{IsUndelivered, SendsOn};
+ghost use Rattle.sender_session.specs.Sessions.{StepsBeside};
+ghost use Rattle.sender_beside.specs.Behind.{scene_in};
 
 use crate::sending::{Sent, send_part};
 use agency_port::Agency;
@@ -71,6 +74,9 @@ where
     ensures mark { mark_by (seat_shop result.0.seat) (seat_knows result.0.seat) ≡ mark_by (seat_shop seat) (seat_knows seat) }
     ensures sends { SendsOn (agency_kind G.Agency) (sight_by (seat_knows seat)) (sight_by (seat_knows result.0.seat))
         (agency_state_of G.Agency agency) (agency_state_of G.Agency result.0.agency) fresh result.0.sender result.0.answer }
+    ensures steps { StepsBeside (agency_kind G.Agency) Z.tells
+        (scene_of (agency_state_of G.Agency agency) (sight_by (seat_knows seat)) fresh (Z.moment sleeper))
+        (scene_in (agency_state_of G.Agency) Z.moment result.0) result.0.answer }
     ensures never { IsUndelivered result.0.answer → ⊥ }
 {
     join(
@@ -80,6 +86,9 @@ where
             ensures { (mark_by (seat_shop result.seat) (seat_knows result.seat) ≡ mark_by (seat_shop seat) (seat_knows seat))
                 × SendsOn (agency_kind G.Agency) (sight_by (seat_knows seat)) (sight_by (seat_knows result.seat))
                 (agency_state_of G.Agency agency) (agency_state_of G.Agency result.agency) fresh result.sender result.answer
+                × StepsBeside (agency_kind G.Agency) Z.tells
+                (scene_of (agency_state_of G.Agency agency) (sight_by (seat_knows seat)) fresh (Z.moment sleeper))
+                (scene_in (agency_state_of G.Agency) Z.moment result) result.answer
                 × (IsUndelivered result.answer → ⊥) }
         { send_part(means, shop, seat, agency, sleeper, stop) },
         move || -> W::Output
@@ -123,6 +132,11 @@ where
     ensures mark { mark_by (seat_shop result.seat) (seat_knows result.seat) ≡ mark_by (seat_shop seat) (seat_knows seat) }
     ensures sends { SendsOn (agency_kind G.Agency) (sight_by (seat_knows seat)) (sight_by (seat_knows result.seat))
         (agency_state_of G.Agency agency) (agency_state_of G.Agency result.agency) fresh result.sender result.answer }
+
+    // Each turn is a step, over the records of its own look, at a second of the sleeper.
+    ensures steps { StepsBeside (agency_kind G.Agency) Z.tells
+        (scene_of (agency_state_of G.Agency agency) (sight_by (seat_knows seat)) fresh (Z.moment sleeper))
+        (scene_in (agency_state_of G.Agency) Z.moment result) result.answer }
     ensures never { IsUndelivered result.answer → ⊥ }
 {
     let (sent, work) = run_beside(means, shop, seat, agency, sleeper, stop, Lent { work });

@@ -8,6 +8,8 @@ ghost use Rattle.till_calls.specs.Mark.{mark_by, sight_by};
 ghost use Rattle.till_calls.specs.Shop.{seat_knows, seat_shop, shop_id};
 ghost use Rattle.sender_session.specs.Kinds.{agency_state_of, agency_kind};
 ghost use Rattle.sender_session.specs.Session.{DrainsTo, IsUndelivered, SendsOn};
+ghost use Rattle.sender.specs.Draining.{scene_of};
+ghost use Rattle.sender_session.specs.Sessions.{StepsBeside};
 ghost use Rattle.sender_beside.specs.Behind.{scene_in};
 
 use agency_port::{Agency, Turns};
@@ -44,6 +46,9 @@ pub(crate) fn send_part<D: Disk, C: Clock, G: Agency + Drop, Z: Sleeper + Drop, 
     ensures mark { mark_by (seat_shop result.seat) (seat_knows result.seat) ≡ mark_by (seat_shop seat) (seat_knows seat) }
     ensures sends { SendsOn (agency_kind G.Agency) (sight_by (seat_knows seat)) (sight_by (seat_knows result.seat))
         (agency_state_of G.Agency agency) (agency_state_of G.Agency result.agency) fresh result.sender result.answer }
+    ensures steps { StepsBeside (agency_kind G.Agency) Z.tells
+        (scene_of (agency_state_of G.Agency agency) (sight_by (seat_knows seat)) fresh (Z.moment sleeper))
+        (scene_in (agency_state_of G.Agency) Z.moment result) result.answer }
     ensures never { IsUndelivered result.answer → ⊥ }
 {
     let mut outbox = shop.seat_box(seat);

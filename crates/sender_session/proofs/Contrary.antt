@@ -10,7 +10,7 @@ use Rattle.record_fields.specs.declared.lines.Line.{Line}
 use Rattle.record_codec.specs.declared.entry.Entry.{Entry}
 use Rattle.shop_core.specs.History.{Row, noted, recs, row_in, rows, waiting}
 use Rattle.shop_core.specs.declared.waiting.Waiting.{Waiting}
-use Rattle.batches.specs.Batches.{huellas_of}
+use Rattle.batches.specs.Batches.{Named, huellas_of, named_of}
 use Rattle.agency_port.specs.Reply.{Replied}
 use Rattle.agency_port.specs.Sessions.{kept_reply}
 use Rattle.agency_port.specs.declared.answers.AgencyFault.TheVariants as agency
@@ -156,32 +156,32 @@ same_ends {A} (a ∷ xs) (b ∷ ys) x y e =
 
 -- what the last message of these shows
 shown_by : (entries : List Entry) (past messages : List Message) (evidence : Evidence) (s : ShowsLast entries past messages
-    evidence) (before : List Message) (huellas : List (List ℕ)) (seen : List Seen) →
-    messages ≡ (past ++ before) ++ Consulted huellas (Ok seen) ∷ [] →
-    Shows (kept_reply before) (length (noted entries) + 1) huellas seen (Err evidence)
-shown_by entries past messages evidence s before huellas seen is =
-    let c = same_ends (past ++ s.before) (past ++ before) (Consulted s.huellas (Ok s.seen)) (Consulted huellas (Ok seen)) (sym
+    evidence) (before : List Message) (named : Named) (seen : List Seen) →
+    messages ≡ (past ++ before) ++ Consulted named (Ok seen) ∷ [] →
+    Shows (kept_reply before) (length (noted entries) + 1) named.huellas seen (Err evidence)
+shown_by entries past messages evidence s before named seen is =
+    let c = same_ends (past ++ s.before) (past ++ before) (Consulted s.named (Ok s.seen)) (Consulted named (Ok seen)) (sym
     s.is ∙ is) in
     let front : s.before ≡ before = append_cancel_left past s.before before c.0 in
-    let m : Consulted s.huellas (Ok s.seen) ≡ Consulted huellas (Ok seen) = c.1 in
-    let asked : s.huellas ≡ huellas = cc in
+    let m : Consulted s.named (Ok s.seen) ≡ Consulted named (Ok seen) = c.1 in
+    let asked : s.named ≡ named = cc in
     let told : s.seen ≡ seen = cc in
     let n = length (noted entries) + 1 in
-    subst (λ (b : List Message). Shows (kept_reply b) n huellas seen (Err evidence)) front
-    (subst (λ (a : List Seen). Shows (kept_reply s.before) n huellas a (Err evidence)) told
-    (subst (λ (h : List (List ℕ)). Shows (kept_reply s.before) n h s.seen (Err evidence)) asked s.shows))
+    subst (λ (b : List Message). Shows (kept_reply b) n named.huellas seen (Err evidence)) front
+    (subst (λ (a : List Seen). Shows (kept_reply s.before) n named.huellas a (Err evidence)) told
+    (subst (λ (h : Named). Shows (kept_reply s.before) n h.huellas s.seen (Err evidence)) asked s.shows))
 
 -- which is one contradiction alone
 pub one_shown : (entries : List Entry) (past messages : List Message) (a b : Evidence) → ShowsLast entries past messages a →
     ShowsLast entries past messages b → a ≡ b
-one_shown entries past messages a b s t = one_contrary (kept_reply t.before) (length (noted entries) + 1) t.huellas t.seen a b
-    (shown_by entries past messages a s t.before t.huellas t.seen t.is) t.shows
+one_shown entries past messages a b s t = one_contrary (kept_reply t.before) (length (noted entries) + 1) t.named.huellas t.seen a b
+    (shown_by entries past messages a s t.before t.named t.seen t.is) t.shows
 
 -- a session without messages shows nothing
 pub none_yet : (past : List Message) → ShowsNothing past past
 none_yet past entries evidence s =
     let l = ap length s.is in
-    let m = length-append (past ++ s.before) (Consulted s.huellas (Ok s.seen) ∷ []) in
+    let m = length-append (past ++ s.before) (Consulted s.named (Ok s.seen) ∷ []) in
     let k = length-append past s.before in
     omega arith
 
@@ -202,9 +202,9 @@ deed_shows : (kind : AgencyKind) (agency_state agency_state_then : AgencyState) 
 deed_shows kind agency_state agency_state_then look after shown old new now Nothing evidence tells shows dealt ends past k = absurd ends.0
 deed_shows kind agency_state agency_state_then look after shown old new now (Asked (Ok seen)) evidence tells shows dealt ends past k = record {
   before = k.session;
-  huellas = huellas_of shown.list;
+  named = named_of shown.list;
   seen = seen;
-  is = (dealt.1 tells).messages ∙ ap (λ (ms : List Message). ms ++ Consulted (huellas_of shown.list) (Ok seen) ∷ []) k.is;
+  is = (dealt.1 tells).messages ∙ ap (λ (ms : List Message). ms ++ Consulted (named_of shown.list) (Ok seen) ∷ []) k.is;
   asked = subst (λ (s : Sight). IsPrefix (huellas_of shown.list) (huellas_of (waiting (history_of s)))) (sym ends.2.3.1)
       (first_asked (waiting (history_of look)) shown.list shows.first);
   shows = subst (λ (s : Sight). Shows (kept_reply k.session) (length (noted (history_of s)) + 1) (huellas_of shown.list) seen
@@ -261,9 +261,9 @@ quiet past messages then answer same none entries evidence s = absurd (none entr
 
 -- this was said, and it is no consultation that was answered
 other : (past messages then : List Message) (m : Message) (answer : Result (Unit {0}) DrainFault) → then ≡ messages ++ m ∷ [] →
-    ((huellas : List (List ℕ)) (seen : List Seen) → Consulted huellas (Ok seen) ≡ m → ⊥) → AnswersWhatIsShown past then answer
+    ((named : Named) (seen : List Seen) → Consulted named (Ok seen) ≡ m → ⊥) → AnswersWhatIsShown past then answer
 other past messages then m answer said never entries evidence s =
-    absurd (never s.huellas s.seen (same_ends (past ++ s.before) messages (Consulted s.huellas (Ok s.seen)) m (sym s.is ∙
+    absurd (never s.named s.seen (same_ends (past ++ s.before) messages (Consulted s.named (Ok s.seen)) m (sym s.is ∙
     said)).1)
 
 -- a consultation was answered, and this is what it shows
@@ -296,19 +296,19 @@ deed_answers kind agency_state agency_state_then look after shown old new now (A
     let n = length (noted entries) + 1 in
     seen_answers old.said shown seen look after new.doubt answer n evidence ends.2.3
     (subst (λ (o : Option Replied). Shows o n (huellas_of shown.list) seen (Err evidence)) (sym k.kept)
-    (shown_by entries past agency_state_then.ledger.messages evidence s k.session (huellas_of shown.list) seen ((dealt.1 tells).messages
-    ∙ ap (λ (ms : List Message). ms ++ Consulted (huellas_of shown.list) (Ok seen) ∷ []) k.is)))
+    (shown_by entries past agency_state_then.ledger.messages evidence s k.session (named_of shown.list) seen ((dealt.1 tells).messages
+    ∙ ap (λ (ms : List Message). ms ++ Consulted (named_of shown.list) (Ok seen) ∷ []) k.is)))
 deed_answers kind agency_state agency_state_then look after shown old new now (Asked (Err agency.Failed)) answer tells dealt ends past k none =
-    other past agency_state.ledger.messages agency_state_then.ledger.messages (Consulted (huellas_of shown.list) (Err agency.Failed))
-    (sending_end answer) (dealt.1 tells).messages (λ huellas seen e. cc)
+    other past agency_state.ledger.messages agency_state_then.ledger.messages (Consulted (named_of shown.list) (Err agency.Failed))
+    (sending_end answer) (dealt.1 tells).messages (λ named seen e. cc)
 deed_answers kind agency_state agency_state_then look after shown old new now (Asked (Err agency.NoMemory)) answer tells dealt ends past k none
     = λ entries evidence s. inr (ap sending_end ends.2.0)
 deed_answers kind agency_state agency_state_then look after shown old new now (Handed (Ok reply)) answer tells dealt ends past k none =
     other past agency_state.ledger.messages agency_state_then.ledger.messages (Submitted shown.list (Ok reply)) (sending_end answer) (dealt.2
-    tells).messages (λ huellas seen e. cc)
+    tells).messages (λ named seen e. cc)
 deed_answers kind agency_state agency_state_then look after shown old new now (Handed (Err agency.Failed)) answer tells dealt ends past k none =
     other past agency_state.ledger.messages agency_state_then.ledger.messages (Submitted shown.list (Err agency.Failed)) (sending_end answer)
-    (dealt.2 tells).messages (λ huellas seen e. cc)
+    (dealt.2 tells).messages (λ named seen e. cc)
 deed_answers kind agency_state agency_state_then look after shown old new now (Handed (Err agency.NoMemory)) answer tells dealt ends past k none
     = λ entries evidence s. inr (ap sending_end ends.3.0)
 

@@ -52,17 +52,17 @@ message_fault (Begun plan pairs) printed is on = absurd is
 message_fault (Submitted batch (Ok reply)) printed is on = submission_fault batch reply printed is on
 message_fault (Submitted batch (Err agency.Failed)) printed is on = sym (ap is_link is)
 message_fault (Submitted batch (Err agency.NoMemory)) printed is on = sym (ap is_link is)
-message_fault (Consulted huellas (Ok seen)) told.Link is on = absurd is
-message_fault (Consulted huellas (Ok seen)) (told.Doubt place) is on = absurd is
-message_fault (Consulted huellas (Ok seen)) (told.Noted n) is on = refl
-message_fault (Consulted huellas (Ok seen)) told.Cleared is on = refl
-message_fault (Consulted huellas (Ok seen)) (told.Wait at) is on = absurd is
-message_fault (Consulted huellas (Ok seen)) told.Contradiction is on = absurd on
-message_fault (Consulted huellas (Ok seen)) told.Disk is on = absurd on
-message_fault (Consulted huellas (Ok seen)) (told.Stopped faults) is on = absurd on
-message_fault (Consulted huellas (Ok seen)) told.Memory is on = absurd on
-message_fault (Consulted huellas (Err agency.Failed)) printed is on = sym (ap is_link is)
-message_fault (Consulted huellas (Err agency.NoMemory)) printed is on = sym (ap is_link is)
+message_fault (Consulted asked (Ok seen)) told.Link is on = absurd is
+message_fault (Consulted asked (Ok seen)) (told.Doubt place) is on = absurd is
+message_fault (Consulted asked (Ok seen)) (told.Noted n) is on = refl
+message_fault (Consulted asked (Ok seen)) told.Cleared is on = refl
+message_fault (Consulted asked (Ok seen)) (told.Wait at) is on = absurd is
+message_fault (Consulted asked (Ok seen)) told.Contradiction is on = absurd on
+message_fault (Consulted asked (Ok seen)) told.Disk is on = absurd on
+message_fault (Consulted asked (Ok seen)) (told.Stopped faults) is on = absurd on
+message_fault (Consulted asked (Ok seen)) told.Memory is on = absurd on
+message_fault (Consulted asked (Err agency.Failed)) printed is on = sym (ap is_link is)
+message_fault (Consulted asked (Err agency.NoMemory)) printed is on = sym (ap is_link is)
 
 -- messages, this many of which are faults of the link
 record SaidWith (old new : List Message) (links : ℕ) : Type 0 where

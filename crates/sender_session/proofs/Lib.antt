@@ -6,6 +6,9 @@ pub mod Walking
 pub mod Stops
 pub mod Contrary
 pub mod Noting
+pub mod Stepping
+pub mod Closings
+pub mod Asking
 pub mod NotingTurns
 pub mod Clear
 pub mod Torn

@@ -11,7 +11,7 @@ use Rattle.record_fields.specs.declared.lines.Line.{Line}
 use Rattle.record_codec.specs.declared.entry.Entry.{Entry}
 use Rattle.journal.specs.declared.faults.StoreFault.{StoreFault}
 use Rattle.journal.specs.declared.faults.StoreFault.TheVariants as store
-use Rattle.batches.specs.Batches.{huellas_of}
+use Rattle.batches.specs.Batches.{Named, huellas_of, named_of}
 use Rattle.shop_core.specs.History.{recs, noted, lines_in}
 use Rattle.shop_core.specs.Items.{entries_of}
 use Rattle.shop_core.specs.declared.items.Item.{Item}
@@ -46,10 +46,10 @@ use Rattle.sender.specs.Turning.{Ends, Turned, turn_call}
 use Rattle.sender.proofs.Histories.{grown, stays}
 use Rattle.sender.proofs.Keeping.{noted_same}
 use Rattle.sender_session.specs.Session.{sending_end}
-use Rattle.sender_session.specs.Noting.{AreNoted, IsOfFirst, MissesLast, NotesSaid, all_said, count_named, is_again, lines_said}
+use Rattle.sender_session.specs.Noting.{AreNoted, AsksForFirst, IsOfFirst, MissesLast, NotesSaid, all_said, count_named, is_again, lines_said}
 use Rattle.sender_session.specs.Noting.{new_line}
 use Rattle.sender_session.proofs.Entries.{entries_both}
-use Rattle.sender_session.proofs.Contrary.{asked_of_more, drop_front, recs_both}
+use Rattle.sender_session.proofs.Contrary.{drop_front, recs_both}
 
 -- the lines in front of those that weren't seen
 front_lines : (lines : List Line) (rest : ℕ) → lines_in_front (map Was lines ++ unseen_ones rest) ≡ lines
@@ -57,9 +57,9 @@ front_lines [] zero = refl
 front_lines [] (suc rest) = refl
 front_lines (line ∷ lines) rest = ap (λ (ls : List Line). line ∷ ls) (front_lines lines rest)
 
-pub front_said : (huellas : List (List ℕ)) (seen : List Seen) (lines : List Line) → IsFront seen lines →
-    lines_said (Consulted huellas (Ok seen)) ≡ lines
-front_said huellas seen lines f = ap lines_in_front f.is ∙ front_lines lines f.rest
+pub front_said : (asked : Named) (seen : List Seen) (lines : List Line) → IsFront seen lines →
+    lines_said (Consulted asked (Ok seen)) ≡ lines
+front_said asked seen lines f = ap lines_in_front f.is ∙ front_lines lines f.rest
 
 new_lines : (lines : List Line) → filter_map new_line (map First lines) ≡ lines
 new_lines [] = refl
@@ -160,10 +160,6 @@ of_first shown now later more n k first is same =
     subst (λ (c : ℕ). IsPrefix shown (drop c later)) same
     (subst (λ (rs : List Sealed). IsPrefix shown (drop n rs)) (sym is) there)
 
-huellas_first : (shown records : List Sealed) → IsPrefix shown records → IsPrefix (huellas_of shown) (huellas_of records)
-huellas_first shown records p = asked_of_more (huellas_of shown) shown records
-    (record { rest = []; is = sym (append-nil (huellas_of shown)) }) p
-
 -- the message of a turn is of the first records that wait, and these lines are noted
 record Spoken (before look after : Sight) (message : Message) (answer : Result (Unit {0}) DrainFault) : Type 0 where
   at_look : noted (history_of look) ≡ noted (history_of before)
@@ -174,13 +170,13 @@ record Spoken (before look after : Sight) (message : Message) (answer : Result (
 module _ (quiet : CameQuietly) (beside : CameBesideOwn) (before look after : Sight) (g : Grows before look)
     (own : look.own ≡ before.own) (gains : GainsOwnNotes before after) where
   -- records alone came, and then these lines were noted
-  record Came (lines : List Line) : Type 0 where
-    at_look : noted (history_of look) ≡ noted (history_of before)
-    more : List Sealed
-    records : recs (history_of after) ≡ recs (history_of look) ++ more
-    are : noted (history_of after) ≡ noted (history_of before) ++ lines
+  pub record Came (lines : List Line) : Type 0 where
+    pub at_look : noted (history_of look) ≡ noted (history_of before)
+    pub more : List Sealed
+    pub records : recs (history_of after) ≡ recs (history_of look) ++ more
+    pub are : noted (history_of after) ≡ noted (history_of before) ++ lines
 
-  came_none : Grows look after → after.own ≡ look.own → Came []
+  pub came_none : Grows look after → after.own ≡ look.own → Came []
   came_none h same =
       let came = quiet before look after g own h same gains in
       let there : noted (history_of look) ≡ noted (history_of before) = ap noted (grown before look g) ∙
@@ -196,7 +192,7 @@ module _ (quiet : CameQuietly) (beside : CameBesideOwn) (before look after : Sig
   came_stays : after ≡ look → Came []
   came_stays e = came_none (stays look after g.legal e) (ap (λ (s : Sight). s.own) e)
 
-  came_lines : (lines : List Line) → AddsOwn look after (λ (items : List Item). item.Entry (notes_behind items lines)) → Came
+  pub came_lines : (lines : List Line) → AddsOwn look after (λ (items : List Item). item.Entry (notes_behind items lines)) → Came
       lines
   came_lines lines a =
       let came = beside before look after (λ (items : List Item). item.Entry (notes_behind items lines)) g own a gains in
@@ -217,7 +213,7 @@ module _ (quiet : CameQuietly) (beside : CameBesideOwn) (before look after : Sig
             ap (λ (ls : List Line). ls ++ lines) (noted_same now more came.1 ∙ there);
       }
 
-  came_stop : (faults : ℕ) (lines : List Line) → AddsOwn look after (λ (items : List Item). item.Stop faults
+  pub came_stop : (faults : ℕ) (lines : List Line) → AddsOwn look after (λ (items : List Item). item.Stop faults
       (notes_behind items lines)) → Came []
   came_stop faults lines a =
       let came = beside before look after (λ (items : List Item). item.Stop faults (notes_behind items lines)) g own a gains
@@ -285,23 +281,23 @@ module _ (quiet : CameQuietly) (beside : CameBesideOwn) (before look after : Sig
 
   seen_end : (said : Option Replied) (shown : Waiting) (seen : List Seen) (result : Result Turn SendFault) (doubt : Bool) →
       SeenEnds said shown seen look after result doubt →
-      Spoken before look after (Consulted (huellas_of shown.list) (Ok seen)) (sending_end result)
+      Spoken before look after (Consulted (named_of shown.list) (Ok seen)) (sending_end result)
   seen_end said shown seen (Ok Cleared) doubt ends =
-      let m = Consulted (huellas_of shown.list) (Ok seen) in
+      let m = Consulted (named_of shown.list) (Ok seen) in
       let c = came_stays ends.1 in
-      spoken m [] (Ok tt) c (all_is m [] c (front_said (huellas_of shown.list) seen [] ends.0.0))
+      spoken m [] (Ok tt) c (all_is m [] c (front_said (named_of shown.list) seen [] ends.0.0))
   seen_end said shown seen (Err (send.Contradiction evidence)) doubt ends =
-      let m = Consulted (huellas_of shown.list) (Ok seen) in
+      let m = Consulted (named_of shown.list) (Ok seen) in
       let c = came_stays ends.1 in
       spoken m [] (Err (drain.Contradiction evidence)) c (missed m c)
   seen_end said shown seen (Ok (Noted n)) doubt ends =
-      notes_end (Consulted (huellas_of shown.list) (Ok seen)) _ (Ok (Noted n)) doubt
-      (λ lines is. front_said (huellas_of shown.list) seen lines is.0) ends
+      notes_end (Consulted (named_of shown.list) (Ok seen)) _ (Ok (Noted n)) doubt
+      (λ lines is. front_said (named_of shown.list) seen lines is.0) ends
   seen_end said shown seen (Err (send.Store fault)) doubt ends =
-      notes_end (Consulted (huellas_of shown.list) (Ok seen)) _ (Err (send.Store fault)) doubt
-      (λ lines is. front_said (huellas_of shown.list) seen lines is.0) ends
+      notes_end (Consulted (named_of shown.list) (Ok seen)) _ (Err (send.Store fault)) doubt
+      (λ lines is. front_said (named_of shown.list) seen lines is.0) ends
   seen_end said shown seen (Err send.NoMemory) doubt ends =
-      lacks_memory (Consulted (huellas_of shown.list) (Ok seen)) (Err send.NoMemory) refl ends.0
+      lacks_memory (Consulted (named_of shown.list) (Ok seen)) (Err send.NoMemory) refl ends.0
   seen_end said shown seen _ doubt ends = absurd ends
 
   reply_end : (shown : Waiting) (reply : Replied) (result : Result Turn SendFault) (doubt : Bool) → Names reply shown.list →
@@ -359,9 +355,8 @@ module _ (quiet : CameQuietly) (beside : CameBesideOwn) (before look after : Sig
         (ap (λ (ls : List Line). length ls) s.at_look)
 
     asked_first : (m : Message) (answer : Result (Unit {0}) DrainFault) → Spoken before look after m answer →
-        IsPrefix (huellas_of shown.list) (huellas_of (drop (length (noted (history_of before))) (recs (history_of after))))
-    asked_first m answer s = huellas_first shown.list (drop (length (noted (history_of before))) (recs (history_of after)))
-        (batch_first m answer s)
+        AsksForFirst (drop (length (noted (history_of before))) (recs (history_of after))) (named_of shown.list)
+    asked_first m answer s = record { batch = shown.list; first = batch_first m answer s; is = refl }
 
     deed_notes : (kind : AgencyKind) (agency_state agency_state_then : AgencyState) (old new : Sending) (now : ℕ) (result : Result Turn SendFault)
         (deed : Deed) → IsTrue kind.tells → Dealt kind agency_state agency_state_then shown deed →
@@ -371,12 +366,12 @@ module _ (quiet : CameQuietly) (beside : CameBesideOwn) (before look after : Sig
         silent agency_state.ledger.messages agency_state_then.ledger.messages result (ap (λ (d : AgencyState). d.ledger.messages) dealt) ends.2
         (rest_noted old now shown (noted (history_of before)) result ends.0)
     deed_notes kind agency_state agency_state_then old new now result (Asked (Ok seen)) tells dealt ends =
-        let m = Consulted (huellas_of shown.list) (Ok seen) in
+        let m = Consulted (named_of shown.list) (Ok seen) in
         let s = seen_end old.said shown seen result new.doubt ends.2.3 in
         one_said m agency_state.ledger.messages agency_state_then.ledger.messages (sending_end result) (dealt.1 tells).messages s
         (asked_first m (sending_end result) s) (few_seen shown.list seen ends.2.0)
     deed_notes kind agency_state agency_state_then old new now result (Asked (Err agency.Failed)) tells dealt ends =
-        let m = Consulted (huellas_of shown.list) (Err agency.Failed) in
+        let m = Consulted (named_of shown.list) (Err agency.Failed) in
         let s = says_none m result ends.2.0 refl ends.2.2 in
         one_said m agency_state.ledger.messages agency_state_then.ledger.messages (sending_end result) (dealt.1 tells).messages s
         (asked_first m (sending_end result) s) (few_none m refl)

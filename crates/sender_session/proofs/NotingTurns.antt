@@ -26,7 +26,7 @@ use Rattle.sender.proofs.Sessions.{is_turn_growth, turns_growth}
 use Rattle.sender_session.specs.Session.{sending_end}
 use Rattle.sender_session.specs.Noting.{AreNoted, AreOfWaiting, IsOfFirst, MissesLast, NotesSaid, all_said, lines_said}
 use Rattle.sender_session.proofs.Entries.{entries_both}
-use Rattle.sender_session.proofs.Contrary.{asked_of_more, drop_front, recs_both}
+use Rattle.sender_session.proofs.Contrary.{drop_front, recs_both}
 use Rattle.sender_session.proofs.Noting.{turn_notes}
 
 -- nothing was said and nothing noted
@@ -50,8 +50,11 @@ first_of_more : (m : Message) (count : ℕ) (few more : List Sealed) → IsOfFir
 first_of_more (Begun plan pairs) count few more h = h
 first_of_more (Submitted batch answer) count few more h = front_then batch (drop count few) (drop count (few ++ more)) h
     (drop_front count few more)
-first_of_more (Consulted huellas answer) count few more h = asked_of_more huellas (drop count few) (drop count (few ++ more)) h
-    (drop_front count few more)
+first_of_more (Consulted asked answer) count few more h = record {
+  batch = h.batch;
+  first = front_then h.batch (drop count few) (drop count (few ++ more)) h.first (drop_front count few more);
+  is = h.is;
+}
 
 pub waiting_of_more : (few more : List Sealed) (count : ℕ) (messages : List Message) → AreOfWaiting few count messages →
     AreOfWaiting (few ++ more) count messages

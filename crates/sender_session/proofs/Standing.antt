@@ -11,7 +11,7 @@ use Rattle.record_fields.specs.declared.records.Sealed.{Sealed}
 use Rattle.record_fields.specs.declared.lines.Line.{Line}
 use Rattle.record_codec.specs.declared.entry.Entry.{Entry}
 use Rattle.record_codec.specs.declared.entry.Entry.TheVariants.{Notes as notes_of}
-use Rattle.batches.specs.Batches.{huellas_of}
+use Rattle.batches.specs.Batches.{huellas_of, named_of}
 use Rattle.pacing.specs.Pace.{is_due, due_at}
 use Rattle.pacing.specs.declared.pace.Pace.{Pace}
 use Rattle.journal.specs.declared.faults.StoreFault.{StoreFault}
@@ -148,21 +148,40 @@ named_is reply batch names = when_true (is_reply_to reply batch) reply ((decides
 stale_is : (reply : Replied) (batch : List Sealed) → (Names reply batch → ⊥) → named_reply batch (Ok reply) ≡ None
 stale_is reply batch never = when_false (is_reply_to reply batch) reply (λ t. never ((decides reply batch).0 t))
 
--- what a turn with this answer did
-pub record Did (tells exact : Bool) (records : List Sealed) (st : Standing) (said said_then : List Message) (after : Sight)
-    (new : Sending) (answer : Result Turn SendFault) : Type 0 where
+-- the turns go on after this answer, or one more may follow
+abbrev pub Lasts : Result Turn SendFault → Type 0
+Lasts (Ok turn) = Unit {0}
+Lasts (Err LinkFault) = Unit {0}
+Lasts _ = ⊥
+
+pub lasts : (answer : Result Turn SendFault) → GoesOn answer → Lasts answer
+lasts (Ok turn) on = tt
+lasts (Err LinkFault) on = tt
+lasts (Err (Contradiction evidence)) on = absurd on
+lasts (Err (Store fault)) on = absurd on
+lasts (Err NoMemory) on = absurd on
+
+-- what a turn with this answer did, and that K holds of the history after it
+pub record DidBy (K : List Entry → Type 0) (tells exact : Bool) (records : List Sealed) (st : Standing)
+    (said said_then : List Message) (after : Sight) (new : Sending) (answer : Result Turn SendFault) : Type 0 where
   pub steps : List Step
   pub one : length steps ≤ 1
   pub are : AreSteps exact records st steps
   pub lines : map line_in steps ≡ told_list answer
   pub messages : IsTrue tells → said_then ≡ said ++ filter_map message_in steps
-  pub records_are : recs (history_of after) ≡ records
+  pub records_are : K (history_of after)
   pub noted_is : length (noted (history_of after)) ≡ (after_steps st steps).noted
-  pub doubt : GoesOn answer → new.doubt ≡ (after_steps st steps).doubt
-  pub pace : GoesOn answer → IsTrue exact → new.pace ≡ (after_steps st steps).pace
-  pub kept : GoesOn answer → new.said ≡ (after_steps st steps).said
+  pub doubt : Lasts answer → new.doubt ≡ (after_steps st steps).doubt
+  pub pace : Lasts answer → IsTrue exact → new.pace ≡ (after_steps st steps).pace
+  pub kept : Lasts answer → new.said ≡ (after_steps st steps).said
   pub moment : moment_after st.moment answer ≡ (after_steps st steps).moment
   pub contrary : (evidence : Evidence) → answer ≡ Err (Contradiction evidence) → EndsContrary st steps evidence
+
+-- the same of a shop to which nobody else adds
+abbrev pub Did : Bool → Bool → List Sealed → Standing → List Message → List Message → Sight → Sending → Result Turn SendFault →
+    Type 0
+Did tells exact records st said said_then after new answer =
+    DidBy (λ (es : List Entry). recs es ≡ records) tells exact records st said said_then after new answer
 
 -- what stands at a look
 pub record Stands (exact : Bool) (records : List Sealed) (st : Standing) (look : Sight) (shown : Waiting) (old : Sending)
@@ -175,9 +194,9 @@ pub record Stands (exact : Bool) (records : List Sealed) (st : Standing) (look :
   pub kept : old.said ≡ st.said
   pub now_is : IsTrue exact → now ≡ st.moment
 
-module _ (tells exact : Bool) (records : List Sealed) (st : Standing) (said said_then : List Message) (look after : Sight)
-    (shown : Waiting) (old new : Sending) (now : ℕ)
-    (h : Stands exact records st look shown old now) where
+module _ (K : List Entry → Type 0) (tells exact : Bool) (records : List Sealed) (st : Standing) (said said_then : List Message)
+    (look after : Sight) (shown : Waiting) (old new : Sending) (now : ℕ) (h : Stands exact records st look shown old now)
+    (here : K (history_of look)) where
   shown_noted : shown.noted ≡ st.noted
   shown_noted = h.shows.noted_count ∙ h.noted_is
 
@@ -192,7 +211,17 @@ module _ (tells exact : Bool) (records : List Sealed) (st : Standing) (said said
   shown_waiting = ap (λ (n : ℕ). n - shown.noted) shown_records ∙ ap (λ (n : ℕ). length records - n) shown_noted
 
   abbrev Done : Result Turn SendFault → Type 0
-  Done answer = Did tells exact records st said said_then after new answer
+  Done answer = DidBy K tells exact records st said said_then after new answer
+
+  -- this many lines more are noted than at the look
+  abbrev pub Left : ℕ → Type 0
+  Left n = (length (noted (history_of after)) ≡ st.noted + n) × K (history_of after)
+
+  stays : after ≡ look → Left 0
+  stays there = (
+    (let same = ap (λ (s : Sight). length (noted (history_of s))) there in let base = h.noted_is in omega (arith, same, base)),
+    subst (λ (s : Sight). K (history_of s)) (sym there) here,
+  )
 
   doubt_here : (b : Bool) → old.doubt ≡ b → st.doubt ≡ b
   doubt_here b is = sym h.doubt ∙ is
@@ -215,7 +244,7 @@ module _ (tells exact : Bool) (records : List Sealed) (st : Standing) (said said
     are = (tt, tt);
     lines = refl;
     messages = λ t. quietly t ∙ sym (append-nil said);
-    records_are = ap (λ (s : Sight). recs (history_of s)) there ∙ h.records_are;
+    records_are = (stays there).1;
     noted_is = ap (λ (s : Sight). length (noted (history_of s))) there ∙ h.noted_is;
     doubt = λ on. absurd on;
     pace = λ on. absurd on;
@@ -233,11 +262,11 @@ module _ (tells exact : Bool) (records : List Sealed) (st : Standing) (said said
     are = tt;
     lines = refl;
     messages = λ t. silent t ∙ sym (append-nil said);
-    records_are = ap (λ (s : Sight). recs (history_of s)) there ∙ h.records_are;
+    records_are = (stays there).1;
     noted_is = ap (λ (s : Sight). length (noted (history_of s))) there ∙ h.noted_is;
-    doubt = λ on. absurd on;
-    pace = λ on. absurd on;
-    kept = λ on. absurd on;
+    doubt = λ on. ap (λ (s : Sending). s.doubt) same ∙ h.doubt;
+    pace = λ on e. ap (λ (s : Sending). s.pace) same ∙ h.pace e;
+    kept = λ on. ap (λ (s : Sending). s.said) same ∙ h.kept;
     moment = refl;
     contrary = λ evidence e. absurd cc;
   }
@@ -247,7 +276,7 @@ module _ (tells exact : Bool) (records : List Sealed) (st : Standing) (said said
     are = ((doubt_here false ends.1, some_wait ends.0, λ e. (is_due_here false ends.2 e, ends.3 ∙ ap due_at (h.pace e))), tt);
     lines = refl;
     messages = λ t. silent t ∙ sym (append-nil said);
-    records_are = ap (λ (s : Sight). recs (history_of s)) there ∙ h.records_are;
+    records_are = (stays there).1;
     noted_is = ap (λ (s : Sight). length (noted (history_of s))) there ∙ h.noted_is;
     doubt = λ on. ap (λ (s : Sending). s.doubt) same ∙ h.doubt;
     pace = λ on e. ap (λ (s : Sending). s.pace) same ∙ h.pace e;
@@ -278,32 +307,32 @@ module _ (tells exact : Bool) (records : List Sealed) (st : Standing) (said said
   message_noted : (m : Message) → (after_message st m).noted ≡ st.noted
   message_noted (Begun plan pairs) = refl
   message_noted (Submitted batch answer) = reply_noted (named_reply batch answer)
-  message_noted (Consulted huellas (Ok seen)) = refl
-  message_noted (Consulted huellas (Err why)) = refl
+  message_noted (Consulted asked (Ok seen)) = refl
+  message_noted (Consulted asked (Err why)) = refl
 
   message_moment : (m : Message) → (after_message st m).moment ≡ st.moment
   message_moment (Begun plan pairs) = refl
   message_moment (Submitted batch answer) = reply_moment (named_reply batch answer)
-  message_moment (Consulted huellas (Ok seen)) = refl
-  message_moment (Consulted huellas (Err why)) = refl
+  message_moment (Consulted asked (Ok seen)) = refl
+  message_moment (Consulted asked (Err why)) = refl
 
   -- a message was said, and this line stands for it
   spoke : (answer : Result Turn SendFault) (m : Message) (line : Told) → told_in answer ≡ Some line →
       moment_after st.moment answer ≡ st.moment → IsStep exact records st (Says m line) →
       (IsTrue tells → said_then ≡ said ++ m ∷ []) →
-      recs (history_of after) ≡ records → length (noted (history_of after)) ≡ st.noted + noted_in line →
-      (GoesOn answer → new.doubt ≡ doubt_behind (after_message st m).doubt line) →
-      (GoesOn answer → IsTrue exact → new.pace ≡ (after_message st m).pace) →
-      (GoesOn answer → new.said ≡ (after_message st m).said) →
+      Left (noted_in line) →
+      (Lasts answer → new.doubt ≡ doubt_behind (after_message st m).doubt line) →
+      (Lasts answer → IsTrue exact → new.pace ≡ (after_message st m).pace) →
+      (Lasts answer → new.said ≡ (after_message st m).said) →
       ((evidence : Evidence) → answer ≡ Err (Contradiction evidence) → EndsContrary st (Says m line ∷ []) evidence) → Done answer
-  spoke answer m line is still step messages are count doubt pace kept contrary = record {
+  spoke answer m line is still step messages left doubt pace kept contrary = record {
     steps = Says m line ∷ [];
     one = omega arith;
     are = (step, tt);
     lines = sym (ap list_of is);
     messages = messages;
-    records_are = are;
-    noted_is = count ∙ ap (λ (n : ℕ). n + noted_in line) (sym (message_noted m));
+    records_are = left.1;
+    noted_is = left.0 ∙ ap (λ (n : ℕ). n + noted_in line) (sym (message_noted m));
     doubt = doubt;
     pace = pace;
     kept = kept;
@@ -314,36 +343,31 @@ module _ (tells exact : Bool) (records : List Sealed) (st : Standing) (said said
   -- and nothing was noted
   spoke_quietly : (answer : Result Turn SendFault) (m : Message) (line : Told) → told_in answer ≡ Some line →
       moment_after st.moment answer ≡ st.moment → noted_in line ≡ 0 → IsStep exact records st (Says m line) →
-      (IsTrue tells → said_then ≡ said ++ m ∷ []) → history_of after ≡ history_of look →
-      (GoesOn answer → new.doubt ≡ doubt_behind (after_message st m).doubt line) →
-      (GoesOn answer → IsTrue exact → new.pace ≡ (after_message st m).pace) →
-      (GoesOn answer → new.said ≡ (after_message st m).said) →
+      (IsTrue tells → said_then ≡ said ++ m ∷ []) → Left 0 →
+      (Lasts answer → new.doubt ≡ doubt_behind (after_message st m).doubt line) →
+      (Lasts answer → IsTrue exact → new.pace ≡ (after_message st m).pace) →
+      (Lasts answer → new.said ≡ (after_message st m).said) →
       ((evidence : Evidence) → answer ≡ Err (Contradiction evidence) → EndsContrary st (Says m line ∷ []) evidence) → Done answer
-  spoke_quietly answer m line is still zero step messages there doubt pace kept contrary =
-      let count : length (noted (history_of after)) ≡ st.noted = ap (λ (es : List Entry). length (noted es)) there ∙ h.noted_is in
-      spoke answer m line is still step messages (ap recs there ∙ h.records_are) (omega (arith, count, zero)) doubt pace kept
-      contrary
+  spoke_quietly answer m line is still zero step messages left doubt pace kept contrary =
+      spoke answer m line is still step messages (subst (λ (n : ℕ). Left n) (sym zero) left) doubt pace kept contrary
 
   -- and these lines were
   spoke_noting : (n : ℕ) (m : Message) (lines : List Line) → n ≡ length lines → IsStep exact records st (Says m (told.Noted n)) →
       (IsTrue tells → said_then ≡ said ++ m ∷ []) →
-      history_of after ≡ history_of look ++ notes_of (length (noted (history_of look))) lines ∷ [] →
+      Left (length lines) →
       new.doubt ≡ false → (IsTrue exact → new.pace ≡ (after_message st m).pace) → new.said ≡ (after_message st m).said →
       Done (Ok (Noted n))
-  spoke_noting n m lines many step messages there doubt pace kept =
-      let count = ap (λ (es : List Entry). length (noted es)) there ∙ noted_count (history_of look)
-      (length (noted (history_of look))) lines in
-      spoke (Ok (Noted n)) m (told.Noted n) refl refl step messages (ap recs there ∙ noted_records (history_of look)
-      (length (noted (history_of look))) lines ∙ h.records_are) (let base = h.noted_is in omega (arith, count, base, many))
+  spoke_noting n m lines many step messages left doubt pace kept =
+      spoke (Ok (Noted n)) m (told.Noted n) refl refl step messages (subst (λ (k : ℕ). Left k) (sym many) left)
       (λ on. doubt) (λ on. pace) (λ on. kept) (λ evidence e. absurd cc)
 
-  module _ (quiet : Grows look after → after.own ≡ look.own → after.items ≡ look.items) (between : (thing : List Item → Item)
-      (o : AddsOwn look after thing) → o.others ≡ []) where
-    fault_history : (lines : List Line) (fault : StoreFault) → Grows look after → NotedBy look after lines (Err fault) →
-        history_of after ≡ history_of look
-    fault_history lines store.DiskFault g a = stopped_history look after lines a (between _ a.adds)
-    fault_history lines (store.Stopped faults) g a = ap entries_of (quiet g a.own)
-    fault_history lines store.NoMemory g a = ap entries_of (quiet g a)
+  module _ (quiet : Grows look after → after.own ≡ look.own → Left 0) (own : (lines : List Line) →
+      AddsOwn look after (λ (items : List Item). item.Entry (notes_behind items lines)) → Left (length lines))
+      (stop : (lines : List Line) → StopsHere look after lines → Left 0) where
+    fault_left : (lines : List Line) (fault : StoreFault) → Grows look after → NotedBy look after lines (Err fault) → Left 0
+    fault_left lines store.DiskFault g a = stop lines a
+    fault_left lines (store.Stopped faults) g a = quiet g a.own
+    fault_left lines store.NoMemory g a = quiet g a
 
     fault_told : (fault : StoreFault) → told_in (Err (Store fault)) ≡ Some (fault_line fault)
     fault_told store.DiskFault = refl
@@ -363,9 +387,9 @@ module _ (tells exact : Bool) (records : List Sealed) (st : Standing) (said said
 
     contrary_by : (seen : List Seen) (a b : Evidence) → ◌≡◌ {A = Result Turn SendFault} (Err (Contradiction b))
         (Err (Contradiction a)) → ShowsHere st (huellas_of shown.list) seen (Err b) →
-        EndsContrary st (Says (Consulted (huellas_of shown.list) (Ok seen)) told.Contradiction ∷ []) a
+        EndsContrary st (Says (Consulted (named_of shown.list) (Ok seen)) told.Contradiction ∷ []) a
     contrary_by seen a b e s = record {
-      huellas = huellas_of shown.list;
+      named = named_of shown.list;
       seen = seen;
       is = refl;
       shows = subst (λ (x : Evidence). ShowsHere st (huellas_of shown.list) seen (Err x)) (let same : b ≡ a = cc in same) s;
@@ -379,15 +403,15 @@ module _ (tells exact : Bool) (records : List Sealed) (st : Standing) (said said
 
     -- a consultation was answered
     seen_did : (seen : List Seen) (answer : Result Turn SendFault) → st.doubt ≡ true →
-        (IsTrue tells → said_then ≡ said ++ Consulted (huellas_of shown.list) (Ok seen) ∷ []) → new.pace ≡ old.pace →
+        (IsTrue tells → said_then ≡ said ++ Consulted (named_of shown.list) (Ok seen) ∷ []) → new.pace ≡ old.pace →
         new.said ≡ None →
         SeenEnds old.said shown seen look after answer new.doubt → Done answer
     seen_did seen (Ok (Noted n)) doubt messages pace kept ends =
         let lines = ends.0.lines in
         let many = ends.0.count_is in
-        spoke_noting n (Consulted (huellas_of shown.list) (Ok seen)) lines many (
+        spoke_noting n (Consulted (named_of shown.list) (Ok seen)) lines many (
           doubt,
-          ap huellas_of shown_list,
+          ap named_of shown_list,
           (
             lines,
             shown_here seen (Ok lines) ends.0.are,
@@ -396,29 +420,29 @@ module _ (tells exact : Bool) (records : List Sealed) (st : Standing) (said said
                 omega (arith, some, many)),
           ),
         ) messages
-        (noted_history look after lines ends.0.noted (between _ ends.0.noted)) ends.1 (λ e. pace ∙ h.pace e) kept
+        (own lines ends.0.noted) ends.1 (λ e. pace ∙ h.pace e) kept
     seen_did seen (Ok Cleared) doubt messages pace kept ends =
-        spoke_quietly (Ok Cleared) (Consulted (huellas_of shown.list) (Ok seen)) told.Cleared refl refl refl
-        (doubt, ap huellas_of shown_list, shown_here seen (Ok []) ends.0) messages (ap history_of ends.1) (λ on. ends.2)
+        spoke_quietly (Ok Cleared) (Consulted (named_of shown.list) (Ok seen)) told.Cleared refl refl refl
+        (doubt, ap named_of shown_list, shown_here seen (Ok []) ends.0) messages (stays ends.1) (λ on. ends.2)
         (λ on e. pace ∙ h.pace e) (λ on. kept) (λ evidence e. absurd cc)
     seen_did seen (Err (Contradiction evidence)) doubt messages pace kept ends =
-        spoke_quietly (Err (Contradiction evidence)) (Consulted (huellas_of shown.list) (Ok seen)) told.Contradiction refl refl
-        refl (doubt, ap huellas_of shown_list, (evidence, shown_here seen (Err evidence) ends.0)) messages
-        (ap history_of ends.1) (λ on. absurd on) (λ on. absurd on) (λ on. absurd on) (λ shown_evidence e. contrary_by seen shown_evidence evidence e
+        spoke_quietly (Err (Contradiction evidence)) (Consulted (named_of shown.list) (Ok seen)) told.Contradiction refl refl
+        refl (doubt, ap named_of shown_list, (evidence, shown_here seen (Err evidence) ends.0)) messages
+        (stays ends.1) (λ on. absurd on) (λ on. absurd on) (λ on. absurd on) (λ shown_evidence e. contrary_by seen shown_evidence evidence e
         (shown_here seen (Err evidence) ends.0))
     seen_did seen (Err (Store fault)) doubt messages pace kept ends =
         let lines = ends.0.1.lines in
-        spoke_quietly (Err (Store fault)) (Consulted (huellas_of shown.list) (Ok seen)) (fault_line fault) (fault_told fault) refl
+        spoke_quietly (Err (Store fault)) (Consulted (named_of shown.list) (Ok seen)) (fault_line fault) (fault_told fault) refl
         (fault_notes fault) (
           doubt,
-          ap huellas_of shown_list,
+          ap named_of shown_list,
           seen_fault seen fault lines (shown_here seen (Ok lines) ends.0.1.are) ends.0.1.some,
         ) messages
-        (fault_history lines fault ends.0.1.grows ends.0.1.noted) (λ on. absurd on) (λ on. absurd on) (λ on. absurd on)
+        (fault_left lines fault ends.0.1.grows ends.0.1.noted) (λ on. absurd on) (λ on. absurd on) (λ on. absurd on)
         (λ evidence e. absurd cc)
     seen_did seen (Err NoMemory) doubt messages pace kept ends =
-        spoke_quietly (Err NoMemory) (Consulted (huellas_of shown.list) (Ok seen)) told.Memory refl refl refl
-        (doubt, ap huellas_of shown_list, tt) messages (ap history_of ends.0) (λ on. absurd on) (λ on. absurd on)
+        spoke_quietly (Err NoMemory) (Consulted (named_of shown.list) (Ok seen)) told.Memory refl refl refl
+        (doubt, ap named_of shown_list, tt) messages (stays ends.0) (λ on. absurd on) (λ on. absurd on)
         (λ on. absurd on) (λ evidence e. absurd cc)
     seen_did seen _ doubt messages pace kept ends = absurd ends
 
@@ -480,7 +504,7 @@ module _ (tells exact : Bool) (records : List Sealed) (st : Standing) (said said
               many ∙
                   as_many reply shown.list lines names r.matched ends.0.are,
             )) messages
-            (noted_history look after lines ends.0.noted (between _ ends.0.noted)) ends.1 pace kept
+            (own lines ends.0.noted) ends.1 pace kept
         by_answer (Ok (Doubt place)) ends =
             spoke_quietly (Ok (Doubt place)) m (told.Doubt place) refl refl refl
             (handed (Ok reply) (told.Doubt place) may (record {
@@ -489,16 +513,16 @@ module _ (tells exact : Bool) (records : List Sealed) (st : Standing) (said said
               again = ends.0.again;
               place_is = ends.0.is ∙ ap (λ (n : ℕ). n + 1 + ends.0.index) shown_noted;
             })) messages
-            (ap history_of ends.1) (λ on. ends.2 ∙ sym (reply_doubt (named_reply shown.list (Ok reply)))) (λ on. pace)
+            (stays ends.1) (λ on. ends.2 ∙ sym (reply_doubt (named_reply shown.list (Ok reply)))) (λ on. pace)
             (λ on. kept) (λ evidence e. absurd cc)
         by_answer (Err (Store fault)) ends =
             let lines = ends.0.1.lines in
             spoke_quietly (Err (Store fault)) m (fault_line fault) (fault_told fault) refl (fault_notes fault)
             (handed (Ok reply) (fault_line fault) may (by_fault fault lines ends.0.1.are)) messages
-            (fault_history lines fault ends.0.1.grows ends.0.1.noted) (λ on. absurd on) (λ on. absurd on) (λ on. absurd on)
+            (fault_left lines fault ends.0.1.grows ends.0.1.noted) (λ on. absurd on) (λ on. absurd on) (λ on. absurd on)
             (λ evidence e. absurd cc)
         by_answer (Err NoMemory) ends = spoke_quietly (Err NoMemory) m told.Memory refl refl refl (handed (Ok reply) told.Memory
-            may names) messages (ap history_of ends.0) (λ on. absurd on) (λ on. absurd on) (λ on. absurd on)
+            may names) messages (stays ends.0) (λ on. absurd on) (λ on. absurd on) (λ on. absurd on)
             (λ evidence e. absurd cc)
         by_answer _ ends = absurd ends
 
@@ -528,7 +552,7 @@ module _ (tells exact : Bool) (records : List Sealed) (st : Standing) (said said
             subst (λ (c : Bool). IsTrue c) (sym e) f)) [
               | inl s ↦ lacked there (silent (λ t. s.messages))
               | inr s ↦ spoke_quietly (Err NoMemory) (Submitted shown.list (Err agency.NoMemory)) told.Memory refl refl refl
-                  (handed (Err agency.NoMemory) told.Memory may refl) (says _ (λ t. s.messages)) (ap history_of there)
+                  (handed (Err agency.NoMemory) told.Memory may refl) (says _ (λ t. s.messages)) (stays there)
                   (λ on. absurd on) (λ on. absurd on) (λ on. absurd on) (λ evidence e. absurd cc)
             ]
 
@@ -537,9 +561,9 @@ module _ (tells exact : Bool) (records : List Sealed) (st : Standing) (said said
         by_deed (Asked (Ok seen)) dealt ends = seen_did seen answer (doubt_here true ends.1)
             (says _ (λ t. (dealt.1 t).messages)) ends.2.1 ends.2.2 ends.2.3
         by_deed (Asked (Err agency.Failed)) dealt ends = same_after (Err LinkFault) ends.2.0
-            (spoke_quietly (Err LinkFault) (Consulted (huellas_of shown.list) (Err agency.Failed)) told.Link refl refl refl
-            (doubt_here true ends.1, ap huellas_of shown_list, refl) (says _ (λ t. (dealt.1 t).messages))
-            (ap history_of ends.2.2) (λ on. ap (λ (s : Sending). s.doubt) ends.2.1 ∙ h.doubt)
+            (spoke_quietly (Err LinkFault) (Consulted (named_of shown.list) (Err agency.Failed)) told.Link refl refl refl
+            (doubt_here true ends.1, ap named_of shown_list, refl) (says _ (λ t. (dealt.1 t).messages))
+            (stays ends.2.2) (λ on. ap (λ (s : Sending). s.doubt) ends.2.1 ∙ h.doubt)
             (λ on e. ap (λ (s : Sending). s.pace) ends.2.1 ∙ h.pace e) (λ on. ap (λ (s : Sending). s.said) ends.2.1 ∙ h.kept)
             (λ evidence e. absurd cc))
         by_deed (Asked (Err agency.NoMemory)) dealt ends = same_after (Err NoMemory) ends.2.0
@@ -550,7 +574,7 @@ module _ (tells exact : Bool) (records : List Sealed) (st : Standing) (said said
               ap (λ (o : Option Replied). with_reply (handing st) o) (stale_is reply shown.list r.names_not) in
               same_after (Err LinkFault) r.result_is (spoke_quietly (Err LinkFault) (Submitted shown.list (Ok reply)) told.Link
               refl refl refl (handed (Ok reply) told.Link (doubt_here false ends.1, ends.2) r.names_not)
-              (says _ (λ t. (dealt.2 t).messages)) (ap history_of r.after_is)
+              (says _ (λ t. (dealt.2 t).messages)) (stays r.after_is)
               (λ on. ap (λ (s : Sending). s.doubt) r.new_is ∙ sym (ap (λ (s : Standing). s.doubt) stale))
               (λ on e. unanswered_pace e (ap (λ (s : Sending). s.pace) r.new_is) ∙ sym (ap (λ (s : Standing). s.pace) stale))
               (λ on. ap (λ (s : Sending). s.said) r.new_is ∙ h.kept ∙ sym (ap (λ (s : Standing). s.said) stale))
@@ -559,7 +583,7 @@ module _ (tells exact : Bool) (records : List Sealed) (st : Standing) (said said
         by_deed (Handed (Err agency.Failed)) dealt ends = same_after (Err LinkFault) ends.3.0
             (spoke_quietly (Err LinkFault) (Submitted shown.list (Err agency.Failed)) told.Link refl refl refl
             (handed (Err agency.Failed) told.Link (doubt_here false ends.1, ends.2) refl) (says _ (λ t. (dealt.2 t).messages))
-            (ap history_of ends.3.2) (λ on. ap (λ (s : Sending). s.doubt) ends.3.1)
+            (stays ends.3.2) (λ on. ap (λ (s : Sending). s.doubt) ends.3.1)
             (λ on e. unanswered_pace e (ap (λ (s : Sending). s.pace) ends.3.1)) (λ on. ap (λ (s : Sending). s.said) ends.3.1 ∙
             h.kept) (λ evidence e. absurd cc))
         by_deed (Handed (Err agency.NoMemory)) dealt ends = same_after (Err NoMemory) ends.3.0 (handed_lacking (doubt_here false ends.1, ends.2)

@@ -8,7 +8,7 @@ use Rattle.record_fields.specs.declared.lines.Line.{Line}
 use Rattle.record_codec.specs.declared.entry.Entry.{Entry}
 use Rattle.record_codec.specs.declared.entry.Entry.TheVariants.{Notes as notes_of}
 use Rattle.journal.specs.declared.faults.StoreFault.TheVariants as store
-use Rattle.batches.specs.Batches.{huellas_of}
+use Rattle.batches.specs.Batches.{named_of}
 use Rattle.shop_core.specs.History.{noted}
 use Rattle.shop_core.specs.Items.{entries_of}
 use Rattle.shop_core.specs.declared.items.Item.{Item}
@@ -72,8 +72,8 @@ disk_deed : (kind : AgencyKind) (agency_state agency_state_then : AgencyState) (
 disk_deed kind agency_state agency_state_then look after shown old new now Nothing tells dealt ends = absurd ends.0
 disk_deed kind agency_state agency_state_then look after shown old new now (Asked (Ok seen)) tells dealt ends =
     let n = ends.2.3.0.1 in
-    of_lines look after agency_state.ledger.messages agency_state_then.ledger.messages (Consulted (huellas_of shown.list) (Ok seen)) n.lines
-    (dealt.1 tells).messages (front_said (huellas_of shown.list) seen n.lines n.are.0) n.noted
+    of_lines look after agency_state.ledger.messages agency_state_then.ledger.messages (Consulted (named_of shown.list) (Ok seen)) n.lines
+    (dealt.1 tells).messages (front_said (named_of shown.list) seen n.lines n.are.0) n.noted
 disk_deed kind agency_state agency_state_then look after shown old new now (Asked (Err agency.Failed)) tells dealt ends =
     absurd (let e = ends.2.0 in cc)
 disk_deed kind agency_state agency_state_then look after shown old new now (Asked (Err agency.NoMemory)) tells dealt ends =

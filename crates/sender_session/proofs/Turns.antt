@@ -47,7 +47,7 @@ pub both_ok : {T E : Type 0} (r : Result T E) (P Q R : Type 0) → (P → Q → 
 both_ok (Ok x) P Q R f p q = f p q
 both_ok (Err e) P Q R f p q = tt
 
-growth_of : (P : Item → Type 0) (a b : Sight) → Adds P a b → Growth a b
+pub growth_of : (P : Item → Type 0) (a b : Sight) → Adds P a b → Growth a b
 growth_of P a b g = record {
   items = g.items;
   items_is = g.items_is;

@@ -8,12 +8,13 @@ use Rattle.std.proofs.lemmas.List.Elements.{filter_map-append}
 use Rattle.std.proofs.lemmas.List.Sums.{sum_by-append}
 use Rattle.record_fields.specs.declared.records.Sealed.{Sealed}
 use Rattle.journal.specs.declared.faults.StoreFault.TheVariants as store
+use Rattle.record_codec.specs.declared.entry.Entry.{Entry}
 use Rattle.shop_core.specs.History.{recs, noted}
 use Rattle.shop_core.specs.Items.{entries_of}
 use Rattle.shop_core.specs.declared.items.Item.{Item}
 use Rattle.agency_port.specs.declared.messages.Message.{Message}
 use Rattle.agency_port.specs.declared.turns.Told.{Told}
-use Rattle.once_world.specs.Outbox.{Sight, history_of}
+use Rattle.once_world.specs.Outbox.{AddsOwn, Sight, history_of}
 use Rattle.sender.specs.declared.answers.Turn.{Turn}
 use Rattle.sender.specs.declared.answers.Turn.TheVariants.{Idle, WaitUntil, Noted, Cleared, Doubt}
 use Rattle.sender.specs.declared.answers.SendFault.{SendFault}
@@ -27,7 +28,8 @@ use Rattle.sender.proofs.Drains.{told_split}
 use Rattle.sender.proofs.Growing.{Growth, growth_then, quiet_growth, ends_growth}
 use Rattle.sender.proofs.Sessions.{is_turn_growth}
 use Rattle.sender_session.specs.Steps.{Step, Standing, line_in, message_in, after_step, after_steps, AreSteps, GoesOnBehind}
-use Rattle.sender_session.proofs.Standing.{Did, Stands, ends_did, none_between, quiet_same}
+use Rattle.sender_session.proofs.Standing.{Did, Stands, ends_did, lasts, none_between, noted_count, noted_history, noted_records}
+use Rattle.sender_session.proofs.Standing.{quiet_same, stopped_history}
 
 pub steps_then : (st : Standing) (xs ys : List Step) → after_steps st (xs ++ ys) ≡ after_steps (after_steps st xs) ys
 steps_then st [] ys = refl
@@ -121,10 +123,26 @@ module _ (kind : AgencyKind) (exact : Bool) (records : List Sealed) (final : Sig
         kept = at.kept;
         now_is = λ e. turn.told e ∙ at.moment;
       } in
-      ends_did kind.tells exact records st scene.agency_state.ledger.messages then.agency_state.ledger.messages t.look then.sight t.shown
-      scene.sending then.sending turn.now stands
-      (λ grows own. quiet_same final base mine t.look then.sight (quiet_growth t.look then.sight grows own) rest own high long)
-      (λ thing o. none_between final base mine t.look then.sight thing rest high long o)
+      let between = λ (thing : List Item → Item) (o : AddsOwn t.look then.sight thing). none_between final base mine t.look then.sight
+      thing rest high long o in
+      let same_left : history_of then.sight ≡ history_of t.look → (length (noted (history_of then.sight)) ≡ st.noted + 0)
+      × (recs (history_of then.sight) ≡ records) = λ there. (
+        (let count = ap (λ (es : List Entry). length (noted es)) there in let base_count = stands.noted_is in
+            omega (arith, count, base_count)),
+        ap recs there ∙ stands.records_are,
+      ) in
+      ends_did (λ (es : List Entry). recs es ≡ records) kind.tells exact records st scene.agency_state.ledger.messages
+      then.agency_state.ledger.messages t.look then.sight t.shown scene.sending then.sending turn.now stands stands.records_are
+      (λ grows own. same_left (ap entries_of (quiet_same final base mine t.look then.sight (quiet_growth t.look then.sight grows own)
+      rest own high long)))
+      (λ lines a. (
+        (let there = noted_history t.look then.sight lines a (between _ a) in
+            let count = ap (λ (es : List Entry). length (noted es)) there ∙ noted_count (history_of t.look)
+            (length (noted (history_of t.look))) lines in let base_count = stands.noted_is in omega (arith, count, base_count)),
+        ap recs (noted_history t.look then.sight lines a (between _ a)) ∙ noted_records (history_of t.look)
+            (length (noted (history_of t.look))) lines ∙ stands.records_are,
+      ))
+      (λ lines a. same_left (stopped_history t.look then.sight lines a (between _ a.adds)))
       kind scene.agency_state then.agency_state t.deals.deed answer refl refl refl t.deals.dealt t.deals.ends
 
   -- and where the drain stands after it
@@ -137,9 +155,9 @@ module _ (kind : AgencyKind) (exact : Bool) (records : List Sealed) (final : Sig
       record {
         records_are = d.records_are;
         noted_is = d.noted_is;
-        doubt = d.doubt on;
-        pace = d.pace on;
-        kept = d.kept on;
+        doubt = d.doubt (lasts answer on);
+        pace = d.pace (lasts answer on);
+        kept = d.kept (lasts answer on);
         moment = turn.moment ∙ ap (λ (m : ℕ). moment_after m answer) at.moment ∙ d.moment;
         high = grown_high scene.sight then.sight g at.high;
         long = let len = ap length g.items_is in let app = length-append scene.sight.items g.items in let low = at.long in

@@ -1,7 +1,7 @@
 -- When the messages of a session contradict themselves.
-use Rattle.std.specs.Prelude.{◌≡◌, ◌⊎◌, ℕ, ◌+◌, List, [], ◌∷◌, ◌++◌, length, IsErrOf, Result, Ok, Err}
+use Rattle.std.specs.Prelude.{◌≡◌, ◌⊎◌, ◌+◌, List, [], ◌∷◌, ◌++◌, length, IsErrOf, Result, Ok, Err}
 use Rattle.record_codec.specs.declared.entry.Entry.{Entry}
-use Rattle.batches.specs.Batches.{huellas_of}
+use Rattle.batches.specs.Batches.{Named, huellas_of}
 use Rattle.shop_core.specs.History.{noted, waiting}
 use Rattle.agency_port.specs.Sessions.{kept_reply}
 use Rattle.agency_port.specs.declared.answers.Seen.{Seen}
@@ -17,11 +17,11 @@ use Rattle.sender.specs.declared.answers.DrainFault.TheVariants as drain
 -- answered shows this contradiction with the reply that is kept of the session's messages before it.
 pub record ShowsLast (entries : List Entry) (past messages : List Message) (evidence : Evidence) : Type 0 where
   pub before : List Message
-  pub huellas : List (List ℕ)
+  pub named : Named
   pub seen : List Seen
-  pub is : messages ≡ (past ++ before) ++ Consulted huellas (Ok seen) ∷ []
-  pub asked : IsPrefix huellas (huellas_of (waiting entries))
-  pub shows : Shows (kept_reply before) (length (noted entries) + 1) huellas seen (Err evidence)
+  pub is : messages ≡ (past ++ before) ++ Consulted named (Ok seen) ∷ []
+  pub asked : IsPrefix named.huellas (huellas_of (waiting entries))
+  pub shows : Shows (kept_reply before) (length (noted entries) + 1) named.huellas seen (Err evidence)
 
 -- it shows none, whatever the history
 abbrev pub ShowsNothing : List Message → List Message → Type 0

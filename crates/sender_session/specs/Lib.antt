@@ -3,3 +3,4 @@ pub mod Steps
 pub mod Noting
 pub mod Contradictions
 pub mod Session
+pub mod Sessions

@@ -4,7 +4,7 @@ use Rattle.std.specs.Prelude.{not, ◌&&◌, if◌then◌else◌, ⊤, Option, S
 use Rattle.std.specs.List.{list_any}
 use Rattle.record_fields.specs.declared.records.Sealed.{Sealed}
 use Rattle.record_fields.specs.declared.lines.Line.{Line}
-use Rattle.batches.specs.Batches.{huellas_of}
+use Rattle.batches.specs.Batches.{Named, named_of}
 use Rattle.record_codec.specs.declared.entry.Entry.{Entry}
 use Rattle.record_codec.specs.declared.entry.Entry.TheVariants.{Notes}
 use Rattle.shop_core.specs.History.{recs, noted}
@@ -34,24 +34,30 @@ lines_said (Begun plan pairs) = []
 lines_said (Submitted batch (Ok reply)) =
     if is_reply_to reply batch && not (list_any is_again reply.lines) then filter_map new_line reply.lines else []
 lines_said (Submitted batch (Err why)) = []
-lines_said (Consulted huellas (Ok seen)) = lines_in_front seen
-lines_said (Consulted huellas (Err why)) = []
+lines_said (Consulted asked (Ok seen)) = lines_in_front seen
+lines_said (Consulted asked (Err why)) = []
 
 -- one message after another
 abbrev pub all_said : List Message → List Line
 all_said messages = flat_map lines_said messages
 
+-- a consultation asks for the first of these records, each by its Huella and its id
+pub record AsksForFirst (records : List Sealed) (asked : Named) : Type 0 where
+  pub batch : List Sealed
+  pub first : IsPrefix batch records
+  pub is : asked ≡ named_of batch
+
 -- the message hands over the first of these records, or asks for them
 abbrev pub IsOfFirst : List Sealed → Message → Type 0
 IsOfFirst records (Begun plan pairs) = ⊥
 IsOfFirst records (Submitted batch answer) = IsPrefix batch records
-IsOfFirst records (Consulted huellas answer) = IsPrefix huellas (huellas_of records)
+IsOfFirst records (Consulted asked answer) = AsksForFirst records asked
 
 -- how many records it names
 abbrev pub count_named : Message → ℕ
 count_named (Begun plan pairs) = 0
 count_named (Submitted batch answer) = length batch
-count_named (Consulted huellas answer) = length huellas
+count_named (Consulted asked answer) = length asked.huellas
 
 -- each message is of the first records that wait, and says a line for no more of them than it names: this many lines are noted
 -- before the first message, and after each one those that it says

@@ -76,7 +76,7 @@ FailsEightTimes old new answer = (noted_count records_count : ℕ) →
 abbrev pub is_link_fault : Message → Bool
 is_link_fault (Submitted batch (Ok reply)) = not (is_reply_to reply batch)
 is_link_fault (Submitted batch (Err agency.Failed)) = true
-is_link_fault (Consulted huellas (Err agency.Failed)) = true
+is_link_fault (Consulted asked (Err agency.Failed)) = true
 is_link_fault _ = false
 
 -- The drain after the tills gave up: after what was said before it, this many of its messages are faults of the link, the last

@@ -4,7 +4,7 @@ use Rattle.std.specs.Prelude.{filter_map, count_by, Bool, true, false, IsTrue, �
 use Rattle.std.specs.List.{AllByRecursion}
 use Rattle.record_fields.specs.declared.records.Sealed.{Sealed}
 use Rattle.record_fields.specs.declared.lines.Line.{Line}
-use Rattle.batches.specs.Batches.{huellas_of}
+use Rattle.batches.specs.Batches.{Named, named_of}
 use Rattle.pacing.specs.Pace.{is_due, due_at}
 use Rattle.pacing.specs.declared.pace.Pace.{Pace}
 use Rattle.journal.specs.declared.faults.StoreFault.{StoreFault}
@@ -87,9 +87,9 @@ handing st = record {
 abbrev pub after_message : Standing → Message → Standing
 after_message st (Begun plan pairs) = st
 after_message st (Submitted batch answer) = with_reply (handing st) (named_reply batch answer)
-after_message st (Consulted huellas (Ok seen)) =
+after_message st (Consulted asked (Ok seen)) =
     record { noted = st.noted; doubt = st.doubt; pace = st.pace; said = None; moment = st.moment }
-after_message st (Consulted huellas (Err why)) = st
+after_message st (Consulted asked (Err why)) = st
 
 -- the lines that a turn noted
 abbrev pub noted_in : Told → ℕ
@@ -183,7 +183,7 @@ IsConsultationLine st huellas (Ok seen) printed = IsSeenLine st huellas seen pri
 IsConsultationLine st huellas (Err agency.Failed) printed = printed ≡ told.Link
 IsConsultationLine st huellas (Err agency.NoMemory) printed = printed ≡ told.Memory
 
--- One step at this standing. In doubt the first waiting records are asked for; only out of doubt are they handed over, or is
+-- One step at this standing. In doubt the first waiting records are asked for, each by its Huella and its id; only out of doubt are they handed over, or is
 -- there a wait. And where the sleeper tells its moment, a submission is made only where one is due, and a wait only where none
 -- is, until the second when it will be.
 abbrev pub IsStep : Bool → List Sealed → Standing → Step → Type 0
@@ -191,8 +191,8 @@ IsStep exact records st (Waits at) = (st.doubt ≡ false) × (st.noted < length 
     × (IsTrue exact → (is_due st.pace st.moment (count_waiting records st) ≡ false) × (at ≡ due_at st.pace))
 IsStep exact records st (Says (Submitted batch answer) printed) = (st.doubt ≡ false) × (batch ≡ next_batch records st)
     × (IsTrue exact → is_due st.pace st.moment (count_waiting records st) ≡ true) × IsSubmissionLine st batch answer printed
-IsStep exact records st (Says (Consulted huellas answer) printed) = (st.doubt ≡ true)
-    × (huellas ≡ huellas_of (next_batch records st)) × IsConsultationLine st huellas answer printed
+IsStep exact records st (Says (Consulted asked answer) printed) = (st.doubt ≡ true)
+    × (asked ≡ named_of (next_batch records st)) × IsConsultationLine st asked.huellas answer printed
 IsStep exact records st (Says (Begun plan pairs) printed) = ⊥
 IsStep exact records st LacksMemory = ⊤
 
@@ -222,10 +222,10 @@ pub record EndsSaying (last : List Step) (line : Told) : Type 0 where
 
 -- the last step is a consultation that shows this contradiction
 pub record EndsContrary (st : Standing) (last : List Step) (evidence : Evidence) : Type 0 where
-  pub huellas : List (List ℕ)
+  pub named : Named
   pub seen : List Seen
-  pub is : last ≡ Says (Consulted huellas (Ok seen)) told.Contradiction ∷ []
-  pub shows : ShowsHere st huellas seen (Err evidence)
+  pub is : last ≡ Says (Consulted named (Ok seen)) told.Contradiction ∷ []
+  pub shows : ShowsHere st named.huellas seen (Err evidence)
 
 -- How a drain ends by its last step, which stands after those after which it went on, with this many link lines among them and
 -- this many lines noted at its end. Without memory a step may be left untold.

@@ -1,6 +1,8 @@
 //! The turns of a sender, one after another, until it is told to stop.
-ghost use Rattle.std.specs.Prelude.{◌≡◌};
+ghost use Rattle.std.specs.Prelude.{◌≡◌, ◌⊎◌, max};
+ghost use Rattle.sender.specs.Draining.{scene_of};
 ghost use Rattle.sender_session.specs.Kinds.{agency_state_of, agency_kind};
+ghost use Rattle.sender_session.specs.Sessions.{RestsTo, StepsBeside};
 ghost use Rattle.sender_session.specs.Session.{IsUndelivered, SendsOn, sending_end};
 
 use crate::means::Means;
@@ -16,7 +18,9 @@ const RESTS: u32 = 40;
 
 // Sleeps towards this second in short rests, and looks at `stop` between them: tills that have ended wait for no second that
 // their sender alone waits for. Rests that leave the second as it was are those of a sleeper that leaps, which is asked to.
-fn sleep<R: Wait, Z: Sleeper>(rt: &R, sleeper: &mut Z, at: u64, stop: &AtomicBool) {
+fn sleep<R: Wait, Z: Sleeper>(rt: &R, sleeper: &mut Z, at: u64, stop: &AtomicBool)
+    ensures { (Z.moment sleeper.new ≡ max (Z.moment sleeper.old) at) ⊎ (Z.moment sleeper.new ≡ Z.moment sleeper.old) }
+{
     let begun = sleeper.now();
     for _ in 0..RESTS {
         if stop.load(Ordering::SeqCst) || sleeper.now() >= at {
@@ -36,7 +40,9 @@ fn pause<R: Wait, T: Gate, Z: Sleeper>(
     sleeper: &mut Z,
     stop: &AtomicBool,
     answer: &Result<Turn, SendFault>,
-) {
+)
+    ensures { RestsTo (Z.moment sleeper.old) (Z.moment sleeper.new) answer.now }
+{
     match answer {
         Ok(Turn::Noted { n }) => means.gate.noted(means.rt, *n),
         Ok(Turn::WaitUntil(at)) => sleep(means.rt, sleeper, *at, stop),
@@ -69,6 +75,9 @@ fn one_turn<R: Wait, T: Gate, O: Outbox, G: Agency, Z: Sleeper>(
     ensures fixed { O.fixed outbox.new ≡ O.fixed outbox.old }
     ensures sends { SendsOn (agency_kind G.Agency) (O.sight outbox.old) (O.sight outbox.new)
         (agency_state_of G.Agency agency.old) (agency_state_of G.Agency agency.new) sender.old sender.new result }
+    ensures steps { StepsBeside (agency_kind G.Agency) Z.tells
+        (scene_of (agency_state_of G.Agency agency.old) (O.sight outbox.old) sender.old (Z.moment sleeper.old))
+        (scene_of (agency_state_of G.Agency agency.new) (O.sight outbox.new) sender.new (Z.moment sleeper.new)) result }
     ensures never { IsUndelivered result → ⊥ }
 {
     what_came_beside_is_records();
@@ -90,6 +99,11 @@ pub fn send_until<R: Wait, T: Gate, O: Outbox, G: Agency, Z: Sleeper>(
     ensures fixed { O.fixed outbox.new ≡ O.fixed outbox.old }
     ensures sends { SendsOn (agency_kind G.Agency) (O.sight outbox.old) (O.sight outbox.new)
         (agency_state_of G.Agency agency.old) (agency_state_of G.Agency agency.new) sender.old sender.new result }
+
+    // Each turn is a step, over the records of its own look, at a second of the sleeper.
+    ensures steps { StepsBeside (agency_kind G.Agency) Z.tells
+        (scene_of (agency_state_of G.Agency agency.old) (O.sight outbox.old) sender.old (Z.moment sleeper.old))
+        (scene_of (agency_state_of G.Agency agency.new) (O.sight outbox.new) sender.new (Z.moment sleeper.new)) result }
 
     // However often the link fails, it doesn't give up.
     ensures never { IsUndelivered result → ⊥ }

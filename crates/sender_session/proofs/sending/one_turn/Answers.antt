@@ -1,8 +1,11 @@
-use Rattle.std.proofs.Common.{inl, inr, sym, subst, Result}
+use Rattle.std.proofs.Common.{◌≡◌, ℕ, inl, inr, sym, subst, Result}
+use Rattle.sender.specs.Draining.{scene_of}
 use Rattle.sender.specs.declared.answers.DrainFault.{DrainFault}
 use Rattle.sender_session.specs.Kinds.{agency_state_of, agency_kind}
 use Rattle.sender_session.specs.Session.{IsUndelivered, SendsOn}
+use Rattle.sender_session.specs.Sessions.{RestsTo, StepsBeside}
 use Rattle.sender_session.proofs.Clear.{turn_before}
+use Rattle.sender_session.proofs.Closings.{one_steps}
 use Rattle.sender_session.proofs.Contrary.{turn_answers, turn_shows}
 use Rattle.sender_session.proofs.Noting.{turn_notes}
 use Rattle.sender_session.proofs.Stops.{is_disk_fault}
@@ -58,6 +61,20 @@ returns-clause-sends g c =
         gave_up = λ is. absurd (never_gives_up answer is.0 is.1 is.2);
       };
     })
+
+pub returns-clause-steps : goal.returns-clause-steps
+returns-clause-steps g c =
+    let kind = agency_kind g.G.Agency in
+    let moment = g.Z.Sleeper.moment in
+    let Scened : ℕ → ℕ → Result (Unit {0}) DrainFault → Type 0 = λ m n r. StepsBeside kind g.Z.Sleeper.tells
+    (scene_of (agency_state_of g.G.Agency c.args.agency.now) (g.O.Outbox.sight c.args.outbox.now) c.args.sender.now m)
+    (scene_of (agency_state_of g.G.Agency c.turn-answer.new.agency) (g.O.Outbox.sight c.turn-answer.new.outbox) c.turn-answer.new.self n)
+    r in
+    let same : moment c.now-now.new.self ≡ moment c.args.sleeper.now = c.now-now.ensures.same in
+    subst (λ (r : Result (Unit {0}) DrainFault). Scened (moment c.args.sleeper.now) (moment c.pause.new.sleeper) r) (sym c.going_on.ensures)
+    (one_steps c.what_came_beside_is_records.ensures.quiet c.what_came_beside_is_records.ensures.own kind g.Z.Sleeper.tells _ _
+    c.now-now.result c.turn-answer.result c.now-now.ensures.told c.turn-answer.ensures.turned
+    (subst (λ (m : ℕ). RestsTo m (moment c.pause.new.sleeper) c.turn-answer.result) same c.pause.ensures))
 
 pub returns-clause-never : goal.returns-clause-never
 returns-clause-never g c = λ is.

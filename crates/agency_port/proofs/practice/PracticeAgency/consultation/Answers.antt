@@ -7,9 +7,9 @@ use Rattle.agency_port.proofs.practice.PracticeAgency.consultation.Goals as goal
 pub returns-in-Ok : goal.returns-in-Ok
 returns-in-Ok c =
     let a = c.args.self.now in
-    let huellas = c.args.huellas.now in
-    row_of c.in-Ok.answer (consultation_answer a huellas) a c.try_consultation.new.self (consulted a huellas)
-    c.in-Ok.ensures.said (never_memory a huellas) c.in-Ok.ensures.ok
+    let asked = c.args.huellas.now in
+    row_of c.in-Ok.answer (consultation_answer a asked.huellas) a c.try_consultation.new.self (consulted a asked)
+    c.in-Ok.ensures.said (never_memory a asked.huellas) c.in-Ok.ensures.ok
 
 pub returns-in-Err : goal.returns-in-Err
 returns-in-Err c =

@@ -2,7 +2,7 @@ use Rattle.std.proofs.Common.{arith, ◌≡◌, ◌∙◌, sym, ap, refl, Ok, Er
 use Rattle.std.proofs.lemmas.List.{length-map}
 use Rattle.record_fields.specs.declared.records.Sealed.{Sealed}
 use Rattle.record_fields.specs.declared.lines.Line.{Line}
-use Rattle.batches.specs.Batches.{huellas_of}
+use Rattle.batches.specs.Batches.{Named, huellas_of, named_of}
 use Rattle.agency_port.specs.declared.answers.AgencyFault.TheVariants as agency
 use Rattle.sender.specs.Sending.{Sending}
 use Rattle.sender.specs.Turning.{first_place}
@@ -15,20 +15,20 @@ pub consult-requires-clause-few : goal.consult-requires-clause-few
 consult-requires-clause-few g c =
     let n = counts _ c.args.shown.now c.requires.look in
     let few = n.few in
-    let e = ap length c.in_ok-huellas.ensures.huellas in
+    let e = ap (λ (n : Named). length n.huellas) c.in_ok-huellas.ensures in
     let s = ap length c.as_slice-records.ensures in
     omega (arith, length-map c.as_slice-records.result.now (λ (s : Sealed). s.huella))
 
 pub returns-in-Err-Failed-clause-ends : goal.returns-in-Err-Failed-clause-ends
-returns-in-Err-Failed-clause-ends g c = λ now. asked_deal _ _ _ _ _ _ _ _ _ _ c.in_ok-huellas.huellas.huellas c.consult.result
+returns-in-Err-Failed-clause-ends g c = λ now. asked_deal _ _ _ _ _ _ _ _ _ _ c.in_ok-huellas.huellas c.consult.result
     (Err agency.Failed) c.requires.look c.requires.doubt
-    (c.in_ok-huellas.ensures.huellas ∙ ap huellas_of c.as_slice-records.ensures) (c.in-Err-Failed.is ∙ ap Err c.in-Err-Failed.field-0-is)
+    (c.in_ok-huellas.ensures ∙ ap named_of c.as_slice-records.ensures) (c.in-Err-Failed.is ∙ ap Err c.in-Err-Failed.field-0-is)
     c.consult.ensures.cause c.consult.ensures.lists c.consult.ensures.rules (refl, refl, refl)
 
 pub returns-in-Err-NoMemory-clause-ends : goal.returns-in-Err-NoMemory-clause-ends
-returns-in-Err-NoMemory-clause-ends g c = λ now. asked_deal _ _ _ _ _ _ _ _ _ _ c.in_ok-huellas.huellas.huellas c.consult.result
+returns-in-Err-NoMemory-clause-ends g c = λ now. asked_deal _ _ _ _ _ _ _ _ _ _ c.in_ok-huellas.huellas c.consult.result
     (Err agency.NoMemory) c.requires.look c.requires.doubt
-    (c.in_ok-huellas.ensures.huellas ∙ ap huellas_of c.as_slice-records.ensures) (c.in-Err-NoMemory.is ∙
+    (c.in_ok-huellas.ensures ∙ ap named_of c.as_slice-records.ensures) (c.in-Err-NoMemory.is ∙
     ap Err c.in-Err-NoMemory.field-0-is) c.consult.ensures.cause c.consult.ensures.lists c.consult.ensures.rules
     (refl, refl, refl)
 
@@ -45,15 +45,15 @@ learn-requires-clause-room g c =
 pub returns-in-Err-clause-ends : goal.returns-in-Err-clause-ends
 returns-in-Err-clause-ends g c = λ now.
     let records = c.as_slice-records.ensures in
-    let hs = c.in_ok-huellas.ensures.huellas ∙ ap huellas_of records in
-    asked_deal _ _ _ _ _ _ _ _ _ _ c.in_ok-huellas.huellas.huellas c.consult.result (Ok c.in-Ok.seen) c.requires.look c.requires.doubt
+    let hs = c.in_ok-huellas.ensures ∙ ap named_of records in
+    asked_deal _ _ _ _ _ _ _ _ _ _ c.in_ok-huellas.huellas c.consult.result (Ok c.in-Ok.seen) c.requires.look c.requires.doubt
     hs c.in-Ok.is c.consult.ensures.cause c.consult.ensures.lists c.consult.ensures.rules
     (seen_none c.args.self.now (record {
       doubt = c.self.inside.in_doubt;
       pace = c.self.inside.at_pace;
       said = c.take-said.new.self;
     }) c.args.shown.now c.in-Ok.seen _ c.in-Err.fault
-    (c.in-Ok.ensures.count ∙ ap length hs ∙ length-map c.args.shown.now.list (λ (s : Sealed). s.huella))
+    (c.in-Ok.ensures.count ∙ ap (λ (n : Named). length n.huellas) hs ∙ length-map c.args.shown.now.list (λ (s : Sealed). s.huella))
     (ap (λ (s : Sending). s.pace) c.self.view_is) c.take-said.ensures.after (ap (λ (s : Sending). s.doubt) c.self.view_is ∙
     c.requires.doubt)
     (same_learns c.take-said.result c.args.self.now.said (first_place c.args.shown.now) c.as_slice-records.result.now
@@ -63,14 +63,14 @@ returns-in-Err-clause-ends g c = λ now.
 pub returns-then-is_empty-clause-ends : goal.returns-then-is_empty-clause-ends
 returns-then-is_empty-clause-ends g c = λ now.
     let records = c.as_slice-records.ensures in
-    let hs = c.in_ok-huellas.ensures.huellas ∙ ap huellas_of records in
+    let hs = c.in_ok-huellas.ensures ∙ ap named_of records in
     let none : c.in-Ok-learn.lines ≡ [] = sym c.as_slice-in-Ok-learn.ensures ∙ no_lines c.as_slice-in-Ok-learn.result.now
     c.is_empty.result c.is_empty.ensures c.if-is_empty.true in
-    asked_deal _ _ _ _ _ _ _ _ _ _ c.in_ok-huellas.huellas.huellas c.consult.result (Ok c.in-Ok.seen) c.requires.look c.requires.doubt
+    asked_deal _ _ _ _ _ _ _ _ _ _ c.in_ok-huellas.huellas c.consult.result (Ok c.in-Ok.seen) c.requires.look c.requires.doubt
     hs c.in-Ok.is c.consult.ensures.cause c.consult.ensures.lists c.consult.ensures.rules
     (seen_cleared c.args.self.now (record { doubt = false; pace = c.self.inside.at_pace; said = c.take-said.new.self })
     c.args.shown.now c.in-Ok.seen _ c.in-Ok-learn.lines
-    (c.in-Ok.ensures.count ∙ ap length hs ∙ length-map c.args.shown.now.list (λ (s : Sealed). s.huella))
+    (c.in-Ok.ensures.count ∙ ap (λ (n : Named). length n.huellas) hs ∙ length-map c.args.shown.now.list (λ (s : Sealed). s.huella))
     (ap (λ (s : Sending). s.pace) c.self.view_is) c.take-said.ensures.after refl none
     (same_learns c.take-said.result c.args.self.now.said (first_place c.args.shown.now) c.as_slice-records.result.now
     c.args.shown.now.list c.as_slice.result.now c.in-Ok.seen (Ok c.in-Ok-learn.lines)
@@ -82,7 +82,7 @@ note-requires-clause-few g c =
     let f = learnt_few c.in-Ok-learn.lines c.as_slice.result.now c.in-Ok-learn.ensures.0 in
     let a = ap length c.as_slice.ensures in
     let b = c.in-Ok.ensures.count in
-    let h = ap length c.in_ok-huellas.ensures.huellas in
+    let h = ap (λ (n : Named). length n.huellas) c.in_ok-huellas.ensures in
     let r = ap length c.as_slice-records.ensures in
     let l = ap length c.as_slice-in-Ok-learn-2.ensures in
     omega (arith, length-map c.as_slice-records.result.now (λ (s : Sealed). s.huella))
@@ -93,7 +93,7 @@ note-requires-clause-fits g c =
     let f = learnt_few c.in-Ok-learn.lines c.as_slice.result.now c.in-Ok-learn.ensures.0 in
     let a = ap length c.as_slice.ensures in
     let b = c.in-Ok.ensures.count in
-    let h = ap length c.in_ok-huellas.ensures.huellas in
+    let h = ap (λ (n : Named). length n.huellas) c.in_ok-huellas.ensures in
     let r = ap length c.as_slice-records.ensures in
     let l = ap length c.as_slice-in-Ok-learn-2.ensures in
     omega (arith, length-map c.as_slice-records.result.now (λ (s : Sealed). s.huella))
@@ -101,9 +101,9 @@ note-requires-clause-fits g c =
 pub returns-clause-ends : goal.returns-clause-ends
 returns-clause-ends g c = λ now.
     let records = c.as_slice-records.ensures in
-    let hs = c.in_ok-huellas.ensures.huellas ∙ ap huellas_of records in
+    let hs = c.in_ok-huellas.ensures ∙ ap named_of records in
     let lines = c.as_slice-in-Ok-learn-2.ensures in
-    asked_deal _ _ _ _ _ _ _ _ _ _ c.in_ok-huellas.huellas.huellas c.consult.result (Ok c.in-Ok.seen) c.requires.look c.requires.doubt
+    asked_deal _ _ _ _ _ _ _ _ _ _ c.in_ok-huellas.huellas c.consult.result (Ok c.in-Ok.seen) c.requires.look c.requires.doubt
     hs c.in-Ok.is c.consult.ensures.cause c.consult.ensures.lists c.consult.ensures.rules
     (seen_noted c.args.self.now (record {
       doubt = c.self.inside.in_doubt;
@@ -111,7 +111,7 @@ returns-clause-ends g c = λ now.
       said = c.take-said.new.self;
     }) c.note.new.self c.args.shown.now c.in-Ok.seen _ _ c.as_slice-in-Ok-learn-2.result.now
     c.note.result
-    (c.in-Ok.ensures.count ∙ ap length hs ∙ length-map c.args.shown.now.list (λ (s : Sealed). s.huella))
+    (c.in-Ok.ensures.count ∙ ap (λ (n : Named). length n.huellas) hs ∙ length-map c.args.shown.now.list (λ (s : Sealed). s.huella))
     (ap (λ (s : Sending). s.pace) c.self.view_is) c.take-said.ensures.after (ap (λ (s : Sending). s.doubt) c.self.view_is ∙
     c.requires.doubt)
     (subst (λ (ls : List Line). 1 ≤ length ls) (c.as_slice-in-Ok-learn.ensures ∙ sym lines)
@@ -120,7 +120,7 @@ returns-clause-ends g c = λ now.
     let f = learnt_few c.in-Ok-learn.lines c.as_slice.result.now c.in-Ok-learn.ensures.0 in
     let a = ap length c.as_slice.ensures in
     let b = c.in-Ok.ensures.count in
-    let h = ap length c.in_ok-huellas.ensures.huellas in
+    let h = ap (λ (n : Named). length n.huellas) c.in_ok-huellas.ensures in
     let r = ap length records in
     let l = ap length lines in
     omega (arith, length-map c.as_slice-records.result.now (λ (s : Sealed). s.huella)))
