@@ -8,7 +8,7 @@ use Rattle.record_codec.specs.declared.entry.Entry.{Entry}
 use Rattle.record_codec.specs.declared.entry.Entry.TheVariants.{Rec, Notes}
 use Rattle.journal.specs.declared.faults.StoreFault.{StoreFault}
 use Rattle.journal.specs.declared.faults.StoreFault.TheVariants.{DiskFault, Stopped, NoMemory}
-use Rattle.shop_core.specs.History.{recs, noted, waiting}
+use Rattle.shop_core.specs.History.{History, recs, noted, waiting}
 use Rattle.shop_core.specs.Items.{entries_of}
 use Rattle.shop_core.specs.declared.items.Item.{Item}
 use Rattle.shop_core.specs.declared.items.Item.TheVariants as recorded
@@ -93,6 +93,10 @@ plain_sight version issuer entries own = record {
       entries;
   own = own;
 }
+
+-- the same, by the history and the places of its own notes
+abbrev pub seen_of : History → List ℕ → Sight
+seen_of history own = plain_sight history.version history.issuer history.entries own
 
 -- the notes among these items, the first of which stands at this place, stand at places of its own
 abbrev pub AreOwnNotes : List ℕ → ℕ → List Item → Type 0

@@ -1,9 +1,11 @@
 //! A shop in memory alone, as its sender sees it.
-ghost use Rattle.std.specs.Prelude.{◌≡◌, ◌++◌, ◌∷◌, [], length, IfOk, OnOk, OnErr, ℕ, ◌<◌, All};
+ghost use Rattle.std.specs.Prelude.{◌≡◌, ◌↔◌, ◌++◌, ◌∷◌, [], length, IfOk, IfErr, IsErrOf, OnOk, OnErr, ℕ, ◌<◌, ◌≤◌, All};
 ghost use Rattle.record_codec.specs.declared.entry.Entry.TheVariants.{Notes};
-ghost use Rattle.shop_core.specs.History.{noted};
+ghost use Rattle.record_codec.specs.declared.entry.TheConstants.{MAX_NOTES};
+ghost use Rattle.shop_core.specs.History.{noted, waiting};
 ghost use Rattle.shop_core.specs.Legal.{AreNext, Continues};
-ghost use Rattle.once_world.specs.Outbox.{plain_sight};
+ghost use Rattle.journal.specs.declared.faults.StoreFault.TheVariants as store_fault;
+ghost use Rattle.once_world.specs.Outbox.{Grows, HasStopped, NotedBy, OwnWithin, ShowsWaiting, history_of, seen_of};
 
 use crate::Outbox;
 use journal::StoreFault;
@@ -102,11 +104,19 @@ impl Outbox for PlainOutbox {
 
     ghost fixed = { λ o. tt };
 
-    ghost sight = { λ o. plain_sight o.state.version o.state.issuer o.state.entries o.own.items };
+    ghost sight = { λ o. seen_of o.state o.own.items };
 
     ghost least = { λ o. length o.state.entries };
 
-    fn waiting<R: Wait>(&mut self, _rt: &R, alloc: Global, max: u16) -> Result<Waiting, NoMemory> {
+    /// Adds nothing.
+    fn waiting<R: Wait>(&mut self, _rt: &R, alloc: Global, max: u16) -> Result<Waiting, NoMemory>
+        ensures grows { Grows (seen_of self.old.state self.old.own.items) (seen_of self.new.state self.new.own.items) }
+        ensures covers { length self.old.state.entries ≤ length (seen_of self.new.state self.new.own.items).items }
+        ensures own { (seen_of self.new.state self.new.own.items).own ≡ (seen_of self.old.state self.old.own.items).own }
+        ensures within { OwnWithin (seen_of self.new.state self.new.own.items) }
+        ensures shows { IfOk result (ShowsWaiting (seen_of self.new.state self.new.own.items) max) }
+        ensures same { self.new ≡ self.old }
+    {
         self.state.is_legal();
         let list = self.state.waiting_records(alloc, max)?;
         Ok(Waiting {
@@ -116,7 +126,22 @@ impl Outbox for PlainOutbox {
         })
     }
 
-    fn note<R: Wait>(&mut self, _rt: &R, alloc: Global, lines: &[Line]) -> Result<(), StoreFault> {
+    /// Adds these lines behind the history, and fails for lack of memory alone, adding nothing.
+    fn note<R: Wait>(&mut self, _rt: &R, alloc: Global, lines: &[Line]) -> Result<(), StoreFault>
+        requires some { 1 ≤ length lines.now }
+        requires few { length lines.now ≤ MAX_NOTES }
+        requires fits { length lines.now ≤ length (waiting (history_of (seen_of self.old.state self.old.own.items))) }
+        ensures grows { Grows (seen_of self.old.state self.old.own.items) (seen_of self.new.state self.new.own.items) }
+        ensures within { OwnWithin (seen_of self.new.state self.new.own.items) }
+        ensures noted { NotedBy (seen_of self.old.state self.old.own.items) (seen_of self.new.state self.new.own.items) lines.now result }
+        ensures stopped { (faults : ℕ) → IsErrOf result (store_fault.Stopped faults) ↔ HasStopped (seen_of self.old.state self.old.own.items) (seen_of self.new.state self.new.own.items) faults }
+        ensures adds { OnOk result ((self.new.state.entries
+            ≡ self.old.state.entries ++ Notes (length (noted self.old.state.entries)) lines.now ∷ [])
+            × (self.new.own.items ≡ self.old.own.items ++ length self.old.state.entries ∷ [])) }
+        ensures kept { OnErr result ((self.new.state.entries ≡ self.old.state.entries)
+            × (self.new.own.items ≡ self.old.own.items)) }
+        ensures memory { IfErr result (λ fault. fault ≡ store_fault.NoMemory) }
+    {
         match self.add_notes(alloc, lines) {
             Ok(()) => {
                 self.state.is_legal();

@@ -63,7 +63,7 @@ impl World {
         ensures { result ≡ spec.empty issuer.now }
     {
         World {
-            state: State::empty(alloc, issuer, Version::Two),
+            state: State::empty(alloc, issuer, Version::NEWEST),
             processed: Pairs::new(alloc),
             sent: Batches::of(Vec::new(alloc)),
             up: true,

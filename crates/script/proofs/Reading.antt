@@ -7,6 +7,7 @@ use Rattle.std.proofs.Common.{◌&&◌, Vec, Global, IsUtf8}
 use Rattle.std.specs.BTreeMap.{btree_map_len}
 use Rattle.std.specs.Int.{IsInRange}
 use Rattle.std.specs.Option.{ok_or, option_or}
+use Rattle.std.specs.Result.{OnErr}
 use Rattle.std.specs.Str.{is_utf8}
 use Rattle.std.specs.Str.Parse.{digits_value}
 use Rattle.amounts.specs.Text.{whole_text}
@@ -636,3 +637,24 @@ first_bad form all front left after meanings line text w number read h e cut is 
 
 pub all_read : (all front left : List (List ℕ)) → all ≡ front ++ to_come left → left ≡ [] → front ≡ all
 all_read all front left split e = sym (split ∙ ap (λ (ls : List (List ℕ)). front ++ to_come ls) e ∙ append-nil front)
+
+-- What is known of the lines above goes by the customers' entries alone.
+pub same_known : {A E : Type 0} (r : Result A E) (read : SoFar) (customers : Customers) →
+    customers.by_key.entries ≡ read.customers.by_key.entries → OnErr r (known (record {
+      clock = read.clock;
+      customers = customers;
+      asks = read.asks;
+      verdicts = read.verdicts;
+      wait = read.wait;
+      fates = read.fates;
+    }) ≡ known read)
+same_known (Ok _) read customers h = tt
+same_known (Err _) read customers h = same_above _ (known read) (record {
+  clock = refl;
+  commands = refl;
+  customers = ap length h;
+  party = λ key. rw h refl;
+  verdicts = refl;
+  wait = refl;
+  fates = refl;
+})

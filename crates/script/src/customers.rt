@@ -1,5 +1,5 @@
 //! The customers of the lines above, by their keys.
-ghost use Rattle.std.specs.Prelude.{◌≡◌, ◌+◌, ℕ, List, None, Some, IfOk, OnOk, bytes_eq, option_copied, if◌then◌else◌};
+ghost use Rattle.std.specs.Prelude.{◌≡◌, ◌+◌, ℕ, List, None, Some, IfOk, OnErr, OnOk, bytes_eq, option_copied, if◌then◌else◌};
 ghost use Rattle.std.specs.BTreeMap.{get_by_text, btree_map_len};
 
 use crate::keys::Key;
@@ -43,6 +43,7 @@ impl Customers {
         ensures found { OnOk result ((other : List ℕ) → get_by_text self.new.by_key other
             ≡ (if bytes_eq key other then Some party else get_by_text self.old.by_key other)) }
         ensures count { OnOk result (btree_map_len self.new.by_key ≡ btree_map_len self.old.by_key + 1) }
+        ensures err { OnErr result (self.new.by_key.entries ≡ self.old.by_key.entries) }
     {
         self.by_key.insert(key.into_text(), party)?;
         Ok(())

@@ -18,7 +18,7 @@ pub struct Heard {
 }
 
 impl Heard {
-    ghost use Rattle.std.specs.Prelude.{◌≡◌, ◌++◌, [], List, IfOk, OnOk};
+    ghost use Rattle.std.specs.Prelude.{◌≡◌, ◌++◌, [], List, IfOk, OnErr, OnOk};
     ghost use Rattle.std.specs.Str.Lines.{strip_carriage_return};
     ghost use Rattle.script.specs.Heard.{IsIn, kept_in, known_of};
     ghost use Rattle.script.specs.Lines as spec;
@@ -43,11 +43,12 @@ impl Heard {
         line(alloc, form, &self.read, without_return(text))
     }
 
-    /// Keeps what a line said.
+    /// Keeps what a line said. Without memory all that was known stays so.
     pub fn keep(&mut self, meaning: Meaning) -> Result<(), NoMemory>
         requires { IsNew (known_of self.old) meaning }
-        ensures { (before : List AnyMeaning) → known_of self.old ≡ above_of before →
+        ensures ok { (before : List AnyMeaning) → known_of self.old ≡ above_of before →
             OnOk result (known_of self.new ≡ above_of (before ++ kept_in meaning)) }
+        ensures err { OnErr result (known_of self.new ≡ known_of self.old) }
     {
         if meaning.is_command() {
             return Ok(());

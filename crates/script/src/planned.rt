@@ -1,5 +1,5 @@
 //! What the lines plan for the practice agency. A table for each list tells whether a line stands above.
-ghost use Rattle.std.specs.Prelude.{◌≡◌, ◌++◌, ◌∷◌, [], OnOk, is_some};
+ghost use Rattle.std.specs.Prelude.{◌≡◌, ◌++◌, ◌∷◌, [], OnErr, OnOk, is_some};
 ghost use Rattle.agency_rules.specs.Judging.{verdict_for};
 ghost use Rattle.agency_rules.specs.Plans.{fate_at};
 
@@ -49,7 +49,8 @@ impl VerdictLines {
 
     /// One more.
     pub fn add(&mut self, verdict: PlannedVerdict) -> Result<(), NoMemory>
-        ensures { OnOk result (self.new ≡ self.old ++ verdict ∷ []) }
+        ensures ok { OnOk result (self.new ≡ self.old ++ verdict ∷ []) }
+        ensures err { OnErr result (self.new ≡ self.old) }
     {
         self.list.reserve(1)?;
         self.records.insert((verdict.num, verdict.n))?;
@@ -104,7 +105,8 @@ impl FateLines {
 
     /// One more.
     pub fn add(&mut self, fate: PlannedFate) -> Result<(), NoMemory>
-        ensures { OnOk result (self.new ≡ self.old ++ fate ∷ []) }
+        ensures ok { OnOk result (self.new ≡ self.old ++ fate ∷ []) }
+        ensures err { OnErr result (self.new ≡ self.old) }
     {
         self.list.reserve(1)?;
         self.calls.insert(fate.call)?;

@@ -1,5 +1,5 @@
 //! Scripts: what their lines say, or the first bad line.
-ghost use Rattle.std.specs.Prelude.{◌≡◌, ◌≤◌, ◌<◌, IfOk, ◌++◌, ◌∷◌, [], List, length, false};
+ghost use Rattle.std.specs.Prelude.{◌≡◌, ◌≤◌, ◌<◌, IfOk, OnErr, ◌++◌, ◌∷◌, [], List, length, false};
 ghost use Rattle.script.specs.SoFar.{IsSoFar, IsNew, Reads, known, script_kept};
 ghost use Rattle.script.specs.Planned.{IsPlanned};
 ghost use Rattle.script.specs.Lines.{is_command};
@@ -85,6 +85,7 @@ impl SoFar {
         requires { IsNew (known self.old) line }
         ensures reads { (lines : List AnyMeaning) → IsSoFar lines self.old → Reads (lines ++ line ∷ []) self.new result }
         ensures asks { is_command line ≡ false → self.new.asks ≡ self.old.asks }
+        ensures err { OnErr result (known self.new ≡ known self.old) }
     {
         match line {
             Meaning::Skip => Ok(()),

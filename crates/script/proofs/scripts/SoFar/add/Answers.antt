@@ -1,4 +1,4 @@
-use Rattle.script.proofs.Reading.{read_skip, read_clock, read_customer, read_command, read_verdict, read_wait, read_link}
+use Rattle.script.proofs.Reading.{read_skip, read_clock, read_customer, read_command, read_verdict, read_wait, read_link, same_known}
 use Rattle.script.proofs.scripts.SoFar.add.Goals as goal
 
 pub returns-in-Skip-clause-reads : goal.returns-in-Skip-clause-reads
@@ -21,7 +21,7 @@ returns-in_ok-add-in-Customer-clause-reads c = λ lines r.
 
 pub returns-in_ok-add-in-Verdict-clause-reads : goal.returns-in_ok-add-in-Verdict-clause-reads
 returns-in_ok-add-in-Verdict-clause-reads c = λ lines r. rw c.in-Verdict.is (read_verdict lines c.args.self.now c.in-Verdict.verdict
-    c.add-in-Verdict.new.self r c.in_ok-add-in-Verdict.ensures)
+    c.add-in-Verdict.new.self r c.in_ok-add-in-Verdict.ensures.ok)
 
 pub returns-in-Wait-clause-reads : goal.returns-in-Wait-clause-reads
 returns-in-Wait-clause-reads c = λ lines r. rw c.in-Wait.is (read_wait lines c.args.self.now c.in-Wait.seconds r
@@ -29,4 +29,7 @@ returns-in-Wait-clause-reads c = λ lines r. rw c.in-Wait.is (read_wait lines c.
 
 pub returns-in_ok-add-in-Link-clause-reads : goal.returns-in_ok-add-in-Link-clause-reads
 returns-in_ok-add-in-Link-clause-reads c = λ lines r. rw c.in-Link.is (read_link lines c.args.self.now c.in-Link.fate c.add-in-Link.new.self r
-    c.in_ok-add-in-Link.ensures)
+    c.in_ok-add-in-Link.ensures.ok)
+
+pub returns-in_err-add-in-Customer-clause-err : goal.returns-in_err-add-in-Customer-clause-err
+returns-in_err-add-in-Customer-clause-err c = same_known c.from_residual.result c.args.self.now c.add.new.self c.in_err-add-in-Customer.ensures.err
