@@ -12,7 +12,7 @@ use Rattle.journal.specs.declared.faults.StoreFault.{StoreFault}
 use Rattle.journal.specs.declared.faults.StoreFault.TheVariants.{DiskFault, Stopped, NoMemory}
 use Rattle.ports.specs.declared.faults.Failed.{Failed}
 use Rattle.recovery.specs.Opening.{IsDiskLost, IsLeftUnopened}
-use Rattle.recovery.specs.Opening.IsDiskLost.{not_synced, not_read, in_part}
+use Rattle.chain_store.specs.Opening.IsDiskLost.{not_synced, not_read, in_part}
 use Rattle.report.specs.declared.status.Detail.{Detail}
 use Rattle.report.specs.declared.status.Detail.TheVariants as detail
 use Rattle.shop_core.specs.declared.answer.Reply.{Reply}

@@ -32,9 +32,9 @@ use Rattle.shop_core.specs.declared.items.Item.{Item}
 use Rattle.till_calls.specs.Root.{Root}
 use Rattle.questions.specs.declared.questions.TillQuestion.{TillQuestion}
 use Rattle.dialogue_loop.specs.InARow.{AllRanOn, IsOfTill}
-use Rattle.dialogue_loop.specs.Looked.{AreLookedAt, LookedOn}
+use Rattle.dialogue_loop.specs.Looked.{AreLookedAt, LookedOn, RunsAt}
 use Rattle.dialogue_loop.proofs.InARow.{none_ran, shop_kept, size_kept}
-use Rattle.dialogue_loop.proofs.Looking.{looked_at_end, none_looked}
+use Rattle.dialogue_loop.proofs.Looking.{looked_at_end, none_looked, none_ran_at, run_at_end}
 use Rattle.dialogue_loop.specs.Speech.{AreRepliesOf, AsksOne, ComesFirst, Goes, HasAnswered, HasHeard, HearsFirst, clock_first, HearsNone, IsFirst, clock_with, FailedAtLast, HasReadPast, HasReadTo, HearsLine, IsAnswered, IsCause, IsEarly, IsRead, IsReadFault}
 use Rattle.dialogue_loop.specs.Speech.{AnswersNone, AnswersOne, IsReplied, IsWritten, KeepsRuns, Moment, CarriesOut, DialogueSoFar, Spoken, StopsAtLast}
 use Rattle.dialogue_loop.specs.Speech.{TookToLast, passed, sink_since}
@@ -144,9 +144,14 @@ tills_push (a ∷ asks) ask h t = (h.0, tills_push asks ask h.1 t)
 -- the looks of a dialogue whose tills know this at its end
 module _ {C : Type 0} (coming : C → ℕ → Option ℕ) (olds news : List (Known Item (Root C))) (size : length olds ≡ 64) where
   at_end : (asks : List Asked) (replies : Replies) (looks : List Looked) → AllRanOn coming asks replies olds news →
-      LookedOn replies looks news → AreLookedAt olds news replies looks
-  at_end asks replies looks ran looked = looked_at_end replies looks olds news (size_kept coming asks replies olds news ran ∙ size)
-      (shop_kept coming asks replies olds news ran) looked
+      LookedOn coming olds asks replies looks news → AreLookedAt olds news replies looks
+  at_end asks replies looks ran looked = looked_at_end coming asks replies looks olds news
+      (size_kept coming asks replies olds news ran ∙ size) (shop_kept coming asks replies olds news ran) looked
+
+  run_at : (asks : List Asked) (replies : Replies) (looks : List Looked) → AllRanOn coming asks replies olds news →
+      LookedOn coming olds asks replies looks news → RunsAt coming olds news asks replies looks
+  run_at asks replies looks ran looked =
+      run_at_end coming asks replies looks olds news (size_kept coming asks replies olds news ran ∙ size) looked
 
 -- A dialogue, one line further.
 module _ {C : Type 0} (coming : C → ℕ → Option ℕ) (clock : Option (ℕ × ℕ)) (from mid now : Moment) (old new : Listener)
@@ -170,7 +175,7 @@ module _ {C : Type 0} (coming : C → ℕ → Option ℕ) (clock : Option (ℕ �
     -- the line was heard, and this is its answer
     module _ (clock_now : Option (ℕ × ℕ)) (before : List Meaning) (asks : List Asked) (replies : Replies) (looks : List Looked)
         (more : List ℕ) (knows : SpeakerKnows new.speaker (next before asks replies looks more))
-        (clock_is : clock_said before ≡ clock_now) (ran : AllRanOn coming asks replies olds news) (looked : LookedOn replies looks news)
+        (clock_is : clock_said before ≡ clock_now) (ran : AllRanOn coming asks replies olds news) (looked : LookedOn coming olds asks replies looks news)
         (tills : AllByRecursion IsOfTill asks) (lacked_is : lacked_now ≡ list_any is_no_memory replies) where
       goes_on : AllGoOn replies → Wrote (sink_since mid now) more → DialogueSoFar coming clock_now from now new lacked_now olds news
       goes_on go w = record {
@@ -196,6 +201,7 @@ module _ {C : Type 0} (coming : C → ℕ → Option ℕ) (clock : Option (ℕ �
         clock_is = clock_is;
         ran = ran;
         looked = at_end coming olds news size asks replies looks ran looked;
+        run = run_at coming olds news size asks replies looks ran looked;
         tills = tills;
         lacked_is = lacked_is;
         read = read_at end late (read_to from.left now.left new.reader (said.lines ++ line_read.line ∷ []) line_read.read);
@@ -223,7 +229,7 @@ module _ {C : Type 0} (coming : C → ℕ → Option ℕ) (clock : Option (ℕ �
     -- a line that asks the tills for nothing, or a question
     answered : (clock_now : Option (ℕ × ℕ)) (before : List Meaning) (looks : List Looked) (more : List ℕ) (end : Option SpeechEnd) →
         SpeakerKnows new.speaker (next before said.asks said.replies looks more) → clock_said before ≡ clock_now → lacked_now ≡ lacked →
-        AllRanOn coming said.asks said.replies olds news → LookedOn said.replies looks news → IsAnswered (sink_since mid now) more end →
+        AllRanOn coming said.asks said.replies olds news → LookedOn coming olds said.asks said.replies looks news → IsAnswered (sink_since mid now) more end →
         Goes coming clock_now from now new lacked_now olds news end
     answered clock_now before looks more end knows clock_is same ran looked a = by_end end a
       where
@@ -248,7 +254,7 @@ module _ {C : Type 0} (coming : C → ℕ → Option ℕ) (clock : Option (ℕ �
         Goes coming clock_now from now new lacked_now olds news end
     written clock_now before more end knows clock_is same held a = answered clock_now before said.looks more end knows clock_is same
         (subst (λ (ks : List (Known Item (Root C))). AllRanOn coming said.asks said.replies olds ks) (sym held) so_far.ran)
-        (subst (λ (ks : List (Known Item (Root C))). LookedOn said.replies said.looks ks) (sym held) so_far.looked) a
+        (subst (λ (ks : List (Known Item (Root C))). LookedOn coming olds said.asks said.replies said.looks ks) (sym held) so_far.looked) a
 
     -- a command
     asked_for : (ask : Asked) (end : Option SpeechEnd) (on : AsksOn new.speaker said line_read.line ask) →
@@ -270,8 +276,8 @@ module _ {C : Type 0} (coming : C → ℕ → Option ℕ) (clock : Option (ℕ �
         ran : AllRanOn coming asks replies olds news
         ran = a.asks_on said.asks said.replies olds so_far.heard.so_far.pairs size so_far.ran
 
-        looked : LookedOn replies said.looks news
-        looked = a.looked said.replies said.looks so_far.looked
+        looked : LookedOn coming olds asks replies said.looks news
+        looked = a.looked olds said.asks said.replies said.looks so_far.heard.so_far.pairs so_far.looked
 
         tills : AllByRecursion IsOfTill asks
         tills = tills_push said.asks ask so_far.tills a.of_till
@@ -319,7 +325,8 @@ module _ {C : Type 0} (coming : C → ℕ → Option ℕ) (clock : Option (ℕ �
         by_end (Some how.ReadFault) w = absurd w
 
     -- a question for whose answer there was no memory
-    unanswered : lacked_now ≡ lacked → AllRanOn coming said.asks said.replies olds news → LookedOn said.replies said.looks news →
+    unanswered : lacked_now ≡ lacked → AllRanOn coming said.asks said.replies olds news →
+        LookedOn coming olds said.asks said.replies said.looks news →
         WroteNothing (sink_since mid now) → Spoken coming clock from now lacked_now olds news how.NoMemory
     unanswered same ran looked nothing = record {
       said = said;
@@ -328,6 +335,7 @@ module _ {C : Type 0} (coming : C → ℕ → Option ℕ) (clock : Option (ℕ �
       clock_is = so_far.clock_is;
       ran = ran;
       looked = at_end coming olds news size said.asks said.replies said.looks ran looked;
+      run = run_at coming olds news size said.asks said.replies said.looks ran looked;
       tills = so_far.tills;
       lacked_is = same ∙ so_far.lacked_is;
       read = read_past from.left now.left new.reader said.lines line_read.line line_read.read;
@@ -341,13 +349,13 @@ module _ {C : Type 0} (coming : C → ℕ → Option ℕ) (clock : Option (ℕ �
     -- a question
     looked_for : (asked : TillQuestion) (end : Option SpeechEnd) (on : LooksOn new.speaker said line_read.line asked) → lacked_now ≡ lacked →
         KeepsRuns coming mids news →
-        AnswersOne asked (sink_since mid now) mids news end ⊎ AnswersNone (sink_since mid now) mids news end →
+        AnswersOne coming asked (sink_since mid now) mids news end ⊎ AnswersNone coming (sink_since mid now) mids news end →
         Goes coming clock from now new lacked_now olds news end
     looked_for asked end on same keeps (inl a) =
         answered clock said.before (said.looks ++ look_at said a.history ∷ []) a.text end (on.so_far a.history a.text a.is) so_far.clock_is
-        same (keeps said.asks said.replies olds so_far.ran) (a.looked said.replies said.looks so_far.looked) a.written
+        same (keeps said.asks said.replies olds so_far.ran) (a.looked olds said.asks said.replies said.looks so_far.looked) a.written
     looked_for asked end on same keeps (inr a) = subst (λ (o : Option SpeechEnd). Goes coming clock from now new lacked_now olds news o)
-        (sym a.how) (unanswered same (keeps said.asks said.replies olds so_far.ran) (a.looked said.replies said.looks so_far.looked) a.nothing)
+        (sym a.how) (unanswered same (keeps said.asks said.replies olds so_far.ran) (a.looked olds said.asks said.replies said.looks so_far.looked) a.nothing)
 
   -- what a line asked for was done
   pub carried_out_so : (action : Action) (end : Option SpeechEnd) → mid.source_faults ≤ now.source_faults →
@@ -384,6 +392,7 @@ ended_early {C} coming clock from mid left faults old lacked olds mids so_far en
   clock_is = so_far.clock_is;
   ran = so_far.ran;
   looked = at_end coming olds mids size so_far.said.asks so_far.said.replies so_far.said.looks so_far.ran so_far.looked;
+  run = run_at coming olds mids size so_far.said.asks so_far.said.replies so_far.said.looks so_far.ran so_far.looked;
   tills = so_far.tills;
   lacked_is = so_far.lacked_is;
   read = read;
@@ -528,7 +537,7 @@ first_obeyed {C} coming from now new lacked_now olds news action end size first 
       heard = first.heard;
       clock_is = first.clock_none;
       ran = none_ran coming olds;
-      looked = none_looked olds;
+      looked = none_looked coming olds;
       tills = tt;
       go_on = tt;
       lacked_is = refl;
@@ -549,6 +558,7 @@ none_spoken {C} coming from now olds end h same later fault = record {
   clock_is = h.clock_none;
   ran = none_ran coming olds;
   looked = λ root log of_shop fit begins. record { rise = begins; told = tt };
+  run = none_ran_at coming olds olds;
   tills = tt;
   lacked_is = refl;
   read = h.read;

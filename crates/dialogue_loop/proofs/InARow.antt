@@ -1,5 +1,5 @@
 -- What the tills in a row know, one ask further.
-use Rattle.std.proofs.Common.{◌≡◌, ℕ, zero, suc, ◌+◌, ◌-◌, ◌<◌, ◌≤◌, ◌==◌, Bool, true, false, List, [], ◌∷◌, ◌++◌, length, map, get_or}
+use Rattle.std.proofs.Common.{◌≡◌, ◌⊎◌, inl, inr, ℕ, zero, suc, ◌+◌, ◌-◌, ◌<◌, ◌≤◌, ◌==◌, Bool, true, false, List, [], ◌∷◌, ◌++◌, length, map, get_or}
 use Rattle.std.proofs.Common.{refl, ap, sym, subst, ◌∙◌, arith, cond, Option, Some, Result, append-nil, length-append, slice_get, take, drop, max}
 use Rattle.std.specs.Prelude.{filter, reverse, zip}
 use Rattle.std.specs.List.{AllByRecursion, range_with_len}
@@ -23,7 +23,7 @@ use Rattle.till_calls.specs.Root.{Root}
 use Rattle.till_calls.specs.Shop.{Asks}
 use Rattle.till_calls.specs.Seen.{SeesOn}
 use Rattle.dialogue_loop.specs.InARow.{AllRan, AllRanOn, AllSeeOn, asks_of, replies_of}
-use Rattle.dialogue_loop.specs.Looked.{FirstInformed}
+use Rattle.dialogue_loop.specs.Looked.{Informed}
 use Rattle.dialogue_loop.proofs.Lists.{one_more}
 
 zip_push : (asks : List Asked) (replies : Replies) (ask : Asked) (reply : Result Reply StoreFault) →
@@ -226,17 +226,47 @@ module _ {C : Type 0} (coming : C → ℕ → Option ℕ) where
       AllRanOn coming asks replies olds news → (root : Root C) → AreOf root olds → AreOf root news
   shop_kept asks replies olds news h root same = seen_of root h.mids news h.since (ran_of asks replies root olds h.mids h.ran same)
 
--- the first till was told
+-- a till was told
 pub ran_informed : {C : Type 0} (coming : C → ℕ → Option ℕ) →
     ((old mid new : Known Item (Root C)) → SeesOn old mid → SeesOn mid new → SeesOn old new) → (asks : List Asked) (replies : Replies)
-    (olds mids news : List (Known Item (Root C))) (place : ℕ) → length mids ≡ 64 → FirstInformed mids place news →
+    (olds mids news : List (Known Item (Root C))) (by place : ℕ) → place < length mids → Informed mids by place news →
     AllRanOn coming asks replies olds mids → AllRanOn coming asks replies olds news
-ran_informed coming law asks replies olds [] news place size informed h = absurd (omega (arith, size))
-ran_informed {C} coming law asks replies olds (d ∷ mids) news place size informed h =
-    let first : Known Item (Root C) = get_or (d ∷ mids) 63 d in
-    let at : slice_get (d ∷ mids) 63 ≡ Some first = slice_get-get_or (d ∷ mids) 63 d (omega (arith, size)) in
+ran_informed coming law asks replies olds [] news by place within informed h = absurd (omega (arith, within))
+ran_informed {C} coming law asks replies olds (d ∷ mids) news by place within informed h =
+    let old : Known Item (Root C) = get_or (d ∷ mids) place d in
+    let at : slice_get (d ∷ mids) place ≡ Some old = slice_get-get_or (d ∷ mids) place d within in
     subst (λ (ks : List (Known Item (Root C))). AllRanOn coming asks replies olds ks) (sym informed.only)
-    (seen_on coming law asks replies olds (d ∷ mids) 63 first informed.now at (informed.sees first at) h)
+    (seen_on coming law asks replies olds (d ∷ mids) place old informed.now at (informed.sees old at) h)
+
+set_get : {A : Type 0} (xs : List A) (i j : ℕ) (x y : A) → slice_get (set xs i x) j ≡ Some y → ((j ≡ i) × (x ≡ y)) ⊎ (slice_get xs j ≡ Some y)
+set_get [] i j x y at = inr at
+set_get (z ∷ xs) zero zero x y at = inl (refl, (let e = at in cc))
+set_get (z ∷ xs) zero (suc j) x y at = inr at
+set_get (z ∷ xs) (suc i) zero x y at = inr at
+set_get (z ∷ xs) (suc i) (suc j) x y at = elim (set_get xs i j x y at) [
+  | inl h ↦ inl ((let e = h.0 in omega (arith, e)), h.1)
+  | inr h ↦ inr h
+]
+
+-- the till that the first one told knows of as many items
+pub informed_at : {R : Type 0} (olds : List (Known Item R)) (place : ℕ) (news : List (Known Item R)) (now : Known Item R) →
+    place < length olds → Informed olds 63 place news → slice_get news place ≡ Some now →
+    (first : Known Item R) → slice_get news 63 ≡ Some first → first.least ≤ now.least
+informed_at {R} olds place news now within h here first at =
+    let one : slice_get (set olds place h.now) place ≡ Some now =
+    subst (λ (ks : List (Known Item R)). slice_get ks place ≡ Some now) h.only here in
+    let two : slice_get (set olds place h.now) 63 ≡ Some first =
+    subst (λ (ks : List (Known Item R)). slice_get ks 63 ≡ Some first) h.only at in
+    let same : h.now ≡ now = (let e = sym (set_here olds place h.now within) ∙ one in cc) in
+    elim (set_get olds place 63 h.now first two) [
+      | inl x ↦ (let e = ap (λ (k : Known Item R). k.least) (sym x.1 ∙ same) in omega (arith, e))
+      | inr x ↦ (let a = h.as_many first x in let e = ap (λ (k : Known Item R). k.least) same in omega (arith, a, e))
+    ]
+  where
+    set_here : {A : Type 0} (xs : List A) (i : ℕ) (x : A) → i < length xs → slice_get (set xs i x) i ≡ Some x
+    set_here [] i x l = absurd (omega (arith, l))
+    set_here (y ∷ xs) zero x l = refl
+    set_here (y ∷ xs) (suc i) x l = set_here xs i x (omega (arith, l))
 
 -- what is at a place of a list that was mapped
 pub at_place : {A B : Type 0} (f : A → B) (xs : List A) (i : ℕ) (x : A) → i < length xs → x ≡ get_or xs i x →
@@ -245,12 +275,12 @@ at_place f xs i x within is = slice_get-get_or (map f xs) i (f x) (let e = lengt
     ap Some (get_or-map f xs i x (f x) within ∙ ap f (sym is))
 
 -- a till that tells itself nothing
-pub informed_self : {R : Type 0} (ks : List (Known Item R)) → length ks ≡ 64 → FirstInformed ks 63 ks
+pub informed_self : {R : Type 0} (ks : List (Known Item R)) → length ks ≡ 64 → Informed ks 63 63 ks
 informed_self [] size = absurd (omega (arith, size))
 informed_self (d ∷ ks) size = record {
   now = get_or (d ∷ ks) 63 d;
   only = sym (set-get_or (d ∷ ks) 63 d);
-  sees = λ first at. subst (λ (k : Known Item _). SeesOn k (get_or (d ∷ ks) 63 d)) (get_or_from_slice_get (d ∷ ks) 63 first d at)
+  sees = λ old at. subst (λ (k : Known Item _). SeesOn k (get_or (d ∷ ks) 63 d)) (get_or_from_slice_get (d ∷ ks) 63 old d at)
       (sees_self (get_or (d ∷ ks) 63 d));
   as_many = λ till at. let e : get_or (d ∷ ks) 63 d ≡ till = get_or_from_slice_get (d ∷ ks) 63 till d at in
       let f = ap (λ (k : Known Item _). k.least) e in omega (arith, f);
@@ -312,7 +342,7 @@ module _ {X : Type 0} (items others firsts : List X) (place : ℕ) (from from_no
 
   -- the till at a place told the first one
   pub informed_by : {R : Type 0} (knows : X → Known Item R) → knows from_now ≡ knows from → SeesOn (knows to) (knows to_now) →
-      (knows from).least ≤ (knows to_now).least → FirstInformed (map knows items) place (map knows changed)
+      (knows from).least ≤ (knows to_now).least → Informed (map knows items) place 63 (map knows changed)
   informed_by knows kept sees more = record {
     now = knows to_now;
     only = map-append knows (set others place from_now) (set firsts 0 to_now) ∙
@@ -326,6 +356,32 @@ module _ {X : Type 0} (items others firsts : List X) (place : ℕ) (from from_no
     as_many = λ till at.
         let here = at_place knows items place from (omega (arith, long, within)) from_at in
         subst (λ (k : Known Item _). k.least ≤ (knows to_now).least) (let e : knows from ≡ till = (let x = sym here ∙ at in cc) in e) more;
+  }
+
+  set_front : {B : Type 0} (xs ys : List B) (n : ℕ) (v : B) → n < length xs → set (xs ++ ys) n v ≡ set xs n v ++ ys
+  set_front [] ys n v l = absurd (omega (arith, l))
+  set_front (x ∷ xs) ys zero v l = refl
+  set_front (x ∷ xs) ys (suc n) v l = ap (λ (zs : List _). x ∷ zs) (set_front xs ys n v (omega (arith, l)))
+
+  -- the first one told it
+  pub informed_back : {R : Type 0} (knows : X → Known Item R) → knows to_now ≡ knows to → SeesOn (knows from) (knows from_now) →
+      (knows to).least ≤ (knows from_now).least → Informed (map knows items) 63 place (map knows changed)
+  informed_back knows kept sees more = record {
+    now = knows from_now;
+    only = map-append knows (set others place from_now) (set firsts 0 to_now) ∙
+        ap (λ (l : List _). l ++ map knows (set firsts 0 to_now)) (map-set knows others place from_now) ∙
+        ap (λ (l : List _). set (map knows others) place (knows from_now) ++ l) (map-set_same knows firsts 0 to_now to
+        (kept ∙ ap knows to_is)) ∙
+        sym (set_front (map knows others) (map knows firsts) place (knows from_now)
+        (let e = length-map others knows in omega (arith, e, size, within))) ∙
+        ap (λ (l : List _). set l place (knows from_now))
+        (sym (map-append knows others firsts) ∙ ap (λ (l : List X). map knows l) (sym parts));
+    sees = λ till at.
+        let here = at_place knows items place from (omega (arith, long, within)) from_at in
+        subst (λ (k : Known Item _). SeesOn k (knows from_now)) (let e : knows from ≡ till = (let x = sym here ∙ at in cc) in e) sees;
+    as_many = λ first at.
+        let here = at_place knows items 63 to (omega (arith, long)) to_at in
+        subst (λ (k : Known Item _). k.least ≤ (knows from_now).least) (let e : knows to ≡ first = (let x = sym here ∙ at in cc) in e) more;
   }
 
 -- the numbers of a whole row, the last one first

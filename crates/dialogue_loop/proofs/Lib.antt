@@ -1,5 +1,6 @@
 mod Lists
 mod InARow
 mod Bytewise
+pub mod OneRun
 mod Looking
 mod Dialogues

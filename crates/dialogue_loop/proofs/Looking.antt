@@ -1,16 +1,16 @@
 -- A dialogue's looks, one turn further.
 use Rattle.std.proofs.Common.{◌≡◌, ◌∙◌, ℕ, zero, suc, ◌+◌, ◌-◌, ◌<◌, ◌≤◌, List, [], ◌∷◌, ◌++◌, length, map, refl, ap, sym, subst, arith}
-use Rattle.std.proofs.Common.{Bool, true, false, Option, Some, None, Result, Ok, Err, append-nil, append_assoc, length-append, take, drop}
+use Rattle.std.proofs.Common.{Bool, true, false, cond, Option, Some, None, Result, Ok, Err, append-nil, append_assoc, length-append, take, drop}
 use Rattle.std.proofs.Common.{All, get_or, slice_get}
 use Rattle.std.proofs.Math.ListN.{set}
-use Rattle.std.proofs.Math.Seq.{take-add, take-append_seam, take-length}
-use Rattle.std.proofs.lemmas.List.{get_or_append_left, length-map, length-set, map-append, take-append-le}
+use Rattle.std.proofs.Math.Seq.{drop-append_seam, take-add, take-append_seam, take-length}
+use Rattle.std.proofs.lemmas.List.{get_or_append_left, length-map, length-set, take-append-drop, take-append-le}
 use Rattle.std.proofs.lemmas.List.Elements.{filter_map-append}
 use Rattle.std.proofs.lemmas.Option.{slice_get-get_or, slice_get_within}
 use Rattle.std.specs.List.{AllByRecursion, enumerate_from, find}
 use Rattle.std.specs.Prelude.{option_map}
 use Rattle.std.specs.Option.{option_map_or}
-use Rattle.chain_lock.specs.Known.{Fits, Known}
+use Rattle.chain_lock.specs.Known.{Fits, IsNew, Known}
 use Rattle.chain_lock.specs.Lists.{StartsWith}
 use Rattle.chain_store.specs.Replies.{Replies}
 use Rattle.dialogue.specs.Protocol.{Look}
@@ -23,7 +23,7 @@ use Rattle.shop_core.specs.Answer.Plans.{answer, kept, kept_row}
 use Rattle.shop_core.specs.Answer.Refusals.{refusal}
 use Rattle.shop_core.specs.Answer.Replies.{Tells}
 use Rattle.shop_core.specs.Answer.Requests.{Asked}
-use Rattle.shop_core.specs.History.{Row, receipt, recs, row_in, rows}
+use Rattle.shop_core.specs.History.{Row, receipt, recs, rows}
 use Rattle.shop_core.specs.Items.{entries_of, entry_in}
 use Rattle.shop_core.specs.declared.answer.Planned.{Planned}
 use Rattle.shop_core.specs.declared.answer.Planned.TheVariants as planned
@@ -38,8 +38,12 @@ use Rattle.questions.specs.Answers.{IsAnswer}
 use Rattle.questions.specs.declared.questions.TillQuestion.{TillQuestion}
 use Rattle.till_calls.specs.Seen.{Looks, SeesOn}
 use Rattle.till_calls.specs.Shop.{Asks}
+use Rattle.till_calls.specs.Turns.{TillDoes}
 use Rattle.shop_core.specs.declared.answer.refusals.Refusal.{Refusal}
-use Rattle.dialogue_loop.specs.Looked.{AreLooked, AreLookedAt, FirstInformed, FirstLooked, IsWithin, LookedFor, LookedOn, Rise, SeesTold, records_in}
+use Rattle.dialogue_loop.specs.Looked.{AreLooked, AreLookedAt, FirstLooked, Informed, IsWithin, LookedFor, LookedOn, Rise, RunKnown}
+use Rattle.dialogue_loop.specs.Looked.{RunsAt, SeesTold, items_at, records_in}
+use Rattle.dialogue_loop.specs.OneRun.{AnswersAmong, LooksAmong, RunsAmong, StandsAmong, is_taken, taken_in}
+use Rattle.dialogue_loop.proofs.OneRun.{none_runs, records_start, recs_both, reply_gains, runs_asked, runs_looked, runs_more}
 
 -- lists that begin with one another
 starts_trans : {A : Type 0} (a b c : List A) → StartsWith a b → StartsWith b c → StartsWith a c
@@ -55,16 +59,6 @@ entries_both xs ys = filter_map-append entry_in xs ys
 pub entries_start : (a b : List Item) → StartsWith a b → StartsWith (entries_of a) (entries_of b)
 entries_start a b h = (entries_of h.0, ap entries_of h.1 ∙ entries_both b h.0)
 
-recs_both : (a b : List Entry) → recs (a ++ b) ≡ recs a ++ recs b
-recs_both a b = ap (λ (l : List Row). map (λ (r : Row). r.sealed) l) (filter_map-append row_in a b) ∙
-    map-append (λ (r : Row). r.sealed) (rows a) (rows b)
-
-records_start : (a b : List Entry) → StartsWith a b → length (recs b) ≤ length (recs a)
-records_start a b h =
-    let e : length (recs a) ≡ length (recs b ++ recs h.0) = ap (λ (l : List Entry). length (recs l)) h.1 ∙ ap length (recs_both b h.0) in
-    let f = length-append (recs b) (recs h.0) in
-    omega (arith, e, f)
-
 entries_back : (es : List Entry) → entries_of (map item.Entry es) ≡ es
 entries_back [] = refl
 entries_back (e ∷ es) = ap (λ (l : List Entry). e ∷ l) (entries_back es)
@@ -79,6 +73,17 @@ records_more n m log h =
 
 take_front : (log seen : List Item) → StartsWith log seen → take (length seen) log ≡ seen
 take_front log seen h = ap (λ (l : List Item). take (length seen) l) h.1 ∙ take-append_seam seen h.0
+
+-- a front of a list begins with each shorter one
+both_fronts : (log a b : List Item) → StartsWith log a → StartsWith log b → length b ≤ length a → StartsWith a b
+both_fronts log a b h k low =
+    let e : take (length b) a ≡ b = sym (take-append-le (length b) a h.0 low) ∙ ap (λ (l : List Item). take (length b) l) (sym h.1) ∙
+    take_front log b k in
+    (drop (length b) a, sym (take-append-drop (length b) a) ∙ ap (λ (l : List Item). l ++ drop (length b) a) e)
+
+records_all : (n : ℕ) (log : List Item) → records_in n log ≤ length (recs (entries_of log))
+records_all n log = records_start (entries_of log) (entries_of (take n log))
+    (entries_start log (take n log) (drop n log, sym (take-append-drop n log)))
 
 within_more : (n m : ℕ) (told : Result Reply StoreFault) → n ≤ m → IsWithin n told → IsWithin m told
 within_more n m (Ok (reply.Taken r)) h w = omega (arith, h, w)
@@ -213,59 +218,104 @@ module _ {C : Type 0} where
   before_of (o ∷ olds) (n ∷ news) (suc place) new h at = let b = before_of olds news place new h.1 at in
       record { old = b.old; at = b.at; more = b.more }
 
+  -- a till that was told
+  pub informed_more : ((log : List Item) (old new : Pass C) → SeesOn old new → Fits log new → Fits log old) → (olds news : List (Pass C))
+      (by place : ℕ) → Informed olds by place news → place < length olds → AllMore olds news
+  informed_more law [] news by place informed within = absurd (omega (arith, within))
+  informed_more law (d ∷ ks) news by place informed within =
+      let old : Pass C = get_or (d ∷ ks) place d in
+      let at : slice_get (d ∷ ks) place ≡ Some old = slice_get-get_or (d ∷ ks) place d within in
+      subst (λ (l : List (Pass C)). AllMore (d ∷ ks) l) (sym informed.only)
+      (one_more (d ∷ ks) place old informed.now at (more_seen law old informed.now (informed.sees old at)))
+
+  roots_more : (olds news : List (Pass C)) (root : Root C) → AllMore olds news →
+      AllByRecursion (λ (k : Pass C). k.root ≡ Some root) olds → AllByRecursion (λ (k : Pass C). k.root ≡ Some root) news
+  roots_more [] [] root h r = tt
+  roots_more [] (new ∷ news) root h r = absurd h
+  roots_more (old ∷ olds) [] root h r = absurd h
+  roots_more (old ∷ olds) (new ∷ news) root h r = (h.0.root ∙ r.0, roots_more olds news root h.1 r.1)
+
+module _ {C : Type 0} (coming : C → ℕ → Option ℕ) (from : List (Pass C)) (asks : List Asked) where
   -- where all know more, the looks are as they were
-  module _ (replies : Replies) (looks : List Look) (olds news : List (Pass C)) (more : AllMore olds news) (h : LookedOn replies looks olds)
-      (first : Pass C) (at : slice_get news 63 ≡ Some first) where
+  module _ (replies : Replies) (looks : List Look) (olds news : List (Pass C)) (more : AllMore olds news)
+      (h : LookedOn coming from asks replies looks olds) (first : Pass C) (at : slice_get news 63 ≡ Some first) where
     was : Before olds 63 first
     was = before_of olds news 63 first more at
 
-    then : FirstLooked replies looks olds was.old
+    then : FirstLooked coming from asks replies looks olds was.old
     then = h was.old was.at
 
-    pub kept_first : FirstLooked replies looks news first
+    pub kept_first : FirstLooked coming from asks replies looks news first
     kept_first = record {
       rise = λ root list is starts begins. then.rise root list (sym was.more.root ∙ is)
           (starts_trans list first.seen was.old.seen starts was.more.begins) begins;
       told = λ log fit. then.told log (all_fit olds news log more fit);
       within = λ log fit. all_within_more (records_in was.old.least log) (records_in first.least log) replies
           (records_more was.old.least first.least log was.more.at_least) (then.within log (all_fit olds news log more fit));
+      run = λ root log fresh fit begins.
+          let k = then.run root log fresh (all_fit olds news log more fit) begins in
+          record {
+            roots = roots_more olds news root more k.roots;
+            least = (let a = k.least in let b = was.more.at_least in omega (arith, a, b));
+            runs = runs_more root.version root.issuer (coming root.clock) root.history (entries_of log) asks replies looks
+                (records_in was.old.least log) (records_in first.least log)
+                (records_more was.old.least first.least log was.more.at_least) k.runs;
+          };
     }
 
-  pub looked_kept : (replies : Replies) (looks : List Look) (olds news : List (Pass C)) → AllMore olds news → LookedOn replies looks olds →
-      LookedOn replies looks news
+  pub looked_kept : (replies : Replies) (looks : List Look) (olds news : List (Pass C)) → AllMore olds news →
+      LookedOn coming from asks replies looks olds → LookedOn coming from asks replies looks news
   looked_kept replies looks olds news more h = λ first at. kept_first replies looks olds news more h first at
-
-  -- one reply more: where it tells a record, that is one of those that the first till knows of
-  pub looked_told : (replies : Replies) (looks : List Look) (news : List (Pass C)) (told : Result Reply StoreFault) →
-      ((first : Pass C) (log : List Item) → slice_get news 63 ≡ Some first → AllByRecursion (Fits log) news →
-      IsWithin (records_in first.least log) told) → LookedOn replies looks news → LookedOn (replies ++ told ∷ []) looks news
-  looked_told replies looks news told is h = λ first at.
-      let t = h first at in
-      record {
-        rise = t.rise;
-        told = λ log fit. all_told_on replies told looks (t.told log fit);
-        within = λ log fit. all_push (IsWithin (records_in first.least log)) replies told (t.within log fit) (is first log at fit);
-      }
 
   -- one look more, of the first till: at the history of all that it has seen
   module _ (replies : Replies) (looks : List Look) (news : List (Pass C)) (now : Pass C) (at : slice_get news 63 ≡ Some now)
       (all : now.least ≡ length now.seen) (home : Root C) (is_home : now.root ≡ Some home)
-      (begins : StartsWith (entries_of now.seen) home.history) (h : LookedOn replies looks news) where
+      (begins : StartsWith (entries_of now.seen) home.history) (h : LookedOn coming from asks replies looks news) where
     abbrev look : Look
     look = record { after = length replies; history = entries_of now.seen }
+
+    all_seen : (log : List Item) → StartsWith log now.seen → take now.least log ≡ now.seen
+    all_seen log starts = ap (λ (n : ℕ). take n log) all ∙ take_front log now.seen starts
 
     seen_told : (log : List Item) → AllByRecursion (Fits log) news → SeesTold replies look
     seen_told log fit =
         let f = one_fits news 63 now log at fit in
         let t = h now at in
-        let e : take now.least log ≡ now.seen = ap (λ (n : ℕ). take n log) all ∙ take_front log now.seen f.begins in
+        let e : take now.least log ≡ now.seen = all_seen log f.begins in
         record {
           before = omega arith;
           within = subst (λ (rs : Replies). AllByRecursion (IsWithin (length (recs (entries_of now.seen)))) rs) (sym (take-length replies))
               (subst (λ (l : List Item). AllByRecursion (IsWithin (length (recs (entries_of l)))) replies) e (t.within log fit));
         }
 
-    first_looks : FirstLooked replies (looks ++ look ∷ []) news now
+    -- it stands behind all that was asked so far
+    look_stands : (root : Root C) (log : List Item) → AllByRecursion (Fits log) news → RunKnown coming asks replies looks news now root log →
+        LooksAmong root.history (entries_of log) replies (records_in now.least log) look
+    look_stands root log fit k =
+        let f = one_fits news 63 now log at fit in
+        let count : records_in now.least log ≡ length (recs (entries_of now.seen)) =
+        ap (λ (l : List Item). length (recs (entries_of l))) (all_seen log f.begins) in
+        let is : now.root ≡ Some root = one_of (λ (j : Pass C). j.root ≡ Some root) news 63 now at k.roots in
+        let same : home ≡ root = (let x = sym is_home ∙ is in cc) in
+        let none : drop (length replies) replies ≡ [] =
+        ap (λ (rs : Replies). drop (length replies) rs) (sym (append-nil replies)) ∙ drop-append_seam replies [] in
+        let es : List Entry = entries_of now.seen in
+        let stands : StandsAmong root.history (entries_of log) replies [] (records_in now.least log) es [] = record {
+          starts = subst (λ (r : Root C). StartsWith es r.history) same begins;
+          ends = subst (λ (l : List Entry). StartsWith (entries_of log) l) (sym (append-nil es)) (entries_start log now.seen f.begins);
+          no_fewer = (let a = k.runs.all in omega (arith, a, count));
+          no_more = (let e : length (recs (es ++ [])) ≡ length (recs es) = ap (λ (l : List Entry). length (recs l)) (append-nil es) in
+              omega (arith, e, count));
+        } in
+        record {
+          before = omega arith;
+          stands = subst (λ (rs : Replies). StandsAmong root.history (entries_of log) rs (drop (length replies) replies)
+              (records_in now.least log) es []) (sym (take-length replies))
+              (subst (λ (rs : Replies). StandsAmong root.history (entries_of log) replies rs (records_in now.least log) es [])
+              (sym none) stands);
+        }
+
+    first_looks : FirstLooked coming from asks replies (looks ++ look ∷ []) news now
     first_looks =
         let t = h now at in
         record {
@@ -275,10 +325,18 @@ module _ {C : Type 0} where
               (entries_start list now.seen starts);
           told = λ log fit. all_push (SeesTold replies) looks look (t.told log fit) (seen_told log fit);
           within = t.within;
+          run = λ root log fresh fit starts.
+              let k = t.run root log fresh fit starts in
+              record {
+                roots = k.roots;
+                least = k.least;
+                runs = runs_looked root.version root.issuer (coming root.clock) root.history (entries_of log) asks replies looks
+                    (records_in now.least log) look (look_stands root log fit k) k.runs;
+              };
         }
 
-    pub looked_more : LookedOn replies (looks ++ look ∷ []) news
-    looked_more = λ first is. subst (λ (k : Pass C). FirstLooked replies (looks ++ look ∷ []) news k)
+    pub looked_more : LookedOn coming from asks replies (looks ++ look ∷ []) news
+    looked_more = λ first is. subst (λ (k : Pass C). FirstLooked coming from asks replies (looks ++ look ∷ []) news k)
         (let e : now ≡ first = (let x = sym at ∙ is in cc) in e) first_looks
 
 -- the place of a receipt that is kept
@@ -346,6 +404,72 @@ reply_within entries gained (planned.Made (Rec till serial sealed)) told w h =
 reply_within entries gained (planned.Made (Notes first lines)) told w h = absurd h.0
 
 module _ {C : Type 0} (coming : C → ℕ → Option ℕ) (ask : Asked) where
+  -- Where a turn stands in a list: behind all that this many items have, and before all that is known then.
+  record TurnStands (told : Result Reply StoreFault) (root : Root C) (log : List Item) (replies : Replies) (known then : ℕ) : Type 0
+    where
+      up : records_in known log + cond (is_taken told) 1 0 ≤ then
+      answers : (reply : Reply) → told ≡ Ok reply → AnswersAmong root.version root.issuer (coming root.clock) root.history
+          (entries_of log) replies [] then ask reply
+
+  turn_stands : (told : Result Reply StoreFault) (old new : Known Item (Root C)) (root : Root C) (log : List Item) (replies : Replies)
+      (known then : ℕ) → Asks coming ask told old new → old.root ≡ Some root → StartsWith log new.seen → StartsWith log (items_at root) →
+      length root.history ≤ known → known ≤ old.least → length (recs root.history) + taken_in replies ≤ records_in known log →
+      records_in new.least log ≤ then → TurnStands told root log replies known then
+  turn_stands (Err e) old new root log replies known then t is starts begins base low all high = record {
+    up = (let a : new.least ≡ length (t.before ++ t.added) = ap (λ (k : Known Item (Root C)). k.least) t.after in
+        let b = length-append t.before t.added in let c = t.at_least in
+        let more = records_more known new.least log (omega (arith, a, b, c, low)) in omega (arith, more, high));
+    answers = λ reply is. absurd (let x = is in cc);
+  }
+  turn_stands (Ok told) old new root log replies known then t is starts begins base low all high =
+      let home : t.home ≡ root = (let x = sym t.root ∙ is in cc) in
+      let does : TillDoes coming ask (Ok told) root t.before (t.before ++ t.added) =
+      subst (λ (r : Root C). TillDoes coming ask (Ok told) r t.before (t.before ++ t.added)) home t.related.does in
+      let history : List Entry = does.history in
+      let after : List Entry = history ++ does.gained in
+      let saw : new.seen ≡ t.before ++ t.added = ap (λ (k : Known Item (Root C)). k.seen) t.after in
+      let seen : new.seen ≡ map item.Entry after = saw ∙ does.after_is in
+      let front : StartsWith log t.before = starts_trans log new.seen t.before starts (t.added, saw) in
+      let count : records_in (length t.before) log ≡ length (recs history) =
+      ap (λ (l : List Item). length (recs (entries_of l))) (take_front log t.before front ∙ does.going_on) ∙
+      ap (λ (l : List Entry). length (recs l)) (entries_back history) in
+      let long : new.least ≡ length new.seen = ap (λ (k : Known Item (Root C)). k.least) t.after ∙
+      ap (λ (k : Known Item (Root C)). length k.seen) (sym t.after) in
+      let count_after : records_in new.least log ≡ length (recs after) =
+      ap (λ (n : ℕ). records_in n log) long ∙ ap (λ (l : List Item). length (recs (entries_of l))) (take_front log new.seen starts ∙ seen) ∙
+      ap (λ (l : List Entry). length (recs l)) (entries_back after) in
+      let reach : known ≤ length t.before = (let a = t.at_least in omega (arith, a, low)) in
+      let more = records_more known (length t.before) log reach in
+      let gains = reply_gains history does.gained (answer root.version root.issuer history ask does.seconds) told does.tells in
+      let first : StartsWith t.before (items_at root) = both_fronts log t.before (items_at root) front begins
+      (let e = length-map root.history (λ (x : Entry). item.Entry x) in omega (arith, e, base, reach)) in
+      let begun : StartsWith history root.history =
+      subst (λ (l : List Entry). StartsWith l root.history) (ap entries_of does.going_on ∙ entries_back history)
+      (subst (λ (l : List Entry). StartsWith (entries_of t.before) l) (entries_back root.history)
+      (entries_start t.before (items_at root) first)) in
+      let ends : StartsWith (entries_of log) after =
+      subst (λ (l : List Entry). StartsWith (entries_of log) l) (ap entries_of seen ∙ entries_back after)
+      (entries_start log new.seen starts) in
+      record {
+        up = omega (arith, more, count, gains, count_after, high);
+        answers = λ reply is.
+            let same : told ≡ reply = (let x = is in cc) in
+            subst (λ (r : Reply). AnswersAmong root.version root.issuer (coming root.clock) root.history (entries_of log) replies []
+            then ask r) same (record {
+              history = history;
+              gained = does.gained;
+              stands = record {
+                starts = begun;
+                ends = ends;
+                no_fewer = omega (arith, all, more, count);
+                no_more = omega (arith, count_after, high);
+              };
+              seconds = does.seconds;
+              reading = (does.reading.number, does.reading.told);
+              tells = does.tells;
+            });
+      }
+
   -- what a till that asked knows more of
   pub more_asked : (told : Result Reply StoreFault) (old new : Known Item (Root C)) → Asks coming ask told old new → KnowsMore old new
   more_asked told old new t = record {
@@ -382,13 +506,22 @@ module _ {C : Type 0} (coming : C → ℕ → Option ℕ) (ask : Asked) where
       (reply_within does.history does.gained (answer root.version root.issuer does.history ask does.seconds) told
       (answer_within root.version root.issuer does.history ask does.seconds) does.tells)
 
-  -- one ask, of which the first till was told
+  -- one ask of a till that knows of as much as the first one, which was told of it
   pub looked_asked : ((log : List Item) (old new : Known Item (Root C)) → SeesOn old new → Fits log new → Fits log old) →
-      (replies : Replies) (looks : List Look) (told : Result Reply StoreFault) (olds news : List (Known Item (Root C))) (place : ℕ)
-      (old new : Known Item (Root C)) → length olds ≡ 64 → slice_get olds place ≡ Some old → Asks coming ask told old new →
-      FirstInformed (set olds place new) place news → LookedOn replies looks olds → LookedOn (replies ++ told ∷ []) looks news
-  looked_asked law replies looks told olds news place old new size at t informed h =
-      looked_told replies looks news told within (looked_kept replies looks olds news (all_trans olds asked news asking informing) h)
+      (from : List (Known Item (Root C))) (asks : List Asked) (replies : Replies) (looks : List Look) (told : Result Reply StoreFault)
+      (olds news : List (Known Item (Root C))) (place : ℕ) (old new : Known Item (Root C)) → length replies ≡ length asks →
+      length olds ≡ 64 → slice_get olds place ≡ Some old →
+      ((first : Known Item (Root C)) → slice_get olds 63 ≡ Some first → first.least ≤ old.least) → Asks coming ask told old new →
+      Informed (set olds place new) place 63 news → LookedOn coming from asks replies looks olds →
+      LookedOn coming from (asks ++ ask ∷ []) (replies ++ told ∷ []) looks news
+  looked_asked law from asks replies looks told olds news place old new even size at as_many t informed h = λ first is.
+      let k = kept first is in
+      record {
+        rise = k.rise;
+        told = λ log fit. all_told_on replies told looks (k.told log fit);
+        within = λ log fit. all_push (IsWithin (records_in first.least log)) replies told (k.within log fit) (within first log is fit);
+        run = λ root log fresh fit begins. ran first root log is fresh fit begins;
+      }
     where
       asked : List (Known Item (Root C))
       asked = set olds place new
@@ -399,40 +532,104 @@ module _ {C : Type 0} (coming : C → ℕ → Option ℕ) (ask : Asked) where
       long : 63 < length asked
       long = let e = length-set olds place new in omega (arith, e, size)
 
-      first : Known Item (Root C)
-      first = get_or asked 63 new
-
-      first_at : slice_get asked 63 ≡ Some first
-      first_at = slice_get-get_or asked 63 new long
-
       informing : AllMore asked news
-      informing = subst (λ (ks : List (Known Item (Root C))). AllMore asked ks) (sym informed.only)
-          (one_more asked 63 first informed.now first_at (more_seen law first informed.now (informed.sees first first_at)))
+      informing = informed_more law asked news place 63 informed long
+
+      more : AllMore olds news
+      more = all_trans olds asked news asking informing
+
+      kept : LookedOn coming from asks replies looks news
+      kept = looked_kept coming from asks replies looks olds news more h
 
       new_at : slice_get asked place ≡ Some new
       new_at = slice_set_same olds place new (slice_get_within olds place old at)
 
-      within : (k : Known Item (Root C)) (log : List Item) → slice_get news 63 ≡ Some k → AllByRecursion (Fits log) news →
-          IsWithin (records_in k.least log) told
-      within k log is fit =
+      new_fits : (log : List Item) → AllByRecursion (Fits log) news → Fits log new
+      new_fits log fit = one_fits asked place new log new_at (all_fit asked news log informing fit)
+
+      knows : (k : Known Item (Root C)) → slice_get news 63 ≡ Some k → new.least ≤ k.least
+      knows k is =
           let one : slice_get news 63 ≡ Some informed.now = ap (λ (ks : List (Known Item (Root C))). slice_get ks 63) informed.only ∙
           slice_set_same asked 63 informed.now long in
           let same : informed.now ≡ k = (let x = sym one ∙ is in cc) in
-          let more : new.least ≤ k.least = subst (λ (j : Known Item (Root C)). new.least ≤ j.least) same (informed.as_many new new_at) in
-          let fits : Fits log new = one_fits asked place new log new_at (all_fit asked news log informing fit) in
-          within_more (records_in new.least log) (records_in k.least log) told (records_more new.least k.least log more)
-          (asked_within told old new log t fits)
+          subst (λ (j : Known Item (Root C)). new.least ≤ j.least) same (informed.as_many new new_at)
+
+      within : (k : Known Item (Root C)) (log : List Item) → slice_get news 63 ≡ Some k → AllByRecursion (Fits log) news →
+          IsWithin (records_in k.least log) told
+      within k log is fit = within_more (records_in new.least log) (records_in k.least log) told
+          (records_more new.least k.least log (knows k is)) (asked_within told old new log t (new_fits log fit))
+
+      ran : (k : Known Item (Root C)) (root : Root C) (log : List Item) → slice_get news 63 ≡ Some k →
+          AllByRecursion (IsNew (items_at root) root) from → AllByRecursion (Fits log) news → StartsWith log (items_at root) →
+          RunKnown coming (asks ++ ask ∷ []) (replies ++ told ∷ []) looks news k root log
+      ran k root log is fresh fit begins =
+          let was = before_of olds news 63 k more is in
+          let first : Known Item (Root C) = was.old in
+          let then = (h first was.at).run root log fresh (all_fit olds news log more fit) begins in
+          let turn = turn_stands told old new root log replies first.least (records_in k.least log) t
+          (one_of (λ (j : Known Item (Root C)). j.root ≡ Some root) olds place old at then.roots) (new_fits log fit).begins begins
+          then.least (as_many first was.at) then.runs.all (records_more new.least k.least log (knows k is)) in
+          record {
+            roots = roots_more olds news root more then.roots;
+            least = (let a = then.least in let b = was.more.at_least in omega (arith, a, b));
+            runs = runs_asked root.version root.issuer (coming root.clock) root.history (entries_of log) asks replies looks
+                (records_in first.least log) (records_in k.least log) ask told even turn.up turn.answers then.runs;
+          }
 
 -- the dialogue at its start, and at its end
-module _ {C : Type 0} where
-  pub none_looked : (news : List (Known Item (Root C))) → LookedOn [] [] news
-  none_looked news = λ first at. record { rise = λ root list is starts begins. begins; told = λ log fit. tt; within = λ log fit. tt }
+module _ {C : Type 0} (coming : C → ℕ → Option ℕ) where
+  new_roots : (news : List (Known Item (Root C))) (root : Root C) → AllByRecursion (IsNew (items_at root) root) news →
+      AllByRecursion (λ (k : Known Item (Root C)). k.root ≡ Some root) news
+  new_roots [] root h = tt
+  new_roots (k ∷ news) root h = (h.0.root_is, new_roots news root h.1)
 
-  pub looked_at_end : (replies : Replies) (looks : List Look) (olds news : List (Known Item (Root C))) → length news ≡ 64 →
+  pub none_looked : (news : List (Known Item (Root C))) → LookedOn coming news [] [] [] news
+  none_looked news = λ first at. record {
+    rise = λ root list is starts begins. begins;
+    told = λ log fit. tt;
+    within = λ log fit. tt;
+    run = λ root log fresh fit begins.
+        let new = one_of (IsNew (items_at root) root) news 63 first at fresh in
+        let e = length-map root.history (λ (x : Entry). item.Entry x) in
+        let count : records_in first.least log ≡ length (recs root.history) = ap (λ (n : ℕ). records_in n log) new.least ∙
+        ap (λ (l : List Item). length (recs (entries_of l))) (take_front log (items_at root) begins) ∙
+        ap (λ (l : List Entry). length (recs l)) (entries_back root.history) in
+        let least = new.least in
+        record {
+          roots = new_roots news root fresh;
+          least = omega (arith, e, least);
+          runs = none_runs root.version root.issuer (coming root.clock) root.history (entries_of log) (records_in first.least log)
+              (omega (arith, count));
+        };
+  }
+
+  pub none_ran_at : (olds news : List (Known Item (Root C))) → RunsAt coming olds news [] [] []
+  none_ran_at olds news = λ root log fresh fit begins.
+      none_runs root.version root.issuer (coming root.clock) root.history (entries_of log) (length (recs (entries_of log)))
+      (records_start (entries_of log) root.history (subst (λ (l : List Entry). StartsWith (entries_of log) l) (entries_back root.history)
+      (entries_start log (items_at root) begins)))
+
+  pub run_at_end : (asks : List Asked) (replies : Replies) (looks : List Look) (olds news : List (Known Item (Root C))) →
+      length news ≡ 64 → LookedOn coming olds asks replies looks news → RunsAt coming olds news asks replies looks
+  run_at_end asks replies looks olds news size h = λ root log fresh fit begins. at_end root log fresh fit begins news refl
+    where
+      at_end : (root : Root C) (log : List Item) → AllByRecursion (IsNew (items_at root) root) olds → AllByRecursion (Fits log) news →
+          StartsWith log (items_at root) → (ks : List (Known Item (Root C))) → ks ≡ news →
+          RunsAmong root.version root.issuer (coming root.clock) root.history (entries_of log) asks replies looks
+          (length (recs (entries_of log)))
+      at_end root log fresh fit begins [] is = absurd (let e = ap (λ (l : List (Known Item (Root C))). length l) is in omega (arith, e, size))
+      at_end root log fresh fit begins (d ∷ ks) is =
+          let first : Known Item (Root C) = get_or news 63 d in
+          let k = (h first (slice_get-get_or news 63 d (omega (arith, size)))).run root log fresh fit begins in
+          runs_more root.version root.issuer (coming root.clock) root.history (entries_of log) asks replies looks
+          (records_in first.least log) (length (recs (entries_of log))) (records_all first.least log) k.runs
+
+  pub looked_at_end : (asks : List Asked) (replies : Replies) (looks : List Look) (olds news : List (Known Item (Root C))) →
+      length news ≡ 64 →
       ((root : Root C) → AllByRecursion (λ (k : Known Item (Root C)). k.root ≡ Some root) olds →
-      AllByRecursion (λ (k : Known Item (Root C)). k.root ≡ Some root) news) → LookedOn replies looks news →
+      AllByRecursion (λ (k : Known Item (Root C)). k.root ≡ Some root) news) → LookedOn coming olds asks replies looks news →
       AreLookedAt olds news replies looks
-  looked_at_end replies looks olds news size roots h = λ root log same fit begins. at_end root log (roots root same) fit begins news refl
+  looked_at_end asks replies looks olds news size roots h = λ root log same fit begins. at_end root log (roots root same) fit begins news refl
     where
       at_end : (root : Root C) (log : List Item) → AllByRecursion (λ (k : Known Item (Root C)). k.root ≡ Some root) news →
           AllByRecursion (Fits log) news → StartsWith (entries_of log) root.history → (ks : List (Known Item (Root C))) → ks ≡ news →
@@ -449,18 +646,20 @@ module _ {C : Type 0} where
           }
 
 -- a look of the first till
-module _ {C : Type 0} where
+module _ {C : Type 0} (coming : C → ℕ → Option ℕ) where
   pub looked_by : ((log : List Item) (old new : Known Item (Root C)) → SeesOn old new → Fits log new → Fits log old) →
       (asked : TillQuestion) (found : Result (List ℕ) NoRoom) (olds : List (Known Item (Root C))) (old new : Known Item (Root C)) →
       slice_get olds 63 ≡ Some old →
       Looks (λ (version : Version) (issuer : List ℕ) (entries : List Entry) (text : List ℕ). IsAnswer asked entries text) found old new →
-      LookedFor asked found olds (set olds 63 new)
-  looked_by law asked (Err e) olds old new at l = λ replies looks h.
-      looked_kept replies looks olds (set olds 63 new) (one_more olds 63 old new at (more_seen law old new l.sees)) h
+      LookedFor coming asked found olds (set olds 63 new)
+  looked_by law asked (Err e) olds old new at l = λ from asks replies looks h.
+      looked_kept coming from asks replies looks olds (set olds 63 new) (one_more olds 63 old new at (more_seen law old new l.sees)) h
   looked_by law asked (Ok text) olds old new at l = (
     entries_of new.seen,
     l.answer,
-    λ replies looks h. looked_more replies looks (set olds 63 new) new (slice_set_same olds 63 new (slice_get_within olds 63 old at))
-        l.all l.home (ap (λ (k : Known Item (Root C)). k.root) l.sees.same ∙ l.root) l.list.begins
-        (looked_kept replies looks olds (set olds 63 new) (one_more olds 63 old new at (more_seen law old new l.sees)) h),
+    λ from asks replies looks h. looked_more coming from asks replies looks (set olds 63 new) new
+        (slice_set_same olds 63 new (slice_get_within olds 63 old at)) l.all l.home
+        (ap (λ (k : Known Item (Root C)). k.root) l.sees.same ∙ l.root) l.list.begins
+        (looked_kept coming from asks replies looks olds (set olds 63 new)
+        (one_more olds 63 old new at (more_seen law old new l.sees)) h),
   )

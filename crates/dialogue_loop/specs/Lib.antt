@@ -1,3 +1,4 @@
 pub mod InARow
+pub mod OneRun
 pub mod Looked
 pub mod Speech

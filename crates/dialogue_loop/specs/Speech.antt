@@ -13,7 +13,7 @@ use Rattle.journal.specs.declared.faults.StoreFault.{StoreFault}
 use Rattle.line_reader.specs.Lists.{AreAllLines, AreLines, InputLine}
 use Rattle.line_reader.specs.Read.{HasRead, HasReadAll, StopsBehind}
 use Rattle.line_reader.specs.declared.chunk.TheConstants.{CHUNK}
-use Rattle.ports.specs.Causes.{Rose}
+use Rattle.ports.specs.Causes.{Rose, RoseByOne}
 use Rattle.ports.specs.Sinks.{FailedIn, Sinks, Wrote, WroteNothing}
 use Rattle.script.specs.declared.forms.Form.TheVariants.{First, Later}
 use Rattle.script.specs.declared.lines.Meaning.{Meaning}
@@ -25,7 +25,7 @@ use Rattle.shop_core.specs.declared.answer.Reply.{Reply}
 use Rattle.shop_core.specs.declared.items.Item.{Item}
 use Rattle.till_calls.specs.Root.{Root}
 use Rattle.dialogue_loop.specs.InARow.{AllRanOn, IsOfTill}
-use Rattle.dialogue_loop.specs.Looked.{AreLookedAt, LookedOn}
+use Rattle.dialogue_loop.specs.Looked.{AreLookedAt, LookedOn, RunsAt}
 use Rattle.dialogue_loop.specs.declared.listener.Listener.{Listener}
 use Rattle.dialogue_loop.specs.declared.speaking.SpeechEnd.{SpeechEnd}
 use Rattle.dialogue_loop.specs.declared.speaking.SpeechEnd.TheVariants as how
@@ -132,6 +132,21 @@ abbrev pub IsCause : ℕ → ℕ → Result Action SpeechEnd → Type 0
 IsCause faults faults_after (Err how.ReadFault) = Rose faults faults_after
 IsCause faults faults_after _ = Unit {0}
 
+-- of a source that counts each failed read: one failed where a read fault is told, and else none
+abbrev pub EndsOnce : ℕ → ℕ → SpeechEnd → Type 0
+EndsOnce faults faults_after how.ReadFault = RoseByOne faults faults_after
+EndsOnce faults faults_after _ = faults_after ≡ faults
+
+-- the same of what came of a line
+abbrev pub ComesOnce : ℕ → ℕ → Result Action SpeechEnd → Type 0
+ComesOnce faults faults_after (Ok action) = faults_after ≡ faults
+ComesOnce faults faults_after (Err end) = EndsOnce faults faults_after end
+
+-- and of a dialogue that goes on or ends
+abbrev pub GoesOnce : ℕ → ℕ → Option SpeechEnd → Type 0
+GoesOnce faults faults_after None = faults_after ≡ faults
+GoesOnce faults faults_after (Some end) = EndsOnce faults faults_after end
+
 -- what is known of a source and a sink at a moment
 pub record Moment : Type 0 where
   pub left : Option (List ℕ)
@@ -220,7 +235,7 @@ pub record DialogueSoFar {C : Type 0} (coming : C → ℕ → Option ℕ) (clock
   pub heard : HasHeard from.left now.left l said
   pub clock_is : clock_said said.before ≡ clock
   pub ran : AllRanOn coming said.asks said.replies olds news
-  pub looked : LookedOn said.replies said.looks news
+  pub looked : LookedOn coming olds said.asks said.replies said.looks news
   pub tills : AllByRecursion IsOfTill said.asks
   pub go_on : AllGoOn said.replies
   pub lacked_is : lacked ≡ list_any is_no_memory said.replies
@@ -237,6 +252,7 @@ pub record Spoken {C : Type 0} (coming : C → ℕ → Option ℕ) (clock : Opti
   pub clock_is : clock_said said.before ≡ clock
   pub ran : AllRanOn coming said.asks said.replies olds news
   pub looked : AreLookedAt olds news said.replies said.looks
+  pub run : RunsAt coming olds news said.asks said.replies said.looks
   pub tills : AllByRecursion IsOfTill said.asks
   pub lacked_is : lacked ≡ list_any is_no_memory said.replies
   pub read : IsRead end from.left now.left said.lines
@@ -280,7 +296,9 @@ pub record AsksOne {C : Type 0} (coming : C → ℕ → Option ℕ) (ask : Asked
   pub asks_on : (asks : List Asked) (replies : Replies) (olds : List (Known Item (Root C))) → length replies ≡ length asks →
       length olds ≡ LAST_TILL → AllRanOn coming asks replies olds mids →
       AllRanOn coming (asks ++ ask ∷ []) (replies ++ told ∷ []) olds news
-  pub looked : (replies : Replies) (looks : List Looked) → LookedOn replies looks mids → LookedOn (replies ++ told ∷ []) looks news
+  pub looked : (olds : List (Known Item (Root C))) (asks : List Asked) (replies : Replies) (looks : List Looked) →
+      length replies ≡ length asks → LookedOn coming olds asks replies looks mids →
+      LookedOn coming olds (asks ++ ask ∷ []) (replies ++ told ∷ []) looks news
   pub of_till : IsOfTill ask
   pub lacked_is : new_lacked ≡ (old_lacked || is_no_memory told)
   pub replied : IsReplied told s (reply_text ask told) end
@@ -291,20 +309,23 @@ KeepsRuns {C} coming mids news = (asks : List Asked) (replies : Replies) (olds :
     AllRanOn coming asks replies olds mids → AllRanOn coming asks replies olds news
 
 -- a question was answered at a history
-pub record AnswersOne {C : Type 0} (asked : TillQuestion) (s : Sinks) (mids news : List (Known Item (Root C)))
-    (end : Option SpeechEnd) : Type 0 where
+pub record AnswersOne {C : Type 0} (coming : C → ℕ → Option ℕ) (asked : TillQuestion) (s : Sinks)
+    (mids news : List (Known Item (Root C))) (end : Option SpeechEnd) : Type 0 where
   pub history : List Entry
   pub text : List ℕ
   pub is : IsAnswer asked history text
-  pub looked : (replies : Replies) (looks : List Looked) → LookedOn replies looks mids →
-      LookedOn replies (looks ++ record { after = length replies; history = history } ∷ []) news
+  pub looked : (olds : List (Known Item (Root C))) (asks : List Asked) (replies : Replies) (looks : List Looked) →
+      LookedOn coming olds asks replies looks mids →
+      LookedOn coming olds asks replies (looks ++ record { after = length replies; history = history } ∷ []) news
   pub written : IsAnswered s text end
 
 -- there was no memory for its answer
-pub record AnswersNone {C : Type 0} (s : Sinks) (mids news : List (Known Item (Root C))) (end : Option SpeechEnd) : Type 0 where
+pub record AnswersNone {C : Type 0} (coming : C → ℕ → Option ℕ) (s : Sinks) (mids news : List (Known Item (Root C)))
+    (end : Option SpeechEnd) : Type 0 where
   pub how : end ≡ Some how.NoMemory
   pub nothing : WroteNothing s
-  pub looked : (replies : Replies) (looks : List Looked) → LookedOn replies looks mids → LookedOn replies looks news
+  pub looked : (olds : List (Known Item (Root C))) (asks : List Asked) (replies : Replies) (looks : List Looked) →
+      LookedOn coming olds asks replies looks mids → LookedOn coming olds asks replies looks news
 
 -- what a line asks for was done
 abbrev pub CarriesOut : {C : Type 0} → (C → ℕ → Option ℕ) → Action → Sinks → Bool → Bool → List (Known Item (Root C)) →
@@ -314,4 +335,4 @@ CarriesOut coming (Clock start step text) s old_lacked new_lacked mids news end 
     (new_lacked ≡ old_lacked) × (news ≡ mids) × IsAnswered s text end
 CarriesOut coming (Ask ask) s old_lacked new_lacked mids news end = AsksOne coming ask s old_lacked new_lacked mids news end
 CarriesOut coming (Look asked) s old_lacked new_lacked mids news end =
-    (new_lacked ≡ old_lacked) × KeepsRuns coming mids news × (AnswersOne asked s mids news end ⊎ AnswersNone s mids news end)
+    (new_lacked ≡ old_lacked) × KeepsRuns coming mids news × (AnswersOne coming asked s mids news end ⊎ AnswersNone coming s mids news end)

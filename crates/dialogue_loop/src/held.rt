@@ -11,7 +11,7 @@ ghost use Rattle.till_calls.specs.Shop.{made_tills, numbers, seat_knows, seat_sh
 ghost use Rattle.till_calls.specs.Shop.{tills_know, tills_shop};
 ghost use Rattle.dialogue.specs.Protocol.{Look};
 ghost use Rattle.dialogue_loop.specs.InARow.{AllRanOn, IsOfTill};
-ghost use Rattle.dialogue_loop.specs.Looked.{FirstInformed, LookedFor, LookedOn};
+ghost use Rattle.dialogue_loop.specs.Looked.{Informed, LookedFor, LookedOn};
 ghost use Rattle.dialogue_loop.specs.Speech.{KeepsRuns};
 
 use crate::speaking::SpeechMeans;
@@ -64,7 +64,7 @@ fn inform_first<D: Disk, C: Clock>(shop: &Shop<D, C>, held: &mut Vec<Till<D, C>>
     requires within { place < LAST_TILL }
     ensures own { All (λ t. till_shop t ≡ shop_id shop.now) held.new.items }
     ensures numbers { map till_number held.new.items ≡ map till_number held.old.items }
-    ensures informed { FirstInformed (map till_knows held.old.items) place (map till_knows held.new.items) }
+    ensures informed { Informed (map till_knows held.old.items) place 63 (map till_knows held.new.items) }
 {
     if place < FIRST {
         let (others, first) = held.split_at_mut(FIRST);
@@ -72,7 +72,23 @@ fn inform_first<D: Disk, C: Clock>(shop: &Shop<D, C>, held: &mut Vec<Till<D, C>>
     }
 }
 
-/// Asks for one more, at the till of its number, which then tells the first one of how many items it knows.
+// The first till tells the one at a place of how many items it knows.
+fn inform_till<D: Disk, C: Clock>(shop: &Shop<D, C>, held: &mut Vec<Till<D, C>>, place: usize)
+    requires own { All (λ t. till_shop t ≡ shop_id shop.now) held.old.items }
+    requires size { vec_len held.old ≡ LAST_TILL }
+    requires within { place < LAST_TILL }
+    ensures own { All (λ t. till_shop t ≡ shop_id shop.now) held.new.items }
+    ensures numbers { map till_number held.new.items ≡ map till_number held.old.items }
+    ensures informed { Informed (map till_knows held.old.items) 63 place (map till_knows held.new.items) }
+{
+    if place < FIRST {
+        let (others, first) = held.split_at_mut(FIRST);
+        shop.inform(&mut first[0], &mut others[place]);
+    }
+}
+
+/// Asks for one more, at the till of its number. The first till, which knows of all that was answered, tells it of how many items
+/// that are, and is told in turn, so each ask is at a history that has what was answered before it.
 pub fn ask_held<D: Disk, C: Clock, T: Gate, R: Wait>(
     means: SpeechMeans<'_, R, T>,
     shop: &Shop<D, C>,
@@ -87,14 +103,16 @@ pub fn ask_held<D: Disk, C: Clock, T: Gate, R: Wait>(
     ensures asks { (asks : List Asked) (replies : Replies) (before : List (Known Item (Root C))) → length replies ≡ length asks →
         length before ≡ LAST_TILL → AllRanOn C.coming asks replies before (map till_knows held.old.items) →
         AllRanOn C.coming (asks ++ ask.now ∷ []) (replies ++ result ∷ []) before (map till_knows held.new.items) }
-    ensures looked { (replies : Replies) (looks : List Look) → LookedOn replies looks (map till_knows held.old.items) →
-        LookedOn (replies ++ result ∷ []) looks (map till_knows held.new.items) }
+    ensures looked { (olds : List (Known Item (Root C))) (asks : List Asked) (replies : Replies) (looks : List Look) →
+        length replies ≡ length asks → LookedOn C.coming olds asks replies looks (map till_knows held.old.items) →
+        LookedOn C.coming olds (asks ++ ask.now ∷ []) (replies ++ result ∷ []) looks (map till_knows held.new.items) }
 {
     an_ask_goes_on_from_what_was_known_before::<C>();
     who_sees_on_twice_sees_on::<C>();
     a_list_fits_what_was_known_before::<C>();
     means.gate.before(means.rt, ask.till, ask.serial);
     let place = usize::from(LAST_TILL - ask.till);
+    inform_till(shop, held, place);
     let till = &mut held[place];
     let reply = shop.ask(means.rt, means.alloc, till, ask.serial, &ask.request);
     inform_first(shop, held, place);
@@ -115,7 +133,7 @@ pub fn look_held<D: Disk, C: Clock, R: Wait>(
     ensures own { All (λ t. till_shop t ≡ shop_id shop.now) held.new.items }
     ensures numbers { map till_number held.new.items ≡ map till_number held.old.items }
     ensures runs { KeepsRuns C.coming (map till_knows held.old.items) (map till_knows held.new.items) }
-    ensures looked { LookedFor question.now result (map till_knows held.old.items) (map till_knows held.new.items) }
+    ensures looked { LookedFor C.coming question.now result (map till_knows held.old.items) (map till_knows held.new.items) }
 {
     who_sees_on_twice_sees_on::<C>();
     a_list_fits_what_was_known_before::<C>();

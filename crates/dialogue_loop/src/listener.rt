@@ -17,9 +17,9 @@ pub struct Listener {
 fn let_go(_task: Action) {}
 
 impl Listener {
-    ghost use Rattle.std.specs.Prelude.{◌≤◌, ℕ, List, IfOk, Option};
+    ghost use Rattle.std.specs.Prelude.{◌≤◌, ℕ, List, IfOk, IsTrue, Option};
     ghost use Rattle.dialogue.specs.Protocol.{nothing_said};
-    ghost use Rattle.dialogue_loop.specs.Speech.{ComesFirst, HasHeard, HearsOn, IsCause, IsFirst};
+    ghost use Rattle.dialogue_loop.specs.Speech.{ComesFirst, ComesOnce, HasHeard, HearsOn, IsCause, IsFirst};
 
     /// A listener to whom nothing was said. It takes memory for lines here alone.
     pub fn new(alloc: Global) -> Result<Listener, NoMemory>
@@ -43,6 +43,7 @@ impl Listener {
         ensures line_read { (left : Option (List ℕ)) → HearsOn left (S.left source.old) (S.left source.new) self.old self.new result }
         ensures later { S.faults source.old ≤ S.faults source.new }
         ensures cause { IsCause (S.faults source.old) (S.faults source.new) result }
+        ensures once { IsTrue S.counts → ComesOnce (S.faults source.old) (S.faults source.new) result }
     {
         match self.reader.next_line(rt, source) {
             Err(_) => Err(SpeechEnd::ReadFault),
@@ -73,6 +74,7 @@ impl Listener {
             ComesFirst left (S.left source.new) self.new result }
         ensures later { S.faults source.old ≤ S.faults source.new }
         ensures cause { IsCause (S.faults source.old) (S.faults source.new) result }
+        ensures once { IsTrue S.counts → ComesOnce (S.faults source.old) (S.faults source.new) result }
     {
         for _ in rt.forever() {
             match self.next_action(rt, alloc, source) {

@@ -1,5 +1,5 @@
 //! A dialogue with the tills of a shop, on one thread.
-ghost use Rattle.std.specs.Prelude.{◌≡◌, ◌≤◌, ℕ, false, List, length, map, reverse, All, Option, ◌||◌};
+ghost use Rattle.std.specs.Prelude.{◌≡◌, ◌≤◌, ℕ, false, List, length, map, reverse, All, IsTrue, Option, ◌||◌};
 ghost use Rattle.std.specs.List.{range_with_len};
 ghost use Rattle.chain_lock.specs.Known.{Known};
 ghost use Rattle.chain_store.specs.Replies as spec;
@@ -8,7 +8,8 @@ ghost use Rattle.record_codec.specs.declared.entry.TheConstants.{LAST_TILL};
 ghost use Rattle.shop_core.specs.declared.items.Item.{Item};
 ghost use Rattle.till_calls.specs.Root.{Root};
 ghost use Rattle.till_calls.specs.Shop.{shop_id, till_knows, till_number, till_shop};
-ghost use Rattle.dialogue_loop.specs.Speech.{CarriesOut, ComesFirst, DialogueSoFar, Goes, HasAnswered, IsAnswered, IsCause};
+ghost use Rattle.dialogue_loop.specs.Speech.{CarriesOut, ComesFirst, ComesOnce, DialogueSoFar, EndsOnce, Goes, GoesOnce};
+ghost use Rattle.dialogue_loop.specs.Speech.{HasAnswered, IsAnswered, IsCause};
 ghost use Rattle.dialogue_loop.specs.Speech.{IsReplied, Spoken, clock_first, moment_of, moment_since};
 ghost use Rattle.dialogue.specs.Protocol.{reply_text};
 
@@ -185,6 +186,7 @@ fn one_line<S: Source, K: Sink, D: Disk, C: Clock, T: Gate, R: Wait>(
         speech.old.lacked olds (map till_knows speech.old.held.items) →
         Goes C.coming clock from (moment_of S.left S.faults K.taken K.faults source.new sink.new) speech.new.listener
         speech.new.lacked olds (map till_knows speech.new.held.items) result }
+    ensures once { IsTrue S.counts → GoesOnce (S.faults source.old) (S.faults source.new) result }
 {
     match speech.listener.next_action(means.rt, means.alloc, source) {
         Err(end) => Some(end),
@@ -211,6 +213,7 @@ pub fn speak<S: Source, K: Sink, D: Disk, C: Clock, T: Gate, R: Wait>(
         speech.old.lacked olds (map till_knows speech.old.held.items) →
         Spoken C.coming clock from (moment_of S.left S.faults K.taken K.faults source.new sink.new)
         speech.new.lacked olds (map till_knows speech.new.held.items) result }
+    ensures once { IsTrue S.counts → EndsOnce (S.faults source.old) (S.faults source.new) result }
 {
     for _ in means.rt.forever() {
         match one_line(means, shop, speech, source, sink) {
@@ -240,6 +243,8 @@ pub fn answer_lines<S: Source, K: Sink, D: Disk, C: Clock, T: Gate, R: Wait>(
         Spoken C.coming (clock_first first.now) (moment_since left faults (K.taken sink.old) (K.faults sink.old))
         (moment_of S.left S.faults K.taken K.faults source.new sink.new) speech.new.lacked
         (map till_knows speech.old.held.items) (map till_knows speech.new.held.items) result }
+    ensures once { IsTrue S.counts → (faults : ℕ) → ComesOnce faults (S.faults source.old) first.now →
+        EndsOnce faults (S.faults source.new) result }
 {
     match first {
         Err(end) => *end,

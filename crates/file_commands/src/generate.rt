@@ -54,8 +54,8 @@ fn begun(alloc: Global) -> Result<Store<MemDisk, CountingClock>, NoMemory>
     let issuer = issuer();
     let disk = MemDisk::new(alloc, Vec::new(alloc), Vec::new(alloc));
     let clock = CountingClock::new(START, STEP);
-    let state = State::empty(alloc, &issuer, Version::Two);
-    match Journal::create(disk, &issuer, Version::Two) {
+    let state = State::empty(alloc, &issuer, Version::NEWEST);
+    match Journal::create(disk, &issuer, Version::NEWEST) {
         Ok(journal) => Ok(Store::of(state, journal, clock)),
         Err(_) => Err(NoMemory),
     }

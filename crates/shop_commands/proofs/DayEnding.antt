@@ -30,7 +30,7 @@ use Rattle.command_ends.specs.Scripts.ScriptedEnds.{ran}
 use Rattle.sender_beside.specs.Tills.{StopIs, has_asks, tills_of}
 use Rattle.sender_session.proofs.Lists.{each_of_all, each_unmap, each_weaker}
 use Rattle.command_ends.proofs.RunEnding.{not_opened_by, rose_opening}
-use Rattle.shop_commands.proofs.ShopDays.{IsDayOf, agency_by, crashes_by, history_by, rose_day, sender_by, tills_by}
+use Rattle.shop_commands.proofs.ShopDays.{IsDayOf, agency_by, crashes_by, history_by, rose_day, sender_by, session_by, tills_by}
 
 -- a till that asks for nothing is none of the tills that ask
 pub none_of : (asks : List Asked) (tills : List TillReplies) (till : ℕ) →
@@ -120,6 +120,7 @@ module _ {D C Z G : Type 0} (issuer : List ℕ) (script : Script) (c : Around D 
     };
     crashes = f.crashes;
     agency = f.agency;
+    session = f.session;
     ends = record {
       cause = ends;
       sender = record { undelivered = failed end ends; contrary = only_shown end ends; shown = each_shown end ends };
@@ -130,7 +131,7 @@ module _ {D C Z G : Type 0} (issuer : List ℕ) (script : Script) (c : Around D 
 
 -- the same end, said of a call whose clock line replaced clock and sleeper by these
 module _ {D C Z O P G : Type 0} (issuer : List ℕ) (script : Script) (line : ℕ × ℕ) (c : Around D C Z G) (by : Clocks O)
-    (with : Sleepers P)
+    (with : Sleepers P) (exact : with.tells ≡ true) (at : with.moment with.sleeper ≡ line.0)
     (same : (k : ℕ) → by.coming by.clock k ≡ readings_of (Some line) (c.clock.coming c.clock.clock) k) (clock : LeftClock c.clock)
     (sleeper : LeftSleeper c.sleeper) (end : Detail) where
   abbrev own : Around D O P G
@@ -149,6 +150,7 @@ module _ {D C Z O P G : Type 0} (issuer : List ℕ) (script : Script) (line : �
         tills = tills_by d new same (tills_of script.asks) h.tills;
         crashes = crashes_by d new same c.disk h.crashes;
         agency = agency_by d new same script.plan c.agency c.disk h.agency;
+        session = session_by d line c.sleeper with exact at h.session;
         ends = record {
           cause = h.ends.cause;
           sender = sender_by d new same c.agency.before end h.ends.sender;

@@ -11,12 +11,14 @@ use Rattle.chain_disk.specs.OnDisk.{IsImage, LeavesNow, LeavesOnly, synced}
 use Rattle.chain_store.specs.Clocks.{Clocks, LeftClock, this_clock}
 use Rattle.chain_store.specs.Readings.{readings_of}
 use Rattle.chain_store.specs.Replies.{Replies, is_disk_fault, is_no_memory}
-use Rattle.dialogue_loop.specs.Speech.{AreRepliesOf, ComesFirst, IsRead, IsWritten, Moment}
+use Rattle.dialogue_loop.specs.Speech.{AreRepliesOf, ComesFirst, ComesOnce, EndsOnce, IsRead, IsWritten, Moment}
 use Rattle.dialogue_loop.specs.declared.listener.Listener.{Listener}
 use Rattle.dialogue_loop.specs.declared.speaking.SpeechEnd.{SpeechEnd}
 use Rattle.dialogue_loop.specs.declared.speaking.SpeechEnd.TheVariants as speech
 use Rattle.dialogue.specs.declared.speaker.Action.{Action}
 use Rattle.huella.specs.Linked.{Linked}
+use Rattle.journal.specs.declared.faults.StoreFault.TheVariants as store
+use Rattle.ports.specs.Readings.{IsTold}
 use Rattle.ports.specs.Sinks.{Sinks, WroteNothing}
 use Rattle.ports.specs.Sources.{SourceRose, Sources}
 use Rattle.record_codec.specs.declared.entry.Entry.{Entry}
@@ -38,6 +40,7 @@ use Rattle.till_calls.specs.Root.{Parts, Root, root_of}
 use Rattle.shop_drain.specs.Opening.{IsUnbegun, IsOpened}
 use Rattle.sender_session.specs.Contradictions.{ShowsLast}
 use Rattle.shop_commands.specs.Day.{Outcome}
+use Rattle.sender_session.specs.Sessions.{SessionSteps}
 use Rattle.sender_beside.specs.Behind.{DrainsBehind}
 use Rattle.sender_beside.specs.Days.{Day, TillReplies, all_replies, shop_day}
 use Rattle.shop_drain.specs.Devices.{Agencies, AllDevices, Around, LeftSleeper, Sleepers, around}
@@ -45,20 +48,20 @@ use Rattle.sender_session.specs.Kinds.{StoreKind}
 use Rattle.shop_drain.specs.Draining.{AgreesAtStart, OpensSession}
 use Rattle.shop_commands.specs.Drain.{NothingRose}
 use Rattle.sender_session.specs.Session.{IsDiskAnswer}
-use Rattle.shop_commands.specs.Serve.{Closes, FileServe, ServeEnds, ServeWays, SpeechEnds, SpeechServed, day_said, printed}
-use Rattle.shop_commands.specs.Serve.{source_since}
+use Rattle.shop_commands.specs.Serve.{Closes, EndsAtFault, FileServe, IsReadEnd, ServeEnds, ServeWays, SpeechEnds, SpeechServed, day_said, printed}
+use Rattle.shop_commands.specs.Serve.{end_of, source_since}
 use Rattle.shop_dialogue.specs.Dialogues.{DialogueRun, IsSpeech, Speech, drains_after}
 use Rattle.shop_commands.specs.Serve.SpeechEnds.{done, read_fault, write_fault, undelivered, contradiction, disk_fault}
 use Rattle.shop_commands.specs.Serve.SpeechEnds.{no_memory}
 use Rattle.sender_beside.specs.Tills.{DayRun, has_asks, own_of}
 use Rattle.command_ends.proofs.RunEnding.{rose_opening}
-use Rattle.shop_commands.proofs.ShopDays.{IsDayOf, ShopDid, agency_by, crashes_by, day_facts, history_by, not_asked, rose_day}
-use Rattle.shop_commands.proofs.ShopDays.{sender_by, tills_by}
+use Rattle.shop_commands.proofs.ShopDays.{IsDayOf, ShopDid, agency_by, crashes_by, day_facts, here, history_by, not_asked, rose_day}
+use Rattle.shop_commands.proofs.ShopDays.{sender_by, session_by, tills_by}
 use Rattle.shop_commands.proofs.Speeches.{quiet, told_some}
 
 -- a dialogue on an opened file, and how it ended
 module _ {D C Z G : Type 0} (issuer : List ℕ) (clock : Option (ℕ × ℕ)) (s : Sources) (c : Around D C Z G) (x : Speech) (o : Outcome)
-    (f : IsDayOf issuer x.said.asks plain (drains_after x.how) c o) (spoken : IsSpeech clock o.start o.end s o.tills x)
+    (f : IsDayOf issuer x.said.asks plain (drains_after x.how) c o) (spoken : IsSpeech clock (day_said issuer x None c o) s x)
     (are : map (λ (t : TillReplies). t.till) o.tills ≡ range_with_len 1 LAST_TILL) where
   abbrev day : Day
   day = day_said issuer x None c o
@@ -144,6 +147,7 @@ module _ {D C Z G : Type 0} (issuer : List ℕ) (clock : Option (ℕ × ℕ)) (s
     tills = record { are = are; served = f.served; others = none_gained };
     crashes = f.crashes;
     agency = f.agency;
+    session = f.session;
     ends = record {
       cause = ends;
       sender = record { undelivered = failed end ends; contrary = only_shown end ends; shown = each_shown end ends };
@@ -202,6 +206,7 @@ module _ {D C Z G : Type 0} (h : StoreKind D C) (issuer : List ℕ) (disk : D) (
       (lacked : Bool) (how : SpeechEnd) (from now : Moment)
       (run : DialogueRun h (root_of h.on_disk h.faults old) new clock from now a.kind agency_state a.after answer lacked how)
       (behind : DrainsBehind a.kind (drains_after how) agency_state a.after answer)
+      (session : SessionSteps a.kind.tells z.tells (drains_after how) (z.moment z.sleeper) first new.state.entries agency_state a.after answer)
       (linked : Linked old.state.issuer (recs new.state.entries)) (rising : (till : ℕ) → SerialsRise new.state.entries till) where
     abbrev lines : ℕ
     lines = length (noted new.state.entries)
@@ -226,7 +231,8 @@ module _ {D C Z G : Type 0} (h : StoreKind D C) (issuer : List ℕ) (disk : D) (
         (drains_after b) answer)) (sym run.how_is) run.run in
         let sent : DrainsBehind a.kind (drains_after x.how) agency_state a.after answer =
         subst (λ (b : SpeechEnd). DrainsBehind a.kind (drains_after b) agency_state a.after answer) (sym run.how_is) behind in
-        let did : ShopDid h x.said.asks a.kind agency_state a.after (drains_after x.how) old new.disk new.clock = record {
+        let did : ShopDid h x.said.asks a.kind agency_state a.after (drains_after x.how) z.tells (z.moment z.sleeper) old new.disk
+        new.clock = record {
           new = new;
           tills = run.tills;
           answer = answer;
@@ -234,19 +240,88 @@ module _ {D C Z G : Type 0} (h : StoreKind D C) (issuer : List ℕ) (disk : D) (
           clock = refl;
           run = served;
           behind = sent;
+          session = subst (λ (b : SpeechEnd). SessionSteps a.kind.tells z.tells (drains_after b) (z.moment z.sleeper) first
+              new.state.entries agency_state a.after answer) (sym run.how_is) session;
           linked = linked;
           rising = rising;
         } in
         let facts = day_facts h issuer x.said.asks plain disk new.disk old.clock new.clock z a old k is_opened reads rules_tell agency_state opens
         (drains_after x.how) did in
-        let spoken : IsSpeech clock first new.state.entries s run.tills x =
-        subst (λ (v : Sources). IsSpeech clock first new.state.entries v run.tills x) (sym same) run.spoken in
+        let spoken : IsSpeech clock (shop_day h.coming x.said.asks root new run.tills a.kind agency_state a.after (drains_after x.how)
+        answer) s x =
+        subst (λ (v : Sources). IsSpeech clock (shop_day h.coming x.said.asks root new run.tills a.kind agency_state a.after
+        (drains_after x.how) answer) v x) (sym same)
+        (subst (λ (b : SpeechEnd). IsSpeech clock (shop_day h.coming x.said.asks root new run.tills a.kind agency_state a.after
+        (drains_after b) answer) (source_since from.left from.source_faults now.left now.source_faults) x) (sym run.how_is) run.spoken) in
+        let said = here h issuer x.said.asks plain disk new.disk old.clock new.clock z a old k is_opened reads rules_tell agency_state opens
+        (drains_after x.how) did (λ (d : Day). IsSpeech clock d s x) spoken in
         let closes' : Closes x.how closed = subst (λ (b : SpeechEnd). Closes b closed) (sym run.how_is) closes in
         let written' : IsWritten closed k (printed x.how x.said.answers (chain_line records lines)) =
         subst (λ (b : SpeechEnd). IsWritten closed k (printed b x.said.answers (chain_line records lines))) (sym run.how_is) written in
-        inr (speech_done issuer clock s opened_call x _ facts spoken run.are end
+        inr (speech_done issuer clock s opened_call x _ facts said run.are end
         (ends x.how x.said.asks x.said.replies x.said.answers (printed x.how x.said.answers (chain_line records lines)) s k closes' spoken.replies_are run.lacked_is
         spoken.read_fault written'))
+
+-- a dialogue by a clock that tells the same
+spoken_by : (d : Day) (new : ℕ → Option ℕ) (same : (k : ℕ) → d.coming k ≡ new k) (clock : Option (ℕ × ℕ)) (s : Sources) (x : Speech) →
+    IsSpeech clock d s x → IsSpeech clock (record d { coming = new }) s x
+spoken_by d new same clock s x h = record {
+  dialogue = h.dialogue;
+  pairs = h.pairs;
+  clock_is = h.clock_is;
+  of_tills = h.of_tills;
+  told = h.told;
+  run = record {
+    all = h.run.all;
+    each = λ n ask reply asked told.
+        let a = h.run.each n ask reply asked told in
+        record {
+          history = a.history;
+          after = a.after;
+          gained = a.gained;
+          next = a.next;
+          seconds = a.seconds;
+          reading = (a.reading.0, subst (λ (o : Option ℕ). IsTold o a.seconds) (same a.reading.0) a.reading.1);
+          tells = a.tells;
+        };
+    looked = h.run.looked;
+  };
+  looked = h.looked;
+  read = h.read;
+  replies_are = h.replies_are;
+  read_fault = h.read_fault;
+}
+
+-- one failed read ends a dialogue, and what came ahead of it
+pub first_once : (first : Result Action SpeechEnd) (faults faults_after : ℕ) (end : Detail) → IsReadEnd end →
+    ComesOnce faults faults_after first → EndsAtFault faults faults_after end
+first_once (Ok action) faults faults_after end e c = inl c
+first_once (Err speech.Ended) faults faults_after end e c = inl c
+first_once (Err speech.ReadFault) faults faults_after end e c = inr (c, e)
+first_once (Err speech.WriteFault) faults faults_after end e c = inl c
+first_once (Err speech.NoMemory) faults faults_after end e c = inl c
+first_once (Err speech.Stopped) faults faults_after end e c = inl c
+
+pub talked_once : (how closed : SpeechEnd) (faults faults_after : ℕ) (end : Detail) → Closes how closed →
+    (closed ≡ speech.ReadFault → IsReadEnd end) → EndsOnce faults faults_after how → EndsAtFault faults faults_after end
+talked_once speech.Ended closed faults faults_after end closes e c = inl c
+talked_once speech.ReadFault closed faults faults_after end closes e c = inr (c, e closes)
+talked_once speech.WriteFault closed faults faults_after end closes e c = inl c
+talked_once speech.NoMemory closed faults faults_after end closes e c = inl c
+talked_once speech.Stopped closed faults faults_after end closes e c = inl c
+
+pub read_end : (how : SpeechEnd) (n r : ℕ) (answer : Result (Unit {0}) DrainFault) → how ≡ speech.ReadFault →
+    IsReadEnd (end_of how n r answer)
+read_end how n r answer is = subst (λ (h : SpeechEnd). IsReadEnd (end_of h n r answer)) (sym is) (by_answer answer)
+  where
+    by_answer : (a : Result (Unit {0}) DrainFault) → IsReadEnd (end_of speech.ReadFault n r a)
+    by_answer (Ok u) = tt
+    by_answer (Err (drain.Undelivered x y)) = tt
+    by_answer (Err (drain.Contradiction evidence)) = tt
+    by_answer (Err (drain.Store store.DiskFault)) = tt
+    by_answer (Err (drain.Store (store.Stopped faults))) = tt
+    by_answer (Err (drain.Store store.NoMemory)) = tt
+    by_answer (Err drain.NoMemory) = tt
 
 -- what an opening left, said of the same store with another clock
 pub opened_with : {D C O : Type 0} (h : StoreKind D C) (coming : O → ℕ → Option ℕ) (issuer : List ℕ) (disk : D) (old : Parts D C)
@@ -270,7 +345,7 @@ opened_with {D} {C} {O} h coming issuer disk old new same_state same_disk o = re
 
 -- the same end, said of a call whose clock line replaced clock and sleeper by these
 module _ {D C Z O P G : Type 0} (issuer : List ℕ) (said : Option (ℕ × ℕ)) (s : Sources) (line : ℕ × ℕ) (c : Around D C Z G)
-    (by : Clocks O) (with : Sleepers P)
+    (by : Clocks O) (with : Sleepers P) (exact : with.tells ≡ true) (at : with.moment with.sleeper ≡ line.0)
     (same : (k : ℕ) → by.coming by.clock k ≡ readings_of (Some line) (c.clock.coming c.clock.clock) k) (clock : LeftClock c.clock)
     (sleeper : LeftSleeper c.sleeper) (end : Detail) where
   abbrev pub own : Around D O P G
@@ -298,11 +373,12 @@ module _ {D C Z O P G : Type 0} (issuer : List ℕ) (said : Option (ℕ × ℕ))
       inr (record {
         speech = h.speech;
         outcome = h.outcome;
-        spoken = h.spoken;
+        spoken = spoken_by d new same said s h.speech h.spoken;
         history = history_by d new same h.history;
         tills = tills_by d new same (range_with_len 1 LAST_TILL) h.tills;
         crashes = crashes_by d new same c.disk h.crashes;
         agency = agency_by d new same plain c.agency c.disk h.agency;
+        session = session_by d line c.sleeper with exact at h.session;
         ends = record {
           cause = h.ends.cause;
           sender = sender_by d new same c.agency.before end h.ends.sender;

@@ -30,11 +30,12 @@ use Rattle.shop_core.specs.Rising.{SerialsRise}
 use Rattle.till_calls.specs.Root.{Parts, root_of}
 use Rattle.till_calls.specs.Sound.{IsLater}
 use Rattle.shop_drain.specs.Opening.{IsUnbegun, IsOpened}
+use Rattle.sender_session.specs.Sessions.{SessionSteps}
 use Rattle.sender_beside.specs.Behind.{DrainsBehind}
 use Rattle.sender_beside.specs.Beside.{SendsBeside, StaysAgreed}
 use Rattle.chain_store.specs.Crashes.{SurvivesCrashes, StandsUpTo, StandsForEnd}
 use Rattle.shop_drain.specs.Crashes.{IsFoundSince, StandsSince}
-use Rattle.shop_commands.specs.Day.{EachCrash, EachTillOf, HistoryGoesOn, ItsAgency, NotServed, Outcome, TellsOfSender}
+use Rattle.shop_commands.specs.Day.{EachCrash, EachTillOf, HistoryGoesOn, ItsAgency, NotServed, Outcome, StepsOf, TellsOfSender}
 use Rattle.shop_commands.specs.Day.{day_with}
 use Rattle.sender_beside.specs.Days.{Day, Stop, TillReplies, all_replies, shop_day, stop_of, torn_of}
 use Rattle.shop_drain.specs.Devices.{Agencies, Around, LeftSleeper, Sleepers}
@@ -95,7 +96,7 @@ pub record ShopLeft {D C : Type 0} (left : Type 0) (old : Parts D C) (disk_after
 
 -- the tills of an opened store asked while a sender ran, and this is what the day made of it
 pub record ShopDid {D C : Type 0} (h : StoreKind D C) (asks : List Asked) (kind : AgencyKind) (opened after : AgencyState)
-    (drains : Bool) (old : Parts D C) (disk_after : D) (clock_after : C) : Type 0 where
+    (drains exact : Bool) (moment : ℕ) (old : Parts D C) (disk_after : D) (clock_after : C) : Type 0 where
   pub new : Parts D C
   pub tills : List TillReplies
   pub answer : Result (Unit {0}) DrainFault
@@ -104,6 +105,7 @@ pub record ShopDid {D C : Type 0} (h : StoreKind D C) (asks : List Asked) (kind 
   pub run : DayRun h (root_of h.on_disk h.faults old) new
       (shop_day h.coming asks (root_of h.on_disk h.faults old) new tills kind opened after drains answer)
   pub behind : DrainsBehind kind drains opened after answer
+  pub session : SessionSteps kind.tells exact drains moment old.state.entries new.state.entries opened after answer
   pub linked : Linked old.state.issuer (recs new.state.entries)
   pub rising : (till : ℕ) → SerialsRise new.state.entries till
 
@@ -116,6 +118,7 @@ pub record IsDayOf {D C Z G : Type 0} (issuer : List ℕ) (asks : List Asked) (p
       own_of till (drop (length o.start) o.end) ≡ []
   pub crashes : EachCrash (day_with issuer asks None drains c o) c.disk
   pub agency : ItsAgency (day_with issuer asks None drains c o) plan c.agency c.disk
+  pub session : StepsOf (day_with issuer asks None drains c o) None c.sleeper
   pub gives_up : (n m : ℕ) → o.answer ≡ Err (drain.Undelivered n m) → (length (noted o.end) < length (recs o.end)) ×
       (c.agency.after.faults < 2 ^ 64 - 1 → c.agency.before.faults + MAX_LINK_FAULTS ≤ c.agency.after.faults)
   pub time : LeavesTime None c.clock c.sleeper
@@ -169,7 +172,7 @@ module _ {D C Z G : Type 0} (h : StoreKind D C) (issuer : List ℕ) (asks : List
   }
 
   module _ (agency_state : AgencyState) (opens : OpensSession a.kind a.begun plan first a.before agency_state) (drains : Bool)
-      (r : ShopDid h asks a.kind agency_state a.after drains opened disk_after clock_after) where
+      (r : ShopDid h asks a.kind agency_state a.after drains z.tells (z.moment z.sleeper) opened disk_after clock_after) where
     abbrev pub outcome : Outcome
     outcome = record {
       version = opened.state.version;
@@ -189,7 +192,7 @@ module _ {D C Z G : Type 0} (h : StoreKind D C) (issuer : List ℕ) (asks : List
     at v n c = record day { issuer = n; version = v; coming = h.coming c }
 
     -- what holds of the shop's day holds of the call's
-    here : (P : Day → Type 0) → P (at opened.state.version opened.state.issuer opened.clock) → P day
+    pub here : (P : Day → Type 0) → P (at opened.state.version opened.state.issuer opened.clock) → P day
     here P shop = subst (λ (c : C). P (at opened.state.version issuer c)) same_clock (subst (λ (n : List ℕ). P (at opened.state.version n opened.clock)) own
         shop)
 
@@ -299,6 +302,7 @@ module _ {D C Z G : Type 0} (h : StoreKind D C) (issuer : List ℕ) (asks : List
       others = r.run.others;
       crashes = crashes;
       agency = agency;
+      session = r.session;
       gives_up = gives_up;
       time = subst (λ (c : C). IsLater h.coming clock c) (sym r.clock) (subst (λ (c : C). IsLater h.coming c r.new.clock)
           same_clock r.run.sound.clock);
@@ -408,3 +412,10 @@ module _ (d : Day) (new : ℕ → Option ℕ) (same : (k : ℕ) → d.coming k �
 
   pub sender_by : (before : AgencyState) (end : Detail) → TellsOfSender d before end → TellsOfSender other before end
   sender_by before end h = record { undelivered = h.undelivered; contrary = h.contrary; shown = h.shown }
+
+-- a session by the sleeper that a clock line makes is one by this line
+pub session_by : {Z P : Type 0} (d : Day) (line : ℕ × ℕ) (z : Sleepers Z) (leap : Sleepers P) → leap.tells ≡ true →
+    leap.moment leap.sleeper ≡ line.0 → StepsOf d None leap → StepsOf d (Some line) z
+session_by d line z leap exact at h =
+    subst (λ (b : Bool). SessionSteps d.kind.tells b d.drains line.0 d.start d.end d.opened d.after d.answer) exact
+    (subst (λ (m : ℕ). SessionSteps d.kind.tells leap.tells d.drains m d.start d.end d.opened d.after d.answer) at h)

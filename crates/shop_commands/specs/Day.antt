@@ -32,11 +32,12 @@ use Rattle.shop_drain.specs.Opening.{IsUnbegun, NotOpened}
 use Rattle.sender_beside.specs.Behind.{DrainsBehind}
 use Rattle.sender_beside.specs.Beside.{SendsBeside, StaysAgreed}
 use Rattle.sender_session.specs.Contradictions.{ShowsLast}
+use Rattle.sender_session.specs.Sessions.{SessionSteps}
 use Rattle.chain_store.specs.Crashes.{SurvivesCrashes}
 use Rattle.shop_drain.specs.Crashes.{StandsSince}
 use Rattle.sender_beside.specs.Days.{Day, Stop, TillReplies, all_replies, torn_of}
 use Rattle.chain_store.specs.Clocks.{LeftClock}
-use Rattle.shop_drain.specs.Devices.{Agencies, AllDevices, Around, LeftAll, LeftSleeper, around}
+use Rattle.shop_drain.specs.Devices.{Agencies, AllDevices, Around, LeftAll, LeftSleeper, Sleepers, around, first_moment, tells_moment}
 use Rattle.shop_drain.specs.Draining.{AgreesAtStart, AgreesInFile, OpensSession}
 use Rattle.shop_commands.specs.Drain.{AllLeft, LeavesTime, NothingRose}
 use Rattle.command_ends.specs.Printed.{answers}
@@ -122,6 +123,10 @@ pub record ItsAgency {D G : Type 0} (d : Day) (plan : Plan) (a : Agencies G) (k 
   pub agreement : IsTrue d.kind.keeps_rules → AgreesAtStart a d.start → StaysAgreed d
   pub images : IsTrue k.tells → StaysAgreed d → LeavesNow (k.on_disk k.disk_after) (AgreesInFile d.version d.issuer d.after)
 
+-- its session by its steps, at the moment of the sleeper that is given, or of the one that a clock line makes
+abbrev pub StepsOf : {Z : Type 0} → Day → Option (ℕ × ℕ) → Sleepers Z → Type 0
+StepsOf d line z = SessionSteps d.kind.tells (tells_moment line z) d.drains (first_moment line z) d.start d.end d.opened d.after d.answer
+
 -- what an end tells of the sender, whose agency was in this state before the call
 pub record TellsOfSender (d : Day) (before : AgencyState) (end : Detail) : Type 0 where
   -- it is undelivered only where lines are missing and the agency failed eight times
@@ -152,6 +157,7 @@ pub record DayServed {D C Z G : Type 0} (issuer : List ℕ) (script : Script) (l
   pub tills : EachTill (day_of issuer script line c outcome)
   pub crashes : EachCrash (day_of issuer script line c outcome) c.disk
   pub agency : ItsAgency (day_of issuer script line c outcome) script.plan c.agency c.disk
+  pub session : StepsOf (day_of issuer script line c outcome) line c.sleeper
   pub ends : EndsAsServed (day_of issuer script line c outcome) c end
   pub time : LeavesTime line c.clock c.sleeper
 

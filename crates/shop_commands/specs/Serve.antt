@@ -14,6 +14,7 @@ use Rattle.dialogue_loop.specs.declared.speaking.SpeechEnd.{SpeechEnd}
 use Rattle.dialogue_loop.specs.declared.speaking.SpeechEnd.TheVariants as speech
 use Rattle.dialogue.specs.Protocol.{written_for}
 use Rattle.dialogue.specs.declared.speaker.Action.{Action}
+use Rattle.ports.specs.Causes.{RoseByOne}
 use Rattle.ports.specs.Sinks.{Sinks, Wrote}
 use Rattle.ports.specs.Sources.{SourceRose, Sources}
 use Rattle.ports.specs.declared.Clock as clock
@@ -28,7 +29,7 @@ use Rattle.shop_core.specs.History.{noted, recs}
 use Rattle.till_calls.specs.Root.{Parts, parts_of}
 use Rattle.shop_commands.specs.SenderEnds.{sender_end}
 use Rattle.command_ends.specs.DrainEnds.{sender_lacks_memory}
-use Rattle.shop_commands.specs.Day.{EachCrash, EachTillOf, HistoryGoesOn, ItsAgency, NotServed, Outcome, TellsOfSender}
+use Rattle.shop_commands.specs.Day.{EachCrash, EachTillOf, HistoryGoesOn, ItsAgency, NotServed, Outcome, StepsOf, TellsOfSender}
 use Rattle.shop_commands.specs.Day.{day_with}
 use Rattle.sender_beside.specs.Days.{Day}
 use Rattle.shop_drain.specs.Devices.{AllDevices, Around, LeftAll, ReadNothing, around, around_in}
@@ -97,6 +98,19 @@ pub data SpeechEnds (how : SpeechEnd) (replies : Replies) (answer : Result (Unit
   no_memory : Wrote k (written_for texts) ⊎ TookToLast k texts →
       SpeechEnds how replies answer noted_count records_count texts s k detail.NoMemory
 
+-- an end that follows a failed read: that of a read fault, or one that goes before it
+abbrev pub IsReadEnd : Detail → Type 0
+IsReadEnd detail.ReadFault = Unit {0}
+IsReadEnd detail.NoMemory = Unit {0}
+IsReadEnd detail.DiskFault = Unit {0}
+IsReadEnd (detail.Contradiction evidence) = Unit {0}
+IsReadEnd (detail.Undelivered noted_count records_count) = Unit {0}
+IsReadEnd _ = ⊥
+
+-- Of a source that counts each failed read, with its counts before and after: none failed, or one did, and it ends so.
+abbrev pub EndsAtFault : ℕ → ℕ → Detail → Type 0
+EndsAtFault faults faults_after end = (faults_after ≡ faults) ⊎ (RoseByOne faults faults_after × IsReadEnd end)
+
 -- how it ends, for this day of the shop
 pub record EndsAsSpoken {D C Z G : Type 0} (d : Day) (x : Speech) (s : Sources) (c : Around D C Z G) (end : Detail) : Type 0 where
   pub cause : SpeechEnds x.how x.said.replies d.answer (length (noted d.end)) (length (recs d.end))
@@ -110,18 +124,19 @@ pub record EndsAsSpoken {D C Z G : Type 0} (d : Day) (x : Speech) (s : Sources) 
 abbrev pub day_said : {D C Z G : Type 0} → List ℕ → Speech → Option (ℕ × ℕ) → Around D C Z G → Outcome → Day
 day_said issuer x line c o = day_with issuer x.said.asks line (drains_after x.how) c o
 
--- The file was opened, and the lines were answered one by one while the sender ran, with this clock line among them: all tills of the
--- shop asked for the commands among the lines, each for its own, and each question among them was answered at a history between that
--- at the start and that at the end.
+-- The file was opened, and the lines were answered one by one while the sender ran, with this clock line among them: the commands
+-- among the lines, in their order, are one run, in which each till asked for its own, and each question among them was answered at
+-- the history with the records that were taken before it.
 pub record SpeechServed {D C Z G : Type 0} (issuer : List ℕ) (line clock : Option (ℕ × ℕ)) (s : Sources) (c : Around D C Z G)
     (end : Detail) : Type 0 where
   pub speech : Speech
   pub outcome : Outcome
-  pub spoken : IsSpeech clock outcome.start outcome.end s outcome.tills speech
+  pub spoken : IsSpeech clock (day_said issuer speech line c outcome) s speech
   pub history : HistoryGoesOn (day_said issuer speech line c outcome)
   pub tills : EachTillOf (range_with_len 1 LAST_TILL) (day_said issuer speech line c outcome)
   pub crashes : EachCrash (day_said issuer speech line c outcome) c.disk
   pub agency : ItsAgency (day_said issuer speech line c outcome) plain c.agency c.disk
+  pub session : StepsOf (day_said issuer speech line c outcome) line c.sleeper
   pub ends : EndsAsSpoken (day_said issuer speech line c outcome) speech s c end
   pub time : LeavesTime line c.clock c.sleeper
 

@@ -1,10 +1,10 @@
 //! The command `serve`: opens the file, begins the agency's session, and answers the lines of the source one by one, with a sender
 //! at the same time, until the source ends. Then it drains, and prints the chain line. After a fault of the disk it ends at once.
-ghost use Rattle.std.specs.Prelude.{◌≡◌, ◌≤◌, ◌∷◌, ◌++◌, [], ℕ, true, List, length, Option, OnOk, None};
+ghost use Rattle.std.specs.Prelude.{◌≡◌, ◌≤◌, ◌∷◌, ◌++◌, [], ℕ, true, List, length, IsTrue, Option, OnOk, None};
 ghost use Rattle.std.specs.List.{list_any};
 ghost use Rattle.chain_store.specs.Replies.{Replies, is_no_memory};
 ghost use Rattle.chain_store.specs.Store.{Ready, journal_of};
-ghost use Rattle.dialogue_loop.specs.Speech.{AreRepliesOf, IsWritten, clock_first};
+ghost use Rattle.dialogue_loop.specs.Speech.{AreRepliesOf, ComesOnce, IsWritten, clock_first};
 ghost use Rattle.dialogue_loop.specs.declared.speaking.SpeechEnd.TheVariants as speech;
 ghost use Rattle.dialogue.specs.Protocol.{written_for};
 ghost use Rattle.journal.specs.Journal.{stopped_of};
@@ -16,7 +16,7 @@ ghost use Rattle.shop_core.specs.Answer.Requests.{Asked};
 ghost use Rattle.shop_core.specs.History.{noted, recs};
 ghost use Rattle.shop_drain.specs.Devices.{this_call};
 ghost use Rattle.shop_commands.specs.Serve as spec;
-ghost use Rattle.shop_commands.specs.Serve.{Closes, ServeEnds, ServesOn, SpeechEnds, sink_to};
+ghost use Rattle.shop_commands.specs.Serve.{Closes, EndsAtFault, IsReadEnd, ServeEnds, ServesOn, SpeechEnds, sink_to};
 ghost use Rattle.shop_dialogue.specs.Dialogues.{HasCome, drains_after};
 
 use crate::day::sender_end;
@@ -68,6 +68,7 @@ where
     ensures status { result.0.status ≡ status_of result.0.detail }
     ensures ends { ServeEnds issuer.now (this_call (this_source S.left S.faults source.old source.new)
         (this_sink K.taken K.faults sink.old sink.new) D.Disk C.Clock Z.Sleeper G.Agency post result.1) result.0.detail }
+    ensures once { IsTrue S.counts → EndsAtFault (S.faults source.old) (S.faults source.new) result.0.detail }
 {
     let means = Means { rt, alloc, gate };
     let (detail, post) = serve_file(means, issuer, source, sink, post);
@@ -91,8 +92,9 @@ where
     G: Agency + Send + Drop,
     T: Gate + Sync,
     R: Threads + Wait + Sync,
-    ensures { ServeEnds issuer.now (this_call (this_source S.left S.faults source.old source.new)
+    ensures ends { ServeEnds issuer.now (this_call (this_source S.left S.faults source.old source.new)
         (this_sink K.taken K.faults sink.old sink.new) D.Disk C.Clock Z.Sleeper G.Agency post result.1) result.0 }
+    ensures once { IsTrue S.counts → EndsAtFault (S.faults source.old) (S.faults source.new) result.0 }
 {
     let Ok(mut listener) = Listener::new(means.alloc) else {
         return (Detail::NoMemory, post);
@@ -144,9 +146,11 @@ where
     requires going_on { stopped_of (journal_of opened.store) ≡ None }
     requires ready { Ready D.tells D.on_disk opened.store }
     requires first { HasCome (S.left source.old) (S.faults source.old) listener first.now }
-    ensures { ServesOn D.Disk C.Clock Z.Sleeper G.Agency (clock_first first.now) listener first.now
+    ensures ends { ServesOn D.Disk C.Clock Z.Sleeper G.Agency (clock_first first.now) listener first.now
         (this_source S.left S.faults source.old source.new) (this_sink K.taken K.faults sink.old sink.new) opened
         result.1 result.0 }
+    ensures once { IsTrue S.counts → (faults : ℕ) → ComesOnce faults (S.faults source.old) first.now →
+        EndsAtFault faults (S.faults source.new) result.0 }
 {
     let Some((start, step)) = clock_line(first) else {
         return serve_opened(means, listener, first, source, sink, opened);
@@ -177,9 +181,11 @@ where
     requires going_on { stopped_of (journal_of opened.store) ≡ None }
     requires ready { Ready D.tells D.on_disk opened.store }
     requires first { HasCome (S.left source.old) (S.faults source.old) listener first.now }
-    ensures { ServesOn D.Disk C.Clock Z.Sleeper G.Agency None listener first.now
+    ensures ends { ServesOn D.Disk C.Clock Z.Sleeper G.Agency None listener first.now
         (this_source S.left S.faults source.old source.new) (this_sink K.taken K.faults sink.old sink.new) opened
         result.1 result.0 }
+    ensures once { IsTrue S.counts → (faults : ℕ) → ComesOnce faults (S.faults source.old) first.now →
+        EndsAtFault faults (S.faults source.new) result.0 }
 {
     what_a_disk_reads_is_an_image::<D>();
     who_keeps_the_rules_tells::<G>();
@@ -244,7 +250,8 @@ fn write_chain<K: Sink>(alloc: Global, state: &State, sink: &mut K) -> SpeechEnd
 // contradiction and an undelivered drain, and these before a fault of the source or of the sink.
 fn speech_end(how: SpeechEnd, lacked: bool, sent: &Result<(), DrainFault>, state: &State) -> Detail
     requires counts { drains_after how ≡ true → OnOk sent.now (length (noted state.now.entries) ≡ length (recs state.now.entries)) }
-    ensures { (began : SpeechEnd) (asks : List Asked) (replies : Replies) (answers texts : List (List ℕ)) (s : Sources) (k : Sinks) →
+    ensures read { how ≡ speech.ReadFault → IsReadEnd result }
+    ensures ends { (began : SpeechEnd) (asks : List Asked) (replies : Replies) (answers texts : List (List ℕ)) (s : Sources) (k : Sinks) →
         Closes began how → AreRepliesOf began asks replies answers → lacked ≡ list_any is_no_memory replies →
         (began ≡ speech.ReadFault → SourceRose s) → IsWritten how k texts →
         SpeechEnds began replies sent.now (length (noted state.now.entries)) (length (recs state.now.entries)) texts s k result }

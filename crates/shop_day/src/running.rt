@@ -3,8 +3,10 @@ ghost use Rattle.std.specs.Prelude.{◌≡◌, ◌≢◌, ◌≤◌, [], true, m
 ghost use Rattle.till_calls.specs.Root.{parts_of};
 ghost use Rattle.till_calls.specs.Shop.{made_tills, numbers, seat_knows, seat_shop, shop_id, shop_root, till_shop};
 ghost use Rattle.till_calls.specs.Mark.{mark_by, sight_by};
+ghost use Rattle.sender.specs.Draining.{scene_of};
 ghost use Rattle.sender.specs.Sending.{fresh};
 ghost use Rattle.sender_session.specs.Session.{IsUndelivered, SendsOn};
+ghost use Rattle.sender_session.specs.Sessions.{SessionSteps, StepsBeside};
 ghost use Rattle.sender_beside.specs.Days.{shop_day};
 ghost use Rattle.sender_session.specs.Kinds.{agency_state_of, agency_kind, store_kind};
 ghost use Rattle.shop_drain.specs.Started.{IsStarted};
@@ -17,7 +19,7 @@ use crate::tills::{TillDay, TillJob, TillRoom, hand_in, hand_out, work_all};
 use agency_port::Agency;
 use chain_disk::Disk;
 use chain_lock::who_sees_all_that_is_owned_sees_all;
-use once_world::agreement_is_kept;
+use once_world::{agreement_is_kept, what_came_beside_is_records};
 use ports::{Clock, Gate, Sleeper};
 use sender::{DrainFault, a_session_begins};
 use sender_beside::{Sent, drain_rest, with_sender};
@@ -73,6 +75,9 @@ where
     ensures mark { mark_by (seat_shop result.seat) (seat_knows result.seat) ≡ mark_by (seat_shop seat) (seat_knows seat) }
     ensures sends { SendsOn (agency_kind G.Agency) (sight_by (seat_knows seat)) (sight_by (seat_knows result.seat))
         (agency_state_of G.Agency agency) (agency_state_of G.Agency result.agency) fresh result.sender result.answer }
+    ensures steps { StepsBeside (agency_kind G.Agency) Z.tells
+        (scene_of (agency_state_of G.Agency agency) (sight_by (seat_knows seat)) fresh (Z.moment sleeper))
+        (scene_in (agency_state_of G.Agency) Z.moment result) result.answer }
     ensures never { IsUndelivered result.answer → ⊥ }
 {
     let stop = AtomicBool::new(false);
@@ -127,8 +132,14 @@ pub fn run_day<
     ensures behind { SendsBehind (agency_kind G.Agency) Z.tells true (agency_state_of G.Agency begun.agency)
         (agency_state_of G.Agency result.opened.agency) (scene_in (agency_state_of G.Agency) Z.moment result.met.value)
         (scene_in (agency_state_of G.Agency) Z.moment result.left.value) result.met.value.answer result.answer }
+
+    // The whole session by its steps, from the sleeper's moment at the start.
+    ensures steps { SessionSteps G.tells Z.tells true (Z.moment begun.sleeper) (shop_root begun.started.shop).history
+        (parts_of result.opened.store).state.entries (agency_state_of G.Agency begun.agency)
+        (agency_state_of G.Agency result.opened.agency) result.answer }
 {
     agreement_is_kept();
+    what_came_beside_is_records();
     a_session_begins();
     a_run_is_told_at_the_end::<C>();
     a_till_adds_what_is_taken::<C>();

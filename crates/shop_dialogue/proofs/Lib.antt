@@ -1,1 +1,2 @@
 pub mod AllTills
+mod Counting

@@ -1,25 +1,25 @@
 -- What is said in a dialogue with a shop, and what it makes of the shop.
-use Rattle.std.specs.Prelude.{◌≡◌, ◌≤◌, ℕ, Bool, true, false, List, length, map, Option, Result}
+use Rattle.std.specs.Prelude.{◌≡◌, ◌≤◌, ℕ, Bool, true, false, List, length, map, IsTrue, Option, Result}
 use Rattle.std.specs.List.{AllByRecursion, list_any, range_with_len}
 use Rattle.chain_lock.specs.Known.{Known}
 use Rattle.chain_store.specs.Replies.{is_no_memory}
 use Rattle.dialogue_loop.specs.InARow.{IsOfTill, replies_of}
 use Rattle.dialogue_loop.specs.Looked.{AreLooked}
-use Rattle.dialogue_loop.specs.Speech.{AreRepliesOf, ComesFirst, IsCause, IsRead, IsWritten, Moment, Spoken, clock_first}
-use Rattle.dialogue_loop.specs.Speech.{moment_since, sink_since}
+use Rattle.dialogue_loop.specs.OneRun.{IsOneRun}
+use Rattle.dialogue_loop.specs.Speech.{AreRepliesOf, ComesFirst, ComesOnce, EndsOnce, IsCause, IsRead, IsWritten, Moment, Spoken}
+use Rattle.dialogue_loop.specs.Speech.{clock_first, moment_since, sink_since}
 use Rattle.dialogue_loop.specs.declared.listener.Listener.{Listener}
 use Rattle.dialogue_loop.specs.declared.speaking.SpeechEnd.{SpeechEnd}
 use Rattle.dialogue_loop.specs.declared.speaking.SpeechEnd.TheVariants as speech
 use Rattle.dialogue.specs.Protocol.{Dialogue, Transcript, clock_said}
 use Rattle.dialogue.specs.declared.speaker.Action.{Action}
 use Rattle.ports.specs.Sources.{SourceRose, Sources}
-use Rattle.record_codec.specs.declared.entry.Entry.{Entry}
 use Rattle.record_codec.specs.declared.entry.TheConstants.{LAST_TILL}
 use Rattle.sender.specs.Turning.{AgencyKind, AgencyState}
 use Rattle.sender.specs.declared.answers.DrainFault.{DrainFault}
 use Rattle.shop_core.specs.declared.items.Item.{Item}
 use Rattle.till_calls.specs.Root.{Parts, Root}
-use Rattle.sender_beside.specs.Days.{TillReplies, shop_day}
+use Rattle.sender_beside.specs.Days.{Day, TillReplies, shop_day}
 use Rattle.sender_session.specs.Kinds.{StoreKind}
 use Rattle.sender_beside.specs.Tills.{DayRun}
 
@@ -29,17 +29,18 @@ pub record Speech : Type 0 where
   pub how : SpeechEnd
 
 -- The lines are those of the source, one after another; what is written is the answer to each; each till was told its own of the
--- replies, in this order, and the first fault of the disk is the last of them; each question was answered at a history that begins
--- with the one at the start, is a front of the one at the end, is no shorter than any before it, and has each record that was told
--- before it; and this is the clock line among them, or none.
-pub record IsSpeech (clock : Option (ℕ × ℕ)) (start end : List Entry) (s : Sources) (tills : List TillReplies) (x : Speech) :
-    Type 0 where
+-- replies, in this order, and the first fault of the disk is the last of them; the commands, in the order of their lines, are one
+-- run; each question was answered at a history that begins with the one at the start, is a front of the one at the end, is no
+-- shorter than any before it, and has exactly the records at the start and those that were taken before it; and this is the clock
+-- line among them, or none.
+pub record IsSpeech (clock : Option (ℕ × ℕ)) (d : Day) (s : Sources) (x : Speech) : Type 0 where
   pub dialogue : Dialogue x.said
   pub pairs : length x.said.replies ≡ length x.said.asks
   pub clock_is : clock_said x.said.before ≡ clock
   pub of_tills : AllByRecursion IsOfTill x.said.asks
-  pub told : AllByRecursion (λ (t : TillReplies). t.replies ≡ replies_of t.till x.said.asks x.said.replies) tills
-  pub looked : AreLooked start end x.said.replies x.said.looks
+  pub told : AllByRecursion (λ (t : TillReplies). t.replies ≡ replies_of t.till x.said.asks x.said.replies) d.tills
+  pub run : IsOneRun d.version d.issuer d.coming d.start d.end x.said.asks x.said.replies x.said.looks
+  pub looked : AreLooked d.start d.end x.said.replies x.said.looks
   pub read : IsRead x.how s.left s.left_after x.said.lines
   pub replies_are : AreRepliesOf x.how x.said.asks x.said.replies x.said.answers
   pub read_fault : x.how ≡ speech.ReadFault → SourceRose s
@@ -54,12 +55,13 @@ pub record HasCome (left_now : Option (List ℕ)) (faults_now : ℕ) (l : Listen
   pub cause : IsCause faults faults_now first
 
 -- What is spoken from this first line on, whatever its source had to give before that line: the tills knew so much before, and now.
-abbrev pub SpeaksOn : {C : Type 0} → (C → ℕ → Option ℕ) → Listener → Result Action SpeechEnd → Moment → Moment → Bool →
-    List (Known Item (Root C)) → List (Known Item (Root C)) → SpeechEnd → Type 0
-SpeaksOn coming listener first from now lacked olds news how =
-    (left : Option (List ℕ)) (faults : ℕ) → ComesFirst left from.left listener first → faults ≤ from.source_faults →
-    IsCause faults from.source_faults first →
-    Spoken coming (clock_first first) (moment_since left faults from.taken from.sink_faults) now lacked olds news how
+-- A source that counts each failed read failed once where a read fault is told, and else not.
+pub record SpeaksOn {C : Type 0} (coming : C → ℕ → Option ℕ) (counts : Bool) (listener : Listener) (first : Result Action SpeechEnd)
+    (from now : Moment) (lacked : Bool) (olds news : List (Known Item (Root C))) (how : SpeechEnd) : Type 0 where
+  pub spoken : (left : Option (List ℕ)) (faults : ℕ) → ComesFirst left from.left listener first → faults ≤ from.source_faults →
+      IsCause faults from.source_faults first →
+      Spoken coming (clock_first first) (moment_since left faults from.taken from.sink_faults) now lacked olds news how
+  pub once : IsTrue counts → (faults : ℕ) → ComesOnce faults from.source_faults first → EndsOnce faults now.source_faults how
 
 -- whether a drain follows a dialogue that ended so: always, but after a fault of the disk
 abbrev pub drains_after : SpeechEnd → Bool
@@ -76,12 +78,12 @@ pub record DialogueRun {D C : Type 0} (h : StoreKind D C) (root : Root C) (new :
   pub speech : Speech
   pub tills : List TillReplies
   pub how_is : speech.how ≡ how
-  pub spoken : IsSpeech clock root.history new.state.entries (record {
+  pub spoken : IsSpeech clock (shop_day h.coming speech.said.asks root new tills kind opened after (drains_after how) answer) (record {
     left = from.left;
     left_after = now.left;
     faults = from.source_faults;
     faults_after = now.source_faults;
-  }) tills speech
+  }) speech
   pub are : map (λ (t : TillReplies). t.till) tills ≡ range_with_len 1 LAST_TILL
   pub lacked_is : lacked ≡ list_any is_no_memory speech.said.replies
   pub written : IsWritten how (sink_since from now) speech.said.answers

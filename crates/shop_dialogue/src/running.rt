@@ -1,14 +1,16 @@
 //! A dialogue with the tills of a shop, and a sender at the same time.
-ghost use Rattle.std.specs.Prelude.{◌≡◌, ◌≤◌, [], ℕ, List, Option, false, map, reverse, All, vec_capacity};
+ghost use Rattle.std.specs.Prelude.{◌≡◌, ◌≤◌, [], ℕ, List, Option, false, map, reverse, All, IsTrue, vec_capacity};
 ghost use Rattle.std.specs.List.{range_with_len};
-ghost use Rattle.dialogue_loop.specs.Speech.{ComesFirst, IsCause, clock_first, moment_of, moment_since};
+ghost use Rattle.dialogue_loop.specs.Speech.{ComesFirst, ComesOnce, EndsOnce, IsCause, clock_first, moment_of, moment_since};
 ghost use Rattle.record_codec.specs.declared.entry.TheConstants.{LAST_TILL};
+ghost use Rattle.sender.specs.Draining.{scene_of};
 ghost use Rattle.sender.specs.Sending.{fresh};
 ghost use Rattle.till_calls.specs.Mark.{mark_by, sight_by};
 ghost use Rattle.till_calls.specs.Root.{parts_of};
 ghost use Rattle.till_calls.specs.Shop.{made_tills, numbers, seat_knows, seat_shop, shop_id, shop_root, till_knows, till_number};
 ghost use Rattle.till_calls.specs.Shop.{till_shop};
 ghost use Rattle.sender_session.specs.Session.{IsUndelivered, SendsOn};
+ghost use Rattle.sender_session.specs.Sessions.{SessionSteps, StepsBeside};
 ghost use Rattle.sender_session.specs.Kinds.{agency_state_of, agency_kind, store_kind};
 ghost use Rattle.sender_beside.specs.Behind.{SendsBehind, scene_in};
 ghost use Rattle.shop_dialogue.specs.Dialogues as spec;
@@ -22,7 +24,7 @@ use dialogue::Action;
 use dialogue_loop::{
     Listener, SpeechEnd, SpeechMeans, SpeechState, answer_lines, give_back, hold_all,
 };
-use once_world::agreement_is_kept;
+use once_world::{agreement_is_kept, what_came_beside_is_records};
 use ports::{Clock, Gate, Sink, Sleeper, Source};
 use sender::{DrainFault, a_session_begins};
 use sender_beside::{Sent, drain_if, with_sender};
@@ -90,7 +92,7 @@ fn answer_to_end<S: Source, K: Sink, D: Disk, C: Clock, T: Gate, R: Wait>(
     requires lacked { talk.old.speech.lacked ≡ false }
     ensures own { All (λ t. till_shop t ≡ shop_id shop.now) talk.new.speech.held.items }
     ensures numbers { map till_number talk.new.speech.held.items ≡ map till_number talk.old.speech.held.items }
-    ensures spoken { SpeaksOn C.coming talk.old.speech.listener first.now
+    ensures spoken { SpeaksOn C.coming S.counts talk.old.speech.listener first.now
         (moment_of S.left S.faults K.taken K.faults source.old sink.old)
         (moment_of S.left S.faults K.taken K.faults source.new sink.new) talk.new.speech.lacked
         (map till_knows talk.old.speech.held.items) (map till_knows talk.new.speech.held.items) talk.new.how }
@@ -129,7 +131,7 @@ where
     requires seat { seat_shop sender.seat ≡ shop_id shop.now }
     ensures own { All (λ t. till_shop t ≡ shop_id shop.now) talk.new.speech.held.items }
     ensures numbers { map till_number talk.new.speech.held.items ≡ map till_number talk.old.speech.held.items }
-    ensures spoken { SpeaksOn C.coming talk.old.speech.listener first.now
+    ensures spoken { SpeaksOn C.coming S.counts talk.old.speech.listener first.now
         (moment_of S.left S.faults K.taken K.faults source.old sink.old)
         (moment_of S.left S.faults K.taken K.faults source.new sink.new) talk.new.speech.lacked
         (map till_knows talk.old.speech.held.items) (map till_knows talk.new.speech.held.items) talk.new.how }
@@ -137,6 +139,9 @@ where
         ≡ mark_by (seat_shop sender.seat) (seat_knows sender.seat) }
     ensures sends { SendsOn (agency_kind G.Agency) (sight_by (seat_knows sender.seat)) (sight_by (seat_knows result.seat))
         (agency_state_of G.Agency sender.agency) (agency_state_of G.Agency result.agency) fresh result.sender result.answer }
+    ensures steps { StepsBeside (agency_kind G.Agency) Z.tells
+        (scene_of (agency_state_of G.Agency sender.agency) (sight_by (seat_knows sender.seat)) fresh (Z.moment sender.sleeper))
+        (scene_in (agency_state_of G.Agency) Z.moment result) result.answer }
     ensures never { IsUndelivered result.answer → ⊥ }
 {
     let SenderParts {
@@ -159,7 +164,7 @@ where
                 × (talk.now.speech.lacked ≡ false) }
             ensures { All (λ t. till_shop t ≡ shop_id shop.entry.now) talk.exit.now.speech.held.items
                 × (map till_number talk.exit.now.speech.held.items ≡ map till_number talk.entry.now.speech.held.items)
-                × SpeaksOn C.coming talk.entry.now.speech.listener first.entry.now
+                × SpeaksOn C.coming S.counts talk.entry.now.speech.listener first.entry.now
                 (moment_of S.left S.faults K.taken K.faults source.entry.now sink.entry.now)
                 (moment_of S.left S.faults K.taken K.faults source.exit.now sink.exit.now)
                 talk.exit.now.speech.lacked (map till_knows talk.entry.now.speech.held.items)
@@ -201,12 +206,22 @@ pub fn run_dialogue<
         (moment_of S.left S.faults K.taken K.faults source.new sink.new) (agency_kind G.Agency)
         (agency_state_of G.Agency begun.agency) (agency_state_of G.Agency result.opened.agency) result.answer result.lacked result.how }
 
+    // Of a source that counts each failed read one failed where a read fault is told, and else none.
+    ensures once { IsTrue S.counts → (faults : ℕ) → ComesOnce faults (S.faults source.old) first.now →
+        EndsOnce faults (S.faults source.new) result.how }
+
     // What the sender did by the dialogue's end, and what it did from there.
     ensures behind { SendsBehind (agency_kind G.Agency) Z.tells (spec.drains_after result.how) (agency_state_of G.Agency begun.agency)
         (agency_state_of G.Agency result.opened.agency) (scene_in (agency_state_of G.Agency) Z.moment result.met.value)
         (scene_in (agency_state_of G.Agency) Z.moment result.left.value) result.met.value.answer result.answer }
+
+    // The whole session by its steps, from the sleeper's moment at the start.
+    ensures steps { SessionSteps G.tells Z.tells (spec.drains_after result.how) (Z.moment begun.sleeper)
+        (shop_root begun.started.shop).history (parts_of result.opened.store).state.entries (agency_state_of G.Agency begun.agency)
+        (agency_state_of G.Agency result.opened.agency) result.answer }
 {
     agreement_is_kept();
+    what_came_beside_is_records();
     a_session_begins();
     a_run_is_told_at_the_end::<C>();
     a_till_adds_what_is_taken::<C>();

@@ -26,31 +26,12 @@ use Rattle.sender.proofs.Drains.{told_split}
 use Rattle.sender.proofs.Growing.{no_growth}
 use Rattle.sender.proofs.Sessions.{is_turn_growth}
 use Rattle.shop_drain.specs.Draining.{TearsLast}
-use Rattle.sender_session.specs.Steps.{Step, Waits, Says, LacksMemory, Standing, Steps, at_start, line_in, message_in}
-use Rattle.sender_session.specs.Steps.{after_steps, EndsBy, EndsSaying, AreTold}
+use Rattle.sender_session.specs.Steps.{Step, Standing, Steps, at_start, line_in, message_in}
+use Rattle.sender_session.specs.Steps.{after_steps, EndsBy, AreTold}
+use Rattle.sender_session.proofs.Closings.{ends_by, said_one}
 use Rattle.sender_session.proofs.Standing.{Did}
 use Rattle.sender_session.proofs.Stops.{answers_fault}
 use Rattle.sender_session.proofs.Walking.{At, Walked, walked, turn_did, are_then, link_count, risen_more, steps_then}
-
-no_steps : (steps : List Step) → map line_in steps ≡ [] → steps ≡ []
-no_steps [] e = refl
-no_steps (s ∷ steps) e = absurd cc
-
--- a line that is neither a wait nor lack of memory stands for a message
-abbrev IsOfMessage : Told → Type 0
-IsOfMessage printed = ((at : ℕ) → printed ≡ told.Wait at → ⊥) × (printed ≡ told.Memory → ⊥)
-
-said_one : (steps : List Step) (printed : Told) → IsOfMessage printed → map line_in steps ≡ printed ∷ [] →
-    EndsSaying steps printed
-said_one [] printed of e = absurd cc
-said_one (Waits at ∷ []) printed of e = absurd (of.0 at (let f : printed ≡ told.Wait at = cc in f))
-said_one (LacksMemory ∷ []) printed of e = absurd (of.1 (let f : printed ≡ told.Memory = cc in f))
-said_one (Says m l ∷ []) printed of e = record {
-  message = m;
-  is = ap (λ (x : Told). Says m x ∷ []) (let f : l ≡ printed = cc in
-      f);
-}
-said_one (s ∷ (t ∷ steps)) printed of e = absurd cc
 
 module _ (kind : AgencyKind) (exact : Bool) (records : List Sealed) (agency_state : AgencyState) (sight : Sight) (moment : ℕ) (then : Scene)
     (old new : List Told) (answer : Result (Unit {0}) DrainFault) where
@@ -91,7 +72,8 @@ module _ (kind : AgencyKind) (exact : Bool) (records : List Sealed) (agency_stat
           w.risen below in
           omega (arith, split, one, same, so_far, risen);
       ends = elim d.ends [
-        | inl p ↦ by_answer answer p.1 delivered
+        | inl p ↦ ends_by records (after_steps st w.steps) (count_by is_link (map line_in w.steps)) then.sight x.steps d.answer answer
+            x.lines records_then x.contrary (subst (λ (n : ℕ). EndsWith n then.sight d.answer answer) w.counted p.1) delivered
         | inr p ↦ subst (λ (a : Result (Unit {0}) DrainFault). EndsBy records (after_steps st w.steps)
             (count_by is_link (map line_in w.steps)) (length (noted (history_of then.sight))) x.steps a) (sym p.0) tt
       ];
@@ -150,31 +132,3 @@ module _ (kind : AgencyKind) (exact : Bool) (records : List Sealed) (agency_stat
 
       records_then : length (recs (history_of then.sight)) ≡ length records
       records_then = ap length x.records_are
-
-      by_answer : (a : Result (Unit {0}) DrainFault) → EndsWith d.links then.sight d.answer a →
-          OnOk a (length (noted (history_of then.sight)) ≡ length (recs (history_of then.sight))) →
-          EndsBy records (after_steps st w.steps) (count_by is_link (map line_in w.steps))
-          (length (noted (history_of then.sight))) x.steps a
-      by_answer (Ok done) e all = (no_steps x.steps (lines_of (Ok (Idle e.0)) e.1), all ∙ records_then)
-      by_answer (Err (drain.Undelivered noted_count records_count)) e all =
-          let a = w.counted in
-          let b = e.1 in
-          let c = e.2.noted_is in
-          let f = e.2.some in
-          let k = e.2.records_is in
-          let r = records_then in (
-            said_one x.steps told.Link ((λ at q. absurd cc), (λ q. absurd cc)) (lines_of (Err send.LinkFault) e.0),
-            omega (arith, a, b),
-            c,
-            k ∙ r,
-            omega (arith, c, f, k, r),
-          )
-      by_answer (Err (drain.Contradiction evidence)) e all = x.contrary evidence e
-      by_answer (Err (drain.Store store.DiskFault)) e all = said_one x.steps told.Disk ((λ at q. absurd cc), (λ q. absurd cc))
-          (lines_of (Err (send.Store store.DiskFault)) e)
-      by_answer (Err (drain.Store (store.Stopped faults))) e all = said_one x.steps (told.Stopped faults) (
-        (λ at q. absurd cc),
-        (λ q. absurd cc),
-      ) (lines_of (Err (send.Store (store.Stopped faults))) e)
-      by_answer (Err (drain.Store store.NoMemory)) e all = tt
-      by_answer (Err drain.NoMemory) e all = tt

@@ -5,7 +5,7 @@ use Rattle.till_calls.specs.Root.{Root}
 use Rattle.till_calls.specs.Shop.{till_knows, till_number}
 use Rattle.till_calls.specs.declared.tills.Till.{Till}
 use Rattle.std.proofs.lemmas.List.{length-map}
-use Rattle.dialogue_loop.specs.Looked.{FirstInformed}
+use Rattle.dialogue_loop.specs.Looked.{Informed}
 use Rattle.dialogue_loop.proofs.InARow.{informed_by, informed_self, raised_sees, same_of, whole}
 use Rattle.dialogue_loop.proofs.held.inform_first.Goals as goal
 
@@ -54,7 +54,7 @@ returns-then-place-lt-FIRST-clause-informed g c =
     ap (λ (t : T). record (till_knows (get_or firsts 0 to)) { least = max (till_knows (get_or firsts 0 to)).least (till_knows t).least })
     (sym a) ∙ ap (λ (t : T). record (till_knows t) { least = max (till_knows t).least (till_knows from).least }) (sym b) in
     let sees = raised_sees old new (till_knows from).least raised in
-    subst (λ (l : List T). FirstInformed (map till_knows items) c.args.place (map till_knows l))
+    subst (λ (l : List T). Informed (map till_knows items) c.args.place 63 (map till_knows l))
     (sym (whole items others firsts c.args.place from c.inform.new.from to c.inform.new.to parts front back below a b c.args.held.now.len (long ∙ sym c.requires.size)))
     (informed_by items others firsts c.args.place from c.inform.new.from to c.inform.new.to parts front back below a b till_knows
     (c.inform.ensures.knows ∙ sym (ap till_knows a)) sees.0 sees.1)
@@ -63,5 +63,5 @@ pub returns-else-place-lt-FIRST-clause-informed : goal.returns-else-place-lt-FIR
 returns-else-place-lt-FIRST-clause-informed g c =
     let is : c.args.place ≡ 63 = (let e = c.if-place-lt-FIRST.false in let w = c.requires.within in omega (arith, e, w)) in
     let ks = map till_knows c.args.held.now.items in
-    subst (λ (n : ℕ). FirstInformed ks n ks) (sym is)
+    subst (λ (n : ℕ). Informed ks n 63 ks) (sym is)
     (informed_self ks (let e = length-map c.args.held.now.items till_knows in let s = c.requires.size in omega (arith, e, s)))

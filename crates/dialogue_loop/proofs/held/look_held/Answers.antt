@@ -37,7 +37,7 @@ returns-clause-looked g c =
     let long : 63 < length items =
     (let a = row_size (map till_number items) c.requires.numbers in let e = length-map items till_number in omega (arith, a, e)) in
     let at : slice_get (map till_knows items) 63 ≡ Some (till_knows old) = at_place till_knows items 63 old long c.index_mut-first.ensures.value in
-    subst (λ (l : List (Known Item (Root g.row.C.Denot))). LookedFor c.args.question.now c.look.result (map till_knows items) l)
+    subst (λ (l : List (Known Item (Root g.row.C.Denot))). LookedFor g.C.Clock.coming c.args.question.now c.look.result (map till_knows items) l)
     (sym (map-set till_knows items 63 new))
-    (looked_by c.a_list_fits_what_was_known_before.ensures c.args.question.now c.look.result (map till_knows items) (till_knows old)
+    (looked_by g.C.Clock.coming c.a_list_fits_what_was_known_before.ensures c.args.question.now c.look.result (map till_knows items) (till_knows old)
     (till_knows new) at c.look.ensures.looks)

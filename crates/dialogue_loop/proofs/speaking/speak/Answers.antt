@@ -3,7 +3,14 @@ use Rattle.std.specs.Prelude.{reverse}
 use Rattle.dialogue_loop.proofs.speaking.speak.Goals as goal
 
 pub loop-init : goal.loop-init
-loop-init g c = record { next = tt; finite = tt; numbers = refl; own = c.requires.own; said = λ clock from olds size later said. (said, later) }
+loop-init g c = record {
+  next = tt;
+  finite = tt;
+  numbers = refl;
+  once = λ counts. refl;
+  own = c.requires.own;
+  said = λ clock from olds size later said. (said, later);
+}
 
 pub one_line-requires-clause-numbers : goal.one_line-requires-clause-numbers
 one_line-requires-clause-numbers g c = ap (λ (l : List ℕ). reverse l) c.loop.invariant.numbers ∙ c.requires.numbers
@@ -21,6 +28,7 @@ loop-preserved g c = record {
   next = tt;
   finite = tt;
   numbers = c.one_line.ensures.numbers ∙ c.loop.invariant.numbers;
+  once = λ counts. c.in-None-one_line.ensures.once counts ∙ c.loop.invariant.once counts;
   own = c.one_line.ensures.own;
   said = λ clock from olds size later said.
       let before = c.loop.invariant.said clock from olds size later said in

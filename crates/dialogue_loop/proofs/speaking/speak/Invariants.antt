@@ -1,4 +1,4 @@
-use Rattle.std.proofs.Common.{◌≡◌, ℕ, List, Option, length, map, All}
+use Rattle.std.proofs.Common.{◌≡◌, ℕ, List, IsTrue, Option, length, map, All}
 use Rattle.chain_lock.specs.Known.{Known}
 use Rattle.shop_core.specs.declared.items.Item.{Item}
 use Rattle.till_calls.specs.Root.{Root}
@@ -11,6 +11,7 @@ invariant-loop g l = record {
   next : (goal.iterator-loop g).can_next l.iterator';
   finite : (goal.iterator-loop g).is_finite l.iterator';
   numbers : map till_number l.speech.held.items ≡ map till_number l.fn.speech.held.items;
+  once : IsTrue g.S.Source.counts → g.S.Source.faults l.source ≡ g.S.Source.faults l.fn.source;
   own : All (λ t. till_shop t ≡ shop_id l.fn.shop) l.speech.held.items;
   said : (clock : Option (ℕ × ℕ)) (from : Moment) (olds : List (Known Item (Root g.row.C.Denot))) → length olds ≡ 64 →
       HasAnswered l.fn.speech.listener →

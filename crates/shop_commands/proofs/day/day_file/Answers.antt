@@ -11,6 +11,8 @@ use Rattle.shop_core.specs.Answer.Requests.{Asked}
 use Rattle.till_calls.specs.Root.{Parts, Root, parts_of, root_of}
 use Rattle.shop_commands.specs.SenderEnds.{DayRunEnds}
 use Rattle.shop_drain.specs.Opening.{IsUnbegun}
+use Rattle.record_codec.specs.declared.entry.Entry.{Entry}
+use Rattle.sender_session.specs.Sessions.{SessionSteps}
 use Rattle.sender_beside.specs.Behind.{DrainsBehind, scene_in}
 use Rattle.sender_beside.specs.Days.{all_replies, shop_day}
 use Rattle.shop_commands.specs.Day.{day_text}
@@ -130,6 +132,14 @@ returns-in-Ok-begin g c =
       beside = served.met.value.answer;
       sends = c.run_day-opened.ensures.behind;
     }) in
+    let Session : ℕ → List Entry → g.row.G.Denot → Type 0 = λ m es y. SessionSteps g.G.Agency.tells g.Z.Sleeper.tells true m es
+    new.state.entries (agency_state_of g.G.Agency b.agency) (agency_state_of g.G.Agency y) served.answer in
+    let moment : g.Z.Sleeper.moment b.sleeper ≡ g.Z.Sleeper.moment out.sleeper = ap g.Z.Sleeper.moment (begun.sleeper ∙ k.kept.0) in
+    let session : Session (g.Z.Sleeper.moment out.sleeper) p0.state.entries then.agency =
+    subst (λ (m : ℕ). Session m p0.state.entries then.agency) moment
+    (subst (λ (y : g.row.G.Denot). Session (g.Z.Sleeper.moment b.sleeper) p0.state.entries y) (sym c.close-in-Ok-begin.ensures.rest.1)
+    (subst (λ (r : Root g.row.C.Denot). Session (g.Z.Sleeper.moment b.sleeper) r.history served.opened.agency) begun.shop.root
+    c.run_day-opened.ensures.steps)) in
     let ends : DayRunEnds (all_replies tills) served.answer (length (noted new.state.entries)) (length (recs new.state.entries))
     (day_text asks tills new.state.entries) sink end =
     subst (λ (h : History). DayRunEnds (all_replies tills) served.answer (length (noted h.entries)) (length (recs h.entries))
@@ -138,7 +148,7 @@ returns-in-Ok-begin g c =
     (length (noted c.state.result.now.entries)) (length (recs c.state.result.now.entries)) (day_text asks (map told_in l)
     c.state.result.now.entries) sink end) c.deref-in-Ok-begin.ensures.value c.print_day-detail.ensures) in
     let did : ShopDid (store_kind g.D.Disk g.C.Clock) script.asks kind (agency_state_of g.G.Agency b.agency)
-    (agency_state_of g.G.Agency then.agency) true p0 then.disk then.clock = record {
+    (agency_state_of g.G.Agency then.agency) true g.Z.Sleeper.tells (g.Z.Sleeper.moment out.sleeper) p0 then.disk then.clock = record {
       new = new;
       tills = tills;
       answer = served.answer;
@@ -146,6 +156,7 @@ returns-in-Ok-begin g c =
       clock = c.close-in-Ok-begin.ensures.clock;
       run = run;
       behind = behind;
+      session = session;
       linked = c.legal_is_chained.ensures.linked p0.state.version issuer new.state.entries run.sound.legal;
       rising = λ till. c.legal_is_chained.ensures.rising p0.state.version issuer new.state.entries till run.sound.legal;
     } in

@@ -1,4 +1,4 @@
-use Rattle.std.proofs.Common.{◌≡◌, ◌∙◌, ℕ, sym, subst, None, Some, Option, true}
+use Rattle.std.proofs.Common.{◌≡◌, ◌∙◌, ℕ, refl, sym, subst, None, Some, Option, true}
 use Rattle.chain_disk.specs.Disks.{Disks}
 use Rattle.ports.specs.Counting.{counting}
 use Rattle.ports.specs.Sinks.{this_sink}
@@ -51,5 +51,5 @@ returns g c =
     let ends = subst (λ (b : Agencies g.row.G.Denot). At (disk_in g.D.Disk out back.result) b) same_agency
     (subst (λ (k : Disks g.row.D.Denot). At k (agency_in g.G.Agency own.result.0 run.result.1)) same_disk run.ensures) in
     subst (λ (l : Option (ℕ × ℕ)). FileDay issuer script l call end) (sym c.in-Some.is)
-    (by_line issuer script line call own_clock leap own.ensures.clock (back.ensures.time.0 ∙ own.ensures.replaced.0)
+    (by_line issuer script line call own_clock leap refl own.ensures.sleeper own.ensures.clock (back.ensures.time.0 ∙ own.ensures.replaced.0)
     (back.ensures.time.1 ∙ own.ensures.replaced.1) end ends)

@@ -25,10 +25,10 @@ returns-in-Ok-migrated_text-clause-ends g c =
     c.as_slice.ensures ∙ c.in-Ok-migrated_text.ensures in
     moved c.in-Ok.moved.records c.in-Ok.moved.noted c.print.result
     (record {
-      free = c.in-Ok.ensures.free;
+      free = c.in-Ok.ensures.moved.free;
       counts = c.in-Ok.ensures.counts;
-      every_crash = c.in-Ok.ensures.every_crash;
-      reads = c.in-Ok.ensures.reads;
+      every_crash = c.in-Ok.ensures.moved.every_crash;
+      reads = c.in-Ok.ensures.moved.reads;
     })
     (subst (λ (t : List ℕ). PrintEnds t detail.Done s c.print.result) same c.print.ensures)
 
@@ -36,24 +36,24 @@ pub returns-in-Err-migrated_text-clause-ends : goal.returns-in-Err-migrated_text
 returns-in-Err-migrated_text-clause-ends g c =
     untold c.in-Ok.moved.records c.in-Ok.moved.noted
     (record {
-      free = c.in-Ok.ensures.free;
+      free = c.in-Ok.ensures.moved.free;
       counts = c.in-Ok.ensures.counts;
-      every_crash = c.in-Ok.ensures.every_crash;
-      reads = c.in-Ok.ensures.reads;
+      every_crash = c.in-Ok.ensures.moved.every_crash;
+      reads = c.in-Ok.ensures.moved.reads;
     })
     (took_nothing (g.K.Sink.taken c.args.sink.now))
 
 pub returns-in-Err-clause-moves : goal.returns-in-Err-clause-moves
-returns-in-Err-clause-moves g c = record { images = c.in-Err.ensures.any_moment_err; kept = c.in-Err.ensures.kept }
+returns-in-Err-clause-moves g c = record { images = c.in-Err.ensures.not_moved.any_moment; kept = c.in-Err.ensures.not_moved.kept }
 
 pub returns-in-Ok-migrated_text-clause-moves : goal.returns-in-Ok-migrated_text-clause-moves
 returns-in-Ok-migrated_text-clause-moves g c = record {
-  images = c.in-Ok.ensures.any_moment;
-  kept = λ old new unfree. absurd (unfree (c.in-Ok.ensures.free old new));
+  images = c.in-Ok.ensures.moved.any_moment;
+  kept = λ old new unfree. absurd (unfree (c.in-Ok.ensures.moved.free old new));
 }
 
 pub returns-in-Err-migrated_text-clause-moves : goal.returns-in-Err-migrated_text-clause-moves
 returns-in-Err-migrated_text-clause-moves g c = record {
-  images = c.in-Ok.ensures.any_moment;
-  kept = λ old new unfree. absurd (unfree (c.in-Ok.ensures.free old new));
+  images = c.in-Ok.ensures.moved.any_moment;
+  kept = λ old new unfree. absurd (unfree (c.in-Ok.ensures.moved.free old new));
 }

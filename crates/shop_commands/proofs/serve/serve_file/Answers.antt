@@ -24,8 +24,8 @@ serve_first-detail-requires-clause-first g c κs within =
       cause = c.first_action-first.ensures.cause;
     }
 
-pub returns-in-Err : goal.returns-in-Err
-returns-in-Err g c =
+pub returns-in-Err-clause-ends : goal.returns-in-Err-clause-ends
+returns-in-Err-clause-ends g c =
     let u = c.in-Err.unopened in
     let h = c.in-Err.ensures in
     let all = this_call (this_source g.S.Source.left g.S.Source.faults c.args.source.now c.args.source.now)
@@ -37,8 +37,8 @@ returns-in-Err g c =
           (took_nothing (g.K.Sink.taken c.args.sink.now)) (record { clock = h.left.0; sleeper = h.left.1; agency = h.left.2 }),
     )))
 
-pub returns-in-Ok-open : goal.returns-in-Ok-open
-returns-in-Ok-open g c =
+pub returns-in-Ok-open-clause-ends : goal.returns-in-Ok-open-clause-ends
+returns-in-Ok-open-clause-ends g c =
     let post = c.args.post in
     let o = c.in-Ok-open.opened in
     let k = c.in-Ok-open.ensures in
@@ -76,7 +76,7 @@ returns-in-Ok-open g c =
     ap (λ (z : g.row.G.Denot). four made.disk made.clock run.result.1.sleeper z) c.close.ensures.rest.1 in
     let came : ComesFirst left (g.S.Source.left first.new.source) first.new.self first.result =
     first.ensures.first left (c.in-Ok.ensures.heard left) c.in-Ok.ensures.first in
-    let ran : At old new = run.ensures c.args.issuer.now post.disk left (g.S.Source.faults c.args.source.now) is_opened came
+    let ran : At old new = run.ensures.ends c.args.issuer.now post.disk left (g.S.Source.faults c.args.source.now) is_opened came
     first.ensures.later first.ensures.cause in
     let all = this_call sources sink g.D.Disk g.C.Clock g.Z.Sleeper g.G.Agency post then in
     serve_ends c.args.issuer.now all end (inr (inr (
@@ -84,3 +84,13 @@ returns-in-Ok-open g c =
       subst (λ (y : Post g.row.D.Denot g.row.C.Denot g.row.Z.Denot g.row.G.Denot). At post y) (sym left_is)
           (subst (λ (x : Post g.row.D.Denot g.row.C.Denot g.row.Z.Denot g.row.G.Denot). At x new) old_is ran),
     )))
+
+pub returns-in_default-clause-once : goal.returns-in_default-clause-once
+returns-in_default-clause-once g c = λ counts. inl refl
+
+pub returns-in-Err-clause-once : goal.returns-in-Err-clause-once
+returns-in-Err-clause-once g c = λ counts. inl refl
+
+pub returns-in-Ok-open-clause-once : goal.returns-in-Ok-open-clause-once
+returns-in-Ok-open-clause-once g c = λ counts.
+    c.serve_first-detail.ensures.once counts (g.S.Source.faults c.args.source.now) (c.first_action-first.ensures.once counts)

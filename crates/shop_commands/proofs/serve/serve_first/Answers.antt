@@ -1,4 +1,4 @@
-use Rattle.std.proofs.Common.{◌≡◌, ◌∙◌, ℕ, None, Some, Option, true, ap, sym, subst}
+use Rattle.std.proofs.Common.{◌≡◌, ◌∙◌, ℕ, None, Some, Option, true, ap, refl, sym, subst}
 use Rattle.chain_disk.specs.Disks.{this_disk}
 use Rattle.chain_store.specs.Clocks.{Clocks, this_clock}
 use Rattle.chain_store.specs.Store.{clock_of}
@@ -15,8 +15,8 @@ use Rattle.shop_commands.specs.Serve.{FileServe, post_with, source_since}
 use Rattle.shop_commands.proofs.ServeEnding.{opened_with, serve_by_line}
 use Rattle.shop_commands.proofs.serve.serve_first.Goals as goal
 
-pub returns-in_default : goal.returns-in_default
-returns-in_default g c = λ issuer disk left faults is_opened comes later cause.
+pub returns-in_default-clause-ends : goal.returns-in_default-clause-ends
+returns-in_default-clause-ends g c = λ issuer disk left faults is_opened comes later cause.
     let run = c.serve_opened in
     let o = c.args.opened in
     let said = clock_first c.args.first.now in
@@ -25,10 +25,10 @@ returns-in_default g c = λ issuer disk left faults is_opened comes later cause.
     (g.S.Source.faults run.new.source)) (around_in (this_sink g.K.Sink.taken g.K.Sink.faults c.args.sink.now run.new.sink) g.D.Disk
     g.C.Clock g.Z.Sleeper g.G.Agency (post_with disk (parts_of o.store) o.sleeper o.agency)
     (post_with (parts_of run.result.1.store).disk (parts_of run.result.1.store) run.result.1.sleeper run.result.1.agency))
-    run.result.0) (sym none) (run.ensures issuer disk left faults is_opened comes later cause)
+    run.result.0) (sym none) (run.ensures.ends issuer disk left faults is_opened comes later cause)
 
-pub returns : goal.returns
-returns g c = λ issuer disk left faults is_opened comes later cause.
+pub returns-clause-ends : goal.returns-clause-ends
+returns-clause-ends g c = λ issuer disk left faults is_opened comes later cause.
     let o = c.args.opened in
     let own = c.with_own_time-own in
     let run = c.serve_opened-detail in
@@ -67,11 +67,11 @@ returns g c = λ issuer disk left faults is_opened comes later cause.
     let opened = opened_with (store_kind g.D.Disk g.C.Clock) coming issuer disk (parts_of o.store) (parts_of own.result.0.store)
     own.ensures.store.0 (ap disk_of own.ensures.store.1) is_opened in
     let ran : At (parts_of run.result.1.store).disk own.result.0.agency run.result.1.agency =
-    run.ensures issuer disk left faults opened comes later cause in
+    run.ensures.ends issuer disk left faults opened comes later cause in
     let ends : At (parts_of back.result.store).disk o.agency back.result.agency =
     subst (λ (d : g.row.D.Denot). At d o.agency back.result.agency) (sym (ap disk_of back.ensures.store.1))
     (subst (λ (x : g.row.G.Denot). At (parts_of run.result.1.store).disk x back.result.agency) own.ensures.agency
     (subst (λ (y : g.row.G.Denot). At (parts_of run.result.1.store).disk own.result.0.agency y) (sym back.ensures.agency) ran)) in
     subst (λ (l : Option (ℕ × ℕ)). FileServe issuer l said sources call end) (sym is)
-    (serve_by_line issuer said sources line call own_clock leap own.ensures.clock (back.ensures.time.0 ∙ own.ensures.replaced.0)
+    (serve_by_line issuer said sources line call own_clock leap refl own.ensures.sleeper own.ensures.clock (back.ensures.time.0 ∙ own.ensures.replaced.0)
     (back.ensures.time.1 ∙ own.ensures.replaced.1) end ends)

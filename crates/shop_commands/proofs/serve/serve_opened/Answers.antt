@@ -1,4 +1,4 @@
-use Rattle.std.proofs.Common.{◌≡◌, ◌⊎◌, ◌∙◌, inl, ℕ, List, length, refl, sym, subst, All, OnOk}
+use Rattle.std.proofs.Common.{◌≡◌, ◌⊎◌, ◌∙◌, inl, ℕ, List, length, refl, sym, ap, subst, All, OnOk}
 use Rattle.std.specs.Int.{IsInRange}
 use Rattle.std.specs.List.{list_any}
 use Rattle.agency_rules.specs.declared.plans.Plan.{Plan}
@@ -10,6 +10,7 @@ use Rattle.file_commands.proofs.Bytewise.{took_nothing}
 use Rattle.ports.specs.Sinks.{Sinks, this_sink}
 use Rattle.ports.specs.Sources.{SourceRose, Sources}
 use Rattle.report.specs.Pieces.{chain_line}
+use Rattle.report.specs.declared.status.Detail.TheVariants as detail
 use Rattle.shop_core.specs.Answer.Requests.{Asked}
 use Rattle.shop_core.specs.History.{History, noted, recs}
 use Rattle.till_calls.specs.Root.{Root, parts_of}
@@ -17,16 +18,18 @@ use Rattle.shop_drain.specs.Opening.{IsUnbegun}
 use Rattle.sender_session.specs.Kinds.{agency_state_of, agency_kind, store_kind}
 use Rattle.shop_drain.specs.Devices.{agency_in, sleeper_in}
 use Rattle.shop_drain.specs.Draining.{OpensSession}
+use Rattle.record_codec.specs.declared.entry.Entry.{Entry}
+use Rattle.sender_session.specs.Sessions.{SessionSteps}
 use Rattle.sender_beside.specs.Behind.{DrainsBehind, scene_in}
 use Rattle.shop_commands.specs.Serve.{Closes, SpeechEnds, post_with, printed, source_since}
 use Rattle.shop_dialogue.specs.Dialogues.{DialogueRun, drains_after}
 use Rattle.shop_dialogue.proofs.AllTills.{all_within}
-use Rattle.shop_commands.proofs.ServeEnding.{came_read, not_begun, talked}
+use Rattle.shop_commands.proofs.ServeEnding.{came_read, first_once, not_begun, talked, talked_once}
 use Rattle.shop_commands.proofs.SpeechTexts.{closed_drains}
 use Rattle.shop_commands.proofs.serve.serve_opened.Goals as goal
 
-pub returns-in_default : goal.returns-in_default
-returns-in_default g c = λ issuer disk left faults is_opened comes later cause.
+pub returns-in_default-clause-ends : goal.returns-in_default-clause-ends
+returns-in_default-clause-ends g c = λ issuer disk left faults is_opened comes later cause.
     let o = c.args.opened in
     let p = parts_of o.store in
     let old = post_with disk p o.sleeper o.agency in
@@ -39,8 +42,8 @@ returns-in_default g c = λ issuer disk left faults is_opened comes later cause.
     (inl (record { lists = λ tells. refl; faults = refl })) (took_nothing (g.K.Sink.taken c.args.sink.now)) refl
     (came_read left rest c.args.listener c.args.first.now comes)
 
-pub returns-in_default-with_capacity : goal.returns-in_default-with_capacity
-returns-in_default-with_capacity g c = λ issuer disk left faults is_opened comes later cause.
+pub returns-in_default-with_capacity-clause-ends : goal.returns-in_default-with_capacity-clause-ends
+returns-in_default-with_capacity-clause-ends g c = λ issuer disk left faults is_opened comes later cause.
     let o = c.args.opened in
     let p = parts_of o.store in
     let old = post_with disk p o.sleeper o.agency in
@@ -57,8 +60,8 @@ pub begin-requires-clause-numbers : goal.begin-requires-clause-numbers
 begin-requires-clause-numbers g c =
     subst (λ (l : List ℕ). All (IsInRange 1 64) l) (sym (c.deref.ensures.value ∙ c.in-Ok.ensures)) all_within
 
-pub returns-in-Err : goal.returns-in-Err
-returns-in-Err g c = λ issuer disk left faults is_opened comes later cause.
+pub returns-in-Err-clause-ends : goal.returns-in-Err-clause-ends
+returns-in-Err-clause-ends g c = λ issuer disk left faults is_opened comes later cause.
     let o = c.args.opened in
     let e = c.in-Err.opened in
     let p = parts_of o.store in
@@ -89,8 +92,8 @@ speech_end-detail-requires g c =
           c.close_speech-closed.result c.close_speech-closed.ensures.closes is));
     }
 
-pub returns-in-Ok-begin : goal.returns-in-Ok-begin
-returns-in-Ok-begin g c = λ issuer disk left faults is_opened comes later cause.
+pub returns-in-Ok-begin-clause-ends : goal.returns-in-Ok-begin-clause-ends
+returns-in-Ok-begin-clause-ends g c = λ issuer disk left faults is_opened comes later cause.
     let o = c.args.opened in
     let p = parts_of o.store in
     let b = c.in-Ok-begin.begun in
@@ -118,6 +121,12 @@ returns-in-Ok-begin g c = λ issuer disk left faults is_opened comes later cause
       beside = t.met.value.answer;
       sends = c.run_dialogue-opened.ensures.behind;
     } in
+    let Session : ℕ → List Entry → Type 0 = λ m es. SessionSteps g.G.Agency.tells g.Z.Sleeper.tells (drains_after t.how) m es
+    then.state.entries agency_state after t.answer in
+    let session : Session (g.Z.Sleeper.moment o.sleeper) p.state.entries =
+    subst (λ (m : ℕ). Session m p.state.entries) (ap g.Z.Sleeper.moment begun.sleeper)
+    (subst (λ (r : Root g.row.C.Denot). Session (g.Z.Sleeper.moment b.sleeper) r.history) begun.shop.root
+    c.run_dialogue-opened.ensures.steps) in
     let closed = c.close_speech-closed.result in
     let end = c.speech_end-detail.result in
     let k = this_sink g.K.Sink.taken g.K.Sink.faults c.args.sink.now c.close_speech-closed.new.sink in
@@ -128,10 +137,28 @@ returns-in-Ok-begin g c = λ issuer disk left faults is_opened comes later cause
     (s : Sources) (k : Sinks) → Closes began closed → AreRepliesOf began asks replies answers → t.lacked ≡ list_any is_no_memory replies →
     (began ≡ speech.ReadFault → SourceRose s) → IsWritten closed k texts →
     SpeechEnds began replies t.answer (length (noted v.entries)) (length (recs v.entries)) texts s k end in
-    let ends = subst (λ (v : History). Comes v) c.state-in-Ok-begin.ensures c.speech_end-detail.ensures in
+    let ends = subst (λ (v : History). Comes v) c.state-in-Ok-begin.ensures c.speech_end-detail.ensures.ends in
     talked h issuer disk p then (sleeper_in g.Z.Sleeper old new) (agency_in g.G.Agency old new)
     (source_since left faults (g.S.Source.left c.run_dialogue-opened.new.source) (g.S.Source.faults c.run_dialogue-opened.new.source)) k clock
     is_opened c.what_a_disk_reads_is_an_image.ensures c.who_keeps_the_rules_tells.ensures agency_state opens t.answer t.lacked t.how from now
-    run behind (c.legal_is_chained.ensures.linked p.state.version p.state.issuer then.state.entries run.run.sound.legal)
+    run behind session (c.legal_is_chained.ensures.linked p.state.version p.state.issuer then.state.entries run.run.sound.legal)
     (λ till. c.legal_is_chained.ensures.rising p.state.version p.state.issuer then.state.entries till run.run.sound.legal)
     closed end refl c.close_speech-closed.ensures.closes written ends
+
+pub returns-in_default-clause-once : goal.returns-in_default-clause-once
+returns-in_default-clause-once g c = λ counts faults first.
+    first_once c.args.first.now faults (g.S.Source.faults c.args.source.now) detail.NoMemory tt first
+
+pub returns-in_default-with_capacity-clause-once : goal.returns-in_default-with_capacity-clause-once
+returns-in_default-with_capacity-clause-once g c = λ counts faults first.
+    first_once c.args.first.now faults (g.S.Source.faults c.args.source.now) detail.NoMemory tt first
+
+pub returns-in-Err-clause-once : goal.returns-in-Err-clause-once
+returns-in-Err-clause-once g c = λ counts faults first.
+    first_once c.args.first.now faults (g.S.Source.faults c.args.source.now) detail.NoMemory tt first
+
+pub returns-in-Ok-begin-clause-once : goal.returns-in-Ok-begin-clause-once
+returns-in-Ok-begin-clause-once g c = λ counts faults first.
+    talked_once c.run_dialogue-opened.result.how c.close_speech-closed.result faults (g.S.Source.faults c.run_dialogue-opened.new.source)
+    c.speech_end-detail.result c.close_speech-closed.ensures.closes c.speech_end-detail.ensures.read
+    (c.run_dialogue-opened.ensures.once counts faults first)

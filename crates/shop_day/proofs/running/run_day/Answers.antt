@@ -6,11 +6,15 @@ use Rattle.shop_core.specs.declared.items.Item.TheVariants as item
 use Rattle.atomic_table.specs.Seated.{TableId}
 use Rattle.chain_lock.specs.Known.{Known}
 use Rattle.once_world.specs.Outbox.{Sight}
+use Rattle.sender.specs.Agreeing.{AreNotesOrTorn}
+use Rattle.sender.specs.Draining.{scene_of}
 use Rattle.sender.specs.Sending.{fresh}
 use Rattle.till_calls.specs.Mark.{Mark, mark_by, sight_by}
 use Rattle.till_calls.specs.Root.{Root, items_in, parts_of}
 use Rattle.till_calls.specs.Shop.{first_items, seat_knows, seat_shop, shop_root, tills_know}
 use Rattle.sender_session.specs.Session.{SendsOn}
+use Rattle.sender_session.specs.Sessions.{StepsBeside}
+use Rattle.sender_session.proofs.Turns.{growth_of}
 use Rattle.sender_session.specs.Kinds.{agency_state_of, agency_kind}
 use Rattle.sender_beside.specs.Behind.{scene_in}
 use Rattle.sender_beside.specs.Tills.{asks_of}
@@ -20,8 +24,8 @@ use Rattle.shop_day.specs.declared.tills.TillDay.{TillDay}
 use Rattle.sender_beside.proofs.DayRuns.{counts, ended, held_again, same_tills, shared}
 use Rattle.shop_day.proofs.TillJobs.{all_turned, same_numbers}
 use Rattle.sender_beside.proofs.Rows.{ran_as, distinct_of}
-use Rattle.sender_beside.proofs.Joined.{sends_beside}
-use Rattle.sender_beside.proofs.Behind.{shown_behind}
+use Rattle.sender_beside.proofs.Joined.{sends_beside, whole_session}
+use Rattle.sender_beside.proofs.Behind.{behind, shown_behind}
 use Rattle.sender_beside.proofs.ClosedShop.{is_stopped}
 use Rattle.shop_day.proofs.running.run_day.Goals as goal
 
@@ -119,3 +123,44 @@ returns-clause-behind g c =
     true (agency_state_of g.G.Agency c.args.begun.agency) (agency_state_of g.G.Agency c.drain_rest-rest.result.agency) _ _ _ _
     c.of-met.ensures c.of-left.ensures beside.sends.messages.says beside.sends.ends.later beside.never c.drain_rest-rest.ensures.failed
     (λ is. c.drain_rest-rest.ensures.turns) (λ none. absurd (let x = none in cc)) refl
+
+pub returns-clause-steps : goal.returns-clause-steps
+returns-clause-steps g c =
+    let ran = ran_as g.C.Clock.coming c.args.asks.now _ _ _ _ _ _ _ _ (ap tills_in c.hand_out.ensures.days)
+    c.hand_out.ensures.knows (sym (ap (λ (l : List TillDay). map told_in l) c.hand_in.ensures.days)) (sym c.hand_in.ensures.knows)
+    c.tills_beside-sent.ensures.ran in
+    let p = parts_of c.close.result in
+    let shop = c.args.begun.started.shop in
+    let seat = seat_knows c.args.begun.started.seat in
+    let sent = c.tills_beside-sent.result in
+    let then = seat_knows c.drain_rest-rest.result.seat in
+    let kind = agency_kind g.G.Agency in
+    let opened = agency_state_of g.G.Agency c.args.begun.agency in
+    let after = agency_state_of g.G.Agency c.drain_rest-rest.result.agency in
+    let answer = c.drain_rest-rest.result.answer in
+    let told = map told_in c.hand_in.new.days.items in
+    let beside = c.tills_beside-sent.ensures in
+    let same : sight_by (seat_knows c.hand_in.new.seat) ≡ sight_by (seat_knows sent.seat) =
+    ap (λ (k : Known Item (Root g.row.C.Denot)). sight_by k) c.hand_in.ensures.seat.1 in
+    let met_sends = subst (λ (s : Sight). SendsOn kind (sight_by seat) s opened (agency_state_of g.G.Agency sent.agency) fresh sent.sender
+    sent.answer) (sym same) beside.sends in
+    let sends = c.drain_rest-rest.ensures.sends _ _ _ met_sends in
+    let h = shared g.D.Disk.tells g.D.Disk.on_disk g.D.Disk.faults g.C.Clock.coming c.args.asks.now p (shop_root shop)
+    (first_items shop) (tills_in c.args.room.days.items) told (tills_know c.args.begun.started.tills)
+    (tills_know c.hand_in.new.tills) seat then ran c.requires.begun.new
+    c.a_till_owns_records_and_stops.ensures c.close.ensures.each c.close.ensures.begins c.close.ensures.since sends.shop.adds in
+    whole_session g.D.Disk.tells g.D.Disk.on_disk g.D.Disk.faults g.C.Clock.coming p (shop_root shop) (first_items shop)
+    (tills_know c.hand_in.new.tills) seat then h c.close.ensures.sound c.requires.begun.base c.requires.begun.legal c.args.asks.now
+    told kind opened after true c.drain_rest-rest.result.sender answer sends
+    c.what_came_beside_is_records.ensures.quiet c.what_came_beside_is_records.ensures.own g.Z.Sleeper.tells
+    (g.Z.Sleeper.moment c.args.begun.sleeper) _ _ _
+    (behind {S = Sent g.row.D.Denot g.row.C.Denot g.row.G.Denot g.row.Z.Denot g.D.Disk g.C.Clock}
+    (λ x. scene_in (agency_state_of g.G.Agency) g.Z.Sleeper.moment x) (λ x. x.answer) kind g.Z.Sleeper.tells true opened after _ _
+    beside.sends.messages.says beside.sends.ends.later beside.never c.drain_rest-rest.ensures.failed
+    (λ is. c.drain_rest-rest.ensures.turns) (λ none. absurd (let x = none in cc)) refl)
+    (subst (λ (s : Sight). StepsBeside kind g.Z.Sleeper.tells
+    (scene_of opened (sight_by seat) fresh (g.Z.Sleeper.moment c.args.begun.sleeper))
+    (scene_of (agency_state_of g.G.Agency sent.agency) s sent.sender (g.Z.Sleeper.moment sent.sleeper)) sent.answer) (sym same)
+    beside.steps)
+    (growth_of AreNotesOrTorn (sight_by seat) (sight_by (seat_knows c.hand_in.new.seat)) met_sends.shop.adds) refl
+    (λ is. c.drain_rest-rest.ensures.delivered)

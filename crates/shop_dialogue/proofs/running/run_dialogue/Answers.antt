@@ -8,22 +8,28 @@ use Rattle.shop_core.specs.declared.items.Item.TheVariants as item
 use Rattle.atomic_table.specs.Seated.{TableId}
 use Rattle.chain_lock.specs.Known.{Known}
 use Rattle.once_world.specs.Outbox.{Sight}
+use Rattle.sender.specs.Agreeing.{AreNotesOrTorn}
+use Rattle.sender.specs.Draining.{scene_of}
 use Rattle.sender.specs.Sending.{fresh}
 use Rattle.till_calls.specs.Mark.{Mark, mark_by, sight_by}
 use Rattle.till_calls.specs.Root.{Root, items_in, parts_of}
 use Rattle.till_calls.specs.Shop.{first_items, seat_knows, seat_shop, shop_root, till_knows, till_number, tills_know}
 use Rattle.sender_session.specs.Session.{SendsOn}
+use Rattle.sender_session.specs.Sessions.{StepsBeside}
+use Rattle.sender_session.proofs.Turns.{growth_of}
 use Rattle.sender_session.specs.Kinds.{agency_state_of, agency_kind}
 use Rattle.sender_beside.specs.Behind.{scene_in}
 use Rattle.sender_beside.specs.declared.sending.Sent.{Sent}
+use Rattle.sender_beside.specs.Days.{Day, shop_day}
 use Rattle.sender_beside.specs.Works.{Ran}
 use Rattle.shop_dialogue.specs.Dialogues.{drains_after}
 use Rattle.shop_dialogue.proofs.AllTills.{AllBehind, all_distinct, all_fit_behind, holders_behind, least_behind, looked_closed}
 use Rattle.shop_dialogue.proofs.AllTills.{owners_behind, ran_in_a_row, read_failed}
+use Rattle.shop_dialogue.proofs.Counting.{all_taken, owned, runs_closed}
 use Rattle.sender_beside.proofs.DayRuns.{counts, ended, held_again, same_tills, shared}
 use Rattle.sender_beside.proofs.Rows.{ran_as}
-use Rattle.sender_beside.proofs.Joined.{sends_beside}
-use Rattle.sender_beside.proofs.Behind.{shown_behind}
+use Rattle.sender_beside.proofs.Joined.{sends_beside, whole_session}
+use Rattle.sender_beside.proofs.Behind.{behind, shown_behind}
 use Rattle.sender_beside.proofs.ClosedShop.{is_stopped}
 use Rattle.shop_dialogue.proofs.running.run_dialogue.Goals as goal
 
@@ -43,7 +49,7 @@ give_back-requires-clause-room g c =
 pub close-requires-clause-whole : goal.close-requires-clause-whole
 close-requires-clause-whole g c = λ n l.
     let f = c.requires.first in
-    let spoken = c.answer_lines_with_sender-sent.ensures.spoken f.left f.faults f.comes f.later f.cause in
+    let spoken = c.answer_lines_with_sender-sent.ensures.spoken.spoken f.left f.faults f.comes f.later f.cause in
     let olds = map till_knows c.hold_all.new.held.items in
     let news = map till_knows c.answer_lines_with_sender-sent.new.talk.speech.held.items in
     let row = ran_in_a_row g.C.Clock.coming spoken.said.asks spoken.said.replies olds news spoken.ran in
@@ -66,7 +72,7 @@ close-requires-clause-whole g c = λ n l.
 
 pub returns-clause-run : goal.returns-clause-run
 returns-clause-run g c = λ left faults first later cause.
-    let spoken = c.answer_lines_with_sender-sent.ensures.spoken left faults first later cause in
+    let spoken = c.answer_lines_with_sender-sent.ensures.spoken.spoken left faults first later cause in
     let olds = map till_knows c.hold_all.new.held.items in
     let news = map till_knows c.answer_lines_with_sender-sent.new.talk.speech.held.items in
     let size : length olds ≡ 64 =
@@ -100,6 +106,7 @@ returns-clause-run g c = λ left faults first later cause.
     row.backs seat then ran c.requires.begun.new
     c.a_till_owns_records_and_stops.ensures (all_fit_behind (items_in p) row.backs back then behind c.close.ensures.each)
     c.close.ensures.begins (λ n a b. owners_behind n row.backs back then behind ∙ c.close.ensures.since n a b) sends.shop.adds in
+    let day : Day = shop_day g.C.Clock.coming spoken.said.asks (shop_root shop) p told kind opened after drains answer in
     let run = ended g.D.Disk.tells g.D.Disk.on_disk g.D.Disk.faults g.C.Clock.coming spoken.said.asks p (shop_root shop) (first_items shop)
     (range_with_len 1 64) told (tills_know c.args.begun.started.tills) row.backs seat then
     ran c.requires.begun.new kind opened after drains answer
@@ -133,6 +140,13 @@ returns-clause-run g c = λ left faults first later cause.
         clock_is = spoken.clock_is;
         of_tills = spoken.tills;
         told = row.told;
+        run = runs_closed p (first_items shop) (shop_root shop) g.C.Clock.coming spoken.said.asks spoken.said.replies spoken.said.looks
+            olds news (tills_know c.args.begun.started.tills) back seat then c.hold_all.ensures.knows c.give_back.ensures.knows
+            c.requires.begun.base c.requires.begun.new c.close.ensures.each c.close.ensures.begins
+            spoken.run (all_taken (shop_root shop).history p.state.entries spoken.said.asks spoken.said.replies told
+            c.close.ensures.sound.begins spoken.pairs spoken.tills
+            (same_tills g.C.Clock.coming spoken.said.asks (range_with_len 1 64) told (tills_know c.args.begun.started.tills) row.backs ran)
+            row.told (owned day told run.served) run.others);
         looked = looked_closed p (first_items shop) (shop_root shop) spoken.said.replies spoken.said.looks olds news
             (tills_know c.args.begun.started.tills) back seat then c.hold_all.ensures.knows c.give_back.ensures.knows c.requires.begun.new
             c.close.ensures.each c.close.ensures.sound.begins spoken.looked;
@@ -158,3 +172,57 @@ returns-clause-behind g c =
     c.of-met.ensures c.of-left.ensures beside.sends.messages.says beside.sends.ends.later beside.never c.drain_if-rest.ensures.failed
     (λ is. c.drain_if-rest.ensures.turns (c.drains_after.ensures ∙ is))
     (λ none. c.drain_if-rest.ensures.ends (c.drains_after.ensures ∙ none)) refl
+
+pub returns-clause-steps : goal.returns-clause-steps
+returns-clause-steps g c =
+    let f = c.requires.first in
+    let spoken = c.answer_lines_with_sender-sent.ensures.spoken.spoken f.left f.faults f.comes f.later f.cause in
+    let olds = map till_knows c.hold_all.new.held.items in
+    let news = map till_knows c.answer_lines_with_sender-sent.new.talk.speech.held.items in
+    let row = ran_in_a_row g.C.Clock.coming spoken.said.asks spoken.said.replies olds news spoken.ran in
+    let told = row.parts in
+    let ran : Ran g.C.Clock.coming spoken.said.asks (range_with_len 1 (length olds)) (tills_know c.args.begun.started.tills) told row.backs =
+    ran_as g.C.Clock.coming spoken.said.asks _ _ _ _ _ _ _ _ refl c.hold_all.ensures.knows refl refl row.ran in
+    let back = tills_know c.give_back.new.tills in
+    let behind_all = subst (λ (l : List (Known Item (Root g.row.C.Denot))). AllBehind row.backs l) (sym c.give_back.ensures.knows) row.behind in
+    let p = parts_of c.close.result in
+    let shop = c.args.begun.started.shop in
+    let seat = seat_knows c.args.begun.started.seat in
+    let sent = c.answer_lines_with_sender-sent.result in
+    let then = seat_knows c.drain_if-rest.result.seat in
+    let kind = agency_kind g.G.Agency in
+    let opened = agency_state_of g.G.Agency c.args.begun.agency in
+    let after = agency_state_of g.G.Agency c.drain_if-rest.result.agency in
+    let answer = c.drain_if-rest.result.answer in
+    let drains = drains_after c.answer_lines_with_sender-sent.new.talk.how in
+    let told_drains : drains ≡ true → c.drains_after.result ≡ true = λ is. c.drains_after.ensures ∙ is in
+    let beside = c.answer_lines_with_sender-sent.ensures in
+    let same : sight_by (seat_knows c.give_back.new.seat) ≡ sight_by (seat_knows sent.seat) =
+    ap (λ (k : Known Item (Root g.row.C.Denot)). sight_by k) c.give_back.ensures.seat.1 in
+    let met_sends = subst (λ (s : Sight). SendsOn kind (sight_by seat) s opened (agency_state_of g.G.Agency sent.agency) fresh sent.sender
+    sent.answer) (sym same) beside.sends in
+    let sends = c.drain_if-rest.ensures.sends _ _ _ met_sends in
+    let h = shared g.D.Disk.tells g.D.Disk.on_disk g.D.Disk.faults g.C.Clock.coming spoken.said.asks p (shop_root shop)
+    (first_items shop) (range_with_len 1 (length olds)) told (tills_know c.args.begun.started.tills)
+    row.backs seat then ran c.requires.begun.new
+    c.a_till_owns_records_and_stops.ensures (all_fit_behind (items_in p) row.backs back then behind_all c.close.ensures.each)
+    c.close.ensures.begins (λ n a b. owners_behind n row.backs back then behind_all ∙ c.close.ensures.since n a b) sends.shop.adds in
+    whole_session g.D.Disk.tells g.D.Disk.on_disk g.D.Disk.faults g.C.Clock.coming p (shop_root shop) (first_items shop)
+    row.backs seat then h c.close.ensures.sound c.requires.begun.base c.requires.begun.legal spoken.said.asks
+    told kind opened after drains c.drain_if-rest.result.sender answer sends
+    c.what_came_beside_is_records.ensures.quiet c.what_came_beside_is_records.ensures.own g.Z.Sleeper.tells
+    (g.Z.Sleeper.moment c.args.begun.sleeper) _ _ _
+    (behind {S = Sent g.row.D.Denot g.row.C.Denot g.row.G.Denot g.row.Z.Denot g.D.Disk g.C.Clock}
+    (λ x. scene_in (agency_state_of g.G.Agency) g.Z.Sleeper.moment x) (λ x. x.answer) kind g.Z.Sleeper.tells drains opened after _ _
+    beside.sends.messages.says beside.sends.ends.later beside.never c.drain_if-rest.ensures.failed
+    (λ is. c.drain_if-rest.ensures.turns (told_drains is))
+    (λ none. c.drain_if-rest.ensures.ends (c.drains_after.ensures ∙ none)) refl)
+    (subst (λ (s : Sight). StepsBeside kind g.Z.Sleeper.tells
+    (scene_of opened (sight_by seat) fresh (g.Z.Sleeper.moment c.args.begun.sleeper))
+    (scene_of (agency_state_of g.G.Agency sent.agency) s sent.sender (g.Z.Sleeper.moment sent.sleeper)) sent.answer) (sym same)
+    beside.steps)
+    (growth_of AreNotesOrTorn (sight_by seat) (sight_by (seat_knows c.give_back.new.seat)) met_sends.shop.adds) refl
+    (λ is. c.drain_if-rest.ensures.delivered (told_drains is))
+
+pub returns-clause-once : goal.returns-clause-once
+returns-clause-once g c = λ counts faults first. c.answer_lines_with_sender-sent.ensures.spoken.once counts faults first

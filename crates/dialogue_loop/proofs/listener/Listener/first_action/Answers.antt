@@ -1,4 +1,4 @@
-use Rattle.std.proofs.Common.{[], arith, rules}
+use Rattle.std.proofs.Common.{[], ◌∙◌, arith, refl, rules}
 use Rattle.dialogue_loop.proofs.Dialogues.{came_first, came_none, passed_over}
 use Rattle.dialogue_loop.specs.Speech.{passed}
 use Rattle.dialogue_loop.proofs.listener.Listener.first_action.Goals as goal
@@ -9,6 +9,7 @@ loop-init g c = record {
   finite = tt;
   passes = λ left heard first. record { lines = []; before = []; answers = []; heard = heard; first = first };
   later = search rules;
+  once = λ counts. refl;
 }
 
 pub returns-in-Err-clause-first : goal.returns-in-Err-clause-first
@@ -32,4 +33,5 @@ loop-preserved g c = record {
       passed_over left (g.S.Source.left c.next_action.new.source) c.loop.self c.next_action.new.self p.lines p.before p.answers c.in-Ok.action
       (c.in-Ok.ensures.line_read left (passed p.lines p.before p.answers) p.heard) (search rules);
   later = (let a = c.loop.invariant.later in let b = c.next_action.ensures.later in omega (arith, a, b));
+  once = λ counts. c.in-Ok.ensures.once counts ∙ c.loop.invariant.once counts;
 }

@@ -1,4 +1,4 @@
-use Rattle.std.proofs.Common.{◌≤◌, ℕ, List, Option}
+use Rattle.std.proofs.Common.{◌≡◌, ◌≤◌, ℕ, List, IsTrue, Option}
 use Rattle.dialogue.specs.Protocol.{nothing_said}
 use Rattle.dialogue_loop.specs.Speech.{HasHeard, IsFirst}
 use Rattle.dialogue_loop.proofs.Dialogues.{Passes}
@@ -11,4 +11,5 @@ invariant-loop g l = record {
   passes : (left : Option (List ℕ)) → HasHeard left (g.S.Source.left l.fn.source) l.fn.self nothing_said → IsFirst l.fn.self →
       Passes left (g.S.Source.left l.source) l.self;
   later : g.S.Source.faults l.fn.source ≤ g.S.Source.faults l.source;
+  once : IsTrue g.S.Source.counts → g.S.Source.faults l.source ≡ g.S.Source.faults l.fn.source;
 }
