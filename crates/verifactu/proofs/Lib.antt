@@ -1,6 +1,7 @@
 pub mod Apart
 pub mod Paired
 pub mod CommandLine
+pub mod OneCommand
 pub mod Counts
 pub mod Stopping
 pub mod Accepted

@@ -16,7 +16,7 @@ use Rattle.ports.specs.Causes.{Rose}
 use Rattle.ports.specs.Sinks.{Sinks}
 use Rattle.record_codec.specs.declared.entry.Entry.{Entry}
 use Rattle.recovery.specs.Opening.{IsBegunInPart, IsFound, IsLeftUnopened}
-use Rattle.recovery.specs.Opening.IsDiskLost.{not_synced, not_read, in_part}
+use Rattle.chain_store.specs.Opening.IsDiskLost.{not_synced, not_read, in_part}
 use Rattle.report.specs.declared.status.Detail.{Detail}
 use Rattle.shop_core.specs.File.Laws.{NotBegunIsNeither, OneHistory, SoundOrDamaged}
 use Rattle.shop_core.specs.File.Files.{StandsFor, bodies_of}

@@ -232,6 +232,10 @@ abbrev pub IsAskedFor : List (List ℕ) → Option Command → Type 0
 IsAskedFor words None = (command : Command) → AsksFor words command → ⊥
 IsAskedFor words (Some command) = AsksFor words command
 
+-- words ask for one command at most
+abbrev pub OneCommand : Type 0
+OneCommand = (words : List (List ℕ)) (one other : Option Command) → IsAskedFor words one → IsAskedFor words other → one ≡ other
+
 -- how many pairs stand after the first one of `many`, where they aren't more than there may be
 abbrev pub further_pairs : List ℕ → List (List ℕ) → ℕ
 further_pairs name pairs =

@@ -29,7 +29,7 @@ use Rattle.verifactu.specs.Help.{help_on, help_text, version_text}
 use Rattle.shop_commands.specs.Follow.{FollowRan}
 use Rattle.shop_commands.specs.Guard.{GuardRan}
 use Rattle.shop_commands.specs.Migrate.{MigrateRan}
-use Rattle.shop_commands.specs.Serve.{ServeEnds}
+use Rattle.shop_commands.specs.Serve.{EndsAtFault, ServeEnds}
 use Rattle.verifactu.specs.CommandLine.{IsAskedFor}
 use Rattle.verifactu.specs.declared.command_line.Command.{Command}
 use Rattle.verifactu.specs.declared.command_line.Command.TheVariants.{Chain, Day, Drain, Serve, Audit, Link, Check, Migrate, Follow, Guard, Many}
@@ -97,3 +97,18 @@ module _ {D C Z G : Type 0} (d : disk.Ghosts D) (c : clock.Ghosts C) (z : sleepe
     pub command : Option Command
     pub asked : IsAskedFor words command
     pub cause : CallEnds command a f ended.detail
+
+-- Of a source that counts each failed read, with its counts before and after: a dialogue reads on after none.
+abbrev pub CommandReads : Command → ℕ → ℕ → Detail → Type 0
+CommandReads (Serve issuer) faults faults_after end = EndsAtFault faults faults_after end
+CommandReads _ faults faults_after end = Unit {0}
+
+-- by the words' command; where they ask for none, nothing is read
+abbrev pub CallReads : Option Command → ℕ → ℕ → Detail → Type 0
+CallReads None faults faults_after end = faults_after ≡ faults
+CallReads (Some command) faults faults_after end = CommandReads command faults faults_after end
+
+pub record ReadsOnce (words : List (List ℕ)) (faults faults_after : ℕ) (end : Detail) : Type 0 where
+  pub command : Option Command
+  pub asked : IsAskedFor words command
+  pub reads : CallReads command faults faults_after end

@@ -1,6 +1,7 @@
 //! What the promise of a run comes to.
 ghost use Rattle.verifactu.specs.ChainPromise.{IsFoundAgain};
 ghost use Rattle.verifactu.specs.AgencyPromise.{StaysOfChain};
+ghost use Rattle.verifactu.specs.CommandLine.{OneCommand};
 ghost use Rattle.verifactu.specs.FilePromise.{DamagedIsNotOwn, ForeignIsNotOwn};
 ghost use Rattle.verifactu.specs.FurtherPromise.{CopyAppends};
 ghost use Rattle.verifactu.specs.Stopping.{FaultsOnce, TearsAtMostOne, TearsByAFault, TearsForTillOrSender, TearsWhereItRose};
@@ -46,4 +47,11 @@ pub fn a_day_stops_once()
     ensures whose { TearsForTillOrSender }
     ensures told { TellsOfItsStop }
     ensures once { FaultsOnce }
+{}
+
+/// Words ask for one command at most, so the command that each clause of `run` finds for them is one.
+pub fn words_ask_for_one_command()
+    //= Words ask for one command at most.
+    //= No body: a law over definitions, which has no body
+    ensures { OneCommand }
 {}

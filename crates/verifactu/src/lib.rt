@@ -18,6 +18,7 @@ pub use file_commands::generate_cmd;
 pub use laws::{
     a_copy_is_append_only, a_day_stops_once, a_strange_file_is_not_own,
     what_a_run_left_is_found_again, what_was_handed_over_stays_of_the_chain,
+    words_ask_for_one_command,
 };
 pub use many_issuers::many_cmd;
 pub use running::run;

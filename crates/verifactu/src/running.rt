@@ -1,5 +1,5 @@
 //! The program: one call does all that it does.
-ghost use Rattle.std.specs.Prelude.{◌≡◌, length, map, string_bytes};
+ghost use Rattle.std.specs.Prelude.{◌≡◌, IsTrue, length, map, string_bytes};
 ghost use Rattle.ports.specs.Sinks.{this_sink};
 ghost use Rattle.ports.specs.Sources.{this_source};
 ghost use Rattle.shop_drain.specs.Devices.{disk_in, this_call};
@@ -10,7 +10,7 @@ ghost use Rattle.file_commands.specs.Output.{PrintEnds};
 ghost use Rattle.verifactu.specs.Promise.{Promise};
 ghost use Rattle.shop_commands.specs.Follow.{FollowsPost};
 ghost use Rattle.shop_commands.specs.Migrate.{MovesPost};
-ghost use Rattle.verifactu.specs.Running.{CommandEnds, EndsAs, OwnEnds};
+ghost use Rattle.verifactu.specs.Running.{CommandEnds, CommandReads, EndsAs, OwnEnds, ReadsOnce};
 ghost use Rattle.verifactu.specs.CommandLine.{IsForIssuerOrOneFile, IsGuarding, IsOfOneFile, IsWithin, posts_needed};
 
 use crate::command_line::{Command, command_of};
@@ -73,6 +73,10 @@ where
     ensures promise { Promise D.Disk C.Clock Z.Sleeper G.Agency (map string_bytes words.now) (this_call (this_source S.left S.faults source.old source.new)
         (this_sink K.taken K.faults sink.old sink.new) D.Disk C.Clock Z.Sleeper G.Agency (own_post outside) (own_post result.1))
         (further outside result.1) }
+    //= A dialogue ends at the first read that fails, and reads on after none.
+    //= No body: it is of `next_line` of `line_reader`, whose clause `once` refuses a read that is tried again
+    ensures once { IsTrue S.counts →
+        ReadsOnce (map string_bytes words.now) (S.faults source.old) (S.faults source.new) result.0.detail }
 {
     a_file_has_one_meaning();
     a_history_notes_its_records();
@@ -116,6 +120,7 @@ where
     ensures ends { CommandEnds D.Disk C.Clock Z.Sleeper G.Agency command (this_call (this_source S.left S.faults source.old source.new)
         (this_sink K.taken K.faults sink.old sink.new) D.Disk C.Clock Z.Sleeper G.Agency (own_post outside) (own_post result.1))
         (further outside result.1) result.0.detail }
+    ensures once { IsTrue S.counts → CommandReads command (S.faults source.old) (S.faults source.new) result.0.detail }
 {
     if let Command::Guard(issuer) = command {
         return guard_cmd(rt, alloc, &issuer, source, sink, outside);
@@ -233,6 +238,7 @@ where
     ensures status { result.0.status ≡ status_of result.0.detail }
     ensures ends { OwnEnds command (this_call (this_source S.left S.faults source.old source.new)
         (this_sink K.taken K.faults sink.old sink.new) D.Disk C.Clock Z.Sleeper G.Agency post result.1) result.0.detail }
+    ensures once { IsTrue S.counts → CommandReads command (S.faults source.old) (S.faults source.new) result.0.detail }
 {
     match command {
         Command::Chain(issuer) => {

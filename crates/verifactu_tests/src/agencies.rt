@@ -27,8 +27,8 @@ enum Says {
 fn two_huellas(rt: &(impl AllocGlobal + Threads + Wait + Sync)) -> Result<HuellaList, Fail> {
     let left = ran(rt, DRAIN, "", file_of(rt, TWO)?)?;
     for entry in left.agency.log() {
-        if let Message::Consulted { huellas, .. } = &entry.message {
-            return Ok(huellas.copied(rt.alloc())?);
+        if let Message::Consulted { asked, .. } = &entry.message {
+            return Ok(asked.list().copied(rt.alloc())?);
         }
     }
     Err(Fail::from("a consultation"))
