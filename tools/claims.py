@@ -9,7 +9,8 @@ usage: tools/claims.py             writes the page
 A claim is one plain sentence right above its clause, in a comment of its own form: `//= ` above an `ensures` of a source, `--= ` above a
 field of a record, a constructor or a definition of specs. It may go on over further such lines; one that begins with `No body: ` says why
 no wrong body is there. A wrong body names the clause that refuses it by a line `clause: FUNCTION.NAME`, `clause: RECORD.FIELD` or `clause:
-DEFINITION`, after `CRATE/` where the clause stands in another crate, and a method after its type and `::` where its name alone is another's too.
+DEFINITION`, after `CRATE/` where the clause stands in another crate, and a method after its type or trait and `::` where its name alone is
+another's too. A name that a function and a definition share is the function's.
 """
 from __future__ import annotations
 
@@ -27,6 +28,7 @@ TAG = re.compile(r"^\s*(?://|--)= (.*)$")
 NO_BODY = "No body: "
 FUNCTION = re.compile(r"^\s*(?:pub(?:\([a-z]+\))? )?(?:const )?fn (\w+)")
 IMPL = re.compile(r"^impl\b(?:<[^{]*?>)? *(?:[\w:<>, ]+ for )?(\w+)")
+TRAIT = re.compile(r"^(?:pub )?trait (\w+)")
 ENSURES = re.compile(r"^\s*ensures(?: (\w+))?\*? \{")
 RECORD = re.compile(r"^\s*pub (?:record|data) (\w+)")
 FIELD = re.compile(r"^\s+(?:pub )?(\w+) : ")
@@ -91,15 +93,16 @@ def indented(lines: list[str], at: int) -> str:
 
 
 def clauses_of_source(crate: str, path: str) -> Iterator[Clause]:
-    lines, owner, function = lines_of(path), "", ""
+    lines, owner, function, depth = lines_of(path), "", "", 0
     for at, line in enumerate(lines):
-        if line.startswith("impl"):
-            owner = found[1] + "::" if (found := IMPL.match(line)) else ""
+        if line.startswith("impl") or TRAIT.match(line):
+            owner = found[1] + "::" if (found := TRAIT.match(line) or IMPL.match(line)) else ""
         elif line.startswith("}"):
             owner = ""
         elif found := FUNCTION.match(line):
-            function = owner + found[1]
-        elif found := ENSURES.match(line):
+            function, depth = owner + found[1], len(line) - len(line.lstrip()) + 4
+        # One that is indented further is that of a closure within.
+        elif (found := ENSURES.match(line)) and len(line) - len(line.lstrip()) == depth:
             name = f"{function}.{found[1]}" if found[1] else function
             yield Clause(crate, path, at + 1, name, braced(lines, at), *sentence_above(lines, at))
 
@@ -180,6 +183,7 @@ def give_bodies(clauses: list[Clause], names: list[str]) -> list[str]:
             for named in named_by(edit):
                 home, _, name = named.rpartition("/")
                 found = [it for it in clauses if it.crate == (home or crate) and (it.name == name or it.name.endswith("::" + name))]
+                found = [it for it in found if it.path.endswith(".rt")] or found
                 if len(found) != 1:
                     amiss.append(f"{edit} names the clause {named}, which {'is no one clause' if found else 'is not there'}")
                 for it in found:

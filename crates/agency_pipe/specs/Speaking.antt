@@ -160,6 +160,10 @@ Answered gives n is answer rest = ((line : List ℕ) × Behind rest n (with_lf l
 -- The answer, exactly. Of an Ok the begin was answered, then the whole message was written, and a line came that gives it. Failed
 -- comes where an end failed, or the begin wasn't answered, with nothing of the message written, or no answer was heard, or a line
 -- gives none. And whether the files are open then, by whether they were.
+--= A call writes its begin, once more for each `hello` that came, and the message exactly where a line answered that
+--= begin; an answer comes exactly where one came behind fewer than 1024 lines that are empty or answer earlier
+--= messages, and a failure exactly where an end failed, the begin wasn't answered, no answer was heard, or a line
+--= gives none.
 abbrev pub Speaks : {A : Type 0} → (A → Data → Type 0) → Call → Sources → Sinks → Bool → Bool → Result A AgencyFault → Type 0
 Speaks gives c s k was is (Ok answer) = Told s k c (Answered gives (counted_up c.number) is answer)
 Speaks gives c s k was is (Err Failed) =
@@ -185,5 +189,7 @@ faults_by (Err Failed) faults = counted_up faults
 faults_by (Err NoMemory) faults = faults
 
 -- what a call makes of it: its begin and its message have a number each
+--= A call uses up two numbers, and a failure is counted.
+--= No body: it is one step of the agency's state behind each answer
 abbrev pub after : {A : Type 0} → PipeState → Result A AgencyFault → PipeState
 after old result = kept (counted_up (counted_up old.number)) old.issuer old.host old.noted (faults_by result old.faults)

@@ -85,6 +85,9 @@ pub(crate) fn seen_in(
 
 /// The reply to the batch that a line gives to the message of this number.
 pub fn read_reply(alloc: Global, number: u64, batch: &Batch, line: &[u8]) -> Result<Reply, Unheard>
+    //= A line is read as what it says: as an answer where it is of this message's number and gives an item for each
+    //= record, in order, each naming it, with a word and a code of the table, and the seconds; else as no JSON, a
+    //= `hello`, an earlier message's, a fault, or out of shape, exactly one of them, out of memory aside.
     ensures { IsReading (GivesReply (huellas_of batch.now)) number line.now result }
 {
     let value = ours(alloc, number, line)?;
@@ -102,6 +105,9 @@ pub fn read_seen(
     huellas: &Huellas,
     line: &[u8],
 ) -> Result<SeenList, Unheard>
+    //= The answer to a consultation is read as that to a submission is: an item for each Huella, in order, each
+    //= naming it.
+    //= No body: it is `read_reply` with another table
     ensures { IsReading (GivesSeen huellas.now.huellas) number line.now result }
 {
     let value = ours(alloc, number, line)?;

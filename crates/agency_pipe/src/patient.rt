@@ -13,6 +13,7 @@ use std::time::{Clock, Duration};
 
 // The seconds that are waited after this many failed calls: 1, 2, 4, and then 8.
 fn pause_after(failed: u32) -> u64
+    //= The pause after this many failed calls is 1, 2, 4 and then 8 seconds.
     ensures { result ≡ spec.pause_after failed }
 {
     if failed < 1 {
@@ -30,6 +31,7 @@ fn pause_after(failed: u32) -> u64
 
 // How many calls have failed one after another, once a call has had this answer. One without memory leaves the count.
 fn failed_after<T>(failed: u32, answer: &Result<T, AgencyFault>) -> u32
+    //= A call that succeeds ends the pauses, one that fails makes the next one longer, and out of memory leaves them.
     ensures { result ≡ spec.failed_after answer.now failed }
 {
     match answer {

@@ -57,6 +57,8 @@ pub trait Agency {
         noted: &[(Sealed, Line)],
     ) -> Result<(), NoMemory>
         ensures same { faults self.new ≡ faults self.old }
+        //= Opening a session adds one message, with the plan and the number of noted pairs, and hands nothing over.
+        //= No body: each agency proves it by its own log
         ensures lists { OnOk result (IsTrue tells → Begins (ledger self.old) (ledger self.new) plan.now (length noted.now)) }
         ensures rules { OnOk result (IsTrue keeps_rules →
             (ledger self.new).processed ≡ begun (ledger self.old).processed noted.now) }
@@ -66,18 +68,33 @@ pub trait Agency {
     /// Hands a batch over. A reply that doesn't name the batch comes only where the count of faults rose. After `Failed` the
     /// batch counts as handed over.
     fn submit(&mut self, alloc: Global, batch: &Batch) -> Result<Reply, AgencyFault>
+        //= A submission fails only where the agency's count of faults rose.
         ensures cause { HasCause (faults self.old) (faults self.new) result }
+        //= A reply that names another batch comes only where that count rose.
+        //= No body: what breaks it breaks `row` too
         ensures stale { StaleShows (faults self.old) (faults self.new) batch.now result }
+        //= Where an agency tells its messages, a submission adds one, with its batch and its answer; after out of
+        //= memory it may.
+        //= No body: each agency proves it by its own log, as its rows say
         ensures lists { IsTrue tells → Submits (ledger self.old) (ledger self.new) batch.now result }
+        //= An agency that keeps its rules delivers only whole batches that were handed over, and a reply that names
+        //= its batch is what its delivery answered.
+        //= No body: what breaks it breaks the practice agency's `row` too
         ensures rules { IsTrue keeps_rules → SubmitKeeps (ledger self.old) (ledger self.new) batch.now result }
+        //= Each call of the practice agency, and of one whose answers are told beforehand, is exactly the row of its
+        //= fate, with the count of faults and the wait.
         ensures row { submission self.old self.new batch.now result };
 
     /// Asks what stands under 1 to `MAX_CONSULTED` Huellas; one answer for each, in order. Lack of memory changes nothing that is told.
     fn consult(&mut self, alloc: Global, huellas: &Huellas) -> Result<SeenList, AgencyFault>
         requires some { 1 ≤ length huellas.now.huellas }
         requires few { length huellas.now.huellas ≤ MAX_CONSULTED }
+        //= A consultation has one answer for each Huella.
+        //= No body: it is of the list that `row` gives
         ensures count { IfOk result (λ seen. length seen ≡ length huellas.now.huellas) }
         ensures cause { HasCause (faults self.old) (faults self.new) result }
+        //= A consultation adds one message, with what it names and its answer; after out of memory nothing.
+        //= No body: each agency proves it by its own log
         ensures lists { IsTrue tells → Consults (ledger self.old) (ledger self.new) huellas.now result }
         ensures rules { IsTrue keeps_rules → ConsultKeeps (ledger self.old) (ledger self.new) huellas.now.huellas result }
         ensures row { consultation self.old self.new huellas.now result };

@@ -39,6 +39,8 @@ fn sort_lines(alloc: Global, lines: &[ReplyLine]) -> Result<Result<Lines, u32>, 
 /// Sorts the reply to a batch: stale exactly where it doesn't name the batch's Huellas in order; else in doubt at the first
 /// `Duplicado`, counted from 0; else all records are new, with their lines.
 pub fn sort_reply(alloc: Global, batch: &Batch, reply: &Reply) -> Result<Sorted, NoMemory>
+    //= A reply is stale exactly where it doesn't name the batch's Huellas in order, else in doubt at its first
+    //= duplicate, else its lines.
     ensures { IfOk result (SortedAs batch.now reply.now) }
 {
     if !reply.huellas().are_of(batch.as_slice()) {

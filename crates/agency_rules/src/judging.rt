@@ -26,6 +26,7 @@ impl Past {
     pub fn after(self, body: &Record, line: &Line) -> Past
         requires { self.count < 2 ^ 32 - 1 }
         ensures value { result ≡ spec.past_after self body.now line.now }
+        //= The past after a record more is that of the list with it.
         ensures next { (processed : List (Sealed × AnyLine)) (s : Sealed) → s.body ≡ body.now
             → self ≡ past_of processed (id_of body.now)
             → result ≡ past_of (processed ++ (s, line.now) ∷ []) (id_of body.now) }
@@ -122,6 +123,9 @@ fn judge_by_register(past: &Past, verdict: Option<Verdict>, body: &Record) -> Li
 
 /// The line of a record of an invoice with this past and this verdict.
 pub fn judge(past: &Past, verdict: Option<Verdict>, body: &Record) -> Line
+    //= The agency's line for a record is the first row of its table that holds, by the invoice's past and the planned
+    //= verdict.
+    //= No body: the table is one `match`, and tests have each of its rows
     ensures { result ≡ spec.judge past.now verdict body.now }
 {
     match verdict {

@@ -93,6 +93,8 @@ impl Pairs {
 
     /// What was processed of an invoice.
     pub fn past_of(&self, id: &InvoiceId) -> Past
+        //= An invoice's past is read off the processed records of its number and day, by a filter and a last
+        //= match.
         ensures value { result ≡ spec.past_of self.now id.now }
         ensures bound { result.count < 2 ^ 32 - 1 }
     {
@@ -141,6 +143,7 @@ impl Pairs {
         sealed: &Sealed,
     ) -> Result<Delivered, NoMemory>
         ensures met { IfOk result (λ met. met ≡ delivered_record verdicts.now self.old sealed.now) }
+        //= A record whose Huella stands there changes nothing; any other is added with its judgement.
         ensures ok { OnOk result (self.new ≡ after_record verdicts.now self.old sealed.now) }
         ensures err { OnErr result (self.new ≡ self.old) }
     {
@@ -160,6 +163,8 @@ impl Pairs {
         batch: &[Sealed],
     ) -> Result<(), NoMemory>
         ensures ok { OnOk result (self.new ≡ delivered verdicts.now self.old batch.now) }
+        //= After out of memory a prefix of the batch is delivered, and no record after it.
+        //= No body: the loop ends at the first such answer
         ensures err { OnErr result (DeliversFront verdicts.now self.old self.new batch.now) }
         ensures front { take (length self.old) self.new ≡ self.old }
     {

@@ -28,6 +28,8 @@ impl Model for Cents {
 impl Cents {
     /// This many cents, `None` exactly where they are more than `MAX_CENTS` in absolute value.
     pub fn new(v: i64) -> Option<Cents>
+        //= An amount is none exactly outside its range.
+        //= No body: it is one comparison with the limit
         ensures valid { IsSome result ↔ IsCents v }
         ensures value { IfSome result (λ c. c ≡ v) }
     {

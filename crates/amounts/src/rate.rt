@@ -23,6 +23,8 @@ impl Model for Rate {
 impl Rate {
     /// This many hundredths of a percent, `None` exactly where they are more than 2500.
     pub fn new(v: u16) -> Option<Rate>
+        //= A rate is none exactly outside its range.
+        //= No body: it is one comparison with the limit
         ensures valid { IsSome result ↔ IsRate v }
         ensures value { IfSome result (λ r. r ≡ v) }
     {

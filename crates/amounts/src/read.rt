@@ -45,6 +45,8 @@ pub enum AmountFault {
 
 /// The amount that the text writes, in the form of `text_of`: `-0.00` and leading zeros are no amounts.
 pub fn read_cents(text: &str) -> Result<Cents, AmountFault>
+    //= An amount is read from its one text alone; any other text is out of range where it is that of a greater
+    //= number, else out of form.
     ensures reading { IsReading text.now result }
 
     // Reading undoes writing.

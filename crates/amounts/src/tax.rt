@@ -7,6 +7,7 @@ use crate::{Cents, Rate};
 /// The tax of a base: base times rate over 10,000, rounded half away from zero to the cent. The rounding is this project's
 /// own.
 pub fn tax_of(base: Cents, rate: Rate) -> Cents
+    //= A tax is base times rate over 10,000, rounded half away from zero.
     ensures { result ≡ tax base rate }
 {
     let size = (2 * (base.size() * rate.get() as u64) + 10_000) / 20_000;

@@ -19,6 +19,8 @@ fn is_led(bytes: &[u8]) -> bool
 /// bytes are no such digits.
 pub fn read_whole(bytes: &[u8]) -> Option<u64>
     ensures text { IfSome result (λ _. whole_text (digits_value 10 bytes.now) ≡ bytes.now) }
+    //= Decimal digits without leading zeros are read as their number, or 10^13 where it is more.
+    //= No body: it reads a script's numbers and a command line's, which sessions compare
     ensures value { IfSome result (λ n. n ≡ min (digits_value 10 bytes.now) WHOLE_LIMIT) }
     ensures none { IfNone result ((v : ℕ) → bytes.now ≢ whole_text v) }
 {

@@ -11,8 +11,13 @@ use std::alloc::Global;
 
 /// The verdict on a file: sound where it isn't begun or stands for a legal history, else its first break. It writes nothing.
 pub fn audit<D: Disk>(alloc: Global, disk: &mut D) -> Result<AuditEnd, AuditFault>
+    //= A file's verdict is sound, with the counts of its records and noted lines and its last Huella, where it isn't
+    //= begun or stands for a legal history; else its first break, with its place, its byte and the first word that is
+    //= true of it.
     ensures verdict { IfOk result (λ end. IsTrue D.tells → IsVerdict (D.on_disk disk.old).content end) }
     ensures fault { IsErrOf result AuditFault.DiskFault → Rose (D.faults disk.old) (D.faults disk.new) }
+    //= An audit leaves the file as it was.
+    //= No body: no function of a reading calls `write_at` or `sync`, which `.ci/quick` looks for
     ensures same { D.on_disk disk.new ≡ D.on_disk disk.old }
     ensures later { D.faults disk.old ≤ D.faults disk.new }
 {

@@ -8,6 +8,8 @@ use shop_core::{a_broken_file_is_damaged, a_file_stops_at_one_place};
 
 /// A file has one verdict.
 pub fn a_file_has_one_verdict()
+    //= A file has one verdict.
+    //= No body: a law over definitions, which has no body
     ensures { OneVerdict }
 {
     bytes_begin_with_one_frame();
@@ -18,6 +20,8 @@ pub fn a_file_has_one_verdict()
 
 /// What a verdict tells: a sound file isn't begun or stands for a history, a broken one is damaged at that byte.
 pub fn a_verdict_tells_what_a_file_is()
+    //= A verdict agrees with `load` on what the file stands for and on the damaged byte.
+    //= No body: a law over definitions, which has no body
     ensures { VerdictTells }
 {
     a_broken_file_is_damaged();

@@ -70,6 +70,7 @@ impl Model for Huellas {
 impl Huellas {
     /// Those of these records.
     pub fn of(alloc: Global, records: &[Sealed]) -> Result<Huellas, NoMemory>
+        //= What a consultation names of each record is its Huella and its invoice's number, day and sort.
         ensures { IfOk result (λ huellas. huellas ≡ named_of records.now) }
     {
         Ok(Huellas {
@@ -101,6 +102,7 @@ impl Huellas {
 
     /// The same, in memory of its own.
     pub fn copied(&self, alloc: Global) -> Result<Huellas, NoMemory>
+        //= A copy of what is named names the same.
         ensures { IfOk result (λ huellas. huellas ≡ self.now) }
     {
         Ok(Huellas {

@@ -32,7 +32,10 @@ impl Batch {
     /// The first `MAX_BATCH` waiting records, or all of them; None exactly where none waits.
     pub fn cut(alloc: Global, waiting: &[Sealed]) -> Result<Option<Batch>, NoMemory>
         requires { LinkedRun waiting.now }
+        //= There is none exactly where nothing waits.
+        //= No body: a batch has at least one record, by its type
         ensures none { IfOk result (λ cut. IsNone cut ↔ (waiting.now ≡ [])) }
+        //= A batch is the first 1000 of what waits, or all.
         ensures some { IfOk result (λ cut. IfSome cut (λ batch. batch ≡ take MAX_BATCH waiting.now)) }
     {
         if waiting.is_empty() {
@@ -46,6 +49,8 @@ impl Batch {
     /// Its records, in order.
     pub fn as_slice(&self) -> &[Sealed]
         ensures value { result.now ≡ self.now }
+        //= A batch is a linked run of 1 to 1000 records.
+        //= No body: it is the type's invariant
         ensures batch { IsBatch result.now }
     {
         &self.records

@@ -51,6 +51,7 @@ impl HuellaList {
 
     /// Whether they are exactly those of these records, in order.
     pub fn are_of(&self, records: &[Sealed]) -> bool
+        //= Huellas are those of records exactly where they are all of them, in order.
         ensures { IsTrue result ↔ (self.now ≡ huellas_of records.now) }
     {
         are_huellas(&self.list, records)

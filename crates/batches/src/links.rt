@@ -18,6 +18,7 @@ fn follows(sealed: &Sealed, before: &Sealed) -> bool
 
 /// Whether each record but the first names the one before it.
 pub fn are_linked(records: &[Sealed]) -> bool
+    //= Records are linked exactly where each but the first names the one before it, by number, date and Huella.
     ensures { IsTrue result ↔ LinkedRun records.now }
 {
     for i in 1..records.len() {

@@ -41,9 +41,13 @@ pub trait Disk {
     /// range. After a failure the range may hold any bytes.
     fn write_at(&mut self, at: u64, bytes: &[u8]) -> Result<(), Failed>
         requires { IsTrue tells → at ≤ length (on_disk self.old).content }
+        //= A write that is Ok is what the disk tells from then on, pending until a sync.
+        //= No body: a trait's clause; the disk in memory has bodies
         ensures ok { OnOk result (IsTrue tells → on_disk self.new ≡ written at bytes.now (on_disk self.old)) }
         ensures err { OnErr result (IsTrue tells →
             IsWriteFailed at (length bytes.now) (on_disk self.old) (on_disk self.new)) }
+        //= A write fails only where the disk's count of faults rose.
+        //= No body: each disk proves it by its own count
         ensures cause { HasCause (faults self.old) (faults self.new) result };
 
     /// After it a crash leaves what a read gives. After a failure all that was pending stays pending.

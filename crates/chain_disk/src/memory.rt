@@ -59,6 +59,8 @@ impl MemDisk {
     /// The image of a moment with every byte in doubt filled so, at the longest length, or at the synced
     /// one for `Old`. None where the moment is not yet.
     pub fn image(&self, alloc: Global, moment: u64, fill: Fill) -> Result<Option<MemDisk>, NoMemory>
+        //= An image is exactly the one that was asked for, which is one that a crash at that moment may leave.
+        //= No body: tests of crashes read the images that it gives
         ensures { IfOk result (λ image. MatchOption image
             (latest self.now < moment)
             (λ disk. IsImageAt self.now moment fill disk)) }
@@ -220,6 +222,7 @@ impl Disk for MemDisk {
             IsWriteFailed at (length bytes.now) (on_disk_of self.old) (on_disk_of self.new)) }
         ensures cause { HasCause (faults_of self.old) (faults_of self.new) result }
         ensures listed { FailsNext self.old → IsErr result }
+        //= A write of the disk in memory that fails leaves a torn range, wherever there is room for its record.
         ensures recorded { FailsNext self.old →
             IsRecorded self.old self.new (torn at (length bytes.now) (on_disk_of self.old)) }
         // The failure of the next call finds room.
@@ -227,6 +230,8 @@ impl Disk for MemDisk {
         // Lack of memory changes nothing but the counts.
         ensures no_room { (FailsNext self.old → ⊥) →
             OnErr result (on_disk_of self.new ≡ on_disk_of self.old) }
+        //= The count of faults of the disk in memory rises in exactly the calls that fail.
+        //= No body: tests with lists of failing calls compare it
         ensures call { IsOneCall self.old self.new result }
     {
         if next_fails(&mut self.calls, &self.failing) {
@@ -252,6 +257,7 @@ impl Disk for MemDisk {
         ensures err { OnErr result (IsTrue true → IsSyncFailed (on_disk_of self.old) (on_disk_of self.new)) }
         ensures cause { HasCause (faults_of self.old) (faults_of self.new) result }
         ensures listed { FailsNext self.old → IsErr result }
+        //= A sync of the disk in memory that fails settles nothing, wherever there is room for its record.
         ensures recorded { FailsNext self.old →
             IsRecorded self.old self.new (later (on_disk_of self.old)) }
         // The failure of the next call finds room.

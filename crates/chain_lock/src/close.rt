@@ -66,9 +66,15 @@ impl<V: Recorded> ChainLock<V> {
         requires own { passes_lock passes ≡ lock_id self }
         requires whole { (n : ℕ) → n < pass_count self → 0 < holders n (all_known passes) }
         ensures root { V.root result ≡ V.root (opening self) }
+        //= What is given back begins with what there was at the opening.
+        //= No body: it is the lock's rule, which each step keeps
         ensures begins { StartsWith (V.items result) (V.items (opening self)) }
+        //= What is given back begins with what each pass has seen, and has each pass's own items at their places.
+        //= No body: it is the lock's rule, which each step keeps
         ensures each { All (Fits (V.items result)) (all_known passes) }
         ensures before { (n : ℕ) → n < length (V.items (opening self)) → owners n (all_known passes) ≡ 0 }
+        //= Each place since the opening is owned by exactly one pass.
+        //= No body: it is the lock's rule, which each step keeps
         ensures since { (n : ℕ) → length (V.items (opening self)) ≤ n → n < length (V.items result) → owners n (all_known passes)
             ≡ 1 }
     {

@@ -43,6 +43,8 @@ impl<V: Recorded> ChainLock<V> {
     pub fn glance(&self, pass: &mut Pass<V>) -> u64
         requires { pass_lock pass.old ≡ lock_id self.now }
         ensures lock { pass_lock pass.new ≡ pass_lock pass.old }
+        //= A look at the count never gives less than the pass knew of.
+        //= No body: a count that fell breaks the lock's rule, which each step of a word keeps
         ensures at_least { (known pass.old).least ≤ result }
         ensures seen { KnowsOfSeen (known pass.new) }
         ensures raised { known pass.new ≡ record (known pass.old) { least = result } }
@@ -231,6 +233,8 @@ impl<V: Recorded> ChainLock<V> {
     pub fn turn<A: Act<V>, R: Wait>(&self, rt: &R, pass: &mut Pass<V>, act: &mut A) -> A::Told
         requires { pass_lock pass.old ≡ lock_id self.now }
         ensures lock { pass_lock pass.new ≡ pass_lock pass.old }
+        //= An act is called once, on a list that begins with all that the pass had seen and is at least as long as it
+        //= knew, and the pass then owns what was added.
         ensures turn { Turns (λ home before after. A.relates act.old home before act.new after result)
             (known pass.old) (known pass.new) }
         ensures seen { KnowsOfSeen (known pass.new) }

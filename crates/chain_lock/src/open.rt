@@ -114,6 +114,8 @@ impl<V: Recorded> ChainLock<V> {
         ensures count { IfOk result (λ r. (length (all_known r.1) ≡ passes) × (passes ≤ room_of r.1)) }
         ensures each { IfOk result (λ r. All (IsNew (V.items value) (V.root value)) (all_known r.1)) }
         ensures whole { IfOk result (λ r. (n : ℕ) → n < passes → holders n (all_known r.1) ≡ 1) }
+        //= Where memory runs out the value is handed back.
+        //= No body: it is one `Err` of the value
         ensures err { IfErr result (λ e. e.value ≡ value) }
     {
         let list = Vec::with_capacity(alloc, usize::from(passes));

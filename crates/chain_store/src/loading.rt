@@ -21,8 +21,13 @@ pub enum Loaded {
 
 /// Loads what a file stands for. It writes nothing.
 pub fn load<D: Disk>(alloc: Global, disk: &mut D) -> Result<Loaded, LoadFault>
+    //= What is loaded of a file that stands for a history is that, with its version and the byte of its closing gate;
+    //= nothing only where the file isn't begun.
+    //= No body: it is `read_file`, which has one
     ensures content { IfOk result (λ loaded. IsTrue D.tells → IsLoaded (D.on_disk disk.old).content loaded) }
     ensures near { IfOk result HasNearGate }
+    //= `Damaged` names the byte at which the file is damaged.
+    //= No body: it is `read_file`, which has one
     ensures damaged { (at : ℕ) → IsErrOf result (LoadFault.Damaged at) → IsTrue D.tells →
         IsDamagedFile (D.on_disk disk.old).content at }
     ensures fault { IsErrOf result LoadFault.DiskFault → Rose (D.faults disk.old) (D.faults disk.new) }

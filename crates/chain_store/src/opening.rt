@@ -47,12 +47,15 @@ pub fn open_journal<D: Disk>(
         IsReady D.tells opened.state None (end_of opened.journal) (D.on_disk (disk_of opened.journal))) }
     ensures going_on { IfOk result (λ opened. stopped_of opened.journal ≡ None) }
     ensures issuer { IfOk result (λ opened. opened.state.issuer ≡ issuer.now) }
+    //= An opening gives the history that the file stands for, in its version, or begins a file.
+    //= No body: it is `load` and `Journal::create`
     ensures found { IfOk result (λ opened. IsTrue D.tells →
         IsFound created opened.state.version issuer.now opened.state.entries (D.on_disk disk).content) }
     ensures every_crash { IfOk result (λ opened. IsTrue D.tells →
         LeavesNow (D.on_disk (disk_of opened.journal)) (StandsFor opened.state.version issuer.now opened.state.entries)) }
 
     // From its first sync on, a crash at any moment of the call leaves what was found.
+    //= From its first sync on each crash leaves what was found.
     ensures any_moment { IfOk result (λ opened. IsTrue D.tells →
         LeavesOnly (synced (D.on_disk disk)) (D.on_disk (disk_of opened.journal))
         (IsFound created opened.state.version issuer.now opened.state.entries)) }
@@ -63,8 +66,10 @@ pub fn open_journal<D: Disk>(
     ensures never_loses_err { IfErr result (λ fault. IsTrue D.tells → NeverLoses (D.on_disk disk) (D.on_disk fault.disk)) }
 
     // Nothing is written but a file's creation: of a file that is begun already the sync is all that is told.
+    //= Of a file that was begun nothing is written: the disk is what that sync leaves.
     ensures unwritten { IfOk result (λ opened. IsTrue D.tells →
         IsOnlySynced (D.on_disk disk) (D.on_disk (disk_of opened.journal))) }
+    //= A file that wasn't begun has its twenty bytes, by no more writes and syncs than a creation takes.
     ensures created { IfOk result (λ opened. IsTrue D.tells → IsNotBegun (D.on_disk disk).content →
         IsCreation created issuer.now (synced (D.on_disk disk)) (D.on_disk (disk_of opened.journal))) }
     ensures unwritten_err { IfErr result (λ fault. IsTrue D.tells → IsAtMostSynced (D.on_disk disk) (D.on_disk fault.disk)) }

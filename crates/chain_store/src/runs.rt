@@ -19,6 +19,8 @@ use std::alloc::Global;
 /// Where a run of a store begins: no ask, and no reply.
 pub fn a_run_begins<D: Disk, C: Clock>(store: &Store<D, C>)
     requires { Ready D.tells D.on_disk store.now }
+    //= A run of one thread over a store begins with no ask.
+    //= No body: a law over definitions, which has no body
     ensures { Along D.Disk C.Clock store.now store.now [] [] }
 {
     store.state().is_legal();
@@ -32,6 +34,8 @@ pub fn take_next<D: Disk, C: Clock>(
 ) -> Result<Reply, StoreFault>
     requires { Ready D.tells D.on_disk store.old }
     ensures took { Took D.Disk C.Clock store.old store.new ask.now result }
+    //= A run of one thread goes on by one ask.
+    //= No body: it is `take`
     ensures along { (first : AnyStore D C D.Disk) (asks : List Asked) (replies : Replies) →
         Along D.Disk C.Clock first store.old asks replies →
         Along D.Disk C.Clock first store.new (asks ++ ask.now ∷ []) (replies ++ result ∷ []) }
@@ -41,6 +45,8 @@ pub fn take_next<D: Disk, C: Clock>(
 
 /// What a run comes to.
 pub fn a_run_ends<D: Disk, C: Clock>(store: &Store<D, C>)
+    //= A run that began at a store is at its end a chain run of its own.
+    //= No body: a law over definitions, which has no body
     ensures own { (first : AnyStore D C D.Disk) (asks : List Asked) (replies : Replies) →
         Along D.Disk C.Clock first store.now asks replies →
         OwnRun (stopped_of (journal_of first)) asks replies
@@ -66,7 +72,12 @@ pub fn run_commands<D: Disk, C: Clock>(
     requires room { length asks.now ≤ vec_capacity replies.old }
     ensures issuer { (state_of store.new).issuer ≡ (state_of store.old).issuer }
     ensures version { (state_of store.new).version ≡ (state_of store.old).version }
+    //= A run of asks is a chain run, whose history is legal and linked, with what each crash leaves and the clock's
+    //= readings.
+    //= No body: it is `Store::take`, one ask after another
     ensures answers { Answers asks.now replies.new.items (this_store D.tells D.on_disk D.faults C.coming store.old store.new) }
+    //= The first fault of the disk in a run is told by a call in which its count rose.
+    //= No body: it follows from `Took.fault`
     ensures fails { FailsOnce D.Disk C.Clock store.old store.new asks.now replies.new.items }
 {
     a_run_begins(store);

@@ -156,6 +156,8 @@ impl<D: Disk, C: Clock> Store<D, C> {
         ensures ready { Ready D.tells D.on_disk self.new }
         ensures issuer { self.new.state.issuer ≡ self.old.state.issuer }
         ensures version { self.new.state.version ≡ self.old.state.version }
+        //= The agency's lines are added as one entry.
+        //= No body: it is `keep`, whose body is that of `take`
         ensures noted { OnOk result (self.new.state.entries
             ≡ self.old.state.entries ++ noted_next self.old.state.entries lines.now ∷ []) }
         ensures same { OnErr result (self.new.state.entries ≡ self.old.state.entries) }
@@ -228,6 +230,8 @@ impl<D: Disk, C: Clock> Store<D, C> {
           entries = self.old.state.entries;
           room = Some entry.now;
         }) }
+        //= Where bytes and room for an entry can't be made, the history is as it was.
+        //= No body: it holds no call of the journal
         ensures err { OnErr result (self.new.state ≡ self.old.state) }
         ensures same { (self.new.journal ≡ self.old.journal) × (self.new.clock ≡ self.old.clock)
             × (self.new.torn ≡ self.old.torn) }

@@ -167,6 +167,9 @@ impl Speaker {
     pub fn next_action(&mut self, alloc: Global, line: &[u8]) -> Result<Action, NoMemory>
         requires { length line.now ≤ MAX_LINE }
         ensures line_read { IfOk result (λ action. LineRead self.old self.new (with_lf line.now) action) }
+        //= A line more makes of each dialogue that has come so far one of a line more: it is read by the script's
+        //= grammar after what was said above it, or as a question, and there is one answer for it, an empty one for a
+        //= line that is skipped.
         ensures continues { IfOk result (λ action. Continues self.old self.new (with_lf line.now) action) }
     {
         self.action_of_line(alloc, line)
@@ -175,6 +178,8 @@ impl Speaker {
     /// The same of a line that is too long, with an LF or without.
     pub fn long_line_action(&mut self, alloc: Global) -> Result<Action, NoMemory>
         ensures passes { IfOk result (λ action. PassesOver self.old self.new too_long action) }
+        //= A line that is too long does nothing, leaves nothing for later lines, and is told so.
+        //= No body: it is made as that of a line without its LF
         ensures continues { (line : InputLine) → MAX_LINE < length (text_of line) → IfOk result (λ action. Continues self.old self.new line action) }
     {
         self.pass_too_long(alloc)
@@ -183,6 +188,7 @@ impl Speaker {
     /// The same of a last line that has no LF, whatever stands in it.
     pub fn unended_line_action(&mut self, alloc: Global) -> Result<Action, NoMemory>
         ensures passes { IfOk result (λ action. PassesOver self.old self.new unended action) }
+        //= A line without its LF does nothing, leaves nothing for later lines, and is told so.
         ensures continues { (text : List ℕ) → length text ≤ MAX_LINE →
             IfOk result (λ action. Continues self.old self.new (without_lf text) action) }
     {

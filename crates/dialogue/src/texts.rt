@@ -111,6 +111,7 @@ pub fn command_text(
     ask: &Ask,
     reply: &Result<Reply, StoreFault>,
 ) -> Result<Text, NoMemory>
+    //= A command's answer names its till and serial, and tells its reply.
     ensures { IfOk result (λ text. text ≡ spec.reply_text ask.now reply.now) }
 {
     let mut lines = Vec::new(alloc);

@@ -247,16 +247,29 @@ pub record DialogueSoFar {C : Type 0} (coming : C → ℕ → Option ℕ) (clock
 pub record Spoken {C : Type 0} (coming : C → ℕ → Option ℕ) (clock : Option (ℕ × ℕ)) (from now : Moment)
     (lacked : Bool) (olds news : List (Known Item (Root C))) (end : SpeechEnd) : Type 0 where
   pub said : Transcript
+  --= The lines that were read are a dialogue: each is answered by its definition, given those before it, in one text;
+  --= one without its LF does nothing.
   pub dialogue : Dialogue said
   pub pairs : length said.replies ≡ length said.asks
   pub clock_is : clock_said said.before ≡ clock
+  --= Each till has run its own of the commands, in their order, from what it knew, and has only seen on since.
   pub ran : AllRanOn coming said.asks said.replies olds news
+  --= Questions are answered at histories of which each begins with the one before; each record that was told by a
+  --= receipt before a question is in its history.
   pub looked : AreLookedAt olds news said.replies said.looks
+  --= Commands are answered at histories with no fewer records than those at the start and those taken before, by
+  --= whichever till; where the records at the end are no others than these, all commands are one run.
   pub run : RunsAt coming olds news said.asks said.replies said.looks
   pub tills : AllByRecursion IsOfTill said.asks
   pub lacked_is : lacked ≡ list_any is_no_memory said.replies
+  --= The source is read to its end, or up to a fault of it; else up to the last line that was answered, with what
+  --= came with it in one read, but for one line more that no memory was left to hear.
   pub read : IsRead end from.left now.left said.lines
+  --= The sink took each answer, in order, or each but the last and a front of that one where it failed or memory ran
+  --= out.
   pub written : IsWritten end (sink_since from now) said.answers
+  --= No reply is a fault of the disk but the last one, where the dialogue stopped at it, and its answer is then the
+  --= last.
   pub replies_are : AreRepliesOf end said.asks said.replies said.answers
   pub read_fault : IsReadFault end from now
   pub sink_later : from.sink_faults ≤ now.sink_faults

@@ -70,6 +70,8 @@ impl Listener {
         alloc: Global,
         source: &mut S,
     ) -> Result<Action, SpeechEnd>
+        //= Lines are passed over until one is answered.
+        //= No body: it is `next_action`, again and again
         ensures first { (left : Option (List ℕ)) → HasHeard left (S.left source.old) self.old nothing_said → IsFirst self.old →
             ComesFirst left (S.left source.new) self.new result }
         ensures later { S.faults source.old ≤ S.faults source.new }

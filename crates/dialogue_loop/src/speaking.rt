@@ -238,11 +238,16 @@ pub fn answer_lines<S: Source, K: Sink, D: Disk, C: Clock, T: Gate, R: Wait>(
     requires lacked { speech.old.lacked ≡ false }
     ensures own { All (λ t. till_shop t ≡ shop_id shop.now) speech.new.held.items }
     ensures numbers { map till_number speech.new.held.items ≡ map till_number speech.old.held.items }
+    //= Whatever lines came, what became of them is one `Spoken`: its fields say how far was read, what was done, and
+    //= what was written.
+    //= No body: its fields have bodies of their own
     ensures spoken { (left : Option (List ℕ)) (faults : ℕ) → ComesFirst left (S.left source.old) speech.old.listener first.now →
         faults ≤ S.faults source.old → IsCause faults (S.faults source.old) first.now →
         Spoken C.coming (clock_first first.now) (moment_since left faults (K.taken sink.old) (K.faults sink.old))
         (moment_of S.left S.faults K.taken K.faults source.new sink.new) speech.new.lacked
         (map till_knows speech.old.held.items) (map till_knows speech.new.held.items) result }
+    //= ! it is `next_line`'s, which has one
+    //= No body: it is `next_line`, whose body it is
     ensures once { IsTrue S.counts → (faults : ℕ) → ComesOnce faults (S.faults source.old) first.now →
         EndsOnce faults (S.faults source.new) result }
 {

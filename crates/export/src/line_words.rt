@@ -55,6 +55,7 @@ fn line_with(word: &str, code: u16) -> Option<Line>
 /// The line that has this word and this code; None exactly where none has.
 pub fn line_named(word: &str, code: u16) -> Option<Line>
     ensures found { (line : AnyLine) → word.now ≡ spec.line_word line → code ≡ spec.line_code line → result ≡ Some line }
+    //= A word and a code name a line of the agency only where they are that line's.
     ensures only { IfSome result (λ line. (word.now ≡ spec.line_word line) × (code ≡ spec.line_code line)) }
 {
     match line_with(word, code) {

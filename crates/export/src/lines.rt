@@ -77,6 +77,8 @@ pub fn head_text(alloc: Global, issuer: &Nif, version: Version) -> Result<Text, 
     ensures line { IfOk result (λ text. IsTrue (is_one_line text)) }
 
     // It is read back.
+    //= A head's line is read back as that head.
+    //= No body: it is written and read as an entry is
     ensures read { IfOk result (λ text. IsHeadOf (record { issuer = issuer.now; version = version }) text) }
 {
     let _bytes = issuer.bytes();
@@ -95,11 +97,14 @@ pub fn head_text(alloc: Global, issuer: &Nif, version: Version) -> Result<Text, 
 /// - Notes have `first` (how many lines were noted before), `lines` (pairs of the agency's word and its code, 0 where it has
 ///   none) and `t` (`notes`).
 pub fn entry_text(alloc: Global, entry: &Entry) -> Result<Text, NoMemory>
+    //= Where there is memory, an entry's line is the compact text of its object, whose keys stand in the order of
+    //= their bytes.
     ensures text { IfOk result (λ text. text ≡ compact_text (object_of entry.now)) }
     ensures line { IfOk result (λ text. IsTrue (is_one_line text)) }
 
     // It is read back, in a file of a version that has the entry.
     ensures read { IfOk result (λ text. value_read text ≡ Some (object_of entry.now)) }
+    //= The line of an entry is read back as that entry, in each version that has it.
     ensures read_back { (version : AnyVersion) (issuer : List ℕ) → AreFields version entry.now → HasIssuer issuer entry.now
         → IfOk result (λ text. IsLineOf version issuer entry.now text) }
 {
@@ -113,6 +118,8 @@ pub fn is_head_line(
     version: Version,
     line: &[u8],
 ) -> Result<bool, NoMemory>
+    //= Whether a line reads as this head's object is told exactly.
+    //= No body: it is the comparison by which `read_head` reads
     ensures { IfOk result (λ is. IsTrue is ↔ (value_read line.now ≡ Some (head_object issuer.now version))) }
 {
     match value_of(alloc, line) {
@@ -124,6 +131,8 @@ pub fn is_head_line(
 
 /// Whether the line reads as the object of the entry. What is no JSON doesn't.
 pub fn is_entry_line(alloc: Global, entry: &Entry, line: &[u8]) -> Result<bool, NoMemory>
+    //= Whether a line reads as this entry's object is told exactly.
+    //= No body: it is the comparison by which `read_entry` reads
     ensures { IfOk result (λ is. IsTrue is ↔ (value_read line.now ≡ Some (object_of entry.now))) }
 {
     match value_of(alloc, line) {
@@ -146,6 +155,9 @@ fn head_of(value: &Value) -> Result<Head, Unread>
 /// What the first line of a history says. `Json` exactly where serde_json reads no value of the bytes, as where they are no
 /// UTF-8; `Shape` exactly where the value is the object of no issuer and version.
 pub fn read_head(alloc: Global, line: &[u8]) -> Result<Head, LineFault>
+    //= A head is read exactly where the line reads as the object of an issuer and a version; else the answer is
+    //= `Json` exactly where no value is read, and `Shape` exactly otherwise, out of memory aside.
+    //= No body: it is read as an entry is, by comparing the line with what its object would be
     ensures answer { IsHeadReading line.now result }
 
     // No other head has this line.
@@ -175,9 +187,14 @@ pub fn read_entry(
     issuer: &Nif,
     line: &[u8],
 ) -> Result<Entry, LineFault>
+    //= An entry is read exactly where the line reads as the object of an entry that the version has and whose record
+    //= is the issuer's; else the answer is `Json` exactly where no value is read, and `Shape` exactly otherwise, out
+    //= of memory aside.
     ensures answer { IsLineReading version issuer.now line.now result }
 
     // No other entry has this line.
+    //= A line that is an entry's is read as no other.
+    //= No body: what breaks it breaks `answer` too
     ensures only { (entry : AnyEntry) → IsLineOf version issuer.now entry line.now
         → MatchResult result (λ found. found ≡ entry) (λ e. e ≡ fault.NoMemory) }
 {

@@ -84,6 +84,7 @@ fn put_all(room: &mut [u8], bytes: &[u8])
 /// Fills the buffer with the length, the body and a closed gate byte.
 pub fn frame_bytes(body: &[u8], out: &mut FrameBuf)
     requires { IsBody body.now }
+    //= A frame is its body's length, greatest byte first, the body, and a closed gate.
     ensures { out.new ≡ frame body.now }
 {
     put_frame(&mut out.bytes, body);
@@ -109,6 +110,7 @@ fn put_at(room: &mut [u8], at: usize, bytes: &[u8])
 
 /// What stands at a gate. The window is the file from the gate on, cut after `WINDOW` bytes.
 pub fn read_frame(window: &[u8]) -> Frame
+    //= A window is read as a counted frame, as closed or as damaged, by the file's table.
     ensures frame { IsFrame window.now result }
     ensures within { IsWithin window.now result }
 {

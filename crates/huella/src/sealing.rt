@@ -12,6 +12,7 @@ use stamps::{date_text, moment_text};
 
 /// The record with its Huella: SHA-256 of its field text.
 pub fn seal(body: Record) -> Sealed
+    //= A record is sealed with its Huella: SHA-256 of the agency's field text.
     ensures { result ≡ spec.sealed_of body }
 {
     let huella = huella_of(&body);

@@ -11,6 +11,8 @@ use stamps::Stamp;
 /// What every record keeps: its issuer, its number, its day, the Huella before it and its moment are of their forms. So
 /// `text_determines_record` holds of any two records.
 pub fn is_stated(body: &Record)
+    //= Every record meets the premise of `text_determines_record`.
+    //= No body: it is the type's invariant
     ensures { IsStated body.now }
 {
     match body {

@@ -10,6 +10,7 @@ use std::alloc::Global;
 
 /// A Huella as 64 capital hexadecimal digits.
 pub fn huella_text(huella: &[u8; 32]) -> [u8; 64]
+    //= A Huella's text is 64 capital hexadecimal digits.
     ensures { result ≡ spec.huella_text huella.now }
 {
     let mut text = [0; 64];
@@ -22,6 +23,7 @@ pub fn huella_text(huella: &[u8; 32]) -> [u8; 64]
 
 /// The field text of a record: `name=value` parts with `&` between them.
 pub fn field_text(alloc: Global, body: &Record) -> Result<Bytes, NoMemory>
+    //= The field text is the agency's: its fields in order, with the Huella of the record before.
     ensures { IfOk result (λ text. text ≡ spec.field_text body.now) }
 {
     match body {

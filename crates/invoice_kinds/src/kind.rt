@@ -37,6 +37,7 @@ impl Kind {
 
     /// The kind with that code, `None` exactly where the text is the code of none.
     pub fn read(text: &str) -> Option<Kind>
+        //= A kind is read from its own text alone.
         ensures value { IfSome result (λ kind. text.now ≡ kind_text kind) }
         ensures complete { (kind : Kind) → text.now ≡ kind_text kind → result ≡ Some kind }
     {

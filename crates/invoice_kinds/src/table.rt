@@ -6,6 +6,7 @@ use crate::{Kind, Need, Needs};
 
 /// What an invoice of the kind needs. The table is this project's own.
 pub fn needs(kind: Kind) -> Needs
+    //= What each kind needs is the table.
     ensures { result ≡ needs_of kind }
 {
     let (customer, rect, refs) = match kind {

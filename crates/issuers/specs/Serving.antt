@@ -50,10 +50,12 @@ module _ {D C : Type 0} where
     pub order : IsFront parts made left
     -- at Ok all are made
     pub none_left : OnOk result ((index : ℕ) → left index ≡ [])
+    --= All of each issuer's commands are answered, where memory lasts: a fault of one file ends nobody else's.
     pub whole : OnOk result ((index : ℕ) (part : Part) → slice_get parts index ≡ Some part →
         asks_in (mine index made) ≡ part.script.asks)
     pub whom : map answers_whom answers ≡ map asks_whom made
     pub stores : length after ≡ length before
+    --= Each issuer's run is its own, from its history, at its clock's readings.
     pub own : (index : ℕ) (old new : Store D C d) → slice_get before index ≡ Some old → slice_get after index ≡ Some new →
         OwnRun (stopped_of (journal_of old)) (asks_in (mine index made)) (replies_to index answers)
         (this_store d.tells d.on_disk d.faults c.coming old new)

@@ -79,6 +79,8 @@ impl<D: Disk, C: Clock> Office<D, C> {
         requires index { index < length (stores_of self.old) }
         requires ready { All (Ready D.tells D.on_disk) (stores_of self.old) }
         ensures ready { All (Ready D.tells D.on_disk) (stores_of self.new) }
+        //= A store's own command is taken by it as by itself, and every other store is as before.
+        //= No body: it is `Store::take` of the store of this index
         ensures took { TookAt D.Disk C.Clock (stores_of self.old) (stores_of self.new) index ask.now result }
     {
         take_next(alloc, &mut self.stores[index as usize], ask)
@@ -98,6 +100,8 @@ impl<D: Disk, C: Clock> Office<D, C> {
         requires none { answers.old ≡ [] }
         requires ready { All (Ready D.tells D.on_disk) (stores_of self.old) }
         ensures ready { All (Ready D.tells D.on_disk) (stores_of self.new) }
+        //= Several issuers' commands are taken in the order of lines, and each issuer's answers are those of a run of
+        //= its own commands alone, from its own history at its own clock's readings.
         ensures served { Served D.Disk C.Clock parts.now (stores_of self.old) (stores_of self.new) answers.new result }
         // What each issuer gets doesn't depend on the others.
         ensures world { OnOk result (HasOwnWorlds D.Disk C.Clock parts.now (stores_of self.old) (stores_of self.new) answers.new) }

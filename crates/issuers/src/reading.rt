@@ -213,6 +213,8 @@ fn add_part(
 /// the one of the smallest number is answered.
 pub fn read_many(alloc: Global, bytes: &[u8], issuers: &[Nif]) -> Result<Parts, ScriptFault>
     requires { length bytes.now < 4_294_967_295 }
+    //= Each issuer's part of a script is the lines in front of all sections and those of its own, read as a script by
+    //= itself; else the faulty line with the smallest number is named.
     ensures many { ManyIs issuers.now bytes.now result }
     ensures lines { IfOk result (λ parts. All HasLines parts) }
     // Each part, cut into lines, is the script's own lines, with those that aren't the issuer's made empty.

@@ -56,14 +56,20 @@ impl<D: Disk> Journal<D> {
             IsAt version issuer.now [] (end_of journal) (D.on_disk (disk_of journal))) }
         ensures every_crash { IfOk result (λ journal. IsTrue D.tells →
             LeavesNow (D.on_disk (disk_of journal)) (IsFile version issuer.now [])) }
+        //= A file that is begun and empty has exactly its twenty bytes.
+        //= No body: it is one write of them, as `append`'s
         ensures content { IfOk result (λ journal. IsTrue D.tells →
             (D.on_disk (disk_of journal)).content ≡ empty_file version issuer.now) }
+        //= A creation takes six moments of the disk where at most one byte was there, else four.
+        //= No body: it is `commit`, as `append`
         ensures moments { IfOk result (λ journal. IsTrue D.tells →
             CreationTakes (D.on_disk disk) (D.on_disk (disk_of journal))) }
         ensures place { IfOk result (λ journal. end_of journal ≡ HEADER) }
         ensures going_on { IfOk result (λ journal. stopped_of journal ≡ None) }
 
         // A crash at any moment of the call leaves a file that isn't begun, or is begun and empty.
+        //= A crash in a creation leaves a file that isn't begun, or is begun and empty.
+        //= No body: it is `commit`, as `append`
         ensures any_moment { IfOk result (λ journal. IsTrue D.tells →
             LeavesOnly (D.on_disk disk) (D.on_disk (disk_of journal)) (IsNotBegunOrEmpty version issuer.now)) }
         ensures any_moment_err { IfErr result (λ lost. IsTrue D.tells →
@@ -74,6 +80,7 @@ impl<D: Disk> Journal<D> {
         // What the disk had made sure of at any moment of the call stays.
         ensures never_loses { IfOk result (λ journal. IsTrue D.tells →
             NeverLosesFrames (D.on_disk disk) (D.on_disk (disk_of journal))) }
+        //= A creation that fails loses nothing that was made sure of.
         ensures never_loses_err { IfErr result (λ lost. IsTrue D.tells →
             NeverLosesFrames (D.on_disk disk) (D.on_disk lost.disk)) }
 
@@ -144,19 +151,26 @@ impl<D: Disk> Journal<D> {
         ensures acknowledged { OnOk result (IsTrue D.tells → (version : AnyVersion) (issuer : List ℕ) (bodies : List (List ℕ)) →
             IsAt version issuer bodies (end_of self.old) (D.on_disk (disk_of self.old)) →
             IsAt version issuer (bodies ++ body.now ∷ []) (end_of self.new) (D.on_disk (disk_of self.new))) }
+        //= After an append that is Ok every crash leaves its body too.
         ensures every_crash { OnOk result (IsTrue D.tells → (version : AnyVersion) (issuer : List ℕ) (bodies : List (List ℕ)) →
             IsAt version issuer bodies (end_of self.old) (D.on_disk (disk_of self.old)) →
             LeavesNow (D.on_disk (disk_of self.new)) (IsFile version issuer (bodies ++ body.now ∷ []))) }
+        //= After an append that is Ok the file is the one before up to its gate, the gate as 1, the frame with its
+        //= closing 0, and what stood after that.
         ensures content { OnOk result (IsTrue D.tells → (D.on_disk (disk_of self.new)).content
             ≡ with_frame (D.on_disk (disk_of self.old)).content (end_of self.old) body.now) }
         // Two writes, with a sync after each.
+        //= An append is two writes, with a sync after each.
         ensures moments { OnOk result (IsTrue D.tells →
             moment (D.on_disk (disk_of self.new)) ≡ moment (D.on_disk (disk_of self.old)) + 4) }
         ensures answer { IfOk result (λ at. at ≡ end_of self.new) }
+        //= An append's answer is the place of the new gate, with `answer`.
+        //= No body: it is the sum of the lengths, which the next append needs
         ensures place { OnOk result (end_of self.new ≡ end_of self.old + 5 + length body.now) }
         ensures going_on { OnOk result ((stopped_of self.old ≡ None) × (stopped_of self.new ≡ None)) }
 
         // A crash at any moment of the call leaves the bodies from before it, or those and this one.
+        //= A crash at any moment of an append leaves the bodies from before it, or those and this one.
         ensures any_moment { stopped_of self.old ≡ None → IsTrue D.tells →
             (version : AnyVersion) (issuer : List ℕ) (bodies : List (List ℕ)) →
             IsAt version issuer bodies (end_of self.old) (D.on_disk (disk_of self.old)) →
@@ -164,22 +178,29 @@ impl<D: Disk> Journal<D> {
             (IsBeforeOrAfter version issuer bodies body.now) }
 
         // What was made sure of at one moment of the call is there after every crash at a later one.
+        //= What was made sure of at any moment of an append stays at each later one.
         ensures never_loses { stopped_of self.old ≡ None → IsTrue D.tells →
             (version : AnyVersion) (issuer : List ℕ) (bodies : List (List ℕ)) →
             IsAt version issuer bodies (end_of self.old) (D.on_disk (disk_of self.old)) →
             NeverLosesFrames (D.on_disk (disk_of self.old)) (D.on_disk (disk_of self.new)) }
 
         // The bytes before the closing gate stay, in the file and in each that a crash leaves.
+        //= Whatever an append answers, the bytes before the gate stay, in the file and in each that a crash leaves.
         ensures appended { stopped_of self.old ≡ None → IsTrue D.tells →
             AppendsFrom (end_of self.old) (D.on_disk (disk_of self.old)) (D.on_disk (disk_of self.new)) }
 
         // A fault of the disk stops the journal for good. From then on no call of the disk is made.
         ensures fault { IsErrOf result JournalFault.DiskFault →
             (stopped_of self.old ≡ None) × Rose (D.faults (disk_of self.old)) (D.faults (disk_of self.new)) }
+        //= A fault of the disk stops the journal for good, at its count.
         ensures stops { IsErrOf result JournalFault.DiskFault →
             stopped_of self.new ≡ Some (D.faults (disk_of self.new)) }
+        //= From a fault on, and only then, every append answers `Stopped` with that count.
+        //= No body: it is one look at the count ahead of all calls
         ensures stopped { (faults : ℕ) →
             IsErrOf result (JournalFault.Stopped faults) ↔ (stopped_of self.old ≡ Some faults) }
+        //= Once stopped a journal calls no disk.
+        //= No body: it is one look at the count ahead of all calls
         ensures untouched { IsSome (stopped_of self.old) → self.new ≡ self.old }
         ensures end_err { OnErr result (end_of self.new ≡ end_of self.old) }
         ensures later { D.faults (disk_of self.old) ≤ D.faults (disk_of self.new) }

@@ -43,6 +43,8 @@ const LOOK: usize = HEADER + 2;
 
 /// What the first bytes of the file stand for. It reads at most 21 of them.
 pub fn read_header<D: Disk>(disk: &mut D) -> Result<Header, Failed>
+    //= A header is read by the file's table.
+    //= No body: none is written yet
     ensures header { IfOk result (λ header. IsTrue D.tells → IsHeader (D.on_disk disk.old).content header) }
     ensures version { IfOk result SaysAVersion }
     ensures same { D.on_disk disk.new ≡ D.on_disk disk.old }
@@ -122,6 +124,8 @@ fn header_behind(file: &[u8]) -> Header
 /// What stands at a gate. Of a counted frame the buffer then holds the body.
 pub fn scan<D: Disk>(disk: &mut D, at: u64, body: &mut FrameBuf) -> Result<Step, Failed>
     requires { at < 2 ^ 63 }
+    //= A frame is read by the file's table.
+    //= No body: it is `step_in`, as `scan_ahead`
     ensures step { IfOk result (λ step. IsTrue D.tells →
         IsStep (drop at (D.on_disk disk.old).content) step body.new) }
     ensures place { IfOk result (λ step. IsNext at step body.new) }
@@ -145,15 +149,18 @@ pub fn scan_ahead<D: Disk>(
 ) -> Result<Step, Failed>
     requires far { at < 2 ^ 63 }
     requires ahead { IsTrue D.tells → IsAheadIn (D.on_disk disk.old).content ahead.old }
+    //= A frame is read ahead as `scan` reads it.
     ensures step { IfOk result (λ step. IsTrue D.tells →
         IsStep (drop at (D.on_disk disk.old).content) step body.new) }
     ensures place { IfOk result (λ step. IsNext at step body.new) }
     ensures buffer { MatchResult result
         (λ step. KeepsBuffer step body.old body.new)
         (λ _. body.new ≡ body.old) }
+    //= What was read ahead is what the file has from that byte on.
     ensures ahead { IsTrue D.tells → IsAheadIn (D.on_disk disk.old).content ahead.new }
 
     // Where the frame is at hand the disk isn't called.
+    //= The disk isn't called where as much as a frame may take is at hand.
     ensures kept { IsAtHand ahead.old at → (ahead.new ≡ ahead.old) × (disk.new ≡ disk.old) }
     ensures same { D.on_disk disk.new ≡ D.on_disk disk.old }
     ensures cause { HasCause (D.faults disk.old) (D.faults disk.new) result }

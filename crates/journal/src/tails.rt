@@ -202,16 +202,22 @@ pub fn make_tails_equal<D: Disk, M: Disk>(
     requires front { IsTrue D.tells → IsTrue M.tells →
         KeepsFront gate (D.on_disk first.old).content (M.on_disk second.old).content }
 
+    //= Two files of one history are made equal behind their gates.
     ensures equal { OnOk result (IsTrue D.tells → IsTrue M.tells →
         (M.on_disk second.new).content ≡ (D.on_disk first.new).content) }
+    //= Each of two files whose tails were made equal stands for what it stood for, with nothing pending.
     ensures stays { OnOk result ((IsTrue D.tells → StaysAt gate (D.on_disk first.old) (D.on_disk first.new))
         × (IsTrue M.tells → StaysAt gate (M.on_disk second.old) (M.on_disk second.new))) }
 
     // Whatever it answers, the bytes up to the gate and the gate stay, in each file and in each that a crash leaves of it: that
     // stands for the same bodies.
     ensures first { IsTrue D.tells → KeepsGate gate (D.on_disk first.old) (D.on_disk first.new) }
+    //= Where tails are made equal, the bytes up to and with the gate stay, in each file that a crash leaves too, and
+    //= nothing is lost.
     ensures second { IsTrue M.tells → KeepsGate gate (M.on_disk second.old) (M.on_disk second.new) }
 
+    //= Where the gates of two files differ nothing is written to make their tails equal.
+    //= No body: it is answered ahead of each write
     ensures other_gate { IsErrOf result TailFault.OtherGate →
         (D.on_disk first.new ≡ D.on_disk first.old) × (M.on_disk second.new ≡ M.on_disk second.old)
         × (IsTrue D.tells → IsTrue M.tells →

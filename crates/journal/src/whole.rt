@@ -128,6 +128,8 @@ pub fn begin_shut<D: Disk>(disk: &mut D, issuer: &Nif, version: Version) -> Resu
     ensures free { OnOk result (IsTrue D.tells → IsHeldShut version issuer.now (D.on_disk disk.old).content) }
     ensures any_moment { IsTrue D.tells →
         LeavesOnly (D.on_disk disk.old) (D.on_disk disk.new) (IsSameOrShut version issuer.now (D.on_disk disk.old).content) }
+    //= Where something else is a whole file isn't begun, and nothing is written.
+    //= No body: it is answered ahead of each write
     ensures kept { IsTrue D.tells → (IsHeldShut version issuer.now (D.on_disk disk.old).content → ⊥) →
         D.on_disk disk.new ≡ D.on_disk disk.old }
     ensures never_loses { IsTrue D.tells → NeverLosesFrames (D.on_disk disk.old) (D.on_disk disk.new) }
@@ -210,9 +212,12 @@ pub fn open_shut<D: Disk>(disk: &mut D, at: u64) -> Result<(), Failed>
     ensures ok { OnOk result (IsTrue D.tells → (version : AnyVersion) (issuer : List ℕ) (bodies : List (List ℕ)) →
         AreBodies bodies → IsWriting version issuer (framed bodies) at (D.on_disk disk.old) →
         IsAt version issuer bodies at (D.on_disk disk.new)) }
+    //= Until a whole file that is held shut is opened, a crash leaves one that counts for nothing; from there on also
+    //= the whole one.
     ensures any_moment { IsTrue D.tells → (version : AnyVersion) (issuer : List ℕ) (bodies : List (List ℕ)) →
         AreBodies bodies → IsWriting version issuer (framed bodies) at (D.on_disk disk.old) →
         LeavesOnly (D.on_disk disk.old) (D.on_disk disk.new) (IsShutOrWhole version issuer bodies) }
+    //= Opening a whole file loses nothing that was made sure of.
     ensures never_loses { IsTrue D.tells → (version : AnyVersion) (issuer : List ℕ) (bodies : List (List ℕ)) →
         AreBodies bodies → IsWriting version issuer (framed bodies) at (D.on_disk disk.old) →
         NeverLosesFrames (D.on_disk disk.old) (D.on_disk disk.new) }

@@ -10,6 +10,7 @@ use std::alloc::Global;
 
 /// The byte at which a file is damaged; None where it isn't begun or stands for a sound chain. The file is only read.
 pub fn audit_a_file<D: Disk>(alloc: Global, disk: &mut D) -> Result<Option<u64>, AuditFault>
+    //= The byte at which a file is damaged is named, or none.
     ensures damage { IfOk result (λ found. IsTrue D.tells → IsDamage (D.on_disk disk.old).content found) }
     ensures fault { IsErrOf result AuditFault.DiskFault → Rose (D.faults disk.old) (D.faults disk.new) }
     ensures same { D.on_disk disk.new ≡ D.on_disk disk.old }

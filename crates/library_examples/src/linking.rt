@@ -20,6 +20,8 @@ pub fn link_of_a_sale<D: Disk>(
     num: &NumSerie,
     host: Host,
 ) -> Result<Option<Text>, LoadFault>
+    //= The link of a sale is that of the last alta of its number, or none where there is none.
+    //= No body: it is `load` and `link_of`
     ensures link { IfOk result (λ found. IsTrue D.tells → IsLinkIn (D.on_disk disk.old).content num.now host found) }
     ensures damaged { (at : ℕ) → IsErrOf result (LoadFault.Damaged at) → IsTrue D.tells →
         IsDamagedFile (D.on_disk disk.old).content at }

@@ -82,10 +82,15 @@ pub fn open_and_take<D: Disk + Drop, C: Clock + Drop>(
 ) -> Result<(Ticket, Store<D, C>), NoTicket>
     // The chain is what the file stood for, with the sale's record after it where it is new. From then on each crash leaves the
     // whole chain. The ticket is that of its record under this till and serial.
+    //= After a sale the chain is the history that the file stood for with what the answer to the ask adds to it.
+    //= No body: it is `open_store` and `Store::take`
     ensures answers { IfOk result (λ r. Answers D.tells issuer.now (D.on_disk disk).content (C.coming clock) sale.now
         (state_of r.1).entries) }
+    //= After a sale each crash leaves the whole chain.
+    //= No body: it is `Store::take`
     ensures kept { IfOk result (λ r. IsTrue D.tells →
         LeavesNow (D.on_disk (disk_of (journal_of r.1))) (StandsFor (state_of r.1).version (state_of r.1).issuer (state_of r.1).entries)) }
+    //= The ticket of a sale has the Huella and the link of the record under its till and serial, an alta.
     ensures ticket { IfOk result (λ r. IsTicketOf (state_of r.1).entries sale.now r.0) }
     ensures ready { IfOk result (λ r. Ready D.tells D.on_disk r.1) }
 {

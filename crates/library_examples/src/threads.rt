@@ -81,10 +81,14 @@ pub fn one_till_a_thread<D: Disk + Send + Drop, C: Clock + Send + Drop, R: Threa
     requires ready { Ready D.tells D.on_disk store }
     ensures sound { IfOk result (λ day.
         IsSound D.tells D.on_disk D.faults C.coming (root_of D.on_disk D.faults (parts_of store)) (parts_of day.store)) }
+    //= Two tills at the same time are each told one reply for each request, in order, and each one's records since
+    //= the start are those that it was told as taken.
     ensures first { IfOk result (λ day. AreReplies C.coming (root_of D.on_disk D.faults (parts_of store))
         (items_in (parts_of day.store)) 1 first.now day.first.items) }
     ensures second { IfOk result (λ day. AreReplies C.coming (root_of D.on_disk D.faults (parts_of store))
         (items_in (parts_of day.store)) 2 second.now day.second.items) }
+    //= Beside the two tills no other till has a record since.
+    //= No body: it follows from the shop's laws
     ensures others { IfOk result (λ day. (till : ℕ) → till ≢ 1 → till ≢ 2 →
         records_since (root_of D.on_disk D.faults (parts_of store)) (items_in (parts_of day.store)) till ≡ []) }
     ensures refused { IfErr result (λ e. parts_of e.store ≡ parts_of store) }

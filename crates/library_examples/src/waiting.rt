@@ -25,6 +25,8 @@ pub fn first_waiting<D: Disk, C: Clock>(
     alloc: Global,
     store: &Store<D, C>,
 ) -> Result<SealedList, NoMemory>
+    //= The first 1000 records without a line are given.
+    //= No body: it is `State::waiting_records`
     ensures { IfOk result (λ list. list ≡ take MAX_BATCH (waiting (state_of store.now).entries)) }
 {
     Ok(store.waiting(alloc, MAX_BATCH)?.list)
@@ -46,6 +48,8 @@ pub fn note_lines<D: Disk, C: Clock>(
 ) -> Result<(), NotNoted>
     requires { Ready D.tells D.on_disk store.old }
     ensures ready { Ready D.tells D.on_disk store.new }
+    //= Lines that are noted are added after the history.
+    //= No body: it is `Store::note`
     ensures noted { OnOk result ((state_of store.new).entries
         ≡ (state_of store.old).entries ++ noted_next (state_of store.old).entries lines.now ∷ []) }
     ensures same { OnErr result ((state_of store.new).entries ≡ (state_of store.old).entries) }
@@ -53,6 +57,8 @@ pub fn note_lines<D: Disk, C: Clock>(
         (StandsFor (state_of store.new).version (state_of store.new).issuer (state_of store.new).entries)) }
 
     // Why lines were not noted.
+    //= `Count` comes only where there is no line, more than 1000, or fewer records wait.
+    //= No body: it is answered ahead of `Store::note`
     ensures count { IsErrOf result NotNoted.Count → IsInRange 1 MAX_NOTES (length lines.now) →
         length lines.now ≤ length (waiting (state_of store.old).entries) → ⊥ }
     ensures fault { IsErrOf result (NotNoted.Store StoreFault.DiskFault) →

@@ -158,12 +158,23 @@ impl LineReader {
     /// The next line. The source is asked for more only while no whole line is at hand. A failed read is told at once: the reader is
     /// then where it was in the line, and goes on there. Once the source had no more to give it isn't asked again.
     pub fn next_line<S: Source, R: Wait>(&mut self, rt: &R, source: &mut S) -> Result<Next, Failed>
+        //= The source is asked for more only while no whole line is at hand.
         ensures next { NextIs (this_source S.left S.faults source.old source.new) self.old self.new result }
+        //= Whatever lines were given are the source's, in order, and at its end all of them, a last one without its
+        //= LF too, which is told as such, as is one of more than 65,536 bytes.
         ensures read { (left : Option (List ℕ)) (lines : List InputLine) → HasRead left (S.left source.old) self.old lines →
             HasReadOn left (S.left source.new) self.new lines result }
+        //= While a line's end is at hand nothing is read.
+        //= No body: what breaks it breaks `next` too
         ensures unread { has_lf (kept_of self.old) ≡ true → source.new ≡ source.old }
+        //= After the end nothing is read.
+        //= No body: it is one look at the stage ahead of all reads
         ensures over { is_over self.old ≡ true → source.new ≡ source.old }
+        //= A fault comes only where the source's count of faults rose.
+        //= No body: it is the source's own answer
         ensures cause { HasCause (S.faults source.old) (S.faults source.new) result }
+        //= The first failed read is told at once: of a source that counts each failed read once one failed where that
+        //= is told, else none.
         ensures once { IsTrue S.counts → IsCounted (S.faults source.old) (S.faults source.new) result }
     {
         self.advance(rt, source)

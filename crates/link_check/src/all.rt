@@ -27,6 +27,7 @@ pub fn check_all<R: Threads + Sync>(
     workers: u8,
 ) -> Result<CheckedList, NoMemory>
     requires { IsInRange 1 MAX_WORKERS workers }
+    //= Each line has its answer, in order, for every number of workers from 1 to 16.
     ensures { IfOk result (AreChecked (begun state.now.issuer state.now.entries) lines.now) }
 {
     let size = lines.len().div_ceil(usize::from(workers)).max(1);
@@ -40,6 +41,8 @@ pub fn check_all<R: Threads + Sync>(
 
 /// The same where the file isn't begun, and so has no issuer: each readable link is unknown.
 pub fn check_unbegun(alloc: Global, lines: &LinkLines) -> Result<CheckedList, NoMemory>
+    //= Where there is no chain each readable link is unknown.
+    //= No body: it is `check_link` of a history that isn't begun
     ensures { IfOk result (AreChecked not_begun lines.now) }
 {
     let mut answers = Vec::new(alloc);

@@ -15,6 +15,8 @@ use verify_link::{LinkFault, LinkParts, read_link};
 
 /// What a line is answered.
 pub fn check_link(alloc: Global, state: &State, line: &[u8]) -> Result<Checked, NoMemory>
+    //= A link's answer is the first that holds: not text, a bad link with its fault, another issuer, unknown,
+    //= cancelled, refused, else found or differing by its total; the host plays no part.
     ensures { IfOk result (IsChecked (begun state.now.issuer state.now.entries) line.now) }
 {
     match read_line(alloc, line)? {

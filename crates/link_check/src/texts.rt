@@ -55,6 +55,8 @@ fn put_check(text: &mut Vec<u8>, answer: Checked) -> Result<(), AllocError>
 
 /// A line for each answer, in order, each ended by LF.
 pub fn checks_text(alloc: Global, answers: &CheckedList) -> Result<Text, NoMemory>
+    //= The text is a line for each answer, exactly.
+    //= No body: sessions of `check` compare it
     ensures { IfOk result (λ text. text ≡ spec.checks_text answers.now) }
 {
     let mut text = Vec::new(alloc);

@@ -52,6 +52,9 @@ BadIs ends (Some other) = ⊥
 
 -- The end of the run: the first issuer's whose status isn't 0, before a fault of the sink. Where there was no memory for the text
 -- nothing was printed.
+--= The run ends with the first issuer whose status isn't 0, before a fault of the sink; without memory for the text
+--= nothing was printed.
+--= No body: its order is tested
 pub data IssuersEnd (ends : List Detail) (blocks : List (Result (List ℕ) NoMemory)) (s : Sinks) : Detail → Type 0 where
   done : (text : List ℕ) → AllEndWell ends → IsWhole blocks text → Wrote s text → IssuersEnd ends blocks s detail.Done
   write_fault : (text : List ℕ) → AllEndWell ends → IsWhole blocks text → FailedIn s text →

@@ -56,6 +56,9 @@ pub record Row (D C Z G : Type 0) : Type 0 where
   pub block : Result (List ℕ) NoMemory
 
 -- The file wasn't opened: the commands were left out, and nothing else was touched.
+--= A file that couldn't be opened is left as an opening leaves it, its clock, its sleeper and its agency as they
+--= were.
+--= No body: it is of `open_store`, whose clauses refuse others
 pub record StaysClosed {D C Z G : Type 0} (issuer : List ℕ) (t : Clocks C) (k : Disks D) (s : Sleepers Z) (a : Agencies G)
     (end : Detail) (block : Result (List ℕ) NoMemory) : Type 0 where
   pub why : OpenCause
@@ -109,25 +112,46 @@ pub record Works {D Z G : Type 0} (issuer : List ℕ) (script : Script) (coming 
   pub front : IsPrefix asked script.asks
   pub middle : D
   pub later : k.faults k.disk ≤ k.faults middle
+  --= An issuer's commands are a chain run of their own, from the history that its file stood for, at its own clock's
+  --= coming answers or its part's clock line; they alone read its clock.
   pub played : Played issuer asked coming Leaves (up_to k middle)
   pub outcome : Outcome
+  --= After its commands an issuer's file is drained; or its disk had failed, and its agency's session alone is
+  --= opened.
   pub behind : IsDrained script played.version issuer played.end played.replies k middle s a outcome
       ⊎ IsBegunAlone script.plan played.end played.replies k middle a outcome
   -- all commands were answered, and the end is that of the answers and of what came after them, or memory ran out
+  --= All commands of an issuer are answered, unless memory ran out, and its end is that of its answers and of its
+  --= drain.
   pub ends : (end ≡ detail.NoMemory) ⊎ ((asked ≡ script.asks) × (end ≡ issuer_end played.replies outcome.answer))
   pub printed : IfOk block (λ text. text ≡ answered_block issuer script.asks played.replies outcome.end end)
   -- a sleeper that a clock line replaces is as it was
   pub sleeper : IsSome script.clock → LeftSleeper s
   -- the history, the file and the agency, from the opening to the end
+  --= An issuer's history at the end begins with the one at the opening, is legal and linked, gained notes alone after
+  --= the commands, and each crash leaves a front of it, or of it and one torn entry.
+  --= No body: it is of each issuer's store and drain, whose clauses refuse others
   pub history : HistoryKept played.version issuer played.start played.end outcome.end k
+  --= One session was opened for each issuer, with its plan and the pairs noted at the opening; an agency that keeps
+  --= its rules and agreed then agrees at the end, and with what each crash leaves from then on.
+  --= No body: it is of the drain, whose clauses refuse others
   pub agency : ((end ≡ detail.NoMemory) × IsUnbegun a.kind a.before a.after)
       ⊎ SessionKept script.plan played.version issuer played.start outcome.end k a
   -- the causes of its end
+  --= A fault of an issuer's disk comes only where that disk's count rose.
+  --= No body: it is the store's own answer
   pub risen : end ≡ detail.DiskFault → DiskRose k
+  --= Done means that all records are noted.
+  --= No body: it is of `drain`, which says so
   pub all_noted : end ≡ detail.Done → length (noted outcome.end) ≡ length (recs outcome.end)
+  --= Undelivered comes only where lines are missing and the agency failed eight times.
+  --= No body: it is of `drain`, which says so
   pub undelivered : (noted_count records_count : ℕ) → end ≡ detail.Undelivered noted_count records_count →
       (noted_count < records_count) × (a.after.faults < greatest_u64 →
       a.before.faults + MAX_LINK_FAULTS ≤ a.after.faults)
+  --= Where neither an issuer's disk nor its agency failed, and the agency keeps its rules and agreed, the issuer is
+  --= done, or memory ran out.
+  --= No body: it follows from `behind` and `ends`
   pub complete : (DiskRose k → ⊥) → (Rose a.before.faults a.after.faults → ⊥) → IsTrue a.kind.keeps_rules →
       AgreesAtStart a played.start → (end ≡ detail.Done) ⊎ (end ≡ detail.NoMemory)
 

@@ -182,6 +182,10 @@ where
     requires distinct { AreOwn issuers.now }
     requires one_each { length posts ≡ length issuers.now }
     ensures status { result.0.status ≡ status_of result.0.detail }
+    //= The source is read to its end as the parts of a script for these issuers, whose parts are then run, each for
+    //= itself; where it is none, or memory runs out before the first file is opened, nothing is printed and all posts
+    //= stay as they were.
+    //= No body: `Works` has bodies, for each of its parts
     ensures ends { ManyEnds D.Disk C.Clock Z.Sleeper G.Agency issuers.now (this_source S.left S.faults source.old source.new)
         (this_sink K.taken K.faults sink.old sink.new) posts result.1 result.0.detail }
 {

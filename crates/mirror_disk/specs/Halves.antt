@@ -23,12 +23,18 @@ pub record IsSame (half mirror : OnDisk) : Type 0 where
 -- counted from when it was made.
 pub record IsHalf (made half mirror : OnDisk) : Type 0 where
   -- what a crash at a moment since then may leave of the half, a crash at some moment since then may leave of the mirror
+  --= What a crash since it was made may leave of either half, a crash may leave of the mirror.
+  --= No body: a law of the type, `each_half_is_an_image`, which has no body
   pub images : (c : List ℕ) → IsLeftSince made half c → IsLeftSince (fresh made.content) mirror c
   -- the same moment or the one before
+  --= What a crash at a moment may leave of a half, one at that moment or the one before may leave of the mirror.
+  --= No body: a law of the type, which has no body
   pub moments : (m : ℕ) (c : List ℕ) → moment made ≤ m → IsLeft half m c → IsLeftAround mirror (m - moment made) c
   -- a crash now: now or the moment before
   pub lately : (c : List ℕ) → IsImage half.now c → IsLeftLately mirror c
   -- where nothing is pending on the mirror, nothing is on the half, which holds the same
+  --= Where nothing is pending on the mirror, nothing is on either half, and both hold what it reads.
+  --= No body: a law of the type, which has no body
   pub settled : IsSettled mirror → IsSame half mirror
 
 -- what crashes leave of a half, by its moments since the mirror was made

@@ -173,6 +173,7 @@ impl<D: Disk, M: Disk> Disk for MirrorDisk<D, M> {
         ensures bytes { IfOk result (λ n. IsTrue (both_tell D.tells M.tells) →
             IsRead (told D.on_disk M.on_disk self.old).content at n buf.old buf.new) }
         ensures cause { HasCause (faults_of self.old) (faults_of self.new) result }
+        //= A mirror is read from its first half.
         ensures read { IsReadBy D.on_disk D.faults self.old self.new result }
     {
         match self.first.read_at(at, buf) {
@@ -190,10 +191,14 @@ impl<D: Disk, M: Disk> Disk for MirrorDisk<D, M> {
         ensures cause { HasCause (faults_of self.old) (faults_of self.new) result }
 
         // It is Ok exactly where the mirror is whole after it. Of a broken one neither half is called.
+        //= A write is Ok exactly where both halves were written.
+        //= No body: it is `answer`, which has one by `sync`
         ensures answers { IsErr result ↔ (self.new.standing ≡ Whole → ⊥) }
+        //= A write goes to the first half, and once that is Ok to the second.
         ensures whole { self.old.standing ≡ Whole → WritesBoth
             (this_disk D.tells D.on_disk D.faults self.old.first self.new.first)
             (this_disk M.tells M.on_disk M.faults self.old.second self.new.second) at bytes.now self.new.standing }
+        //= From the first failure on no write reaches a half.
         ensures broken { (self.old.standing ≡ Whole → ⊥) → IsUntouched self.old self.new }
         ensures made { (self.new.first_made ≡ self.old.first_made) × (self.new.second_made ≡ self.old.second_made) }
     {
@@ -204,15 +209,19 @@ impl<D: Disk, M: Disk> Disk for MirrorDisk<D, M> {
     fn sync(&mut self) -> Result<(), Failed>
         ensures ok { OnOk result (IsTrue (both_tell D.tells M.tells) →
             told D.on_disk M.on_disk self.new ≡ synced (told D.on_disk M.on_disk self.old)) }
+        //= Where a half fails, the mirror tells what a failed sync leaves.
         ensures err { OnErr result (IsTrue (both_tell D.tells M.tells) → IsSyncFailed
             (told D.on_disk M.on_disk self.old) (told D.on_disk M.on_disk self.new)) }
         ensures cause { HasCause (faults_of self.old) (faults_of self.new) result }
 
         // It is Ok exactly where the mirror is whole after it. Of a broken one neither half is called.
+        //= A sync is Ok exactly where the mirror is whole behind it: where both halves were synced.
         ensures answers { IsErr result ↔ (self.new.standing ≡ Whole → ⊥) }
+        //= A sync goes to the first half, and once that is Ok to the second.
         ensures whole { self.old.standing ≡ Whole → SyncsBoth
             (this_disk D.tells D.on_disk D.faults self.old.first self.new.first)
             (this_disk M.tells M.on_disk M.faults self.old.second self.new.second) self.new.standing }
+        //= From the first failure on no sync reaches a half.
         ensures broken { (self.old.standing ≡ Whole → ⊥) → IsUntouched self.old self.new }
         ensures made { (self.new.first_made ≡ self.old.first_made) × (self.new.second_made ≡ self.old.second_made) }
     {

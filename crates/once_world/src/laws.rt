@@ -23,6 +23,8 @@ pub fn agreement_is_kept()
 
 /// A batch that was sent adds no sale that the agency refuses because its register says otherwise.
 pub fn no_sale_is_refused()
+    //= A delivery of a batch that was sent adds no sale that is refused as held, not held or gone.
+    //= No body: a law over definitions, which has no body
     ensures { law.DeliveriesRefuseNoSale }
 {
     legal_is_chained();
@@ -32,8 +34,14 @@ pub fn no_sale_is_refused()
 /// What an agency that agrees answers of the waiting records: a reply of new lines alone, and what stands in front of a
 /// consultation, are its next lines, and a consultation has no hole.
 pub fn answers_are_next()
+    //= A reply of new lines alone gives the agency's next lines.
+    //= No body: a law over definitions, which has no body
     ensures first { law.FirstLinesAreNext }
+    //= The prefix of a consultation is the agency's next lines.
+    //= No body: a law over definitions, which has no body
     ensures looked { law.LookedLinesAreNext }
+    //= A consultation of what waits has no hole.
+    //= No body: a law over definitions, which has no body
     ensures whole { law.WaitingHaveNoHole }
 {
     legal_is_chained();
@@ -45,6 +53,8 @@ pub fn answers_are_next()
 pub fn what_came_is_seen()
     ensures grows { law.DeliveriesOnlyAdd }
     ensures delivered { law.DeliveredAreSeen }
+    //= What came to the agency is seen, and stays seen.
+    //= No body: a law over definitions, which has no body
     ensures stays { law.SeenStays }
 {}
 
@@ -58,6 +68,8 @@ pub fn what_came_beside_is_records()
 /// learnt are the agency's next lines, each record is processed once, and no sale is refused because the register says
 /// otherwise.
 pub fn every_world_is_sound()
+    //= All this holds of every issuer, every plan and every list of events whose asks are in range.
+    //= No body: a law over definitions, which has no body
     ensures { law.EveryWorldIsSound }
 {
     legal_is_chained();

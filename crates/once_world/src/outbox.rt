@@ -27,7 +27,11 @@ pub trait Outbox {
     /// The counts, and at most this many of the first records that have no noted line.
     fn waiting<R: Wait>(&mut self, rt: &R, alloc: Global, max: u16) -> Result<Waiting, NoMemory>
         ensures fixed { fixed self.new ≡ fixed self.old }
+        //= The items that a sender sees only grow, and are a legal history at each call.
+        //= No body: a trait's clause, which each shop proves
         ensures grows { Grows (sight self.old) (sight self.new) }
+        //= A look of a sender at its shop shows at least as many items as it knew of.
+        //= No body: a trait's clause, which each shop proves
         ensures covers { least self.old ≤ length (sight self.new).items }
         ensures own { (sight self.new).own ≡ (sight self.old).own }
         ensures within { OwnWithin (sight self.new) }
@@ -43,7 +47,11 @@ pub trait Outbox {
         ensures fixed { fixed self.new ≡ fixed self.old }
         ensures grows { Grows (sight self.old) (sight self.new) }
         ensures within { OwnWithin (sight self.new) }
+        //= A note adds one entry with these lines, or records the stop with the notes that may be in the file, or
+        //= changes nothing.
         ensures noted { NotedBy (sight self.old) (sight self.new) lines.now result }
+        //= `Stopped` is answered exactly where an earlier call recorded the stop.
+        //= No body: a trait's clause, which each shop proves
         ensures stopped { (faults : ℕ) →
             IsErrOf result (StoreFault.Stopped faults) ↔ HasStopped (sight self.old) (sight self.new) faults };
 }

@@ -255,11 +255,24 @@ pub fn run_events(
     plan: &Plan,
     events: &[Event],
 ) -> Result<World, NoMemory>
+    //= A shop and its agency are left, after any list of events, as the definition says: records made, batches sent
+    //= and coming late, again or never, consultations, notes, and stops while a record or its notes are written.
     ensures world { IfOk result (λ w. w ≡ spec.world issuer.now plan.now events.now) }
+    //= The history is legal at version Two.
+    //= No body: it follows from `world`, by the law `every_world_is_sound`
     ensures legal { IfOk result (λ w. Legal Two issuer.now w.state.entries) }
+    //= Whatever the events, the processed records are the first of the chain, and the noted lines the first of
+    //= theirs.
+    //= No body: it follows from `world`, by the law `every_world_is_sound`
     ensures agree { IfOk result (λ w. Agree w.state.entries w.processed w.sent) }
+    //= What was learnt are the agency's next lines.
+    //= No body: it follows from `world`, by the same law
     ensures learnt { IfOk result (λ w. IsLearnt w.state.entries w.processed w.learnt) }
+    //= Each Huella stands once among the processed records.
+    //= No body: it follows from `world`, by the same law
     ensures once { IfOk result (λ w. AreOnce w.processed) }
+    //= No alta of a sale is refused as held, not held or gone.
+    //= No body: it follows from `world`, by the same law
     ensures sales { IfOk result (λ w. HasNoRefusedSale w.processed) }
 {
     legal_is_chained();

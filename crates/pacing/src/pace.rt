@@ -35,6 +35,8 @@ impl Pace {
     /// Whether a submission is due at this second, with this many records waiting. Refused exactly where fewer than
     /// `MAX_BATCH` wait and the waiting time hasn't passed, with the second at which it will have passed.
     pub fn due(&self, now: u64, waiting: u32) -> Result<(), WaitUntil>
+        //= A submission is refused exactly where fewer than 1000 records wait and the waiting time hasn't passed,
+        //= with the second at which it will have.
         ensures { MatchResult result
             (λ _. is_due self.now now waiting ≡ true)
             (λ w. (is_due self.now now waiting ≡ false) × (w.0 ≡ due_at self.now)) }
@@ -55,6 +57,8 @@ impl Pace {
 
     /// A reply set the waiting time, in seconds.
     pub fn told(&mut self, wait: u32)
+        //= A reply's seconds are the waiting time from then on.
+        //= No body: it keeps the number that it was told
         ensures { self.new ≡ record { last = self.old.last; wait = wait } }
     {
         self.wait = u64::from(wait);

@@ -53,6 +53,8 @@ impl Name {
 
     /// The name that the text is. The refusals come in the order `Length`, `Char`, `Edge`.
     pub fn read(alloc: Global, text: &str) -> Result<Name, NameFault>
+        //= A name is taken exactly in its form; each refusal is the first that holds, and out of memory comes only
+        //= where the text is a name.
         ensures { IsNameReading text.now result }
     {
         let bytes = text.as_bytes();
@@ -76,6 +78,8 @@ impl Name {
     pub fn as_slice(&self) -> &[u8]
         ensures value { result.now ≡ self.now }
         ensures name { IsName result.now }
+        //= A name's bytes are a text.
+        //= No body: it is the type's invariant
         ensures text { IsUtf8 result.now }
     {
         self.text.as_str().as_bytes()

@@ -162,6 +162,8 @@ impl Nif {
 
     /// The tax number that the text is. The refusals come in the order `Length`, `Shape`, `Control`.
     pub fn read(text: &str) -> Result<Nif, NifFault>
+        //= A tax number is taken exactly in its forms, with its control character; each refusal is the first that
+        //= holds.
         ensures { IsNifReading text.now result }
     {
         let bytes = text.as_bytes();

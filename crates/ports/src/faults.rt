@@ -13,6 +13,7 @@ pub struct Failed;
 
 // The fault of a device whose count this is, which rises by one up to the greatest u64.
 pub(crate) fn fault(count: &mut u64) -> Failed
+    //= A failed call of a device in memory or of an adapter raises its count of faults by one.
     ensures counted { count.new ≡ counted_up count.old }
     ensures later { count.old ≤ count.new }
     ensures risen { Rose count.old count.new }

@@ -38,8 +38,14 @@ pub trait Source {
     /// an `Err` the same bytes are still to come.
     fn read(&mut self, buf: &mut [u8]) -> Result<usize, Failed>
         ensures within { IsWithin result buf.new }
+        //= What a read gave are the next bytes of what is left, and they are gone from it, where the source tells
+        //= what is left.
+        //= No body: the devices' own clauses have bodies
         ensures bytes { Reads (left self.old) (left self.new) result buf.new }
+        //= A read fails only where the source's count of faults rose.
+        //= No body: each device proves it by `fault`, whose body it is
         ensures cause { HasCause (faults self.old) (faults self.new) result }
+        //= A source that counts its failed reads counts each once, and nothing else.
         ensures counted { IsTrue counts → IsCounted (faults self.old) (faults self.new) result };
 
     /// The count of faults is one that a u64 holds.
@@ -58,6 +64,8 @@ pub trait Sink {
     fn write(&mut self, bytes: &[u8]) -> Result<usize, Failed>
         ensures within { IsWithin result bytes.now }
         ensures bytes { Writes (taken self.old) (taken self.new) result bytes.now }
+        //= A write fails only where the sink's count of faults rose.
+        //= No body: each device proves it by `fault`, which has one
         ensures cause { HasCause (faults self.old) (faults self.new) result };
 
     /// The count of faults is one that a u64 holds.
@@ -80,6 +88,8 @@ pub trait Clock {
         ensures last { result ≡ last self.new }
         ensures told { IsTold (coming self.old 0) result }
         ensures moved { MovedBy 1 (coming self.old) (coming self.new) }
+        //= Whatever else is said of a clock, a call of it is one reading.
+        //= No body: each clock proves it by its definition
         ensures read { by_readings self.old self.new };
 
     /// A clock that stays as it is became so by readings, by none.

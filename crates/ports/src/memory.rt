@@ -80,6 +80,7 @@ impl Source for MemSource {
         ensures counted { IsCounted (counted self.old) (counted self.new) result }
         ensures fails { IsErr result ↔ IsListed self.old }
         ensures call { IsOneCall self.old self.new result }
+        //= A source in memory gives as much as there is and fits.
         ensures all_that_fit { IfOk result (λ n. n ≡ min (length buf.old) (length self.old.bytes)) }
     {
         self.call_count = self.call_count.saturating_add(1);

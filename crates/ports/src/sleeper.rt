@@ -22,13 +22,18 @@ pub trait Sleeper {
 
     /// Seconds since 1970-01-01T00:00:00Z.
     fn now(&mut self) -> u64
+        //= A sleeper never answers a second below its moment.
+        //= No body: its value is the moment of `LeapSleeper`, and the greater of two of the system's
         ensures later { moment self.old ≤ result }
         ensures told { IsTrue tells → result ≡ moment self.old }
+        //= Asking for the second leaves the moment.
+        //= No body: it is a trait's clause, which each sleeper proves
         ensures same { moment self.new ≡ moment self.old }
         ensures no_rest { without_rest self.old self.new };
 
     /// Waits until this second. After it the moment is at least this second.
     fn wait_until<R: Wait>(&mut self, rt: &R, at: u64)
+        //= Waiting moves the moment to the greater of it and the second given.
         ensures moment { moment self.new ≡ max (moment self.old) at }
         ensures no_rest { without_rest self.old self.new };
 

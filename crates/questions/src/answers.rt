@@ -68,6 +68,7 @@ impl TillQuestion {
 
     /// The line that answers it at a history.
     pub fn answer(&self, alloc: Global, state: &State) -> Result<Text, NoMemory>
+        //= A question is answered by its definition at a history.
         ensures { IfOk result (IsAnswer self.now state.now.entries) }
     {
         match self {

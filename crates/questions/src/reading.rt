@@ -141,6 +141,7 @@ fn in_fields(text: &str) -> Option<Result<TillQuestion, QuestionFault>>
 /// What a line asks, or what is wrong in it; None exactly where it is no question's, by its first field. It has no carriage
 /// return at its end any more.
 pub fn question_of(text: &[u8]) -> Option<Result<TillQuestion, QuestionFault>>
+    //= A line is a question, or none, or a question with this fault, by its definition.
     ensures { result ≡ spec.question_of text.now }
 {
     match str::from_utf8(text) {

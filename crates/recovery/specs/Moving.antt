@@ -73,11 +73,18 @@ KeptUnlessFree old start end = (MayBeMoved old start.content → ⊥) → (end �
 -- The history of the one disk was moved onto the other: that was free for it, each crash in the call left it as it was, not begun, an
 -- unfinished migration or the whole history, each crash from now on leaves the whole, and it reads as that.
 pub record MovedOnto {D M : Type 0} (old : Disks D) (new : Disks M) : Type 0 where
+  --= Only a file of version One is moved, onto one that isn't begun or is an unfinished migration of its issuer.
+  --= No body: it is `begin_shut`, which refuses others
   pub free : IsTrue old.tells → IsTrue new.tells → MayBeMoved (old.on_disk old.disk).content (new.on_disk new.disk).content
+  --= At each moment of a migration a crash leaves the new disk as it was, or not begun, an unfinished migration, or
+  --= the old file's whole history in version Two.
+  --= No body: it is of `begin_shut`, `add_shut` and `open_shut`, whose bodies are in `journal`
   pub any_moment : IsTrue old.tells → IsTrue new.tells →
       Moves (old.on_disk old.disk).content (new.on_disk new.disk) (new.on_disk new.disk_after)
+  --= After Ok each crash leaves the new disk with the old file's whole history in version Two.
   pub every_crash : IsTrue old.tells → IsTrue new.tells →
       LeavesNow (new.on_disk new.disk_after) (IsMoved (old.on_disk old.disk).content)
+  --= After Ok the new disk reads as the old file's whole history in version Two.
   pub reads : IsTrue old.tells → IsTrue new.tells →
       IsMoved (old.on_disk old.disk).content (new.on_disk new.disk_after).content
   pub later : new.faults new.disk ≤ new.faults new.disk_after
@@ -86,6 +93,7 @@ pub record MovedOnto {D M : Type 0} (old : Disks D) (new : Disks M) : Type 0 whe
 pub record NotMovedOnto {D M : Type 0} (old : Disks D) (new : Disks M) : Type 0 where
   pub any_moment : IsTrue old.tells → IsTrue new.tells →
       Moves (old.on_disk old.disk).content (new.on_disk new.disk) (new.on_disk new.disk_after)
+  --= A file that it may not be moved onto is synced at most.
   pub kept : IsTrue old.tells → IsTrue new.tells →
       KeptUnlessFree (old.on_disk old.disk).content (new.on_disk new.disk) (new.on_disk new.disk_after)
   pub later : new.faults new.disk ≤ new.faults new.disk_after

@@ -157,10 +157,17 @@ pub fn migrate_counted<D: Disk, M: Disk>(
         (this_disk M.tells M.on_disk M.faults new fault.new)) }
 
     // What keeps a file from being moved is the cause, unless a disk failed or memory ran out.
+    //= What keeps a migration from its end is told: the damaged byte, a file that isn't of version One, an occupied
+    //= one with its length, or the disk that failed.
+    //= No body: sessions of `migrate` and tests have its causes
     ensures cause { IfErr result (λ fault. IsMoveCause (this_disk D.tells D.on_disk D.faults old.old old.new)
         (this_disk M.tells M.on_disk M.faults new fault.new) fault.cause) }
+    //= A migration only reads the old file.
+    //= No body: no function of it calls `write_at` or `sync` of the old disk
     ensures same { D.on_disk old.new ≡ D.on_disk old.old }
     ensures later { D.faults old.old ≤ D.faults old.new }
+    //= The records and the noted lines of what was moved are counted.
+    //= No body: they are the counts of the state that was read
     ensures counts { IfOk result (λ moved. IsTrue D.tells → HasCounts (D.on_disk old.old).content moved.records moved.noted) }
 {
     let mut new = new;
@@ -199,6 +206,8 @@ pub fn migrate<D: Disk, M: Disk>(alloc: Global, old: &mut D, new: M) -> Result<M
 /// What two files hold keeps the one from being moved onto the other for one cause at most: the old file is damaged, or isn't of
 /// version One, or the new one is occupied. Where it may be moved, there is none.
 pub fn a_migration_has_one_cause()
+    //= Two files give one such cause at most.
+    //= No body: a law over definitions, which has no body
     ensures one { OneCause }
     ensures none { NoCause }
 {

@@ -40,6 +40,8 @@ pub fn open_store<D: Disk, C: Clock>(
     ensures going_on { IfOk result (λ store. stopped_of (journal_of store) ≡ None) }
     ensures no_torn { IfOk result (λ store. torn_of store ≡ None) }
     ensures issuer { IfOk result (λ store. (state_of store).issuer ≡ issuer.now) }
+    //= An opening gives what the file stands for, in its version, or begins it in version Two.
+    //= No body: it is `open_journal`, whose bodies are in `chain_store`
     ensures found { IfOk result (λ store. IsTrue D.tells →
         IsFound (state_of store).version issuer.now (state_of store).entries (D.on_disk disk).content) }
     ensures every_crash { IfOk result (λ store. IsTrue D.tells →
@@ -52,6 +54,8 @@ pub fn open_store<D: Disk, C: Clock>(
         (IsFound (state_of store).version issuer.now (state_of store).entries)) }
 
     // What was made sure of at any moment of the call stays, also as the disk was handed in.
+    //= What was made sure of at any moment, also as the disk was handed in, stays.
+    //= No body: it is `open_journal`
     ensures never_loses { IfOk result (λ store. IsTrue D.tells →
         NeverLoses (D.on_disk disk) (D.on_disk (disk_of (journal_of store)))) }
     ensures never_loses_err { IfErr result (λ fault. IsTrue D.tells → NeverLoses (D.on_disk disk) (D.on_disk fault.disk)) }
@@ -66,6 +70,9 @@ pub fn open_store<D: Disk, C: Clock>(
     ensures later { IfOk result (λ store. D.faults disk ≤ D.faults (disk_of (journal_of store))) }
 
     // What the file is, by the cause, and what the calls of the disk left of it.
+    //= A file that can't be opened is left as its first sync left it, with its cause: the damaged byte, the other
+    //= issuer, or the disk's fault, where a file that wasn't begun may be begun in part.
+    //= No body: it is `open_journal`
     ensures left { IfErr result (λ fault. IsTrue D.tells →
         IsLeftUnopened issuer.now fault.cause (D.on_disk disk) (D.on_disk fault.disk)) }
     ensures disk_fault { IfErr result (λ fault. fault.cause ≡ cause.DiskFault → Rose (D.faults disk) (D.faults fault.disk)) }

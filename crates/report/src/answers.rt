@@ -176,6 +176,8 @@ fn put_answers(text: &mut Vec<u8>, answers: &[AnswerLine]) -> Result<(), AllocEr
 
 /// A line for each answer, in order.
 pub fn answers_text(alloc: Global, answers: &Answers) -> Result<Text, NoMemory>
+    //= Each answer is one line, in order: till and serial, and the receipt, the refusal with its numbers, or the
+    //= fault.
     ensures { IfOk result (λ text. text ≡ spec.answers_text answers.now) }
 {
     let mut text = Vec::new(alloc);

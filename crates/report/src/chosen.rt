@@ -95,6 +95,8 @@ fn put_chosen(
 
 /// A line for each of the chosen records, in order of their places, and the chain line of the whole history.
 pub fn chosen_text(alloc: Global, choice: Choice, state: &State) -> Result<Text, NoMemory>
+    //= What was chosen of a listing is its lines of these records, in their order, and the chain line of the whole
+    //= chain.
     ensures { IfOk result (λ text. text ≡ spec.chosen_text choice state.now.entries) }
 {
     let mut text = Vec::new(alloc);

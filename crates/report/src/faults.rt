@@ -125,6 +125,8 @@ fn put_fault(text: &mut Vec<u8>, detail: &Detail) -> Result<(), AllocError>
 
 /// What the program prints on standard error where its status isn't 0: one line, and nothing at `Done`.
 pub fn fault_text(alloc: Global, detail: &Detail) -> Result<Text, NoMemory>
+    //= Standard error gets this one line at each end but the good one.
+    //= No body: sessions compare it
     ensures { IfOk result (λ text. text ≡ spec.fault_text detail.now) }
 {
     let mut text = Vec::new(alloc);

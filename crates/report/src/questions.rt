@@ -41,6 +41,8 @@ pub fn ticket_text(
     link: &[u8],
     line: Option<Line>,
 ) -> Result<Text, NoMemory>
+    //= A ticket's answer has its place, the sale's values and moment, its Huella, its link and the agency's line.
+    //= No body: a session of `serve` compares it
     ensures { IfOk result (λ text. text ≡ spec.ticket_text place alta.now huella.now link.now line) }
 {
     let mut text = Vec::new(alloc);
@@ -91,6 +93,7 @@ pub fn no_record_text(alloc: Global, place: u32) -> Result<Text, NoMemory>
 
 /// That the chain has no record under this till and serial.
 pub fn no_serial_text(alloc: Global, till: u8, serial: u32) -> Result<Text, NoMemory>
+    //= A question for a serial that has no record is answered with its till and serial.
     ensures { IfOk result (λ text. text ≡ spec.no_serial_text till serial) }
 {
     let mut text = Vec::new(alloc);
@@ -138,6 +141,8 @@ fn put_total_lines(text: &mut Vec<u8>, found: Option<TotalLines>) -> Result<(), 
 
 /// Lines that have a total, or that there are none.
 pub fn total_lines_text(alloc: Global, found: Option<TotalLines>) -> Result<Text, NoMemory>
+    //= The answer to a total has its one line or two, or says that there is none.
+    //= No body: a session of `serve` compares it
     ensures { IfOk result (λ text. text ≡ spec.total_lines_text found) }
 {
     let mut text = Vec::new(alloc);

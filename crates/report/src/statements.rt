@@ -141,6 +141,8 @@ fn put_totals(text: &mut Vec<u8>, month: &[u8], totals: &Totals) -> Result<(), A
 
 /// A line for each key of a month, in order, and one of their sums. The month is given as it is written.
 pub fn statement_text(alloc: Global, month: &[u8], rows: &[StatementLine]) -> Result<Text, NoMemory>
+    //= A statement's text is a line for each row, and the line of their sums.
+    //= No body: sessions of `statement` compare it
     ensures { IfOk result (λ text. text ≡ spec.statement_text month.now rows.now) }
 {
     let totals = totals_of(rows);

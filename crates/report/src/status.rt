@@ -69,6 +69,8 @@ impl Ended {
 
 /// The status of an end.
 pub fn status_of(detail: &Detail) -> u8
+    //= Each end has its status.
+    //= No body: sessions compare it
     ensures { result ≡ status_of detail.now }
 {
     match detail {

@@ -136,6 +136,9 @@ fn put_end(
 /// How many records of each kind a history has and the sums of its altas' amounts, cancelled or not, and then its counts
 /// and its last Huella.
 pub fn summary_text(alloc: Global, state: &State) -> Result<Text, NoMemory>
+    //= A summary is the counts of altas and cancellations, the sums of the altas' bases and cuotas, the chain line
+    //= and the last Huella.
+    //= No body: sessions of `generate` compare it
     ensures { IfOk result (λ text. text ≡ spec.summary_text state.now.entries) }
 {
     let sums = sums_of(alloc, state)?;

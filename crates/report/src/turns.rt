@@ -38,6 +38,7 @@ fn put_turns(text: &mut Vec<u8>, turns: &[Told]) -> Result<(), AllocError>
 
 /// A line for each turn that was told, in order, and the chain line of these counts.
 pub fn turns_text(alloc: Global, turns: &Turns, records: u32, noted: u32) -> Result<Text, NoMemory>
+    //= A drain's text is a line for each turn, in order, and the chain line of the counts of records and noted lines.
     ensures { IfOk result (λ text. text ≡ spec.turns_text turns.now records noted) }
 {
     let mut text = Vec::new(alloc);

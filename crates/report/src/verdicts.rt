@@ -58,6 +58,8 @@ fn put_verdict(text: &mut Vec<u8>, end: &AuditEnd) -> Result<(), AllocError>
 
 /// The line of a verdict.
 pub fn verdict_text(alloc: Global, end: &AuditEnd) -> Result<Text, NoMemory>
+    //= A verdict on a file is one line.
+    //= No body: sessions of `audit` compare it
     ensures { IfOk result (λ text. text ≡ spec.verdict_text end.now) }
 {
     let mut text = Vec::new(alloc);

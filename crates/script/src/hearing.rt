@@ -36,8 +36,12 @@ impl Heard {
 
     /// What a line says after those, one CR at its end dropped.
     pub fn say(&self, alloc: Global, form: Form, text: &[u8]) -> Result<Meaning, Fault>
+        //= A line that is said by itself is read by the same grammar, after those that were kept.
+        //= No body: it is the line reader of `read_script`, with its bodies
         ensures said { IsSaid (spec.line_said form (known_of self.now) (strip_carriage_return text.now)) result }
         ensures new { IfOk result (λ meaning. IsNew (known_of self.now) meaning) }
+        //= Nothing is said that the form lacks.
+        //= No body: what breaks it breaks `said` too
         ensures form { IfOk result (λ meaning. IsIn form meaning) }
     {
         line(alloc, form, &self.read, without_return(text))
@@ -46,8 +50,11 @@ impl Heard {
     /// Keeps what a line said. Without memory all that was known stays so.
     pub fn keep(&mut self, meaning: Meaning) -> Result<(), NoMemory>
         requires { IsNew (known_of self.old) meaning }
+        //= What a line said is kept for the lines after it.
+        //= No body: it is the loop's step of `read_script`, with its bodies
         ensures ok { (before : List AnyMeaning) → known_of self.old ≡ above_of before →
             OnOk result (known_of self.new ≡ above_of (before ++ kept_in meaning)) }
+        //= Without memory all that was known stays so.
         ensures err { OnErr result (known_of self.new ≡ known_of self.old) }
     {
         if meaning.is_command() {

@@ -137,9 +137,17 @@ impl SoFar {
 /// fewer bytes than that. The grammar is this project's own: each single space or tab parts two fields of a line.
 pub fn read_script(alloc: Global, bytes: &[u8], form: Form) -> Result<Script, ScriptFault>
     requires { length bytes.now < 4_294_967_295 }
+    //= A script is read line after line by the whole grammar, each line after those before it; or its first bad line
+    //= is named with its word, or memory ran out.
     ensures script { IsScript form bytes.now result }
+    //= A script has at most 100,000 commands.
+    //= No body: a command more is a bad line, which `script` says
     ensures few { IfOk result (λ script. length script.asks ≤ MAX_COMMANDS) }
+    //= A plan's numbers are in their ranges, and no record has two verdicts and no call two fates.
+    //= No body: a second verdict or fate is a bad line, which `script` says
     ensures plan { IfOk result (λ script. IsPlanned script.plan) }
+    //= A form without commands has none.
+    //= No body: what breaks it breaks `script` too
     ensures commands { form ≡ NoCommands → IfOk result (λ script. script.asks ≡ []) }
 {
     let (script, _) = read_numbered(alloc, bytes, form)?;
@@ -157,7 +165,11 @@ pub fn read_numbered(
     ensures few { IfOk result (λ read. length read.0.asks ≤ MAX_COMMANDS) }
     ensures plan { IfOk result (λ read. IsPlanned read.0.plan) }
     ensures commands { form ≡ NoCommands → IfOk result (λ read. read.0.asks ≡ []) }
+    //= There is the number of a line, from 1, for each command.
+    //= No body: it follows from `script`
     ensures one_each { IfOk result (λ read. length read.1 ≡ length read.0.asks) }
+    //= The numbers of the commands' lines rise.
+    //= No body: each is the number of the line that is being read
     ensures rising { IfOk result (λ read. Rising read.1) }
 {
     let mut lines = Cuts::of(bytes, b'\n');

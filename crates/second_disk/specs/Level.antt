@@ -48,7 +48,11 @@ pub record IsLevel (issuer : List ℕ) (first second first_new second_new : OnDi
   pub second_end : SecondEnd others held entries
   pub first_goes : GoesUp version issuer held entries first first_new
   pub second_goes : GoesUp version issuer others entries second second_new
+  --= Two files of one chain that were brought level stand for it, the longer of the two.
+  --= No body: none is written yet
   pub stands : StandsFor version issuer entries first_new.content
+  --= Two files that were brought level hold the same bytes.
+  --= No body: none is written yet
   pub same : second_new.content ≡ first_new.content
   pub first_settled : IsSettled first_new
   pub second_settled : IsSettled second_new
@@ -111,6 +115,8 @@ pub record IsNotLevel (issuer : List ℕ) (cause : LevelCause) (first second fir
   pub first_left : HalfLeft issuer FirstEnd second.content first first_new
   pub second_left : HalfLeft issuer SecondEnd first.content second second_new
   pub reason : IsReason issuer cause first second first_new second_new
+  --= Where the two hold anything else nothing is written to either.
+  --= No body: none is written yet
   pub refused : IsRefusal cause → IsUnwritten first first_new × IsUnwritten second second_new
 
 -- the disk that is named failed

@@ -76,6 +76,7 @@ pub record NeverRepeatsBlindly (d : DrainCall) : Type 0 where
 
 -- What is told are the lines of its messages, with an agency that tells these.
 pub record TellsItsMessages (d : DrainCall) : Type 0 where
+  --= A drain tells each turn but the last, by the line of its one message.
   pub told : IsTrue d.kind.tells →
       DrainTells d.before.agency_state.ledger.messages d.after.agency_state.ledger.messages d.told d.told_after d.answer
   -- submissions and consultations alone were said
@@ -84,10 +85,17 @@ pub record TellsItsMessages (d : DrainCall) : Type 0 where
 -- A drain ends with all noted, or for its cause, after so many turns at most.
 pub record DeliversOrGivesUp (d : DrainCall) : Type 0 where
   -- at Ok all is noted
+  --= A drain that is Ok has noted all records.
+  --= No body: its loop ends so at `Idle` alone, which `deals` says
   pub delivered : OnOk d.answer (length (noted (history_of d.after.sight)) ≡ length (recs (history_of d.after.sight)))
   -- eight turns with a link fault are eight faults of the agency
+  --= A drain gives up only after eight faults of the link.
+  --= No body: its loop counts them
   pub undelivered : (noted_count records_count : ℕ) → IsErrOf d.answer (Undelivered noted_count records_count) →
       d.after.agency_state.faults < greatest_u64 → d.before.agency_state.faults + MAX_LINK_FAULTS ≤ d.after.agency_state.faults
   -- where no record comes in between, the turns are bounded by the batches that waited and by the link faults
+  --= With an agency that keeps its rules and agrees, and no record in between, a drain takes at most 2 B + 6 F + 8
+  --= turns, with B batches that wait and F faults of the link.
+  --= No body: it follows from what each turn says
   pub bound : InItsSession d (length (recs (history_of d.after.sight)) ≤ length (recs (history_of d.before.sight)) →
       (batches : ℕ) → length (waiting (history_of d.before.sight)) ≤ MAX_BATCH * batches → IsBounded batches d.told d.told_after)

@@ -16,6 +16,9 @@ InItsSession t Claim = InOneSession t.kind.keeps_rules t.sight t.sight_after t.a
 -- With an agency that keeps its rules the shop and the agency still agree.
 pub record StaysInAgreement (t : TurnCall) : Type 0 where
   -- what is noted are the agency's next lines, and it contradicts itself never
+  --= With an agency that keeps its rules, each turn keeps shop and agency in agreement, notes only the agency's next
+  --= lines, and never finds a contradiction.
+  --= No body: it follows from `deals` and the agency's rules
   pub keeps : InItsSession t
       (KeepsAgreement t.sight t.sight_after t.agency_state.ledger t.agency_state_after.ledger t.sending_after.said t.answer)
   -- where the disk failed amid its notes, the shop agrees with them too
@@ -24,6 +27,8 @@ pub record StaysInAgreement (t : TurnCall) : Type 0 where
 -- Nothing is handed over again blindly, with an agency that tells what was said.
 pub record RepeatsNothingBlindly (t : TurnCall) : Type 0 where
   -- no record is handed over again unless a consultation since has answered that it didn't come
+  --= Where an agency tells its messages, no record is handed over a second time unless a consultation since has
+  --= answered that it wasn't seen.
   pub careful : IsTrue t.kind.tells → (past : List Message) → IsCareful past t.sight t.agency_state.ledger.messages t.sending →
       IsCareful past t.sight_after t.agency_state_after.ledger.messages t.sending_after
   -- it keeps the last reply of its session that named its batch, until a consultation answers
@@ -33,6 +38,8 @@ pub record RepeatsNothingBlindly (t : TurnCall) : Type 0 where
 -- A link fault comes only where the agency's count of faults rose, and that falls never.
 pub record LinkFaultHasCause (t : TurnCall) : Type 0 where
   pub later : t.agency_state.faults ≤ t.agency_state_after.faults
+  --= A link fault comes only where the agency's count of faults rose.
+  --= No body: it is the agency's own answer
   pub rose : IsErrOf t.answer LinkFault → Rose t.agency_state.faults t.agency_state_after.faults
 
 -- What the layers above need of a turn. The last two are what no call changes of its shop, before and after.

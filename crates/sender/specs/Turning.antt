@@ -222,5 +222,9 @@ pub record Turned (t : TurnCall) : Type 0 where
   pub grows : Grows t.sight look
   pub own : look.own ≡ t.sight.own
   pub shown : Waiting
+  --= A turn makes one look, at the first 1000 waiting records.
   pub shows : ShowsWaiting look MAX_BATCH shown
+  --= A turn makes at most one call of the agency, in doubt a consultation, else the batch where it is due, and its
+  --= answer is exactly as its case says: `Idle`, `WaitUntil`, `Noted`, `Cleared`, `Doubt`, or a contradiction, with
+  --= evidence.
   pub deals : Deals (behind look t) shown

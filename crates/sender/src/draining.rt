@@ -135,6 +135,7 @@ impl Sender {
         turns: &mut Turns,
     ) -> Result<(), DrainFault>
         // Its turns, the lines that are told of them, and how the last one ends it.
+        //= A drain is a list of turns, each at a second of the sleeper.
         ensures drained { DrainsByTurns (this_drain G.Agency Z.Sleeper agency.old agency.new (O.sight outbox.old)
             (O.sight outbox.new) self.old self.new sleeper.old sleeper.new turns.old turns.new result) }
         // With an agency that keeps its rules, in whose session the earlier turns were, agreement stays.
@@ -153,8 +154,11 @@ impl Sender {
         ensures adds { Adds AreNotesOrTorn (O.sight outbox.old) (O.sight outbox.new) }
         ensures fixed { O.fixed outbox.new ≡ O.fixed outbox.old }
         // The last look shows as many items as the outbox knew of at first.
+        //= A drain that is done has seen at least as many items as its outbox knew of.
+        //= No body: it is each look's clause
         ensures covers { OnOk result (O.least outbox.old ≤ length (O.sight outbox.new).items) }
         // The sleeper rests at no turn.
+        //= A drain sleeps until a second, and never rests.
         ensures no_rest { Z.without_rest sleeper.old sleeper.new }
     {
         legal_is_chained();

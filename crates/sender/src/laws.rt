@@ -21,6 +21,9 @@ pub(crate) fn what_is_known()
 /// What is never in the dark, in the words of the messages: each record that is handed over was never handed over before, or
 /// a consultation since its last submission has answered that it wasn't seen.
 pub fn nothing_goes_blindly()
+    //= In the words of the messages: a record is handed over again only where a consultation since answered `NotSeen`
+    //= for it.
+    //= No body: a law over definitions, which has no body
     ensures { GoesLit }
 {
     a_record_may_go_unless_dark();
@@ -38,5 +41,8 @@ pub fn a_session_begins()
 /// Over a sleeper that tells its moment, each turn of a drain is made at the moment at its start, or at the greatest second
 /// of an earlier `WaitUntil` where that is greater.
 pub fn a_drain_keeps_time()
+    //= Over a sleeper that tells its moment each turn has that moment, or the greatest second of an earlier
+    //= `WaitUntil`.
+    //= No body: a law over definitions, which has no body
     ensures { KeepsTime }
 {}

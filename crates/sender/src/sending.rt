@@ -54,6 +54,7 @@ fn counted(count: u32)
 impl Sender {
     /// In doubt: it knows nothing of what was sent before.
     pub fn new() -> Sender
+        //= A session begins in doubt.
         ensures { result ≡ fresh }
     {
         Sender {

@@ -46,6 +46,7 @@ fn is_series(text: &[u8]) -> bool
 impl SeriesName {
     /// The name that the text is, `None` exactly where it is none.
     pub fn read(text: &str) -> Option<SeriesName>
+        //= A series' name is taken exactly in its form.
         ensures valid { IsSome result ↔ IsTrue (spec.is_series text.now) }
         ensures value { IfSome result (λ name. name ≡ text.now) }
     {

@@ -66,6 +66,7 @@ fn before_dash(number: &[u8]) -> &[u8]
 impl NumSerie {
     /// The number that the text is, `None` exactly where it is none.
     pub fn read(text: &str) -> Option<NumSerie>
+        //= An invoice's number is taken exactly in its form.
         ensures valid { IsSome result ↔ IsTrue (spec.is_num_serie text.now) }
         ensures value { IfSome result (λ number. number ≡ text.now) }
     {
@@ -105,6 +106,7 @@ impl NumSerie {
 /// The n-th number of a series, from 1 to 99,999,999: `NAME-n`.
 pub fn number(series: &SeriesName, n: u32) -> NumSerie
     requires { IsInRange 1 99_999_999 n }
+    //= A number is `NAME-n`.
     ensures { result ≡ spec.number_text series.now n }
 {
     let mut buffer = Buffer::new();

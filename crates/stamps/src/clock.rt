@@ -56,6 +56,8 @@ pub(crate) fn offset_at(seconds: u64) -> u8
 /// The rule as a POSIX time zone, `CET-1CEST,M3.5.0,M10.5.0/3`, in which jiff finds the offsets of `stamp_at`.
 pub fn zone() -> Result<TimeZone<'static>, Error>
     ensures ok { IsOk result }
+    //= The time zone that is handed to jiff has peninsular offsets over the whole range.
+    //= No body: it is made of one constant text
     ensures offsets { IfOk result (λ z. (t : ℕ) → IsStampSeconds t
         → zone_offset (plain_zone z) (nanos_of_seconds (pos t)) ≡ pos (clock.offset_at t * 60)) }
 {

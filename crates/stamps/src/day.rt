@@ -94,6 +94,8 @@ impl Day {
 
     /// The day of a text `DD-MM-YYYY`, `None` exactly where the text is no such day from 01-01-1970 to 31-12-2100.
     pub fn read(text: &str) -> Option<Day>
+        //= A day is read from the text of a day of the calendar alone, which is a walk from day to day from
+        //= 01-01-1970.
         ensures value { IfSome result (λ d. text.now ≡ date_text_of d) }
         ensures none { IfNone result ((n : ℕ) → n ≤ last_day → text.now ≢ date_text_of n) }
     {

@@ -55,7 +55,10 @@ fn is_stamp_offset(minutes: i16) -> bool
 /// The moment this many seconds after 1970 began at UTC, with the offset that the peninsular clock has there. Refused exactly
 /// outside `CLOCK_FROM` to `CLOCK_TO`.
 pub fn stamp_at(seconds: u64) -> Result<Stamp, ClockRange>
+    //= A second is refused exactly outside 2024 to 2099.
+    //= No body: tests have both edges
     ensures range { IsOk result ↔ IsStampSeconds seconds }
+    //= A second since 1970 is the moment that peninsular time shows, with its offset.
     ensures value { IfOk result (λ s. s ≡ spec.moment_at seconds) }
 {
     if !is_stamp_seconds(seconds) {
@@ -110,6 +113,7 @@ pub fn civil_day(stamp: &Stamp) -> Day
 /// The local time and its offset as `YYYY-MM-DDThh:mm:ss+hh:mm`, the form of ISO 8601 in which the records give the moment
 /// of their making.
 pub fn moment_text(stamp: &Stamp) -> [u8; 25]
+    //= A moment's text is its definition: date, time of the day and offset.
     ensures { result ≡ spec.moment_text_of stamp.now }
 {
     let local = stamp.local_seconds();

@@ -65,8 +65,12 @@ pub record IsPair {D C M : Type 0} (tells : Bool) (on_disk : D → OnDisk) (faul
   pub issuer : present.standby.history.issuer ≡ present.shop.history.issuer
   pub version : present.standby.history.version ≡ present.shop.history.version
   pub equal : start.standby.history.entries ≡ start.shop.history.entries
+  --= While neither disk has failed a shop and its copy hold one history; after a stop the copy's is it, or it without
+  --= its last lines.
   pub beside : AreBeside present.shop.stopped present.shop.history.entries present.standby.stopped present.standby.torn
       present.standby.history.entries
+  --= A pair's shop gained notes alone since its start.
+  --= No body: it is of `Outbox::note`
   pub notes : AddsNotes start.shop.history.entries present.shop.history.entries
   -- a stop came by a fault since the start
   pub shop_rose : (count : ℕ) → present.shop.stopped ≡ Some count → Rose (faults start.shop.disk) count

@@ -52,6 +52,8 @@ fn is_shared(alloc: Global, state: &State, copy: &State, index: u64) -> Result<b
 pub fn first_apart(alloc: Global, state: &State, copy: &State) -> Result<Option<u64>, NoMemory>
     requires { (copy.now.issuer ≡ state.now.issuer) × (copy.now.version ≡ state.now.version) }
     ensures none { IfOk result (λ found. IfNone found (IsPrefix copy.now.entries state.now.entries)) }
+    //= The first entry of a copy that isn't the history's is named.
+    //= No body: its loop ends at the first that differs
     ensures some { IfOk result (λ found. IfSome found (IsFirstApart state.now.entries copy.now.entries)) }
     ensures few { IfOk result (λ found. IfSome found (λ at. at < MAX_ENTRIES)) }
 {
@@ -107,6 +109,8 @@ pub fn catch_up<D: Disk>(
     requires version { standby.old.history.version ≡ state.now.version }
     requires front { IsPrefix standby.old.history.entries state.now.entries }
     requires going_on { standby.old.stopped ≡ None }
+    //= With Ok a copy's history is the whole one, and each crash in the call leaves a front of it.
+    //= No body: it is `receive` of the pieces that the copy lacks
     ensures caught { CatchesUp D.faults standby.old standby.new state.now.entries result }
     ensures sound { IsSoundChain D.tells D.on_disk D.faults standby.new }
     ensures goes { GoesTo D.tells D.on_disk D.faults standby.old standby.new }

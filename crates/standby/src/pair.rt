@@ -284,6 +284,7 @@ impl<D: Disk, C: Clock, M: Disk> Outbox for Pair<D, C, M> {
         ensures noted { NotedBy (sight_of self.old) (sight_of self.new) lines.now result }
         ensures stopped { (faults : ℕ) →
             IsErrOf result (StoreFault.Stopped faults) ↔ HasStopped (sight_of self.old) (sight_of self.new) faults }
+        //= A pair notes in the store and then in the copy, and a fault of either disk stops it at that disk's count.
         ensures both { NotesBoth D.faults M.faults self.old.present self.new.present lines.now result }
         ensures pair { IsPair D.tells D.on_disk D.faults M.tells M.on_disk M.faults self.old.start self.new.present }
     {

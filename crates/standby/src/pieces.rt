@@ -18,6 +18,8 @@ pub struct Piece {
 /// The piece of the entry at this index; None exactly past the end.
 pub fn piece_of(alloc: Global, state: &State, index: u64) -> Result<Option<Piece>, NoMemory>
     ensures none { IfOk result (λ found. IfNone found (length state.now.entries ≤ index)) }
+    //= A piece is the encoding, at the history's version, of the entry at its index.
+    //= No body: it is `encode`
     ensures some { IfOk result (λ found. IfSome found (λ piece. (piece.index ≡ index)
         × IsPieceOf state.now.version state.now.issuer state.now.entries piece)) }
 {

@@ -155,6 +155,8 @@ impl<D: Disk> Standby<D> {
         ensures going_on { IfOk result (λ standby. standby.stopped ≡ None) }
         ensures issuer { IfOk result (λ standby. standby.history.issuer ≡ issuer.now) }
         ensures version { IfOk result (λ standby. standby.history.version ≡ version) }
+        //= A copy is opened as a shop's file is, of this issuer and version, or begun.
+        //= No body: it is `open_journal`, whose bodies are in `chain_store`
         ensures found { IfOk result (λ standby. IsTrue D.tells →
             IsFound version version issuer.now standby.history.entries (D.on_disk disk).content) }
 
@@ -165,12 +167,16 @@ impl<D: Disk> Standby<D> {
 
         // Nothing is written but a file's creation: of a file that is begun already the sync is all that is told.
         ensures unwritten { IfOk result (λ standby. IsTrue D.tells → IsOnlySynced (D.on_disk disk) (D.on_disk standby.disk)) }
+        //= A copy's file that wasn't begun has its twenty bytes.
+        //= No body: it is `open_journal`
         ensures created { IfOk result (λ standby. IsTrue D.tells → IsNotBegun (D.on_disk disk).content →
             IsCreation version issuer.now (synced (D.on_disk disk)) (D.on_disk standby.disk)) }
         ensures unwritten_err { IfErr result (λ fault. IsTrue D.tells → IsAtMostSynced (D.on_disk disk) (D.on_disk fault.disk)) }
         ensures later { IfOk result (λ standby. D.faults disk ≤ D.faults standby.disk) }
 
         // What the file is, by the cause, and what the calls of the disk left of it.
+        //= Another issuer's file, one of another version and a damaged one are synced at most.
+        //= No body: it is `open_journal`
         ensures left { IfErr result (λ fault. IsTrue D.tells →
             IsLeftUnstarted version issuer.now fault.cause (D.on_disk disk) (D.on_disk fault.disk)) }
         ensures disk_fault { IfErr result (λ fault. fault.cause ≡ cause.DiskFault →
@@ -289,6 +295,8 @@ impl<D: Disk> Standby<D> {
     /// Takes a piece of the shop's history: it is kept where it is the next one and continues the history. What needs memory
     /// is done before the first call of the disk.
     pub fn arrive(&mut self, alloc: Global, piece: &Piece) -> Result<Arrived, StoreFault>
+        //= A piece is old below the copy's count, a gap above it; at the next index it is bad, foreign with the first
+        //= thing that is wrong, or kept: the entry is added, and each crash from then on leaves it.
         ensures arrives { self.old.stopped ≡ None → Arrives D.tells D.on_disk D.faults self.old self.new piece.now result }
         ensures stopped { (faults : ℕ) → IsErrOf result (StoreFault.Stopped faults) ↔ (self.old.stopped ≡ Some faults) }
         ensures untouched { IsSome self.old.stopped → self.new ≡ self.old }
@@ -296,9 +304,14 @@ impl<D: Disk> Standby<D> {
         ensures goes { GoesTo D.tells D.on_disk D.faults self.old self.new }
 
         // The bytes before its closing gate stay, in the copy and in each file that a crash leaves.
+        //= The bytes of a copy before its closing gate stay, in the copy and in each file that a crash leaves.
+        //= No body: it is of `Journal::append`, whose clauses refuse others
         ensures appended { IsAppended D.tells D.on_disk self.old self.new }
 
         // Of whatever history the piece is, the standby stays a front of it, and so does each file that a crash may leave.
+        //= Of whatever legal history the pieces are, in whatever order and number, the copy stays a front of it that
+        //= begins with what it was, and so does each file that a crash leaves.
+        //= No body: it follows from `arrives`
         ensures follows { Follows D.tells D.on_disk self.old self.new (piece.now ∷ []) }
     {
         a_file_has_one_meaning();
@@ -311,6 +324,8 @@ impl<D: Disk> Standby<D> {
 
     /// Takes pieces in their order, up to the first fault, and says how many were kept.
     pub fn receive(&mut self, alloc: Global, pieces: &[Piece]) -> Result<u64, StoreFault>
+        //= A run of pieces is one piece after another, up to the first fault.
+        //= No body: it is `arrive`, whose bodies are above
         ensures received { IfOk result (λ kept.
             Received self.old.history.version self.old.history.issuer self.old.history.entries pieces.now
             self.new.history.entries kept) }
@@ -318,6 +333,7 @@ impl<D: Disk> Standby<D> {
         ensures going_on { OnOk result (self.new.stopped ≡ self.old.stopped) }
 
         // One that has stopped answers so to the first piece.
+        //= A run of pieces answers `Stopped` exactly where the copy had stopped and there is a piece.
         ensures stopped { (faults : ℕ) → IsErrOf result (StoreFault.Stopped faults) ↔
             ((self.old.stopped ≡ Some faults) × (pieces.now ≢ [])) }
         ensures untouched { IsSome self.old.stopped → self.new ≡ self.old }
@@ -348,10 +364,14 @@ impl<D: Disk> Standby<D> {
         ensures parts { chain_of result ≡ record self { torn = None } }
         ensures clock { clock_of result ≡ clock }
         ensures ready { Ready D.tells D.on_disk result }
+        //= The history of a promoted copy is legal and linked.
+        //= No body: it is the copy's own invariant
         ensures legal { Legal (state_of result).version (state_of result).issuer (state_of result).entries }
         ensures linked { Linked (state_of result).issuer (recs (state_of result).entries) }
 
         // Every crash leaves the whole history.
+        //= A promoted copy is the store of its history, and each crash leaves all of it.
+        //= No body: it is the copy's own file
         ensures every_crash { IsTrue D.tells →
             LeavesNow (D.on_disk (disk_of (journal_of result)))
             (StandsFor (state_of result).version (state_of result).issuer (state_of result).entries) }

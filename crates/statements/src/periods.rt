@@ -28,6 +28,9 @@ impl Period {
     pub fn read(text: &str) -> Option<Period>
         ensures within { IfSome result IsPeriod }
         ensures value { IfSome result (λ p. text.now ≡ period_text p) }
+        //= Each text `MM-YYYY` or `DD-MM-YYYY` of the months from January 2024 to December 2100 and of their days is
+        //= read as a period; no other is (`value`).
+        //= No body: it is `Month::read` and `Day::read`, which are exact
         ensures none { IfNone result ((p : AnyPeriod) → IsPeriod p → text.now ≢ period_text p) }
     {
         if let Some(month) = Month::read(text) {
@@ -111,6 +114,8 @@ fn count(
 
 /// The statement of a period of a history.
 pub fn rows_of(alloc: Global, state: &State, period: Period) -> Result<Rows, NoMemory>
+    //= The statement of a period, a month or a day, of a history is that of its definition: the rows of the lines of
+    //= those days.
     ensures { IfOk result (λ rows. IsStatementOf state.now.entries period rows) }
 {
     let mut rows = Rows::of(Vec::new(alloc));

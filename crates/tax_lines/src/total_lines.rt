@@ -138,6 +138,9 @@ fn line_of(key: LineKey, total: Cents, base: u64) -> TaxLine
 /// from zero, and which differ least. `None` exactly where neither is there; up to the total of the greatest base
 /// (`MAX_BASE`) there are always such lines. The choice is this project's own.
 pub fn lines_of_total(key: LineKey, total: Cents) -> Option<TotalLines>
+    //= A total with its tax is that of the one line where there is one, else of the two of one sign whose bases sum
+    //= nearest to the total divided by one plus the rate and the surcharge, and which differ least; none exactly
+    //= where neither is there.
     ensures lines { AreLinesOf key total result }
     ensures total { IfSome result (λ found. totals.total (lines_in found) ≡ total) }
 {
@@ -157,5 +160,7 @@ pub fn lines_of_total(key: LineKey, total: Cents) -> Option<TotalLines>
 
 /// Each total up to that of the greatest base has one line or two, whatever the key.
 pub fn each_total_has_lines()
+    //= Up to the total of the greatest base there are always such lines.
+    //= No body: a law over definitions, which has no body
     ensures { EachTotalHasLines }
 {}

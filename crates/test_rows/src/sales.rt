@@ -11,6 +11,7 @@ use tax_lines::{Breakdown, Class, LineKey, TaxLine};
 
 /// A simplified invoice of one line at the general rate, of this many cents.
 pub fn sale_draft(alloc: Global, cents: i64) -> Result<Draft, Fail>
+    //= What tests sell is a simplified invoice of one line of these cents, at the general rate.
     ensures { IfOk result (λ draft. draft ≡ spec.sale_draft cents) }
 {
     let line = TaxLine {

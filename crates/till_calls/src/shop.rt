@@ -62,6 +62,9 @@ impl<D: Disk, C: Clock> Shop<D, C> {
         requires own { till_shop till.old ≡ shop_id self.now }
         requires serial { IsInRange 1 4_294_967_295 serial }
         ensures same { (till_shop till.new ≡ till_shop till.old) × (till_number till.new ≡ till_number till.old) }
+        //= A till's ask is answered at a history that goes on from all that it had seen and has as many items as it
+        //= knew of, at a reading that the clock still had to give; with `Taken` the list and the till's own gain
+        //= exactly that record.
         ensures asks { Asks C.coming (record { till = till_number till.old; serial = serial; request = request.now }) result
             (till_knows till.old) (till_knows till.new) }
     {
@@ -83,6 +86,8 @@ impl<D: Disk, C: Clock> Shop<D, C> {
     ) -> Result<Q::Learnt, NoMemory>
         requires own { till_shop till.old ≡ shop_id self.now }
         ensures same { (till_shop till.new ≡ till_shop till.old) × (till_number till.new ≡ till_number till.old) }
+        //= A question is answered at a history that goes on from all that its till has seen and has as many items as
+        //= it knew of, and adds nothing.
         ensures looks { Looks (Q.learns question.now) result (till_knows till.old) (till_knows till.new) }
     {
         let mut learning = Learning { alloc, question };
@@ -96,6 +101,7 @@ impl<D: Disk, C: Clock> Shop<D, C> {
         ensures from { (till_shop from.new ≡ till_shop from.old) × (till_number from.new ≡ till_number from.old) }
         ensures to { (till_shop to.new ≡ till_shop to.old) × (till_number to.new ≡ till_number to.old) }
         ensures knows { till_knows from.new ≡ till_knows from.old }
+        //= By `inform` a till knows of as many items as the other does.
         ensures raised { till_knows to.new
             ≡ record (till_knows to.old) { least = max (till_knows to.old).least (till_knows from.old).least } }
     {
@@ -107,6 +113,7 @@ impl<D: Disk, C: Clock> Shop<D, C> {
     pub fn count_now(&self, till: &mut Till<D, C>) -> u64
         requires own { till_shop till.old ≡ shop_id self.now }
         ensures same { (till_shop till.new ≡ till_shop till.old) × (till_number till.new ≡ till_number till.old) }
+        //= A count never falls below what the till knew.
         ensures at_least { (till_knows till.old).least ≤ result }
         ensures raised { till_knows till.new ≡ record (till_knows till.old) { least = result } }
     {
@@ -132,10 +139,17 @@ impl<D: Disk, C: Clock> Shop<D, C> {
     pub fn close(self, tills: Tills<D, C>, seat: SenderSeat<D, C>) -> Store<D, C>
         requires own { (tills_shop tills ≡ shop_id self) × (seat_shop seat ≡ shop_id self) }
         requires whole { (n : ℕ) → n < places self → 0 < holders n (tills_know tills ++ seat_knows seat ∷ []) }
+        //= The store that comes back has a legal history that begins with the start's; each crash since then leaves a
+        //= front of it, or of it with the torn entry.
+        //= No body: it is of `Store::take` and `Store::note`, whose clauses refuse others
         ensures sound { IsSound D.tells D.on_disk D.faults C.coming (shop_root self) (parts_of result) }
+        //= The items of a shop that is closed go on from the start's, and from what each till and the seat has seen.
+        //= No body: it is the lock's rule, which each step keeps
         ensures begins { StartsWith (items_in (parts_of result)) (first_items self) }
         ensures each { All (Fits (items_in (parts_of result))) (tills_know tills ++ seat_knows seat ∷ []) }
         ensures before { (n : ℕ) → n < length (first_items self) → owners n (tills_know tills ++ seat_knows seat ∷ []) ≡ 0 }
+        //= Each place since the start has exactly one owner, a till or the sender's seat.
+        //= No body: it is the lock's rule, which each step keeps
         ensures since { (n : ℕ) → length (first_items self) ≤ n → n < length (items_in (parts_of result)) →
             owners n (tills_know tills ++ seat_knows seat ∷ []) ≡ 1 }
     {
@@ -169,6 +183,8 @@ impl<D: Disk, C: Clock> Shop<D, C> {
             (tills_know s.tills ++ seat_knows s.seat ∷ [])) }
         ensures whole { IfOk result (λ s. (n : ℕ) → n < places s.shop →
             holders n (tills_know s.tills ++ seat_knows s.seat ∷ []) ≡ 1) }
+        //= Where memory runs out the store is handed back with all its parts.
+        //= No body: it is `ChainLock::new`
         ensures refused { IfErr result (λ e. parts_of e.store ≡ parts_of store) }
     {
         let Some(list) = till_numbers(alloc, tills) else {

@@ -124,6 +124,8 @@ fn read_first(words: &[String]) -> Option<Nifs>
 /// The tax numbers of these words, which are two to eight pairs of a file's name and a tax number: no name is empty, and neither a
 /// name nor a tax number stands twice. None exactly where they are none.
 pub fn read_pairs(words: &[String]) -> Option<Nifs>
+    //= The words of `many` are two to eight pairs of a file's name and a tax number, no name is empty, and neither
+    //= stands twice; else they are refused.
     ensures { IsRead (map string_bytes words.now) result }
 {
     let Some(nifs) = read_first(words) else {

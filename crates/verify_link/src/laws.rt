@@ -10,6 +10,8 @@ use stamps::text_determines_day;
 
 /// A text has one reading, lack of memory aside. So each fault comes exactly where its case holds.
 pub fn text_determines_reading()
+    //= Out of memory aside a text has one reading.
+    //= No body: a law over definitions, which has no body
     ensures { (text : List ℕ) (one other : Result LinkParts LinkFault) → IsLinkReading text one → IsLinkReading text other
         → one ≢ Err NoMemory → other ≢ Err NoMemory → one ≡ other }
 {

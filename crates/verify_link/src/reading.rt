@@ -23,9 +23,12 @@ use std::alloc::Global;
 /// What the link says that the text is, the case of its escape digits aside. The beginning is looked at first, then the four
 /// fields from the left: of each its name, the first `%` without two hexadecimal digits, and its value.
 pub fn read_link(alloc: Global, text: &str) -> Result<LinkParts, LinkFault>
+    //= A link is read as valid parts whose link the text is, but for the case of the two characters after each `%`;
+    //= else its first fault from the left is told, with its field or its place.
     ensures reading { spec.IsLinkReading text.now result }
 
     // Only lack of memory keeps a link from being read.
+    //= A text that is a link but for that case is read as its parts, or memory ran out.
     ensures read_back { (parts : AnyParts) → IsLinkParts parts → AgreeButInCase text.now (link_text parts)
         → MatchResult result (λ read. read ≡ parts) (λ fault. fault ≡ link_fault.NoMemory) }
 

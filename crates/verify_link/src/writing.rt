@@ -14,6 +14,7 @@ use std::alloc::Global;
 
 /// The verification link of an alta at this host.
 pub fn link_of(alloc: Global, alta: &Alta, host: Host) -> Result<Text, NoMemory>
+    //= A link says an alta's four values, each percent-encoded.
     ensures text { IfOk result (λ text. text ≡ link_text (parts_of alta.now host)) }
     ensures ascii { IfOk result (λ text. IsAscii text) }
 

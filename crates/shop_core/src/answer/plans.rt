@@ -33,8 +33,12 @@ pub(crate) fn next_moment(state: &State, last: u64, seconds: u64) -> Stamp
 /// What is to be done for an ask, with the clock at these seconds since 1970: the kept receipt where its till and serial
 /// stand in the history; else the first refusal that holds; else the entry that the history gains.
 pub fn plan(alloc: Global, state: &State, ask: &Ask, seconds: u64) -> Result<Planned, NoMemory>
+    //= An answer is the definition's, out of memory aside: the kept receipt where the till and serial stand in the
+    //= history, else the first refusal that holds, else the record with its number, flags, link and Huella.
     ensures answer { IfOk result
         (λ planned. planned ≡ spec.answer state.now.version state.now.issuer state.now.entries ask.now seconds) }
+    //= What is made continues the history.
+    //= No body: what breaks it breaks `answer` too, by the law `what_is_made_continues`
     ensures continues { IfOk result
         (λ planned. (entry : AnyEntry) → planned ≡ planned_as.Made entry →
         Continues state.now.version state.now.issuer state.now.entries entry) }
@@ -49,6 +53,8 @@ pub fn plan_asking(
     ask: &Asking,
     seconds: u64,
 ) -> Result<Planned, NoMemory>
+    //= An ask whose request stays with who asks is answered as any other.
+    //= No body: `plan` calls it, and has bodies
     ensures answer { IfOk result
         (λ planned. planned ≡ spec.answer state.now.version state.now.issuer state.now.entries ask.now seconds) }
     ensures continues { IfOk result

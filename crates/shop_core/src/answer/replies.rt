@@ -17,6 +17,8 @@ pub fn reply_to(
     ask: &Ask,
     seconds: u64,
 ) -> Result<Reply, NoMemory>
+    //= A reply appends what was taken, exactly that; out of memory leaves the history as it was.
+    //= No body: it is `plan` and `State::apply`
     ensures { Replied state.old state.new ask.now seconds result }
 {
     match plan(alloc, state, ask, seconds)? {

@@ -107,6 +107,8 @@ impl Ask {
 
     /// The same ask, whose request stays here.
     pub fn borrowed(&self) -> Asking<'_>
+        //= An ask whose request stays with who asks is the same ask.
+        //= No body: both have one view
         ensures { result ≡ self.now }
     {
         Asking {
@@ -118,6 +120,8 @@ impl Ask {
 
     /// What every ask keeps: its till, serial, names, numbers and draft are in their ranges.
     pub fn is_valid(&self)
+        //= Every ask is in its ranges.
+        //= No body: it is the type's invariant
         ensures { IsAsked self.now }
     {
         let _till = self.till;

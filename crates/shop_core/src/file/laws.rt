@@ -10,8 +10,14 @@ use record_codec::encodings_are_apart;
 /// A file has one meaning: it stands for one history at most, at one version, is damaged at one byte at most, never both, and
 /// neither where it isn't begun.
 pub fn a_file_has_one_meaning()
+    //= A file stands for one history of one issuer in one version at most.
+    //= No body: a law over definitions, which has no body
     ensures history { OneHistory }
+    //= A file is damaged at one byte at most.
+    //= No body: a law over definitions, which has no body
     ensures damage { OneDamage }
+    //= No file both stands for a history and is damaged.
+    //= No body: a law over definitions, which has no body
     ensures sound { SoundOrDamaged }
     ensures not_begun { NotBegunIsNeither }
 {
@@ -23,6 +29,8 @@ pub fn a_file_has_one_meaning()
 
 /// A reader of the frames stops at one place: where no entry that continues the history follows.
 pub fn a_file_stops_at_one_place()
+    //= Each reader of a file's frames stops at one place.
+    //= No body: a law over definitions, which has no body
     ensures one { OneStop }
     ensures sound { StopsAtItsGate }
 {
@@ -35,6 +43,8 @@ pub fn a_file_stops_at_one_place()
 /// How a history is read frame by frame: where that begins, goes on and ends.
 pub fn a_history_is_read_by_frames()
     ensures begins { SoundBegins }
+    //= A history is read frame by frame.
+    //= No body: a law over definitions, which has no body
     ensures goes_on { SoundGoesOn }
     ensures ends { SoundEnds }
 {
@@ -45,6 +55,10 @@ pub fn a_history_is_read_by_frames()
 /// A file that ends in its closing gate is damaged by each cut that leaves 2 bytes or more: at the cut where that leaves no
 /// more than the header, else at the gate of the last frame that it left a part of.
 pub fn a_cut_file_is_damaged()
+    //= Each proper prefix, of 2 bytes or more, of a file that stands for a history and ends in its closing gate is
+    //= damaged: at the cut where that leaves no byte after the header, else at the gate of the frame that it leaves
+    //= without the next gate.
+    //= No body: a law over definitions, which has no body
     ensures { CutIsDamaged }
 {
     bytes_begin_with_one_frame();

@@ -39,9 +39,13 @@ pub enum ReadFault {
 
 /// Reads what a file stands for, up to its first break. It writes nothing.
 pub fn read_file<D: Disk>(alloc: Global, disk: &mut D) -> Result<FileRead, ReadFault>
+    //= A reading says that the file isn't begun, or gives the history that it stands for, with its version and the
+    //= byte of its closing gate, or the first break with its place, its byte and its word.
     ensures read { IfOk result (λ read. IsTrue D.tells → IsRead (D.on_disk disk.old).content read) }
     ensures near { IfOk result HasNearGate }
     ensures fault { IsErrOf result ReadFault.DiskFault → Rose (D.faults disk.old) (D.faults disk.new) }
+    //= Reading writes nothing.
+    //= No body: no function of a reading calls `write_at` or `sync`, which `.ci/quick` looks for
     ensures same { D.on_disk disk.new ≡ D.on_disk disk.old }
     ensures later { D.faults disk.old ≤ D.faults disk.new }
 {
@@ -64,6 +68,8 @@ pub fn read_file<D: Disk>(alloc: Global, disk: &mut D) -> Result<FileRead, ReadF
 
 /// A file that is read as broken is damaged at that byte.
 pub fn a_broken_file_is_damaged()
+    //= A broken file is damaged at the byte of its break.
+    //= No body: a law over definitions, which has no body
     ensures { BrokenIsDamaged }
 {}
 
